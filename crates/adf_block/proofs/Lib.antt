@@ -1,0 +1,5 @@
+pub mod Bytes
+pub mod Longs
+pub mod Totals
+pub mod Frames
+pub mod Blocks

@@ -1,0 +1,32 @@
+-- Sums of longs.
+use Rattle.std.proofs.Common.{◌≡◌, ◌≢◌, ℕ, zero, suc, ◌+◌, ◌*◌, ◌<◌, ◌≤◌, inl, inr, arith, ap₂, refl, add-one}
+use Rattle.std.proofs.lemmas.Bool.{cases_lt}
+use Rattle.adf_block.specs.Image.{total}
+
+-- one number more
+pub total-more : (f : ℕ → ℕ) (n : ℕ) → total f (n + 1) ≡ total f n + f n
+total-more f n = rw add-one refl
+
+-- equal numbers have equal sums
+pub total-same : (f g : ℕ → ℕ) (n : ℕ) → ((j : ℕ) → j < n → g j ≡ f j) → total g n ≡ total f n
+total-same f g zero same = refl
+total-same f g (suc n) same = ap₂ (λ (x y : ℕ). x + y) (total-same f g n (λ j h. same j (omega arith))) (same n (omega arith))
+
+-- one number changed
+pub total-one : (f g : ℕ → ℕ) (k n : ℕ) → k < n → ((j : ℕ) → j < n → j ≢ k → g j ≡ f j) → total g n + f k ≡ total f n + g k
+total-one f g k zero lt same = absurd (omega arith)
+total-one f g k (suc n) lt same = elim (cases_lt k n) [
+  | inl below ↦
+      let rest = total-one f g k n below (λ j h ne. same j (omega arith) ne) in
+      let last : g n ≡ f n = same n (omega arith) (omega arith) in
+      omega (arith, rest, last)
+  | inr at ↦
+      let e : k ≡ n = omega arith in
+      let rest = total-same f g n (λ j h. same j (omega arith) (omega arith)) in
+      rw e (omega (arith, rest))
+]
+
+-- numbers below a bound have a sum below so many times the bound
+pub total-bound : (f : ℕ → ℕ) (m n : ℕ) → ((j : ℕ) → f j ≤ m) → total f n ≤ n * m
+total-bound f m zero h = omega arith
+total-bound f m (suc n) h = omega (arith, total-bound f m n h, h n)

@@ -1,0 +1,71 @@
+//! The boot blocks, 0 and 1: the kind of the disk, and whether its boot code is to be run.
+
+ghost use Rattle.std.specs.Prelude.{◌≡◌, ◌≤◌, ◌^◌, ◌↔◌, IsTrue};
+ghost use Rattle.adf_block.specs.Image.{long, total};
+ghost use Rattle.adf_block.specs.Boot.{HasKind, boot_long, boot_sum, carried_sum};
+
+use crate::floppy::Image;
+
+/// What the first four bytes say of the disk.
+#[derive(Clone, Copy, Debug, PartialEq, Eq)]
+pub enum BootKind {
+    /// `DOS` and 0: the old file system.
+    Ofs,
+    /// `DOS` and 1: the fast file system.
+    Ffs,
+    /// `DOS` and another byte.
+    OtherDos(u8),
+    /// Not `DOS`.
+    NotDos,
+}
+
+impl Image {
+    /// The kind of the disk, by bytes 0 to 3.
+    pub fn boot_kind(&self) -> BootKind
+        ensures { HasKind self.now result }
+    {
+        prove!(self.blocks() >= 2);
+        if self.byte(0, 0) != b'D' || self.byte(0, 1) != b'O' || self.byte(0, 2) != b'S' {
+            return BootKind::NotDos;
+        }
+        match self.byte(0, 3) {
+            0 => BootKind::Ofs,
+            1 => BootKind::Ffs,
+            other => BootKind::OtherDos(other),
+        }
+    }
+
+    /// Whether the boot sum in long 1 is that of the two boot blocks: then the disk can be booted
+    /// from (AmigaDOS Technical Reference). Nothing else asks for it.
+    pub fn is_bootable(&self) -> bool
+        ensures { IsTrue result ↔ (long self.now 0 1 ≡ boot_sum self.now) }
+    {
+        prove!(self.blocks() >= 2);
+        self.long(0, 1) == !carry_round(self.boot_total())
+    }
+
+    /// The sum of the 256 boot longs but for the boot sum's own, with no wrap.
+    fn boot_total(&self) -> u64
+        ensures total { result ≡ total (boot_long self.now) 256 }
+        ensures bound { result ≤ 2 ^ 40 }
+    {
+        prove!(self.blocks() >= 2);
+        let mut total = 0_u64;
+        for k in 0..256 {
+            if k != 1 {
+                total += u64::from(self.long(k / 128, k % 128));
+            }
+        }
+        total
+    }
+}
+
+/// The sum whose carries out of 32 bits were added in again.
+fn carry_round(total: u64) -> u32
+    requires { total ≤ 2 ^ 40 }
+    ensures { result ≡ carried_sum total }
+{
+    let once = (total & 0xffff_ffff) + (total >> 32);
+    let twice = (once & 0xffff_ffff) + (once >> 32);
+    twice as u32
+}

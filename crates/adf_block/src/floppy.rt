@@ -1,0 +1,164 @@
+//! The image itself: its bytes, blocks and longs.
+
+ghost use Rattle.std.specs.Prelude.{◌≡◌, ◌<◌, ◌≤◌, ◌^◌, ◌*◌, ◌+◌, ◌-◌, ◌/◌, ◌++◌, ◌⊎◌, ◌≢◌, ℕ, length, take, drop, slice_index, IfOk, IfErr};
+ghost use Rattle.std.specs.Borrow.{sem};
+ghost use Rattle.byteorder.specs.Endian.{big_bytes};
+ghost use Rattle.adf_block.specs.Image.{IsImage, IsSize, block_count, bytes_at, byte_at, long, root_key};
+ghost use Rattle.adf_block.specs.Frame.{OnlyLong};
+ghost use Rattle.adf_block.specs.Size.{IsSizeFault};
+ghost use Rattle.adf_block.specs.Lending.{LendsBlock};
+
+use crate::size::{SizeFault, SizeRefused};
+use byteorder::{BigEndian, ByteOrder};
+use std::marker::Model;
+
+/// The bytes of a block.
+const BLOCK: usize = 512;
+
+/// A whole image: 16 to 101,602 blocks. Contracts see the list of its bytes.
+#[derive(Drop)]
+pub struct Image {
+    bytes: Vec<u8>,
+}
+
+impl Model for Image {
+    ghost use Rattle.std.specs.Prelude.{List, ℕ};
+    ghost use Rattle.adf_block.specs.Image.{IsWhole};
+
+    ghost Value = { List ℕ };
+
+    ghost view = { λ image. image.bytes.items };
+
+    ghost invariant = { λ image. IsWhole image.bytes.items };
+}
+
+impl Image {
+    /// The image of these bytes.
+    pub fn from_bytes(bytes: Vec<u8>) -> Result<Image, SizeRefused>
+        ensures ok { IfOk result (λ image. (image ≡ bytes.items) × IsImage image) }
+        ensures err { IfErr result (λ refused. (refused.bytes ≡ bytes) × IsSizeFault (length bytes.items) refused.fault) }
+    {
+        if bytes.len() % BLOCK != 0 {
+            return Err(SizeRefused {
+                fault: SizeFault::NotWholeBlocks,
+                bytes,
+            });
+        }
+        let blocks = whole_blocks(&bytes);
+        if blocks < 16 {
+            return Err(SizeRefused {
+                fault: SizeFault::TooFewBlocks,
+                bytes,
+            });
+        }
+        if blocks > 101_602 {
+            return Err(SizeRefused {
+                fault: SizeFault::TooManyBlocks,
+                bytes,
+            });
+        }
+        Ok(Image { bytes })
+    }
+
+    /// How many blocks the image has.
+    pub fn blocks(&self) -> u32
+        ensures count { result ≡ block_count self.now }
+        ensures size { IsSize result }
+        ensures whole { length self.now ≡ 512 * result }
+        ensures image { IsImage self.now }
+    {
+        whole_blocks(&self.bytes) as u32
+    }
+
+    /// The number of the root block, in the middle of the volume.
+    pub fn root(&self) -> u32
+        ensures { result ≡ root_key (block_count self.now) }
+    {
+        (self.blocks() + 1) / 2
+    }
+
+    /// Long `i` of block `b`, from 0 to 127.
+    #[tactic(auto, unfolding(crate::specs::Image::long))]
+    pub fn long(&self, b: u32, i: u32) -> u32
+        requires block { b < block_count self.now }
+        requires place { i < 128 }
+        ensures { result ≡ long self.now b i }
+    {
+        let at = b as usize * BLOCK + i as usize * 4;
+        BigEndian::read_u32(&self.bytes[at..])
+    }
+
+    /// Puts `v` into long `i` of block `b`.
+    pub fn set_long(&mut self, b: u32, i: u32, v: u32)
+        requires block { b < block_count self.old }
+        requires place { i < 128 }
+        ensures long { long self.new b i ≡ v }
+        ensures others { (c j : ℕ) → j < 128 → (c ≢ b) ⊎ (j ≢ i) → long self.new c j ≡ long self.old c j }
+        ensures rest { OnlyLong b i self.old self.new }
+        ensures image { IsImage self.new }
+    {
+        write_long(&mut self.bytes, b as usize * BLOCK + i as usize * 4, v);
+    }
+
+    /// Byte `i` of block `b`, from 0 to 511.
+    #[tactic(auto, unfolding(crate::specs::Image::byte_at))]
+    pub fn byte(&self, b: u32, i: u32) -> u8
+        requires block { b < block_count self.now }
+        requires place { i < 512 }
+        ensures { result ≡ byte_at self.now b i }
+    {
+        self.bytes[b as usize * BLOCK + i as usize]
+    }
+
+    /// The 512 bytes of block `b`.
+    pub fn block(&self, b: u32) -> &[u8]
+        requires { b < block_count self.now }
+        ensures bytes { result.now ≡ bytes_at self.now b 0 512 }
+        ensures length { length result.now ≡ 512 }
+    {
+        let at = b as usize * BLOCK;
+        &self.bytes[at..at + BLOCK]
+    }
+
+    /// The 512 bytes of block `b`, to be written.
+    pub fn block_mut(&mut self, b: u32) -> &mut [u8]
+        requires { b < block_count self.old }
+        ensures* writes_back { sem 𝓛 (LendsBlock self.entry b result) }
+        ensures bytes { result.now ≡ bytes_at self.old b 0 512 }
+        ensures length { length result.now ≡ 512 }
+    {
+        let at = b as usize * BLOCK;
+        self.bytes.slice_mut(at..at + BLOCK)
+    }
+
+    /// All bytes, as they stand on the disk.
+    pub fn as_bytes(&self) -> &[u8]
+        ensures { result.now ≡ self.now }
+    {
+        &self.bytes
+    }
+
+    /// The bytes, as they stand on the disk.
+    pub fn into_bytes(self) -> Vec<u8>
+        ensures { result.items ≡ self }
+    {
+        self.bytes
+    }
+}
+
+/// How many whole blocks there are.
+fn whole_blocks(bytes: &[u8]) -> usize
+    ensures count { result ≡ length bytes.now / 512 }
+    ensures bytes { (i : ℕ) → slice_index bytes.now i < 256 }
+{
+    bytes.len() / BLOCK
+}
+
+/// Writes `v` over the four bytes from `at` on.
+fn write_long(bytes: &mut [u8], at: usize, v: u32)
+    requires { at + 4 ≤ length bytes.old }
+    ensures bytes { (i : ℕ) → slice_index bytes.new i < 256 }
+    ensures written { bytes.new ≡ take at bytes.old ++ big_bytes 4 v ++ drop (at + 4) bytes.old }
+{
+    BigEndian::write_u32(&mut bytes[at..], v);
+}

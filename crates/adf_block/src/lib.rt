@@ -1,0 +1,23 @@
+//! An Amiga floppy image: blocks of 512 bytes, each of 128 big-endian longs, with their sums and
+//! the boot blocks.
+#![tactic(auto)]
+
+mod boot;
+mod floppy;
+mod size;
+mod sums;
+#[cfg(test)]
+mod tests;
+
+pub use boot::BootKind;
+pub use floppy::Image;
+pub use size::{SizeFault, SizeRefused, size_ok};
+
+/// How data blocks are laid out.
+#[derive(Clone, Copy, Debug, PartialEq, Eq)]
+pub enum Format {
+    /// The old file system: a header of 24 bytes in front of 488 bytes of data.
+    Ofs,
+    /// The fast file system: 512 bytes of data.
+    Ffs,
+}
