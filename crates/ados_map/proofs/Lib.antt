@@ -1,0 +1,5 @@
+pub mod BitLemmas
+pub mod PageLemmas
+pub mod MarkLemmas
+mod Counting
+mod Begun

@@ -1,0 +1,124 @@
+-- Lawful pages stay lawful, and what a change of a page leaves of the marks.
+use Rattle.std.proofs.Common.{◌≡◌, ◌≢◌, ℕ, ◌+◌, ◌-◌, ◌/◌, ◌%◌, ◌<◌, ◌≤◌, ◌⊎◌, inl, inr, Bool, List, arith, ap, ap₂, sym, ◌∙◌}
+use Rattle.std.proofs.lemmas.Bool.{cases_eq}
+use Rattle.std.specs.Int.{bit_at}
+use Rattle.adf_block.specs.Image.{long, block_count, block_sum, root_key, IsInside}
+use Rattle.adf_block.specs.Frame.{SameBut, AtLong, InBlock, OnlyLong, OnlyBlock}
+use Rattle.adf_block.proofs.Frames.{same_count, same_long, same_trans, same_weaken, other_long}
+use Rattle.ados_map.specs.Pages.{LawfulPages, page_block, pages_of, page_of, map_long, HasBit}
+use Rattle.ados_map.specs.Changes.{InPages, MapPlace, Marked}
+use Rattle.ados_map.specs.Bits.{IsBitPut}
+use Rattle.ados_map.proofs.BitLemmas.{mark, marked-is, mark-bit, mark-same}
+
+-- where longs 79 to 103 of the root were not changed it names the pages as before
+pub same_page : (changed : ℕ → ℕ → Type 0) (old new : List ℕ) → SameBut changed old new → ((k : ℕ) → 79 ≤ k / 4 → k / 4 < 104 → ¬ changed (root_key (block_count old)) k)
+    → (p : ℕ) → p < 25 → page_block new p ≡ page_block old p
+same_page changed old new h un p lt =
+    ap (λ (n : ℕ). long new (root_key n) (79 + p)) (same_count changed old new h)
+    ∙ same_long changed old new h (root_key (block_count old)) (79 + p) (omega arith) (λ k e. un k (omega arith) (omega arith))
+
+-- pages that are named as before are lawful still
+pub lawful_kept : (old new : List ℕ) → LawfulPages old → block_count new ≡ block_count old → ((p : ℕ) → p < pages_of old → page_block new p ≡ page_block old p) → LawfulPages new
+lawful_kept old new h count same =
+    let pages : pages_of new ≡ pages_of old = ap (λ (n : ℕ). (n - 2 + 4063) / 4064) count in
+    record {
+      inside = λ p lt.
+          let below : p < pages_of old = omega (arith, pages) in
+          let at = same p below in
+          let was = h.inside p below in
+          (omega (arith, at, was.0), omega (arith, at, was.1, count));
+      apart = λ p q p_lt q_lt e.
+          let p_below : p < pages_of old = omega (arith, pages) in
+          let q_below : q < pages_of old = omega (arith, pages) in
+          h.apart p q p_below q_below (sym (same p p_below) ∙ e ∙ same q q_below);
+      beside_root = λ p lt e.
+          let below : p < pages_of old = omega (arith, pages) in
+          h.beside_root p below (sym (same p below) ∙ e ∙ ap root_key count);
+    }
+
+-- a change of other places than longs 79 to 103 of the root leaves the pages lawful
+pub lawful_beside_root : (changed : ℕ → ℕ → Type 0) (old new : List ℕ) → SameBut changed old new → ((k : ℕ) → 79 ≤ k / 4 → k / 4 < 104 → ¬ changed (root_key (block_count old)) k)
+    → block_count old ≤ 101602 → LawfulPages old → LawfulPages new
+lawful_beside_root changed old new h un size lawful =
+    lawful_kept old new lawful (same_count changed old new h) (λ p lt. same_page changed old new h un p (omega arith))
+
+-- a change of pages only leaves them lawful
+pub lawful_in_pages : (old new : List ℕ) → SameBut (InPages old) old new → block_count old ≤ 101602 → LawfulPages old → LawfulPages new
+lawful_in_pages old new h size lawful =
+    lawful_beside_root (InPages old) old new h (λ k low high at. lawful.beside_root at.0 at.1 (sym at.2)) size lawful
+
+-- a change of one page leaves the pages lawful
+pub lawful_at_page : (old new : List ℕ) (p : ℕ) → p < pages_of old → OnlyBlock (page_block old p) old new → block_count old ≤ 101602 → LawfulPages old → LawfulPages new
+lawful_at_page old new p lt h size lawful =
+    lawful_beside_root (InBlock (page_block old p)) old new h (λ k low high at. lawful.beside_root p lt (sym at)) size lawful
+
+-- a long but for the changed one and the sum
+kept_long : (b l : ℕ) (old mid new : List ℕ) → OnlyLong b l old mid → OnlyLong b 0 mid new
+    → (c j : ℕ) → j < 128 → j ≢ 0 → (c ≢ b) ⊎ (j ≢ l) → long new c j ≡ long old c j
+kept_long b l old mid new first second c j lt behind apart =
+    other_long b 0 mid new second c j lt (inr behind) ∙ other_long b l old mid first c j lt apart
+
+-- a bit other than the one that was put
+other_mark : (old mid new : List ℕ) (k : ℕ) (free : Bool) → LawfulPages old → block_count old ≤ 101602 → IsInside (block_count old) k
+    → OnlyLong (page_block old (page_of k)) (map_long k) old mid → OnlyLong (page_block old (page_of k)) 0 mid new
+    → IsBitPut (long old (page_block old (page_of k)) (map_long k)) ((k - 2) % 32) free (long mid (page_block old (page_of k)) (map_long k))
+    → (j : ℕ) → HasBit old j → j ≢ k
+    → mark (long new (page_block old (page_of j)) (map_long j)) ((j - 2) % 32) ≡ mark (long old (page_block old (page_of j)) (map_long j)) ((j - 2) % 32)
+other_mark old mid new k free lawful size inside first second put j has ne =
+    let b = page_block old (page_of k) in
+    let l = map_long k in
+    let place : map_long j < 128 = omega arith in
+    let behind : map_long j ≢ 0 = omega arith in
+    let in_page : page_of j < pages_of old = omega (arith, has.0, has.1) in
+    let k_page : page_of k < pages_of old = omega (arith, inside.0, inside.1) in
+    elim (cases_eq (page_of j) (page_of k)) [
+      | inl page ↦ elim (cases_eq (map_long j) (map_long k)) [
+        | inl same ↦
+            let other_bit : (j - 2) % 32 ≢ (k - 2) % 32 = λ e. ne (omega (arith, page, same, e, has.0, inside.0)) in
+            let k_place : map_long k < 128 = omega arith in
+            let k_behind : map_long k ≢ 0 = omega arith in
+            let at : page_block old (page_of j) ≡ b = ap (page_block old) page in
+            let now : long new (page_block old (page_of j)) (map_long j) ≡ long mid b l =
+            ap₂ (long new) at same ∙ other_long b 0 mid new second b l k_place (inr k_behind) in
+            let was : long old (page_block old (page_of j)) (map_long j) ≡ long old b l = ap₂ (long old) at same in
+            mark-same (long new (page_block old (page_of j)) (map_long j)) (long old (page_block old (page_of j)) (map_long j)) ((j - 2) % 32)
+            (ap (λ (v : ℕ). bit_at v ((j - 2) % 32)) now
+            ∙ put.others ((j - 2) % 32) (omega arith) other_bit
+            ∙ ap (λ (v : ℕ). bit_at v ((j - 2) % 32)) (sym was))
+        | inr other ↦ ap (λ (v : ℕ). mark v ((j - 2) % 32)) (kept_long b l old mid new first second (page_block old (page_of j)) (map_long j) place behind (inr other))
+      ]
+      | inr other ↦
+          let apart : page_block old (page_of j) ≢ b = λ e. other (lawful.apart (page_of j) (page_of k) in_page k_page e) in
+          ap (λ (v : ℕ). mark v ((j - 2) % 32)) (kept_long b l old mid new first second (page_block old (page_of j)) (map_long j) place behind (inl apart))
+    ]
+
+-- the bit of a block put into its map long, and then the sum settled
+pub marked_by : (old mid new : List ℕ) (k : ℕ) (free : Bool) → LawfulPages old → block_count old ≤ 101602 → IsInside (block_count old) k
+    → OnlyLong (page_block old (page_of k)) (map_long k) old mid → OnlyLong (page_block old (page_of k)) 0 mid new
+    → IsBitPut (long old (page_block old (page_of k)) (map_long k)) ((k - 2) % 32) free (long mid (page_block old (page_of k)) (map_long k))
+    → block_sum new (page_block old (page_of k)) ≡ 0 → Marked old k free new
+marked_by old mid new k free lawful size inside first second put sum =
+    let b = page_block old (page_of k) in
+    let k_page : page_of k < pages_of old = omega (arith, inside.0, inside.1) in
+    let k_place : map_long k < 128 = omega arith in
+    let k_behind : map_long k ≢ 0 = omega arith in
+    let rest : SameBut (MapPlace old k) old new =
+    same_trans (MapPlace old k) old mid new
+    (same_weaken (AtLong b (map_long k)) (MapPlace old k) old mid (λ c i at. (at.0, inr at.1)) first)
+    (same_weaken (AtLong b 0) (MapPlace old k) mid new (λ c i at. (at.0, inl at.1)) second) in
+    let page : (p : ℕ) → p < 25 → page_block new p ≡ page_block old p = same_page (MapPlace old k) old new rest (λ i low high at. lawful.beside_root (page_of k) k_page (sym at.0)) in
+    record {
+      bit =
+          marked-is new k
+          ∙ ap (λ (c : ℕ). mark (long new c (map_long k)) ((k - 2) % 32)) (page (page_of k) (omega arith))
+          ∙ ap (λ (v : ℕ). mark v ((k - 2) % 32)) (other_long b 0 mid new second b (map_long k) k_place (inr k_behind))
+          ∙ mark-bit (long mid b (map_long k)) ((k - 2) % 32) free put.bit;
+      others = λ j has ne.
+          let j_page : page_of j < 25 = omega (arith, has.0, has.1) in
+          marked-is new j
+          ∙ ap (λ (c : ℕ). mark (long new c (map_long j)) ((j - 2) % 32)) (page (page_of j) j_page)
+          ∙ other_mark old mid new k free lawful size inside first second put j has ne
+          ∙ sym (marked-is old j);
+      sum = sum;
+      rest = rest;
+    }

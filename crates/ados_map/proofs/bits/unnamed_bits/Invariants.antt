@@ -1,0 +1,7 @@
+use Rattle.std.proofs.Common.{◌≡◌, ◌<◌, ◌+◌, ◌*◌, ℕ, cond}
+use Rattle.std.specs.Int.{bit_at}
+use Rattle.ados_map.specs.Bits.{is_unnamed}
+use Rattle.ados_map.proofs.bits.unnamed_bits.Given as goal
+
+abbrev pub invariant-loop-i : goal.invariant-loop-i
+invariant-loop-i l = (j : ℕ) → j < l.i → bit_at l.bits j ≡ cond (is_unnamed l.named (2 + 32 * l.w + j)) 1 0

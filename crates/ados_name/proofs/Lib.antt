@@ -1,0 +1,6 @@
+mod DateLemmas
+mod NameLemmas
+mod PathLemmas
+mod ProtectionLemmas
+mod SeparatorLemmas
+mod ShortTextLemmas

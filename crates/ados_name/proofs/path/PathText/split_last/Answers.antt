@@ -1,0 +1,34 @@
+use Rattle.std.proofs.Common.{ℕ, Option, Some, None, List, [], ◌∷◌, subst, ◌∙◌}
+use Rattle.bstr.specs.Find.{IsLastByte}
+use Rattle.bstr.specs.Bytes.{is_in}
+use Rattle.ados_name.specs.Name.{is_separator}
+use Rattle.ados_name.proofs.SeparatorLemmas.{is_in-separators}
+use Rattle.ados_name.proofs.PathLemmas.{drop-behind, take-behind, last_name-plain}
+use Rattle.ados_name.proofs.path.PathText.split_last.Goals as goal
+
+last-separator : (path : List ℕ) (r : Option ℕ) → IsLastByte (is_in (47 ∷ 58 ∷ [])) path r → IsLastByte is_separator path r
+last-separator path r found = subst (λ test. IsLastByte test path r) is_in-separators found
+
+pub returns-in-Some-clause-front : goal.returns-in-Some-clause-front
+returns-in-Some-clause-front c = rw c.bytes-bytes.ensures.value at
+    (c.split_at.ensures.front ∙ take-behind c.bytes-bytes.result.now (Some c.in-Some.at) (last-separator _ (Some c.in-Some.at) c.in-Some.ensures))
+
+pub returns-in-Some-clause-last : goal.returns-in-Some-clause-last
+returns-in-Some-clause-last c = rw c.bytes-bytes.ensures.value at
+    (c.split_at.ensures.back ∙ drop-behind c.bytes-bytes.result.now (Some c.in-Some.at) (last-separator _ (Some c.in-Some.at) c.in-Some.ensures))
+
+pub returns-in-Some-clause-plain : goal.returns-in-Some-clause-plain
+returns-in-Some-clause-plain c = rw c.bytes-bytes.ensures.value at
+    (last_name-plain c.bytes-bytes.result.now (Some c.in-Some.at) (last-separator _ (Some c.in-Some.at) c.in-Some.ensures))
+
+pub returns-in-None-clause-front : goal.returns-in-None-clause-front
+returns-in-None-clause-front c = rw c.bytes-bytes.ensures.value at
+    (c.split_at-in-None.ensures.front ∙ take-behind c.bytes-bytes.result.now None (last-separator _ None c.in-None.ensures))
+
+pub returns-in-None-clause-last : goal.returns-in-None-clause-last
+returns-in-None-clause-last c = rw c.bytes-bytes.ensures.value at
+    (c.split_at-in-None.ensures.back ∙ drop-behind c.bytes-bytes.result.now None (last-separator _ None c.in-None.ensures))
+
+pub returns-in-None-clause-plain : goal.returns-in-None-clause-plain
+returns-in-None-clause-plain c = rw c.bytes-bytes.ensures.value at
+    (last_name-plain c.bytes-bytes.result.now None (last-separator _ None c.in-None.ensures))

@@ -1,0 +1,158 @@
+//! Paths and the steps that they spell.
+ghost use Rattle.std.specs.Prelude.{◌≡◌, ◌↔◌, IsTrue, IsOk, IfOk, false};
+ghost use Rattle.std.specs.List.{list_any, before_first, after_first};
+ghost use Rattle.ados_name.specs.Name.{is_slash, is_separator};
+ghost use Rattle.ados_name.specs.Path.{IsPathText, is_from_root, walked_part, steps, front, last_name};
+
+use crate::short_text::ShortText;
+use bstr::ByteSlice;
+use std::marker::Model;
+
+/// The bytes of a path, or of another text that a packet brings: at most 255.
+#[derive(Clone, Copy, Debug, PartialEq, Eq)]
+pub struct PathText {
+    text: ShortText<255>,
+}
+
+impl Model for PathText {
+    ghost use Rattle.std.specs.Prelude.{ℕ, List};
+
+    ghost Value = { List ℕ };
+
+    ghost view = { λ s. s.text };
+
+    ghost inverse = { λ bytes. record { text = bytes } };
+}
+
+/// The text is longer than 255 bytes.
+#[derive(Clone, Copy, Debug, PartialEq, Eq)]
+pub struct PathTooLong;
+
+impl PathText {
+    /// The most bytes that a path has.
+    pub const MAX_LEN: usize = 255;
+
+    pub fn new(text: &[u8]) -> Result<PathText, PathTooLong>
+        ensures ok { IfOk result (λ path. path ≡ text.now) }
+        ensures valid { IsOk result ↔ IsPathText text.now }
+    {
+        if text.len() > PathText::MAX_LEN {
+            return Err(PathTooLong);
+        }
+        Ok(PathText {
+            text: ShortText::new(text),
+        })
+    }
+
+    pub fn bytes(&self) -> &[u8]
+        ensures value { result.now ≡ self.now }
+        ensures valid { IsPathText self.now }
+    {
+        self.text.bytes()
+    }
+
+    /// Whether the walk starts at the root: the path has a `:`.
+    pub fn from_root(&self) -> bool
+        ensures { result ≡ is_from_root self.now }
+    {
+        self.bytes().find_byte(b':').is_some()
+    }
+
+    /// The steps of the whole path.
+    pub fn steps(&self) -> PathSteps<'_>
+        ensures { result ≡ steps self.now }
+    {
+        PathSteps::of(self.bytes())
+    }
+
+    /// The front and the last name of the path. The last name may be empty or longer than a name.
+    pub fn split_last(&self) -> (&[u8], &[u8])
+        ensures front { result.0.now ≡ front self.now }
+        ensures last { result.1.now ≡ last_name self.now }
+        ensures plain { list_any is_separator (last_name self.now) ≡ false }
+    {
+        let bytes = self.bytes();
+        match bytes.rfind_byteset(b"/:") {
+            Some(at) => bytes.split_at(at + 1),
+            None => bytes.split_at(0),
+        }
+    }
+}
+
+/// One step of a walk.
+#[derive(Clone, Copy, Debug, PartialEq, Eq)]
+pub enum Step<'a> {
+    Parent,
+    /// To the child of this name, which may be longer than a name, or have a `:`.
+    Child(&'a [u8]),
+}
+
+/// The steps of a path that are still to be made.
+#[derive(Drop)]
+pub struct PathSteps<'a> {
+    rest: &'a [u8],
+}
+
+impl<'a> Model for PathSteps<'a> {
+    ghost use Rattle.std.specs.Prelude.{List};
+    ghost use Rattle.ados_name.specs.Path.{Step, steps_along};
+
+    ghost Value = { List Step };
+
+    ghost view = { λ s. steps_along s.rest.now };
+}
+
+impl<'a> PathSteps<'a> {
+    /// The steps of a path, or of its front.
+    pub fn of(path: &'a [u8]) -> PathSteps<'a>
+        ensures { result ≡ steps path.now }
+    {
+        PathSteps {
+            rest: without_volume(path),
+        }
+    }
+}
+
+impl<'a> Iterator for PathSteps<'a> {
+    ghost use Rattle.std.specs.Iterator.{YieldsFirstBy, item_count};
+    ghost use Rattle.ados_name.specs.StepView.{step_of};
+
+    type Item = Step<'a>;
+
+    ghost next_gives = { YieldsFirstBy step_of (λ rest. rest) };
+
+    ghost remaining = { item_count (λ rest. rest) };
+
+    fn next(&mut self) -> Option<Step<'a>> {
+        if self.rest.is_empty() {
+            return None;
+        }
+        let (component, rest) = split_component(self.rest);
+        self.rest = rest;
+        if component.is_empty() {
+            return Some(Step::Parent);
+        }
+        Some(Step::Child(component))
+    }
+}
+
+// The bytes before the first `/`, or all of them, and what stands behind it.
+fn split_component(walked: &[u8]) -> (&[u8], &[u8])
+    ensures component { result.0.now ≡ before_first is_slash walked.now }
+    ensures rest { result.1.now ≡ after_first is_slash walked.now }
+{
+    match walked.find_byte(b'/') {
+        Some(at) => (&walked[..at], &walked[at + 1..]),
+        None => (walked, &[]),
+    }
+}
+
+// The text behind the first `:`, or all of it.
+fn without_volume(path: &[u8]) -> &[u8]
+    ensures { result.now ≡ walked_part path.now }
+{
+    match path.find_byte(b':') {
+        Some(at) => &path[at + 1..],
+        None => path,
+    }
+}
