@@ -1,0 +1,288 @@
+-- What a script has told so far, line after line.
+use Rattle.std.proofs.Common.{◌≡◌, ℕ, zero, suc, ◌+◌, inl, inr, Bool, true, false, List, [], ◌∷◌, ◌++◌, length, take, slice_get, refl, sym, ap, subst, ◌∙◌, arith, append_assoc, length-append}
+use Rattle.std.specs.Prelude.{Option, Some, Result, Ok, Err, OnOk, not, cond, filter, flat_map}
+use Rattle.std.specs.Bool.{MatchBool}
+use Rattle.std.specs.Io.KnownBytes.{Appends, Consumes, IsAtEnd, Keeps}
+use Rattle.std.specs.List.{enumerate_from}
+use Rattle.std.proofs.lemmas.List.{append-nil, take-append-le, take_all, length-take}
+use Rattle.std.proofs.lemmas.Bool.{cases_lt, lt-ltb}
+use Rattle.std.proofs.lemmas.Grind.{flat_map-append}
+use Rattle.std.proofs.lemmas.Option.{none-some, slice_get_past}
+use Rattle.ados_packet.specs.declared.packet.Packet.{Packet}
+use Rattle.ados_packet.specs.declared.answer.Answer.{Answer}
+use Rattle.ados_server.specs.Port.{PortState}
+use Rattle.ados_server.specs.History.{PortHistory}
+use Rattle.ados_server.specs.Lawful.{numbered}
+use Rattle.ados_server.specs.Steps.{StepGives}
+use Rattle.ados_server.specs.declared.step.Step.TheVariants.{Put, Serve, Take}
+use Rattle.ados_server.specs.declared.step.PutRefused.TheVariants.{Closed}
+use Rattle.ados_server.specs.declared.step.Reply.{Reply}
+use Rattle.ados_server.specs.declared.step.Outcome.TheVariants.{Accepted, Refused, Served, Taken}
+use Rattle.ados_exchange.proofs.Histories.{slice_get-push_at}
+use Rattle.ados_exchange.proofs.Grows.{Grown, grown_nil, grow}
+use Rattle.adf_script.specs.Lines.{lines_of, is_skipped, kept_from, kept_lines, is_too_long}
+use Rattle.adf_script.specs.Grammar.{IsPacketLine, IsFaulty}
+use Rattle.adf_script.specs.Text.{reply_line, reply_lines, closed_line, fault_line}
+use Rattle.adf_script.specs.Told.{ArePackets, NoneIsLeft, steps_of, outcomes_of, Ending, AtEnd, AtClosed, AtFault, is_whole, last_line, Ran, Told}
+use Rattle.adf_script.specs.Calls.{IsQuiet, Calls}
+use Rattle.adf_script.specs.Streams.{Writes, ReadsAndWrites}
+use Rattle.adf_script.proofs.Quiet.{put_closed}
+use Rattle.std.proofs.KnownBytes.{Appends-nil as appends_nothing, Appends-trans as appends_more, Appends-kept as appends_kept}
+
+-- what follows where the answer is Ok
+pub on_ok_map : {T E : Type 0} (r : Result T E) (P Q : Type 0) → (P → Q) → OnOk r P → OnOk r Q
+on_ok_map (Ok x) P Q f h = f h
+on_ok_map (Err e) P Q f h = h
+
+pub no_bytes : (xs : List ℕ) → length xs ≡ 0 → xs ≡ []
+no_bytes [] e = refl
+no_bytes (x ∷ xs) e = absurd (omega (arith, e))
+
+-- a line that is skipped, and one that is not
+pub kept_from-skipped : (number : ℕ) (rest line behind : List ℕ) → lines_of rest ≡ line ∷ lines_of behind → is_skipped line ≡ true → kept_from number rest ≡ kept_from (number + 1) behind
+kept_from-skipped number rest line behind split skipped =
+    ap (λ l. filter (λ (p : ℕ × List ℕ). not (is_skipped p.1)) (enumerate_from number l)) split
+    ∙ ap (λ b. cond (not b) ((number, line) ∷ kept_from (number + 1) behind) (kept_from (number + 1) behind)) skipped
+
+pub kept_from-kept : (number : ℕ) (rest line behind : List ℕ) → lines_of rest ≡ line ∷ lines_of behind → is_skipped line ≡ false
+    → kept_from number rest ≡ (number, line) ∷ kept_from (number + 1) behind
+kept_from-kept number rest line behind split kept =
+    ap (λ l. filter (λ (p : ℕ × List ℕ). not (is_skipped p.1)) (enumerate_from number l)) split
+    ∙ ap (λ b. cond (not b) ((number, line) ∷ kept_from (number + 1) behind) (kept_from (number + 1) behind)) kept
+
+-- one more at the end
+numbered-push : {A : Type 0} (number : ℕ) (xs : List A) (y : A) → numbered number (xs ++ y ∷ []) ≡ numbered number xs ++ (record { number = number + length xs; answer = y }) ∷ []
+numbered-push number [] y = λ i. record { number = same i; answer = y } ∷ []
+  where
+    same : number ≡ number + 0
+    same = omega arith
+numbered-push number (x ∷ xs) y =
+    let same : number + 1 + length xs ≡ number + length (x ∷ xs) = omega arith
+    in ap (λ l. record { number = number; answer = x } ∷ l) (numbered-push (number + 1) xs y ∙ ap (λ n. numbered (number + 1) xs ++ (record { number = n; answer = y }) ∷ []) same)
+
+reply_lines-push : (number : ℕ) (xs : List Answer) (y : Answer) → reply_lines 1 number (xs ++ y ∷ []) ≡ reply_lines 1 number xs ++ reply_line 1 (number + length xs) y
+reply_lines-push number [] y =
+    let same : number ≡ number + 0 = omega arith
+    in append-nil (reply_line 1 number y) ∙ ap (λ n. reply_line 1 n y) same
+reply_lines-push number (x ∷ xs) y =
+    let same : number + 1 + length xs ≡ number + length (x ∷ xs) = omega arith
+    in ap (λ l. reply_line 1 number x ++ l) (reply_lines-push (number + 1) xs y ∙ ap (λ n. reply_lines 1 (number + 1) xs ++ reply_line 1 n y) same)
+    ∙ sym (append_assoc (reply_line 1 number x) (reply_lines 1 (number + 1) xs) (reply_line 1 (number + length (x ∷ xs)) y))
+
+slice_get-front : {A : Type 0} (xs ys : List A) (i : ℕ) (x : A) → slice_get xs i ≡ Some x → slice_get (xs ++ ys) i ≡ Some x
+slice_get-front [] ys i x h = absurd (none-some x h)
+slice_get-front (z ∷ zs) ys zero x h = h
+slice_get-front (z ∷ zs) ys (suc i) x h = slice_get-front zs ys i x h
+
+slice_get-seam : {A : Type 0} (xs : List A) (y : A) (ys : List A) (n : ℕ) → n ≡ length xs → slice_get (xs ++ y ∷ ys) n ≡ Some y
+slice_get-seam xs y ys n e = ap (slice_get (xs ++ y ∷ ys)) e ∙ at xs
+  where
+    at : (zs : List _) → slice_get (zs ++ y ∷ ys) (length zs) ≡ Some y
+    at [] = refl
+    at (z ∷ zs) = at zs
+
+-- one more packet line
+packets-push : (lines : List (ℕ × List ℕ)) (answers : List Answer) (packets : List Packet) (line : ℕ × List ℕ) (answer : Answer) (packet : Packet)
+    → length packets ≡ length lines → length packets ≡ length answers → IsPacketLine answers packet line.1 → ArePackets lines answers packets
+    → ArePackets (lines ++ line ∷ []) (answers ++ answer ∷ []) (packets ++ packet ∷ [])
+packets-push lines answers packets line answer packet as_lines as_answers puts each i p at_i = elim (slice_get-push_at packets packet i p at_i) [
+  | inl w ↦
+      let old = each i p w.1
+      in (
+        old.0,
+        slice_get-front lines (line ∷ []) i old.0 old.1,
+        subst (λ l. IsPacketLine l p old.0.1) (sym (take-append-le i answers (answer ∷ []) (omega (arith, w.0, as_answers)))) old.2,
+      )
+  | inr w ↦
+      let all : take i (answers ++ answer ∷ []) ≡ answers = take-append-le i answers (answer ∷ []) (omega (arith, w.0, as_answers)) ∙ take_all i answers (omega (arith, w.0, as_answers))
+      in (line, slice_get-seam lines line [] i (w.0 ∙ as_lines), subst (λ l. IsPacketLine l p line.1) (sym all) (subst (λ q. IsPacketLine answers q line.1) (sym w.1) puts))
+]
+
+module _ {S M : Type 0} (gives : S → Packet → M → S → Answer → Type 0) (has_died : S → Bool) (opening : PortState S Packet Answer) (moment : M) (script : List ℕ) (contents : Option (List ℕ)) where
+  -- with these bytes of the script left, behind these many lines and packets: what has come to pass and what is written
+  pub record SoFar (rest : List ℕ) (number taken : ℕ) (port : PortState S Packet Answer) (now : Option (List ℕ)) : Type 0 where
+    pub lines : List (ℕ × List ℕ)
+    pub packets : List Packet
+    pub answers : List Answer
+    pub split : kept_lines script ≡ lines ++ kept_from (number + 1) rest
+    pub many_lines : length lines ≡ taken
+    pub many_packets : length packets ≡ taken
+    pub many_answers : length answers ≡ taken
+    pub each : ArePackets lines answers packets
+    pub grown : Grown gives has_died opening (flat_map (steps_of moment) packets) (flat_map outcomes_of (numbered 1 answers)) port
+    pub quiet : IsQuiet port taken
+    pub written : Appends contents now (reply_lines 1 1 answers)
+
+  -- a script that is not too long
+  told_by : (written : List ℕ) (whole : Bool) → is_too_long script ≡ false → (answers : List Answer) (ending : Ending) → Ran gives has_died opening moment (kept_lines script) answers ending
+      → whole ≡ is_whole ending → written ≡ reply_lines 1 1 answers ++ last_line 1 (length answers) ending → Told gives has_died opening moment script written whole
+  told_by written whole short answers ending ran as_ending as_text =
+      let Runs : Type 0 = (a : List Answer) × (e : Ending) × Ran gives has_died opening moment (kept_lines script) a e × (whole ≡ is_whole e) × (written ≡ reply_lines 1 1 a ++ last_line 1 (length a) e)
+      in let runs : Runs = (answers, ending, ran, as_ending, as_text)
+      in subst (λ b. MatchBool b ((whole ≡ false) × (written ≡ fault_line 1 0)) Runs) (sym short) runs
+
+  -- before the first line
+  pub nothing_told : IsQuiet opening 0 → SoFar script 0 0 opening contents
+  nothing_told quiet = record {
+    lines = [];
+    packets = [];
+    answers = [];
+    split = refl;
+    many_lines = refl;
+    many_packets = refl;
+    many_answers = refl;
+    each = λ i packet e. absurd (none-some packet e);
+    grown = grown_nil gives has_died opening;
+    quiet = quiet;
+    written = appends_nothing contents;
+  }
+
+  module _ (rest : List ℕ) (number taken : ℕ) (port : PortState S Packet Answer) (now : Option (List ℕ)) (sofar : SoFar rest number taken port now) where
+    -- no line is left
+    pub told_end : is_too_long script ≡ false → rest ≡ [] → Writes contents now (λ written. Told gives has_died opening moment script written true)
+    told_end short empty =
+        let left : kept_lines script ≡ sofar.lines = sofar.split ∙ ap (λ l. sofar.lines ++ kept_from (number + 1) l) empty ∙ append-nil sofar.lines
+        in let ran : Ran gives has_died opening moment (kept_lines script) sofar.answers AtEnd = record {
+          packets = sofar.packets;
+          each = subst (λ l. ArePackets l sofar.answers sofar.packets) (sym left) sofar.each;
+          ends = subst (λ l. NoneIsLeft l (length sofar.packets)) (sym left) (slice_get_past sofar.lines (length sofar.packets) (omega (arith, sofar.many_lines, sofar.many_packets)));
+          closing = port;
+          history = subst (λ l. PortHistory gives has_died opening l (flat_map outcomes_of (numbered 1 sofar.answers) ++ []) port) (sym (append-nil (flat_map (steps_of moment) sofar.packets)))
+              (subst (λ l. PortHistory gives has_died opening (flat_map (steps_of moment) sofar.packets) l port) (sym (append-nil (flat_map outcomes_of (numbered 1 sofar.answers)))) sofar.grown.history);
+        }
+        in (reply_lines 1 1 sofar.answers, sofar.written, told_by (reply_lines 1 1 sofar.answers) true short sofar.answers AtEnd ran refl (sym (append-nil (reply_lines 1 1 sofar.answers))))
+
+    module _ (line behind : List ℕ) (first : lines_of rest ≡ line ∷ lines_of behind) where
+      -- a line that is skipped
+      pub told_skipped : is_skipped line ≡ true → SoFar behind (number + 1) taken port now
+      told_skipped skipped = record {
+        lines = sofar.lines;
+        packets = sofar.packets;
+        answers = sofar.answers;
+        split = sofar.split ∙ ap (λ l. sofar.lines ++ l) (kept_from-skipped (number + 1) rest line behind first skipped);
+        many_lines = sofar.many_lines;
+        many_packets = sofar.many_packets;
+        many_answers = sofar.many_answers;
+        each = sofar.each;
+        grown = sofar.grown;
+        quiet = sofar.quiet;
+        written = sofar.written;
+      }
+
+      module _ (kept : is_skipped line ≡ false) where
+        split_here : kept_lines script ≡ sofar.lines ++ (number + 1, line) ∷ kept_from (number + 1 + 1) behind
+        split_here = sofar.split ∙ ap (λ l. sofar.lines ++ l) (kept_from-kept (number + 1) rest line behind first kept)
+
+        line_here : slice_get (kept_lines script) (length sofar.packets) ≡ Some (number + 1, line)
+        line_here = ap (λ l. slice_get l (length sofar.packets)) split_here
+            ∙ slice_get-seam sofar.lines (number + 1, line) (kept_from (number + 1 + 1) behind) (length sofar.packets) (sofar.many_packets ∙ sym sofar.many_lines)
+
+        each_here : ArePackets (kept_lines script) sofar.answers sofar.packets
+        each_here = λ i packet e.
+            let old = sofar.each i packet e
+            in (old.0, ap (λ l. slice_get l i) split_here ∙ slice_get-front sofar.lines _ i old.0 old.1, old.2)
+
+        -- a faulty line
+        pub told_fault : (after : Option (List ℕ)) → is_too_long script ≡ false → ((answers : List Answer) → IsFaulty answers line) → Appends now after (fault_line 1 (number + 1))
+            → Writes contents after (λ written. Told gives has_died opening moment script written false)
+        told_fault after short faulty more =
+            let ran : Ran gives has_died opening moment (kept_lines script) sofar.answers (AtFault (number + 1)) = record {
+              packets = sofar.packets;
+              each = each_here;
+              ends = (line, line_here, faulty sofar.answers);
+              closing = port;
+              history = subst (λ l. PortHistory gives has_died opening l (flat_map outcomes_of (numbered 1 sofar.answers) ++ []) port) (sym (append-nil (flat_map (steps_of moment) sofar.packets)))
+                  (subst (λ l. PortHistory gives has_died opening (flat_map (steps_of moment) sofar.packets) l port) (sym (append-nil (flat_map outcomes_of (numbered 1 sofar.answers)))) sofar.grown.history);
+            }
+            in (
+              reply_lines 1 1 sofar.answers ++ fault_line 1 (number + 1),
+              appends_more contents now after (reply_lines 1 1 sofar.answers) (fault_line 1 (number + 1)) sofar.written more,
+              told_by (reply_lines 1 1 sofar.answers ++ fault_line 1 (number + 1)) false short sofar.answers (AtFault (number + 1)) ran refl refl,
+            )
+
+        module _ (packet : Packet) (puts : (answers : List Answer) → IsPacketLine answers packet line) where
+          -- a put that is refused as closed
+          pub told_closed : (other : Packet) (new : PortState S Packet Answer) (after : Option (List ℕ)) → is_too_long script ≡ false
+              → StepGives gives has_died port (Put 1 packet) (Refused (Closed other)) new → Appends now after (closed_line 1 (taken + 1))
+              → Writes contents after (λ written. Told gives has_died opening moment script written true)
+          told_closed other new after short step more =
+              let same : other ≡ packet = put_closed gives has_died port.server taken packet other new (subst (λ o. StepGives gives has_died o (Put 1 packet) (Refused (Closed other)) new) sofar.quiet step)
+              in let history = grow gives has_died opening (flat_map (steps_of moment) sofar.packets) (flat_map outcomes_of (numbered 1 sofar.answers)) port sofar.grown
+              (Put 1 packet) (Refused (Closed packet)) new (subst (λ o. StepGives gives has_died port (Put 1 packet) (Refused (Closed o)) new) same step)
+              in let ran : Ran gives has_died opening moment (kept_lines script) sofar.answers (AtClosed packet) = record {
+                packets = sofar.packets;
+                each = each_here;
+                ends = ((number + 1, line), line_here, puts sofar.answers);
+                closing = new;
+                history = history.history;
+              }
+              in (
+                reply_lines 1 1 sofar.answers ++ closed_line 1 (taken + 1),
+                appends_more contents now after (reply_lines 1 1 sofar.answers) (closed_line 1 (taken + 1)) sofar.written more,
+                told_by (reply_lines 1 1 sofar.answers ++ closed_line 1 (taken + 1)) true short sofar.answers (AtClosed packet) ran refl
+                    (ap (λ n. reply_lines 1 1 sofar.answers ++ closed_line 1 (n + 1)) (sym sofar.many_answers)),
+              )
+
+          -- a reply
+          pub told_reply : (reply : Reply Answer) (new : PortState S Packet Answer) (after : Option (List ℕ)) → reply.number ≡ taken + 1 → IsQuiet new (taken + 1)
+              → Calls gives has_died moment port packet reply new → Appends now after (reply_line 1 reply.number reply.answer)
+              → SoFar behind (number + 1) reply.number new after
+          told_reply reply new after is_next quiet calls more =
+              let steps = flat_map (steps_of moment) sofar.packets
+              in let outcomes = flat_map outcomes_of (numbered 1 sofar.answers)
+              in let one = grow gives has_died opening steps outcomes port sofar.grown (Put 1 packet) (Accepted reply.number) calls.put calls.puts
+              in let two = grow gives has_died opening _ _ calls.put one (Serve moment) Served calls.served calls.serves
+              in let three = grow gives has_died opening _ _ calls.served two (Take 1) (Taken reply) new calls.takes
+              in let all_steps : ((steps ++ Put 1 packet ∷ []) ++ Serve moment ∷ []) ++ Take 1 ∷ [] ≡ flat_map (steps_of moment) (sofar.packets ++ packet ∷ []) =
+              append_assoc (steps ++ Put 1 packet ∷ []) (Serve moment ∷ []) (Take 1 ∷ []) ∙ append_assoc steps (Put 1 packet ∷ []) (Serve moment ∷ Take 1 ∷ []) ∙ sym (flat_map-append (steps_of moment) sofar.packets (packet ∷ []))
+              in let counted : 1 + length sofar.answers ≡ reply.number = omega (arith, sofar.many_answers, is_next)
+              in let all_replies : numbered 1 (sofar.answers ++ reply.answer ∷ []) ≡ numbered 1 sofar.answers ++ reply ∷ [] =
+              numbered-push 1 sofar.answers reply.answer ∙ ap (λ n. numbered 1 sofar.answers ++ (record { number = n; answer = reply.answer }) ∷ []) counted
+              in let all_outcomes : ((outcomes ++ Accepted reply.number ∷ []) ++ Served ∷ []) ++ Taken reply ∷ [] ≡ flat_map outcomes_of (numbered 1 (sofar.answers ++ reply.answer ∷ [])) =
+              append_assoc (outcomes ++ Accepted reply.number ∷ []) (Served ∷ []) (Taken reply ∷ []) ∙ append_assoc outcomes (Accepted reply.number ∷ []) (Served ∷ Taken reply ∷ [])
+              ∙ sym (flat_map-append outcomes_of (numbered 1 sofar.answers) (reply ∷ [])) ∙ ap (flat_map outcomes_of) (sym all_replies)
+              in record {
+                lines = sofar.lines ++ (number + 1, line) ∷ [];
+                packets = sofar.packets ++ packet ∷ [];
+                answers = sofar.answers ++ reply.answer ∷ [];
+                split = split_here ∙ sym (append_assoc sofar.lines ((number + 1, line) ∷ []) (kept_from (number + 1 + 1) behind));
+                many_lines = omega (arith, length-append sofar.lines ((number + 1, line) ∷ []), sofar.many_lines, is_next);
+                many_packets = omega (arith, length-append sofar.packets (packet ∷ []), sofar.many_packets, is_next);
+                many_answers = omega (arith, length-append sofar.answers (reply.answer ∷ []), sofar.many_answers, is_next);
+                each = packets-push sofar.lines sofar.answers sofar.packets (number + 1, line) reply.answer packet (sofar.many_packets ∙ sym sofar.many_lines) (sofar.many_packets ∙ sym sofar.many_answers) (puts sofar.answers) sofar.each;
+                grown = subst (λ l. Grown gives has_died opening l (flat_map outcomes_of (numbered 1 (sofar.answers ++ reply.answer ∷ []))) new) all_steps
+                    (subst (λ l. Grown gives has_died opening (((steps ++ Put 1 packet ∷ []) ++ Serve moment ∷ []) ++ Take 1 ∷ []) l new) all_outcomes three);
+                quiet = subst (IsQuiet new) (sym is_next) quiet;
+                written = subst (Appends contents after) (sym (reply_lines-push 1 sofar.answers reply.answer ∙ ap (λ n. reply_lines 1 1 sofar.answers ++ reply_line 1 n reply.answer) counted))
+                    (appends_more contents now after (reply_lines 1 1 sofar.answers) (reply_line 1 reply.number reply.answer) sofar.written more);
+              }
+
+module _ {S M : Type 0} (gives : S → Packet → M → S → Answer → Type 0) (has_died : S → Bool) (opening : PortState S Packet Answer) (moment : M) where
+  -- a script that is too long
+  pub told_long : (script : List ℕ) → is_too_long script ≡ true → Told gives has_died opening moment script (fault_line 1 0) false
+  told_long script long =
+      let Runs : Type 0 = (a : List Answer) × (e : Ending) × Ran gives has_died opening moment (kept_lines script) a e × (false ≡ is_whole e) × (fault_line 1 0 ≡ reply_lines 1 1 a ++ last_line 1 (length a) e)
+      in let Faulty : Type 0 = (◌≡◌ {A = Bool} false false) × (fault_line 1 0 ≡ fault_line 1 0)
+      in let faulty : Faulty = (refl, refl)
+      in subst (λ b. MatchBool b Faulty Runs) (sym long) faulty
+
+  -- the front of a script tells what the script does
+  pub told_of_front : (script kept written : List ℕ) (whole : Bool) → kept ≡ take 1048577 script → Told gives has_died opening moment kept written whole → Told gives has_died opening moment script written whole
+  told_of_front script kept written whole is_front told = elim (cases_lt 1048576 (length script)) [
+    | inl long ↦
+        let kept_long : is_too_long kept ≡ true = lt-ltb 1048576 (length kept) (omega (arith, ap length is_front, length-take 1048577 script, long))
+        in let script_long : is_too_long script ≡ true = lt-ltb 1048576 (length script) long
+        in let Runs : List ℕ → Type 0 = λ l. (a : List Answer) × (e : Ending) × Ran gives has_died opening moment (kept_lines l) a e × (whole ≡ is_whole e) × (written ≡ reply_lines 1 1 a ++ last_line 1 (length a) e)
+        in let Faulty : Type 0 = (whole ≡ false) × (written ≡ fault_line 1 0)
+        in subst (λ b. MatchBool b Faulty (Runs script)) (sym script_long) (subst (λ b. MatchBool b Faulty (Runs kept)) kept_long told)
+    | inr short ↦ subst (λ l. Told gives has_died opening moment l written whole) (is_front ∙ take_all 1048577 script (omega (arith, short))) told
+  ]
+
+  -- from the streams of a run to all that was read
+  pub told_through : (reader_old reader_new writer_old writer_mid writer_new : Option (List ℕ)) (kept view : List ℕ) (whole : Bool) → view ≡ kept
+      → (script : List ℕ) × Consumes reader_old reader_new script × IsAtEnd reader_new × (kept ≡ take 1048577 script)
+      → Keeps writer_mid writer_new
+      → Writes writer_old writer_mid (λ written. Told gives has_died opening moment view written whole)
+      → ReadsAndWrites reader_old reader_new writer_old writer_new (λ read written. Told gives has_died opening moment read written whole)
+  told_through reader_old reader_new writer_old writer_mid writer_new kept view whole same read flushed writes =
+      (read.0, read.1, read.2, (writes.0, appends_kept writer_old writer_mid writer_new writes.0 writes.1 flushed, told_of_front read.0 view writes.0 whole (same ∙ read.3) writes.2))

@@ -1,0 +1,11 @@
+pub use Rattle.ados_packet.specs.Packet
+pub use Rattle.ados_server.specs.Port
+pub use Rattle.ados_server.specs.History
+pub use Rattle.ados_server.specs.Lawful
+pub mod Lines
+pub mod Grammar
+pub mod Pieces
+pub mod Text
+pub mod Told
+pub mod Calls
+pub mod Streams

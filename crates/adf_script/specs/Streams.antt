@@ -1,0 +1,12 @@
+-- What goes from a reader to a writer.
+use Rattle.std.specs.Prelude.{List, ℕ, Option}
+use Rattle.std.specs.Io.KnownBytes.{Consumes, Appends, IsAtEnd}
+
+-- something of this kind is written; the writer is given before and after
+abbrev pub Writes : Option (List ℕ) → Option (List ℕ) → (List ℕ → Type 0) → Type 0
+Writes old new IsFit = (written : List ℕ) × Appends old new written × IsFit written
+
+-- all that the reader has is read, and what is written fits it; each stream is given before and after
+abbrev pub ReadsAndWrites : Option (List ℕ) → Option (List ℕ) → Option (List ℕ) → Option (List ℕ) → (List ℕ → List ℕ → Type 0) → Type 0
+ReadsAndWrites reader_old reader_new writer_old writer_new Fits =
+    (read : List ℕ) × Consumes reader_old reader_new read × IsAtEnd reader_new × Writes writer_old writer_new (Fits read)

@@ -1,0 +1,94 @@
+-- What a run of a script tells, over whatever a server does.
+use Rattle.std.specs.Prelude.{◌≡◌, ℕ, ◌+◌, Bool, true, false, List, [], ◌∷◌, ◌++◌, length, take, slice_get, flat_map, Some, None}
+use Rattle.std.specs.Bool.{MatchBool}
+use Rattle.ados_packet.specs.declared.packet.Packet.{Packet}
+use Rattle.ados_packet.specs.declared.answer.Answer.{Answer}
+use Rattle.ados_server.specs.Port.{PortState}
+use Rattle.ados_server.specs.History.{PortHistory}
+use Rattle.ados_server.specs.Lawful.{numbered}
+use Rattle.ados_server.specs.declared.step.Step.{Step}
+use Rattle.ados_server.specs.declared.step.Step.TheVariants.{Put, Serve, Take}
+use Rattle.ados_server.specs.declared.step.PutRefused.TheVariants.{Closed}
+use Rattle.ados_server.specs.declared.step.Reply.{Reply}
+use Rattle.ados_server.specs.declared.step.Outcome.{Outcome}
+use Rattle.ados_server.specs.declared.step.Outcome.TheVariants.{Accepted, Refused, Served, Taken}
+use Rattle.adf_script.specs.Lines.{kept_lines, is_too_long}
+use Rattle.adf_script.specs.Grammar.{IsPacketLine, IsFaulty}
+use Rattle.adf_script.specs.Text.{reply_lines, closed_line, fault_line}
+
+-- these are the packets of the first packet lines, each line read after the answers to the packets before it
+abbrev pub ArePackets : List (ℕ × List ℕ) → List Answer → List Packet → Type 0
+ArePackets lines answers packets =
+    (i : ℕ) (packet : Packet) → slice_get packets i ≡ Some packet
+    → (line : ℕ × List ℕ) × (slice_get lines i ≡ Some line) × IsPacketLine (take i answers) packet line.1
+
+-- the line after these many packet lines puts this packet
+abbrev pub NextPuts : List (ℕ × List ℕ) → List Answer → ℕ → Packet → Type 0
+NextPuts lines answers count packet = (line : ℕ × List ℕ) × (slice_get lines count ≡ Some line) × IsPacketLine answers packet line.1
+
+-- that line is faulty, and has this number
+abbrev pub NextIsFaulty : List (ℕ × List ℕ) → List Answer → ℕ → ℕ → Type 0
+NextIsFaulty lines answers count number = (line : List ℕ) × (slice_get lines count ≡ Some (number, line)) × IsFaulty answers line
+
+-- there is no such line
+abbrev pub NoneIsLeft : List (ℕ × List ℕ) → ℕ → Type 0
+NoneIsLeft lines count = slice_get lines count ≡ None
+
+-- a packet is put, served and its reply taken by client 1 at this moment
+abbrev pub steps_of : {M : Type 0} → M → Packet → List (Step Packet M)
+steps_of moment packet = Put 1 packet ∷ Serve moment ∷ Take 1 ∷ []
+
+abbrev pub outcomes_of : Reply Answer → List (Outcome Packet Answer)
+outcomes_of reply = Accepted reply.number ∷ Served ∷ Taken reply ∷ []
+
+-- how a script comes to its end: with no line left, at a put that is refused as closed, at the faulty line with this number
+pub data Ending : Type 0 where
+  AtEnd : Ending
+  AtClosed : (packet : Packet) → Ending
+  AtFault : (number : ℕ) → Ending
+
+abbrev pub is_whole : Ending → Bool
+is_whole AtEnd = true
+is_whole (AtClosed packet) = true
+is_whole (AtFault number) = false
+
+abbrev pub Ends : List (ℕ × List ℕ) → List Answer → ℕ → Ending → Type 0
+Ends lines answers count AtEnd = NoneIsLeft lines count
+Ends lines answers count (AtClosed packet) = NextPuts lines answers count packet
+Ends lines answers count (AtFault number) = NextIsFaulty lines answers count number
+
+abbrev pub last_steps : {M : Type 0} → Ending → List (Step Packet M)
+last_steps AtEnd = []
+last_steps (AtClosed packet) = Put 1 packet ∷ []
+last_steps (AtFault number) = []
+
+abbrev pub last_outcomes : Ending → List (Outcome Packet Answer)
+last_outcomes AtEnd = []
+last_outcomes (AtClosed packet) = Refused (Closed packet) ∷ []
+last_outcomes (AtFault number) = []
+
+-- the last line, after these many replies
+abbrev pub last_line : ℕ → ℕ → Ending → List ℕ
+last_line client count AtEnd = []
+last_line client count (AtClosed packet) = closed_line client (count + 1)
+last_line client count (AtFault number) = fault_line client number
+
+module _ {S M : Type 0} (gives : S → Packet → M → S → Answer → Type 0) (has_died : S → Bool) (opening : PortState S Packet Answer) (moment : M) where
+  -- the lines' packets went through the port one after another, with these answers and this end
+  pub record Ran (lines : List (ℕ × List ℕ)) (answers : List Answer) (ending : Ending) : Type 0 where
+    pub packets : List Packet
+    pub each : ArePackets lines answers packets
+    pub ends : Ends lines answers (length packets) ending
+    pub closing : PortState S Packet Answer
+    pub history : PortHistory gives has_died opening
+        (flat_map (steps_of moment) packets ++ last_steps ending)
+        (flat_map outcomes_of (numbered 1 answers) ++ last_outcomes ending)
+        closing
+
+  -- what is written is the text of what the script that was read came to, which is a whole script or one with a fault
+  abbrev pub Told : List ℕ → List ℕ → Bool → Type 0
+  Told read written whole =
+      MatchBool (is_too_long read)
+      ((whole ≡ false) × (written ≡ fault_line 1 0))
+      ((answers : List Answer) × (ending : Ending) × Ran (kept_lines read) answers ending × (whole ≡ is_whole ending)
+      × (written ≡ reply_lines 1 1 answers ++ last_line 1 (length answers) ending))

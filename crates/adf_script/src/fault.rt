@@ -1,0 +1,29 @@
+//! Why a script comes to no good end.
+
+use std::alloc::AllocError;
+
+/// Why a script was not run to a good end.
+#[derive(Clone, Copy, Debug, PartialEq, Eq)]
+pub enum TryFault {
+    /// A line of the script is faulty, or the script is too long. The text that was written says where.
+    Script,
+    /// The reader failed.
+    Read,
+    /// The writer failed, or took nothing.
+    Write,
+    /// There was no memory.
+    Memory,
+    /// The reader gave no end within 2,097,152 reads.
+    TurnLimit,
+}
+
+impl From<AllocError> for TryFault {
+    ghost use Rattle.std.specs.Prelude.{◌≡◌};
+    ghost use Rattle.adf_script.specs.declared.fault.TryFault.TheVariants.{Memory};
+
+    ghost from_gives = { λ _ fault. fault ≡ Memory };
+
+    fn from(_: AllocError) -> Self {
+        TryFault::Memory
+    }
+}

@@ -1,0 +1,65 @@
+//! Writes what a script tells.
+ghost use Rattle.std.specs.Prelude.{◌≡◌, ◌≢◌, OnOk};
+ghost use Rattle.std.specs.Io.KnownBytes.{Appends};
+ghost use Rattle.adf_script.specs.Text.{reply_line, closed_line, fault_line};
+
+use crate::fault::TryFault;
+use crate::text::{closed_text, fault_text, reply_text};
+use ados_packet::Answer;
+use ados_server::Reply;
+use std::alloc::Global;
+use std::io::Write;
+
+fn write_text<W: Write>(writer: &mut W, text: &[u8]) -> Result<(), TryFault>
+    ensures text { OnOk result (Appends (W.contents writer.old) (W.contents writer.new) text.now) }
+    ensures no_script { result ≢ Err TryFault.Script }
+    ensures no_limit { result ≢ Err TryFault.TurnLimit }
+{
+    match writer.write_all(text) {
+        Ok(()) => Ok(()),
+        Err(_) => Err(TryFault::Write),
+    }
+}
+
+/// Writes the line of a reply of client 1.
+pub(crate) fn write_reply<W: Write>(
+    alloc: Global,
+    writer: &mut W,
+    reply: &Reply<Answer>,
+) -> Result<(), TryFault>
+    ensures text { OnOk result (Appends (W.contents writer.old) (W.contents writer.new)
+        (reply_line 1 reply.now.number reply.now.answer)) }
+    ensures no_script { result ≢ Err TryFault.Script }
+    ensures no_limit { result ≢ Err TryFault.TurnLimit }
+{
+    let text = reply_text(alloc, 1, reply.number, &reply.answer)?;
+    write_text(writer, &text)
+}
+
+/// Writes that client 1 found the port closed.
+pub(crate) fn write_closed<W: Write>(
+    alloc: Global,
+    writer: &mut W,
+    number: u64,
+) -> Result<(), TryFault>
+    ensures text { OnOk result (Appends (W.contents writer.old) (W.contents writer.new) (closed_line 1 number)) }
+    ensures no_script { result ≢ Err TryFault.Script }
+    ensures no_limit { result ≢ Err TryFault.TurnLimit }
+{
+    let text = closed_text(alloc, 1, number)?;
+    write_text(writer, &text)
+}
+
+/// Writes that a line of the script of client 1 is faulty.
+pub(crate) fn write_fault<W: Write>(
+    alloc: Global,
+    writer: &mut W,
+    number: u64,
+) -> Result<(), TryFault>
+    ensures text { OnOk result (Appends (W.contents writer.old) (W.contents writer.new) (fault_line 1 number)) }
+    ensures no_script { result ≢ Err TryFault.Script }
+    ensures no_limit { result ≢ Err TryFault.TurnLimit }
+{
+    let text = fault_text(alloc, 1, number)?;
+    write_text(writer, &text)
+}

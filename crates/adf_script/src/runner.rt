@@ -1,0 +1,124 @@
+//! Runs a script.
+ghost use Rattle.std.specs.Prelude.{◌≡◌, ◌≢◌, ◌≤◌, OnOk, IfSome, false, true, length};
+ghost use Rattle.ados_server.specs.Port.{opening_port};
+ghost use Rattle.adf_script.specs.Lines.{is_too_long};
+ghost use Rattle.adf_script.specs.Calls.{IsQuiet};
+ghost use Rattle.adf_script.specs.Told.{Told};
+ghost use Rattle.adf_script.specs.Streams.{ReadsAndWrites, Writes};
+
+use crate::call::call;
+use crate::fault::TryFault;
+use crate::grammar::parse;
+use crate::input::{LONGEST_SCRIPT, read_script};
+use crate::lines::{first_line, is_passed_over};
+use crate::output::{write_closed, write_fault, write_reply};
+use ados_exchange::Exchange;
+use ados_packet::{Answer, Packet};
+use ados_server::{PutRefused, Server};
+use std::alloc::Global;
+use std::io::{Read, Write};
+
+/// Runs the lines of a script: each packet is put, served and its reply taken before the next line is read.
+fn run_lines<S, W>(
+    alloc: Global,
+    exchange: &mut Exchange<S>,
+    moment: S::Moment,
+    script: &[u8],
+    writer: &mut W,
+) -> Result<(), TryFault>
+where
+    S: Server<Request = Packet, Reply = Answer>,
+    W: Write,
+    requires quiet { IsQuiet exchange.old 0 }
+    requires short { is_too_long script.now ≡ false }
+    ensures whole { OnOk result (Writes (W.contents writer.old) (W.contents writer.new)
+        (λ written. Told S.gives S.has_died exchange.old moment script.now written true)) }
+    ensures faulty { result ≡ Err TryFault.Script → Writes (W.contents writer.old) (W.contents writer.new)
+        (λ written. Told S.gives S.has_died exchange.old moment script.now written false) }
+    ensures no_limit { result ≢ Err TryFault.TurnLimit }
+{
+    let mut rest = script;
+    let mut number: u64 = 0;
+    let mut taken: u64 = 0;
+    while !rest.is_empty() {
+        let (line, behind) = first_line(rest);
+        rest = behind;
+        number += 1;
+        if is_passed_over(line) {
+            continue;
+        }
+        let Some(packet) = parse(line) else {
+            write_fault(alloc, writer, number)?;
+            return Err(TryFault::Script);
+        };
+        match call(exchange, moment, packet) {
+            Ok(reply) => {
+                write_reply(alloc, writer, &reply)?;
+                taken = reply.number;
+            }
+            Err(PutRefused::Closed(_)) => return write_closed(alloc, writer, taken + 1),
+            Err(PutRefused::NoRoom(_)) => return Err(TryFault::Memory),
+        }
+    }
+    Ok(())
+}
+
+/// Runs a script of which as much as is kept of a long one is given.
+fn tell<S, W>(
+    alloc: Global,
+    server: S,
+    moment: S::Moment,
+    script: &[u8],
+    writer: &mut W,
+) -> Result<(), TryFault>
+where
+    S: Server<Request = Packet, Reply = Answer> + Drop,
+    W: Write,
+    ensures whole { OnOk result (Writes (W.contents writer.old) (W.contents writer.new)
+        (λ written. Told S.gives S.has_died (opening_port server 1) moment script.now written true)) }
+    ensures faulty { result ≡ Err TryFault.Script → Writes (W.contents writer.old) (W.contents writer.new)
+        (λ written. Told S.gives S.has_died (opening_port server 1) moment script.now written false) }
+    ensures no_limit { result ≢ Err TryFault.TurnLimit }
+{
+    if LONGEST_SCRIPT < script.len() {
+        write_fault(alloc, writer, 0)?;
+        return Err(TryFault::Script);
+    }
+    let Ok(mut exchange) = Exchange::new(alloc, server, 1) else {
+        return Err(TryFault::Memory);
+    };
+    run_lines(alloc, &mut exchange, moment, script, writer)
+}
+
+/// Reads a script to its end, runs it as client 1 of a port over this server, each packet at this moment, and writes a
+/// line for each reply.
+///
+/// At most 1,048,577 bytes are kept. What was written is told of a whole script where the answer is Ok, and of one with
+/// a faulty line, or of one that is too long, where it is `Script`; of any other fault nothing is told.
+pub fn run_script<S, R, W>(
+    alloc: Global,
+    server: S,
+    moment: S::Moment,
+    reader: &mut R,
+    writer: &mut W,
+) -> Result<(), TryFault>
+where
+    S: Server<Request = Packet, Reply = Answer> + Drop,
+    R: Read,
+    W: Write,
+    ensures whole { OnOk result (ReadsAndWrites
+        (R.remaining reader.old) (R.remaining reader.new) (W.contents writer.old) (W.contents writer.new)
+        (λ read written. Told S.gives S.has_died (opening_port server 1) moment read written true)) }
+    ensures faulty { result ≡ Err TryFault.Script → ReadsAndWrites
+        (R.remaining reader.old) (R.remaining reader.new) (W.contents writer.old) (W.contents writer.new)
+        (λ read written. Told S.gives S.has_died (opening_port server 1) moment read written false) }
+    // An end that was near enough is found.
+    ensures endless { result ≡ Err TryFault.TurnLimit → IfSome (R.remaining reader.old) (λ script. 2097152 ≤ length script) }
+{
+    let script = read_script(alloc, reader)?;
+    let outcome = tell(alloc, server, moment, &script, writer);
+    if writer.flush().is_err() {
+        return Err(TryFault::Write);
+    }
+    outcome
+}

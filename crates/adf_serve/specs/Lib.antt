@@ -1,0 +1,4 @@
+pub mod BlankWork
+pub mod Small
+pub mod SmallLaws
+pub mod Script

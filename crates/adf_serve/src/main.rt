@@ -1,0 +1,28 @@
+//! An AmigaDOS file system handler for floppy images, as a program.
+#![tactic(auto)]
+
+mod blank;
+mod script;
+mod small;
+mod words;
+
+pub use script::try_script;
+use std::process::ExitCode;
+use std::{env, io};
+pub use words::run_words;
+
+#[cfg(test)]
+mod tests;
+
+fn main(rt: HostRuntime) -> io::Result<ExitCode> {
+    let alloc = rt.alloc();
+    let words: Vec<String> = env::args(&rt)?.skip(1).collect(alloc)?;
+    let status = run_words(
+        alloc,
+        words.as_slice(),
+        &mut rt.stdin(),
+        &mut rt.stdout(),
+        &mut rt.stderr(),
+    );
+    Ok(ExitCode::from(status))
+}

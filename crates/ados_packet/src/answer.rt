@@ -1,0 +1,59 @@
+//! The answers.
+ghost use Rattle.std.specs.Prelude.{◌≡◌, pos, negsuc};
+
+/// What DISK_INFO tells of the volume.
+#[derive(Clone, Copy, Debug, PartialEq, Eq)]
+pub struct DiskInfo {
+    /// 80 write protected, 81 being validated, 82 valid.
+    pub state: u32,
+    /// How many blocks there are behind the boot blocks.
+    pub blocks: u32,
+    /// How many of them are in use.
+    pub used: u32,
+    /// How many bytes of a file a block holds.
+    pub bytes_per_block: u32,
+    /// `DOS` and the kind of file system, as four bytes.
+    pub disk_type: u32,
+}
+
+/// What an answer brings beside its results.
+#[derive(Drop)]
+pub enum Body {
+    Empty,
+    Disk(DiskInfo),
+}
+
+/// The answer to a packet: the packet's action, and its two results, where the second is 0 or a DOS error number.
+#[derive(Drop)]
+pub struct Answer {
+    pub action: i32,
+    pub res1: i32,
+    pub res2: i32,
+    pub body: Body,
+}
+
+impl Answer {
+    /// A success: DOSTRUE, which is -1, and no error.
+    pub fn done(action: i32, body: Body) -> Self
+        ensures { result ≡ record { action = action; res1 = negsuc 0; res2 = pos 0; body = body } }
+    {
+        Answer {
+            action,
+            res1: -1,
+            res2: 0,
+            body,
+        }
+    }
+
+    /// A refusal with this DOS error number, whose first result is DOSFALSE, which is 0.
+    pub fn refused(action: i32, error: i32) -> Self
+        ensures { result ≡ record { action = action; res1 = pos 0; res2 = error; body = Body.Empty } }
+    {
+        Answer {
+            action,
+            res1: 0,
+            res2: error,
+            body: Body::Empty,
+        }
+    }
+}

@@ -1,0 +1,11 @@
+//! What a client sends to an AmigaDOS handler, and what comes back: packets and answers.
+#![tactic(auto)]
+
+pub mod answer;
+pub mod packet;
+
+pub use answer::{Answer, Body, DiskInfo};
+pub use packet::Packet;
+
+#[cfg(test)]
+mod tests;
