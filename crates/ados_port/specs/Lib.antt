@@ -1,0 +1,9 @@
+pub use Rattle.ados_server.specs.Port
+pub use Rattle.ados_server.specs.Serving
+pub use Rattle.ados_server.specs.History
+pub use Rattle.ados_server.specs.Lawful
+pub use Rattle.ados_server.specs.Lists
+pub use Rattle.ados_server.specs.Steps
+pub use Rattle.ados_server.specs.Closing
+pub use Rattle.ados_ends.specs.Ends
+pub use Rattle.ados_threads.specs.Grown

@@ -1,0 +1,12 @@
+//! A message port: clients put packets to it, a server serves them one after another, and each client takes its replies.
+//! On one thread it is an [`Exchange`]; with clients in threads of their own it is opened by [`open_port`], and at the
+//! end [`gather`] brings all ends together.
+#![tactic(auto)]
+
+pub use ados_ends::{
+    ClientEnd, GatherRefused, Gathered, HandlerEnd, OpenRefused, ServeEnd, ServeFault, gather,
+    open_port,
+};
+pub use ados_exchange::{Exchange, NewRefused, RunDone, RunRefused, run};
+pub use ados_server::{Outcome, PutRefused, Reply, Server, Step};
+pub use ados_threads::{Client, ServeClientsFault, Served, serve_clients};

@@ -1,0 +1,15 @@
+//! Cases of the running port, over a server of their own.
+#![tactic(auto)]
+
+mod desk;
+mod putter;
+mod racing;
+mod stub;
+
+pub use desk::Port;
+pub use putter::Putter;
+pub use racing::race;
+pub use stub::{Answer, DIE, Results, Stub};
+
+#[cfg(test)]
+mod tests;
