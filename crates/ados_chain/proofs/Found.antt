@@ -1,0 +1,124 @@
+-- What a link that was found says of its chain, and what comes after an entry.
+use Rattle.std.proofs.Common.{◌≡◌, ◌≢◌, ℕ, ◌+◌, ◌-◌, ◌<◌, ◌⊎◌, inl, inr, List, [], ◌∷◌, ◌++◌, length, get_or, Contains, refl, sym, ap, ◌∙◌, subst, arith, append_assoc, append-nil}
+use Rattle.std.proofs.lemmas.List.Elements.{Contains-append_left, Contains-append_right, Contains-append_cases}
+use Rattle.adf_block.specs.Image.{block_count, long}
+use Rattle.adf_block.specs.Chained.{Chained}
+use Rattle.adf_block.specs.Fields.{table_entry, next_in_chain}
+use Rattle.ados_chain.specs.Chains.{LawfulChains, slot_at, InChains, chains_from, entries_of}
+use Rattle.ados_chain.specs.Look.{first_of, next_after}
+use Rattle.ados_chain.specs.declared.read.Next.TheVariants.{Entry}
+use Rattle.ados_chain.specs.Relinks.{link_block}
+use Rattle.ados_chain.specs.Links.{IsLink, LeadsTo, BeginsWith}
+use Rattle.ados_chain.proofs.Lists.{Once-before, Contains-here, Contains-later, Contains-split}
+use Rattle.ados_chain.proofs.Spelling.{link_block-in, Chained-behind}
+use Rattle.ados_chain.proofs.Framing.{link_long-is}
+use Rattle.ados_chain.proofs.Chaining.{none_zero, one_chain, chains_same}
+use Rattle.ados_chain.proofs.Order.{next_after-found, entries-split, Contains-chains_from}
+
+-- a link is one of the 128 longs
+pub IsLink-small : (i : ℕ) → IsLink i → i < 128
+IsLink-small i (inl h) = omega (arith, h.1)
+IsLink-small i (inr h) = omega (arith, h)
+
+-- an entry that the directory has under one list of chains it has under each
+pub listed_same : (image : List ℕ) (dir key : ℕ) (chains other : ℕ → List ℕ) → LawfulChains image dir chains → LawfulChains image dir other → InChains chains key → InChains other key
+listed_same image dir key chains other h g m = (m.0, m.1, subst (λ (xs : List ℕ). Contains xs key) (chains_same image dir chains other h g m.0 m.1) m.2)
+
+-- an entry stands in the chain of its slot
+pub in_own_slot : (image : List ℕ) (dir key : ℕ) (chains : ℕ → List ℕ) → LawfulChains image dir chains → InChains chains key → Contains (chains (slot_at image key)) key
+in_own_slot image dir key chains h m = subst (λ (s : ℕ). Contains (chains s) key) (sym (h.slotted m.0 key m.1 m.2)) m.2
+
+module _ (image : List ℕ) (dir : ℕ) (chains : ℕ → List ℕ) (h : LawfulChains image dir chains) (s : ℕ) (small : s < 72) (entry block i : ℕ) (to : LeadsTo dir s (chains s) entry block i) where
+  front_in : (k : ℕ) → Contains to.front k → Contains (chains s) k
+  front_in k m = subst (λ (xs : List ℕ). Contains xs k) (sym to.split) (Contains-append_left to.front to.rest k m)
+
+  -- the link is in the directory or in an entry of the front
+  pub block_cases : (block ≡ dir) ⊎ Contains to.front block
+  block_cases = go to.front to.at_block
+    where
+      go : (front : List ℕ) → block ≡ link_block dir front → (block ≡ dir) ⊎ Contains front block
+      go [] e = inl e
+      go (key ∷ keys) e = inr (subst (Contains (key ∷ keys)) (sym e) (link_block-in key keys))
+
+  pub block_inside : block < block_count image
+  block_inside = elim block_cases [ inl e ↦ subst (λ (b : ℕ). b < block_count image) (sym e) h.inside.1 | inr m ↦ (h.entry s block small (front_in block m)).inside.1 ]
+
+  pub long_is : IsLink i
+  long_is = subst IsLink (sym to.at_long) (link_long-is s to.front small)
+
+  -- the link is in no block that is neither the directory nor in the front
+  pub block_apart : (key : ℕ) → key ≢ dir → ¬ Contains to.front key → block ≢ key
+  block_apart key n m e = elim block_cases [ inl d ↦ n (sym e ∙ d) | inr f ↦ m (subst (Contains to.front) e f) ]
+
+  -- what the link holds
+  pub held : Chained image next_in_chain (long image block i) to.rest
+  held =
+      let behind = Chained-behind image dir (6 + s) to.front to.rest (subst (λ (xs : List ℕ). Chained image next_in_chain (table_entry image dir s) xs) to.split (h.spelled s small)) in
+      subst (λ (b : ℕ). Chained image next_in_chain (long image b i) to.rest) (sym to.at_block) (subst (λ (j : ℕ). Chained image next_in_chain (long image (link_block dir to.front) j) to.rest) (sym to.at_long) behind)
+
+  -- an entry of the chain is the first of the rest
+  pub entry_follows : Contains (chains s) entry → (back : List ℕ) × (chains s ≡ to.front ++ entry ∷ back)
+  entry_follows m = go to.rest to.split to.begins
+    where
+      go : (rest : List ℕ) → chains s ≡ to.front ++ rest → BeginsWith entry rest → (back : List ℕ) × (chains s ≡ to.front ++ entry ∷ back)
+      go [] e b = absurd (to.absent (subst (λ (xs : List ℕ). Contains xs entry) (e ∙ append-nil to.front) m))
+      go (key ∷ back) e b = (back, e ∙ ap (λ (k : ℕ). to.front ++ k ∷ back) b)
+
+  -- the link holds the entry exactly where the chain has it
+  pub held_listed : long image block i ≡ entry → entry ≢ 0 → Contains (chains s) entry
+  held_listed e n = go to.rest to.split held
+    where
+      go : (rest : List ℕ) → chains s ≡ to.front ++ rest → Chained image next_in_chain (long image block i) rest → Contains (chains s) entry
+      go [] f c = absurd (n (sym e ∙ c))
+      go (key ∷ back) f c = subst (λ (xs : List ℕ). Contains xs entry) (sym f) (Contains-append_right to.front (key ∷ back) entry (subst (λ (k : ℕ). Contains (key ∷ back) k) (sym c.0 ∙ e) (Contains-here key back)))
+
+  pub listed_held : Contains (chains s) entry → long image block i ≡ entry
+  listed_held m = go to.rest to.split to.begins held
+    where
+      go : (rest : List ℕ) → chains s ≡ to.front ++ rest → BeginsWith entry rest → Chained image next_in_chain (long image block i) rest → long image block i ≡ entry
+      go [] e b c = absurd (to.absent (subst (λ (xs : List ℕ). Contains xs entry) (e ∙ append-nil to.front) m))
+      go (key ∷ back) e b c = c.0 ∙ b
+
+-- the link that leads to 0 ends the chain
+pub leads_to_end : (image : List ℕ) (dir : ℕ) (chains : ℕ → List ℕ) → LawfulChains image dir chains → (s : ℕ) → s < 72 → (block i : ℕ) → (to : LeadsTo dir s (chains s) 0 block i) → chains s ≡ to.front
+leads_to_end image dir chains h s small block i to = go to.rest to.split to.begins
+  where
+    go : (rest : List ℕ) → chains s ≡ to.front ++ rest → BeginsWith 0 rest → chains s ≡ to.front
+    go [] e b = e ∙ append-nil to.front
+    go (key ∷ back) e b = absurd (none_zero image dir chains h s small key (subst (λ (xs : List ℕ). Contains xs key) (sym e) (Contains-append_right to.front (key ∷ back) key (Contains-here key back))) b)
+
+module _ (image : List ℕ) (dir : ℕ) (chains : ℕ → List ℕ) (h : LawfulChains image dir chains) (s key : ℕ) (small : s < 72) (m : Contains (chains s) key) where
+  -- after an entry come the entries behind it in its chain and then those of the next slots
+  pub next_after-entry : (back : List ℕ) × (Chained image next_in_chain (long image key next_in_chain) back) × ((k : ℕ) → Contains back k → Contains (chains s) k) × (next_after (entries_of chains) key ≡ first_of (back ++ chains_from chains (s + 1) (72 - (s + 1))))
+  next_after-entry =
+      let at = Contains-split (chains s) key m in
+      let spelled = subst (λ (xs : List ℕ). Chained image next_in_chain (table_entry image dir s) xs) at.2 (h.spelled s small) in
+      (at.1, (Chained-behind image dir (6 + s) at.0 (key ∷ at.1) spelled).1, λ k b. subst (λ (xs : List ℕ). Contains xs k) (sym at.2) (Contains-append_right at.0 (key ∷ at.1) k (Contains-later key at.1 k b)), after at.0 at.1 at.2)
+    where
+      after : (front back : List ℕ) → chains s ≡ front ++ key ∷ back → next_after (entries_of chains) key ≡ first_of (back ++ chains_from chains (s + 1) (72 - (s + 1)))
+      after front back split =
+          let later = chains_from chains (s + 1) (72 - (s + 1)) in
+          let before = chains_from chains 0 s in
+          let apart : ¬ Contains (before ++ front) key =
+          λ c. elim (Contains-append_cases before front key c) [
+            | inl a ↦ let t = Contains-chains_from chains 0 s key a in absurd (omega (arith, t.2, one_chain image dir chains h t.0 s key (omega (arith, t.2)) small t.3 m))
+            | inr b ↦ Once-before front key back (subst (λ (xs : List ℕ). (i j d : ℕ) → i < j → j < length xs → get_or xs i d ≢ get_or xs j d) split (h.once s small)) b
+          ] in
+          ap (λ (xs : List ℕ). next_after xs key) (entries-split chains s small ∙ ap (λ (xs : List ℕ). before ++ (xs ++ later)) split ∙ ap (λ (xs : List ℕ). before ++ xs) (append_assoc front (key ∷ back) later) ∙ sym (append_assoc before front (key ∷ (back ++ later))))
+          ∙ next_after-found (before ++ front) key (back ++ later) apart
+
+  -- an entry that is not the last of its chain
+  pub next_after-more : (next : ℕ) → next ≡ long image key next_in_chain → next ≢ 0 → next_after (entries_of chains) key ≡ Entry next
+  next_after-more next e n = let a = next_after-entry in a.3 ∙ go a.0 a.1
+    where
+      go : (back : List ℕ) → Chained image next_in_chain (long image key next_in_chain) back → first_of (back ++ chains_from chains (s + 1) (72 - (s + 1))) ≡ Entry next
+      go [] c = absurd (n (e ∙ c))
+      go (k ∷ back) c = ap Entry (sym c.0 ∙ sym e)
+
+  -- the last entry of its chain
+  pub next_after-last : long image key next_in_chain ≡ 0 → next_after (entries_of chains) key ≡ first_of (chains_from chains (s + 1) (72 - (s + 1)))
+  next_after-last e = let a = next_after-entry in a.3 ∙ go a.0 a.1 a.2
+    where
+      go : (back : List ℕ) → Chained image next_in_chain (long image key next_in_chain) back → ((k : ℕ) → Contains back k → Contains (chains s) k) → first_of (back ++ chains_from chains (s + 1) (72 - (s + 1))) ≡ first_of (chains_from chains (s + 1) (72 - (s + 1)))
+      go [] c sub = refl
+      go (k ∷ back) c sub = absurd (none_zero image dir chains h s small k (sub k (Contains-here k back)) (sym c.0 ∙ e))

@@ -1,0 +1,72 @@
+-- What stays where a link of a chain changes: other longs, and the names of entries.
+use Rattle.std.proofs.Common.{◌≡◌, ℕ, ◌+◌, ◌-◌, ◌*◌, ◌/◌, ◌<◌, ◌≤◌, inl, inr, List, [], ◌∷◌, length, take, drop, min, slice_index, sym, ap, ap₂, ◌∙◌, arith}
+use Rattle.std.proofs.lemmas.List.{drop-take, take-take, drop-drop, length-take, length-drop}
+use Rattle.adf_block.specs.Image.{byte_at, bytes_at, block_count}
+use Rattle.adf_block.specs.Frame.{SameBut}
+use Rattle.adf_block.proofs.Frames.{same_long, same_bytes_at}
+use Rattle.adf_block.proofs.Blocks.{byte-bytes_at}
+use Rattle.ados_name.specs.Name.{IsName}
+use Rattle.ados_chain.specs.Chains.{name_at}
+use Rattle.ados_chain.specs.Relinks.{AtLinks, link_long}
+use Rattle.ados_chain.specs.Links.{IsLink}
+use Rattle.ados_chain.proofs.Spelling.{KeepsLongs, link_long-entry}
+
+-- a block of the image has its 512 bytes
+pub block-within : (image : List ℕ) (b : ℕ) → b < block_count image → 512 * b + 512 ≤ length image
+block-within image b l = omega arith
+
+-- how long the text is that a block gives as its name
+pub length-name_at : (image : List ℕ) (key : ℕ) → key < block_count image → min (byte_at image key 432) 79 ≤ length (name_at image key)
+unfolding bytes_at
+length-name_at image key l =
+    omega (arith, length-take (byte_at image key 432) (drop (512 * key + 433) image), length-drop (512 * key + 433) image, block-within image key l)
+
+-- a valid name lies within its block
+pub name-short : (image : List ℕ) (key : ℕ) → key < block_count image → IsName (name_at image key) → byte_at image key 432 ≤ 30
+name-short image key l h = omega (arith, length-name_at image key l, h.short)
+
+-- the byte of a name's length, read from the bytes of its block
+pub name_byte-read : (image block : List ℕ) (key : ℕ) → block ≡ bytes_at image key 0 512 → slice_index block 432 ≡ byte_at image key 432
+name_byte-read image block key e = ap (λ (xs : List ℕ). slice_index xs 432) e ∙ byte-bytes_at image key 0 512 432 (omega arith)
+
+-- a name, read from the bytes of its block
+pub name-read : (image block : List ℕ) (key n : ℕ) → block ≡ bytes_at image key 0 512 → n ≡ byte_at image key 432 → n ≤ 30 → take (433 + n - 433) (drop 433 block) ≡ name_at image key
+unfolding bytes_at
+name-read image block key n e counted l =
+    let m : 433 + n - 433 ≡ n = omega arith in
+    let at : 433 + 512 * key ≡ 512 * key + 433 = omega arith in
+    ap₂ (λ (k : ℕ) (xs : List ℕ). take k (drop 433 xs)) m e
+    ∙ ap (take n) (drop-take 433 79 (drop (512 * key + 0) image))
+    ∙ take-take n 79 (drop 433 (drop (512 * key + 0) image)) (omega arith)
+    ∙ ap (take n) (drop-drop 433 (512 * key + 0) image ∙ ap (λ (k : ℕ). drop k image) (omega arith))
+    ∙ ap (λ (k : ℕ). take k (drop (512 * key + 433) image)) counted
+
+-- the link behind some entries of a slot is a link
+pub link_long-is : (s : ℕ) (keys : List ℕ) → s < 72 → IsLink (link_long (6 + s) keys)
+link_long-is s [] l = inl (omega arith, omega arith)
+link_long-is s (key ∷ keys) l = inr (link_long-entry keys)
+
+module _ (block i key : ℕ) (old new : List ℕ) (at : IsLink i) (h : SameBut (AtLinks block i key) old new) where
+  -- bytes outside of links and sum fields
+  pub bytes_apart : (b j : ℕ) → 312 ≤ j → j < 496 → ¬ AtLinks block i key b j
+  bytes_apart b j l m (inl (inl e)) = elim at [ inl t ↦ absurd (omega (arith, e.1, t.0, t.1)) | inr t ↦ absurd (omega (arith, e.1, t)) ]
+  bytes_apart b j l m (inl (inr e)) = absurd (omega (arith, e.1))
+  bytes_apart b j l m (inr (inl e)) = absurd (omega (arith, e.1))
+  bytes_apart b j l m (inr (inr e)) = absurd (omega (arith, e.1))
+
+  pub name-kept : (b : ℕ) → b < block_count old → IsName (name_at old b) → name_at new b ≡ name_at old b
+  name-kept b l name =
+      let counted : byte_at new b 432 ≡ byte_at old b 432 = h.same_byte b 432 (omega arith) (bytes_apart b 432 (omega arith) (omega arith)) in
+      let short = name-short old b l name in
+      ap (λ (n : ℕ). bytes_at new b 433 n) counted
+      ∙ same_bytes_at (AtLinks block i key) old new h b 433 (byte_at old b 432) (omega arith) (λ j m n. bytes_apart b j (omega arith) (omega arith))
+
+  pub longs-kept : KeepsLongs block i key old new
+  longs-kept b j l n apart apart' =
+      same_long (AtLinks block i key) old new h b j l (λ k e. not_at k e)
+    where
+      not_at : (k : ℕ) → k / 4 ≡ j → ¬ AtLinks block i key b k
+      not_at k e (inl (inl m)) = elim apart [ inl x ↦ x m.0 | inr x ↦ x (sym e ∙ m.1) ]
+      not_at k e (inl (inr m)) = n (sym e ∙ m.1)
+      not_at k e (inr (inl m)) = elim apart' [ inl x ↦ x m.0 | inr x ↦ x (sym e ∙ m.1) ]
+      not_at k e (inr (inr m)) = n (sym e ∙ m.1)

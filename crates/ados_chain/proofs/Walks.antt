@@ -1,0 +1,144 @@
+-- Walks along a chain: what is known between two steps, at the start, after a step and at the end.
+use Rattle.std.proofs.Common.{◌≡◌, ◌≢◌, ℕ, ◌+◌, ◌<◌, ◌⊎◌, inl, inr, List, [], ◌∷◌, ◌++◌, length, Contains, refl, sym, ap, ◌∙◌, subst, arith, append_assoc, append-nil, length-append}
+use Rattle.std.proofs.lemmas.List.Elements.{Contains-append_right, Contains-push_cases}
+use Rattle.adf_block.specs.Image.{block_count, long}
+use Rattle.adf_block.specs.Chained.{Chained}
+use Rattle.adf_block.specs.Fields.{next_in_chain}
+use Rattle.ados_name.specs.Name.{Same}
+use Rattle.ados_chain.specs.Chains.{LawfulChains, name_at}
+use Rattle.ados_chain.specs.Look.{NoneNamed, IsFirstNamed}
+use Rattle.ados_chain.specs.Relinks.{link_block, link_long}
+use Rattle.ados_chain.specs.Links.{LeadsTo, BeginsWith}
+use Rattle.ados_chain.proofs.Lists.{Contains-here, Contains-nil}
+use Rattle.ados_chain.proofs.Spelling.{steps, steps-length, NoneZero, link_block-push, link_long-push}
+use Rattle.ados_chain.proofs.Chaining.{none_zero, chain-short}
+
+-- the chain is a front and a rest that the key begins
+pub record StandsAt (image : List ℕ) (keys : List ℕ) (key : ℕ) (front rest : List ℕ) : Type 0 where
+  pub split : keys ≡ front ++ rest
+  pub spelled : Chained image next_in_chain key rest
+
+-- a walk to the link of an entry, which the front does not have
+pub record LinksOn (image : List ℕ) (dir s : ℕ) (keys : List ℕ) (entry block i key : ℕ) : Type 0 where
+  pub front : List ℕ
+  pub rest : List ℕ
+  pub stands : StandsAt image keys key front rest
+  pub absent : ¬ Contains front entry
+  pub at_block : block ≡ link_block dir front
+  pub at_long : i ≡ link_long (6 + s) front
+
+-- a walk to the first entry of a name, which none of the front has
+pub record SearchedOn (image name keys : List ℕ) (key : ℕ) : Type 0 where
+  pub front : List ℕ
+  pub rest : List ℕ
+  pub stands : StandsAt image keys key front rest
+  pub earlier : NoneNamed image name front
+
+-- a key that is not 0 begins the rest
+pub begun : (image : List ℕ) (key : ℕ) (rest : List ℕ) → Chained image next_in_chain key rest → key ≢ 0 → (later : List ℕ) × (rest ≡ key ∷ later) × Chained image next_in_chain (long image key next_in_chain) later
+begun image key [] c n = absurd (n c)
+begun image key (k ∷ later) c n = (later, ap (λ (z : ℕ). z ∷ later) (sym c.0), subst (λ (z : ℕ). Chained image next_in_chain (long image z next_in_chain) later) (sym c.0) c.1)
+
+-- the key 0 ends the chain, where no entry is 0
+pub ended : (image : List ℕ) (rest : List ℕ) → NoneZero rest → Chained image next_in_chain 0 rest → rest ≡ []
+ended image [] n c = refl
+ended image (k ∷ later) n c = absurd (n k (Contains-here k later) (sym c.0))
+
+-- one step further: the key joins the front
+pub stands_more : (image keys : List ℕ) (key : ℕ) (front rest : List ℕ) → StandsAt image keys key front rest → key ≢ 0 → (later : List ℕ) × (rest ≡ key ∷ later) × StandsAt image keys (long image key next_in_chain) (front ++ key ∷ []) later
+stands_more image keys key front rest h n =
+    let b = begun image key rest h.spelled n in
+    (b.0, b.1, record { split = h.split ∙ ap (λ (xs : List ℕ). front ++ xs) b.1 ∙ sym (append_assoc front (key ∷ []) b.0); spelled = b.2 })
+
+module _ (image : List ℕ) (dir : ℕ) (chains : ℕ → List ℕ) (h : LawfulChains image dir chains) (s : ℕ) (small : s < 72) where
+  rest_in : (key : ℕ) (front rest : List ℕ) → StandsAt image (chains s) key front rest → (k : ℕ) → Contains rest k → Contains (chains s) k
+  rest_in key front rest st k m = subst (λ (xs : List ℕ). Contains xs k) (sym st.split) (Contains-append_right front rest k m)
+
+  -- the key of a walk is an entry
+  pub key_in : (key : ℕ) (front rest : List ℕ) → StandsAt image (chains s) key front rest → key ≢ 0 → Contains (chains s) key
+  key_in key front rest st n =
+      let b = begun image key rest st.spelled n in
+      rest_in key front rest st key (subst (λ (xs : List ℕ). Contains xs key) (sym b.1) (Contains-here key b.0))
+
+  rest_none_zero : (key : ℕ) (front rest : List ℕ) → StandsAt image (chains s) key front rest → NoneZero rest
+  rest_none_zero key front rest st k m = none_zero image dir chains h s small k (rest_in key front rest st k m)
+
+  -- at 0 the whole chain is behind
+  pub all_behind : (front rest : List ℕ) → StandsAt image (chains s) 0 front rest → rest ≡ []
+  all_behind front rest st = ended image rest (rest_none_zero 0 front rest st) st.spelled
+
+  counted : (key : ℕ) (front rest : List ℕ) → StandsAt image (chains s) key front rest → steps image (block_count image) key ≡ length rest
+  counted key front rest st =
+      steps-length image (block_count image) key rest (rest_none_zero key front rest st)
+      (omega (arith, chain-short image dir chains h s small, ap length st.split, length-append front rest)) st.spelled
+
+  -- each step leaves fewer
+  pub steps_fall : (key : ℕ) (front rest : List ℕ) → StandsAt image (chains s) key front rest → key ≢ 0 → steps image (block_count image) (long image key next_in_chain) < steps image (block_count image) key
+  steps_fall key front rest st n =
+      let m = stands_more image (chains s) key front rest st n in
+      omega (arith, counted key front rest st, counted (long image key next_in_chain) (front ++ key ∷ []) m.0 m.2, ap length m.1)
+
+  pub links_none : (entry : ℕ) → LinksOn image dir s (chains s) entry dir (6 + s) (long image dir (6 + s))
+  links_none entry = record {
+    front = [];
+    rest = chains s;
+    stands = record { split = refl; spelled = h.spelled s small };
+    absent = Contains-nil entry;
+    at_block = refl;
+    at_long = refl;
+  }
+
+  pub links_more : (entry block i key : ℕ) → LinksOn image dir s (chains s) entry block i key → key ≢ 0 → key ≢ entry → (block' i' key' : ℕ) → block' ≡ key → i' ≡ next_in_chain → key' ≡ long image key next_in_chain → LinksOn image dir s (chains s) entry block' i' key'
+  links_more entry block i key w n other block' i' key' at_block at_long at_key =
+      let m = stands_more image (chains s) key w.front w.rest w.stands n in
+      record {
+        front = w.front ++ key ∷ [];
+        rest = m.0;
+        stands = subst (λ (k : ℕ). StandsAt image (chains s) k (w.front ++ key ∷ []) m.0) (sym at_key) m.2;
+        absent = λ a. elim (Contains-push_cases w.front key entry a) [ inl b ↦ w.absent b | inr e ↦ other e ];
+        at_block = at_block ∙ sym (link_block-push dir w.front key);
+        at_long = at_long ∙ sym (link_long-push (6 + s) w.front key);
+      }
+
+  -- a walk that stops at the entry or at the end has found the link
+  pub links_all : (entry block i key : ℕ) → LinksOn image dir s (chains s) entry block i key → (key ≡ 0) ⊎ (key ≡ entry) → LeadsTo dir s (chains s) entry block i
+  links_all entry block i key w stop = record {
+    front = w.front;
+    rest = w.rest;
+    split = w.stands.split;
+    absent = w.absent;
+    begins = begins w.rest w.stands stop;
+    at_block = w.at_block;
+    at_long = w.at_long;
+  }
+    where
+      begins : (rest : List ℕ) → StandsAt image (chains s) key w.front rest → (key ≡ 0) ⊎ (key ≡ entry) → BeginsWith entry rest
+      begins [] st stop = tt
+      begins (k ∷ ks) st (inr e) = sym st.spelled.0 ∙ e
+      begins (k ∷ ks) st (inl e) = absurd (rest_none_zero key w.front (k ∷ ks) st k (Contains-here k ks) (sym st.spelled.0 ∙ e))
+
+  pub searched_none : (name : List ℕ) → SearchedOn image name (chains s) (long image dir (6 + s))
+  searched_none name = record {
+    front = [];
+    rest = chains s;
+    stands = record { split = refl; spelled = h.spelled s small };
+    earlier = λ k m. absurd (Contains-nil k m);
+  }
+
+  pub searched_more : (name : List ℕ) (key : ℕ) → SearchedOn image name (chains s) key → key ≢ 0 → ¬ Same (name_at image key) name → (key' : ℕ) → key' ≡ long image key next_in_chain → SearchedOn image name (chains s) key'
+  searched_more name key w n other key' at_key =
+      let m = stands_more image (chains s) key w.front w.rest w.stands n in
+      record {
+        front = w.front ++ key ∷ [];
+        rest = m.0;
+        stands = subst (λ (k : ℕ). StandsAt image (chains s) k (w.front ++ key ∷ []) m.0) (sym at_key) m.2;
+        earlier = λ k a. elim (Contains-push_cases w.front key k a) [ inl b ↦ w.earlier k b | inr e ↦ subst (λ (z : ℕ). ¬ Same (name_at image z) name) e other ];
+      }
+
+  pub searched_all : (name : List ℕ) → SearchedOn image name (chains s) 0 → NoneNamed image name (chains s)
+  searched_all name w = subst (NoneNamed image name) (sym (w.stands.split ∙ ap (λ (xs : List ℕ). w.front ++ xs) (all_behind w.front w.rest w.stands) ∙ append-nil w.front)) w.earlier
+
+  pub found_here : (name : List ℕ) (key : ℕ) → SearchedOn image name (chains s) key → key ≢ 0 → Same (name_at image key) name → IsFirstNamed image name (chains s) key
+  found_here name key w n same =
+      let b = begun image key w.rest w.stands.spelled n in
+      record { front = w.front; back = b.0; split = w.stands.split ∙ ap (λ (xs : List ℕ). w.front ++ xs) b.1; earlier = w.earlier; same = same }

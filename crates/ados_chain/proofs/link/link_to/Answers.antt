@@ -1,0 +1,34 @@
+use Rattle.std.proofs.Common.{◌<◌, ℕ, sym, subst, inl, inr}
+use Rattle.adf_block.specs.Image.{block_count}
+use Rattle.ados_chain.proofs.Spelling.{steps}
+use Rattle.ados_chain.proofs.Walks.{key_in, steps_fall, links_more, links_all}
+use Rattle.ados_chain.proofs.link.link_to.Goals as goal
+
+pub long-key-requires-in-loop-key-clause-block : goal.long-key-requires-in-loop-key-clause-block
+long-key-requires-in-loop-key-clause-block c =
+    let chains = c.requires.chains.0 in
+    let h = c.requires.chains.1 in
+    let w = c.loop-key.invariant chains h in
+    (h.entry c.args.slot c.loop-key.key c.requires.slot (key_in c.args.image.now c.args.dir chains h c.args.slot c.requires.slot c.loop-key.key w.front w.rest w.stands c.loop-key-test.true)).inside.1
+
+pub loop-key-smaller : goal.loop-key-smaller
+loop-key-smaller c =
+    let chains = c.requires.chains.0 in
+    let h = c.requires.chains.1 in
+    let w = c.loop-key.invariant chains h in
+    subst (λ (n : ℕ). steps c.args.image.now (block_count c.args.image.now) n < steps c.args.image.now (block_count c.args.image.now) c.loop-key.key)
+    (sym c.long-key-in-loop-key.ensures)
+    (steps_fall c.args.image.now c.args.dir chains h c.args.slot c.requires.slot c.loop-key.key w.front w.rest w.stands c.loop-key-test.true)
+
+pub loop-key-preserved : goal.loop-key-preserved
+loop-key-preserved c =
+    λ chains h.
+    links_more c.args.image.now c.args.dir chains h c.args.slot c.requires.slot c.args.entry c.loop-key.link.block c.loop-key.link.long c.loop-key.key (c.loop-key.invariant chains h) c.loop-key-test.true c.if-key-entry.true c.behind-link.result.block c.behind-link.result.long c.long-key-in-loop-key.result c.behind-link.ensures.block c.behind-link.ensures.long c.long-key-in-loop-key.ensures
+
+pub returns-else-key-entry : goal.returns-else-key-entry
+returns-else-key-entry c =
+    λ chains h. links_all c.args.image.now c.args.dir chains h c.args.slot c.requires.slot c.args.entry c.loop-key.link.block c.loop-key.link.long c.loop-key.key (c.loop-key.invariant chains h) (inr c.if-key-entry.false)
+
+pub returns-after-loop-key : goal.returns-after-loop-key
+returns-after-loop-key c =
+    λ chains h. links_all c.args.image.now c.args.dir chains h c.args.slot c.requires.slot c.args.entry c.loop-key.link.block c.loop-key.link.long c.loop-key.key (c.loop-key.invariant chains h) (inl c.loop-key-test.false)

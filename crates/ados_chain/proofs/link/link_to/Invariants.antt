@@ -1,0 +1,13 @@
+-- The link stands behind a front of the chain that does not have the entry; the walk takes as many steps as the rest is long.
+use Rattle.std.proofs.Common.{ℕ, List}
+use Rattle.adf_block.specs.Image.{block_count}
+use Rattle.ados_chain.specs.Chains.{LawfulChains}
+use Rattle.ados_chain.proofs.Spelling.{steps}
+use Rattle.ados_chain.proofs.Walks.{LinksOn}
+use Rattle.ados_chain.proofs.link.link_to.Given as goal
+
+abbrev pub invariant-loop-key : goal.invariant-loop-key
+invariant-loop-key l = (chains : ℕ → List ℕ) → LawfulChains l.image l.dir chains → LinksOn l.image l.dir l.slot (chains l.slot) l.entry l.link.block l.link.long l.key
+
+abbrev pub decreases-loop-key : goal.decreases-loop-key
+decreases-loop-key l = steps l.image (block_count l.image) l.key

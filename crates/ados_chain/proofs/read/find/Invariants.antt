@@ -1,0 +1,14 @@
+-- The entries before the key have other names; the walk takes as many steps as the rest is long.
+use Rattle.std.proofs.Common.{ℕ, List}
+use Rattle.adf_block.specs.Image.{block_count}
+use Rattle.ados_name.specs.Name.{slot}
+use Rattle.ados_chain.specs.Chains.{LawfulChains}
+use Rattle.ados_chain.proofs.Spelling.{steps}
+use Rattle.ados_chain.proofs.Walks.{SearchedOn}
+use Rattle.ados_chain.proofs.read.find.Given as goal
+
+abbrev pub invariant-loop-key : goal.invariant-loop-key
+invariant-loop-key l = (chains : ℕ → List ℕ) → LawfulChains l.image l.dir chains → SearchedOn l.image l.name (chains (slot l.name)) l.key
+
+abbrev pub decreases-loop-key : goal.decreases-loop-key
+decreases-loop-key l = steps l.image (block_count l.image) l.key

@@ -1,0 +1,4 @@
+pub mod Chains
+pub mod Look
+pub mod Relinks
+pub mod Links

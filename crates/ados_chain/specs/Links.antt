@@ -1,0 +1,22 @@
+-- The link to an entry of a chain.
+use Rattle.std.specs.Prelude.{◌≡◌, ℕ, ◌+◌, ◌<◌, ◌≤◌, ◌⊎◌, List, [], ◌∷◌, ◌++◌, Contains}
+use Rattle.ados_chain.specs.Relinks.{link_block, link_long}
+
+-- the long is one of a directory's table or the next in chain
+abbrev pub IsLink : ℕ → Type 0
+IsLink i = ((6 ≤ i) × (i < 78)) ⊎ (i ≡ 124)
+
+-- the rest of a chain begins with the entry, or has ended
+abbrev pub BeginsWith : ℕ → List ℕ → Type 0
+BeginsWith entry [] = Unit {0}
+BeginsWith entry (key ∷ keys) = key ≡ entry
+
+-- the long of the block is the link of the chain that leads to the entry, or that ends the chain, which does not have the entry
+pub record LeadsTo (dir s : ℕ) (keys : List ℕ) (entry block i : ℕ) : Type 0 where
+  pub front : List ℕ
+  pub rest : List ℕ
+  pub split : keys ≡ front ++ rest
+  pub absent : ¬ Contains front entry
+  pub begins : BeginsWith entry rest
+  pub at_block : block ≡ link_block dir front
+  pub at_long : i ≡ link_long (6 + s) front

@@ -1,0 +1,38 @@
+-- What looking into a directory answers.
+use Rattle.std.specs.Prelude.{◌≡◌, ◌<◌, ◌==◌, if◌then◌else◌, ℕ, List, [], ◌∷◌, ◌++◌, Option, None, Some, Contains}
+use Rattle.ados_name.specs.Name.{Same}
+use Rattle.ados_chain.specs.Chains.{name_at, InChains}
+use Rattle.ados_chain.specs.declared.read.Next.{Next}
+use Rattle.ados_chain.specs.declared.read.Next.TheVariants.{Entry, End, NotAnEntry}
+
+-- none of the entries has a name that is the same
+abbrev pub NoneNamed : List ℕ → List ℕ → List ℕ → Type 0
+NoneNamed image name keys = (key : ℕ) → Contains keys key → ¬ Same (name_at image key) name
+
+-- the key is the first of the entries whose name is the same
+pub record IsFirstNamed (image name keys : List ℕ) (key : ℕ) : Type 0 where
+  pub front : List ℕ
+  pub back : List ℕ
+  pub split : keys ≡ front ++ key ∷ back
+  pub earlier : NoneNamed image name front
+  pub same : Same (name_at image key) name
+
+-- the first of the entries whose name is the same, or none where there is none
+abbrev pub FindsNamed : List ℕ → List ℕ → List ℕ → Option ℕ → Type 0
+FindsNamed image name keys None = NoneNamed image name keys
+FindsNamed image name keys (Some key) = IsFirstNamed image name keys key
+
+-- the slot whose chain has the key, or none where no chain has it
+abbrev pub FindsSlot : (ℕ → List ℕ) → ℕ → Option ℕ → Type 0
+FindsSlot chains key None = ¬ InChains chains key
+FindsSlot chains key (Some s) = (s < 72) × Contains (chains s) key
+
+-- the first of the keys, or the end
+abbrev pub first_of : List ℕ → Next
+first_of [] = End
+first_of (key ∷ keys) = Entry key
+
+-- what comes after a key in a list
+abbrev pub next_after : List ℕ → ℕ → Next
+next_after [] key = NotAnEntry
+next_after (other ∷ keys) key = if other == key then first_of keys else next_after keys key

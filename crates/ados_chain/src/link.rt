@@ -1,0 +1,81 @@
+//! Links: the longs that lead along a chain.
+
+ghost use Rattle.std.specs.Prelude.{◌≡◌, ◌≢◌, ◌<◌, ◌+◌, ◌^◌, ℕ, List};
+ghost use Rattle.adf_block.specs.Image.{block_count, IsImage, long};
+ghost use Rattle.ados_chain.specs.Chains.{HasChains, LawfulChains};
+ghost use Rattle.ados_chain.specs.Relinks.{Relinks};
+ghost use Rattle.ados_chain.specs.Links.{LeadsTo, IsLink};
+
+use adf_block::Image;
+
+/// The first long of a directory's table.
+pub const TABLE: u32 = 6;
+
+/// The long of the next entry in the chain.
+pub const NEXT_IN_CHAIN: u32 = 124;
+
+/// The long that holds the sum.
+const SUM: u32 = 5;
+
+/// A long that names an entry of a chain or ends the chain with 0: one of a directory's table, or an entry's next in
+/// chain.
+#[derive(Clone, Copy)]
+pub struct Link {
+    pub block: u32,
+    pub long: u32,
+}
+
+impl Link {
+    /// The link that starts the chain of a slot.
+    pub fn first(dir: u32, slot: u32) -> Link
+        requires { slot < 72 }
+        ensures block { result.block ≡ dir }
+        ensures long { result.long ≡ 6 + slot }
+    {
+        Link {
+            block: dir,
+            long: TABLE + slot,
+        }
+    }
+
+    /// The link behind an entry.
+    pub fn behind(key: u32) -> Link
+        ensures block { result.block ≡ key }
+        ensures long { result.long ≡ 124 }
+    {
+        Link {
+            block: key,
+            long: NEXT_IN_CHAIN,
+        }
+    }
+}
+
+/// The link to an entry in the chain of a slot, or the link that ends the chain, which has no such entry.
+pub fn link_to(image: &Image, dir: u32, slot: u32, entry: u32) -> Link
+    requires chains { HasChains image.now dir }
+    requires slot { slot < 72 }
+    ensures { (chains : ℕ → List ℕ) → LawfulChains image.now dir chains → LeadsTo dir slot (chains slot) entry result.block result.long }
+{
+    let mut link = Link::first(dir, slot);
+    let mut key = image.long(link.block, link.long);
+    while key != 0 && key != entry {
+        link = Link::behind(key);
+        key = image.long(key, NEXT_IN_CHAIN);
+    }
+    link
+}
+
+/// Sets the link to the next key and the key's own link to 0, and settles the sums of both blocks.
+pub fn relink(image: &mut Image, link: Link, next: u32, key: u32)
+    requires block { link.block < block_count image.old }
+    requires long { IsLink link.long }
+    requires key { key < block_count image.old }
+    requires apart { link.block ≢ key }
+    ensures relinks { Relinks link.block link.long next key image.old image.new }
+    ensures image { IsImage image.new }
+{
+    image.set_long(link.block, link.long, next);
+    image.settle(link.block, SUM);
+    image.set_long(key, NEXT_IN_CHAIN, 0);
+    image.settle(key, SUM);
+}

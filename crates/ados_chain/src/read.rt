@@ -1,0 +1,102 @@
+//! Looking into a directory: an entry by its name, and the entries in order.
+
+ghost use Rattle.std.specs.Prelude.{◌≡◌, ◌≤◌, ◌-◌, ◌↔◌, ◌∷◌, [], ℕ, List, IsTrue};
+ghost use Rattle.ados_name.specs.Name.{slot};
+ghost use Rattle.ados_chain.specs.Chains.{HasChains, LawfulChains, chains_from, entries_of};
+ghost use Rattle.ados_chain.specs.Look.{FindsNamed, FindsSlot, first_of, next_after};
+
+use crate::entry::{has_name, name_of};
+use crate::link::{NEXT_IN_CHAIN, TABLE, link_to};
+use adf_block::Image;
+use ados_name::Name;
+
+/// The slots of a directory's table.
+const SLOTS: u32 = 72;
+
+/// What comes after a key in the order of a directory.
+#[derive(Clone, Copy, Debug, PartialEq, Eq)]
+pub enum Next {
+    /// The next entry.
+    Entry(u32),
+    /// The key was the last one.
+    End,
+    /// The key is neither the directory nor one of its entries.
+    NotAnEntry,
+}
+
+/// The first entry whose name is the same, in upper case. Only the chain of the name's slot is searched.
+pub fn find(image: &Image, dir: u32, name: &Name) -> Option<u32>
+    requires { HasChains image.now dir }
+    ensures { (chains : ℕ → List ℕ) → LawfulChains image.now dir chains → FindsNamed image.now name.now (chains (slot name.now)) result }
+{
+    let mut key = image.long(dir, TABLE + name.slot());
+    while key != 0 {
+        if has_name(image, key, name) {
+            return Some(key);
+        }
+        key = image.long(key, NEXT_IN_CHAIN);
+    }
+    None
+}
+
+/// What comes after a key in the order of the directory: slot 0 to 71, and in a slot by chain.
+///
+/// The directory's own key asks for the first entry. Any number may be asked: one that is no block, or a block with no
+/// valid name, is `NotAnEntry`.
+pub fn after(image: &Image, dir: u32, key: u32) -> Next
+    requires { HasChains image.now dir }
+    ensures { (chains : ℕ → List ℕ) → LawfulChains image.now dir chains → result ≡ next_after (dir ∷ entries_of chains) key }
+{
+    if key == dir {
+        return first_from(image, dir, 0);
+    }
+    let Some(slot) = slot_with(image, dir, key) else {
+        return Next::NotAnEntry;
+    };
+    let next = image.long(key, NEXT_IN_CHAIN);
+    if next == 0 {
+        first_from(image, dir, slot + 1)
+    } else {
+        Next::Entry(next)
+    }
+}
+
+/// Whether the directory has no entry.
+pub fn is_empty(image: &Image, dir: u32) -> bool
+    requires { HasChains image.now dir }
+    ensures { (chains : ℕ → List ℕ) → LawfulChains image.now dir chains → (IsTrue result ↔ (entries_of chains ≡ [])) }
+{
+    matches!(first_from(image, dir, 0), Next::End)
+}
+
+/// The first entry of the slots from one on.
+fn first_from(image: &Image, dir: u32, slot: u32) -> Next
+    requires chains { HasChains image.now dir }
+    requires slot { slot ≤ 72 }
+    ensures { (chains : ℕ → List ℕ) → LawfulChains image.now dir chains → result ≡ first_of (chains_from chains slot (72 - slot)) }
+{
+    for s in slot..SLOTS {
+        let key = image.long(dir, TABLE + s);
+        if key != 0 {
+            return Next::Entry(key);
+        }
+    }
+    Next::End
+}
+
+/// The slot whose chain has the key, if there is one.
+pub fn slot_with(image: &Image, dir: u32, key: u32) -> Option<u32>
+    requires { HasChains image.now dir }
+    ensures { (chains : ℕ → List ℕ) → LawfulChains image.now dir chains → FindsSlot chains key result }
+{
+    if key < 2 || key >= image.blocks() {
+        return None;
+    }
+    let slot = name_of(image, key)?.slot();
+    let link = link_to(image, dir, slot, key);
+    if image.long(link.block, link.long) == key {
+        Some(slot)
+    } else {
+        None
+    }
+}

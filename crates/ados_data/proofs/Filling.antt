@@ -1,0 +1,182 @@
+-- A file of which some data bytes were written.
+use Rattle.std.proofs.Common.{◌≡◌, ◌≢◌, ℕ, ◌+◌, ◌-◌, ◌/◌, ◌%◌, ◌<◌, ◌≤◌, ◌⊎◌, inl, inr, List, ◌∷◌, length, slice_index, sym, ap, ap₂, ◌∙◌, subst, arith}
+use Rattle.std.proofs.lemmas.Bool.{cases_lt, cases_eq}
+use Rattle.adf_block.specs.declared.Format.{Format}
+use Rattle.adf_block.specs.declared.Format.TheVariants.{Ofs}
+use Rattle.adf_block.specs.Image.{is_marked_free, byte_at, block_sum, block_count, marked_count, IsInside, IsSize}
+use Rattle.adf_block.specs.Frame.{SameBut}
+use Rattle.adf_block.proofs.Frames.{same_long, same_sum, same_count}
+use Rattle.ados_data.specs.Cost.{data_count}
+use Rattle.ados_data.specs.File.{AreApart, format_of, file_byte}
+use Rattle.ados_data.specs.Changing.{IsInUse}
+use Rattle.ados_data.proofs.Steps.{KeepsData, untouched_holder, untouched_data, skeleton_kept}
+use Rattle.ados_data.proofs.Standing.{marks_stay, Standing, standing_of, writable_of, writable_file, format_kept, map_stays, use_stays, count_stays}
+use Rattle.ados_data.specs.Cost.{data_size, data_start}
+use Rattle.ados_map.specs.Pages.{HasBit}
+use Rattle.ados_data.specs.Others.{Leaves, LeavesOthers}
+use Rattle.ados_data.proofs.Leaving.{leaves_owned}
+use Rattle.ados_data.specs.Edits.{AtData}
+use Rattle.ados_data.specs.File.{overlaid, data_blocks, extension_blocks, contents}
+use Rattle.ados_data.specs.Changing.{WritableFile}
+use Rattle.ados_data.proofs.Sizes.{same_block, in_front, behind_part, in_block, behind_start, in_count}
+use Rattle.ados_data.proofs.Overlaid.{overlaid_before, overlaid_within, overlaid_behind, length-overlaid}
+use Rattle.ados_data.proofs.Spelled.{data_blocks_are, extension_blocks_are, contents_are}
+
+module _ (old new : List ℕ) (format : Format) (file : ℕ) (blocks extensions : List ℕ) (size i low high : ℕ) (s : Standing old format file blocks extensions size) (within : i < length blocks) (fields : format ≡ Ofs → 24 ≤ low)
+    (summed : format ≡ Ofs → block_sum new (slice_index blocks i) ≡ 0) (h : SameBut (AtData format (slice_index blocks i) low high) old new) where
+  abbrev pub Put : ℕ → ℕ → Type 0
+  Put c k = AtData format (slice_index blocks i) low high c k
+
+  pub put_owner : (c k : ℕ) → Put c k → IsInUse old c × IsInside (block_count old) c
+  put_owner c k at = (subst (IsInUse old) (sym at.0) (s.data_used i within), subst (IsInside (block_count old)) (sym at.0) (s.places.data_inside i within))
+
+  put_blocks : block_count new ≡ block_count old
+  put_blocks = same_count Put old new h
+
+  put_used : (c : ℕ) → IsInside (block_count old) c → IsInUse old c → IsInUse new c
+  put_used = use_stays Put old new h s.size_ok put_owner
+
+  header_beside : (q k : ℕ) → q ≤ length extensions → ¬ Put (slice_index (file ∷ extensions) q) k
+  header_beside q k l at = s.places.apart q i l within at.0
+
+  data_beside : (j k : ℕ) → j < length blocks → j ≢ i → ¬ Put (slice_index blocks j) k
+  data_beside j k l ne at = elim (cases_lt j i) [
+    | inl m ↦ s.places.data_once j i m within at.0
+    | inr m ↦ s.places.data_once i j (omega (arith, m, ne)) l (sym at.0)
+  ]
+
+  -- the fields of the block itself
+  field_beside : format ≡ Ofs → (k j : ℕ) → k / 4 ≡ j → j < 5 → ¬ Put (slice_index blocks i) k
+  field_beside f k j m l (e, inl z) = omega (arith, m, l, z.0, fields f)
+  field_beside f k j m l (e, inr z) = omega (arith, m, l, z.1)
+
+  pub stands_put : Standing new format file blocks extensions size
+  stands_put = record {
+    format_is = format_kept Put old new h s.size_ok put_owner ∙ s.format_is;
+    size_ok = subst IsSize (sym put_blocks) s.size_ok;
+    skeleton = skeleton_kept old new format file blocks extensions size s.skeleton
+        (λ q l. untouched_holder old new (slice_index (file ∷ extensions) q) (λ k m. h.same_byte (slice_index (file ∷ extensions) q) k m (header_beside q k l)))
+        (same_long Put old new h file 81 (omega arith) (λ k e. header_beside 0 k (omega arith)))
+        (same_long Put old new h file 4 (omega arith) (λ k e. header_beside 0 k (omega arith)))
+        (λ f j l. elim (cases_eq j i) [
+          | inr ne ↦ untouched_data old new (slice_index blocks j) (λ k m. h.same_byte (slice_index blocks j) k m (data_beside j k l ne))
+          | inl e ↦ subst (λ (n : ℕ). KeepsData old new (slice_index blocks n)) (sym e) (record {
+            longs = λ n m. same_long Put old new h (slice_index blocks i) n (omega arith) (λ k z. field_beside f k n z m);
+            sum = λ z. summed f;
+          })
+        ]);
+    places = subst (λ (n : ℕ). AreApart n file blocks extensions) (sym put_blocks) s.places;
+    map = map_stays Put old new h s.size_ok put_owner s.map;
+    headers_used = λ q l. put_used (slice_index (file ∷ extensions) q) (s.places.headers_inside q l) (s.headers_used q l);
+    data_used = λ j l. put_used (slice_index blocks j) (s.places.data_inside j l) (s.data_used j l);
+  }
+
+  pub put_marks : (c : ℕ) → HasBit old c → is_marked_free new c ≡ is_marked_free old c
+  put_marks = marks_stay Put old new h s.size_ok put_owner
+
+  pub put_count : marked_count new ≡ marked_count old
+  put_count = count_stays Put old new h s.size_ok put_owner
+
+  -- the other bytes
+  pub put_other : (j k : ℕ) → j < length blocks → k < 512 → (format ≡ Ofs → 24 ≤ k) → (j ≡ i → (k < low) ⊎ (high ≤ k)) → byte_at new (slice_index blocks j) k ≡ byte_at old (slice_index blocks j) k
+  put_other j k l m a side = elim (cases_eq j i) [
+    | inr ne ↦ h.same_byte (slice_index blocks j) k m (data_beside j k l ne)
+    | inl e ↦ h.same_byte (slice_index blocks j) k m (no (side e))
+  ]
+    where
+      no : (k < low) ⊎ (high ≤ k) → ¬ Put (slice_index blocks j) k
+      no (inl n) (z, inl at) = omega arith
+      no (inr n) (z, inl at) = omega arith
+      no _ (z, inr at) = omega (arith, a at.0, at.1)
+
+module _ (old new : List ℕ) (format : Format) (file : ℕ) (blocks extensions : List ℕ) (size i low high : ℕ) (s : Standing old format file blocks extensions size) (within : i < length blocks) (fields : format ≡ Ofs → 24 ≤ low)
+    (summed : format ≡ Ofs → block_sum new (slice_index blocks i) ≡ 0) (h : SameBut (AtData format (slice_index blocks i) low high) old new) where
+  pub leaves_put : Leaves old file blocks extensions new
+  leaves_put =
+      leaves_owned (Put old new format file blocks extensions size i low high s within fields summed h) old new file blocks extensions h s.size_ok (put_owner old new format file blocks extensions size i low high s within fields summed h)
+      (λ c k o at. o.beside_data i within at.0) (λ k at. absurd (s.places.apart 0 i (omega arith) within at.0))
+      (λ z. same_sum (Put old new format file blocks extensions size i low high s within fields summed h) old new h file (λ k l at. s.places.apart 0 i (omega arith) within at.0) ∙ z)
+
+-- ---- a part of a file written over
+
+-- what one part does to a file
+pub record IsPut (old : List ℕ) (file : ℕ) (at : ℕ) (ys : List ℕ) (new : List ℕ) : Type 0 where
+  pub writable : WritableFile new file
+  pub same_format : format_of new ≡ format_of old
+  pub blocks : data_blocks new file ≡ data_blocks old file
+  pub extensions : extension_blocks new file ≡ extension_blocks old file
+  pub bytes : contents new file ≡ overlaid (contents old file) at ys
+  pub count : marked_count new ≡ marked_count old
+  pub leaves : LeavesOthers old file new
+  pub marks : (c : ℕ) → HasBit old c → is_marked_free new c ≡ is_marked_free old c
+
+module _ (old new : List ℕ) (format : Format) (file : ℕ) (w : WritableFile old file) (ok : IsSize (block_count old)) (f : format ≡ format_of old) (at : ℕ) (ys : List ℕ) (block : ℕ)
+    (fits : at % data_size format + length ys ≤ data_size format) (within : at + length ys ≤ length (contents old file)) (some : at < length (contents old file)) (here : block ≡ slice_index (data_blocks old file) (at / data_size format))
+    (put : (k : ℕ) → k < length ys → byte_at new block (data_start format + at % data_size format + k) ≡ slice_index ys k) (summed : format ≡ Ofs → block_sum new block ≡ 0)
+    (h : SameBut (AtData format block (data_start format + at % data_size format) (data_start format + at % data_size format + length ys)) old new) where
+  s : Standing old format file (data_blocks old file) (extension_blocks old file) (length (contents old file))
+  s = subst (λ (t : Format). Standing old t file (data_blocks old file) (extension_blocks old file) (length (contents old file))) (sym f) (standing_of old file (data_blocks old file) (extension_blocks old file) (contents old file) ok w)
+
+  fits_format : length (data_blocks old file) ≡ data_count format (length (contents old file))
+  fits_format = w.lawful.data_fits ∙ ap (λ (t : Format). data_count t (length (contents old file))) (sym f)
+
+  place : at / data_size format < length (data_blocks old file)
+  place = omega (arith, fits_format, in_count format at (length (contents old file)) some)
+
+  fields : format ≡ Ofs → 24 ≤ data_start format + at % data_size format
+  fields e = behind_start format at e
+
+  put_sum : format ≡ Ofs → block_sum new (slice_index (data_blocks old file) (at / data_size format)) ≡ 0
+  put_sum e = ap (block_sum new) (sym here) ∙ summed e
+
+  put_rest : SameBut (AtData format (slice_index (data_blocks old file) (at / data_size format)) (data_start format + at % data_size format) (data_start format + at % data_size format + length ys)) old new
+  put_rest = subst (λ (b : ℕ). SameBut (AtData format b (data_start format + at % data_size format) (data_start format + at % data_size format + length ys)) old new) here h
+
+  stands : Standing new format file (data_blocks old file) (extension_blocks old file) (length (contents old file))
+  stands = stands_put old new format file (data_blocks old file) (extension_blocks old file) (length (contents old file)) (at / data_size format) (data_start format + at % data_size format) (data_start format + at % data_size format + length ys) s place fields put_sum put_rest
+
+  abbrev written_bytes : List ℕ
+  written_bytes = overlaid (contents old file) at ys
+
+  long_enough : at ≤ length (contents old file)
+  long_enough = omega (arith, some)
+
+  length-bytes : length written_bytes ≡ length (contents old file)
+  length-bytes = length-overlaid (contents old file) at ys long_enough within
+
+  -- a byte that was not written
+  other : (k : ℕ) → k < length (contents old file) → (k / data_size format ≡ at / data_size format → (data_start format + k % data_size format < data_start format + at % data_size format) ⊎ (data_start format + at % data_size format + length ys ≤ data_start format + k % data_size format)) → slice_index (contents old file) k ≡ file_byte format new (data_blocks old file) k
+  other k l side =
+      w.lawful.holds.contents k l
+      ∙ ap (λ (t : Format). file_byte t old (data_blocks old file) k) (sym f)
+      ∙ sym (put_other old new format file (data_blocks old file) (extension_blocks old file) (length (contents old file)) (at / data_size format) (data_start format + at % data_size format) (data_start format + at % data_size format + length ys) s place fields put_sum put_rest
+      (k / data_size format) (data_start format + k % data_size format) (omega (arith, fits_format, in_count format k (length (contents old file)) l)) (in_block format k) (behind_start format k) side)
+
+  held : (k : ℕ) → k < length written_bytes → slice_index written_bytes k ≡ file_byte format new (data_blocks old file) k
+  held k l = elim (cases_lt k at) [
+    | inl a ↦ overlaid_before (contents old file) at ys long_enough k a ∙ other k (omega (arith, l, length-bytes)) (λ e. inl (omega (arith, in_front format at k a e)))
+    | inr a ↦ elim (cases_lt k (at + length ys)) [
+      | inl b ↦
+          let same = same_block format at (k - at) (omega (arith, fits, b)) in
+          let there : at + (k - at) ≡ k = omega arith in
+          overlaid_within (contents old file) at ys long_enough k a b
+          ∙ sym (put (k - at) (omega arith))
+          ∙ ap₂ (λ (c n : ℕ). byte_at new c n) (here ∙ ap (slice_index (data_blocks old file)) (sym same.0 ∙ ap (λ (n : ℕ). n / data_size format) there)) (omega (arith, same.1, ap (λ (n : ℕ). n % data_size format) there))
+      | inr b ↦ overlaid_behind (contents old file) at ys long_enough k b ∙ other k (omega (arith, l, length-bytes)) (λ e. inr (omega (arith, behind_part format at (length ys) k b e)))
+    ]
+  ]
+
+  pub is_put : IsPut old file at ys new
+  is_put =
+      let written = writable_of new format file (data_blocks old file) (extension_blocks old file) written_bytes
+      (subst (Standing new format file (data_blocks old file) (extension_blocks old file)) (sym length-bytes) stands) (fits_format ∙ ap (data_count format) (sym length-bytes)) w.lawful.extensions_fit held in
+      record {
+        writable = writable_file new file (data_blocks old file) (extension_blocks old file) written_bytes written;
+        same_format = stands.format_is ∙ f;
+        blocks = data_blocks_are new file (data_blocks old file) (extension_blocks old file) written_bytes written.lawful;
+        extensions = extension_blocks_are new file (data_blocks old file) (extension_blocks old file) written_bytes written.lawful;
+        bytes = contents_are new file (data_blocks old file) (extension_blocks old file) written_bytes written.lawful;
+        count = put_count old new format file (data_blocks old file) (extension_blocks old file) (length (contents old file)) (at / data_size format) (data_start format + at % data_size format) (data_start format + at % data_size format + length ys) s place fields put_sum put_rest;
+        leaves = leaves_put old new format file (data_blocks old file) (extension_blocks old file) (length (contents old file)) (at / data_size format) (data_start format + at % data_size format) (data_start format + at % data_size format + length ys) s place fields put_sum put_rest;
+        marks = put_marks old new format file (data_blocks old file) (extension_blocks old file) (length (contents old file)) (at / data_size format) (data_start format + at % data_size format) (data_start format + at % data_size format + length ys) s place fields put_sum put_rest;
+      }

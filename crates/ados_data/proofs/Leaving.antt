@@ -1,0 +1,242 @@
+-- What the steps of a change leave as it is.
+use Rattle.std.proofs.Common.{◌≡◌, ◌≢◌, ℕ, suc, ◌-◌, ◌/◌, ◌<◌, ◌≤◌, ◌⊎◌, inl, inr, true, List, [], ◌∷◌, ◌++◌, length, slice_index, refl, sym, ap, ◌∙◌, subst, arith}
+use Rattle.std.proofs.lemmas.Bool.{cases_lt, cases_eq, false≢true}
+use Rattle.std.proofs.lemmas.List.{length_push}
+use Rattle.adf_block.specs.declared.Format.{Format}
+use Rattle.adf_block.specs.Image.{block_sum, block_count, root_key, is_marked_free, IsInside, IsSize}
+use Rattle.adf_block.specs.Frame.{SameBut}
+use Rattle.adf_block.proofs.Frames.{same_sum}
+use Rattle.ados_map.specs.Pages.{pages_of, page_block, page_of, HasBit}
+use Rattle.ados_map.specs.Changes.{MapPlace}
+use Rattle.ados_data.specs.Edits.{AtField, AtExtensionFields}
+use Rattle.ados_data.specs.Changing.{IsInUse, LawfulMap, IsNewBlock, IsExtended, IsLengthened, IsResized}
+use Rattle.ados_data.proofs.Lists.{head_pushed_before, head_pushed_last, pushed_before, pushed_last}
+use Rattle.ados_data.proofs.Untouched.{untouched_sum}
+use Rattle.ados_data.proofs.Marks.{has_bit, page_kept}
+use Rattle.ados_data.proofs.Untouched.{untouched_sum}
+use Rattle.std.proofs.lemmas.Bool.{true_from_ne_false}
+use Rattle.ados_data.specs.Others.{IsOther, IsDataField, Leaves, Gains}
+use Rattle.ados_data.proofs.Growing.{extended_owner, Lengthened, lengthened_owner}
+use Rattle.ados_data.proofs.Resizing.{Resized, resized_owner}
+use Rattle.ados_data.proofs.Standing.{Standing, root_free, pages_free, marks_stay, beside_new}
+
+-- nothing changes
+pub leaves_same : (image : List ℕ) (file : ℕ) (blocks extensions : List ℕ) → Leaves image file blocks extensions image
+leaves_same image file blocks extensions = record {
+  same_length = refl;
+  pages = λ p l. refl;
+  others = λ c k l o. refl;
+  used = λ c i o. o.used i.0;
+  header = λ k l n. refl;
+  header_sum = λ e. e;
+  page_sums = λ p l e. e;
+}
+
+-- one change after another, the second of a file with other lists
+pub leaves_both : (old mid new : List ℕ) (file : ℕ) (blocks extensions blocks' extensions' : List ℕ) → Leaves old file blocks extensions mid → Leaves mid file blocks' extensions' new →
+    ((c : ℕ) → IsOther old file blocks extensions c → ((q : ℕ) → q ≤ length extensions' → c ≢ slice_index (file ∷ extensions') q) × ((i : ℕ) → i < length blocks' → c ≢ slice_index blocks' i)) → Leaves old file blocks extensions new
+leaves_both old mid new file blocks extensions blocks' extensions' a b more = record {
+  same_length = b.same_length ∙ a.same_length;
+  pages = λ p l. b.pages p (in_mid p l) ∙ a.pages p l;
+  others = λ c k l o. b.others c k l (other c o) ∙ a.others c k l o;
+  used = λ c i o. b.used c (i.0, omega (arith, i.1, counts)) (other c o);
+  header = λ k l n. b.header k l n ∙ a.header k l n;
+  header_sum = λ e. b.header_sum (a.header_sum e);
+  page_sums = λ p l e.
+      let there : block_sum mid (page_block mid p) ≡ 0 = ap (block_sum mid) (a.pages p l) ∙ a.page_sums p l e in
+      ap (block_sum new) (sym (a.pages p l)) ∙ b.page_sums p (in_mid p l) there;
+}
+  where
+    counts : block_count mid ≡ block_count old
+    counts = ap (λ (n : ℕ). n / 512) a.same_length
+
+    in_mid : (p : ℕ) → p < pages_of old → p < pages_of mid
+    in_mid p l = omega (arith, l, counts)
+
+    other : (c : ℕ) → IsOther old file blocks extensions c → IsOther mid file blocks' extensions' c
+    other c o = record {
+      inside = omega (arith, o.inside, counts);
+      used = λ l. a.used c (l, o.inside) o;
+      beside_pages = λ p l e. let m : p < pages_of old = omega (arith, l, counts) in o.beside_pages p m (e ∙ a.pages p m);
+      beside_headers = (more c o).0;
+      beside_data = (more c o).1;
+    }
+
+-- blocks of the file alone change
+pub leaves_owned : (changed : ℕ → ℕ → Type 0) (old new : List ℕ) (file : ℕ) (blocks extensions : List ℕ) → SameBut changed old new → IsSize (block_count old) → ((c k : ℕ) → changed c k → IsInUse old c × IsInside (block_count old) c) →
+    ((c k : ℕ) → IsOther old file blocks extensions c → ¬ changed c k) → ((k : ℕ) → changed file k → IsDataField (k / 4)) → (block_sum old file ≡ 0 → block_sum new file ≡ 0) → Leaves old file blocks extensions new
+leaves_owned changed old new file blocks extensions h ok owner beside field summed = record {
+  same_length = h.same_length;
+  pages = page_kept changed old new h ok.1 (root_free changed old new h ok owner);
+  others = λ c k l o. h.same_byte c k l (beside c k o);
+  used = λ c i o. marks_stay changed old new h ok owner c (has_bit old c i) ∙ o.used i.0;
+  header = λ k l n. h.same_byte file k l (λ at. n (field k at));
+  header_sum = summed;
+  page_sums = λ p l e. same_sum changed old new h (page_block old p) (λ k m. pages_free changed old new h ok owner p k l) ∙ e;
+}
+
+-- a block is taken
+pub leaves_taken : (old : List ℕ) (b : ℕ) (new : List ℕ) (file : ℕ) (blocks extensions : List ℕ) → IsNewBlock old b new → IsSize (block_count old) → LawfulMap old → IsInUse old file → Leaves old file blocks extensions new
+leaves_taken old b new file blocks extensions n ok m header_used = record {
+  same_length = n.rest.same_length;
+  pages = page_kept (λ c k. MapPlace old b c k ⊎ (c ≡ b)) old new n.rest ok.1 root_untaken;
+  others = λ c k l o. n.rest.same_byte c k l (no c k o);
+  used = λ c i o. n.others c (has_bit old c i) (another c o) ∙ o.used i.0;
+  header = λ k l f. n.rest.same_byte file k l (no_header k);
+  header_sum = λ e. untouched_sum old new file (λ k l. n.rest.same_byte file k l (no_header k)) ∙ e;
+  page_sums = λ p l e. elim (cases_eq p (page_of b)) [
+    | inl same ↦ ap (λ (x : ℕ). block_sum new (page_block old x)) same ∙ n.page_sum
+    | inr ne ↦ untouched_sum old new (page_block old p) (λ k r. n.rest.same_byte (page_block old p) k r (no_page p k l ne)) ∙ e
+  ];
+}
+  where
+    within : page_of b < pages_of old
+    within = omega (arith, n.lowest.inside.0, n.lowest.inside.1)
+
+    another : (c : ℕ) → IsOther old file blocks extensions c → c ≢ b
+    another c o e = beside_new old b new n ok m c (o.used (omega (arith, e, n.lowest.inside.0))) e
+
+    no : (c k : ℕ) → IsOther old file blocks extensions c → ¬ (MapPlace old b c k ⊎ (c ≡ b))
+    no c k o (inl p) = o.beside_pages (page_of b) within p.0
+    no c k o (inr e) = another c o e
+
+    no_header : (k : ℕ) → ¬ (MapPlace old b file k ⊎ (file ≡ b))
+    no_header k (inl p) = header_used.beside_pages (page_of b) within p.0
+    no_header k (inr e) = beside_new old b new n ok m file header_used.marked e
+
+    no_page : (p k : ℕ) → p < pages_of old → p ≢ page_of b → ¬ (MapPlace old b (page_block old p) k ⊎ (page_block old p ≡ b))
+    no_page p k l ne (inl q) = ne (m.pages.apart p (page_of b) l within q.0)
+    no_page p k l ne (inr e) = beside_new old b new n ok m (page_block old p) (m.pages_marked p l) e
+
+    root_untaken : (k : ℕ) → ¬ (MapPlace old b (root_key (block_count old)) k ⊎ (root_key (block_count old) ≡ b))
+    root_untaken k (inl p) = m.pages.beside_root (page_of b) within (sym p.0)
+    root_untaken k (inr e) = beside_new old b new n ok m (root_key (block_count old)) m.root_marked e
+
+-- ---- lists that grow
+
+-- another block is none of the new ones
+pub beside_gains : (old new : List ℕ) (file : ℕ) (blocks extensions blocks' extensions' : List ℕ) → Gains old file blocks extensions new blocks' extensions' → (c : ℕ) → IsOther old file blocks extensions c → ((q : ℕ) → q ≤ length extensions' → c ≢ slice_index (file ∷ extensions') q) × ((i : ℕ) → i < length blocks' → c ≢ slice_index blocks' i)
+beside_gains old new file blocks extensions blocks' extensions' g c o = (
+  (λ q l e. elim (g.headers q l) [
+    | inl s ↦ o.beside_headers q s.0 (e ∙ s.1)
+    | inr f ↦ false≢true (sym (o.used (omega (arith, e, f.0))) ∙ ap (is_marked_free old) e ∙ f.1)
+  ]),
+  (λ i l e. elim (g.data_blocks_of i l) [
+    | inl s ↦ o.beside_data i s.0 (e ∙ s.1)
+    | inr f ↦ false≢true (sym (o.used (omega (arith, e, f.0))) ∙ ap (is_marked_free old) e ∙ f.1)
+  ]),
+)
+
+pub gains_same : (image : List ℕ) (file : ℕ) (blocks extensions : List ℕ) → Gains image file blocks extensions image blocks extensions
+gains_same image file blocks extensions = record { headers = λ q l. inl (l, refl); data_blocks_of = λ i l. inl (l, refl); marks = λ c i u. u }
+
+pub gains_both : (old mid new : List ℕ) (file : ℕ) (blocks extensions blocks' extensions' blocks'' extensions'' : List ℕ) → block_count mid ≡ block_count old → ((q : ℕ) → q ≤ length extensions'' → IsInside (block_count old) (slice_index (file ∷ extensions'') q)) → ((i : ℕ) → i < length blocks'' → IsInside (block_count old) (slice_index blocks'' i)) →
+    Gains old file blocks extensions mid blocks' extensions' → Gains mid file blocks' extensions' new blocks'' extensions'' → Gains old file blocks extensions new blocks'' extensions''
+gains_both old mid new file blocks extensions blocks' extensions' blocks'' extensions'' counts inside_headers inside_data a b = record {
+  headers = λ q l. elim (b.headers q l) [
+    | inr f ↦ inr (f.0, was (slice_index (file ∷ extensions'') q) (inside_headers q l) f.1)
+    | inl s ↦ elim (a.headers q s.0) [
+      | inl t ↦ inl (t.0, s.1 ∙ t.1)
+      | inr f ↦ inr (subst (λ (n : ℕ). 2 ≤ n) (sym s.1) f.0, ap (is_marked_free old) s.1 ∙ f.1)
+    ]
+  ];
+  data_blocks_of = λ i l. elim (b.data_blocks_of i l) [
+    | inr f ↦ inr (f.0, was (slice_index blocks'' i) (inside_data i l) f.1)
+    | inl s ↦ elim (a.data_blocks_of i s.0) [
+      | inl t ↦ inl (t.0, s.1 ∙ t.1)
+      | inr f ↦ inr (subst (λ (n : ℕ). 2 ≤ n) (sym s.1) f.0, ap (is_marked_free old) s.1 ∙ f.1)
+    ]
+  ];
+  marks = λ c i u. b.marks c (i.0, omega (arith, i.1, counts)) (a.marks c i u);
+}
+  where
+    was : (c : ℕ) → IsInside (block_count old) c → is_marked_free mid c ≡ true → is_marked_free old c ≡ true
+    was c i f = true_from_ne_false (is_marked_free old c) (λ e. false≢true (sym (a.marks c i e) ∙ f))
+
+-- ---- the steps
+
+module _ (old new : List ℕ) (format : Format) (file : ℕ) (blocks extensions : List ℕ) (size e : ℕ) (s : Standing old format file blocks extensions size) (x : IsExtended old file (slice_index (file ∷ extensions) (length extensions)) e new)
+    (inside : IsInside (block_count old) e) (used : IsInUse old e) (beside_headers : (q : ℕ) → q ≤ length extensions → slice_index (file ∷ extensions) q ≢ e) (beside_data : (i : ℕ) → i < length blocks → slice_index blocks i ≢ e) where
+  pub leaves_extended : Leaves old file blocks (extensions ++ e ∷ []) new
+  leaves_extended =
+      leaves_owned (λ c k. AtExtensionFields e c k ⊎ AtField (slice_index (file ∷ extensions) (length extensions)) 126 c k) old new file blocks (extensions ++ e ∷ []) x.rest s.size_ok
+      (extended_owner old new format file blocks extensions size e s x inside used beside_headers beside_data) beside field summed
+    where
+      beside : (c k : ℕ) → IsOther old file blocks (extensions ++ e ∷ []) c → ¬ (AtExtensionFields e c k ⊎ AtField (slice_index (file ∷ extensions) (length extensions)) 126 c k)
+      beside c k o (inl at) = o.beside_headers (suc (length extensions)) (omega (arith, length_push extensions e)) (at.0 ∙ sym (head_pushed_last file extensions e (suc (length extensions)) refl))
+      beside c k o (inr at) = o.beside_headers (length extensions) (omega (arith, length_push extensions e)) (at.0 ∙ sym (head_pushed_before file extensions e (length extensions) (omega arith)))
+
+      field : (k : ℕ) → (AtExtensionFields e file k ⊎ AtField (slice_index (file ∷ extensions) (length extensions)) 126 file k) → IsDataField (k / 4)
+      field k (inl at) = absurd (beside_headers 0 (omega arith) at.0)
+      field k (inr (at, inl z)) = inr (inr (inr (inr (inr z))))
+      field k (inr (at, inr z)) = inr (inr (inl z))
+
+      summed : block_sum old file ≡ 0 → block_sum new file ≡ 0
+      summed z = elim (cases_lt 0 (length extensions)) [
+        | inl l ↦ same_sum (λ c k. AtExtensionFields e c k ⊎ AtField (slice_index (file ∷ extensions) (length extensions)) 126 c k) old new x.rest file (λ k m. other k l) ∙ z
+        | inr l ↦ let here : length extensions ≡ 0 = omega arith in ap (λ (n : ℕ). block_sum new (slice_index (file ∷ extensions) n)) (sym here) ∙ x.sum
+      ]
+        where
+          other : (k : ℕ) → 0 < length extensions → ¬ (AtExtensionFields e file k ⊎ AtField (slice_index (file ∷ extensions) (length extensions)) 126 file k)
+          other k l (inl at) = beside_headers 0 (omega arith) at.0
+          other k l (inr at) = s.places.headers_once 0 (length extensions) l (omega arith) at.0
+
+module _ (old new : List ℕ) (format : Format) (file : ℕ) (blocks extensions : List ℕ) (size b : ℕ) (s : Standing old format file blocks extensions size) (x : IsLengthened old format file (slice_index (file ∷ extensions) (length extensions)) (slice_index blocks (length blocks - 1)) (length blocks) b new)
+    (inside : IsInside (block_count old) b) (used : IsInUse old b) (beside_headers : (q : ℕ) → q ≤ length extensions → slice_index (file ∷ extensions) q ≢ b) (beside_data : (i : ℕ) → i < length blocks → slice_index blocks i ≢ b) where
+  pub leaves_longer : Leaves old file (blocks ++ b ∷ []) extensions new
+  leaves_longer =
+      leaves_owned (Lengthened old new format file blocks extensions size b s x inside used beside_headers beside_data) old new file (blocks ++ b ∷ []) extensions x.rest s.size_ok
+      (lengthened_owner old new format file blocks extensions size b s x inside used beside_headers beside_data) beside field (λ z. x.file_sum)
+    where
+      beside : (c k : ℕ) → IsOther old file (blocks ++ b ∷ []) extensions c → ¬ Lengthened old new format file blocks extensions size b s x inside used beside_headers beside_data c k
+      beside c k o (inl at) = o.beside_data (length blocks) (omega (arith, length_push blocks b)) (at.1 ∙ sym (pushed_last blocks b (length blocks) refl))
+      beside c k o (inr (inl at)) = o.beside_data (length blocks - 1) (omega (arith, length_push blocks b)) (at.2.0 ∙ sym (pushed_before blocks b (length blocks - 1) (omega (arith, at.1))))
+      beside c k o (inr (inr (inl at))) = o.beside_headers (length extensions) (omega arith) at.0
+      beside c k o (inr (inr (inr at))) = o.beside_headers 0 (omega arith) at.0
+
+      field : (k : ℕ) → Lengthened old new format file blocks extensions size b s x inside used beside_headers beside_data file k → IsDataField (k / 4)
+      field k (inl at) = absurd (beside_headers 0 (omega arith) at.1)
+      field k (inr (inl at)) = absurd (s.places.apart 0 (length blocks - 1) (omega arith) (omega (arith, at.1)) at.2.0)
+      field k (inr (inr (inl (at, inl z)))) = inr (inr (inr (inl (omega (arith, z), omega (arith, z)))))
+      field k (inr (inr (inl (at, inr (inl z))))) = inl z
+      field k (inr (inr (inl (at, inr (inr z))))) = inr (inr (inl z))
+      field k (inr (inr (inr (at, inl z)))) = inr (inl z)
+      field k (inr (inr (inr (at, inr z)))) = inr (inr (inl z))
+
+module _ (old new : List ℕ) (format : Format) (file : ℕ) (blocks extensions : List ℕ) (size d e size' : ℕ) (s : Standing old format file blocks extensions size)
+    (x : IsResized old format file (slice_index (file ∷ extensions) e) (slice_index blocks (d - 1)) d size' new) (few : d ≤ length blocks) (fewer : e ≤ length extensions) where
+  pub leaves_resized : Leaves old file blocks extensions new
+  leaves_resized =
+      leaves_owned (Resized old new format file blocks extensions size d e size' s x few fewer) old new file blocks extensions x.rest s.size_ok (resized_owner old new format file blocks extensions size d e size' s x few fewer) beside field (λ z. x.file_sum)
+    where
+      beside : (c k : ℕ) → IsOther old file blocks extensions c → ¬ Resized old new format file blocks extensions size d e size' s x few fewer c k
+      beside c k o (inl at) = o.beside_data (d - 1) (omega (arith, at.1)) at.2.0
+      beside c k o (inr (inl at)) = o.beside_headers e fewer at.0
+      beside c k o (inr (inr at)) = o.beside_headers 0 (omega arith) at.0
+
+      field : (k : ℕ) → Resized old new format file blocks extensions size d e size' s x few fewer file k → IsDataField (k / 4)
+      field k (inl at) = absurd (s.places.apart 0 (d - 1) (omega arith) (omega (arith, at.1)) at.2.0)
+      field k (inr (inl (at, inl z))) = inl z
+      field k (inr (inl (at, inr (inl z)))) = inr (inr (inr (inr (inr z))))
+      field k (inr (inl (at, inr (inr z)))) = inr (inr (inl z))
+      field k (inr (inr (at, inl z))) = inr (inl z)
+      field k (inr (inr (at, inr (inl z)))) = inr (inr (inr (inr (inl z))))
+      field k (inr (inr (at, inr (inr z)))) = inr (inr (inl z))
+
+-- ---- what a new block adds to the lists
+
+pub gains_taken : (old : List ℕ) (b : ℕ) (new : List ℕ) (file : ℕ) (blocks extensions blocks' extensions' : List ℕ) → IsNewBlock old b new → ((q : ℕ) → q ≤ length extensions' → ((q ≤ length extensions) × (slice_index (file ∷ extensions') q ≡ slice_index (file ∷ extensions) q)) ⊎ (slice_index (file ∷ extensions') q ≡ b)) →
+    ((i : ℕ) → i < length blocks' → ((i < length blocks) × (slice_index blocks' i ≡ slice_index blocks i)) ⊎ (slice_index blocks' i ≡ b)) → Gains old file blocks extensions new blocks' extensions'
+gains_taken old b new file blocks extensions blocks' extensions' n headers datas = record {
+  headers = λ q l. elim (headers q l) [ inl s ↦ inl s | inr e ↦ inr (omega (arith, e, n.lowest.inside.0), ap (is_marked_free old) e ∙ n.lowest.free) ];
+  data_blocks_of = λ i l. elim (datas i l) [ inl s ↦ inl s | inr e ↦ inr (omega (arith, e, n.lowest.inside.0), ap (is_marked_free old) e ∙ n.lowest.free) ];
+  marks = λ c i u. n.others c (has_bit old c i) (λ e. false≢true (sym u ∙ ap (is_marked_free old) e ∙ n.lowest.free)) ∙ u;
+}
+
+-- marks that all stay
+pub gains_kept : (old new new' : List ℕ) (file : ℕ) (blocks extensions blocks' extensions' : List ℕ) → block_count new ≡ block_count old → ((c : ℕ) → HasBit new c → is_marked_free new' c ≡ is_marked_free new c) → Gains old file blocks extensions new blocks' extensions' → Gains old file blocks extensions new' blocks' extensions'
+gains_kept old new new' file blocks extensions blocks' extensions' counts same g = record {
+  headers = g.headers;
+  data_blocks_of = g.data_blocks_of;
+  marks = λ c i u. same c (has_bit new c (i.0, omega (arith, i.1, counts))) ∙ g.marks c i u;
+}

@@ -1,0 +1,85 @@
+-- A list with others over a part of it.
+use Rattle.std.proofs.Common.{◌≡◌, ℕ, ◌+◌, ◌-◌, ◌<◌, ◌≤◌, ◌++◌, inl, inr, List, length, replicate, take, drop, slice_index, sym, ap, ◌∙◌, arith}
+use Rattle.std.proofs.lemmas.Bool.{cases_lt}
+use Rattle.std.proofs.lemmas.List.{ext_get_or, get_or_append_left, get_or-append_right, get_or-take, get_or-drop, length-take, length-drop, length-append, length-replicate}
+use Rattle.ados_data.specs.File.{overlaid}
+
+module _ (xs : List ℕ) (pos : ℕ) (ys : List ℕ) (room : pos ≤ length xs) where
+  front : length (take pos xs) ≡ pos
+  front = omega (arith, length-take pos xs)
+
+  both : length (take pos xs ++ ys) ≡ pos + length ys
+  both = omega (arith, length-append (take pos xs) ys, front)
+
+  pub overlaid_before : (k : ℕ) → k < pos → slice_index (overlaid xs pos ys) k ≡ slice_index xs k
+  overlaid_before k l =
+      get_or_append_left (take pos xs ++ ys) (drop (pos + length ys) xs) 0 k (omega (arith, both, l))
+      ∙ get_or_append_left (take pos xs) ys 0 k (omega (arith, front, l))
+      ∙ get_or-take pos xs k 0 l
+
+  pub overlaid_within : (k : ℕ) → pos ≤ k → k < pos + length ys → slice_index (overlaid xs pos ys) k ≡ slice_index ys (k - pos)
+  overlaid_within k l m =
+      get_or_append_left (take pos xs ++ ys) (drop (pos + length ys) xs) 0 k (omega (arith, both, m))
+      ∙ get_or-append_right (take pos xs) ys pos k 0 front l
+
+  pub overlaid_behind : (k : ℕ) → pos + length ys ≤ k → slice_index (overlaid xs pos ys) k ≡ slice_index xs k
+  overlaid_behind k l =
+      let place : pos + length ys + (k - (pos + length ys)) ≡ k = omega arith in
+      get_or-append_right (take pos xs ++ ys) (drop (pos + length ys) xs) (pos + length ys) k 0 both l
+      ∙ get_or-drop (pos + length ys) xs (k - (pos + length ys)) 0
+      ∙ ap (slice_index xs) place
+
+  pub length-overlaid : pos + length ys ≤ length xs → length (overlaid xs pos ys) ≡ length xs
+  length-overlaid fits = omega (arith, length-append (take pos xs ++ ys) (drop (pos + length ys) xs), both, length-drop (pos + length ys) xs, fits)
+
+-- one part after another
+pub overlaid_more : (xs : List ℕ) (pos : ℕ) (ys : List ℕ) (done part : ℕ) → pos + length ys ≤ length xs → done + part ≤ length ys → overlaid (overlaid xs pos (take done ys)) (pos + done) (take part (drop done ys)) ≡ overlaid xs pos (take (done + part) ys)
+overlaid_more xs pos ys done part fits within =
+    let dl : length (take done ys) ≡ done = omega (arith, length-take done ys) in
+    let pl : length (take part (drop done ys)) ≡ part = omega (arith, length-take part (drop done ys), length-drop done ys) in
+    let tl : length (take (done + part) ys) ≡ done + part = omega (arith, length-take (done + part) ys) in
+    let first : length (overlaid xs pos (take done ys)) ≡ length xs = length-overlaid xs pos (take done ys) (omega arith) (omega (arith, dl)) in
+    let second : length (overlaid (overlaid xs pos (take done ys)) (pos + done) (take part (drop done ys))) ≡ length (overlaid xs pos (take done ys)) = length-overlaid (overlaid xs pos (take done ys)) (pos + done) (take part (drop done ys)) (omega (arith, first)) (omega (arith, first, pl)) in
+    let whole : length (overlaid xs pos (take (done + part) ys)) ≡ length xs = length-overlaid xs pos (take (done + part) ys) (omega arith) (omega (arith, tl)) in
+    ext_get_or 0 (overlaid (overlaid xs pos (take done ys)) (pos + done) (take part (drop done ys))) (overlaid xs pos (take (done + part) ys)) (second ∙ first ∙ sym whole)
+    (λ k l. elim (cases_lt k pos) [
+      | inl a ↦
+          overlaid_before (overlaid xs pos (take done ys)) (pos + done) (take part (drop done ys)) (omega (arith, first)) k (omega arith)
+          ∙ overlaid_before xs pos (take done ys) (omega arith) k a
+          ∙ sym (overlaid_before xs pos (take (done + part) ys) (omega arith) k a)
+      | inr a ↦ elim (cases_lt k (pos + done)) [
+        | inl b ↦
+            overlaid_before (overlaid xs pos (take done ys)) (pos + done) (take part (drop done ys)) (omega (arith, first)) k b
+            ∙ overlaid_within xs pos (take done ys) (omega arith) k a (omega (arith, dl, b))
+            ∙ get_or-take done ys (k - pos) 0 (omega arith)
+            ∙ sym (overlaid_within xs pos (take (done + part) ys) (omega arith) k a (omega (arith, tl, b)) ∙ get_or-take (done + part) ys (k - pos) 0 (omega arith))
+        | inr b ↦ elim (cases_lt k (pos + done + part)) [
+          | inl c ↦
+              let place : done + (k - (pos + done)) ≡ k - pos = omega arith in
+              overlaid_within (overlaid xs pos (take done ys)) (pos + done) (take part (drop done ys)) (omega (arith, first)) k b (omega (arith, pl, c))
+              ∙ get_or-take part (drop done ys) (k - (pos + done)) 0 (omega arith)
+              ∙ get_or-drop done ys (k - (pos + done)) 0
+              ∙ ap (slice_index ys) place
+              ∙ sym (overlaid_within xs pos (take (done + part) ys) (omega arith) k a (omega (arith, tl, c)) ∙ get_or-take (done + part) ys (k - pos) 0 (omega arith))
+          | inr c ↦
+              overlaid_behind (overlaid xs pos (take done ys)) (pos + done) (take part (drop done ys)) (omega (arith, first)) k (omega (arith, pl, c))
+              ∙ overlaid_behind xs pos (take done ys) (omega arith) k (omega (arith, dl, b))
+              ∙ sym (overlaid_behind xs pos (take (done + part) ys) (omega arith) k (omega (arith, tl, c)))
+        ]
+      ]
+    ])
+
+-- over a list with zeros behind it, as over the list
+pub overlaid_zeros : (xs : List ℕ) (pos : ℕ) (ys : List ℕ) (n : ℕ) → pos ≤ length xs → n ≡ pos + length ys - length xs → overlaid (xs ++ replicate n 0) pos ys ≡ overlaid xs pos ys
+overlaid_zeros xs pos ys n h e =
+    let zl : length (xs ++ replicate n 0) ≡ length xs + n = length-append xs (replicate n 0) ∙ ap (λ (m : ℕ). length xs + m) (length-replicate {A = ℕ} n 0) in
+    let left : length (overlaid (xs ++ replicate n 0) pos ys) ≡ length (xs ++ replicate n 0) = length-overlaid (xs ++ replicate n 0) pos ys (omega (arith, zl)) (omega (arith, zl, e)) in
+    let right : length (overlaid xs pos ys) ≡ length xs + n = omega (arith, length-append (take pos xs ++ ys) (drop (pos + length ys) xs), both xs pos ys h, length-drop (pos + length ys) xs, e) in
+    ext_get_or 0 (overlaid (xs ++ replicate n 0) pos ys) (overlaid xs pos ys) (left ∙ zl ∙ sym right)
+    (λ k l. elim (cases_lt k pos) [
+      | inl a ↦ overlaid_before (xs ++ replicate n 0) pos ys (omega (arith, zl)) k a ∙ get_or_append_left xs (replicate n 0) 0 k (omega arith) ∙ sym (overlaid_before xs pos ys h k a)
+      | inr a ↦ elim (cases_lt k (pos + length ys)) [
+        | inl b ↦ overlaid_within (xs ++ replicate n 0) pos ys (omega (arith, zl)) k a b ∙ sym (overlaid_within xs pos ys h k a b)
+        | inr b ↦ overlaid_behind (xs ++ replicate n 0) pos ys (omega (arith, zl)) k b ∙ get_or_append_left xs (replicate n 0) 0 k (omega (arith, l, left, zl, e, b)) ∙ sym (overlaid_behind xs pos ys h k b)
+      ]
+    ])

@@ -1,0 +1,174 @@
+-- A file that can be changed, through the steps of a change.
+use Rattle.std.proofs.Common.{◌≡◌, ◌≢◌, ℕ, ◌<◌, ◌≤◌, ◌⊎◌, inl, inr, false, cond, eqb, List, ◌∷◌, length, slice_index, refl, sym, ap, ◌∙◌, subst, arith}
+use Rattle.std.proofs.lemmas.Bool.{false≢true}
+use Rattle.adf_block.specs.declared.Format.{Format}
+use Rattle.adf_block.specs.declared.Format.TheVariants.{Ofs, Ffs}
+use Rattle.adf_block.specs.Image.{long, block_count, root_key, is_marked_free, marked_count, IsInside, IsSize}
+use Rattle.adf_block.specs.Frame.{SameBut}
+use Rattle.adf_block.proofs.Frames.{same_long, same_count}
+use Rattle.ados_map.specs.Pages.{pages_of, page_block, page_of, HasBit}
+use Rattle.ados_map.specs.Changes.{MapPlace}
+use Rattle.ados_data.specs.Cost.{data_count, extension_count}
+use Rattle.ados_data.specs.File.{HasFile, AreApart, format_of, file_byte}
+use Rattle.ados_data.specs.Changing.{IsInUse, LawfulMap, IsWritable, IsNewBlock}
+use Rattle.ados_data.specs.File.{extension_blocks, contents}
+use Rattle.ados_data.specs.Changing.{WritableFile}
+use Rattle.ados_data.proofs.Spelled.{data_blocks_are, extension_blocks_are, contents_are}
+use Rattle.ados_data.proofs.Untouched.{Untouched}
+use Rattle.ados_data.proofs.Skeleton.{Skeleton, skeleton_of, file_of}
+use Rattle.ados_data.proofs.Steps.{untouched_holder, untouched_data, skeleton_kept}
+use Rattle.ados_data.proofs.Counts.{as_many}
+use Rattle.ados_data.proofs.Marks.{has_bit, page_kept, in_use_kept, mark_kept, map_kept}
+
+-- a file but for its bytes, in an image with a lawful map, with all its blocks in use
+pub record Standing (image : List ℕ) (format : Format) (file : ℕ) (blocks extensions : List ℕ) (size : ℕ) : Type 0 where
+  pub format_is : format_of image ≡ format
+  pub size_ok : IsSize (block_count image)
+  pub skeleton : Skeleton image format file blocks extensions size
+  pub places : AreApart (block_count image) file blocks extensions
+  pub map : LawfulMap image
+  pub headers_used : (q : ℕ) → q ≤ length extensions → IsInUse image (slice_index (file ∷ extensions) q)
+  pub data_used : (i : ℕ) → i < length blocks → IsInUse image (slice_index blocks i)
+
+pub standing_of : (image : List ℕ) (file : ℕ) (blocks extensions bytes : List ℕ) → IsSize (block_count image) → IsWritable image file blocks extensions bytes → Standing image (format_of image) file blocks extensions (length bytes)
+standing_of image file blocks extensions bytes ok w = record {
+  format_is = refl;
+  size_ok = ok;
+  skeleton = skeleton_of image (format_of image) file blocks extensions bytes w.lawful.holds;
+  places = w.lawful.places;
+  map = w.map;
+  headers_used = w.headers_used;
+  data_used = w.data_used;
+}
+
+pub writable_of : (image : List ℕ) (format : Format) (file : ℕ) (blocks extensions bytes : List ℕ) → Standing image format file blocks extensions (length bytes) → length blocks ≡ data_count format (length bytes) → length extensions ≡ extension_count (length blocks) → ((k : ℕ) → k < length bytes → slice_index bytes k ≡ file_byte format image blocks k) → IsWritable image file blocks extensions bytes
+writable_of image format file blocks extensions bytes s data_fits extensions_fit held =
+    record {
+      lawful = record {
+        holds = subst (λ (f : Format). HasFile image f file blocks extensions bytes) (sym s.format_is) (file_of image format file blocks extensions bytes (omega (arith, extensions_fit)) s.skeleton held);
+        data_fits = data_fits ∙ ap (λ (f : Format). data_count f (length bytes)) (sym s.format_is);
+        extensions_fit = extensions_fit;
+        places = s.places;
+      };
+      map = s.map;
+      headers_used = s.headers_used;
+      data_used = s.data_used;
+    }
+
+-- the lists that the image spells are those lists
+pub writable_file : (image : List ℕ) (file : ℕ) (blocks extensions bytes : List ℕ) → IsWritable image file blocks extensions bytes → WritableFile image file
+writable_file image file blocks extensions bytes w =
+    subst (λ (xs : List ℕ). IsWritable image file xs (extension_blocks image file) (contents image file)) (sym (data_blocks_are image file blocks extensions bytes w.lawful))
+    (subst (λ (xs : List ℕ). IsWritable image file blocks xs (contents image file)) (sym (extension_blocks_are image file blocks extensions bytes w.lawful))
+    (subst (λ (xs : List ℕ). IsWritable image file blocks extensions xs) (sym (contents_are image file blocks extensions bytes w.lawful)) w))
+
+-- ---- changes of blocks in use
+
+module _ (changed : ℕ → ℕ → Type 0) (old new : List ℕ) (h : SameBut changed old new) (ok : IsSize (block_count old)) (owner : (c k : ℕ) → changed c k → IsInUse old c × IsInside (block_count old) c) where
+  pub format_kept : format_of new ≡ format_of old
+  format_kept = ap (λ (v : ℕ). cond (eqb v 0) Ofs Ffs) (h.same_byte 0 3 (omega arith) (λ at. omega (arith, (owner 0 3 at).1)))
+
+  pub root_free : (k : ℕ) → ¬ changed (root_key (block_count old)) k
+  root_free k at = (owner (root_key (block_count old)) k at).0.beside_root refl
+
+  pub pages_free : (p k : ℕ) → p < pages_of old → ¬ changed (page_block old p) k
+  pages_free p k l at = (owner (page_block old p) k at).0.beside_pages p l refl
+
+  pub marks_stay : (c : ℕ) → HasBit old c → is_marked_free new c ≡ is_marked_free old c
+  marks_stay = mark_kept changed old new h ok.1 root_free pages_free
+
+  pub count_stays : marked_count new ≡ marked_count old
+  count_stays = as_many old new (same_count changed old new h) (λ j inside. marks_stay j (has_bit old j inside))
+
+  pub map_stays : LawfulMap old → LawfulMap new
+  map_stays = map_kept changed old new h ok.1 root_free pages_free ok.0
+
+  pub use_stays : (c : ℕ) → IsInside (block_count old) c → IsInUse old c → IsInUse new c
+  use_stays c inside u = in_use_kept changed old new h ok.1 root_free c (marks_stay c (has_bit old c inside)) u
+
+-- ---- a new block
+
+module _ (old : List ℕ) (b : ℕ) (new : List ℕ) (n : IsNewBlock old b new) (ok : IsSize (block_count old)) (m : LawfulMap old) where
+  taken : ℕ → ℕ → Type 0
+  taken c k = MapPlace old b c k ⊎ (c ≡ b)
+
+  page_within : page_of b < pages_of old
+  page_within = omega (arith, n.lowest.inside.0, n.lowest.inside.1)
+
+  -- a block that is marked used is another one
+  pub beside_new : (c : ℕ) → is_marked_free old c ≡ false → c ≢ b
+  beside_new c u e = false≢true (sym u ∙ ap (is_marked_free old) e ∙ n.lowest.free)
+
+  pub untaken : (c k : ℕ) → IsInUse old c → ¬ (MapPlace old b c k ⊎ (c ≡ b))
+  untaken c k u (inl p) = u.beside_pages (page_of b) page_within p.0
+  untaken c k u (inr e) = beside_new c u.marked e
+
+  root_untaken : (k : ℕ) → ¬ (MapPlace old b (root_key (block_count old)) k ⊎ (root_key (block_count old) ≡ b))
+  root_untaken k (inl p) = m.pages.beside_root (page_of b) page_within (sym p.0)
+  root_untaken k (inr e) = beside_new (root_key (block_count old)) m.root_marked e
+
+  pub new_inside : IsInside (block_count old) b
+  new_inside = n.lowest.inside
+
+  pub same_blocks : block_count new ≡ block_count old
+  same_blocks = same_count (λ c k. MapPlace old b c k ⊎ (c ≡ b)) old new n.rest
+
+  pub new_format : format_of new ≡ format_of old
+  new_format = ap (λ (v : ℕ). cond (eqb v 0) Ofs Ffs) (n.rest.same_byte 0 3 (omega arith) no)
+    where
+      no : ¬ (MapPlace old b 0 3 ⊎ (0 ≡ b))
+      no (inl p) = omega (arith, p.0, (m.pages.inside (page_of b) page_within).0)
+      no (inr e) = omega (arith, e, n.lowest.inside.0)
+
+  pub still_in_use : (c : ℕ) → IsInside (block_count old) c → IsInUse old c → IsInUse new c
+  still_in_use c inside u = in_use_kept (λ c k. MapPlace old b c k ⊎ (c ≡ b)) old new n.rest ok.1 root_untaken c (n.others c (has_bit old c inside) (beside_new c u.marked)) u
+
+  pages_same : (p : ℕ) → p < pages_of old → page_block new p ≡ page_block old p
+  pages_same = page_kept (λ c k. MapPlace old b c k ⊎ (c ≡ b)) old new n.rest ok.1 root_untaken
+
+  pub new_in_use : IsInUse new b
+  new_in_use = record {
+    marked = n.marked;
+    beside_root = λ e. beside_new (root_key (block_count old)) m.root_marked (ap root_key (sym same_blocks) ∙ sym e);
+    beside_pages = λ p l e. let a : p < pages_of old = omega (arith, same_blocks, l) in beside_new (page_block old p) (m.pages_marked p a) (sym (pages_same p a) ∙ sym e);
+  }
+
+  pub new_map : LawfulMap new
+  new_map = record {
+    pages = n.pages;
+    root_marked =
+        ap (λ (x : ℕ). is_marked_free new (root_key x)) same_blocks
+        ∙ n.others (root_key (block_count old)) (has_bit old (root_key (block_count old)) (omega (arith, ok.0), omega (arith, ok.0))) (beside_new (root_key (block_count old)) m.root_marked)
+        ∙ m.root_marked;
+    pages_marked = λ p l. let a : p < pages_of old = omega (arith, same_blocks, l) in
+        ap (is_marked_free new) (pages_same p a)
+        ∙ n.others (page_block old p) (has_bit old (page_block old p) (m.pages.inside p a)) (beside_new (page_block old p) (m.pages_marked p a))
+        ∙ m.pages_marked p a;
+  }
+
+  pub untouched_new : (c : ℕ) → IsInUse old c → Untouched old new c
+  untouched_new c u = λ k l. n.rest.same_byte c k l (untaken c k u)
+
+  module _ (format : Format) (file : ℕ) (blocks extensions : List ℕ) (size : ℕ) (s : Standing old format file blocks extensions size) where
+    pub stands_beside_new : Standing new format file blocks extensions size
+    stands_beside_new = record {
+      format_is = new_format ∙ s.format_is;
+      size_ok = subst IsSize (sym same_blocks) ok;
+      skeleton = skeleton_kept old new format file blocks extensions size s.skeleton
+          (λ q l. untouched_holder old new (slice_index (file ∷ extensions) q) (untouched_new (slice_index (file ∷ extensions) q) (s.headers_used q l)))
+          (file_long 81 (omega arith)) (file_long 4 (omega arith))
+          (λ e i l. untouched_data old new (slice_index blocks i) (untouched_new (slice_index blocks i) (s.data_used i l)));
+      places = subst (λ (x : ℕ). AreApart x file blocks extensions) (sym same_blocks) s.places;
+      map = new_map;
+      headers_used = λ q l. still_in_use (slice_index (file ∷ extensions) q) (s.places.headers_inside q l) (s.headers_used q l);
+      data_used = λ i l. still_in_use (slice_index blocks i) (s.places.data_inside i l) (s.data_used i l);
+    }
+      where
+        file_long : (j : ℕ) → j < 128 → long new file j ≡ long old file j
+        file_long j l = same_long (λ c k. MapPlace old b c k ⊎ (c ≡ b)) old new n.rest file j l (λ k e. untaken file k (s.headers_used 0 (omega arith)))
+
+    pub header_beside_new : (q : ℕ) → q ≤ length extensions → slice_index (file ∷ extensions) q ≢ b
+    header_beside_new q l = beside_new (slice_index (file ∷ extensions) q) (s.headers_used q l).marked
+
+    pub data_beside_new : (i : ℕ) → i < length blocks → slice_index blocks i ≢ b
+    data_beside_new i l = beside_new (slice_index blocks i) (s.data_used i l).marked

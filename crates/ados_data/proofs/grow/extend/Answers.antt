@@ -1,0 +1,73 @@
+use Rattle.std.proofs.Common.{sym, ◌≡◌, ◌<◌, ◌≤◌, ◌-◌, ◌+◌, ◌*◌, ℕ, length, replicate, ap, ◌∙◌, arith, ◌/◌, ◌∷◌, slice_index, subst}
+use Rattle.std.proofs.lemmas.List.{length-append, length-replicate}
+use Rattle.ados_data.specs.Cost.{block_cost, data_count, data_size, extension_count}
+use Rattle.ados_data.specs.File.{contents}
+use Rattle.ados_data.proofs.Sizes.{few_bytes, one_more_cost}
+use Rattle.adf_block.specs.declared.Format.{Format}
+use Rattle.adf_block.specs.Image.{block_count, IsInside}
+use Rattle.ados_data.specs.File.{data_blocks, extension_blocks}
+use Rattle.ados_data.proofs.Leaving.{leaves_both, beside_gains, gains_both}
+use Rattle.ados_data.proofs.Lengthening.{more_zeros}
+use Rattle.ados_data.proofs.grow.extend.Goals as goal
+
+pub loop-reached-preserved : goal.loop-reached-preserved
+loop-reached-preserved c =
+    let inv = c.loop-reached.invariant in
+    let first = contents c.args.image.now c.args.file in
+    let here : c.loop-reached.reached ≡ data_size c.format_of-format.result * c.loop-reached.end.count = c.loop-reached.invariant.full c.loop-reached-test.true in
+    let room : c.data_size-room.result ≡ data_size c.format_of-format.result = c.data_size-room.ensures in
+    let some = few_bytes c.format_of-format.result in
+    let next_over : data_size c.format_of-format.result * c.loop-reached.end.count < c.min-next.result = omega (arith, c.min-next.ensures, c.loop-reached-test.true, here, room, some) in
+    let next_within : c.min-next.result ≤ data_size c.format_of-format.result * (c.loop-reached.end.count + 1) = omega (arith, c.min-next.ensures, c.loop-reached-test.true, here, room) in
+    let now_long : length (contents c.loop-reached.image c.args.file) ≡ c.loop-reached.reached =
+    ap length c.loop-reached.invariant.bytes ∙ length-append (contents c.args.image.now c.args.file) (replicate (c.loop-reached.reached - length (contents c.args.image.now c.args.file)) 0)
+    ∙ omega (arith, length-replicate {A = ℕ} (c.loop-reached.reached - length (contents c.args.image.now c.args.file)) 0, c.loop-reached.invariant.over) in
+    let counts : block_count c.append-end.new.image ≡ block_count c.args.image.now = ap (λ (n : ℕ). n / 512) (c.append-end.ensures.leaves.same_length ∙ c.loop-reached.invariant.leaves.same_length) in
+    record {
+      below = omega (arith, c.min-next.ensures);
+      over = omega (arith, c.loop-reached.invariant.over, next_over, here);
+      writable = c.append-end.ensures.writable;
+      same_format = c.append-end.ensures.format;
+      end_is = c.append-end.ensures.end;
+      leaves = leaves_both c.args.image.now c.loop-reached.image c.append-end.new.image c.args.file (data_blocks c.args.image.now c.args.file) (extension_blocks c.args.image.now c.args.file) (data_blocks c.loop-reached.image c.args.file) (extension_blocks c.loop-reached.image c.args.file) c.loop-reached.invariant.leaves c.append-end.ensures.leaves (beside_gains c.args.image.now c.loop-reached.image c.args.file (data_blocks c.args.image.now c.args.file) (extension_blocks c.args.image.now c.args.file) (data_blocks c.loop-reached.image c.args.file) (extension_blocks c.loop-reached.image c.args.file) c.loop-reached.invariant.gains);
+      gains = gains_both c.args.image.now c.loop-reached.image c.append-end.new.image c.args.file (data_blocks c.args.image.now c.args.file) (extension_blocks c.args.image.now c.args.file) (data_blocks c.loop-reached.image c.args.file) (extension_blocks c.loop-reached.image c.args.file) (data_blocks c.append-end.new.image c.args.file) (extension_blocks c.append-end.new.image c.args.file) (ap (λ (n : ℕ). n / 512) c.loop-reached.invariant.leaves.same_length)
+          (λ q l. subst (λ (n : ℕ). IsInside n (slice_index (c.args.file ∷ extension_blocks c.append-end.new.image c.args.file) q)) counts (c.append-end.ensures.writable.lawful.places.headers_inside q l))
+          (λ i l. subst (λ (n : ℕ). IsInside n (slice_index (data_blocks c.append-end.new.image c.args.file) i)) counts (c.append-end.ensures.writable.lawful.places.data_inside i l))
+          c.loop-reached.invariant.gains c.append-end.ensures.gains;
+      full = λ l. omega (arith, l, c.min-next.ensures, here, room, c.append-end.ensures.count, ap (λ (n : ℕ). data_size c.format_of-format.result * n) c.append-end.ensures.count);
+      bytes = more_zeros (contents c.args.image.now c.args.file) (contents c.loop-reached.image c.args.file) (contents c.append-end.new.image c.args.file) (length (contents c.args.image.now c.args.file)) c.loop-reached.reached c.min-next.result
+          c.loop-reached.invariant.over (omega (arith, next_over, here)) now_long c.loop-reached.invariant.bytes c.append-end.ensures.bytes;
+      free = omega (arith, c.loop-reached.invariant.free, c.append-end.ensures.free, one_more_cost c.format_of-format.result c.loop-reached.end.count c.min-next.result next_over next_within, ap (block_cost c.format_of-format.result) here);
+    }
+
+pub append-end-requires-clause-full : goal.append-end-requires-clause-full
+append-end-requires-clause-full c =
+    let now_long : length (contents c.loop-reached.image c.args.file) ≡ c.loop-reached.reached =
+    ap length c.loop-reached.invariant.bytes ∙ length-append (contents c.args.image.now c.args.file) (replicate (c.loop-reached.reached - length (contents c.args.image.now c.args.file)) 0)
+    ∙ omega (arith, length-replicate {A = ℕ} (c.loop-reached.reached - length (contents c.args.image.now c.args.file)) 0, c.loop-reached.invariant.over) in
+    now_long ∙ c.loop-reached.invariant.full c.loop-reached-test.true
+
+pub loop-reached-init : goal.loop-reached-init
+loop-reached-init c =
+    let now_long : length (contents c.fill_last-reached.new.image c.args.file) ≡ c.fill_last-reached.result =
+    ap length c.fill_last-reached.ensures.bytes ∙ length-append (contents c.args.image.now c.args.file) (replicate (c.fill_last-reached.result - length (contents c.args.image.now c.args.file)) 0)
+    ∙ omega (arith, length-replicate {A = ℕ} (c.fill_last-reached.result - length (contents c.args.image.now c.args.file)) 0, c.fill_last-reached.ensures.over) in
+    let count : data_count c.format_of-format.result c.fill_last-reached.result ≡ data_count c.format_of-format.result (length (contents c.args.image.now c.args.file)) =
+    ap (data_count c.format_of-format.result) (sym now_long)
+    ∙ ap (λ (f : Format). data_count f (length (contents c.fill_last-reached.new.image c.args.file))) (sym c.fill_last-reached.ensures.format)
+    ∙ sym c.fill_last-reached.ensures.writable.lawful.data_fits
+    ∙ sym c.fill_last-reached.ensures.end.counted ∙ c.end_of-end.ensures.counted
+    ∙ c.requires.writable.lawful.data_fits
+    ∙ ap (λ (f : Format). data_count f (length (contents c.args.image.now c.args.file))) (sym c.format_of-format.ensures) in
+    record {
+      below = c.fill_last-reached.ensures.reached;
+      over = c.fill_last-reached.ensures.over;
+      writable = c.fill_last-reached.ensures.writable;
+      same_format = c.fill_last-reached.ensures.format;
+      leaves = c.fill_last-reached.ensures.leaves;
+      gains = c.fill_last-reached.ensures.gains;
+      end_is = c.fill_last-reached.ensures.end;
+      full = c.fill_last-reached.ensures.full;
+      bytes = c.fill_last-reached.ensures.bytes;
+      free = omega (arith, c.fill_last-reached.ensures.free, count, ap extension_count count);
+    }

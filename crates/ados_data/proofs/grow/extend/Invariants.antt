@@ -1,0 +1,25 @@
+use Rattle.std.proofs.Common.{◌-◌, ◌≡◌, ◌≤◌, ◌<◌, ◌+◌, ◌*◌, ◌++◌, length, replicate}
+use Rattle.adf_block.specs.Image.{marked_count}
+use Rattle.ados_data.specs.Cost.{block_cost, data_size}
+use Rattle.ados_data.specs.File.{contents, data_blocks, extension_blocks, format_of}
+use Rattle.ados_data.specs.Changing.{WritableFile}
+use Rattle.ados_data.specs.Others.{Gains, LeavesOthers}
+use Rattle.ados_data.specs.Ends.{IsEnd}
+use Rattle.ados_data.proofs.grow.extend.Given as goal
+
+abbrev pub invariant-loop-reached : goal.invariant-loop-reached
+invariant-loop-reached l = record {
+  below : l.reached ≤ l.size;
+  over : length (contents l.fn.image l.file) ≤ l.reached;
+  writable : WritableFile l.image l.file;
+  same_format : format_of l.image ≡ l.format;
+  leaves : LeavesOthers l.fn.image l.file l.image;
+  gains : Gains l.fn.image l.file (data_blocks l.fn.image l.file) (extension_blocks l.fn.image l.file) l.image (data_blocks l.image l.file) (extension_blocks l.image l.file);
+  end_is : IsEnd l.image l.file l.end;
+  full : l.reached < l.size → l.reached ≡ data_size l.format * l.end.count;
+  bytes : contents l.image l.file ≡ contents l.fn.image l.file ++ replicate (l.reached - length (contents l.fn.image l.file)) 0;
+  free : marked_count l.image + block_cost l.format l.reached ≡ marked_count l.fn.image + block_cost l.format (length (contents l.fn.image l.file));
+}
+
+abbrev pub decreases-loop-reached : goal.decreases-loop-reached
+decreases-loop-reached l = l.size - l.reached

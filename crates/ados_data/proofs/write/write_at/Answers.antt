@@ -1,0 +1,25 @@
+use Rattle.std.proofs.Common.{◌-◌, ℕ, List, length, ap, ◌∙◌, arith, ◌/◌, sym, subst}
+use Rattle.ados_data.specs.File.{contents, overlaid}
+use Rattle.ados_data.specs.File.{data_blocks, extension_blocks}
+use Rattle.ados_data.specs.Others.{Gains}
+use Rattle.ados_data.proofs.Leaving.{leaves_both, beside_gains, gains_kept}
+use Rattle.ados_data.proofs.Overlaid.{overlaid_zeros}
+use Rattle.ados_data.proofs.write.write_at.Goals as goal
+
+pub long-requires-clause-block : goal.long-requires-clause-block
+long-requires-clause-block c = omega (arith, c.requires.writable.lawful.places.headers_inside 0 (omega arith))
+
+pub returns-clause-bytes : goal.returns-clause-bytes
+returns-clause-bytes c =
+    c.overlay.ensures.bytes
+    ∙ ap (λ (xs : List ℕ). overlaid xs c.args.pos c.args.bytes.now) c.extend.ensures.bytes
+    ∙ overlaid_zeros (contents c.args.image.now c.args.file) c.args.pos c.args.bytes.now (c.max-size.result - length (contents c.args.image.now c.args.file)) c.requires.start (omega (arith, c.max-size.ensures, c.long.ensures, c.requires.writable.lawful.holds.size))
+
+pub returns-clause-leaves : goal.returns-clause-leaves
+returns-clause-leaves c = leaves_both c.args.image.now c.extend.new.image c.overlay.new.image c.args.file (data_blocks c.args.image.now c.args.file) (extension_blocks c.args.image.now c.args.file) (data_blocks c.extend.new.image c.args.file) (extension_blocks c.extend.new.image c.args.file) c.extend.ensures.leaves c.overlay.ensures.leaves (beside_gains c.args.image.now c.extend.new.image c.args.file (data_blocks c.args.image.now c.args.file) (extension_blocks c.args.image.now c.args.file) (data_blocks c.extend.new.image c.args.file) (extension_blocks c.extend.new.image c.args.file) c.extend.ensures.gains)
+
+pub returns-clause-gains : goal.returns-clause-gains
+returns-clause-gains c =
+    subst (λ (xs : List ℕ). Gains c.args.image.now c.args.file (data_blocks c.args.image.now c.args.file) (extension_blocks c.args.image.now c.args.file) c.overlay.new.image xs (extension_blocks c.overlay.new.image c.args.file)) (sym c.overlay.ensures.blocks)
+    (subst (λ (xs : List ℕ). Gains c.args.image.now c.args.file (data_blocks c.args.image.now c.args.file) (extension_blocks c.args.image.now c.args.file) c.overlay.new.image (data_blocks c.extend.new.image c.args.file) xs) (sym c.overlay.ensures.extensions)
+    (gains_kept c.args.image.now c.extend.new.image c.overlay.new.image c.args.file (data_blocks c.args.image.now c.args.file) (extension_blocks c.args.image.now c.args.file) (data_blocks c.extend.new.image c.args.file) (extension_blocks c.extend.new.image c.args.file) (ap (λ (n : ℕ). n / 512) c.extend.ensures.leaves.same_length) c.overlay.ensures.marks c.extend.ensures.gains))

@@ -1,0 +1,69 @@
+//! A new block put behind the last one of a file.
+
+ghost use Rattle.std.specs.Prelude.{◌≡◌, ◌≢◌, ◌<◌, ◌≤◌, ◌-◌, ◌*◌, ◌+◌, ◌^◌, ◌%◌, ℕ};
+ghost use Rattle.adf_block.specs.Image.{block_count, block_sum, byte_at, long};
+ghost use Rattle.adf_block.specs.Frame.{SameBut};
+ghost use Rattle.ados_data.specs.Changing.{AtLink, IsExtended, IsLengthened};
+
+use crate::edit::{make_data, make_extension, set_field, set_fields};
+use crate::fields::{FIRST_POINTER, NEXT_EXTENSION};
+use adf_block::{Format, Image};
+
+/// Makes the empty block `e` an extension block, behind `holder`, the last pointer block of a file.
+pub fn attach_extension(image: &mut Image, file: u32, holder: u32, e: u32)
+    requires holder { holder < block_count image.old }
+    requires inside { e < block_count image.old }
+    requires apart { e ≢ holder }
+    requires empty { (k : ℕ) → k < 512 → byte_at image.old e k ≡ 0 }
+    ensures { IsExtended image.old file holder e image.new }
+{
+    make_extension(image, e, file);
+    set_field(image, holder, NEXT_EXTENSION, e);
+}
+
+/// Makes the empty block `b` a data block of a file, behind its `count` others, of which `last` is the
+/// last. Its pointer goes into `holder`, the last pointer block. It holds nothing yet.
+pub fn attach_data(
+    image: &mut Image,
+    format: Format,
+    file: u32,
+    holder: u32,
+    last: u32,
+    count: u32,
+    b: u32,
+)
+    requires file { file < block_count image.old }
+    requires holder { holder < block_count image.old }
+    requires last { 0 < count → last < block_count image.old }
+    requires last_apart { 0 < count → (last ≢ holder) × (last ≢ file) × (last ≢ b) }
+    requires inside { b < block_count image.old }
+    requires apart { (b ≢ holder) × (b ≢ file) }
+    requires empty { (k : ℕ) → k < 512 → byte_at image.old b k ≡ 0 }
+    requires fits { count + 1 < 2 ^ 32 }
+    ensures { IsLengthened image.old format file holder last count b image.new }
+{
+    make_data(image, format, b, file, count + 1);
+    link_data(image, format, last, count, b);
+    set_fields(
+        image,
+        holder,
+        FIRST_POINTER - count % 72,
+        b,
+        2,
+        count % 72 + 1,
+    );
+    let first = if count == 0 { b } else { image.long(file, 4) };
+    set_field(image, file, 4, first);
+}
+
+/// Names `b` as the data block behind `last`; FFS blocks don't.
+fn link_data(image: &mut Image, format: Format, last: u32, count: u32, b: u32)
+    requires last { 0 < count → last < block_count image.old }
+    ensures link { format ≡ Format.Ofs → 0 < count → long image.new last 4 ≡ b }
+    ensures sum { format ≡ Format.Ofs → 0 < count → block_sum image.new last ≡ 0 }
+    ensures rest { SameBut (AtLink format count last) image.old image.new }
+{
+    if format == Format::Ofs && count > 0 {
+        set_field(image, last, 4, b);
+    }
+}

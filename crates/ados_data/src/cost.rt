@@ -1,0 +1,51 @@
+// How many blocks a file takes.
+
+ghost use Rattle.std.specs.Prelude.{◌≡◌};
+ghost use Rattle.ados_data.specs.Cost.{data_size, data_start, block_cost, data_count, extension_count};
+
+use adf_block::Format;
+
+/// The data pointers that a file header or extension block has room for.
+const POINTERS: u64 = 72;
+
+/// The bytes of a file that one data block holds.
+pub fn data_size(format: Format) -> usize
+    ensures { result ≡ data_size format }
+{
+    match format {
+        Format::Ofs => 488,
+        Format::Ffs => 512,
+    }
+}
+
+/// The bytes of a data block in front of its data.
+pub fn data_start(format: Format) -> usize
+    ensures { result ≡ data_start format }
+{
+    match format {
+        Format::Ofs => 24,
+        Format::Ffs => 0,
+    }
+}
+
+/// The data blocks of a file of so many bytes.
+pub fn data_count(format: Format, size: u64) -> u64
+    ensures { result ≡ data_count format size }
+{
+    size.div_ceil(data_size(format) as u64)
+}
+
+/// The extension blocks of a file of so many data blocks.
+pub fn extension_count(count: u64) -> u64
+    ensures { result ≡ extension_count count }
+{
+    count.div_ceil(POINTERS).saturating_sub(1)
+}
+
+/// The data and extension blocks of a file of so many bytes; its header isn't among them.
+pub fn blocks_of(format: Format, size: u64) -> u64
+    ensures { result ≡ block_cost format size }
+{
+    let count = data_count(format, size);
+    count + extension_count(count)
+}

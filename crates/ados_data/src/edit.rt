@@ -1,0 +1,75 @@
+//! Edits of the fields of one block, whose sum is settled afterwards.
+
+ghost use Rattle.std.specs.Prelude.{◌≡◌, ◌≢◌, ℕ, ◌<◌, ◌+◌, ◌^◌, ◌⊎◌};
+ghost use Rattle.adf_block.specs.Image.{block_count, block_sum, byte_at, long};
+ghost use Rattle.adf_block.specs.Frame.{SameBut, OnlyBlock};
+ghost use Rattle.adf_block.specs.Fields.{primary_type, own_key, sequence_number};
+ghost use Rattle.ados_data.specs.File.{HasExtension};
+ghost use Rattle.ados_data.specs.Edits.{AtField, AtFields, AtExtensionFields, AtDataFields};
+
+use adf_block::{Format, Image};
+
+/// The long of the sum in every block but a bitmap page.
+pub const SUM: u32 = 5;
+
+/// Sets long `i` of block `b`.
+pub fn set_field(image: &mut Image, b: u32, i: u32, v: u32)
+    requires block { b < block_count image.old }
+    requires place { i < 128 }
+    requires not_sum { i ≢ 5 }
+    ensures set { long image.new b i ≡ v }
+    ensures sum { block_sum image.new b ≡ 0 }
+    ensures others { (c j : ℕ) → j < 128 → (c ≢ b) ⊎ ((j ≢ i) × (j ≢ 5)) → long image.new c j ≡ long image.old c j }
+    ensures rest { SameBut (AtField b i) image.old image.new }
+{
+    image.set_long(b, i, v);
+    image.settle(b, SUM);
+}
+
+/// Sets longs `i` and `j` of block `b`.
+pub fn set_fields(image: &mut Image, b: u32, i: u32, v: u32, j: u32, w: u32)
+    requires block { b < block_count image.old }
+    requires place { i < 128 }
+    requires other_place { j < 128 }
+    requires apart { i ≢ j }
+    requires not_sum { i ≢ 5 }
+    requires other_not_sum { j ≢ 5 }
+    ensures set { long image.new b i ≡ v }
+    ensures other_set { long image.new b j ≡ w }
+    ensures sum { block_sum image.new b ≡ 0 }
+    ensures rest { SameBut (AtFields b i j) image.old image.new }
+{
+    image.set_long(b, i, v);
+    set_field(image, b, j, w);
+}
+
+/// Makes block `b`, which is empty, an extension block of a file, with no pointers.
+pub fn make_extension(image: &mut Image, b: u32, file: u32)
+    requires { b < block_count image.old }
+    ensures fields { HasExtension image.new file b }
+    ensures rest { SameBut (AtExtensionFields b) image.old image.new }
+{
+    image.set_long(b, 0, 16);
+    image.set_long(b, 1, b);
+    image.set_long(b, 125, file);
+    set_field(image, b, 127, 0xffff_fffd);
+}
+
+/// Makes block `b`, which is empty, a data block of a file, the one with this sequence number. It holds
+/// nothing yet; in FFS it has no fields.
+pub fn make_data(image: &mut Image, format: Format, b: u32, file: u32, sequence: u32)
+    requires { b < block_count image.old }
+    ensures primary { format ≡ Format.Ofs → primary_type image.new b ≡ 8 }
+    ensures header { format ≡ Format.Ofs → own_key image.new b ≡ file }
+    ensures sequence { format ≡ Format.Ofs → sequence_number image.new b ≡ sequence }
+    ensures held { long image.new b 3 ≡ long image.old b 3 }
+    ensures next { long image.new b 4 ≡ long image.old b 4 }
+    ensures sum { format ≡ Format.Ofs → block_sum image.new b ≡ 0 }
+    ensures rest { SameBut (AtDataFields format b) image.old image.new }
+{
+    if format == Format::Ofs {
+        image.set_long(b, 0, 8);
+        image.set_long(b, 1, file);
+        set_field(image, b, 2, sequence);
+    }
+}

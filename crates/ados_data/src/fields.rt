@@ -1,0 +1,58 @@
+//! The longs that lead through a file.
+
+ghost use Rattle.std.specs.Prelude.{◌≡◌, ◌<◌, ◌≤◌, ◌-◌, ◌%◌, length};
+ghost use Rattle.adf_block.specs.Image.{block_count, bytes_at, long};
+ghost use Rattle.ados_data.specs.Cost.{data_size, data_start};
+ghost use Rattle.ados_data.specs.File.{LawfulFile, format_of, pointer_block, extension_blocks};
+
+use crate::cost::data_start;
+use adf_block::{Format, Image};
+
+/// The long of the first data pointer; the others stand below it.
+pub const FIRST_POINTER: u32 = 77;
+/// The long of a file's size in bytes.
+pub const SIZE: u32 = 81;
+/// The long of the first or next extension block.
+pub const NEXT_EXTENSION: u32 = 126;
+
+/// How the volume's data blocks are laid out.
+pub fn format_of(image: &Image) -> Format
+    ensures { result ≡ format_of image.now }
+{
+    prove!(image.blocks() >= 16);
+    if image.byte(0, 3) == 0 {
+        Format::Ofs
+    } else {
+        Format::Ffs
+    }
+}
+
+/// The pointer block behind `q` others: 0 is the header.
+pub fn pointer_block(image: &Image, file: u32, q: u64) -> u32
+    requires lawful { LawfulFile image.now file }
+    requires within { q ≤ length (extension_blocks image.now file) }
+    ensures { result ≡ pointer_block image.now file q }
+{
+    let mut holder = file;
+    for _passed in 0..q {
+        holder = image.long(holder, NEXT_EXTENSION);
+    }
+    holder
+}
+
+/// The data block of pointer `i` of a file, by the pointer block that holds it.
+pub fn data_block(image: &Image, holder: u32, i: u64) -> u32
+    requires { holder < block_count image.now }
+    ensures { result ≡ long image.now holder (77 - i % 72) }
+{
+    image.long(holder, FIRST_POINTER - (i % 72) as u32)
+}
+
+/// The data of a data block, in OFS behind its header.
+pub fn data_in(image: &Image, format: Format, block: u32) -> &[u8]
+    requires { block < block_count image.now }
+    ensures bytes { result.now ≡ bytes_at image.now block (data_start format) (data_size format) }
+    ensures length { length result.now ≡ data_size format }
+{
+    &image.block(block)[data_start(format)..]
+}

@@ -1,0 +1,140 @@
+//! A file that becomes longer.
+
+ghost use Rattle.std.specs.Prelude.{◌≡◌, ◌<◌, ◌≤◌, ◌+◌, ◌-◌, ◌*◌, ◌/◌, ◌^◌, ◌++◌, length, replicate};
+ghost use Rattle.adf_block.specs.Image.{marked_count};
+ghost use Rattle.ados_data.specs.Cost.{block_cost, data_size};
+ghost use Rattle.ados_data.specs.File.{LawfulFile, contents, data_blocks, extension_blocks, format_of};
+ghost use Rattle.ados_data.specs.Changing.{HasFree, WritableFile};
+ghost use Rattle.ados_data.specs.Ends.{IsEnd};
+ghost use Rattle.ados_data.specs.Others.{Gains, LeavesOthers};
+
+use crate::attach::attach_data;
+use crate::blocks::{new_block, pointer_room};
+use crate::cost::{data_count, data_size, extension_count};
+use crate::fields::{SIZE, data_block, format_of, pointer_block};
+use crate::put::put_data;
+use crate::resize::resize;
+use adf_block::{Format, Image};
+
+/// The end of a file.
+#[derive(Clone, Copy)]
+pub struct End {
+    /// Its data blocks.
+    pub count: u32,
+    /// The last pointer block.
+    pub holder: u32,
+    /// The last data block, or 0 where there is none.
+    pub last: u32,
+}
+
+/// Where a lawful file ends.
+pub fn end_of(image: &Image, format: Format, file: u32) -> End
+    requires lawful { LawfulFile image.now file }
+    requires format { format ≡ format_of image.now }
+    ensures { IsEnd image.now file result }
+{
+    let count = data_count(format, image.long(file, SIZE) as u64);
+    let holder = pointer_block(image, file, extension_count(count));
+    let last = if count == 0 {
+        0
+    } else {
+        data_block(image, holder, count - 1)
+    };
+    End {
+        count: count as u32,
+        holder,
+        last,
+    }
+}
+
+/// Makes a file longer within its last data block, up to this size if there is room, and answers the size
+/// that it then has. The bytes it gets are 0.
+fn fill_last(image: &mut Image, format: Format, file: u32, end: End, size: u32) -> u32
+    requires writable { WritableFile image.old file }
+    requires format { format ≡ format_of image.old }
+    requires end { IsEnd image.old file end }
+    requires size { length (contents image.old file) ≤ size }
+    ensures writable { WritableFile image.new file }
+    ensures format { format_of image.new ≡ format }
+    ensures end { IsEnd image.new file end }
+    ensures reached { result ≤ size }
+    ensures over { length (contents image.old file) ≤ result }
+    ensures full { result < size → result ≡ data_size format * end.count }
+    ensures bytes { contents image.new file ≡ contents image.old file ++ replicate (result - length (contents image.old file)) 0 }
+    ensures free { marked_count image.new ≡ marked_count image.old }
+    ensures leaves { LeavesOthers image.old file image.new }
+    ensures gains { Gains image.old file (data_blocks image.old file) (extension_blocks image.old file) image.new (data_blocks image.new file) (extension_blocks image.new file) }
+{
+    prove!(image.blocks() <= 101_602);
+    let room = data_size(format);
+    let old = image.long(file, SIZE);
+    let from = old as usize % room;
+    if size == old || from == 0 {
+        return old;
+    }
+    let part = (room - from).min((size - old) as usize);
+    let zeros = [0; 512];
+    put_data(image, format, end.last, from, &zeros[..part]);
+    let reached = old + part as u32;
+    resize(
+        image, format, file, end.holder, end.last, end.count, reached,
+    );
+    reached
+}
+
+/// Appends a data block to a file whose data blocks are full, so that the file has this size. The bytes
+/// it gets are 0.
+fn append(image: &mut Image, format: Format, file: u32, end: End, size: u32) -> End
+    requires writable { WritableFile image.old file }
+    requires format { format ≡ format_of image.old }
+    requires end { IsEnd image.old file end }
+    requires full { length (contents image.old file) ≡ data_size format * end.count }
+    requires over { data_size format * end.count < size }
+    requires within { size ≤ data_size format * (end.count + 1) }
+    requires free { end.count / 72 - (end.count - 1) / 72 < marked_count image.old }
+    ensures writable { WritableFile image.new file }
+    ensures format { format_of image.new ≡ format }
+    ensures end { IsEnd image.new file result }
+    ensures count { result.count ≡ end.count + 1 }
+    ensures bytes { contents image.new file ≡ contents image.old file ++ replicate (size - length (contents image.old file)) 0 }
+    ensures free { marked_count image.new + 1 + (end.count / 72 - (end.count - 1) / 72) ≡ marked_count image.old }
+    ensures leaves { LeavesOthers image.old file image.new }
+    ensures gains { Gains image.old file (data_blocks image.old file) (extension_blocks image.old file) image.new (data_blocks image.new file) (extension_blocks image.new file) }
+{
+    prove!(image.blocks() <= 101_602);
+    let holder = pointer_room(image, file, end.holder, end.count);
+    let last = new_block(image);
+    attach_data(image, format, file, holder, end.last, end.count, last);
+    let count = end.count + 1;
+    resize(image, format, file, holder, last, count, size);
+    End {
+        count,
+        holder,
+        last,
+    }
+}
+
+/// Makes a file longer, to this size. The bytes it gets are 0, and each block it gets is the lowest free
+/// one.
+pub fn extend(image: &mut Image, file: u32, size: u32)
+    requires writable { WritableFile image.old file }
+    requires longer { length (contents image.old file) ≤ size }
+    requires free { HasFree image.old file size }
+    ensures writable { WritableFile image.new file }
+    ensures format { format_of image.new ≡ format_of image.old }
+    ensures bytes { contents image.new file ≡ contents image.old file ++ replicate (size - length (contents image.old file)) 0 }
+    ensures free { marked_count image.new + block_cost (format_of image.old) size ≡ marked_count image.old + block_cost (format_of image.old) (length (contents image.old file)) }
+    ensures leaves { LeavesOthers image.old file image.new }
+    ensures gains { Gains image.old file (data_blocks image.old file) (extension_blocks image.old file) image.new (data_blocks image.new file) (extension_blocks image.new file) }
+{
+    prove!(image.blocks() <= 101_602);
+    let format = format_of(image);
+    let room = data_size(format) as u64;
+    let mut end = end_of(image, format, file);
+    let mut reached = fill_last(image, format, file, end, size);
+    while reached < size {
+        let next = (size as u64).min(reached as u64 + room) as u32;
+        end = append(image, format, file, end, next);
+        reached = next;
+    }
+}

@@ -1,0 +1,23 @@
+//! The data blocks and extension blocks of files: each call is an operation on a file's byte string.
+#![tactic(auto)]
+
+mod attach;
+mod blocks;
+mod cost;
+mod edit;
+mod fields;
+mod grow;
+mod put;
+mod read;
+mod resize;
+mod shorten;
+mod write;
+
+pub use cost::blocks_of;
+pub use grow::extend;
+pub use read::read_at;
+pub use shorten::cut;
+pub use write::write_at;
+
+#[cfg(test)]
+mod tests;

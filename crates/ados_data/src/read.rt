@@ -1,0 +1,39 @@
+//! Reading a file's bytes.
+
+ghost use Rattle.std.specs.Prelude.{◌≡◌, ◌++◌, ◌-◌, ◌^◌, ◌<◌, min, take, drop, length};
+ghost use Rattle.ados_data.specs.File.{LawfulFile, contents};
+
+use crate::cost::data_size;
+use crate::fields::{NEXT_EXTENSION, SIZE, data_block, data_in, format_of, pointer_block};
+use adf_block::Image;
+
+/// Copies the bytes of a file from byte `pos` on into the buffer, as many as are there and fit, and
+/// answers how many these are. The rest of the buffer stays.
+pub fn read_at(image: &Image, file: u32, pos: u64, buffer: &mut [u8]) -> usize
+    requires { LawfulFile image.now file }
+    ensures count { result ≡ min (length buffer.old) (length (contents image.now file) - pos) }
+    ensures bytes { buffer.new ≡ take result (drop pos (contents image.now file)) ++ drop result buffer.old }
+{
+    let format = format_of(image);
+    let room = data_size(format);
+    let size = image.long(file, SIZE) as u64;
+    if size <= pos {
+        return 0;
+    }
+    let count = buffer.len().min((size - pos) as usize);
+    let mut holder = pointer_block(image, file, pos / room as u64 / 72);
+    let mut done = 0;
+    while done < count {
+        let at = pos + done as u64;
+        let i = at / room as u64;
+        let from = (at % room as u64) as usize;
+        let part = (room - from).min(count - done);
+        let found = data_in(image, format, data_block(image, holder, i));
+        buffer[done..done + part].copy_from_slice(&found[from..from + part]);
+        done += part;
+        if (at + part as u64) % (72 * room as u64) == 0 {
+            holder = image.long(holder, NEXT_EXTENSION);
+        }
+    }
+    count
+}

@@ -1,0 +1,75 @@
+//! A file that becomes shorter.
+
+ghost use Rattle.std.specs.Prelude.{◌≡◌, ℕ, true, slice_index, ◌<◌, ◌≤◌, ◌+◌, ◌-◌, ◌%◌, length, take};
+ghost use Rattle.adf_block.specs.Image.{IsInside, is_marked_free, block_count, long, marked_count};
+ghost use Rattle.ados_map.specs.Pages.{LawfulPages};
+ghost use Rattle.ados_data.specs.Cost.{block_cost, data_count, extension_count};
+ghost use Rattle.ados_data.specs.File.{contents, data_blocks, extension_blocks, format_of};
+ghost use Rattle.ados_data.specs.Changing.{WritableFile};
+ghost use Rattle.ados_data.specs.Others.{LeavesOthers};
+ghost use Rattle.ados_data.specs.Giving.{IsEntered};
+
+use crate::cost::{data_count, extension_count};
+use crate::fields::{NEXT_EXTENSION, SIZE, data_block, format_of, pointer_block};
+use crate::resize::resize;
+use adf_block::Image;
+use ados_map::give_back;
+
+/// The pointer block at hand while blocks are given back, and the one behind it.
+#[derive(Clone, Copy)]
+struct Cursor {
+    holder: u32,
+    next: u32,
+}
+
+/// Keeps the front of a file, of this size, and gives the blocks behind it back.
+pub fn cut(image: &mut Image, file: u32, size: u32)
+    requires writable { WritableFile image.old file }
+    requires shorter { size ≤ length (contents image.old file) }
+    ensures writable { WritableFile image.new file }
+    ensures format { format_of image.new ≡ format_of image.old }
+    ensures bytes { contents image.new file ≡ take size (contents image.old file) }
+    ensures free { marked_count image.new + block_cost (format_of image.old) size ≡ marked_count image.old + block_cost (format_of image.old) (length (contents image.old file)) }
+    ensures leaves { LeavesOthers image.old file image.new }
+    ensures blocks { data_blocks image.new file ≡ take (data_count (format_of image.old) size) (data_blocks image.old file) }
+    ensures extensions { extension_blocks image.new file ≡ take (extension_count (data_count (format_of image.old) size)) (extension_blocks image.old file) }
+    ensures freed { (j : ℕ) → data_count (format_of image.old) size ≤ j → j < length (data_blocks image.old file) → is_marked_free image.new (slice_index (data_blocks image.old file) j) ≡ true }
+    ensures freed_extensions { (q : ℕ) → extension_count (data_count (format_of image.old) size) ≤ q → q < length (extension_blocks image.old file) → is_marked_free image.new (slice_index (extension_blocks image.old file) q) ≡ true }
+{
+    prove!(image.blocks() <= 101_602);
+    let format = format_of(image);
+    let old = image.long(file, SIZE);
+    if size == old {
+        return;
+    }
+    let all = data_count(format, old as u64);
+    let count = data_count(format, size as u64);
+    let holder = pointer_block(image, file, extension_count(count));
+    let next = image.long(holder, NEXT_EXTENSION);
+    let last = data_block(image, holder, count.saturating_sub(1));
+    resize(image, format, file, holder, last, count as u32, size);
+    let mut cursor = Cursor { holder, next };
+    for i in count..all {
+        cursor = enter(image, cursor, i);
+        let block = data_block(image, cursor.holder, i);
+        give_back(image, block);
+    }
+}
+
+/// Goes on to the pointer block of pointer `i`. An extension block that is entered is given back; what
+/// stands in it stays.
+fn enter(image: &mut Image, at: Cursor, i: u64) -> Cursor
+    requires pages { LawfulPages image.old }
+    requires inside { 0 < i → i % 72 ≡ 0 → IsInside (block_count image.old) at.next }
+    ensures { IsEntered image.old at.holder at.next i result.holder result.next image.new }
+{
+    if i == 0 || i % 72 != 0 {
+        return at;
+    }
+    let next = image.long(at.next, NEXT_EXTENSION);
+    give_back(image, at.next);
+    Cursor {
+        holder: at.next,
+        next,
+    }
+}

@@ -1,0 +1,68 @@
+//! Writing over the bytes of a file.
+
+ghost use Rattle.std.specs.Prelude.{◌≡◌, ℕ, ◌<◌, ◌≤◌, ◌+◌, ◌^◌, length, max};
+ghost use Rattle.ados_data.specs.Cost.{block_cost};
+ghost use Rattle.adf_block.specs.Image.{is_marked_free, marked_count};
+ghost use Rattle.ados_map.specs.Pages.{HasBit};
+ghost use Rattle.ados_data.specs.Others.{Gains, LeavesOthers};
+ghost use Rattle.ados_data.specs.File.{contents, data_blocks, extension_blocks, format_of, overlaid};
+ghost use Rattle.ados_data.specs.Changing.{HasFree, WritableFile};
+
+use crate::cost::data_size;
+use crate::fields::{NEXT_EXTENSION, SIZE, data_block, format_of, pointer_block};
+use crate::grow::extend;
+use crate::put::put_data;
+use adf_block::Image;
+
+/// Writes bytes over those of a file from byte `pos` on; all of these are there.
+fn overlay(image: &mut Image, file: u32, pos: u64, bytes: &[u8])
+    requires writable { WritableFile image.old file }
+    requires within { pos + length bytes.now ≤ length (contents image.old file) }
+    ensures writable { WritableFile image.new file }
+    ensures format { format_of image.new ≡ format_of image.old }
+    ensures bytes { contents image.new file ≡ overlaid (contents image.old file) pos bytes.now }
+    ensures blocks { data_blocks image.new file ≡ data_blocks image.old file }
+    ensures extensions { extension_blocks image.new file ≡ extension_blocks image.old file }
+    ensures free { marked_count image.new ≡ marked_count image.old }
+    ensures leaves { LeavesOthers image.old file image.new }
+    ensures marks { (c : ℕ) → HasBit image.old c → is_marked_free image.new c ≡ is_marked_free image.old c }
+{
+    prove!(image.blocks() <= 101_602);
+    if bytes.is_empty() {
+        return;
+    }
+    let format = format_of(image);
+    let room = data_size(format);
+    let mut holder = pointer_block(image, file, pos / room as u64 / 72);
+    let mut done = 0;
+    while done < bytes.len() {
+        let at = pos + done as u64;
+        let from = (at % room as u64) as usize;
+        let part = (room - from).min(bytes.len() - done);
+        let block = data_block(image, holder, at / room as u64);
+        put_data(image, format, block, from, &bytes[done..done + part]);
+        done += part;
+        if (at + part as u64) % (72 * room as u64) == 0 {
+            holder = image.long(holder, NEXT_EXTENSION);
+        }
+    }
+}
+
+/// Writes bytes to a file from byte `pos` on, over those that are there and behind them. Each block that the
+/// file gets is the lowest free one.
+pub fn write_at(image: &mut Image, file: u32, pos: u64, bytes: &[u8])
+    requires writable { WritableFile image.old file }
+    requires start { pos ≤ length (contents image.old file) }
+    requires fits { pos + length bytes.now < 2 ^ 32 }
+    requires free { HasFree image.old file (max (length (contents image.old file)) (pos + length bytes.now)) }
+    ensures writable { WritableFile image.new file }
+    ensures format { format_of image.new ≡ format_of image.old }
+    ensures bytes { contents image.new file ≡ overlaid (contents image.old file) pos bytes.now }
+    ensures free { marked_count image.new + block_cost (format_of image.old) (max (length (contents image.old file)) (pos + length bytes.now)) ≡ marked_count image.old + block_cost (format_of image.old) (length (contents image.old file)) }
+    ensures leaves { LeavesOthers image.old file image.new }
+    ensures gains { Gains image.old file (data_blocks image.old file) (extension_blocks image.old file) image.new (data_blocks image.new file) (extension_blocks image.new file) }
+{
+    let size = (image.long(file, SIZE) as u64).max(pos + bytes.len() as u64);
+    extend(image, file, size as u32);
+    overlay(image, file, pos, bytes);
+}
