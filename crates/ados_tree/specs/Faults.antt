@@ -1,0 +1,263 @@
+-- Which faults an image shows, without any tree.
+use Rattle.std.specs.Prelude.{◌≡◌, ◌≢◌, nat_le, if◌then◌else◌, ℕ, zero, suc, ◌+◌, ◌-◌, ◌/◌, ◌^◌, ◌<◌, ◌≤◌, ◌⊎◌, ⊤, List, [], ◌∷◌, ◌++◌, length, flat_map, slice_index, sum_by, All, AllPairs, Contains, Option, Some, None, ℤ, pos}
+use Rattle.adf_block.specs.Image.{block_count, root_key, page_count, byte_at, bytes_at, long, block_sum, IsInside, IsMarkedFree}
+use Rattle.ados_name.specs.Name.{Same, slot}
+use Rattle.ados_tree.specs.declared.role.Role.{Role}
+use Rattle.ados_tree.specs.declared.role.Role.TheVariants.{Root, Page, Entry, Data, Extension}
+use Rattle.ados_tree.specs.declared.fault.FaultKind.{FaultKind}
+use Rattle.ados_tree.specs.declared.fault.FaultKind.TheVariants.{NotADosDisk, UnsupportedKind, BadSum, BadType, BadOwnKey, BadParent, BadPointer, BlockUsedTwice, WrongChain, BadName, DuplicateName, BadComment, BadCount, BadSequence, LinkEntry, MarkedFree, NoMemory}
+use Rattle.ados_data.specs.Cost.{data_count}
+use Rattle.ados_data.specs.File.{format_of}
+use Rattle.adf_block.specs.Fields.{primary_type, own_key, pointer_count, sequence_number, held_count, next_data, table_entry, pointer, file_size, next_in_chain, parent_key, next_extension, secondary_type, file_type, text_at, comment_byte, name_byte}
+
+-- the root block of the image
+abbrev pub root_of : List ℕ → ℕ
+root_of image = root_key (block_count image)
+
+-- a block of the image behind the boot blocks
+abbrev pub InImage : List ℕ → ℕ → Type 0
+InImage image block = IsInside (block_count image) block
+
+-- a pointer stands within a count of at most 72
+abbrev pub IsPointer : List ℕ → ℕ → ℕ → Type 0
+IsPointer image block i = (i < pointer_count image block) × (pointer_count image block ≤ 72)
+
+-- long i of a block in a role is a place: it names a block, and gives that block its role
+pub data IsPlace (image : List ℕ) : ℕ → Role → ℕ → Role → Type 0 where
+  root_page : {block i : ℕ} → i < page_count (block_count image) → IsPlace image block Root (79 + i) Page
+  root_slot : {block s : ℕ} → s < 72 → table_entry image block s ≢ 0 → IsPlace image block Root (6 + s) (Entry block s)
+  directory_slot : {block dir r s : ℕ} → secondary_type image block ≡ 2 → s < 72 → table_entry image block s ≢ 0 → IsPlace image block (Entry dir r) (6 + s) (Entry block s)
+  next_entry : {block dir s : ℕ} → long image block next_in_chain ≢ 0 → IsPlace image block (Entry dir s) next_in_chain (Entry dir s)
+  header_pointer : {block dir s i : ℕ} → secondary_type image block ≡ file_type → IsPointer image block i → IsPlace image block (Entry dir s) (77 - i) (Data block)
+  first_extension : {block dir s : ℕ} → secondary_type image block ≡ file_type → long image block next_extension ≢ 0 → IsPlace image block (Entry dir s) next_extension (Extension block)
+  extension_pointer : {block file i : ℕ} → IsPointer image block i → IsPlace image block (Extension file) (77 - i) (Data file)
+  further_extension : {block file : ℕ} → long image block next_extension ≢ 0 → IsPlace image block (Extension file) next_extension (Extension file)
+
+-- the blocks that are reached, each in a role: the root, and what a place of a reached block names
+pub data Reached (image : List ℕ) : ℕ → Role → Type 0 where
+  start : Reached image (root_of image) Root
+  named : {block i : ℕ} {role next : Role} → Reached image block role → IsPlace image block role i next → InImage image (long image block i) → Reached image (long image block i) next
+
+-- an entry that is a directory
+pub record IsDirectory (image : List ℕ) (block : ℕ) : Type 0 where
+  pub dir : ℕ
+  pub slot_of_chain : ℕ
+  pub reached : Reached image block (Entry dir slot_of_chain)
+  pub secondary : secondary_type image block ≡ 2
+
+-- an entry that is a file
+pub record IsFile (image : List ℕ) (block : ℕ) : Type 0 where
+  pub dir : ℕ
+  pub slot_of_chain : ℕ
+  pub reached : Reached image block (Entry dir slot_of_chain)
+  pub secondary : secondary_type image block ≡ file_type
+
+-- the block is an entry, in some slot of some directory
+abbrev pub IsEntry : List ℕ → ℕ → Type 0
+IsEntry image block = (dir : ℕ) × (s : ℕ) × Reached image block (Entry dir s)
+
+-- the block is an extension block of some file
+abbrev pub IsExtension : List ℕ → ℕ → Type 0
+IsExtension image block = (file : ℕ) × Reached image block (Extension file)
+
+-- the block is a data block of some file
+abbrev pub IsData : List ℕ → ℕ → Type 0
+IsData image block = (file : ℕ) × Reached image block (Data file)
+
+-- the data blocks are read as in OFS: only there have they sums and fields
+abbrev pub IsOfs : List ℕ → Type 0
+IsOfs image = byte_at image 0 3 ≡ 0
+
+-- the blocks that the links from a first block reach, in order, each once
+pub record LinkedOnce (image : List ℕ) (link first : ℕ) (blocks : List ℕ) : Type 0 where
+  pub not_empty : 0 < length blocks
+  pub head : slice_index blocks 0 ≡ first
+  pub linked : (i : ℕ) → i + 1 < length blocks → long image (slice_index blocks i) link ≡ slice_index blocks (i + 1)
+  pub inside : (i : ℕ) → i + 1 < length blocks → InImage image (slice_index blocks (i + 1))
+  pub once : AllPairs (λ a b. a ≢ b) blocks
+  -- the last link leads out of the image, or back
+  pub whole : InImage image (long image (slice_index blocks (length blocks - 1)) link) → Contains blocks (long image (slice_index blocks (length blocks - 1)) link)
+
+-- the first n pointers of a block
+abbrev pub first_pointers : List ℕ → ℕ → ℕ → List ℕ
+first_pointers image block zero = []
+first_pointers image block (suc n) = first_pointers image block n ++ pointer image block n ∷ []
+
+-- the pointers of a block; where its count is over 72, it has none
+abbrev pub pointers_of : List ℕ → ℕ → List ℕ
+pointers_of image block = if nat_le (pointer_count image block) 72 then first_pointers image block (pointer_count image block) else []
+
+-- the data blocks of a file: the pointers of its header and its extension blocks, in order
+pub record AreDataBlocks (image : List ℕ) (file : ℕ) (blocks : List ℕ) : Type 0 where
+  pub is_file : IsFile image file
+  pub headers : List ℕ
+  pub linked : LinkedOnce image next_extension file headers
+  pub pointed : blocks ≡ flat_map (pointers_of image) headers
+
+-- place i of the data blocks of a file is a block
+pub record IsDataAt (image : List ℕ) (file : ℕ) (blocks : List ℕ) (i block : ℕ) : Type 0 where
+  pub of_file : AreDataBlocks image file blocks
+  pub within : i < length blocks
+  pub here : slice_index blocks i ≡ block
+  pub inside : InImage image block
+
+-- blocks of this role have a sum field
+abbrev pub HasSum : List ℕ → Role → Type 0
+HasSum image (Data file) = IsOfs image
+HasSum image _ = ⊤
+
+-- the secondary types of links: a hard link to a directory, one to a file, a soft link
+abbrev pub IsLinkType : ℕ → Type 0
+IsLinkType n = (n ≡ 3) ⊎ (n ≡ 4) ⊎ (n ≡ 2 ^ 32 - 4)
+
+-- a reached block with a sum field does not sum to 0
+pub record HasBadSum (image : List ℕ) (block : ℕ) : Type 0 where
+  pub role : Role
+  pub reached : Reached image block role
+  pub summed : HasSum image role
+  pub wrong : block_sum image block ≢ 0
+
+-- a wrong type, or a wrong table size
+pub data HasBadType (image : List ℕ) (block : ℕ) : Type 0 where
+  root_primary : block ≡ root_of image → primary_type image block ≢ 2 → HasBadType image block
+  root_table : block ≡ root_of image → long image block 3 ≢ 72 → HasBadType image block
+  root_secondary : block ≡ root_of image → secondary_type image block ≢ 1 → HasBadType image block
+  entry_primary : IsEntry image block → primary_type image block ≢ 2 → HasBadType image block
+  entry_secondary : IsEntry image block → secondary_type image block ≢ 2 → secondary_type image block ≢ file_type → ¬ IsLinkType (secondary_type image block) → HasBadType image block
+  extension_primary : IsExtension image block → primary_type image block ≢ 16 → HasBadType image block
+  extension_secondary : IsExtension image block → secondary_type image block ≢ file_type → HasBadType image block
+  data_primary : IsOfs image → IsData image block → primary_type image block ≢ 8 → HasBadType image block
+
+-- an entry's or extension block's own number is wrong
+pub data HasBadOwnKey (image : List ℕ) (block : ℕ) : Type 0 where
+  entry_key : IsEntry image block → own_key image block ≢ block → HasBadOwnKey image block
+  extension_key : IsExtension image block → own_key image block ≢ block → HasBadOwnKey image block
+
+-- what holds the block is not the block that it names as its parent or file header
+pub data HasBadParent (image : List ℕ) (block : ℕ) : Type 0 where
+  root_parent : block ≡ root_of image → parent_key image block ≢ 0 → HasBadParent image block
+  entry_parent : {dir s : ℕ} → Reached image block (Entry dir s) → parent_key image block ≢ dir → HasBadParent image block
+  extension_file : {file : ℕ} → Reached image block (Extension file) → parent_key image block ≢ file → HasBadParent image block
+  data_file : {file : ℕ} → IsOfs image → Reached image block (Data file) → own_key image block ≢ file → HasBadParent image block
+
+-- a place holds a number outside the image; in OFS, a link from data block to data block is wrong
+pub data HasBadPointer (image : List ℕ) (block : ℕ) : Type 0 where
+  outside : {i : ℕ} {role next : Role} → Reached image block role → IsPlace image block role i next → ¬ InImage image (long image block i) → HasBadPointer image block
+  first_data : IsOfs image → IsFile image block → long image block next_data ≢ slice_index (pointers_of image block) 0 → HasBadPointer image block
+  further_data : {file i : ℕ} {blocks : List ℕ} → IsOfs image → IsDataAt image file blocks i block → long image block next_data ≢ slice_index blocks (i + 1) → HasBadPointer image block
+
+-- long i of a reached block is a place, and names the block
+pub record Names (image : List ℕ) (holder i block : ℕ) : Type 0 where
+  pub role : Role
+  pub next : Role
+  pub reached : Reached image holder role
+  pub place : IsPlace image holder role i next
+  pub names : long image holder i ≡ block
+
+-- two places name the block, or one names the root
+pub data IsUsedTwice (image : List ℕ) (block : ℕ) : Type 0 where
+  two_holders : {holder other i j : ℕ} → InImage image block → Names image holder i block → Names image other j block → holder ≢ other → IsUsedTwice image block
+  two_longs : {holder i j : ℕ} → InImage image block → Names image holder i block → Names image holder j block → i ≢ j → IsUsedTwice image block
+  root_named : {holder i : ℕ} → block ≡ root_of image → Names image holder i block → IsUsedTwice image block
+
+-- the length of an entry's name is one that a name can have; where it is not, the name is bad and stands for nothing else
+abbrev pub HasShortName : List ℕ → ℕ → Type 0
+HasShortName image block = byte_at image block name_byte ≤ 30
+
+-- an entry stands in a chain that is not that of its name's slot
+pub record IsInWrongChain (image : List ℕ) (block : ℕ) : Type 0 where
+  pub dir : ℕ
+  pub slot_of_chain : ℕ
+  pub reached : Reached image block (Entry dir slot_of_chain)
+  pub short : HasShortName image block
+  pub wrong : slot (text_at image block name_byte) ≢ slot_of_chain
+
+-- a root or entry has a name
+pub data HasName (image : List ℕ) (block : ℕ) : Type 0 where
+  root_name : block ≡ root_of image → HasName image block
+  entry_name : IsEntry image block → HasName image block
+
+-- the name is empty or over 30 bytes, or has a `/` or `:`
+pub data HasBadName (image : List ℕ) (block : ℕ) : Type 0 where
+  empty : HasName image block → byte_at image block name_byte ≡ 0 → HasBadName image block
+  long_name : HasName image block → 30 < byte_at image block name_byte → HasBadName image block
+  slash : HasName image block → Contains (text_at image block name_byte) 47 → HasBadName image block
+  colon : HasName image block → Contains (text_at image block name_byte) 58 → HasBadName image block
+
+-- another entry of the same directory has the same name
+pub record HasDuplicateName (image : List ℕ) (block : ℕ) : Type 0 where
+  pub other : ℕ
+  pub dir : ℕ
+  pub slot_of_chain : ℕ
+  pub other_slot : ℕ
+  pub reached : Reached image block (Entry dir slot_of_chain)
+  pub other_reached : Reached image other (Entry dir other_slot)
+  pub two : block ≢ other
+  pub short : HasShortName image block
+  pub other_short : HasShortName image other
+  pub same : Same (text_at image block name_byte) (text_at image other name_byte)
+
+-- a directory's or file's comment is over 79 bytes
+pub data HasBadComment (image : List ℕ) (block : ℕ) : Type 0 where
+  directory_comment : IsDirectory image block → 79 < byte_at image block comment_byte → HasBadComment image block
+  file_comment : IsFile image block → 79 < byte_at image block comment_byte → HasBadComment image block
+
+-- a file header or extension block has data pointers
+pub data HasPointers (image : List ℕ) (block : ℕ) : Type 0 where
+  file_pointers : IsFile image block → HasPointers image block
+  extension_pointers : IsExtension image block → HasPointers image block
+
+-- a count or size that the blocks of the file do not bear out
+pub data HasBadCount (image : List ℕ) (block : ℕ) : Type 0 where
+  over : HasPointers image block → 72 < pointer_count image block → HasBadCount image block
+  not_full : HasPointers image block → pointer_count image block < 72 → long image block next_extension ≢ 0 → HasBadCount image block
+  no_pointer : IsExtension image block → pointer_count image block ≡ 0 → HasBadCount image block
+  wrong_size : {blocks : List ℕ} → AreDataBlocks image block blocks → length blocks ≢ data_count (format_of image) (file_size image block) → HasBadCount image block
+  held_not_full : {file i : ℕ} {blocks : List ℕ} → IsOfs image → IsDataAt image file blocks i block → i + 1 < length blocks → held_count image block ≢ 488 → HasBadCount image block
+  held_none : {file i : ℕ} {blocks : List ℕ} → IsOfs image → IsDataAt image file blocks i block → held_count image block ≡ 0 → HasBadCount image block
+  held_over : {file i : ℕ} {blocks : List ℕ} → IsOfs image → IsDataAt image file blocks i block → 488 < held_count image block → HasBadCount image block
+  wrong_sum : {blocks : List ℕ} → IsOfs image → AreDataBlocks image block blocks → All (InImage image) blocks → sum_by (held_count image) blocks ≢ file_size image block → HasBadCount image block
+
+-- an OFS data block whose number is not its place in the file, from 1
+pub record HasBadSequence (image : List ℕ) (block : ℕ) : Type 0 where
+  pub file : ℕ
+  pub i : ℕ
+  pub blocks : List ℕ
+  pub ofs : IsOfs image
+  pub at : IsDataAt image file blocks i block
+  pub wrong : sequence_number image block ≢ i + 1
+
+-- a reached block whose bit is set, in a bitmap that is valid and a page that is in the image
+pub record IsReachedAndFree (image : List ℕ) (block : ℕ) : Type 0 where
+  pub valid : long image (root_of image) 78 ≡ 2 ^ 32 - 1
+  pub role : Role
+  pub reached : Reached image block role
+  pub page : InImage image (long image (root_of image) (79 + (block - 2) / 4064))
+  pub free : IsMarkedFree image block
+
+-- the image shows the fault at the block
+abbrev pub Shows : List ℕ → FaultKind → ℕ → Type 0
+Shows image NotADosDisk block = (bytes_at image 0 0 3 ≢ 68 ∷ 79 ∷ 83 ∷ []) × (block ≡ 0)
+Shows image UnsupportedKind block = (bytes_at image 0 0 3 ≡ 68 ∷ 79 ∷ 83 ∷ []) × (1 < byte_at image 0 3) × (block ≡ 0)
+Shows image BadSum block = HasBadSum image block
+Shows image BadType block = HasBadType image block
+Shows image BadOwnKey block = HasBadOwnKey image block
+Shows image BadParent block = HasBadParent image block
+Shows image BadPointer block = HasBadPointer image block
+Shows image BlockUsedTwice block = IsUsedTwice image block
+Shows image WrongChain block = IsInWrongChain image block
+Shows image BadName block = HasBadName image block
+Shows image DuplicateName block = HasDuplicateName image block
+Shows image BadComment block = HasBadComment image block
+Shows image BadCount block = HasBadCount image block
+Shows image BadSequence block = HasBadSequence image block
+Shows image LinkEntry block = IsEntry image block × IsLinkType (secondary_type image block)
+Shows image MarkedFree block = IsReachedAndFree image block
+-- want of memory is no fault of the image
+Shows image NoMemory block = ⊥
+
+-- the AmigaDOS error number of a fault
+abbrev pub dos_number : FaultKind → Option ℤ
+dos_number NotADosDisk = Some (pos 225)
+dos_number NoMemory = Some (pos 103)
+dos_number _ = None

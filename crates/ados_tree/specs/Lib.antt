@@ -1,0 +1,13 @@
+pub mod Dates
+pub mod Tree
+pub mod Layout
+pub mod Stands
+pub mod Faults
+pub mod Kept
+pub mod Walk
+pub mod Change
+pub mod Rebuilt
+pub mod Accepted
+pub mod NewBlocks
+pub mod Blank
+pub mod Laws

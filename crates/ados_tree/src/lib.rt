@@ -1,0 +1,12 @@
+//! A volume as a tree of directories and files: which tree an image stands for, and which faults it shows.
+#![tactic(auto)]
+
+mod fault;
+mod laws;
+mod path_fault;
+mod role;
+
+pub use fault::{FaultKind, VolumeFault};
+pub use laws::{blank_stands, faults_have_no_tree, free_is_marked, has_blank_image, one_tree};
+pub use path_fault::{PlaceFault, WalkFault};
+pub use role::Role;
