@@ -14,6 +14,7 @@ pub mod Marks
 pub mod Standing
 pub mod Growing
 pub mod Resizing
+pub mod Fitting
 pub mod Counts
 pub mod Taking
 pub mod Appending

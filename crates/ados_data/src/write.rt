@@ -1,6 +1,6 @@
 //! Writing over the bytes of a file.
 
-ghost use Rattle.std.specs.Prelude.{◌≡◌, ℕ, ◌<◌, ◌≤◌, ◌+◌, ◌^◌, length, max};
+ghost use Rattle.std.specs.Prelude.{◌≡◌, ℕ, ◌≤◌, ◌+◌, length, max};
 ghost use Rattle.ados_data.specs.Cost.{block_cost};
 ghost use Rattle.adf_block.specs.Image.{is_marked_free, marked_count};
 ghost use Rattle.ados_map.specs.Pages.{HasBit};
@@ -53,7 +53,6 @@ fn overlay(image: &mut Image, file: u32, pos: u64, bytes: &[u8])
 pub fn write_at(image: &mut Image, file: u32, pos: u64, bytes: &[u8])
     requires writable { WritableFile image.old file }
     requires start { pos ≤ length (contents image.old file) }
-    requires fits { pos + length bytes.now < 2 ^ 32 }
     requires free { HasFree image.old file (max (length (contents image.old file)) (pos + length bytes.now)) }
     ensures writable { WritableFile image.new file }
     ensures format { format_of image.new ≡ format_of image.old }
@@ -62,6 +61,7 @@ pub fn write_at(image: &mut Image, file: u32, pos: u64, bytes: &[u8])
     ensures leaves { LeavesOthers image.old file image.new }
     ensures gains { Gains image.old file (data_blocks image.old file) (extension_blocks image.old file) image.new (data_blocks image.new file) (extension_blocks image.new file) }
 {
+    prove!(image.blocks() <= 101_602);
     let size = (image.long(file, SIZE) as u64).max(pos + bytes.len() as u64);
     extend(image, file, size as u32);
     overlay(image, file, pos, bytes);

@@ -1,10 +1,16 @@
-use Rattle.std.proofs.Common.{◌-◌, ℕ, List, length, ap, ◌∙◌, arith, ◌/◌, sym, subst}
+use Rattle.std.proofs.Common.{max, ◌+◌, ◌-◌, ℕ, List, length, ap, ◌∙◌, arith, ◌/◌, sym, subst}
 use Rattle.ados_data.specs.File.{contents, overlaid}
 use Rattle.ados_data.specs.File.{data_blocks, extension_blocks}
 use Rattle.ados_data.specs.Others.{Gains}
 use Rattle.ados_data.proofs.Leaving.{leaves_both, beside_gains, gains_kept}
 use Rattle.ados_data.proofs.Overlaid.{overlaid_zeros}
+use Rattle.ados_data.proofs.Fitting.{size_fits}
 use Rattle.ados_data.proofs.write.write_at.Goals as goal
+
+pub overflow_cast-size : goal.overflow_cast-size
+overflow_cast-size c =
+    let size = max (length (contents c.args.image.now c.args.file)) (c.args.pos + length c.args.bytes.now) in
+    omega (arith, c.max-size.ensures, c.long.ensures, c.requires.writable.lawful.holds.size, size_fits c.args.image.now c.args.file size (omega (arith, c.blocks-2.ensures.count, c.if-prove.false)) c.requires.writable.lawful c.requires.free)
 
 pub long-requires-clause-block : goal.long-requires-clause-block
 long-requires-clause-block c = omega (arith, c.requires.writable.lawful.places.headers_inside 0 (omega arith))

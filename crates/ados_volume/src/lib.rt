@@ -1,0 +1,18 @@
+//! An OFS or FFS volume on an image: the tree of directories and files that the image stands for.
+#![tactic(auto)]
+
+mod blank_volume;
+mod edit;
+mod examine;
+mod info;
+mod look;
+#[cfg(test)]
+mod tests;
+mod volume;
+mod walk;
+
+pub use ados_chain::Next;
+pub use blank_volume::blank;
+pub use examine::FileInfo;
+pub use info::DiskInfo;
+pub use volume::Volume;
