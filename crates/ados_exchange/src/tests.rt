@@ -119,12 +119,10 @@ fn listed<const N: usize>(alloc: Global, steps: [Asked; N]) -> Result<Vec<Asked>
     Ok(list)
 }
 
-/// The notes show the order in which the packets of both clients were served.
-#[test]
-fn two_clients(rt: HostRuntime) -> Result<(), Fail> {
-    let exchange = open(rt.alloc(), 2)?;
-    let steps = listed(
-        rt.alloc(),
+/// Two clients put packets in turn, all are served, and each client takes its replies.
+fn steps_of_two(alloc: Global) -> Result<Vec<Asked>, AllocError> {
+    listed(
+        alloc,
         [
             put(1, note(11)),
             serve(),
@@ -154,9 +152,12 @@ fn two_clients(rt: HostRuntime) -> Result<(), Fail> {
             take(1),
             take(2),
         ],
-    )?;
-    let done = run(rt.alloc(), exchange, steps).map_err(|_| Fail::from("no memory"))?;
-    let wanted = [
+    )
+}
+
+/// What comes of these steps. The notes show the order in which the packets of both clients were served.
+fn outcomes_of_two() -> [Got; 27] {
+    [
         Outcome::Accepted(1),
         Outcome::Served,
         noted(1, 0),
@@ -184,8 +185,15 @@ fn two_clients(rt: HostRuntime) -> Result<(), Fail> {
         noted(3, 22),
         Outcome::Nothing,
         Outcome::Nothing,
-    ];
-    assert_eq!(rt; done.outcomes.as_slice(), wanted.as_slice());
+    ]
+}
+
+#[test]
+fn two_clients(rt: HostRuntime) -> Result<(), Fail> {
+    let exchange = open(rt.alloc(), 2)?;
+    let steps = steps_of_two(rt.alloc())?;
+    let done = run(rt.alloc(), exchange, steps).map_err(|_| Fail::from("no memory"))?;
+    assert_eq!(rt; done.outcomes.as_slice(), outcomes_of_two().as_slice());
     assert_eq!(rt; done.exchange.into_server(), alive(23));
     Ok(())
 }
