@@ -17,13 +17,17 @@ use Rattle.ados_data.specs.Ends.{IsEnd}
 use Rattle.ados_data.proofs.Sizes.{one_more_block, below_count, at_count, in_block, behind_start}
 use Rattle.ados_data.proofs.Spelled.{data_blocks_are, extension_blocks_are, contents_are}
 use Rattle.ados_data.proofs.Lists.{head_pushed_before, head_pushed_last, pushed_before, pushed_last}
-use Rattle.std.proofs.lemmas.List.{take_all}
+use Rattle.std.proofs.lemmas.List.{take_all, take_at}
 use Rattle.ados_data.specs.Changing.{HasRoom}
 use Rattle.ados_data.proofs.Standing.{Standing, standing_of, writable_of, writable_file, stands_beside_new, new_inside, new_in_use, header_beside_new, data_beside_new, untouched_new, same_blocks}
 use Rattle.ados_data.specs.Others.{Leaves, LeavesOthers, Gains}
 use Rattle.ados_data.proofs.Leaving.{leaves_same, leaves_both, leaves_taken, leaves_extended, leaves_longer, leaves_resized, beside_gains, gains_same, gains_both, gains_taken, gains_kept}
 use Rattle.ados_data.proofs.Growing.{extended_marks, longer_marks, stands_extended, stands_longer, extended_byte, extended_count, longer_count, longer_byte, longer_new_byte}
 use Rattle.ados_data.proofs.Resizing.{stands_resized, resized_byte, resized_count, resized_marks}
+use Rattle.ados_data.specs.Keeping.{KeepsUnnamed}
+use Rattle.ados_data.proofs.Grown.{Grown, grown_of, keeps_same, keeps_both}
+use Rattle.ados_data.proofs.Gained.{keeps_extended}
+use Rattle.ados_data.proofs.Longer.{keeps_longer}
 
 -- a file with room for one pointer more
 pub record Roomy (old : List ℕ) (format : Format) (file : ℕ) (blocks was : List ℕ) (size holder : ℕ) (new : List ℕ) : Type 0 where
@@ -36,6 +40,9 @@ pub record Roomy (old : List ℕ) (format : Format) (file : ℕ) (blocks was : L
   pub count : marked_count new + (length blocks / 72 - (length blocks - 1) / 72) ≡ marked_count old
   pub leaves : Leaves old file blocks was new
   pub gains : Gains old file blocks was new blocks extensions
+  pub front : take (length was) extensions ≡ was
+  pub grown : Grown old file blocks was new blocks extensions
+  pub keeps : KeepsUnnamed old file blocks was new blocks extensions
 
 module _ (old : List ℕ) (format : Format) (file : ℕ) (blocks extensions : List ℕ) (size holder : ℕ) (new : List ℕ) (s : Standing old format file blocks extensions size)
     (fits : length extensions ≡ extension_count (length blocks)) where
@@ -50,6 +57,10 @@ module _ (old : List ℕ) (format : Format) (file : ℕ) (blocks extensions : Li
     count = elim free [ inl z ↦ omega (arith, z, ap marked_count same) | inr n ↦ omega (arith, n, ap marked_count same) ];
     leaves = subst (λ (i : List ℕ). Leaves old file blocks extensions i) (sym same) (leaves_same old file blocks extensions);
     gains = subst (λ (i : List ℕ). Gains old file blocks extensions i blocks extensions) (sym same) (gains_same old file blocks extensions);
+    front = take_all (length extensions) extensions (omega arith);
+    grown = subst (λ (i : List ℕ). Grown old file blocks extensions i blocks extensions) (sym same)
+        (grown_of old old format format file blocks extensions blocks extensions size size s.skeleton s.skeleton refl (λ p l. refl) refl (omega arith) (take_all (length blocks) blocks (omega arith)) (take_all (length extensions) extensions (omega arith)));
+    keeps = subst (λ (i : List ℕ). KeepsUnnamed old file blocks extensions i blocks extensions) (sym same) (keeps_same old file blocks extensions);
   }
 
   roomy_extended : (mid : List ℕ) → 0 < length blocks → length blocks % 72 ≡ 0 → IsNewBlock old holder mid → IsExtended mid file (slice_index (file ∷ extensions) (length extensions)) holder new → Roomy old format file blocks extensions size holder new
@@ -65,17 +76,23 @@ module _ (old : List ℕ) (format : Format) (file : ℕ) (blocks extensions : Li
         | inr m ↦ inr (head_pushed_last file extensions holder q (omega (arith, l, m, length_push extensions holder)))
       ])
       (λ i l. inl (l, refl)) in
+      let stands_new : Standing new format file blocks (extensions ++ holder ∷ []) size = stands_extended mid new format file blocks extensions size holder t x inside used headers datas (omega (arith, fits, some, full)) in
+      let leaves_new : Leaves old file blocks extensions new = leaves_both old mid new file blocks extensions blocks (extensions ++ holder ∷ []) (leaves_taken old holder mid file blocks extensions n s.size_ok s.map (s.headers_used 0 (omega arith)))
+      (leaves_extended mid new format file blocks extensions size holder t x inside used headers datas)
+      (beside_gains old mid file blocks extensions blocks (extensions ++ holder ∷ []) taken_gains) in
       record {
         extensions = extensions ++ holder ∷ [];
-        stands = stands_extended mid new format file blocks extensions size holder t x inside used headers datas (omega (arith, fits, some, full));
+        stands = stands_new;
         holder_is = sym (head_pushed_last file extensions holder (length (extensions ++ holder ∷ [])) (omega (arith, length_push extensions holder)));
         least = omega (arith, fits, some, full, length_push extensions holder);
         room = omega (arith, fits, some, full, length_push extensions holder);
         bytes = λ i k l m. extended_byte mid new format file blocks extensions size holder t x inside used headers datas i k l m ∙ untouched_new old holder mid n s.size_ok s.map (slice_index blocks i) (s.data_used i l) k m;
         count = omega (arith, n.count, extended_count mid new format file blocks extensions size holder t x inside used headers datas, fits, some, full);
-        leaves = leaves_both old mid new file blocks extensions blocks (extensions ++ holder ∷ []) (leaves_taken old holder mid file blocks extensions n s.size_ok s.map (s.headers_used 0 (omega arith)))
-            (leaves_extended mid new format file blocks extensions size holder t x inside used headers datas)
-            (beside_gains old mid file blocks extensions blocks (extensions ++ holder ∷ []) taken_gains);
+        leaves = leaves_new;
+        front = take_at extensions (holder ∷ []) (length extensions) refl;
+        grown = grown_of old new format format file blocks extensions blocks (extensions ++ holder ∷ []) size size s.skeleton stands_new.skeleton leaves_new.same_length leaves_new.pages (stands_new.format_is ∙ sym s.format_is) (omega arith)
+            (take_all (length blocks) blocks (omega arith)) (take_at extensions (holder ∷ []) (length extensions) refl);
+        keeps = keeps_extended old mid new format file blocks extensions size holder s n x;
         gains = gains_kept old mid new file blocks extensions blocks (extensions ++ holder ∷ []) (same_blocks old holder mid n s.size_ok s.map) (extended_marks mid new format file blocks extensions size holder t x inside used headers datas) taken_gains;
       }
 
@@ -101,6 +118,8 @@ pub record Appended (old : List ℕ) (format : Format) (file : ℕ) (blocks was 
   pub count : marked_count new + 1 + (length blocks / 72 - (length blocks - 1) / 72) ≡ marked_count old
   pub leaves : Leaves old file blocks was new
   pub gains : Gains old file blocks was new (blocks ++ b ∷ []) extensions
+  pub front : take (length was) extensions ≡ was
+  pub keeps : KeepsUnnamed old file blocks was new (blocks ++ b ∷ []) extensions
 
 module _ (i0 i1 i2 i3 i4 : List ℕ) (format : Format) (file : ℕ) (blocks was : List ℕ) (size size' holder b : ℕ) (r : Roomy i0 format file blocks was size holder i1) (n : IsNewBlock i1 b i2)
     (x : IsLengthened i2 format file holder (slice_index blocks (length blocks - 1)) (length blocks) b i3) (y : IsResized i3 format file holder b (length blocks + 1) size' i4) where
@@ -131,7 +150,7 @@ module _ (i0 i1 i2 i3 i4 : List ℕ) (format : Format) (file : ℕ) (blocks was 
       subst (λ (h : ℕ). IsResized i3 format file h (slice_index (blocks ++ b ∷ []) (length blocks + 1 - 1)) (length blocks + 1) size' i4) r.holder_is
       (subst (λ (c : ℕ). IsResized i3 format file holder c (length blocks + 1) size' i4) (sym (pushed_last blocks b (length blocks + 1 - 1) place)) y)
 
-  module _ (size_is : format ≡ Ofs → size ≡ 488 * length blocks) (more : format ≡ Ofs → (488 * length blocks < size') × (size' ≤ 488 * (length blocks + 1))) where
+  module _ (size_is : format ≡ Ofs → size ≡ 488 * length blocks) (more : format ≡ Ofs → (488 * length blocks < size') × (size' ≤ 488 * (length blocks + 1))) (grows : size ≤ size') where
     t3 : Standing i3 format file (blocks ++ b ∷ []) r.extensions size
     t3 = stands_longer i2 i3 format file blocks r.extensions size b t2 x' inside used headers datas (omega (arith, r.least, r.room)) r.least (λ f. omega (arith, size_is f))
 
@@ -172,13 +191,9 @@ module _ (i0 i1 i2 i3 i4 : List ℕ) (format : Format) (file : ℕ) (blocks was 
         longer_count i2 i3 format file blocks r.extensions size b t2 x' inside used headers datas,
         resized_count i3 i4 format file (blocks ++ b ∷ []) r.extensions size (length blocks + 1) (length r.extensions) size' t3 y' few (omega arith),
       );
-      leaves =
-          leaves_both i0 i1 i4 file blocks was blocks r.extensions r.leaves
-          (leaves_both i1 i2 i4 file blocks r.extensions (blocks ++ b ∷ []) r.extensions (leaves_taken i1 b i2 file blocks r.extensions n r.stands.size_ok r.stands.map (r.stands.headers_used 0 (omega arith)))
-          (leaves_both i2 i3 i4 file (blocks ++ b ∷ []) r.extensions (blocks ++ b ∷ []) r.extensions (leaves_longer i2 i3 format file blocks r.extensions size b t2 x' inside used headers datas)
-          (leaves_resized i3 i4 format file (blocks ++ b ∷ []) r.extensions size (length blocks + 1) (length r.extensions) size' t3 y' few (omega arith)) (λ c o. (o.beside_headers, o.beside_data)))
-          (beside_gains i1 i2 file blocks r.extensions (blocks ++ b ∷ []) r.extensions new_gains))
-          (beside_gains i0 i1 file blocks was blocks r.extensions r.gains);
+      leaves = leaves_both i0 i1 i4 file blocks was blocks r.extensions r.leaves later_leaves (beside_gains i0 i1 file blocks was blocks r.extensions r.gains);
+      front = r.front;
+      keeps = keeps_both i0 i1 i4 file blocks was blocks r.extensions (blocks ++ b ∷ []) r.extensions r.grown later_grown r.keeps later_keeps;
       gains =
           gains_both i0 i1 i4 file blocks was blocks r.extensions (blocks ++ b ∷ []) r.extensions counts01
           (λ q l. subst (λ (m : ℕ). IsInside m (slice_index (file ∷ r.extensions) q)) counts04 (t4.places.headers_inside q l))
@@ -194,6 +209,21 @@ module _ (i0 i1 i2 i3 i4 : List ℕ) (format : Format) (file : ℕ) (blocks was 
               | inl m ↦ inl (m, pushed_before blocks b i m)
               | inr m ↦ inr (pushed_last blocks b i (omega (arith, l, m, length_push blocks b)))
             ])
+
+        later_leaves : Leaves i1 file blocks r.extensions i4
+        later_leaves =
+            leaves_both i1 i2 i4 file blocks r.extensions (blocks ++ b ∷ []) r.extensions (leaves_taken i1 b i2 file blocks r.extensions n r.stands.size_ok r.stands.map (r.stands.headers_used 0 (omega arith)))
+            (leaves_both i2 i3 i4 file (blocks ++ b ∷ []) r.extensions (blocks ++ b ∷ []) r.extensions (leaves_longer i2 i3 format file blocks r.extensions size b t2 x' inside used headers datas)
+            (leaves_resized i3 i4 format file (blocks ++ b ∷ []) r.extensions size (length blocks + 1) (length r.extensions) size' t3 y' few (omega arith)) (λ c o. (o.beside_headers, o.beside_data)))
+            (beside_gains i1 i2 file blocks r.extensions (blocks ++ b ∷ []) r.extensions new_gains)
+
+        later_grown : Grown i1 file blocks r.extensions i4 (blocks ++ b ∷ []) r.extensions
+        later_grown =
+            grown_of i1 i4 format format file blocks r.extensions (blocks ++ b ∷ []) r.extensions size size' r.stands.skeleton t4.skeleton later_leaves.same_length later_leaves.pages (t4.format_is ∙ sym r.stands.format_is) grows
+            (take_at blocks (b ∷ []) (length blocks) refl) (take_all (length r.extensions) r.extensions (omega arith))
+
+        later_keeps : KeepsUnnamed i1 file blocks r.extensions i4 (blocks ++ b ∷ []) r.extensions
+        later_keeps = keeps_longer i1 i2 i3 i4 format file blocks r.extensions size b size' r.stands n x' (subst (λ (h : ℕ). IsResized i3 format file h b (length blocks + 1) size' i4) r.holder_is y) r.least r.room
 
         counts01 : block_count i1 ≡ block_count i0
         counts01 = ap (λ (m : ℕ). m / 512) r.leaves.same_length
@@ -299,6 +329,9 @@ pub record IsAppended (old : List ℕ) (format : Format) (file : ℕ) (end : End
   pub free : marked_count new + 1 + (end.count / 72 - (end.count - 1) / 72) ≡ marked_count old
   pub leaves : LeavesOthers old file new
   pub gains : Gains old file (data_blocks old file) (extension_blocks old file) new (data_blocks new file) (extension_blocks new file)
+  pub blocks : take (length (data_blocks old file)) (data_blocks new file) ≡ data_blocks old file
+  pub extensions : take (length (extension_blocks old file)) (extension_blocks new file) ≡ extension_blocks old file
+  pub keeps : KeepsUnnamed old file (data_blocks old file) (extension_blocks old file) new (data_blocks new file) (extension_blocks new file)
 
 module _ (i0 : List ℕ) (format : Format) (file : ℕ) (end : End) (w : WritableFile i0 file) (ok : IsSize (block_count i0)) (f : format ≡ format_of i0) (e : IsEnd i0 file end)
     (size : ℕ) (i1 i2 i3 i4 : List ℕ) (holder b : ℕ) (h : HasRoom i0 file end.holder end.count holder i1) (n : IsNewBlock i1 b i2) (x : IsLengthened i2 format file holder end.last end.count b i3) (y : IsResized i3 format file holder b (end.count + 1) size i4)
@@ -311,10 +344,13 @@ module _ (i0 : List ℕ) (format : Format) (file : ℕ) (end : End) (w : Writabl
       (subst (λ (c : ℕ). IsResized i3 format file holder b (c + 1) size i4) e.counted y)
       (λ t. full ∙ ap (λ (g : Format). data_size g * end.count) t ∙ ap (λ (c : ℕ). 488 * c) e.counted)
       (λ t. (omega (arith, over, e.counted, ap (λ (g : Format). data_size g * end.count) t), omega (arith, within, e.counted, ap (λ (g : Format). data_size g * (end.count + 1)) t)))
+      (omega (arith, full, over))
 
   pub appended_call : IsAppended i0 format file end size holder b i4
   appended_call =
       let written = writable_new i0 format file end w ok f e size holder b i4 result full over within in
+      let bl = data_blocks_are i4 file (data_blocks i0 file ++ b ∷ []) result.extensions (contents i0 file ++ replicate (size - length (contents i0 file)) 0) written.lawful in
+      let ex = extension_blocks_are i4 file (data_blocks i0 file ++ b ∷ []) result.extensions (contents i0 file ++ replicate (size - length (contents i0 file)) 0) written.lawful in
       record {
         writable = writable_file i4 file (data_blocks i0 file ++ b ∷ []) result.extensions (contents i0 file ++ replicate (size - length (contents i0 file)) 0) written;
         same_format = result.stands.format_is;
@@ -323,6 +359,11 @@ module _ (i0 : List ℕ) (format : Format) (file : ℕ) (end : End) (w : Writabl
         free = omega (arith, result.count, e.counted);
         leaves = result.leaves;
         gains =
-            subst (λ (xs : List ℕ). Gains i0 file (data_blocks i0 file) (extension_blocks i0 file) i4 xs (extension_blocks i4 file)) (sym (data_blocks_are i4 file (data_blocks i0 file ++ b ∷ []) result.extensions (contents i0 file ++ replicate (size - length (contents i0 file)) 0) written.lawful))
-            (subst (λ (xs : List ℕ). Gains i0 file (data_blocks i0 file) (extension_blocks i0 file) i4 (data_blocks i0 file ++ b ∷ []) xs) (sym (extension_blocks_are i4 file (data_blocks i0 file ++ b ∷ []) result.extensions (contents i0 file ++ replicate (size - length (contents i0 file)) 0) written.lawful)) result.gains);
+            subst (λ (xs : List ℕ). Gains i0 file (data_blocks i0 file) (extension_blocks i0 file) i4 xs (extension_blocks i4 file)) (sym bl)
+            (subst (λ (xs : List ℕ). Gains i0 file (data_blocks i0 file) (extension_blocks i0 file) i4 (data_blocks i0 file ++ b ∷ []) xs) (sym ex) result.gains);
+        blocks = ap (take (length (data_blocks i0 file))) bl ∙ take_at (data_blocks i0 file) (b ∷ []) (length (data_blocks i0 file)) refl;
+        extensions = ap (take (length (extension_blocks i0 file))) ex ∙ result.front;
+        keeps =
+            subst (λ (xs : List ℕ). KeepsUnnamed i0 file (data_blocks i0 file) (extension_blocks i0 file) i4 xs (extension_blocks i4 file)) (sym bl)
+            (subst (λ (xs : List ℕ). KeepsUnnamed i0 file (data_blocks i0 file) (extension_blocks i0 file) i4 (data_blocks i0 file ++ b ∷ []) xs) (sym ex) result.keeps);
       }

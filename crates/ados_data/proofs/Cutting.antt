@@ -19,11 +19,13 @@ use Rattle.ados_data.specs.Changing.{WritableFile}
 use Rattle.ados_data.specs.Giving.{IsEntered}
 use Rattle.ados_data.specs.Others.{Leaves, LeavesOthers}
 use Rattle.ados_data.proofs.Leaving.{leaves_both, leaves_resized}
+use Rattle.ados_data.specs.Keeping.{KeepsUnnamed}
+use Rattle.ados_data.proofs.CutKeeping.{AtEnds, keeps_cut}
 use Rattle.ados_data.proofs.Marks.{has_bit}
 use Rattle.ados_data.proofs.Sizes.{fewer_blocks, some_blocks, ofs_count, in_block, behind_start, in_count}
 use Rattle.ados_data.proofs.Spelled.{link_of, data_blocks_are, extension_blocks_are, contents_are}
 use Rattle.ados_data.proofs.Places.{header_is, data_is, holder_of}
-use Rattle.ados_data.proofs.Resizing.{stands_resized, resized_blocks, resized_page, resized_byte, resized_count, header_long, later_long, used_resized}
+use Rattle.ados_data.proofs.Resizing.{stands_resized, resized_blocks, resized_page, resized_byte, resized_count, header_long, later_long, used_resized, resized_marks}
 use Rattle.ados_data.proofs.Standing.{Standing, standing_of, writable_of, writable_file}
 use Rattle.ados_data.proofs.Giving.{leaves_given, given_count, given_long, given_use, given_total, stands_given, given_page, untouched_given}
 
@@ -43,6 +45,10 @@ pub record Cutting (blocks extensions : List ℕ) (format : Format) (file d size
   pub leaves : Leaves old file blocks extensions image
   pub freed_data : (j : ℕ) → d ≤ j → j < i → is_marked_free image (slice_index blocks j) ≡ true
   pub freed_headers : (q : ℕ) → extension_count d < q → q ≤ r → is_marked_free image (slice_index (file ∷ extensions) q) ≡ true
+  pub untouched : (c k : ℕ) → k < 512 → ((p : ℕ) → p < pages_of old → c ≢ page_block old p) → ¬ AtEnds format file blocks extensions d c k → byte_at image c k ≡ byte_at old c k
+  pub free_stays : (c : ℕ) → IsInside (block_count old) c → is_marked_free old c ≡ true → is_marked_free image c ≡ true
+  pub no_first : d ≡ 0 → long image file 4 ≡ 0
+  pub first : 0 < d → long image file 4 ≡ long old file 4
 
 module _ (blocks extensions : List ℕ) (format : Format) (file d size i r holder next : ℕ) (old image : List ℕ) (c : Cutting blocks extensions format file d size i r holder next old image) (a : AreApart (block_count old) file blocks extensions)
     (few : d ≤ length blocks) (rows_fit : (j : ℕ) → j < length blocks → j / 72 ≤ length extensions) (fewer : extension_count d ≤ length extensions) (behind : d ≤ i) (further : extension_count d ≤ r) where
@@ -54,6 +60,10 @@ module _ (blocks extensions : List ℕ) (format : Format) (file d size i r holde
 
   inside_of : (b : ℕ) → IsInside (block_count old) b → IsInside (block_count image) b
   inside_of b h = subst (λ (n : ℕ). IsInside n b) (sym c.same_blocks) h
+
+  -- no page
+  no_page : (b : ℕ) → ((p : ℕ) → p < pages_of old → b ≢ page_block old p) → (p : ℕ) → p < pages_of image → b ≢ page_block image p
+  no_page b h p l e = let m : p < pages_of old = omega (arith, l, c.same_blocks) in h p m (e ∙ c.leaves.pages p m)
 
   -- a data block that stays
   kept_data : (j : ℕ) → j < d → (p : ℕ) → p < pages_of image → slice_index blocks j ≢ page_block image p
@@ -95,6 +105,13 @@ module _ (blocks extensions : List ℕ) (format : Format) (file d size i r holde
         | inl n ↦ m.others (slice_index (file ∷ extensions) q) (has_bit image (slice_index (file ∷ extensions) q) (inside_of (slice_index (file ∷ extensions) q) (a.headers_inside q (omega arith)))) (λ e. a.headers_once q (suc r) n (omega arith) (e ∙ next_header)) ∙ c.freed_headers q l (omega arith)
         | inr n ↦ let here : q ≡ suc r = omega arith in ap (λ (x : ℕ). is_marked_free new (slice_index (file ∷ extensions) x)) here ∙ ap (is_marked_free new) (sym next_header) ∙ m.bit
       ];
+      untouched = λ x k l n o. untouched_given image next new m pages c.stands.size_ok c.stands.map inside used x (no_page x n) k l ∙ c.untouched x k l n o;
+      free_stays = λ x o f. elim (cases_eq x next) [
+        | inl e ↦ ap (is_marked_free new) e ∙ m.bit
+        | inr n ↦ m.others x (has_bit image x (inside_of x o)) n ∙ c.free_stays x o f
+      ];
+      no_first = λ z. given_long image next new m pages c.stands.size_ok c.stands.map inside used file (λ p n. c.beside_pages 0 p (omega arith) n) 4 (omega arith) ∙ c.no_first z;
+      first = λ l. given_long image next new m pages c.stands.size_ok c.stands.map inside used file (λ p n. c.beside_pages 0 p (omega arith) n) 4 (omega arith) ∙ c.first l;
     }
 
   pub block_inside : (b : ℕ) → i < length blocks → i / 72 ≡ r → b ≡ long image holder (77 - i % 72) → IsInside (block_count image) b
@@ -135,6 +152,13 @@ module _ (blocks extensions : List ℕ) (format : Format) (file d size i r holde
         | inr n ↦ let here : j ≡ i = omega arith in ap (λ (x : ℕ). is_marked_free new (slice_index blocks x)) here ∙ ap (is_marked_free new) (sym block_is) ∙ m.bit
       ];
       freed_headers = λ q l k. m.others (slice_index (file ∷ extensions) q) (has_bit image (slice_index (file ∷ extensions) q) (inside_of (slice_index (file ∷ extensions) q) (a.headers_inside q (omega arith)))) (λ e. a.apart q i (omega arith) more (e ∙ block_is)) ∙ c.freed_headers q l k;
+      untouched = λ x k l n o. untouched_given image b new m pages c.stands.size_ok c.stands.map data_inside data_in_use x (no_page x n) k l ∙ c.untouched x k l n o;
+      free_stays = λ x o f. elim (cases_eq x b) [
+        | inl e ↦ ap (is_marked_free new) e ∙ m.bit
+        | inr n ↦ m.others x (has_bit image x (inside_of x o)) n ∙ c.free_stays x o f
+      ];
+      no_first = λ z. given_long image b new m pages c.stands.size_ok c.stands.map data_inside data_in_use file (λ p n. c.beside_pages 0 p (omega arith) n) 4 (omega arith) ∙ c.no_first z;
+      first = λ l. given_long image b new m pages c.stands.size_ok c.stands.map data_inside data_in_use file (λ p n. c.beside_pages 0 p (omega arith) n) 4 (omega arith) ∙ c.first l;
     }
 
 -- the pointer block of the next pointer is at hand
@@ -175,6 +199,9 @@ pub record IsCut (old : List ℕ) (file size : ℕ) (new : List ℕ) : Type 0 wh
   pub extensions_are : extension_blocks new file ≡ take (extension_count (data_count (format_of old) size)) (extension_blocks old file)
   pub freed_data : (j : ℕ) → data_count (format_of old) size ≤ j → j < length (data_blocks old file) → is_marked_free new (slice_index (data_blocks old file) j) ≡ true
   pub freed_extensions : (q : ℕ) → extension_count (data_count (format_of old) size) ≤ q → q < length (extension_blocks old file) → is_marked_free new (slice_index (extension_blocks old file) q) ≡ true
+  pub keeps : KeepsUnnamed old file (data_blocks old file) (extension_blocks old file) new (data_blocks new file) (extension_blocks new file)
+  pub free_stays : (c : ℕ) → IsInside (block_count old) c → is_marked_free old c ≡ true → is_marked_free new c ≡ true
+  pub data_stays : (i k : ℕ) → i < data_count (format_of old) size → k < 512 → (format_of old ≡ Ofs → 24 ≤ k) → byte_at new (slice_index (data_blocks old file) i) k ≡ byte_at old (slice_index (data_blocks old file) i) k
 
 module _ (old : List ℕ) (file size d : ℕ) (w : WritableFile old file) (ok : IsSize (block_count old)) (shorter : size < length (contents old file)) (d_is : d ≡ data_count (format_of old) size) where
   abbrev blocks : List ℕ
@@ -251,6 +278,10 @@ module _ (old : List ℕ) (file size d : ℕ) (w : WritableFile old file) (ok : 
             leaves = leaves_resized old new format file blocks extensions (length (contents old file)) d (extension_count d) size s0 y' few fewer;
             freed_data = λ j l k. absurd (omega arith);
             freed_headers = λ q l k. absurd (omega arith);
+            untouched = λ x k l n o. y'.rest.same_byte x k l o;
+            free_stays = λ x o f. resized_marks old new format file blocks extensions (length (contents old file)) d (extension_count d) size s0 y' few fewer x (has_bit old x o) ∙ f;
+            no_first = y'.no_first;
+            first = y'.first;
           })
         where
           pointer_kept : (j : ℕ) → d ≤ j → j < length blocks → long new (slice_index (file ∷ extensions) (j / 72)) (77 - j % 72) ≡ long old (slice_index (file ∷ extensions) (j / 72)) (77 - j % 72)
@@ -285,4 +316,10 @@ module _ (old : List ℕ) (file size d : ℕ) (w : WritableFile old file) (ok : 
         extensions_are = extension_blocks_are new file (take d blocks) (take (extension_count d) extensions) (take size (contents old file)) written.lawful ∙ ap (λ (n : ℕ). take (extension_count n) extensions) d_is;
         freed_data = λ j l k. c.freed_data j (omega (arith, l, d_is)) k;
         freed_extensions = λ q l k. c.freed_headers (suc q) (omega (arith, l, ap extension_count d_is)) (omega (arith, k, row, w.lawful.extensions_fit, some));
+        keeps =
+            subst (λ (xs : List ℕ). KeepsUnnamed old file blocks extensions new xs (extension_blocks new file)) (sym (data_blocks_are new file (take d blocks) (take (extension_count d) extensions) (take size (contents old file)) written.lawful))
+            (subst (λ (xs : List ℕ). KeepsUnnamed old file blocks extensions new (take d blocks) xs) (sym (extension_blocks_are new file (take d blocks) (take (extension_count d) extensions) (take size (contents old file)) written.lawful))
+            (keeps_cut file blocks extensions d old new w.lawful.places some few fewer c.untouched (λ q p l m. (w.headers_used q l).beside_pages p m) (λ i p l m. (w.data_used i l).beside_pages p m) c.no_first c.first));
+        free_stays = c.free_stays;
+        data_stays = λ i k l m n. c.bytes i k (omega (arith, l, d_is)) m n;
       }

@@ -3,7 +3,7 @@ use Rattle.std.proofs.Common.{◌≡◌, ◌≢◌, ℕ, ◌+◌, ◌-◌, ◌/�
 use Rattle.std.proofs.lemmas.Bool.{cases_lt, cases_eq}
 use Rattle.adf_block.specs.declared.Format.{Format}
 use Rattle.adf_block.specs.declared.Format.TheVariants.{Ofs}
-use Rattle.adf_block.specs.Image.{is_marked_free, byte_at, block_sum, block_count, marked_count, IsInside, IsSize}
+use Rattle.adf_block.specs.Image.{is_marked_free, byte_at, long, block_sum, block_count, marked_count, IsInside, IsSize}
 use Rattle.adf_block.specs.Frame.{SameBut}
 use Rattle.adf_block.proofs.Frames.{same_long, same_sum, same_count}
 use Rattle.ados_data.specs.Cost.{data_count}
@@ -21,6 +21,8 @@ use Rattle.ados_data.specs.Changing.{WritableFile}
 use Rattle.ados_data.proofs.Sizes.{same_block, in_front, behind_part, in_block, behind_start, in_count}
 use Rattle.ados_data.proofs.Overlaid.{overlaid_before, overlaid_within, overlaid_behind, length-overlaid}
 use Rattle.ados_data.proofs.Spelled.{data_blocks_are, extension_blocks_are, contents_are}
+use Rattle.ados_data.specs.Keeping.{data_end, KeepsUnnamed}
+use Rattle.ados_data.proofs.Within.{put_end, keeps_put}
 
 module _ (old new : List ℕ) (format : Format) (file : ℕ) (blocks extensions : List ℕ) (size i low high : ℕ) (s : Standing old format file blocks extensions size) (within : i < length blocks) (fields : format ≡ Ofs → 24 ≤ low)
     (summed : format ≡ Ofs → block_sum new (slice_index blocks i) ≡ 0) (h : SameBut (AtData format (slice_index blocks i) low high) old new) where
@@ -109,6 +111,7 @@ pub record IsPut (old : List ℕ) (file : ℕ) (at : ℕ) (ys : List ℕ) (new :
   pub count : marked_count new ≡ marked_count old
   pub leaves : LeavesOthers old file new
   pub marks : (c : ℕ) → HasBit old c → is_marked_free new c ≡ is_marked_free old c
+  pub keeps : KeepsUnnamed old file (data_blocks old file) (extension_blocks old file) new (data_blocks new file) (extension_blocks new file)
 
 module _ (old new : List ℕ) (format : Format) (file : ℕ) (w : WritableFile old file) (ok : IsSize (block_count old)) (f : format ≡ format_of old) (at : ℕ) (ys : List ℕ) (block : ℕ)
     (fits : at % data_size format + length ys ≤ data_size format) (within : at + length ys ≤ length (contents old file)) (some : at < length (contents old file)) (here : block ≡ slice_index (data_blocks old file) (at / data_size format))
@@ -166,15 +169,26 @@ module _ (old new : List ℕ) (format : Format) (file : ℕ) (w : WritableFile o
     ]
   ]
 
+  reached : data_start format + at % data_size format + length ys ≤ data_end format (long new file 81) (at / data_size format)
+  reached = subst (λ (n : ℕ). data_start format + at % data_size format + length ys ≤ data_end format n (at / data_size format)) (sym stands.skeleton.size_field) (put_end format at (length ys) (length (contents old file)) fits within)
+
+  kept : KeepsUnnamed old file (data_blocks old file) (extension_blocks old file) new (data_blocks old file) (extension_blocks old file)
+  kept = keeps_put old format file (data_blocks old file) (extension_blocks old file) (length (contents old file)) (at / data_size format) (data_start format + at % data_size format) (data_start format + at % data_size format + length ys) s place new put_rest reached
+
   pub is_put : IsPut old file at ys new
   is_put =
       let written = writable_of new format file (data_blocks old file) (extension_blocks old file) written_bytes
       (subst (Standing new format file (data_blocks old file) (extension_blocks old file)) (sym length-bytes) stands) (fits_format ∙ ap (data_count format) (sym length-bytes)) w.lawful.extensions_fit held in
+      let bl = data_blocks_are new file (data_blocks old file) (extension_blocks old file) written_bytes written.lawful in
+      let ex = extension_blocks_are new file (data_blocks old file) (extension_blocks old file) written_bytes written.lawful in
       record {
         writable = writable_file new file (data_blocks old file) (extension_blocks old file) written_bytes written;
         same_format = stands.format_is ∙ f;
-        blocks = data_blocks_are new file (data_blocks old file) (extension_blocks old file) written_bytes written.lawful;
-        extensions = extension_blocks_are new file (data_blocks old file) (extension_blocks old file) written_bytes written.lawful;
+        blocks = bl;
+        extensions = ex;
+        keeps =
+            subst (λ (xs : List ℕ). KeepsUnnamed old file (data_blocks old file) (extension_blocks old file) new xs (extension_blocks new file)) (sym bl)
+            (subst (λ (xs : List ℕ). KeepsUnnamed old file (data_blocks old file) (extension_blocks old file) new (data_blocks old file) xs) (sym ex) kept);
         bytes = contents_are new file (data_blocks old file) (extension_blocks old file) written_bytes written.lawful;
         count = put_count old new format file (data_blocks old file) (extension_blocks old file) (length (contents old file)) (at / data_size format) (data_start format + at % data_size format) (data_start format + at % data_size format + length ys) s place fields put_sum put_rest;
         leaves = leaves_put old new format file (data_blocks old file) (extension_blocks old file) (length (contents old file)) (at / data_size format) (data_start format + at % data_size format) (data_start format + at % data_size format + length ys) s place fields put_sum put_rest;

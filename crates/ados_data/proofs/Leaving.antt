@@ -1,6 +1,6 @@
 -- What the steps of a change leave as it is.
 use Rattle.std.proofs.Common.{◌≡◌, ◌≢◌, ℕ, suc, ◌-◌, ◌/◌, ◌<◌, ◌≤◌, ◌⊎◌, inl, inr, true, List, [], ◌∷◌, ◌++◌, length, slice_index, refl, sym, ap, ◌∙◌, subst, arith}
-use Rattle.std.proofs.lemmas.Bool.{cases_lt, cases_eq, false≢true}
+use Rattle.std.proofs.lemmas.Bool.{cases_Bool, cases_lt, cases_eq, false≢true}
 use Rattle.std.proofs.lemmas.List.{length_push}
 use Rattle.adf_block.specs.declared.Format.{Format}
 use Rattle.adf_block.specs.Image.{block_sum, block_count, root_key, is_marked_free, IsInside, IsSize}
@@ -128,7 +128,7 @@ beside_gains old new file blocks extensions blocks' extensions' g c o = (
 )
 
 pub gains_same : (image : List ℕ) (file : ℕ) (blocks extensions : List ℕ) → Gains image file blocks extensions image blocks extensions
-gains_same image file blocks extensions = record { headers = λ q l. inl (l, refl); data_blocks_of = λ i l. inl (l, refl); marks = λ c i u. u }
+gains_same image file blocks extensions = record { headers = λ q l. inl (l, refl); data_blocks_of = λ i l. inl (l, refl); marks = λ c i u. u; lowest = λ c d i p l f u. absurd (false≢true (sym u ∙ f)) }
 
 pub gains_both : (old mid new : List ℕ) (file : ℕ) (blocks extensions blocks' extensions' blocks'' extensions'' : List ℕ) → block_count mid ≡ block_count old → ((q : ℕ) → q ≤ length extensions'' → IsInside (block_count old) (slice_index (file ∷ extensions'') q)) → ((i : ℕ) → i < length blocks'' → IsInside (block_count old) (slice_index blocks'' i)) →
     Gains old file blocks extensions mid blocks' extensions' → Gains mid file blocks' extensions' new blocks'' extensions'' → Gains old file blocks extensions new blocks'' extensions''
@@ -148,6 +148,10 @@ gains_both old mid new file blocks extensions blocks' extensions' blocks'' exten
     ]
   ];
   marks = λ c i u. b.marks c (i.0, omega (arith, i.1, counts)) (a.marks c i u);
+  lowest = λ c d i p l f u. elim (cases_Bool (is_marked_free mid d)) [
+    | inl t ↦ b.lowest c d (i.0, omega (arith, i.1, counts)) p l t u
+    | inr e ↦ b.marks c (p, omega (arith, l, i.1, counts)) (a.lowest c d i p l f e)
+  ];
 }
   where
     was : (c : ℕ) → IsInside (block_count old) c → is_marked_free mid c ≡ true → is_marked_free old c ≡ true
@@ -231,6 +235,10 @@ gains_taken old b new file blocks extensions blocks' extensions' n headers datas
   headers = λ q l. elim (headers q l) [ inl s ↦ inl s | inr e ↦ inr (omega (arith, e, n.lowest.inside.0), ap (is_marked_free old) e ∙ n.lowest.free) ];
   data_blocks_of = λ i l. elim (datas i l) [ inl s ↦ inl s | inr e ↦ inr (omega (arith, e, n.lowest.inside.0), ap (is_marked_free old) e ∙ n.lowest.free) ];
   marks = λ c i u. n.others c (has_bit old c i) (λ e. false≢true (sym u ∙ ap (is_marked_free old) e ∙ n.lowest.free)) ∙ u;
+  lowest = λ c d i p l f u. elim (cases_eq d b) [
+    | inl e ↦ n.others c (has_bit old c (p, omega (arith, l, i.1))) (omega (arith, l, e)) ∙ n.lowest.lowest c p (omega (arith, l, e))
+    | inr ne ↦ absurd (false≢true (sym u ∙ n.others d (has_bit old d i) ne ∙ f))
+  ];
 }
 
 -- marks that all stay
@@ -239,4 +247,5 @@ gains_kept old new new' file blocks extensions blocks' extensions' counts same g
   headers = g.headers;
   data_blocks_of = g.data_blocks_of;
   marks = λ c i u. same c (has_bit new c (i.0, omega (arith, i.1, counts))) ∙ g.marks c i u;
+  lowest = λ c d i p l f u. same c (has_bit new c (p, omega (arith, l, i.1, counts))) ∙ g.lowest c d i p l f (sym (same d (has_bit new d (i.0, omega (arith, i.1, counts)))) ∙ u);
 }

@@ -23,6 +23,8 @@ use Rattle.ados_data.proofs.Leaving.{leaves_both, leaves_resized, gains_same, ga
 use Rattle.ados_data.proofs.Filling.{leaves_put, put_marks, stands_put, put_other, put_count}
 use Rattle.ados_data.proofs.Resizing.{stands_resized, resized_byte, resized_count, resized_marks}
 use Rattle.ados_data.proofs.Spelled.{data_blocks_are, extension_blocks_are, contents_are}
+use Rattle.ados_data.specs.Keeping.{data_end, KeepsUnnamed}
+use Rattle.ados_data.proofs.Within.{put_end, keeps_filled}
 
 -- a file that got zeros behind its bytes, and kept its end
 pub record IsFilled (old : List ℕ) (file : ℕ) (end : End) (size : ℕ) (new : List ℕ) : Type 0 where
@@ -33,6 +35,9 @@ pub record IsFilled (old : List ℕ) (file : ℕ) (end : End) (size : ℕ) (new 
   pub count : marked_count new ≡ marked_count old
   pub leaves : LeavesOthers old file new
   pub gains : Gains old file (data_blocks old file) (extension_blocks old file) new (data_blocks new file) (extension_blocks new file)
+  pub blocks : data_blocks new file ≡ data_blocks old file
+  pub extensions : extension_blocks new file ≡ extension_blocks old file
+  pub keeps : KeepsUnnamed old file (data_blocks old file) (extension_blocks old file) new (data_blocks new file) (extension_blocks new file)
 
 module _ (i0 i1 i2 : List ℕ) (format : Format) (file : ℕ) (end : End) (part : ℕ) (w : WritableFile i0 file) (ok : IsSize (block_count i0)) (f : format ≡ format_of i0) (e : IsEnd i0 file end)
     (started : length (contents i0 file) % data_size format ≢ 0) (fits : length (contents i0 file) % data_size format + part ≤ data_size format)
@@ -116,6 +121,12 @@ module _ (i0 i1 i2 : List ℕ) (format : Format) (file : ℕ) (end : End) (part 
         ∙ sym (later (k / data_size format) (data_start format + k % data_size format) (place_in k small) (in_block format k) (behind_start format k))
   ]
 
+  reached : data_start format + length (contents i0 file) % data_size format + part ≤ data_end format (old + part) (length blocks - 1)
+  reached = subst (λ (i : ℕ). data_start format + length (contents i0 file) % data_size format + part ≤ data_end format (old + part) i) (sym sizes.1) (put_end format old part (old + part) fits (omega arith))
+
+  kept : KeepsUnnamed i0 file blocks extensions i2 blocks extensions
+  kept = keeps_filled i0 format file blocks extensions old (length blocks - 1) (data_start format + length (contents i0 file) % data_size format) (data_start format + length (contents i0 file) % data_size format + part) s0 within i1 i2 (old + part) sizes.0 put_rest y' reached
+
   pub is_filled : IsFilled i0 file end (old + part) i2
   is_filled =
       let written = writable_of i2 format file blocks extensions filled (subst (Standing i2 format file blocks extensions) (sym length-filled) s2) (sym sizes.2 ∙ ap (data_count format) (sym length-filled)) w.lawful.extensions_fit held in
@@ -139,6 +150,11 @@ module _ (i0 i1 i2 : List ℕ) (format : Format) (file : ℕ) (end : End) (part 
             (subst (λ (xs : List ℕ). Gains i0 file blocks extensions i2 blocks xs) (sym ex)
             (gains_kept i0 i1 i2 file blocks extensions blocks extensions (ap (λ (n : ℕ). n / 512) put_rest.same_length) (resized_marks i1 i2 format file blocks extensions old (length blocks) (length extensions) (old + part) s1 y' (omega arith) (omega arith))
             (gains_kept i0 i0 i1 file blocks extensions blocks extensions refl (put_marks i0 i1 format file blocks extensions old (length blocks - 1) (data_start format + length (contents i0 file) % data_size format) (data_start format + length (contents i0 file) % data_size format + part) s0 within fields put_sum put_rest) (gains_same i0 file blocks extensions))));
+        blocks = bl;
+        extensions = ex;
+        keeps =
+            subst (λ (xs : List ℕ). KeepsUnnamed i0 file blocks extensions i2 xs (extension_blocks i2 file)) (sym bl)
+            (subst (λ (xs : List ℕ). KeepsUnnamed i0 file blocks extensions i2 blocks xs) (sym ex) kept);
       }
 
 -- the same, by the numbers of a call

@@ -14,6 +14,7 @@ pub mod Marks
 pub mod Standing
 pub mod Growing
 pub mod Resizing
+pub mod Fitting
 pub mod Counts
 pub mod Taking
 pub mod Appending
@@ -22,5 +23,11 @@ pub mod Filling
 pub mod Overlaying
 pub mod Lengthening
 pub mod Giving
+pub mod CutKeeping
 pub mod Cutting
 pub mod Leaving
+pub mod Grown
+pub mod Gained
+pub mod Longer
+pub mod Within
+pub mod Composing

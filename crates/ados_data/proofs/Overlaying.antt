@@ -16,6 +16,9 @@ use Rattle.ados_data.proofs.Places.{data_is, header_is, byte_within, holder_of}
 use Rattle.ados_data.proofs.Overlaid.{length-overlaid, overlaid_more}
 use Rattle.ados_data.proofs.Walking.{holder_inside, block_is, block_inside, on_to_next, on_in_same}
 use Rattle.ados_data.proofs.Filling.{IsPut, is_put}
+use Rattle.ados_data.specs.Others.{LeavesOthers}
+use Rattle.ados_data.specs.Keeping.{KeepsUnnamed}
+use Rattle.ados_data.proofs.Composing.{keeps_calls, whole_front}
 
 -- a file's size is a long
 pub size_below : (image : List ℕ) (file : ℕ) → LawfulFile image file → IsImage image → length (contents image file) < 2 ^ 32
@@ -80,6 +83,18 @@ module _ (init i0 : List ℕ) (format : Format) (file pos : ℕ) (all : List ℕ
           ∙ ap (λ (xs : List ℕ). overlaid xs (pos + done) ys) written
           ∙ ap (λ (xs : List ℕ). overlaid (overlaid (contents init file) pos (take done all)) (pos + done) xs) ys_is
           ∙ overlaid_more (contents init file) pos all done part fits bounds.2
+
+      new_size : length (contents i1 file) ≡ length (contents i0 file)
+      new_size = ap length turn.bytes ∙ length-overlaid (contents i0 file) (pos + done) ys (omega (arith, at_within)) (omega (arith, part_within, count_ys))
+
+      -- what was kept so far, and by this turn
+      pub keeps_on : LawfulFile init file → LeavesOthers init file i0 → format_of i0 ≡ format_of init → data_blocks i0 file ≡ data_blocks init file → extension_blocks i0 file ≡ extension_blocks init file → KeepsUnnamed init file (data_blocks init file) (extension_blocks init file) i0 (data_blocks i0 file) (extension_blocks i0 file) →
+          KeepsUnnamed init file (data_blocks init file) (extension_blocks init file) i1 (data_blocks i1 file) (extension_blocks i1 file)
+      keeps_on u l e bl ex k =
+          keeps_calls init i0 i1 file
+          (record { before = u; after = w.lawful; leaves = l; same_format = e; size = omega (arith, same_size); blocks = whole_front (data_blocks init file) (data_blocks i0 file) bl; extensions = whole_front (extension_blocks init file) (extension_blocks i0 file) ex })
+          (record { before = w.lawful; after = turn.writable.lawful; leaves = turn.leaves; same_format = turn.same_format; size = omega (arith, new_size); blocks = whole_front (data_blocks i0 file) (data_blocks i1 file) turn.blocks; extensions = whole_front (extension_blocks i0 file) (extension_blocks i1 file) turn.extensions })
+          k turn.keeps
 
       pub size_kept : IsSize (block_count i1)
       size_kept = subst IsSize (sym (same_count (AtData format block (data_start format + (pos + done) % room) (data_start format + (pos + done) % room + length ys)) i0 i1 h)) ok

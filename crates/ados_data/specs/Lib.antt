@@ -5,3 +5,4 @@ pub mod Changing
 pub mod Ends
 pub mod Giving
 pub mod Others
+pub mod Keeping

@@ -30,8 +30,9 @@ pub record Leaves (old : List ℕ) (file : ℕ) (blocks extensions : List ℕ) (
 abbrev pub LeavesOthers : List ℕ → ℕ → List ℕ → Type 0
 LeavesOthers old file new = Leaves old file (data_blocks old file) (extension_blocks old file) new
 
--- a file with lists of blocks that grew: it keeps its blocks, each further one was marked free, and no block was marked free
+-- a file with lists of blocks that grew: it keeps its blocks, each further one was marked free, no block was marked free, and no free block is left below one that was taken
 pub record Gains (old : List ℕ) (file : ℕ) (blocks extensions : List ℕ) (new : List ℕ) (blocks' extensions' : List ℕ) : Type 0 where
   pub headers : (q : ℕ) → q ≤ length extensions' → ((q ≤ length extensions) × (slice_index (file ∷ extensions') q ≡ slice_index (file ∷ extensions) q)) ⊎ ((2 ≤ slice_index (file ∷ extensions') q) × (is_marked_free old (slice_index (file ∷ extensions') q) ≡ true))
   pub data_blocks_of : (i : ℕ) → i < length blocks' → ((i < length blocks) × (slice_index blocks' i ≡ slice_index blocks i)) ⊎ ((2 ≤ slice_index blocks' i) × (is_marked_free old (slice_index blocks' i) ≡ true))
   pub marks : (c : ℕ) → IsInside (block_count old) c → is_marked_free old c ≡ false → is_marked_free new c ≡ false
+  pub lowest : (c d : ℕ) → IsInside (block_count old) d → 2 ≤ c → c < d → is_marked_free old d ≡ true → is_marked_free new d ≡ false → is_marked_free new c ≡ false

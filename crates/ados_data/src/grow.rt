@@ -1,12 +1,13 @@
 //! A file that becomes longer.
 
-ghost use Rattle.std.specs.Prelude.{◌≡◌, ◌<◌, ◌≤◌, ◌+◌, ◌-◌, ◌*◌, ◌/◌, ◌^◌, ◌++◌, length, replicate};
+ghost use Rattle.std.specs.Prelude.{◌≡◌, ◌<◌, ◌≤◌, ◌+◌, ◌-◌, ◌*◌, ◌/◌, ◌^◌, ◌++◌, length, replicate, take};
 ghost use Rattle.adf_block.specs.Image.{marked_count};
 ghost use Rattle.ados_data.specs.Cost.{block_cost, data_size};
 ghost use Rattle.ados_data.specs.File.{LawfulFile, contents, data_blocks, extension_blocks, format_of};
 ghost use Rattle.ados_data.specs.Changing.{HasFree, WritableFile};
 ghost use Rattle.ados_data.specs.Ends.{IsEnd};
 ghost use Rattle.ados_data.specs.Others.{Gains, LeavesOthers};
+ghost use Rattle.ados_data.specs.Keeping.{KeepsUnnamed};
 
 use crate::attach::attach_data;
 use crate::blocks::{new_block, pointer_room};
@@ -64,6 +65,9 @@ fn fill_last(image: &mut Image, format: Format, file: u32, end: End, size: u32) 
     ensures free { marked_count image.new ≡ marked_count image.old }
     ensures leaves { LeavesOthers image.old file image.new }
     ensures gains { Gains image.old file (data_blocks image.old file) (extension_blocks image.old file) image.new (data_blocks image.new file) (extension_blocks image.new file) }
+    ensures blocks { data_blocks image.new file ≡ data_blocks image.old file }
+    ensures extensions { extension_blocks image.new file ≡ extension_blocks image.old file }
+    ensures keeps { KeepsUnnamed image.old file (data_blocks image.old file) (extension_blocks image.old file) image.new (data_blocks image.new file) (extension_blocks image.new file) }
 {
     prove!(image.blocks() <= 101_602);
     let room = data_size(format);
@@ -100,6 +104,9 @@ fn append(image: &mut Image, format: Format, file: u32, end: End, size: u32) -> 
     ensures free { marked_count image.new + 1 + (end.count / 72 - (end.count - 1) / 72) ≡ marked_count image.old }
     ensures leaves { LeavesOthers image.old file image.new }
     ensures gains { Gains image.old file (data_blocks image.old file) (extension_blocks image.old file) image.new (data_blocks image.new file) (extension_blocks image.new file) }
+    ensures blocks { take (length (data_blocks image.old file)) (data_blocks image.new file) ≡ data_blocks image.old file }
+    ensures extensions { take (length (extension_blocks image.old file)) (extension_blocks image.new file) ≡ extension_blocks image.old file }
+    ensures keeps { KeepsUnnamed image.old file (data_blocks image.old file) (extension_blocks image.old file) image.new (data_blocks image.new file) (extension_blocks image.new file) }
 {
     prove!(image.blocks() <= 101_602);
     let holder = pointer_room(image, file, end.holder, end.count);
@@ -115,7 +122,8 @@ fn append(image: &mut Image, format: Format, file: u32, end: End, size: u32) -> 
 }
 
 /// Makes a file longer, to this size. The bytes it gets are 0, and each block it gets is the lowest free
-/// one.
+/// one. It keeps its blocks. Bytes of them that no field names and the file doesn't reach stay, and so
+/// do all blocks but these and the pages; what the file doesn't use of a new block is 0.
 pub fn extend(image: &mut Image, file: u32, size: u32)
     requires writable { WritableFile image.old file }
     requires longer { length (contents image.old file) ≤ size }
@@ -126,6 +134,9 @@ pub fn extend(image: &mut Image, file: u32, size: u32)
     ensures free { marked_count image.new + block_cost (format_of image.old) size ≡ marked_count image.old + block_cost (format_of image.old) (length (contents image.old file)) }
     ensures leaves { LeavesOthers image.old file image.new }
     ensures gains { Gains image.old file (data_blocks image.old file) (extension_blocks image.old file) image.new (data_blocks image.new file) (extension_blocks image.new file) }
+    ensures blocks { take (length (data_blocks image.old file)) (data_blocks image.new file) ≡ data_blocks image.old file }
+    ensures extensions { take (length (extension_blocks image.old file)) (extension_blocks image.new file) ≡ extension_blocks image.old file }
+    ensures keeps { KeepsUnnamed image.old file (data_blocks image.old file) (extension_blocks image.old file) image.new (data_blocks image.new file) (extension_blocks image.new file) }
 {
     prove!(image.blocks() <= 101_602);
     let format = format_of(image);

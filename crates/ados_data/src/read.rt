@@ -1,6 +1,6 @@
 //! Reading a file's bytes.
 
-ghost use Rattle.std.specs.Prelude.{◌≡◌, ◌++◌, ◌-◌, ◌^◌, ◌<◌, min, take, drop, length};
+ghost use Rattle.std.specs.Prelude.{◌≡◌, ◌++◌, ◌-◌, min, take, drop, length};
 ghost use Rattle.ados_data.specs.File.{LawfulFile, contents};
 
 use crate::cost::data_size;

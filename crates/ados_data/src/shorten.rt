@@ -1,18 +1,19 @@
 //! A file that becomes shorter.
 
 ghost use Rattle.std.specs.Prelude.{◌≡◌, ℕ, true, slice_index, ◌<◌, ◌≤◌, ◌+◌, ◌-◌, ◌%◌, length, take};
-ghost use Rattle.adf_block.specs.Image.{IsInside, is_marked_free, block_count, long, marked_count};
+ghost use Rattle.adf_block.specs.Image.{IsInside, is_marked_free, block_count, byte_at, long, marked_count};
 ghost use Rattle.ados_map.specs.Pages.{LawfulPages};
 ghost use Rattle.ados_data.specs.Cost.{block_cost, data_count, extension_count};
 ghost use Rattle.ados_data.specs.File.{contents, data_blocks, extension_blocks, format_of};
 ghost use Rattle.ados_data.specs.Changing.{WritableFile};
 ghost use Rattle.ados_data.specs.Others.{LeavesOthers};
+ghost use Rattle.ados_data.specs.Keeping.{KeepsUnnamed};
 ghost use Rattle.ados_data.specs.Giving.{IsEntered};
 
 use crate::cost::{data_count, extension_count};
 use crate::fields::{NEXT_EXTENSION, SIZE, data_block, format_of, pointer_block};
 use crate::resize::resize;
-use adf_block::Image;
+use adf_block::{Format, Image};
 use ados_map::give_back;
 
 /// The pointer block at hand while blocks are given back, and the one behind it.
@@ -22,7 +23,8 @@ struct Cursor {
     next: u32,
 }
 
-/// Keeps the front of a file, of this size, and gives the blocks behind it back.
+/// Keeps the front of a file, of this size, and gives the blocks behind it back. What stands in these stays,
+/// as does each byte that no field names.
 pub fn cut(image: &mut Image, file: u32, size: u32)
     requires writable { WritableFile image.old file }
     requires shorter { size ≤ length (contents image.old file) }
@@ -31,6 +33,9 @@ pub fn cut(image: &mut Image, file: u32, size: u32)
     ensures bytes { contents image.new file ≡ take size (contents image.old file) }
     ensures free { marked_count image.new + block_cost (format_of image.old) size ≡ marked_count image.old + block_cost (format_of image.old) (length (contents image.old file)) }
     ensures leaves { LeavesOthers image.old file image.new }
+    ensures keeps { KeepsUnnamed image.old file (data_blocks image.old file) (extension_blocks image.old file) image.new (data_blocks image.new file) (extension_blocks image.new file) }
+    ensures free_stays { (c : ℕ) → IsInside (block_count image.old) c → is_marked_free image.old c ≡ true → is_marked_free image.new c ≡ true }
+    ensures data_stays { (i k : ℕ) → i < data_count (format_of image.old) size → k < 512 → (format_of image.old ≡ Format.Ofs → 24 ≤ k) → byte_at image.new (slice_index (data_blocks image.old file) i) k ≡ byte_at image.old (slice_index (data_blocks image.old file) i) k }
     ensures blocks { data_blocks image.new file ≡ take (data_count (format_of image.old) size) (data_blocks image.old file) }
     ensures extensions { extension_blocks image.new file ≡ take (extension_count (data_count (format_of image.old) size)) (extension_blocks image.old file) }
     ensures freed { (j : ℕ) → data_count (format_of image.old) size ≤ j → j < length (data_blocks image.old file) → is_marked_free image.new (slice_index (data_blocks image.old file) j) ≡ true }

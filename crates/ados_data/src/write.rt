@@ -1,10 +1,11 @@
 //! Writing over the bytes of a file.
 
-ghost use Rattle.std.specs.Prelude.{◌≡◌, ℕ, ◌<◌, ◌≤◌, ◌+◌, ◌^◌, length, max};
+ghost use Rattle.std.specs.Prelude.{◌≡◌, ℕ, ◌≤◌, ◌+◌, length, max, take};
 ghost use Rattle.ados_data.specs.Cost.{block_cost};
 ghost use Rattle.adf_block.specs.Image.{is_marked_free, marked_count};
 ghost use Rattle.ados_map.specs.Pages.{HasBit};
 ghost use Rattle.ados_data.specs.Others.{Gains, LeavesOthers};
+ghost use Rattle.ados_data.specs.Keeping.{KeepsUnnamed};
 ghost use Rattle.ados_data.specs.File.{contents, data_blocks, extension_blocks, format_of, overlaid};
 ghost use Rattle.ados_data.specs.Changing.{HasFree, WritableFile};
 
@@ -26,6 +27,7 @@ fn overlay(image: &mut Image, file: u32, pos: u64, bytes: &[u8])
     ensures free { marked_count image.new ≡ marked_count image.old }
     ensures leaves { LeavesOthers image.old file image.new }
     ensures marks { (c : ℕ) → HasBit image.old c → is_marked_free image.new c ≡ is_marked_free image.old c }
+    ensures keeps { KeepsUnnamed image.old file (data_blocks image.old file) (extension_blocks image.old file) image.new (data_blocks image.new file) (extension_blocks image.new file) }
 {
     prove!(image.blocks() <= 101_602);
     if bytes.is_empty() {
@@ -49,11 +51,10 @@ fn overlay(image: &mut Image, file: u32, pos: u64, bytes: &[u8])
 }
 
 /// Writes bytes to a file from byte `pos` on, over those that are there and behind them. Each block that the
-/// file gets is the lowest free one.
+/// file gets is the lowest free one. Like `extend`, it changes no byte that it need not.
 pub fn write_at(image: &mut Image, file: u32, pos: u64, bytes: &[u8])
     requires writable { WritableFile image.old file }
     requires start { pos ≤ length (contents image.old file) }
-    requires fits { pos + length bytes.now < 2 ^ 32 }
     requires free { HasFree image.old file (max (length (contents image.old file)) (pos + length bytes.now)) }
     ensures writable { WritableFile image.new file }
     ensures format { format_of image.new ≡ format_of image.old }
@@ -61,7 +62,11 @@ pub fn write_at(image: &mut Image, file: u32, pos: u64, bytes: &[u8])
     ensures free { marked_count image.new + block_cost (format_of image.old) (max (length (contents image.old file)) (pos + length bytes.now)) ≡ marked_count image.old + block_cost (format_of image.old) (length (contents image.old file)) }
     ensures leaves { LeavesOthers image.old file image.new }
     ensures gains { Gains image.old file (data_blocks image.old file) (extension_blocks image.old file) image.new (data_blocks image.new file) (extension_blocks image.new file) }
+    ensures blocks { take (length (data_blocks image.old file)) (data_blocks image.new file) ≡ data_blocks image.old file }
+    ensures extensions { take (length (extension_blocks image.old file)) (extension_blocks image.new file) ≡ extension_blocks image.old file }
+    ensures keeps { KeepsUnnamed image.old file (data_blocks image.old file) (extension_blocks image.old file) image.new (data_blocks image.new file) (extension_blocks image.new file) }
 {
+    prove!(image.blocks() <= 101_602);
     let size = (image.long(file, SIZE) as u64).max(pos + bytes.len() as u64);
     extend(image, file, size as u32);
     overlay(image, file, pos, bytes);

@@ -46,3 +46,12 @@ returns-clause-leaves c = (appended_call c.args.image.now c.args.format c.args.f
 
 pub returns-clause-gains : goal.returns-clause-gains
 returns-clause-gains c = (appended_call c.args.image.now c.args.format c.args.file c.args.end c.requires.writable (omega (arith, c.blocks-2.ensures.count, c.blocks-2.ensures.size), omega (arith, c.blocks-2.ensures.count, c.blocks-2.ensures.size)) c.requires.format c.requires.end c.args.size c.pointer_room-holder.new.image c.new_block-last.new.image c.attach_data.new.image c.resize.new.image c.pointer_room-holder.result c.new_block-last.result c.pointer_room-holder.ensures c.new_block-last.ensures c.attach_data.ensures c.resize.ensures c.requires.full c.requires.over c.requires.within).gains
+
+pub returns-clause-blocks : goal.returns-clause-blocks
+returns-clause-blocks c = (appended_call c.args.image.now c.args.format c.args.file c.args.end c.requires.writable (omega (arith, c.blocks-2.ensures.count, c.blocks-2.ensures.size), omega (arith, c.blocks-2.ensures.count, c.blocks-2.ensures.size)) c.requires.format c.requires.end c.args.size c.pointer_room-holder.new.image c.new_block-last.new.image c.attach_data.new.image c.resize.new.image c.pointer_room-holder.result c.new_block-last.result c.pointer_room-holder.ensures c.new_block-last.ensures c.attach_data.ensures c.resize.ensures c.requires.full c.requires.over c.requires.within).blocks
+
+pub returns-clause-extensions : goal.returns-clause-extensions
+returns-clause-extensions c = (appended_call c.args.image.now c.args.format c.args.file c.args.end c.requires.writable (omega (arith, c.blocks-2.ensures.count, c.blocks-2.ensures.size), omega (arith, c.blocks-2.ensures.count, c.blocks-2.ensures.size)) c.requires.format c.requires.end c.args.size c.pointer_room-holder.new.image c.new_block-last.new.image c.attach_data.new.image c.resize.new.image c.pointer_room-holder.result c.new_block-last.result c.pointer_room-holder.ensures c.new_block-last.ensures c.attach_data.ensures c.resize.ensures c.requires.full c.requires.over c.requires.within).extensions
+
+pub returns-clause-keeps : goal.returns-clause-keeps
+returns-clause-keeps c = (appended_call c.args.image.now c.args.format c.args.file c.args.end c.requires.writable (omega (arith, c.blocks-2.ensures.count, c.blocks-2.ensures.size), omega (arith, c.blocks-2.ensures.count, c.blocks-2.ensures.size)) c.requires.format c.requires.end c.args.size c.pointer_room-holder.new.image c.new_block-last.new.image c.attach_data.new.image c.resize.new.image c.pointer_room-holder.result c.new_block-last.result c.pointer_room-holder.ensures c.new_block-last.ensures c.attach_data.ensures c.resize.ensures c.requires.full c.requires.over c.requires.within).keeps

@@ -8,6 +8,8 @@ use Rattle.adf_block.specs.Image.{block_count, IsInside}
 use Rattle.ados_data.specs.File.{data_blocks, extension_blocks}
 use Rattle.ados_data.proofs.Leaving.{leaves_both, beside_gains, gains_both}
 use Rattle.ados_data.proofs.Lengthening.{more_zeros}
+use Rattle.ados_data.proofs.Grown.{front_both}
+use Rattle.ados_data.proofs.Composing.{HasGrown, keeps_calls, whole_front}
 use Rattle.ados_data.proofs.grow.extend.Goals as goal
 
 pub loop-reached-preserved : goal.loop-reached-preserved
@@ -22,6 +24,11 @@ loop-reached-preserved c =
     let now_long : length (contents c.loop-reached.image c.args.file) ≡ c.loop-reached.reached =
     ap length c.loop-reached.invariant.bytes ∙ length-append (contents c.args.image.now c.args.file) (replicate (c.loop-reached.reached - length (contents c.args.image.now c.args.file)) 0)
     ∙ omega (arith, length-replicate {A = ℕ} (c.loop-reached.reached - length (contents c.args.image.now c.args.file)) 0, c.loop-reached.invariant.over) in
+    let next_long : length (contents c.append-end.new.image c.args.file) ≡ length (contents c.loop-reached.image c.args.file) + (c.min-next.result - length (contents c.loop-reached.image c.args.file)) =
+    ap length c.append-end.ensures.bytes ∙ length-append (contents c.loop-reached.image c.args.file) (replicate (c.min-next.result - length (contents c.loop-reached.image c.args.file)) 0)
+    ∙ ap (λ (n : ℕ). length (contents c.loop-reached.image c.args.file) + n) (length-replicate {A = ℕ} (c.min-next.result - length (contents c.loop-reached.image c.args.file)) 0) in
+    let before : HasGrown c.args.image.now c.args.file c.loop-reached.image = record { before = c.requires.writable.lawful; after = c.loop-reached.invariant.writable.lawful; leaves = c.loop-reached.invariant.leaves; same_format = c.loop-reached.invariant.same_format ∙ c.format_of-format.ensures; size = omega (arith, now_long, c.loop-reached.invariant.over); blocks = c.loop-reached.invariant.blocks; extensions = c.loop-reached.invariant.extensions } in
+    let behind : HasGrown c.loop-reached.image c.args.file c.append-end.new.image = record { before = c.loop-reached.invariant.writable.lawful; after = c.append-end.ensures.writable.lawful; leaves = c.append-end.ensures.leaves; same_format = c.append-end.ensures.format ∙ sym c.loop-reached.invariant.same_format; size = omega (arith, next_long); blocks = c.append-end.ensures.blocks; extensions = c.append-end.ensures.extensions } in
     let counts : block_count c.append-end.new.image ≡ block_count c.args.image.now = ap (λ (n : ℕ). n / 512) (c.append-end.ensures.leaves.same_length ∙ c.loop-reached.invariant.leaves.same_length) in
     record {
       below = omega (arith, c.min-next.ensures);
@@ -34,6 +41,9 @@ loop-reached-preserved c =
           (λ q l. subst (λ (n : ℕ). IsInside n (slice_index (c.args.file ∷ extension_blocks c.append-end.new.image c.args.file) q)) counts (c.append-end.ensures.writable.lawful.places.headers_inside q l))
           (λ i l. subst (λ (n : ℕ). IsInside n (slice_index (data_blocks c.append-end.new.image c.args.file) i)) counts (c.append-end.ensures.writable.lawful.places.data_inside i l))
           c.loop-reached.invariant.gains c.append-end.ensures.gains;
+      blocks = front_both (data_blocks c.args.image.now c.args.file) (data_blocks c.loop-reached.image c.args.file) (data_blocks c.append-end.new.image c.args.file) c.loop-reached.invariant.blocks c.append-end.ensures.blocks;
+      extensions = front_both (extension_blocks c.args.image.now c.args.file) (extension_blocks c.loop-reached.image c.args.file) (extension_blocks c.append-end.new.image c.args.file) c.loop-reached.invariant.extensions c.append-end.ensures.extensions;
+      keeps = keeps_calls c.args.image.now c.loop-reached.image c.append-end.new.image c.args.file before behind c.loop-reached.invariant.keeps c.append-end.ensures.keeps;
       full = λ l. omega (arith, l, c.min-next.ensures, here, room, c.append-end.ensures.count, ap (λ (n : ℕ). data_size c.format_of-format.result * n) c.append-end.ensures.count);
       bytes = more_zeros (contents c.args.image.now c.args.file) (contents c.loop-reached.image c.args.file) (contents c.append-end.new.image c.args.file) (length (contents c.args.image.now c.args.file)) c.loop-reached.reached c.min-next.result
           c.loop-reached.invariant.over (omega (arith, next_over, here)) now_long c.loop-reached.invariant.bytes c.append-end.ensures.bytes;
@@ -66,6 +76,9 @@ loop-reached-init c =
       same_format = c.fill_last-reached.ensures.format;
       leaves = c.fill_last-reached.ensures.leaves;
       gains = c.fill_last-reached.ensures.gains;
+      blocks = whole_front (data_blocks c.args.image.now c.args.file) (data_blocks c.fill_last-reached.new.image c.args.file) c.fill_last-reached.ensures.blocks;
+      extensions = whole_front (extension_blocks c.args.image.now c.args.file) (extension_blocks c.fill_last-reached.new.image c.args.file) c.fill_last-reached.ensures.extensions;
+      keeps = c.fill_last-reached.ensures.keeps;
       end_is = c.fill_last-reached.ensures.end;
       full = c.fill_last-reached.ensures.full;
       bytes = c.fill_last-reached.ensures.bytes;

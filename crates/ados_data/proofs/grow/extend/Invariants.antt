@@ -1,9 +1,10 @@
-use Rattle.std.proofs.Common.{◌-◌, ◌≡◌, ◌≤◌, ◌<◌, ◌+◌, ◌*◌, ◌++◌, length, replicate}
+use Rattle.std.proofs.Common.{◌-◌, ◌≡◌, ◌≤◌, ◌<◌, ◌+◌, ◌*◌, ◌++◌, length, replicate, take}
 use Rattle.adf_block.specs.Image.{marked_count}
 use Rattle.ados_data.specs.Cost.{block_cost, data_size}
 use Rattle.ados_data.specs.File.{contents, data_blocks, extension_blocks, format_of}
 use Rattle.ados_data.specs.Changing.{WritableFile}
 use Rattle.ados_data.specs.Others.{Gains, LeavesOthers}
+use Rattle.ados_data.specs.Keeping.{KeepsUnnamed}
 use Rattle.ados_data.specs.Ends.{IsEnd}
 use Rattle.ados_data.proofs.grow.extend.Given as goal
 
@@ -15,6 +16,9 @@ invariant-loop-reached l = record {
   same_format : format_of l.image ≡ l.format;
   leaves : LeavesOthers l.fn.image l.file l.image;
   gains : Gains l.fn.image l.file (data_blocks l.fn.image l.file) (extension_blocks l.fn.image l.file) l.image (data_blocks l.image l.file) (extension_blocks l.image l.file);
+  blocks : take (length (data_blocks l.fn.image l.file)) (data_blocks l.image l.file) ≡ data_blocks l.fn.image l.file;
+  extensions : take (length (extension_blocks l.fn.image l.file)) (extension_blocks l.image l.file) ≡ extension_blocks l.fn.image l.file;
+  keeps : KeepsUnnamed l.fn.image l.file (data_blocks l.fn.image l.file) (extension_blocks l.fn.image l.file) l.image (data_blocks l.image l.file) (extension_blocks l.image l.file);
   end_is : IsEnd l.image l.file l.end;
   full : l.reached < l.size → l.reached ≡ data_size l.format * l.end.count;
   bytes : contents l.image l.file ≡ contents l.fn.image l.file ++ replicate (l.reached - length (contents l.fn.image l.file)) 0;

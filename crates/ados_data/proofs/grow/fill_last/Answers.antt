@@ -28,3 +28,12 @@ returns-clause-leaves c = (filled_call c.args.image.now c.put_data.new.image c.r
 
 pub returns-clause-gains : goal.returns-clause-gains
 returns-clause-gains c = (filled_call c.args.image.now c.put_data.new.image c.resize.new.image c.args.format c.args.file c.args.end c.min-part.result c.long-old.result c.data_size-room.result (take c.min-part.result (replicate 512 0)) c.requires.writable (omega (arith, c.blocks-2.ensures.count, c.blocks-2.ensures.size), omega (arith, c.blocks-2.ensures.count, c.blocks-2.ensures.size)) c.requires.format c.requires.end c.data_size-room.ensures c.long-old.ensures c.if-from-eq0.false (omega (arith, c.min-part.ensures)) refl c.put_data.ensures.put c.put_data.ensures.sum c.put_data.ensures.rest c.resize.ensures).gains
+
+pub returns-clause-blocks : goal.returns-clause-blocks
+returns-clause-blocks c = (filled_call c.args.image.now c.put_data.new.image c.resize.new.image c.args.format c.args.file c.args.end c.min-part.result c.long-old.result c.data_size-room.result (take c.min-part.result (replicate 512 0)) c.requires.writable (omega (arith, c.blocks-2.ensures.count, c.blocks-2.ensures.size), omega (arith, c.blocks-2.ensures.count, c.blocks-2.ensures.size)) c.requires.format c.requires.end c.data_size-room.ensures c.long-old.ensures c.if-from-eq0.false (omega (arith, c.min-part.ensures)) refl c.put_data.ensures.put c.put_data.ensures.sum c.put_data.ensures.rest c.resize.ensures).blocks
+
+pub returns-clause-extensions : goal.returns-clause-extensions
+returns-clause-extensions c = (filled_call c.args.image.now c.put_data.new.image c.resize.new.image c.args.format c.args.file c.args.end c.min-part.result c.long-old.result c.data_size-room.result (take c.min-part.result (replicate 512 0)) c.requires.writable (omega (arith, c.blocks-2.ensures.count, c.blocks-2.ensures.size), omega (arith, c.blocks-2.ensures.count, c.blocks-2.ensures.size)) c.requires.format c.requires.end c.data_size-room.ensures c.long-old.ensures c.if-from-eq0.false (omega (arith, c.min-part.ensures)) refl c.put_data.ensures.put c.put_data.ensures.sum c.put_data.ensures.rest c.resize.ensures).extensions
+
+pub returns-clause-keeps : goal.returns-clause-keeps
+returns-clause-keeps c = (filled_call c.args.image.now c.put_data.new.image c.resize.new.image c.args.format c.args.file c.args.end c.min-part.result c.long-old.result c.data_size-room.result (take c.min-part.result (replicate 512 0)) c.requires.writable (omega (arith, c.blocks-2.ensures.count, c.blocks-2.ensures.size), omega (arith, c.blocks-2.ensures.count, c.blocks-2.ensures.size)) c.requires.format c.requires.end c.data_size-room.ensures c.long-old.ensures c.if-from-eq0.false (omega (arith, c.min-part.ensures)) refl c.put_data.ensures.put c.put_data.ensures.sum c.put_data.ensures.rest c.resize.ensures).keeps

@@ -1,7 +1,7 @@
 use Rattle.std.proofs.Common.{◌/◌, List, length, ◌≡◌, ◌+◌, ◌-◌, ℕ, take, drop, ap, ◌∙◌, arith, ◌∷◌, slice_index}
 use Rattle.ados_data.specs.File.{data_blocks, extension_blocks}
 use Rattle.ados_data.proofs.Leaving.{leaves_both}
-use Rattle.ados_data.proofs.Overlaying.{size_below, bounds, holder_is_inside, block_is_inside, turn, written_more, size_kept, holder_inside_new, holder_next, holder_same}
+use Rattle.ados_data.proofs.Overlaying.{size_below, bounds, holder_is_inside, block_is_inside, turn, written_more, size_kept, keeps_on, holder_inside_new, holder_next, holder_same}
 use Rattle.ados_data.proofs.write.overlay.Goals as goal
 
 pub overflow_add-at : goal.overflow_add-at
@@ -34,6 +34,7 @@ loop-done-preserved-then-at-part-eq0 c =
       free = one.count ∙ c.loop-done.invariant.free;
       leaves = leaves_both c.args.image.now c.loop-done.image c.put_data.new.image c.args.file (data_blocks c.args.image.now c.args.file) (extension_blocks c.args.image.now c.args.file) (data_blocks c.loop-done.image c.args.file) (extension_blocks c.loop-done.image c.args.file) c.loop-done.invariant.leaves one.leaves (λ b o. ((λ q l e. o.beside_headers q (omega (arith, l, ap length c.loop-done.invariant.extensions)) (e ∙ ap (λ (xs : List ℕ). slice_index (c.args.file ∷ xs) q) c.loop-done.invariant.extensions)), (λ i l e. o.beside_data i (omega (arith, l, ap length c.loop-done.invariant.blocks)) (e ∙ ap (λ (xs : List ℕ). slice_index xs i) c.loop-done.invariant.blocks))));
       marks = λ b h. one.marks b (h.0, omega (arith, h.1, ap (λ (n : ℕ). n / 512) c.loop-done.invariant.leaves.same_length)) ∙ c.loop-done.invariant.marks b h;
+      keeps = keeps_on c.args.image.now c.loop-done.image c.format_of-format.result c.args.file c.args.pos c.args.bytes.now c.loop-done.done c.min-part.result c.data_size-room.result c.loop-done.holder c.loop-done.invariant.writable c.loop-done.invariant.size_ok c.loop-done.invariant.same_format c.data_size-room.ensures c.requires.within c.loop-done-test.true c.loop-done.invariant.written c.min-part.ensures (c.loop-done.invariant.holder c.loop-done-test.true) c.data_block-block.result c.data_block-block.ensures c.put_data.new.image (take (c.loop-done.done + c.min-part.result - c.loop-done.done) (drop c.loop-done.done c.args.bytes.now)) (ap (λ (n : ℕ). take n (drop c.loop-done.done c.args.bytes.now)) part) c.put_data.ensures.put c.put_data.ensures.sum c.put_data.ensures.rest c.requires.writable.lawful c.loop-done.invariant.leaves (c.loop-done.invariant.same_format ∙ c.format_of-format.ensures) c.loop-done.invariant.blocks c.loop-done.invariant.extensions c.loop-done.invariant.keeps;
       holder = λ l. holder_next c.args.image.now c.loop-done.image c.format_of-format.result c.args.file c.args.pos c.args.bytes.now c.loop-done.done c.min-part.result c.data_size-room.result c.loop-done.holder c.loop-done.invariant.writable c.loop-done.invariant.size_ok c.loop-done.invariant.same_format c.data_size-room.ensures c.requires.within c.loop-done-test.true c.loop-done.invariant.written c.min-part.ensures (c.loop-done.invariant.holder c.loop-done-test.true) c.data_block-block.result c.data_block-block.ensures c.put_data.new.image (take (c.loop-done.done + c.min-part.result - c.loop-done.done) (drop c.loop-done.done c.args.bytes.now)) (ap (λ (n : ℕ). take n (drop c.loop-done.done c.args.bytes.now)) part) c.put_data.ensures.put c.put_data.ensures.sum c.put_data.ensures.rest c.long-holder.result c.if-at-part-eq0.true c.long-holder.ensures;
     }
 
@@ -52,5 +53,6 @@ loop-done-preserved c =
       free = one.count ∙ c.loop-done.invariant.free;
       leaves = leaves_both c.args.image.now c.loop-done.image c.put_data.new.image c.args.file (data_blocks c.args.image.now c.args.file) (extension_blocks c.args.image.now c.args.file) (data_blocks c.loop-done.image c.args.file) (extension_blocks c.loop-done.image c.args.file) c.loop-done.invariant.leaves one.leaves (λ b o. ((λ q l e. o.beside_headers q (omega (arith, l, ap length c.loop-done.invariant.extensions)) (e ∙ ap (λ (xs : List ℕ). slice_index (c.args.file ∷ xs) q) c.loop-done.invariant.extensions)), (λ i l e. o.beside_data i (omega (arith, l, ap length c.loop-done.invariant.blocks)) (e ∙ ap (λ (xs : List ℕ). slice_index xs i) c.loop-done.invariant.blocks))));
       marks = λ b h. one.marks b (h.0, omega (arith, h.1, ap (λ (n : ℕ). n / 512) c.loop-done.invariant.leaves.same_length)) ∙ c.loop-done.invariant.marks b h;
+      keeps = keeps_on c.args.image.now c.loop-done.image c.format_of-format.result c.args.file c.args.pos c.args.bytes.now c.loop-done.done c.min-part.result c.data_size-room.result c.loop-done.holder c.loop-done.invariant.writable c.loop-done.invariant.size_ok c.loop-done.invariant.same_format c.data_size-room.ensures c.requires.within c.loop-done-test.true c.loop-done.invariant.written c.min-part.ensures (c.loop-done.invariant.holder c.loop-done-test.true) c.data_block-block.result c.data_block-block.ensures c.put_data.new.image (take (c.loop-done.done + c.min-part.result - c.loop-done.done) (drop c.loop-done.done c.args.bytes.now)) (ap (λ (n : ℕ). take n (drop c.loop-done.done c.args.bytes.now)) part) c.put_data.ensures.put c.put_data.ensures.sum c.put_data.ensures.rest c.requires.writable.lawful c.loop-done.invariant.leaves (c.loop-done.invariant.same_format ∙ c.format_of-format.ensures) c.loop-done.invariant.blocks c.loop-done.invariant.extensions c.loop-done.invariant.keeps;
       holder = λ l. holder_same c.args.image.now c.loop-done.image c.format_of-format.result c.args.file c.args.pos c.args.bytes.now c.loop-done.done c.min-part.result c.data_size-room.result c.loop-done.holder c.loop-done.invariant.writable c.loop-done.invariant.size_ok c.loop-done.invariant.same_format c.data_size-room.ensures c.requires.within c.loop-done-test.true c.loop-done.invariant.written c.min-part.ensures (c.loop-done.invariant.holder c.loop-done-test.true) c.data_block-block.result c.data_block-block.ensures c.put_data.new.image (take (c.loop-done.done + c.min-part.result - c.loop-done.done) (drop c.loop-done.done c.args.bytes.now)) (ap (λ (n : ℕ). take n (drop c.loop-done.done c.args.bytes.now)) part) c.put_data.ensures.put c.put_data.ensures.sum c.put_data.ensures.rest c.if-at-part-eq0.false;
     }

@@ -1,0 +1,103 @@
+-- What a cut keeps of the bytes that no field names.
+use Rattle.std.proofs.Common.{◌≡◌, ◌≢◌, ℕ, suc, ◌-◌, ◌/◌, ◌<◌, ◌≤◌, ◌⊎◌, inl, inr, List, ◌∷◌, length, take, slice_index, refl, sym, ap, ◌∙◌, arith}
+use Rattle.std.proofs.lemmas.List.{length-take-le}
+use Rattle.adf_block.specs.declared.Format.{Format}
+use Rattle.adf_block.specs.declared.Format.TheVariants.{Ofs, Ffs}
+use Rattle.adf_block.specs.Image.{byte_at, long, block_count}
+use Rattle.ados_map.specs.Pages.{pages_of, page_block}
+use Rattle.ados_data.specs.Cost.{extension_count}
+use Rattle.ados_data.specs.Edits.{AtFields}
+use Rattle.ados_data.specs.File.{AreApart, format_of}
+use Rattle.ados_data.specs.Changing.{AtEnd}
+use Rattle.ados_data.specs.Keeping.{IsPointerField, IsHeaderField, data_end, most_pointers, larger_size, KeepsUnnamed}
+use Rattle.ados_data.proofs.Lists.{head_taken, taken_before}
+
+-- the bytes that a cut to d data blocks writes outside the pages: in the last data and pointer blocks that stay, and in the header
+abbrev pub AtEnds : Format → ℕ → List ℕ → List ℕ → ℕ → ℕ → ℕ → Type 0
+AtEnds format file blocks extensions d c k = AtEnd format d (slice_index blocks (d - 1)) c k ⊎ (AtFields (slice_index (file ∷ extensions) (extension_count d)) 2 126 c k ⊎ AtFields file 4 81 c k)
+
+-- nothing changes
+pub keeps_same : (image : List ℕ) (file : ℕ) (blocks extensions : List ℕ) → KeepsUnnamed image file blocks extensions image blocks extensions
+keeps_same image file blocks extensions = record {
+  others = λ c k l o. refl;
+  header = λ k l n. refl;
+  extension = λ q k l m r n. refl;
+  slack = λ i k l m r n. refl;
+  new_extension = λ q k l m r n. absurd (omega arith);
+  new_data = λ i k l m r n. absurd (omega arith);
+  first_taken = λ z l. absurd (omega arith);
+  first_given = λ l z. absurd (omega arith);
+  first_kept = λ s. refl;
+}
+
+-- in OFS the data stand behind the fields
+behind_fields : (format : Format) (size i k : ℕ) → format ≡ Ofs → data_end format size i ≤ k → 24 ≤ k
+behind_fields Ofs size i k e l = omega (arith, l)
+behind_fields Ffs size i k e l = cc
+
+module _ (file : ℕ) (blocks extensions : List ℕ) (d : ℕ) (old new : List ℕ) (a : AreApart (block_count old) file blocks extensions) (some : 0 < length blocks) (few : d ≤ length blocks) (fewer : extension_count d ≤ length extensions)
+    (untouched : (c k : ℕ) → k < 512 → ((p : ℕ) → p < pages_of old → c ≢ page_block old p) → ¬ AtEnds (format_of old) file blocks extensions d c k → byte_at new c k ≡ byte_at old c k)
+    (beside_pages : (q p : ℕ) → q ≤ length extensions → p < pages_of old → slice_index (file ∷ extensions) q ≢ page_block old p) (data_beside_pages : (i p : ℕ) → i < length blocks → p < pages_of old → slice_index blocks i ≢ page_block old p)
+    (no_first : d ≡ 0 → long new file 4 ≡ 0) (first : 0 < d → long new file 4 ≡ long old file 4) where
+  dl : length (take d blocks) ≡ d
+  dl = length-take-le d blocks few
+
+  el : length (take (extension_count d) extensions) ≡ extension_count d
+  el = length-take-le (extension_count d) extensions fewer
+
+  -- a block that the file doesn't keep
+  no_end : (c k : ℕ) → ((q : ℕ) → q ≤ length (take (extension_count d) extensions) → c ≢ slice_index (file ∷ take (extension_count d) extensions) q) → ((i : ℕ) → i < length (take d blocks) → c ≢ slice_index (take d blocks) i) → ¬ AtEnds (format_of old) file blocks extensions d c k
+  no_end c k h b (inl at) = b (d - 1) (omega (arith, dl, at.1)) (at.2.0 ∙ sym (taken_before blocks d (d - 1) (omega (arith, at.1))))
+  no_end c k h b (inr (inl at)) = h (extension_count d) (omega (arith, el)) (at.0 ∙ sym (head_taken file extensions (extension_count d) (extension_count d) (omega arith)))
+  no_end c k h b (inr (inr at)) = h 0 (omega arith) at.0
+
+  header_end : (k n : ℕ) → ¬ IsHeaderField n (k / 4) → ¬ AtEnds (format_of old) file blocks extensions d file k
+  header_end k n o (inl at) = a.apart 0 (d - 1) (omega arith) (omega (arith, at.1, few)) at.2.0
+  header_end k n o (inr (inl (at, inl z))) = o (inl (inl z))
+  header_end k n o (inr (inl (at, inr (inl z)))) = o (inl (inr (inr (inr z))))
+  header_end k n o (inr (inl (at, inr (inr z)))) = o (inl (inr (inl z)))
+  header_end k n o (inr (inr (at, inl z))) = o (inr (inl z))
+  header_end k n o (inr (inr (at, inr (inl z)))) = o (inr (inr z))
+  header_end k n o (inr (inr (at, inr (inr z)))) = o (inl (inr (inl z)))
+
+  extension_end : (q k n : ℕ) → q < length extensions → ¬ IsPointerField n (k / 4) → ¬ AtEnds (format_of old) file blocks extensions d (slice_index extensions q) k
+  extension_end q k n l o (inl at) = a.apart (suc q) (d - 1) (omega arith) (omega (arith, at.1, few)) at.2.0
+  extension_end q k n l o (inr (inl (at, inl z))) = o (inl z)
+  extension_end q k n l o (inr (inl (at, inr (inl z)))) = o (inr (inr (inr z)))
+  extension_end q k n l o (inr (inl (at, inr (inr z)))) = o (inr (inl z))
+  extension_end q k n l o (inr (inr at)) = a.headers_once 0 (suc q) (omega arith) (omega arith) (sym at.0)
+
+  data_end_of : (i k size : ℕ) → i < d → data_end (format_of old) size i ≤ k → ¬ AtEnds (format_of old) file blocks extensions d (slice_index blocks i) k
+  data_end_of i k size l m (inl (f, r, (at, z))) = let far = behind_fields (format_of old) size i k f m in elim z [
+    | inl x ↦ omega (arith, x, far)
+    | inr y ↦ elim y [ inl x ↦ omega (arith, x, far) | inr x ↦ omega (arith, x, far) ]
+  ]
+  data_end_of i k size l m (inr (inl at)) = a.apart (extension_count d) i fewer (omega arith) (sym at.0)
+  data_end_of i k size l m (inr (inr at)) = a.apart 0 i (omega arith) (omega arith) (sym at.0)
+
+  pub keeps_cut : KeepsUnnamed old file blocks extensions new (take d blocks) (take (extension_count d) extensions)
+  keeps_cut = record {
+    others = λ c k l o. untouched c k l o.beside_pages (no_end c k o.beside_headers o.beside_data);
+    header = λ k l o. untouched file k l (λ p m. beside_pages 0 p (omega arith) m) (header_end k (most_pointers old new file) o);
+    extension = λ q k l m r o. kept_extension q k (omega (arith, m, el)) r o;
+    slack = λ i k l m r o. kept_data i k (omega (arith, m, dl)) r o;
+    new_extension = λ q k l m r o. absurd (omega (arith, l, m, el, fewer));
+    new_data = λ i k l m r o. absurd (omega (arith, l, m, dl, few));
+    first_taken = λ z l. absurd (omega (arith, z, some));
+    first_given = λ l z. no_first (omega (arith, z, dl));
+    first_kept = λ s. elim s [ inl z ↦ absurd (omega (arith, z.0, some)) | inr l ↦ first (omega (arith, l.1, dl)) ];
+  }
+    where
+      kept_extension : (q k : ℕ) → q < extension_count d → k < 512 → ¬ IsPointerField (most_pointers old new (slice_index (take (extension_count d) extensions) q)) (k / 4) → byte_at new (slice_index (take (extension_count d) extensions) q) k ≡ byte_at old (slice_index (take (extension_count d) extensions) q) k
+      kept_extension q k l r o =
+          let here : slice_index (take (extension_count d) extensions) q ≡ slice_index extensions q = taken_before extensions (extension_count d) q l in
+          ap (λ (c : ℕ). byte_at new c k) here
+          ∙ untouched (slice_index extensions q) k r (λ p m. beside_pages (suc q) p (omega (arith, l, fewer)) m) (extension_end q k (most_pointers old new (slice_index (take (extension_count d) extensions) q)) (omega (arith, l, fewer)) o)
+          ∙ ap (λ (c : ℕ). byte_at old c k) (sym here)
+
+      kept_data : (i k : ℕ) → i < d → k < 512 → data_end (format_of old) (larger_size old new file) i ≤ k → byte_at new (slice_index (take d blocks) i) k ≡ byte_at old (slice_index (take d blocks) i) k
+      kept_data i k l r o =
+          let here : slice_index (take d blocks) i ≡ slice_index blocks i = taken_before blocks d i l in
+          ap (λ (c : ℕ). byte_at new c k) here
+          ∙ untouched (slice_index blocks i) k r (λ p m. data_beside_pages i p (omega (arith, l, few)) m) (data_end_of i k (larger_size old new file) l o)
+          ∙ ap (λ (c : ℕ). byte_at old c k) (sym here)

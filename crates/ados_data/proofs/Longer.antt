@@ -1,0 +1,138 @@
+-- A file that takes a data block keeps the rest to the byte.
+use Rattle.std.proofs.Common.{◌≡◌, ◌≢◌, ℕ, suc, ◌+◌, ◌-◌, ◌*◌, ◌/◌, ◌%◌, ◌<◌, ◌≤◌, ◌⊎◌, inl, inr, List, [], ◌∷◌, ◌++◌, length, slice_index, refl, sym, ap, ◌∙◌, subst, arith}
+use Rattle.std.proofs.lemmas.List.{length_push}
+use Rattle.adf_block.specs.declared.Format.{Format}
+use Rattle.adf_block.specs.declared.Format.TheVariants.{Ofs, Ffs}
+use Rattle.adf_block.specs.Image.{byte_at, long}
+use Rattle.adf_block.specs.Fields.{pointer_count}
+use Rattle.adf_block.specs.Frame.{SameBut}
+use Rattle.adf_block.proofs.Frames.{same_long, same_trans, same_weaken}
+use Rattle.ados_map.specs.Pages.{pages_of, page_of}
+use Rattle.ados_map.specs.Changes.{MapPlace}
+use Rattle.ados_data.specs.Edits.{AtField, AtFields, AtDataFields}
+use Rattle.ados_data.specs.File.{format_of}
+use Rattle.ados_data.specs.Changing.{IsNewBlock, IsLengthened, IsResized, AtLink, AtEnd}
+use Rattle.ados_data.specs.Keeping.{IsPointerField, IsHeaderField, data_end, most_pointers, larger_size, IsBeside, KeepsUnnamed}
+use Rattle.ados_data.proofs.Lists.{pushed_before, pushed_last}
+use Rattle.ados_data.proofs.Standing.{Standing, untaken, header_beside_new, data_beside_new}
+use Rattle.ados_data.proofs.Grown.{more_pointers, more_header}
+
+-- the end of an OFS block's bytes is behind its header
+behind_header : (format : Format) (size i k : ℕ) → format ≡ Ofs → data_end format size i ≤ k → 24 ≤ k
+behind_header Ofs size i k e l = omega arith
+behind_header Ffs size i k e l = cc
+
+module _ (i1 i2 i3 i4 : List ℕ) (format : Format) (file : ℕ) (blocks extensions : List ℕ) (size b size' : ℕ) (s : Standing i1 format file blocks extensions size) (n : IsNewBlock i1 b i2)
+    (x : IsLengthened i2 format file (slice_index (file ∷ extensions) (length extensions)) (slice_index blocks (length blocks - 1)) (length blocks) b i3) (y : IsResized i3 format file (slice_index (file ∷ extensions) (length extensions)) b (length blocks + 1) size' i4)
+    (least : 72 * length extensions ≤ length blocks) (room : length blocks < 72 * suc (length extensions)) where
+  abbrev Set : ℕ → ℕ → Type 0
+  Set c k = (AtDataFields format b c k ⊎ (AtLink format (length blocks) (slice_index blocks (length blocks - 1)) c k ⊎ (AtFields (slice_index (file ∷ extensions) (length extensions)) (77 - length blocks % 72) 2 c k ⊎ AtField file 4 c k)))
+      ⊎ (AtEnd format (length blocks + 1) b c k ⊎ (AtFields (slice_index (file ∷ extensions) (length extensions)) 2 126 c k ⊎ AtFields file 4 81 c k))
+
+  abbrev Changed : ℕ → ℕ → Type 0
+  Changed c k = (MapPlace i1 b c k ⊎ (c ≡ b)) ⊎ Set c k
+
+  set_rest : SameBut Set i2 i4
+  set_rest =
+      same_trans Set i2 i3 i4 (same_weaken (λ c k. AtDataFields format b c k ⊎ (AtLink format (length blocks) (slice_index blocks (length blocks - 1)) c k ⊎ (AtFields (slice_index (file ∷ extensions) (length extensions)) (77 - length blocks % 72) 2 c k ⊎ AtField file 4 c k))) Set i2 i3 (λ c k at. inl at) x.rest)
+      (same_weaken (λ c k. AtEnd format (length blocks + 1) b c k ⊎ (AtFields (slice_index (file ∷ extensions) (length extensions)) 2 126 c k ⊎ AtFields file 4 81 c k)) Set i3 i4 (λ c k at. inr at) y.rest)
+
+  rest : SameBut Changed i1 i4
+  rest = same_trans Changed i1 i2 i4 (same_weaken (λ c k. MapPlace i1 b c k ⊎ (c ≡ b)) Changed i1 i2 (λ c k at. inl at) n.rest) (same_weaken Set Changed i2 i4 (λ c k at. inr at) set_rest)
+
+  within : page_of b < pages_of i1
+  within = omega (arith, n.lowest.inside.0, n.lowest.inside.1)
+
+  beside_header : (q : ℕ) → q ≤ length extensions → slice_index (file ∷ extensions) q ≢ b
+  beside_header = header_beside_new i1 b i2 n s.size_ok s.map format file blocks extensions size s
+
+  beside_data : (i : ℕ) → i < length blocks → slice_index blocks i ≢ b
+  beside_data = data_beside_new i1 b i2 n s.size_ok s.map format file blocks extensions size s
+
+  -- what changes in a pointer block, but for the fields of the header alone
+  in_header : (q k : ℕ) → q ≤ length extensions → Changed (slice_index (file ∷ extensions) q) k → IsPointerField (pointer_count i4 (slice_index (file ∷ extensions) q)) (k / 4) ⊎ ((slice_index (file ∷ extensions) q ≡ file) × ((k / 4 ≡ 4) ⊎ (k / 4 ≡ 81)))
+  in_header q k l (inl at) = absurd (untaken i1 b i2 n s.size_ok s.map (slice_index (file ∷ extensions) q) k (s.headers_used q l) at)
+  in_header q k l (inr (inl (inl at))) = absurd (beside_header q l at.1)
+  in_header q k l (inr (inl (inr (inl at)))) = absurd (s.places.apart q (length blocks - 1) l (omega (arith, at.1)) at.2.0)
+  in_header q k l (inr (inl (inr (inr (inl (at, inl z)))))) = inl (inr (inr (inl (omega (arith, z, y.counted, ap (pointer_count i4) at, least, room), omega (arith, z)))))
+  in_header q k l (inr (inl (inr (inr (inl (at, inr (inl z))))))) = inl (inl z)
+  in_header q k l (inr (inl (inr (inr (inl (at, inr (inr z))))))) = inl (inr (inl z))
+  in_header q k l (inr (inl (inr (inr (inr (at, inl z)))))) = inr (at, inl z)
+  in_header q k l (inr (inl (inr (inr (inr (at, inr z)))))) = inl (inr (inl z))
+  in_header q k l (inr (inr (inl at))) = absurd (beside_header q l at.2.0)
+  in_header q k l (inr (inr (inr (inl (at, inl z))))) = inl (inl z)
+  in_header q k l (inr (inr (inr (inl (at, inr (inl z)))))) = inl (inr (inr (inr z)))
+  in_header q k l (inr (inr (inr (inl (at, inr (inr z)))))) = inl (inr (inl z))
+  in_header q k l (inr (inr (inr (inr (at, inl z))))) = inr (at, inl z)
+  in_header q k l (inr (inr (inr (inr (at, inr (inl z)))))) = inr (at, inr z)
+  in_header q k l (inr (inr (inr (inr (at, inr (inr z)))))) = inl (inr (inl z))
+
+  -- an OFS block's header is all that changes in a data block that was there
+  in_data : (i k : ℕ) → i < length blocks → Changed (slice_index blocks i) k → (format ≡ Ofs) × (k < 24)
+  in_data i k l (inl at) = absurd (untaken i1 b i2 n s.size_ok s.map (slice_index blocks i) k (s.data_used i l) at)
+  in_data i k l (inr (inl (inl at))) = absurd (beside_data i l at.1)
+  in_data i k l (inr (inl (inr (inl (f, c, (at, inl z)))))) = (f, omega (arith, z))
+  in_data i k l (inr (inl (inr (inl (f, c, (at, inr z)))))) = (f, omega (arith, z))
+  in_data i k l (inr (inl (inr (inr (inl at))))) = absurd (s.places.apart (length extensions) i (omega arith) l (sym at.0))
+  in_data i k l (inr (inl (inr (inr (inr at))))) = absurd (s.places.apart 0 i (omega arith) l (sym at.0))
+  in_data i k l (inr (inr (inl at))) = absurd (beside_data i l at.2.0)
+  in_data i k l (inr (inr (inr (inl at)))) = absurd (s.places.apart (length extensions) i (omega arith) l (sym at.0))
+  in_data i k l (inr (inr (inr (inr at)))) = absurd (s.places.apart 0 i (omega arith) l (sym at.0))
+
+  -- and in the new one, once it is empty
+  in_new : (k : ℕ) → Set b k → (format ≡ Ofs) × (k < 24)
+  in_new k (inl (inl at)) = (at.0, at.2)
+  in_new k (inl (inr (inl at))) = absurd (beside_data (length blocks - 1) (omega (arith, at.1)) (sym at.2.0))
+  in_new k (inl (inr (inr (inl at)))) = absurd (beside_header (length extensions) (omega arith) (sym at.0))
+  in_new k (inl (inr (inr (inr at)))) = absurd (beside_header 0 (omega arith) (sym at.0))
+  in_new k (inr (inl (f, c, (at, inl z)))) = (f, omega (arith, z))
+  in_new k (inr (inl (f, c, (at, inr (inl z))))) = (f, omega (arith, z))
+  in_new k (inr (inl (f, c, (at, inr (inr z))))) = (f, omega (arith, z))
+  in_new k (inr (inr (inl at))) = absurd (beside_header (length extensions) (omega arith) (sym at.0))
+  in_new k (inr (inr (inr at))) = absurd (beside_header 0 (omega arith) (sym at.0))
+
+  beside_new : (c : ℕ) → IsBeside i1 file (blocks ++ b ∷ []) extensions c → c ≢ b
+  beside_new c o z = o.beside_data (length blocks) (omega (arith, length_push blocks b)) (z ∙ sym (pushed_last blocks b (length blocks) refl))
+
+  beside : (c k : ℕ) → IsBeside i1 file (blocks ++ b ∷ []) extensions c → ¬ Changed c k
+  beside c k o (inl (inl at)) = o.beside_pages (page_of b) within at.0
+  beside c k o (inl (inr z)) = beside_new c o z
+  beside c k o (inr (inl (inl at))) = beside_new c o at.1
+  beside c k o (inr (inl (inr (inl at)))) = o.beside_data (length blocks - 1) (omega (arith, length_push blocks b)) (at.2.0 ∙ sym (pushed_before blocks b (length blocks - 1) (omega (arith, at.1))))
+  beside c k o (inr (inl (inr (inr (inl at))))) = o.beside_headers (length extensions) (omega arith) at.0
+  beside c k o (inr (inl (inr (inr (inr at))))) = o.beside_headers 0 (omega arith) at.0
+  beside c k o (inr (inr (inl at))) = beside_new c o at.2.0
+  beside c k o (inr (inr (inr (inl at)))) = o.beside_headers (length extensions) (omega arith) at.0
+  beside c k o (inr (inr (inr (inr at)))) = o.beside_headers 0 (omega arith) at.0
+
+  header_field : (k : ℕ) → Changed file k → IsHeaderField (pointer_count i4 file) (k / 4)
+  header_field k at = elim (in_header 0 k (omega arith) at) [ inl z ↦ inl z | inr z ↦ inr z.1 ]
+
+  extension_field : (q k : ℕ) → q < length extensions → Changed (slice_index extensions q) k → IsPointerField (pointer_count i4 (slice_index extensions q)) (k / 4)
+  extension_field q k l at = elim (in_header (suc q) k (omega arith) at) [ inl z ↦ z | inr z ↦ absurd (s.places.headers_once 0 (suc q) (omega arith) (omega arith) (sym z.0)) ]
+
+  end_behind : (i k d : ℕ) → data_end (format_of i1) d i ≤ k → ¬ ((format ≡ Ofs) × (k < 24))
+  end_behind i k d l at = omega (arith, at.1, behind_header (format_of i1) d i k (s.format_is ∙ at.0) l)
+
+  first_untaken : long i2 file 4 ≡ long i1 file 4
+  first_untaken = same_long (λ c k. MapPlace i1 b c k ⊎ (c ≡ b)) i1 i2 n.rest file 4 (omega arith) (λ k z. untaken i1 b i2 n s.size_ok s.map file k (s.headers_used 0 (omega arith)))
+
+  pub keeps_longer : KeepsUnnamed i1 file blocks extensions i4 (blocks ++ b ∷ []) extensions
+  keeps_longer = record {
+    others = λ c k l o. rest.same_byte c k l (beside c k o);
+    header = λ k l f. rest.same_byte file k l (λ at. f (more_header (pointer_count i4 file) (most_pointers i1 i4 file) (k / 4) (omega arith) (header_field k at)));
+    extension = λ q k l m r f. rest.same_byte (slice_index extensions q) k r (λ at. f (more_pointers (pointer_count i4 (slice_index extensions q)) (most_pointers i1 i4 (slice_index extensions q)) (k / 4) (omega arith) (extension_field q k l at)));
+    slack = λ i k l m r d.
+        let here : slice_index (blocks ++ b ∷ []) i ≡ slice_index blocks i = pushed_before blocks b i l in
+        rest.same_byte (slice_index (blocks ++ b ∷ []) i) k r (λ at. end_behind i k (larger_size i1 i4 file) d (in_data i k l (subst (λ (c : ℕ). Changed c k) here at)));
+    new_extension = λ q k l m r f. absurd (omega (arith, l, m));
+    new_data = λ i k l m r d.
+        let here : slice_index (blocks ++ b ∷ []) i ≡ b = pushed_last blocks b i (omega (arith, l, m, length_push blocks b)) in
+        ap (λ (c : ℕ). byte_at i4 c k) here ∙ set_rest.same_byte b k r (λ at. end_behind i k (long i4 file 81) d (in_new k at)) ∙ n.empty k r;
+    first_taken = λ z l. y.first (omega arith) ∙ x.new_first z ∙ sym (pushed_last blocks b 0 z);
+    first_given = λ l z. absurd (omega (arith, z, length_push blocks b));
+    first_kept = λ e. elim e [
+      | inl z ↦ absurd (omega (arith, z.1, length_push blocks b))
+      | inr l ↦ y.first (omega arith) ∙ x.first l.0 ∙ first_untaken
+    ];
+  }
