@@ -1,0 +1,17 @@
+//! The second half of an image's check, over the marks of its walk: that the blocks of each file
+//! bear out its counts and its size, and that no directory has a name twice.
+#![tactic(auto)]
+
+mod chain;
+mod counts;
+mod entries;
+mod fields;
+mod file;
+mod names;
+mod sound;
+#[cfg(test)]
+mod tests;
+
+pub use entries::check_files;
+pub use names::check_names;
+pub use sound::check_sound;

@@ -1,0 +1,14 @@
+use Rattle.std.proofs.Common.{◌≡◌, ◌≤◌, ℕ, subst, arith}
+use Rattle.adf_block.specs.Image.{block_count, page_count}
+use Rattle.ados_walk.specs.Walking.{IsInHand}
+use Rattle.ados_walk.proofs.Moves.{put_away}
+use Rattle.ados_walk.proofs.walking.Progress.go_through.Goals as goal
+
+pub returns-clause-between : goal.returns-clause-between
+returns-clause-between c =
+    let image = c.args.image.now in
+    let marks = c.loop-i.self.marks.items in
+    let pending = c.loop-i.self.pending.items in
+    let pages : page_count (block_count image) ≤ 25 = omega (arith, c.blocks-2.ensures.count, c.blocks-2.ensures.size) in
+    let end : c.loop-i.i ≡ 127 = omega arith in
+    put_away image marks pending c.args.block c.args.role pages (subst (λ (i : ℕ). IsInHand image marks pending c.args.block c.args.role i) end c.loop-i.invariant.hand)
