@@ -1,0 +1,30 @@
+-- Which blocks of a blank volume are named.
+use Rattle.std.proofs.Common.{◌≡◌, ℕ, ◌+◌, ◌<◌, ◌≤◌, inl, inr, Bool, true, false, not, ◌&&◌, nat_le, nat_lt, List, length, slice_index_or, refl, ap, ◌∙◌, arith, lt-ltb, le-ltb, le-leb}
+use Rattle.std.proofs.lemmas.Bool.{lt-leb}
+use Rattle.std.proofs.lemmas.List.{get_or_past}
+use Rattle.adf_block.specs.Image.{root_key, page_count}
+use Rattle.ados_map.specs.Bits.{is_unnamed}
+use Rattle.ados_volume.specs.BlankParts.{NamesBlank}
+
+pub names_blank : (n last : ℕ) (named : List Bool) → 16 ≤ n → last ≡ root_key n + 1 + page_count n → length named ≡ n
+    → ((k : ℕ) → k < n → slice_index_or named k true ≡ (nat_le (root_key n) k && nat_lt k last)) → NamesBlank n named
+unfolding is_unnamed
+names_blank n last named size last_is count marks = record {
+  count = count;
+  used = λ k l m.
+      let low : nat_le (root_key n) k ≡ true = le-leb (root_key n) k l in
+      let high : nat_lt k last ≡ true = lt-ltb k last (omega (arith, m, last_is)) in
+      let both : (nat_le (root_key n) k && nat_lt k last) ≡ true = rw (low, high) refl in
+      ap not (marks k (omega (arith, m, size)) ∙ both);
+  free = λ k l side. elim side [
+    | inl below ↦ let low : nat_le (root_key n) k ≡ false = lt-leb (root_key n) k below in
+        let both : (nat_le (root_key n) k && nat_lt k last) ≡ false = rw low refl in
+        ap not (marks k l ∙ both)
+    | inr above ↦
+        let low : nat_le (root_key n) k ≡ true = le-leb (root_key n) k (omega (arith, above)) in
+        let high : nat_lt k last ≡ false = le-ltb k last (omega (arith, above, last_is)) in
+        let both : (nat_le (root_key n) k && nat_lt k last) ≡ false = rw (low, high) refl in
+        ap not (marks k l ∙ both)
+  ];
+  past = λ k l. ap not (get_or_past named k true (omega (arith, l, count)));
+}

@@ -1,0 +1,175 @@
+-- What the chains, the files and the longs of an image say of its tree.
+use Rattle.std.proofs.Common.{◌≡◌, ℕ, zero, suc, ◌+◌, inl, inr, Bool, true, false, nat_eq, ◌==◌, List, [], ◌∷◌, ◌++◌, filter, map, find, Contains, Option, Some, None, IsSome, bytes_eq, refl, sym, ap, ◌∙◌, subst, arith, eq-eqb, ne_eqb, zero-add, if◌then◌else◌}
+use Rattle.std.proofs.lemmas.Bool.{false≢true, cases_eq}
+use Rattle.std.proofs.lemmas.List.{append-nil}
+use Rattle.std.proofs.lemmas.List.Elements.{All-filter, All-contains, All-contains_itself, Contains-append_right}
+use Rattle.std.proofs.lemmas.Slice.Eq.{bytes_eq-Decides}
+use Rattle.ados_name.specs.Name.{upper, slot, Same, SameNameSameSlot}
+use Rattle.adf_block.specs.Image.{long}
+use Rattle.adf_block.specs.Fields.{file_type}
+use Rattle.ados_chain.specs.Chains.{LawfulChains, name_at, chains_from, entries_of}
+use Rattle.ados_chain.specs.Look.{FindsNamed, first_of, next_after}
+use Rattle.ados_chain.proofs.Lists.{Contains-here, Contains-later, Contains-cases, Contains-nil}
+use Rattle.ados_chain.proofs.Order.{chains_from-split}
+use Rattle.ados_tree.specs.Tree.{Content, Node, Tree, root, content_at, entries, name_of}
+use Rattle.ados_tree.specs.Tree.Content.{Directory, File}
+use Rattle.ados_tree.specs.Stands.{Stands, in_slot, type_of}
+use Rattle.ados_tree.specs.Walk.{child_of, is_file, holds_file}
+use Rattle.ados_tree.specs.Change.{behind, entries_after}
+use Rattle.ados_tree.proofs.Lists.{joined}
+use Rattle.ados_tree.proofs.Nodes.{content_in, entry_node, entries_by_slot, root_or_parent}
+use Rattle.ados_volume.specs.Listing.{first_left}
+use Rattle.ados_volume.proofs.Bridge.{lawful_chains, name_is}
+
+pub some_in : (o : Option Node) → IsSome o → (a : Node) × (o ≡ Some a)
+some_in None h = absurd (false≢true h)
+some_in (Some a) h = (a, refl)
+
+Contains-filter-in : (p : ℕ → Bool) (xs : List ℕ) (x : ℕ) → Contains xs x → p x ≡ true → Contains (filter p xs) x
+Contains-filter-in p [] x c e = absurd (Contains-nil x c)
+Contains-filter-in p (y ∷ ys) x c e = go (p y) refl (λ m. Contains-filter-in p ys x m e)
+  where
+    go : (b : Bool) → p y ≡ b → (Contains ys x → Contains (filter p ys) x) → Contains (filter p (y ∷ ys)) x
+    go true h rest = rw h (elim (Contains-cases y ys x c) [ inl same ↦ subst (Contains (y ∷ filter p ys)) same (Contains-here y (filter p ys)) | inr later ↦ Contains-later y (filter p ys) x (rest later) ])
+    go false h rest = rw h (elim (Contains-cases y ys x c) [ inl same ↦ absurd (false≢true (sym h ∙ ap p same ∙ e)) | inr later ↦ rest later ])
+
+Contains-filter-out : (p : ℕ → Bool) (xs : List ℕ) (x : ℕ) → Contains (filter p xs) x → Contains xs x
+Contains-filter-out p xs x c = All-contains (Contains xs) (filter p xs) x (All-filter p (Contains xs) xs (All-contains_itself xs)) c
+
+-- the only element of a list that passes is found
+find_one : (p : ℕ → Bool) (xs : List ℕ) (x : ℕ) → Contains xs x → p x ≡ true → ((y : ℕ) → Contains xs y → p y ≡ true → y ≡ x) → find p xs ≡ Some x
+find_one p [] x c e one = absurd (Contains-nil x c)
+find_one p (y ∷ ys) x c e one = go (p y) refl (λ m. find_one p ys x m e (λ z n. one z (Contains-later y ys z n)))
+  where
+    go : (b : Bool) → p y ≡ b → (Contains ys x → find p ys ≡ Some x) → find p (y ∷ ys) ≡ Some x
+    go true h rest = rw h (ap Some (one y (Contains-here y ys) h))
+    go false h rest = rw h (elim (Contains-cases y ys x c) [ inl same ↦ absurd (false≢true (sym h ∙ ap p same ∙ e)) | inr later ↦ rest later ])
+
+find_none : (p : ℕ → Bool) (xs : List ℕ) → ((y : ℕ) → Contains xs y → p y ≡ true → ⊥) → find p xs ≡ None
+find_none p [] none = refl
+find_none p (y ∷ ys) none = go (p y) refl (find_none p ys (λ z n. none z (Contains-later y ys z n)))
+  where
+    go : (b : Bool) → p y ≡ b → find p ys ≡ None → find p (y ∷ ys) ≡ None
+    go true h rest = absurd (none y (Contains-here y ys) h)
+    go false h rest = rw h rest
+
+-- lists joined in order are the chains from the first on
+joined-chains : (g : ℕ → List ℕ) (n : ℕ) → joined g n ≡ chains_from g 0 n
+unfolding joined chains_from
+joined-chains g zero = refl
+joined-chains g (suc n) =
+    let more : n + 1 ≡ suc n = omega arith in
+    ap (λ (xs : List ℕ). xs ++ g n) (joined-chains g n)
+    ∙ ap (λ (k : ℕ). chains_from g 0 n ++ g k) (sym (zero-add n))
+    ∙ ap (λ (ys : List ℕ). chains_from g 0 n ++ ys) (sym (append-nil (g (0 + n))))
+    ∙ sym (chains_from-split g 0 n 1)
+    ∙ ap (chains_from g 0) more
+
+first-left : (keys : List ℕ) → first_of keys ≡ first_left (Some keys)
+first-left [] = refl
+first-left (key ∷ keys) = refl
+
+-- what stands behind a key
+behind-next : (keys : List ℕ) (key : ℕ) → next_after keys key ≡ first_left (behind key keys)
+behind-next [] key = refl
+behind-next (k ∷ ks) key = go (k == key) refl (behind-next ks key)
+  where
+    go : (b : Bool) → (k == key) ≡ b → next_after ks key ≡ first_left (behind key ks) → next_after (k ∷ ks) key ≡ first_left (behind key (k ∷ ks))
+    go true h rest = rw h (first-left ks)
+    go false h rest = rw h rest
+
+-- what a directory's own key or an entry's key leads to
+listed-next : (dir key : ℕ) (keys : List ℕ) → next_after (dir ∷ keys) key ≡ first_left (if key == dir then Some keys else behind key keys)
+listed-next dir key keys = elim (cases_eq dir key) [
+  | inl same ↦
+      let one : (dir == key) ≡ true = eq-eqb dir key same in
+      let other : (key == dir) ≡ true = eq-eqb key dir (sym same) in
+      rw (one, other) (first-left keys)
+  | inr apart ↦
+      let one : (dir == key) ≡ false = ne_eqb dir key apart in
+      let other : (key == dir) ≡ false = ne_eqb key dir (λ e. apart (sym e)) in
+      rw (one, other) (behind-next keys key)
+]
+
+module _ (image : List ℕ) (t : Tree) (s : Stands image t) where
+  pub chains_of : (dir : ℕ) → (keys : List ℕ) × (content_at t dir ≡ Some (Directory keys)) → LawfulChains image dir (in_slot t dir)
+  chains_of dir h = let n = content_in (t.nodes dir) (Directory h.0) h.1 in lawful_chains image t s dir n.0 h.0 n.1 n.2
+
+  -- ---- a child
+
+  own_name : (key : ℕ) (node : Node) → t.nodes key ≡ Some node → node.name ≡ name_of t key
+  own_name key node e = rw e refl
+
+  named_same : (dir key : ℕ) → Contains (entries t dir) key → name_at image key ≡ name_of t key
+  named_same dir key c = let n = entry_node t s.proper dir key c in name_is image t s key n.0 n.1 ∙ own_name key n.0 n.1
+
+  is_named : List ℕ → ℕ → Bool
+  is_named name key = bytes_eq (map upper (name_of t key)) (map upper name)
+
+  same_from_named : (name : List ℕ) (key : ℕ) → is_named name key ≡ true → Same (name_of t key) name
+  unfolding is_named
+  same_from_named name key e = (bytes_eq-Decides (map upper (name_of t key)) (map upper name)).0 e
+
+  named_from_same : (name : List ℕ) (key : ℕ) → Same (name_of t key) name → is_named name key ≡ true
+  unfolding is_named
+  named_from_same name key same = (bytes_eq-Decides (map upper (name_of t key)) (map upper name)).1 same
+
+  -- an entry of that name stands in the slot of the name
+  in_own_slot : SameNameSameSlot → (dir key : ℕ) (name : List ℕ) → Contains (entries t dir) key → Same (name_of t key) name → Contains (in_slot t dir (slot name)) key
+  in_own_slot law dir key name c same = Contains-filter-in (λ k. slot (name_of t k) == slot name) (entries t dir) key c (eq-eqb (slot (name_of t key)) (slot name) (law (name_of t key) name same))
+
+  -- the directory has a child of that name
+  pub is_child : (dir key : ℕ) (name : List ℕ) → Contains (entries t dir) key → Same (name_of t key) name → child_of t dir name ≡ Some key
+  unfolding is_named
+  is_child dir key name c same =
+      find_one (is_named name) (entries t dir) key c (named_from_same name key same)
+      (λ y m e. s.proper.unlike dir y key m c (same_from_named name y e ∙ sym same))
+
+  -- it has none
+  pub no_child : (dir : ℕ) (name : List ℕ) → ((key : ℕ) → Contains (entries t dir) key → ¬ Same (name_of t key) name) → child_of t dir name ≡ None
+  unfolding is_named
+  no_child dir name none = find_none (is_named name) (entries t dir) (λ y c e. none y c (same_from_named name y e))
+
+  pub child_is : SameNameSameSlot → (dir : ℕ) (name : List ℕ) (r : Option ℕ) → FindsNamed image name (in_slot t dir (slot name)) r → r ≡ child_of t dir name
+  child_is law dir name None h =
+      sym (no_child dir name (λ key c same. h key (in_own_slot law dir key name c same) (subst (λ (xs : List ℕ). Same xs name) (sym (named_same dir key c)) same)))
+  child_is law dir name (Some key) h =
+      let listed : Contains (in_slot t dir (slot name)) key = subst (λ (xs : List ℕ). Contains xs key) (sym h.split) (Contains-append_right h.front (key ∷ h.back) key (Contains-here key h.back)) in
+      let entry = Contains-filter-out (λ k. slot (name_of t k) == slot name) (entries t dir) key listed in
+      sym (is_child dir key name entry (subst (λ (xs : List ℕ). Same xs name) (named_same dir key entry) h.same))
+
+  -- ---- the entries in order
+
+  entries_are : (dir : ℕ) → entries_of (in_slot t dir) ≡ entries t dir
+  entries_are dir = sym (joined-chains (in_slot t dir) 72) ∙ sym (entries_by_slot t s.proper dir)
+
+  pub next_is : (dir key : ℕ) → next_after (dir ∷ entries_of (in_slot t dir)) key ≡ first_left (entries_after t dir key)
+  next_is dir key = ap (λ (keys : List ℕ). next_after (dir ∷ keys) key) (entries_are dir) ∙ listed-next dir key (entries t dir)
+
+  -- ---- a file
+
+  pub is_file_is : (key v : ℕ) → IsSome (t.nodes key) → v ≡ long image key 127 → nat_eq v file_type ≡ is_file t key
+  is_file_is key v h e =
+      let n = some_in (t.nodes key) h in
+      rw n.1 (elim (root_or_parent t s.proper key n.0 n.1) [
+        | inl r ↦
+            let same : n.0 ≡ s.proper.root_node.0 = cc (n.1, ap t.nodes r, s.proper.root_node.1) in
+            let directory : n.0.content ≡ Directory s.proper.root_node.2.keys = ap (λ (a : Node). a.content) same ∙ s.proper.root_node.2.directory in
+            let one : v ≡ 1 = e ∙ ap (λ (b : ℕ). long image b 127) r ∙ s.root_fields.secondary in
+            rw (directory, one) refl
+        | inr p ↦ by_content n.0.content (e ∙ (s.entries key p.0 n.0 n.1 p.1).secondary)
+      ])
+    where
+      by_content : (c : Content) → v ≡ type_of c → nat_eq v file_type ≡ holds_file (Some c)
+      by_content (Directory keys) is = rw is refl
+      by_content (File bytes) is = rw is refl
+
+  -- ---- the root
+
+  pub root_directory : (key : ℕ) → key ≡ root t → (keys : List ℕ) × (content_at t key ≡ Some (Directory keys))
+  root_directory key r =
+      let at : t.nodes key ≡ Some s.proper.root_node.0 = ap t.nodes r ∙ s.proper.root_node.1 in
+      (s.proper.root_node.2.keys, rw at (ap Some s.proper.root_node.2.directory))
+
+  pub root_key_of : (key : ℕ) → key ≡ root t → IsSome (t.nodes key)
+  root_key_of key r = let at : t.nodes key ≡ Some s.proper.root_node.0 = ap t.nodes r ∙ s.proper.root_node.1 in rw at refl

@@ -1,0 +1,12 @@
+use Rattle.ados_tree.specs.Blank.{blank_tree}
+use Rattle.ados_tree.proofs.Blank.{blank_stands}
+use Rattle.ados_volume.proofs.blank_volume.blank.Goals as goal
+
+pub standing-requires : goal.standing-requires
+standing-requires c = record {
+  stands = (
+    blank_tree c.args.format c.args.blocks c.args.name c.args.moment,
+    blank_stands c.args.format c.args.blocks c.args.name c.args.moment c.in_ok-image.image c.in_ok-image.ensures.name c.in_ok-image.ensures.image,
+  );
+  empty = c.in_ok-names.ensures;
+}

@@ -1,0 +1,12 @@
+use Rattle.std.proofs.Common.{◌≡◌, ◌+◌, ◌*◌, ℕ, List, replicate, slice_index, ap, ◌∙◌, inl, inr, arith}
+use Rattle.std.proofs.lemmas.Bool.{cases_lt}
+use Rattle.std.proofs.lemmas.List.{get_or-replicate, get_or_past, length-replicate}
+use Rattle.adf_block.specs.Image.{byte_at}
+use Rattle.ados_volume.proofs.blank_volume.zero_image.Goals as goal
+
+zero_at : (n k : ℕ) → slice_index (replicate n 0) k ≡ 0
+zero_at n k = elim (cases_lt k n) [ inl l ↦ get_or-replicate n k 0 0 l | inr m ↦ get_or_past (replicate n 0) k 0 (omega (arith, length-replicate {A = ℕ} n 0, m)) ]
+
+pub returns-clause-zero : goal.returns-clause-zero
+unfolding byte_at
+returns-clause-zero c = λ b i. ap (λ (xs : List ℕ). slice_index xs (512 * b + i)) (c.in-Ok.ensures.ok.0 ∙ c.in_ok-bytes.ensures.items_if_clones_equal (λ y e. e)) ∙ zero_at (512 * c.args.blocks) (512 * b + i)

@@ -1,0 +1,18 @@
+use Rattle.std.proofs.Common.{◌≡◌, ℕ, List, Option, Some, None, IfSome, sym, subst}
+use Rattle.ados_tree.specs.Tree.{Tree}
+use Rattle.ados_tree.specs.Stands.{Stands}
+use Rattle.ados_tree.specs.Walk.{child_of}
+use Rattle.ados_volume.specs.Keys.{HasKey}
+use Rattle.ados_volume.proofs.Walking.{child_node, parent_node}
+use Rattle.ados_volume.proofs.volume.Volume.step_from.Goals as goal
+
+pub returns-in-Some-clause-key : goal.returns-in-Some-clause-key
+returns-in-Some-clause-key c = λ t s.
+    parent_node c.args.self.now.image t s c.args.key c.in-Some.dir (sym (c.in-Some.ensures t (subst (λ (image : List ℕ). Stands image t) (sym c.image.ensures.same) s)))
+
+found_key : (image : List ℕ) (dir : ℕ) (name : List ℕ) (r : Option ℕ) → ((t : Tree) → Stands image t → r ≡ child_of t dir name) → IfSome r (λ next. HasKey image next)
+found_key image dir name None h = tt
+found_key image dir name (Some next) h = λ t s. child_node image t s dir next name (sym (h t s))
+
+pub returns-else-is_file_in-clause-key : goal.returns-else-is_file_in-clause-key
+returns-else-is_file_in-clause-key c = found_key c.args.self.now.image c.args.key c.in-Child.name.now c.child_named.result c.child_named.ensures.child

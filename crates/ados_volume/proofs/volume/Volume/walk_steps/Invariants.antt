@@ -1,0 +1,15 @@
+use Rattle.std.proofs.Common.{◌≡◌}
+use Rattle.ados_tree.specs.Tree.{Tree}
+use Rattle.ados_tree.specs.Stands.{Stands}
+use Rattle.ados_tree.specs.Walk.{walk_steps}
+use Rattle.ados_volume.specs.Keys.{HasKey}
+use Rattle.ados_volume.proofs.volume.Volume.walk_steps.Given as goal
+
+abbrev pub invariant-loop-step : goal.invariant-loop-step
+invariant-loop-step l = record {
+  can : (goal.iterator-loop-step).can_next l.steps;
+  finite : (goal.iterator-loop-step).is_finite l.steps;
+  same : l.self ≡ l.initial.self;
+  key : HasKey l.initial.self.image l.key;
+  walked : (t : Tree) → Stands l.initial.self.image t → walk_steps t l.initial.key l.initial.steps l.last ≡ walk_steps t l.key l.steps l.last;
+}

@@ -1,0 +1,30 @@
+-- The children that were looked up last.
+use Rattle.std.specs.Prelude.{◌≡◌, ◌⊎◌, ℕ, List, Some, map, take, Contains}
+use Rattle.ados_name.specs.Name.{upper, Same}
+use Rattle.ados_tree.specs.Tree.{Tree}
+use Rattle.ados_tree.specs.Stands.{Stands}
+use Rattle.ados_tree.specs.Walk.{child_of}
+use Rattle.ados_volume.specs.declared.cache.Sought.{Sought}
+
+-- the name that is sought, in upper case
+abbrev pub letters_of : Sought → List ℕ
+letters_of sought = take sought.length sought.letters
+
+-- under the directory and the name there is this key
+pub record HasPair (pairs : List (Sought × ℕ)) (in_dir : ℕ) (name : List ℕ) (key : ℕ) : Type 0 where
+  pub sought : Sought
+  pub listed : Contains pairs (sought, key)
+  pub dir : sought.dir ≡ in_dir
+  pub letters : letters_of sought ≡ map upper name
+
+-- each pair of the new list is one of the old list, or that of the directory, name and key
+abbrev pub Adds : List (Sought × ℕ) → ℕ → List ℕ → ℕ → List (Sought × ℕ) → Type 0
+Adds old dir name key new = (d : ℕ) (n : List ℕ) (k : ℕ) → HasPair new d n k → HasPair old d n k ⊎ ((d ≡ dir) × Same n name × (k ≡ key))
+
+-- no pair is new
+abbrev pub AddsNone : List (Sought × ℕ) → List (Sought × ℕ) → Type 0
+AddsNone old new = (d : ℕ) (n : List ℕ) (k : ℕ) → HasPair new d n k → HasPair old d n k
+
+-- each pair is a child of the tree
+abbrev pub AreChildren : List ℕ → List (Sought × ℕ) → Type 0
+AreChildren image pairs = (dir : ℕ) (name : List ℕ) (key : ℕ) → HasPair pairs dir name key → (t : Tree) → Stands image t → child_of t dir name ≡ Some key

@@ -1,0 +1,31 @@
+//! The volume of an image that was checked.
+
+ghost use Rattle.std.specs.Prelude.{◌≡◌, MatchResult};
+ghost use Rattle.ados_tree.specs.Accepted.{Accepts, IsRefusal};
+
+use crate::cache::NameCache;
+use crate::volume::Volume;
+use adf_block::Image;
+use ados_check::{Rejected, check_image};
+use ados_tree::{FaultKind, VolumeFault};
+use std::alloc::Global;
+
+/// The volume of an image that shows no fault. Every other image is handed back as it was, with a fault that it shows.
+///
+/// Where the root says that the bitmap is valid, the volume's image is the one that was handed in; else the bitmap was
+/// written anew. `NoMemory` says that memory was refused before any change.
+pub fn check(alloc: Global, image: Image) -> Result<Volume, Rejected>
+    ensures { MatchResult result (λ volume. Accepts image volume.was_validated volume.image) (λ rejected. (rejected.image ≡ image) × IsRefusal image rejected.fault) }
+{
+    let Ok(names) = NameCache::new(alloc) else {
+        return Err(Rejected {
+            image,
+            fault: VolumeFault {
+                kind: FaultKind::NoMemory,
+                block: 0,
+            },
+        });
+    };
+    let accepted = check_image(alloc, image)?;
+    Ok(Volume::standing(accepted.image, accepted.was_validated, names))
+}

@@ -1,0 +1,191 @@
+//! What is told of a directory or file.
+
+ghost use Rattle.std.specs.Prelude.{◌≡◌, ◌<◌, ◌≤◌, ◌+◌, Some, length};
+ghost use Rattle.adf_block.specs.Image.{block_count, byte_at};
+ghost use Rattle.adf_block.specs.Fields.{text_at};
+ghost use Rattle.ados_tree.specs.Tree.{Node, Tree, cost_in, size_in};
+ghost use Rattle.ados_tree.specs.Stands.{Stands};
+ghost use Rattle.ados_volume.specs.Keys.{HasKey, HasTree};
+ghost use Rattle.ados_volume.specs.Examined.{entry_type, file_info};
+
+use crate::info::format_of;
+use crate::look::is_file_in;
+use crate::volume::Volume;
+use adf_block::Image;
+use ados_data::blocks_of;
+use ados_name::{Comment, Date3, Name, Protect};
+
+/// The bytes of a comment's and of a name's length.
+const COMMENT: u32 = 328;
+
+const NAME: u32 = 432;
+
+/// The longs of a file's size, of the protection bits, and of the first long of the date.
+const PROTECTION: u32 = 80;
+
+const SIZE: u32 = 81;
+
+const DATE: u32 = 105;
+
+/// What EXAMINE_OBJECT and EXAMINE_NEXT tell of an object.
+#[derive(Clone, Copy, Debug, PartialEq, Eq)]
+pub struct FileInfo {
+    pub key: u32,
+    /// 1 of the root, 2 of a directory, -3 of a file.
+    pub entry_type: i32,
+    pub name: Name,
+    /// 0 of the root.
+    pub protection: Protect,
+    /// The bytes of a file; 0 of a directory.
+    pub size: u32,
+    /// The object's own block, and the data and extension blocks of a file.
+    pub blocks: u32,
+    pub date: Date3,
+    /// Empty of the root.
+    pub comment: Comment,
+}
+
+impl Volume {
+    /// What is told of the object of a key.
+    pub fn examine(&self, key: u32) -> FileInfo
+        requires { HasKey self.now.image key }
+        ensures { (t : Tree) (node : Node) → Stands self.now.image t → t.nodes key ≡ Some node → result ≡ file_info t.format key node }
+    {
+        examine_in(self.image(), key)
+    }
+}
+
+/// What is told of the object of a key.
+fn examine_in(image: &Image, key: u32) -> FileInfo
+    requires tree { HasTree image.now }
+    requires key { HasKey image.now key }
+    ensures { (t : Tree) (node : Node) → Stands image.now t → t.nodes key ≡ Some node → result ≡ file_info t.format key node }
+{
+    let size = size_in(image, key);
+    FileInfo {
+        key,
+        entry_type: entry_type_in(image, key),
+        name: name_in(image, key),
+        protection: protection_in(image, key),
+        size,
+        blocks: cost_in(image, key, size),
+        date: date_in(image, key),
+        comment: comment_in(image, key),
+    }
+}
+
+/// 1 of the root, 2 of a directory, -3 of a file.
+fn entry_type_in(image: &Image, key: u32) -> i32
+    requires tree { HasTree image.now }
+    requires key { HasKey image.now key }
+    ensures { (t : Tree) (node : Node) → Stands image.now t → t.nodes key ≡ Some node → result ≡ entry_type node.parent node.content }
+{
+    if key == image.root() {
+        1
+    } else if is_file_in(image, key) {
+        -3
+    } else {
+        2
+    }
+}
+
+/// The bytes of a file; 0 of a directory.
+fn size_in(image: &Image, key: u32) -> u32
+    requires tree { HasTree image.now }
+    requires key { HasKey image.now key }
+    ensures { (t : Tree) (node : Node) → Stands image.now t → t.nodes key ≡ Some node → result ≡ size_in (Some node.content) }
+{
+    if is_file_in(image, key) {
+        image.long(key, SIZE)
+    } else {
+        0
+    }
+}
+
+/// The blocks of an object of this size.
+fn cost_in(image: &Image, key: u32, size: u32) -> u32
+    requires tree { HasTree image.now }
+    requires key { HasKey image.now key }
+    requires size { (t : Tree) (node : Node) → Stands image.now t → t.nodes key ≡ Some node → size ≡ size_in (Some node.content) }
+    ensures { (t : Tree) (node : Node) → Stands image.now t → t.nodes key ≡ Some node → result ≡ cost_in t.format (Some node.content) }
+{
+    if is_file_in(image, key) {
+        1 + blocks_of(format_of(image), size as u64) as u32
+    } else {
+        1
+    }
+}
+
+/// The protection bits; 0 of the root.
+fn protection_in(image: &Image, key: u32) -> Protect
+    requires tree { HasTree image.now }
+    requires key { HasKey image.now key }
+    ensures { (t : Tree) (node : Node) → Stands image.now t → t.nodes key ≡ Some node → result.0 ≡ node.protection }
+{
+    if key == image.root() {
+        Protect(0)
+    } else {
+        Protect(image.long(key, PROTECTION))
+    }
+}
+
+/// The date; of the root its own, not the disk's.
+fn date_in(image: &Image, key: u32) -> Date3
+    requires tree { HasTree image.now }
+    requires key { HasKey image.now key }
+    ensures { (t : Tree) (node : Node) → Stands image.now t → t.nodes key ≡ Some node → result ≡ node.date }
+{
+    Date3 {
+        days: image.long(key, DATE),
+        minutes: image.long(key, DATE + 1),
+        ticks: image.long(key, DATE + 2),
+    }
+}
+
+/// The name.
+fn name_in(image: &Image, key: u32) -> Name
+    requires tree { HasTree image.now }
+    requires key { HasKey image.now key }
+    ensures { (t : Tree) (node : Node) → Stands image.now t → t.nodes key ≡ Some node → result ≡ node.name }
+{
+    match Name::new(text_in(image, key, NAME)) {
+        Ok(name) => name,
+        Err(_) => unreachable!(),
+    }
+}
+
+/// The comment; empty of the root.
+fn comment_in(image: &Image, key: u32) -> Comment
+    requires tree { HasTree image.now }
+    requires key { HasKey image.now key }
+    ensures { (t : Tree) (node : Node) → Stands image.now t → t.nodes key ≡ Some node → result ≡ node.comment }
+{
+    if key == image.root() {
+        comment_of(&[])
+    } else {
+        comment_of(text_in(image, key, COMMENT))
+    }
+}
+
+/// A text as a comment.
+fn comment_of(text: &[u8]) -> Comment
+    requires { length text.now ≤ 79 }
+    ensures { result ≡ text.now }
+{
+    match Comment::new(text) {
+        Ok(comment) => comment,
+        Err(_) => unreachable!(),
+    }
+}
+
+/// The text of a block behind the byte of its length.
+fn text_in(image: &Image, key: u32, at: u32) -> &[u8]
+    requires inside { key < block_count image.now }
+    requires place { at < 512 }
+    requires room { at + 1 + byte_at image.now key at ≤ 512 }
+    ensures { result.now ≡ text_at image.now key at }
+{
+    let start = at as usize + 1;
+    let length = image.byte(key, at) as usize;
+    &image.block(key)[start..start + length]
+}

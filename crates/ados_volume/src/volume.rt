@@ -1,0 +1,70 @@
+//! The volume: an image that stands for a tree.
+
+ghost use Rattle.std.specs.Prelude.{◌≡◌, []};
+ghost use Rattle.ados_tree.specs.Tree.{Tree};
+ghost use Rattle.ados_tree.specs.Stands.{Stands};
+
+use crate::cache::NameCache;
+use adf_block::Image;
+use std::marker::Model;
+
+/// A volume whose image stands for one tree, by `one_tree` of `ados_tree`. Contracts see the image and whether its
+/// bitmap was rebuilt, and speak of that tree. Which names are kept in the cache they do not see.
+#[derive(Drop)]
+pub struct Volume {
+    pub(crate) image: Image,
+    was_validated: bool,
+    pub(crate) names: NameCache,
+}
+
+impl Model for Volume {
+    ghost use Rattle.ados_tree.specs.Tree.{Tree};
+    ghost use Rattle.ados_tree.specs.Stands.{Stands};
+    ghost use Rattle.ados_volume.specs.Cache.{AreChildren};
+    ghost use Rattle.ados_volume.specs.Shown.{Shown};
+
+    ghost Value = { Shown };
+
+    ghost view = { λ volume. record { image = volume.image; was_validated = volume.was_validated } };
+
+    ghost invariant = { λ volume. ((t : Tree) × Stands volume.image t) × AreChildren volume.image volume.names.pairs.entries };
+}
+
+impl Volume {
+    /// The volume of an image that stands for a tree, with an empty cache.
+    pub(crate) fn standing(image: Image, was_validated: bool, names: NameCache) -> Volume
+        requires stands { (t : Tree) × Stands image t }
+        requires empty { names.pairs.entries ≡ [] }
+        ensures image { result.image ≡ image }
+        ensures validated { result.was_validated ≡ was_validated }
+    {
+        Volume {
+            image,
+            was_validated,
+            names,
+        }
+    }
+
+    /// The image.
+    pub fn image(&self) -> &Image
+        ensures same { result.now ≡ self.now.image }
+        ensures stands { (t : Tree) × Stands self.now.image t }
+    {
+        &self.image
+    }
+
+    /// The image, when the volume is no longer wanted.
+    pub fn into_image(self) -> Image
+        ensures same { result ≡ self.image }
+        ensures stands { (t : Tree) × Stands self.image t }
+    {
+        self.image
+    }
+
+    /// Whether the bitmap of the image that was checked was not valid, and so was rebuilt.
+    pub fn was_validated(&self) -> bool
+        ensures { result ≡ self.now.was_validated }
+    {
+        self.was_validated
+    }
+}
