@@ -34,10 +34,13 @@ label client number = decimal client ++ 46 ∷ decimal number
 abbrev pub line : List ℕ → List ℕ
 line text = text ++ 10 ∷ []
 
+-- an answer's two results, and what its body adds
+abbrev pub results : Answer → List ℕ
+results answer = signed_decimal answer.res1 ++ spaced (signed_decimal answer.res2) ++ body_text answer.body
+
 -- the line of a reply
 abbrev pub reply_line : ℕ → ℕ → Answer → List ℕ
-reply_line client number answer =
-    line (label client number ++ spaced (signed_decimal answer.res1) ++ spaced (signed_decimal answer.res2) ++ body_text answer.body)
+reply_line client number answer = line (label client number ++ spaced (results answer))
 
 -- the lines of replies, numbered from this number on
 abbrev pub reply_lines : ℕ → ℕ → List Answer → List ℕ

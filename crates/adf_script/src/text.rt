@@ -1,6 +1,6 @@
 //! The lines that tell of a client's replies, and of its end.
 ghost use Rattle.std.specs.Prelude.{◌≡◌, ◌<◌, ◌++◌, IfOk, OnOk};
-ghost use Rattle.adf_script.specs.Text.{hex_digit, hex_byte, hex_long, body_text, reply_line, closed_line, fault_line};
+ghost use Rattle.adf_script.specs.Text.{hex_digit, hex_byte, hex_long, body_text, results, line, reply_line, closed_line, fault_line};
 
 use ados_packet::{Answer, Body, DiskInfo};
 use std::alloc::{AllocError, Global};
@@ -14,12 +14,30 @@ pub fn reply_text(
 ) -> Result<Vec<u8>, AllocError>
     ensures { IfOk result (λ text. text.items ≡ reply_line client number answer.now) }
 {
+    let mut text = format!(in alloc; "{client}.{number} ")?.into_bytes();
+    push_results(alloc, &mut text, answer)?;
+    Ok(text)
+}
+
+/// A line of an answer's results alone, with its line feed.
+pub fn results_text(alloc: Global, answer: &Answer) -> Result<Vec<u8>, AllocError>
+    ensures { IfOk result (λ text. text.items ≡ line (results answer.now)) }
+{
+    let mut text = Vec::new(alloc);
+    push_results(alloc, &mut text, answer)?;
+    Ok(text)
+}
+
+fn push_results(alloc: Global, text: &mut Vec<u8>, answer: &Answer) -> Result<(), AllocError>
+    ensures { OnOk result (text.new.items ≡ text.old.items ++ line (results answer.now)) }
+{
     let res1 = answer.res1;
     let res2 = answer.res2;
-    let mut text = format!(in alloc; "{client}.{number} {res1} {res2}")?.into_bytes();
-    push_body(alloc, &mut text, &answer.body)?;
+    let numbers = format!(in alloc; "{res1} {res2}")?;
+    text.extend_from_slice(numbers.as_bytes())?;
+    push_body(alloc, text, &answer.body)?;
     text.push(b'\n')?;
-    Ok(text)
+    Ok(())
 }
 
 /// The line of a put that was refused as closed.

@@ -2,6 +2,8 @@
 #![tactic(auto)]
 
 mod blank;
+mod commands;
+mod fault;
 mod script;
 mod small;
 mod words;
@@ -12,12 +14,15 @@ use std::{env, io};
 pub use words::run_words;
 
 #[cfg(test)]
+mod command_tests;
+#[cfg(test)]
 mod tests;
 
 fn main(rt: HostRuntime) -> io::Result<ExitCode> {
     let alloc = rt.alloc();
     let words: Vec<String> = env::args(&rt)?.skip(1).collect(alloc)?;
     let status = run_words(
+        &rt,
         alloc,
         words.as_slice(),
         &mut rt.stdin(),

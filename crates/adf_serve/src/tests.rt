@@ -139,7 +139,7 @@ fn statuses(rt: HostRuntime) -> Result<(), Fail> {
         let mut lines = Vec::new(alloc);
         let mut faults = Vec::new(alloc);
         assert_eq!(rt;
-            run_words(alloc, &none, &mut script, &mut lines, &mut faults),
+            run_words(&rt, alloc, &none, &mut script, &mut lines, &mut faults),
             status
         );
         assert!(rt; faults.is_empty());
@@ -147,7 +147,7 @@ fn statuses(rt: HostRuntime) -> Result<(), Fail> {
     none.push(String::from_str(alloc, "--loud")?)?;
     let (mut script, mut lines, mut faults) = (FIRST_RUN, Vec::new(alloc), Vec::new(alloc));
     assert_eq!(rt;
-        run_words(alloc, &none, &mut script, &mut lines, &mut faults),
+        run_words(&rt, alloc, &none, &mut script, &mut lines, &mut faults),
         1
     );
     assert!(rt; lines.is_empty() && !faults.is_empty());

@@ -1,16 +1,21 @@
 //! The program's words.
-ghost use Rattle.std.specs.Prelude.{◌≡◌, ◌<◌, [], true, false, length};
+ghost use Rattle.std.specs.Prelude.{◌≡◌, [], true, false};
 ghost use Rattle.adf_serve.specs.Script.{RunsScript};
 
+use crate::commands::run_job;
+use crate::fault::CommandFault;
 use crate::script::try_script;
 use adf_script::TryFault;
+use adf_words::{WordsFault, read_words};
 use std::alloc::Global;
 use std::io::{Read, Write};
+use std::rt::Files;
 
 /// Runs the program on the words behind its own name, and answers its exit status: 0 done, 1 a wrong command line,
-/// 2 a stream that cannot be read or written, or no memory, 3 a faulty script. What went wrong with the words or the
-/// streams is told on `faults`.
-pub fn run_words<R: Read, W: Write, F: Write>(
+/// 2 a file or stream that cannot be read or written, or no memory, 3 an image, a name or a script that is refused. What
+/// went wrong with the words, the files or the streams is told on `faults`.
+pub fn run_words<T: Files, R: Read, W: Write, F: Write>(
+    rt: &T,
     alloc: Global,
     words: &[String],
     reader: &mut R,
@@ -19,16 +24,39 @@ pub fn run_words<R: Read, W: Write, F: Write>(
 ) -> u8
     ensures whole { words.now ≡ [] → result ≡ 0 → RunsScript (R.remaining reader.old) (R.remaining reader.new) (W.contents writer.old) (W.contents writer.new) true }
     ensures faulty { words.now ≡ [] → result ≡ 3 → RunsScript (R.remaining reader.old) (R.remaining reader.new) (W.contents writer.old) (W.contents writer.new) false }
-    ensures words { 0 < length words.now → result ≡ 1 }
 {
-    if let Some(word) = words.first() {
-        let word = word.as_str();
-        let _ = write!(
-            faults,
-            "adf_serve: '{word}' is no command yet: without words a script is read from standard input\n"
-        );
-        return 1;
+    if words.is_empty() {
+        return run_script(alloc, reader, writer, faults);
     }
+    match read_words(alloc, words) {
+        Ok(job) => match run_job(rt, alloc, job, writer) {
+            Ok(()) => 0,
+            Err(fault) => {
+                tell_fault(&fault, faults);
+                fault.status()
+            }
+        },
+        Err(WordsFault::Usage(text)) => {
+            let _ = faults.write_all(text.as_bytes());
+            1
+        }
+        Err(WordsFault::Memory) => {
+            tell_fault(&CommandFault::Memory, faults);
+            2
+        }
+    }
+}
+
+/// Runs the script of standard input.
+fn run_script<R: Read, W: Write, F: Write>(
+    alloc: Global,
+    reader: &mut R,
+    writer: &mut W,
+    faults: &mut F,
+) -> u8
+    ensures whole { result ≡ 0 → RunsScript (R.remaining reader.old) (R.remaining reader.new) (W.contents writer.old) (W.contents writer.new) true }
+    ensures faulty { result ≡ 3 → RunsScript (R.remaining reader.old) (R.remaining reader.new) (W.contents writer.old) (W.contents writer.new) false }
+{
     match try_script(alloc, reader, writer) {
         Ok(()) => 0,
         Err(TryFault::Script) => 3,
@@ -36,6 +64,13 @@ pub fn run_words<R: Read, W: Write, F: Write>(
             let _ = faults.write_all(text_of(fault).as_bytes());
             2
         }
+    }
+}
+
+/// Tells a person of a fault, but of a refused image, of which standard output tells.
+fn tell_fault<F: Write>(fault: &CommandFault<'_>, faults: &mut F) {
+    if !matches!(fault, CommandFault::Refused) {
+        let _ = write!(faults, "adf_serve: {fault}\n");
     }
 }
 

@@ -1,20 +1,7 @@
 //! The answers.
 ghost use Rattle.std.specs.Prelude.{◌≡◌, pos, negsuc};
 
-/// What DISK_INFO tells of the volume.
-#[derive(Clone, Copy, Debug, PartialEq, Eq)]
-pub struct DiskInfo {
-    /// 80 write protected, 81 being validated, 82 valid.
-    pub state: u32,
-    /// How many blocks there are behind the boot blocks.
-    pub blocks: u32,
-    /// How many of them are in use.
-    pub used: u32,
-    /// How many bytes of a file a block holds.
-    pub bytes_per_block: u32,
-    /// `DOS` and the kind of file system, as four bytes.
-    pub disk_type: u32,
-}
+pub use ados_volume::DiskInfo;
 
 /// What an answer brings beside its results.
 #[derive(Drop)]

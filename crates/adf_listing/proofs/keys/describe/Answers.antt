@@ -1,0 +1,10 @@
+use Rattle.std.proofs.Common.{sym, ap, ◌∙◌}
+use Rattle.ados_volume.specs.declared.examine.FileInfo.{FileInfo}
+use Rattle.ados_volume.proofs.Looking.{some_in}
+use Rattle.adf_listing.proofs.Listed.{told_directory}
+use Rattle.adf_listing.proofs.keys.describe.Goals as goal
+
+pub returns : goal.returns
+returns c = λ h t s.
+    let n = some_in (t.nodes c.args.key) (c.requires t s) in
+    told_directory t c.args.key n.0 n.1 (sym (ap (λ (info : FileInfo). info.entry_type) (c.examine.ensures t n.0 s n.1)) ∙ h)

@@ -1,0 +1,17 @@
+//! Why a text is not printed whole.
+use std::alloc::AllocError;
+
+/// Why a text is not printed whole.
+#[derive(Clone, Copy, Debug, PartialEq, Eq)]
+pub enum PrintFault {
+    /// A write failed, or took no byte.
+    Write,
+    /// There is no memory for the text.
+    Memory,
+}
+
+impl From<AllocError> for PrintFault {
+    fn from(_error: AllocError) -> PrintFault {
+        PrintFault::Memory
+    }
+}

@@ -1,0 +1,15 @@
+//! What the program prints of a volume: what DISK_INFO tells of it, and all its directories and files.
+#![tactic(auto)]
+
+mod fault;
+mod info;
+mod keys;
+mod lines;
+mod listing;
+
+pub use fault::PrintFault;
+pub use info::write_info;
+pub use listing::write_list;
+
+#[cfg(test)]
+mod tests;

@@ -1,0 +1,51 @@
+//! Why a command is not done.
+use adf_listing::PrintFault;
+use std::alloc::AllocError;
+use thiserror::Error;
+
+/// Why a command is not done, with what a person is told of it.
+#[derive(Debug, Drop, Error)]
+pub enum CommandFault<'a> {
+    #[error("'{0}' cannot be read")]
+    Read(&'a str),
+    #[error("'{0}' gave no end within 2,097,152 reads")]
+    Endless(&'a str),
+    #[error("'{0}' cannot be written")]
+    Write(&'a str),
+    #[error("standard output cannot be written")]
+    Output,
+    #[error("there is not enough memory")]
+    Memory,
+    #[error("a volume has 16 to 101,602 blocks, and not {0}")]
+    Blocks(u32),
+    #[error("'{0}' is no name of a volume, which has 1 to 30 bytes without `/` and `:`")]
+    Name(&'a str),
+    #[error("the image is refused")]
+    Refused,
+}
+
+impl CommandFault<'_> {
+    /// The program's exit status: 1 for a wrong number of blocks, 2 for what could not be read or written and for want of memory, 3 for what is refused.
+    pub(crate) fn status(&self) -> u8 {
+        match self {
+            CommandFault::Blocks(_) => 1,
+            CommandFault::Name(_) | CommandFault::Refused => 3,
+            _ => 2,
+        }
+    }
+}
+
+impl From<AllocError> for CommandFault<'_> {
+    fn from(_error: AllocError) -> Self {
+        CommandFault::Memory
+    }
+}
+
+impl From<PrintFault> for CommandFault<'_> {
+    fn from(fault: PrintFault) -> Self {
+        match fault {
+            PrintFault::Write => CommandFault::Output,
+            PrintFault::Memory => CommandFault::Memory,
+        }
+    }
+}
