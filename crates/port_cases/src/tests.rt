@@ -206,7 +206,7 @@ fn put_again<R: Wait>(rt: &R, port: &mut Port, client: usize, action: u32) -> Op
     }
 }
 
-// Each call is made once more where its growth was refused: by `rt try --test --fail-alloc 1..` each in turn.
+// Each call is made once more where its growth was refused: `tools/growths.sh` refuses each in turn.
 #[test]
 fn gather_refused(rt: HostRuntime) {
     assert!(rt; Port::open(rt.alloc(), 1, usize::MAX).is_none());
