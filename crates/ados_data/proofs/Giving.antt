@@ -80,6 +80,7 @@ module _ (old : List ℕ) (b : ℕ) (new : List ℕ) (m : Marked old b true new)
     pages = given_page;
     others = λ c k l o. untouched_given c o.beside_pages k l;
     used = λ c i o. m.others c (has_bit old c i) (another c o) ∙ o.used i.0;
+    past_end = λ j h l. m.others j h (λ e. omega (arith, e, l, inside.1));
     header = λ k l f. untouched_given file header_beside k l;
     header_sum = λ e. untouched_sum old new file (untouched_given file header_beside) ∙ e;
     page_sums = λ p l e. elim (cases_eq p (page_of b)) [

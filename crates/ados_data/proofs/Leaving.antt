@@ -1,5 +1,5 @@
 -- What the steps of a change leave as it is.
-use Rattle.std.proofs.Common.{◌≡◌, ◌≢◌, ℕ, suc, ◌-◌, ◌/◌, ◌<◌, ◌≤◌, ◌⊎◌, inl, inr, true, List, [], ◌∷◌, ◌++◌, length, slice_index, refl, sym, ap, ◌∙◌, subst, arith}
+use Rattle.std.proofs.Common.{◌≡◌, ◌≢◌, ℕ, suc, ◌-◌, ◌/◌, ◌<◌, ◌≤◌, ◌⊎◌, inl, inr, true, List, [], ◌∷◌, ◌++◌, length, take, slice_index, refl, sym, ap, ◌∙◌, subst, arith}
 use Rattle.std.proofs.lemmas.Bool.{cases_Bool, cases_lt, cases_eq, false≢true}
 use Rattle.std.proofs.lemmas.List.{length_push}
 use Rattle.adf_block.specs.declared.Format.{Format}
@@ -15,7 +15,8 @@ use Rattle.ados_data.proofs.Untouched.{untouched_sum}
 use Rattle.ados_data.proofs.Marks.{has_bit, page_kept}
 use Rattle.ados_data.proofs.Untouched.{untouched_sum}
 use Rattle.std.proofs.lemmas.Bool.{true_from_ne_false}
-use Rattle.ados_data.specs.Others.{IsOther, IsDataField, Leaves, Gains}
+use Rattle.ados_data.specs.Others.{IsOther, IsDataField, Leaves, IsOwn, Gains}
+use Rattle.ados_data.proofs.Grown.{front_length, front_at, front_header}
 use Rattle.ados_data.proofs.Growing.{extended_owner, Lengthened, lengthened_owner}
 use Rattle.ados_data.proofs.Resizing.{Resized, resized_owner}
 use Rattle.ados_data.proofs.Standing.{Standing, root_free, pages_free, marks_stay, beside_new}
@@ -27,6 +28,7 @@ leaves_same image file blocks extensions = record {
   pages = λ p l. refl;
   others = λ c k l o. refl;
   used = λ c i o. o.used i.0;
+  past_end = λ j h l. refl;
   header = λ k l n. refl;
   header_sum = λ e. e;
   page_sums = λ p l e. e;
@@ -40,6 +42,7 @@ leaves_both old mid new file blocks extensions blocks' extensions' a b more = re
   pages = λ p l. b.pages p (in_mid p l) ∙ a.pages p l;
   others = λ c k l o. b.others c k l (other c o) ∙ a.others c k l o;
   used = λ c i o. b.used c (i.0, omega (arith, i.1, counts)) (other c o);
+  past_end = λ j h l. b.past_end j (h.0, omega (arith, h.1, counts)) (omega (arith, l, counts)) ∙ a.past_end j h l;
   header = λ k l n. b.header k l n ∙ a.header k l n;
   header_sum = λ e. b.header_sum (a.header_sum e);
   page_sums = λ p l e.
@@ -70,6 +73,7 @@ leaves_owned changed old new file blocks extensions h ok owner beside field summ
   pages = page_kept changed old new h ok.1 (root_free changed old new h ok owner);
   others = λ c k l o. h.same_byte c k l (beside c k o);
   used = λ c i o. marks_stay changed old new h ok owner c (has_bit old c i) ∙ o.used i.0;
+  past_end = λ j b l. marks_stay changed old new h ok owner j b;
   header = λ k l n. h.same_byte file k l (λ at. n (field k at));
   header_sum = summed;
   page_sums = λ p l e. same_sum changed old new h (page_block old p) (λ k m. pages_free changed old new h ok owner p k l) ∙ e;
@@ -82,6 +86,7 @@ leaves_taken old b new file blocks extensions n ok m header_used = record {
   pages = page_kept (λ c k. MapPlace old b c k ⊎ (c ≡ b)) old new n.rest ok.1 root_untaken;
   others = λ c k l o. n.rest.same_byte c k l (no c k o);
   used = λ c i o. n.others c (has_bit old c i) (another c o) ∙ o.used i.0;
+  past_end = λ j h l. n.others j h (λ e. omega (arith, e, l, n.lowest.inside.1));
   header = λ k l f. n.rest.same_byte file k l (no_header k);
   header_sum = λ e. untouched_sum old new file (λ k l. n.rest.same_byte file k l (no_header k)) ∙ e;
   page_sums = λ p l e. elim (cases_eq p (page_of b)) [
@@ -128,11 +133,11 @@ beside_gains old new file blocks extensions blocks' extensions' g c o = (
 )
 
 pub gains_same : (image : List ℕ) (file : ℕ) (blocks extensions : List ℕ) → Gains image file blocks extensions image blocks extensions
-gains_same image file blocks extensions = record { headers = λ q l. inl (l, refl); data_blocks_of = λ i l. inl (l, refl); marks = λ c i u. u; lowest = λ c d i p l f u. absurd (false≢true (sym u ∙ f)) }
+gains_same image file blocks extensions = record { headers = λ q l. inl (l, refl); data_blocks_of = λ i l. inl (l, refl); marks = λ c i u. u; taken = λ c i f u. absurd (false≢true (sym u ∙ f)); lowest = λ c d i p l f u. absurd (false≢true (sym u ∙ f)) }
 
 pub gains_both : (old mid new : List ℕ) (file : ℕ) (blocks extensions blocks' extensions' blocks'' extensions'' : List ℕ) → block_count mid ≡ block_count old → ((q : ℕ) → q ≤ length extensions'' → IsInside (block_count old) (slice_index (file ∷ extensions'') q)) → ((i : ℕ) → i < length blocks'' → IsInside (block_count old) (slice_index blocks'' i)) →
-    Gains old file blocks extensions mid blocks' extensions' → Gains mid file blocks' extensions' new blocks'' extensions'' → Gains old file blocks extensions new blocks'' extensions''
-gains_both old mid new file blocks extensions blocks' extensions' blocks'' extensions'' counts inside_headers inside_data a b = record {
+    take (length blocks') blocks'' ≡ blocks' → take (length extensions') extensions'' ≡ extensions' → Gains old file blocks extensions mid blocks' extensions' → Gains mid file blocks' extensions' new blocks'' extensions'' → Gains old file blocks extensions new blocks'' extensions''
+gains_both old mid new file blocks extensions blocks' extensions' blocks'' extensions'' counts inside_headers inside_data front front' a b = record {
   headers = λ q l. elim (b.headers q l) [
     | inr f ↦ inr (f.0, was (slice_index (file ∷ extensions'') q) (inside_headers q l) f.1)
     | inl s ↦ elim (a.headers q s.0) [
@@ -148,6 +153,10 @@ gains_both old mid new file blocks extensions blocks' extensions' blocks'' exten
     ]
   ];
   marks = λ c i u. b.marks c (i.0, omega (arith, i.1, counts)) (a.marks c i u);
+  taken = λ c i f u. elim (cases_Bool (is_marked_free mid c)) [
+    | inl t ↦ b.taken c (i.0, omega (arith, i.1, counts)) t u
+    | inr e ↦ still_own c (a.taken c i f e)
+  ];
   lowest = λ c d i p l f u. elim (cases_Bool (is_marked_free mid d)) [
     | inl t ↦ b.lowest c d (i.0, omega (arith, i.1, counts)) p l t u
     | inr e ↦ b.marks c (p, omega (arith, l, i.1, counts)) (a.lowest c d i p l f e)
@@ -156,6 +165,10 @@ gains_both old mid new file blocks extensions blocks' extensions' blocks'' exten
   where
     was : (c : ℕ) → IsInside (block_count old) c → is_marked_free mid c ≡ true → is_marked_free old c ≡ true
     was c i f = true_from_ne_false (is_marked_free old c) (λ e. false≢true (sym (a.marks c i e) ∙ f))
+
+    still_own : (c : ℕ) → IsOwn file blocks' extensions' c → IsOwn file blocks'' extensions'' c
+    still_own c (inl (q, l, e)) = inl (q, omega (arith, l, front_length extensions' extensions'' front'), e ∙ sym (front_header file extensions' extensions'' front' q l))
+    still_own c (inr (i, l, e)) = inr (i, omega (arith, l, front_length blocks' blocks'' front), e ∙ sym (front_at blocks' blocks'' front i l))
 
 -- ---- the steps
 
@@ -230,11 +243,15 @@ module _ (old new : List ℕ) (format : Format) (file : ℕ) (blocks extensions 
 -- ---- what a new block adds to the lists
 
 pub gains_taken : (old : List ℕ) (b : ℕ) (new : List ℕ) (file : ℕ) (blocks extensions blocks' extensions' : List ℕ) → IsNewBlock old b new → ((q : ℕ) → q ≤ length extensions' → ((q ≤ length extensions) × (slice_index (file ∷ extensions') q ≡ slice_index (file ∷ extensions) q)) ⊎ (slice_index (file ∷ extensions') q ≡ b)) →
-    ((i : ℕ) → i < length blocks' → ((i < length blocks) × (slice_index blocks' i ≡ slice_index blocks i)) ⊎ (slice_index blocks' i ≡ b)) → Gains old file blocks extensions new blocks' extensions'
-gains_taken old b new file blocks extensions blocks' extensions' n headers datas = record {
+    ((i : ℕ) → i < length blocks' → ((i < length blocks) × (slice_index blocks' i ≡ slice_index blocks i)) ⊎ (slice_index blocks' i ≡ b)) → IsOwn file blocks' extensions' b → Gains old file blocks extensions new blocks' extensions'
+gains_taken old b new file blocks extensions blocks' extensions' n headers datas own = record {
   headers = λ q l. elim (headers q l) [ inl s ↦ inl s | inr e ↦ inr (omega (arith, e, n.lowest.inside.0), ap (is_marked_free old) e ∙ n.lowest.free) ];
   data_blocks_of = λ i l. elim (datas i l) [ inl s ↦ inl s | inr e ↦ inr (omega (arith, e, n.lowest.inside.0), ap (is_marked_free old) e ∙ n.lowest.free) ];
   marks = λ c i u. n.others c (has_bit old c i) (λ e. false≢true (sym u ∙ ap (is_marked_free old) e ∙ n.lowest.free)) ∙ u;
+  taken = λ c i f u. elim (cases_eq c b) [
+    | inl e ↦ subst (IsOwn file blocks' extensions') (sym e) own
+    | inr ne ↦ absurd (false≢true (sym u ∙ n.others c (has_bit old c i) ne ∙ f))
+  ];
   lowest = λ c d i p l f u. elim (cases_eq d b) [
     | inl e ↦ n.others c (has_bit old c (p, omega (arith, l, i.1))) (omega (arith, l, e)) ∙ n.lowest.lowest c p (omega (arith, l, e))
     | inr ne ↦ absurd (false≢true (sym u ∙ n.others d (has_bit old d i) ne ∙ f))
@@ -247,5 +264,6 @@ gains_kept old new new' file blocks extensions blocks' extensions' counts same g
   headers = g.headers;
   data_blocks_of = g.data_blocks_of;
   marks = λ c i u. same c (has_bit new c (i.0, omega (arith, i.1, counts))) ∙ g.marks c i u;
+  taken = λ c i f u. g.taken c i f (sym (same c (has_bit new c (i.0, omega (arith, i.1, counts)))) ∙ u);
   lowest = λ c d i p l f u. same c (has_bit new c (p, omega (arith, l, i.1, counts))) ∙ g.lowest c d i p l f (sym (same d (has_bit new d (i.0, omega (arith, i.1, counts)))) ∙ u);
 }
