@@ -1,7 +1,7 @@
 -- Levels that are taken off and put back.
 use Rattle.std.proofs.Common.{◌≡◌, ℕ, List, [], ◌∷◌, ◌++◌, Option, Some, IfSome, option_to_list, subst}
 use Rattle.std.proofs.lemmas.List.Elements.{All-pop, All-push, All-same}
-use Rattle.ados_volume.specs.Keys.{HasDirectory}
+use Rattle.ados_tree.specs.Keys.{HasDirectory}
 use Rattle.adf_listing.specs.declared.listing.Level.{Level}
 use Rattle.adf_listing.specs.Levels.{AreDirectories}
 

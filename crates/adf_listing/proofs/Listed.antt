@@ -8,7 +8,7 @@ use Rattle.ados_tree.specs.Stands.{Stands}
 use Rattle.ados_tree.specs.Change.{behind, entries_after}
 use Rattle.ados_tree.proofs.Nodes.{entry_node}
 use Rattle.ados_volume.specs.Examined.{entry_type}
-use Rattle.ados_volume.specs.Keys.{HasKey}
+use Rattle.ados_tree.specs.Keys.{HasKey}
 use Rattle.ados_volume.specs.Listing.{first_left}
 
 first-listed : (keys : List ℕ) (k : ℕ) → first_left (Some keys) ≡ Entry k → Contains keys k

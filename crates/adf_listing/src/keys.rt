@@ -1,6 +1,6 @@
 //! What is asked of a volume while it is listed.
 ghost use Rattle.std.specs.Prelude.{◌≡◌, ◌↔◌, IfSome, IsTrue, pos};
-ghost use Rattle.ados_volume.specs.Keys.{HasDirectory, HasKey};
+ghost use Rattle.ados_tree.specs.Keys.{HasDirectory, HasKey};
 
 use ados_volume::{FileInfo, Next, Volume};
 

@@ -14,6 +14,7 @@ mod shorten;
 mod write;
 
 pub use cost::blocks_of;
+pub use fields::format_of;
 pub use grow::extend;
 pub use read::read_at;
 pub use shorten::cut;

@@ -1,6 +1,7 @@
 -- What follows for the nodes of a tree, and for what a tree's image has in their blocks.
-use Rattle.std.proofs.Common.{◌≡◌, ◌≢◌, ℕ, ◌⊎◌, inl, inr, ◌==◌, List, slice_index_or, All, Contains, Option, Some, None, option_map, option_and_then, refl, arith, mod-lt}
+use Rattle.std.proofs.Common.{◌≡◌, ◌≢◌, ℕ, ◌⊎◌, inl, inr, ◌==◌, List, slice_index_or, All, Contains, Option, Some, None, IsSome, option_map, option_and_then, refl, arith, mod-lt}
 use Rattle.std.specs.List.{AllByRecursion}
+use Rattle.std.proofs.lemmas.Bool.{false≢true}
 use Rattle.std.proofs.lemmas.List.Elements.{recursion_from_All, All-filter, Contains-get_or}
 use Rattle.adf_block.specs.Image.{IsInside}
 use Rattle.ados_name.specs.Name.{slot, hash}
@@ -9,6 +10,10 @@ use Rattle.ados_tree.specs.Tree.Content.{Directory, File}
 use Rattle.ados_tree.specs.Tree.LeadsToRoot.{at_root, by_parent}
 use Rattle.ados_tree.specs.Stands.{in_slot}
 use Rattle.ados_tree.proofs.Lists.{joined, by_slot}
+
+pub some_in : (o : Option Node) → IsSome o → (a : Node) × (o ≡ Some a)
+some_in None h = absurd (false≢true h)
+some_in (Some a) h = (a, refl)
 
 pub parent_in : (o : Option Node) (dir : ℕ) → option_and_then (λ node. node.parent) o ≡ Some dir → (a : Node) × (o ≡ Some a) × (a.parent ≡ Some dir)
 parent_in None dir e = absurd (cc e)

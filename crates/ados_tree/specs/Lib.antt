@@ -2,6 +2,7 @@ pub mod Dates
 pub mod Tree
 pub mod Layout
 pub mod Stands
+pub mod Keys
 pub mod Faults
 pub mod Kept
 pub mod Walk

@@ -2,11 +2,13 @@
 #![tactic(auto)]
 
 mod fault;
+mod full;
 mod laws;
 mod path_fault;
 mod role;
 
 pub use fault::{FaultKind, VolumeFault};
+pub use full::Full;
 pub use laws::{blank_stands, faults_have_no_tree, free_is_marked, has_blank_image, one_tree};
 pub use path_fault::{PlaceFault, WalkFault};
 pub use role::Role;

@@ -16,9 +16,9 @@ use Rattle.ados_tree.specs.Dates.{date_at}
 use Rattle.ados_tree.specs.Kept.{IsField}
 use Rattle.ados_tree.specs.Stands.{format_byte}
 use Rattle.ados_tree.specs.Blank.{IsBlank}
-use Rattle.ados_volume.specs.Places.{Within}
+use Rattle.ados_fields.specs.Places.{Within}
 use Rattle.ados_volume.specs.BlankParts.{IsBlankRoot, IsBetweenFields, NamesBlank}
-use Rattle.ados_volume.proofs.Texts.{bytes_put}
+use Rattle.ados_fields.proofs.Texts.{bytes_put}
 
 -- the pages behind a blank root are lawful
 module _ (n : ℕ) (name : List ℕ) (moment : Date3) (image : List ℕ) (size : IsSize n) (count : block_count image ≡ n) (root : IsBlankRoot n name moment image) where

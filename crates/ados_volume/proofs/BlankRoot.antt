@@ -8,7 +8,7 @@ use Rattle.adf_block.proofs.Frames.{same_trans, same_weaken, same_long, same_byt
 use Rattle.adf_block.proofs.Longs.{long-bytes}
 use Rattle.ados_name.specs.declared.Date3.{Date3}
 use Rattle.ados_tree.specs.Dates.{date_at}
-use Rattle.ados_volume.specs.Places.{Within}
+use Rattle.ados_fields.specs.Places.{Within}
 use Rattle.ados_volume.specs.BlankParts.{IsBlankRoot, HasBlankFields, IsBetweenFields}
 
 -- a long is four bytes

@@ -1,32 +1,97 @@
 -- What a cache of children gives back, and what it keeps.
-use Rattle.std.proofs.Common.{◌≡◌, ℕ, Bool, true, ◌==◌, ◌&&◌, ◌⊎◌, inl, inr, List, [], map, find, Contains, Option, Some, None, Result, Ok, Err, OnOk, OnErr, IfSome, bytes_eq, sym, ap, ◌∙◌, subst}
-use Rattle.std.specs.Map.{lookup}
-use Rattle.std.proofs.lemmas.Bool.{and_parts, eqb-true}
+use Rattle.std.proofs.Common.{◌≡◌, ℕ, zero, suc, ◌-◌, Bool, true, false, ◌==◌, ◌&&◌, ◌⊎◌, inl, inr, List, [], ◌∷◌, ◌++◌, map, length, take, drop, replicate, find, Contains, Option, Some, None, Result, Ok, Err, OnOk, OnErr, IfSome, bytes_eq, refl, sym, ap, ap₂, ◌∙◌, subst, eq-eqb, arith}
+use Rattle.std.specs.Map.{lookup, remove_entry, keys_of}
+use Rattle.std.specs.List.{AllByRecursion, IsDistinct}
+use Rattle.std.proofs.lemmas.Bool.{and_parts, and_from, eqb-true, false≢true}
+use Rattle.std.specs.Char.{to_ascii_uppercase}
+use Rattle.std.proofs.lemmas.Bool.Decides.{nat_tests}
+use Rattle.std.proofs.lemmas.List.{length-map, map-append, take_at, drop-replicate}
 use Rattle.std.proofs.lemmas.Slice.Eq.{bytes_eq-Decides}
 use Rattle.lru.specs.LruCache.{LruCache, lru_cache, promoted, put_entries}
-use Rattle.lru.proofs.CallerLemmas.{Contains-lookup, Contains-promoted, Contains-put_entries}
+use Rattle.lru.proofs.CallerLemmas.{Contains-lookup, Contains-promoted, Contains-put_entries, Contains-remove_entry}
 use Rattle.ados_name.specs.Name.{upper, Same}
-use Rattle.lru.proofs.Splits.{Contains-nil}
+use Rattle.lru.proofs.Splits.{Contains-nil, Contains-cons}
 use Rattle.ados_tree.specs.Tree.{Tree, entries, name_of}
 use Rattle.ados_tree.specs.Stands.{Stands}
 use Rattle.ados_tree.specs.Walk.{child_of}
 use Rattle.ados_volume.specs.declared.cache.Sought.{Sought}
-use Rattle.ados_volume.specs.Cache.{HasPair, letters_of, Adds, AddsNone, AreChildren}
+use Rattle.ados_volume.specs.Cache.{Seeks, HasPair, Adds, AddsNone, TakesOut, AreChildren}
 
 -- how what is sought is compared
 abbrev pub same_sought : Sought → Sought → Bool
 same_sought a b = (a.dir == b.dir) && ((a.length == b.length) && bytes_eq a.letters b.letters)
 
+one_sought : (a b : Sought) → a.dir ≡ b.dir → a.length ≡ b.length → a.letters ≡ b.letters → a ≡ b
+one_sought a b dir count letters = λ i. record { dir = dir i; length = count i; letters = letters i }
+
 sought_is : (a b : Sought) → same_sought a b ≡ true → a ≡ b
 sought_is a b e =
     let h = and_parts (a.dir == b.dir) ((a.length == b.length) && bytes_eq a.letters b.letters) e in
     let k = and_parts (a.length == b.length) (bytes_eq a.letters b.letters) h.1 in
-    let dir : a.dir ≡ b.dir = eqb-true a.dir b.dir h.0 in
-    let len : a.length ≡ b.length = eqb-true a.length b.length k.0 in
-    let letters : a.letters ≡ b.letters = (bytes_eq-Decides a.letters b.letters).0 k.1 in
-    λ i. record { dir = dir i; length = len i; letters = letters i }
+    one_sought a b (eqb-true a.dir b.dir h.0) (eqb-true a.length b.length k.0) ((bytes_eq-Decides a.letters b.letters).0 k.1)
 
-module _ (sought : Sought) (dir : ℕ) (name : List ℕ) (in_dir : sought.dir ≡ dir) (spelled : letters_of sought ≡ map upper name) where
+is_sought : (a : Sought) → same_sought a a ≡ true
+is_sought a =
+    and_from (a.dir == a.dir) ((a.length == a.length) && bytes_eq a.letters a.letters) (eq-eqb a.dir a.dir refl)
+    (and_from (a.length == a.length) (bytes_eq a.letters a.letters) (eq-eqb a.length a.length refl) ((bytes_eq-Decides a.letters a.letters).1 refl))
+
+-- a name is sought by one value, which those of the same name share
+same_length : (name other : List ℕ) → Same name other → length name ≡ length other
+same_length name other e = sym (length-map name upper) ∙ ap length e ∙ length-map other upper
+
+seeks_one : (a b : Sought) (dir : ℕ) (name other : List ℕ) → Seeks a dir name → Seeks b dir other → Same name other → a ≡ b
+seeks_one a b dir name other h k e =
+    let count = same_length name other e in
+    one_sought a b (h.dir ∙ sym k.dir) (h.count ∙ count ∙ sym k.count)
+    (h.letters ∙ ap₂ (λ (letters : List ℕ) (n : ℕ). letters ++ replicate (30 - n) 0) e count ∙ sym k.letters)
+
+seeks_same : (a : Sought) (dir dir' : ℕ) (name other : List ℕ) → Seeks a dir name → Seeks a dir' other → Same name other
+seeks_same a dir dir' name other h k =
+    let count : length name ≡ length other = sym h.count ∙ k.count in
+    sym (take_at (map upper name) (replicate (30 - length name) 0) (length name) (length-map name upper))
+    ∙ ap₂ (λ (n : ℕ) (letters : List ℕ). take n letters) count (sym h.letters ∙ k.letters)
+    ∙ take_at (map upper other) (replicate (30 - length other) 0) (length other) (length-map other upper)
+
+upper_is : (c : ℕ) → to_ascii_uppercase c ≡ upper c
+upper_is c = grind (arith, nat_tests)
+
+-- a name that was copied over zeros, and put into upper case
+pub spelled : (name copied letters : List ℕ) → copied ≡ name → letters ≡ map to_ascii_uppercase (copied ++ drop (length name) (replicate 30 0)) → letters ≡ map upper name ++ replicate (30 - length name) 0
+spelled name copied letters same e =
+    e
+    ∙ (λ i. map (λ c. upper_is c i) (same i ++ drop (length name) (replicate 30 0)))
+    ∙ map-append upper name (drop (length name) (replicate 30 0))
+    ∙ ap (λ (zeros : List ℕ). map upper name ++ map upper zeros) (drop-replicate (length name) 30 0)
+    ∙ ap (λ (zeros : List ℕ). map upper name ++ zeros) (zeros_upper (30 - length name))
+  where
+    zeros_upper : (n : ℕ) → map upper (replicate n 0) ≡ replicate n 0
+    zeros_upper zero = refl
+    zeros_upper (suc n) = ap (λ (zeros : List ℕ). 0 ∷ zeros) (zeros_upper n)
+
+-- ---- an entry that was taken out
+
+apart : (x sought : Sought) (key : ℕ) (pairs : List (Sought × ℕ)) → AllByRecursion (λ y. same_sought x y ≡ false) (keys_of pairs) → Contains pairs (sought, key) → same_sought x sought ≡ false
+apart x sought key [] all c = absurd (Contains-nil (sought, key) c)
+apart x sought key (f ∷ pairs) all c = elim (Contains-cons f pairs (sought, key) c) [
+  | inl e ↦ subst (λ (p : Sought × ℕ). same_sought x p.0 ≡ false) e all.0
+  | inr later ↦ apart x sought key pairs all.1 later
+]
+
+gone : (sought : Sought) (key : ℕ) (pairs : List (Sought × ℕ)) → IsDistinct same_sought (keys_of pairs) → ¬ Contains (remove_entry (same_sought sought) pairs) (sought, key)
+unfolding IsDistinct
+gone sought key [] distinct c = Contains-nil (sought, key) c
+gone sought key (f ∷ pairs) distinct c = go (same_sought sought f.0) refl (gone sought key pairs distinct.1)
+  where
+    go : (b : Bool) → same_sought sought f.0 ≡ b → ¬ Contains (remove_entry (same_sought sought) pairs) (sought, key) → ⊥
+    go true e rest =
+        let other = apart f.0 sought key pairs distinct.0 (rw e at c) in
+        false≢true (sym (subst (λ (x : Sought). same_sought x sought ≡ false) (sym (sought_is sought f.0 e)) other) ∙ is_sought sought)
+    go false e rest = elim (Contains-cons f (remove_entry (same_sought sought) pairs) (sought, key) (rw e at c)) [
+      | inl same ↦ false≢true (sym e ∙ ap (λ (p : Sought × ℕ). same_sought sought p.0) same ∙ is_sought sought)
+      | inr later ↦ rest later
+    ]
+
+module _ (sought : Sought) (dir : ℕ) (name : List ℕ) (seeks : Seeks sought dir name) where
   -- what is found is a pair
   pub found : (pairs : List (Sought × ℕ)) (r : Option ℕ) → r ≡ lookup (same_sought sought) pairs → IfSome r (λ key. HasPair pairs dir name key)
   found pairs None e = tt
@@ -35,14 +100,13 @@ module _ (sought : Sought) (dir : ℕ) (name : List ℕ) (in_dir : sought.dir �
       record {
         sought = sought;
         listed = subst (λ (s : Sought). Contains pairs (s, key)) (sym (sought_is sought h.0 h.2)) h.1;
-        dir = in_dir;
-        letters = spelled;
+        seeks = seeks;
       }
 
   -- a put adds no other pair
   pub added : (cache : LruCache Sought ℕ) (key : ℕ) → Adds cache.entries dir name key (put_entries same_sought cache sought key)
   added cache key d n k h = elim (Contains-put_entries same_sought cache sought key (h.sought, k) h.listed) [
-    | inl was ↦ inl (record { sought = h.sought; listed = was; dir = h.dir; letters = h.letters })
+    | inl was ↦ inl (record { sought = h.sought; listed = was; seeks = h.seeks })
     | inr put ↦ inr (is_put (one_key put.1) put.0)
   ]
     where
@@ -51,20 +115,29 @@ module _ (sought : Sought) (dir : ℕ) (name : List ℕ) (in_dir : sought.dir �
       one_key (inr there) = sym (sought_is sought h.sought there.2)
 
       is_put : h.sought ≡ sought → k ≡ key → (d ≡ dir) × Same n name × (k ≡ key)
-      is_put same value = (sym h.dir ∙ ap (λ (s : Sought). s.dir) same ∙ in_dir, sym h.letters ∙ ap letters_of same ∙ spelled, value)
+      is_put same value = (sym h.seeks.dir ∙ ap (λ (s : Sought). s.dir) same ∙ seeks.dir, seeks_same sought d dir n name (subst (λ (s : Sought). Seeks s d n) same h.seeks) seeks, value)
 
   pub put_adds : {E : Type 0} (old : LruCache Sought ℕ) (key : ℕ) (new : LruCache Sought ℕ) (r : Result (Option ℕ) E)
       → OnOk r (new ≡ lru_cache (put_entries same_sought old sought key) old.cap) → OnErr r (new ≡ old) → Adds old.entries dir name key new.entries
   put_adds old key new (Ok o) put stays = subst (λ (c : LruCache Sought ℕ). Adds old.entries dir name key c.entries) (sym put) (added old key)
   put_adds old key new (Err e) put stays = subst (λ (c : LruCache Sought ℕ). Adds old.entries dir name key c.entries) (sym stays) (λ d n k h. inl h)
 
+  -- what is taken out is no longer there
+  pub taken_out : (old new : LruCache Sought ℕ) → IsDistinct same_sought (keys_of old.entries) → new ≡ lru_cache (remove_entry (same_sought sought) old.entries) old.cap → TakesOut old.entries dir name new.entries
+  taken_out old new distinct e d n k h =
+      let left : Contains (remove_entry (same_sought sought) old.entries) (h.sought, k) = subst (λ (c : LruCache Sought ℕ). Contains c.entries (h.sought, k)) e h.listed in (
+        record { sought = h.sought; listed = Contains-remove_entry (same_sought sought) old.entries (h.sought, k) left; seeks = h.seeks },
+        λ same.
+            let one : h.sought ≡ sought = seeks_one h.sought sought dir n name (subst (λ (i : ℕ). Seeks h.sought i n) same.0 h.seeks) seeks same.1 in
+            gone sought k old.entries distinct (subst (λ (s : Sought). Contains (remove_entry (same_sought sought) old.entries) (s, k)) one left),
+      )
+
 -- a look-up adds no pair
 pub kept : (test : Sought → Bool) (old new : LruCache Sought ℕ) → new ≡ lru_cache (promoted test old.entries) old.cap → AddsNone old.entries new.entries
 kept test old new e d n k h = record {
   sought = h.sought;
   listed = Contains-promoted test old.entries (h.sought, k) (subst (λ (c : LruCache Sought ℕ). Contains c.entries (h.sought, k)) e h.listed);
-  dir = h.dir;
-  letters = h.letters;
+  seeks = h.seeks;
 }
 
 -- a directory's children by names that are the same are one

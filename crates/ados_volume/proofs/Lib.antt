@@ -1,4 +1,3 @@
-pub mod Texts
 pub mod BlankRoot
 pub mod BlankMarks
 pub mod BlankImage
@@ -7,3 +6,6 @@ pub mod Looking
 pub mod Walking
 pub mod Examining
 pub mod Cached
+pub mod Children
+pub mod Refilled
+pub mod Moved

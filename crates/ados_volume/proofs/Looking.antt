@@ -17,13 +17,9 @@ use Rattle.ados_tree.specs.Stands.{Stands, in_slot, type_of}
 use Rattle.ados_tree.specs.Walk.{child_of, is_file, holds_file}
 use Rattle.ados_tree.specs.Change.{behind, entries_after}
 use Rattle.ados_tree.proofs.Lists.{joined}
-use Rattle.ados_tree.proofs.Nodes.{content_in, entry_node, entries_by_slot, root_or_parent}
+use Rattle.ados_tree.proofs.Nodes.{some_in, content_in, entry_node, entries_by_slot, root_or_parent}
 use Rattle.ados_volume.specs.Listing.{first_left}
 use Rattle.ados_volume.proofs.Bridge.{lawful_chains, name_is}
-
-pub some_in : (o : Option Node) → IsSome o → (a : Node) × (o ≡ Some a)
-some_in None h = absurd (false≢true h)
-some_in (Some a) h = (a, refl)
 
 Contains-filter-in : (p : ℕ → Bool) (xs : List ℕ) (x : ℕ) → Contains xs x → p x ≡ true → Contains (filter p xs) x
 Contains-filter-in p [] x c e = absurd (Contains-nil x c)

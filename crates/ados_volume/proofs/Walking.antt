@@ -8,18 +8,18 @@ use Rattle.ados_tree.specs.Tree.{Content, Node, Tree, content_at, entries, name_
 use Rattle.ados_tree.specs.Tree.Content.{Directory, File}
 use Rattle.ados_tree.specs.Stands.{Stands}
 use Rattle.ados_tree.specs.Walk.{child_of, is_file, holds_file}
-use Rattle.ados_tree.proofs.Nodes.{entry_node, directory_node, root_or_parent}
+use Rattle.ados_tree.proofs.Nodes.{some_in, entry_node, directory_node, root_or_parent}
 use Rattle.ados_tree.proofs.Standing.{root_is}
-use Rattle.ados_volume.proofs.Looking.{some_in, no_child}
+use Rattle.ados_volume.proofs.Looking.{no_child}
 
--- what is found is an element
-find-in : (p : ℕ → Bool) (xs : List ℕ) (x : ℕ) → find p xs ≡ Some x → Contains xs x
-find-in p [] x e = absurd (cc e)
-find-in p (y ∷ ys) x e = go (p y) refl (λ m. find-in p ys x m)
+-- what is found is an element that passes
+pub find-is : (p : ℕ → Bool) (xs : List ℕ) (x : ℕ) → find p xs ≡ Some x → Contains xs x × (p x ≡ true)
+find-is p [] x e = absurd (cc e)
+find-is p (y ∷ ys) x e = go (p y) refl (λ m. find-is p ys x m)
   where
-    go : (b : Bool) → p y ≡ b → (find p ys ≡ Some x → Contains ys x) → Contains (y ∷ ys) x
-    go true h rest = let same : y ≡ x = let first : Some y ≡ Some x = sym (rw h refl) ∙ e in cc first in subst (Contains (y ∷ ys)) same (Contains-here y ys)
-    go false h rest = Contains-later y ys x (rest (sym (rw h refl) ∙ e))
+    go : (b : Bool) → p y ≡ b → (find p ys ≡ Some x → Contains ys x × (p x ≡ true)) → Contains (y ∷ ys) x × (p x ≡ true)
+    go true h rest = let same : y ≡ x = let first : Some y ≡ Some x = sym (rw h refl) ∙ e in cc first in (subst (Contains (y ∷ ys)) same (Contains-here y ys), sym (ap p same) ∙ h)
+    go false h rest = let later = rest (sym (rw h refl) ∙ e) in (Contains-later y ys x later.0, later.1)
 
 module _ (image : List ℕ) (t : Tree) (s : Stands image t) where
   pub has_node : (key : ℕ) (node : Node) → t.nodes key ≡ Some node → IsSome (t.nodes key)
@@ -39,7 +39,7 @@ module _ (image : List ℕ) (t : Tree) (s : Stands image t) where
 
   -- a child is a node
   pub child_node : (dir key : ℕ) (name : List ℕ) → child_of t dir name ≡ Some key → IsSome (t.nodes key)
-  child_node dir key name e = let n = entry_node t s.proper dir key (find-in _ (entries t dir) key e) in has_node key n.0 n.1
+  child_node dir key name e = let n = entry_node t s.proper dir key (find-is _ (entries t dir) key e).0 in has_node key n.0 n.1
 
   -- a parent is a node
   pub parent_node : (key dir : ℕ) → parent_of t key ≡ Some dir → IsSome (t.nodes dir)

@@ -6,13 +6,13 @@ ghost use Rattle.adf_block.specs.Frame.{OnlyBlock, SameBut};
 ghost use Rattle.ados_name.specs.Name.{IsName};
 ghost use Rattle.ados_tree.specs.Stands.{format_byte};
 ghost use Rattle.ados_tree.specs.Blank.{IsBlank};
-ghost use Rattle.ados_volume.specs.Places.{Within};
+ghost use Rattle.ados_fields.specs.Places.{Within};
 ghost use Rattle.ados_volume.specs.BlankParts.{IsBlankRoot, NamesBlank};
 
 use crate::cache::NameCache;
-use crate::edit::{put_bytes, put_date, put_text};
 use crate::volume::Volume;
 use adf_block::{Format, Image};
+use ados_fields::{put_bytes, put_date, put_text};
 use ados_map::rebuild;
 use ados_name::{Date3, Name};
 use std::alloc::{AllocError, Global};

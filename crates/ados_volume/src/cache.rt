@@ -1,8 +1,7 @@
 //! The children that were looked up last, so that the same name is not searched again.
 
-ghost use Rattle.std.specs.Prelude.{◌≡◌, IfOk, IfSome, [], map};
-ghost use Rattle.ados_name.specs.Name.{upper};
-ghost use Rattle.ados_volume.specs.Cache.{Adds, AddsNone, HasPair, letters_of};
+ghost use Rattle.std.specs.Prelude.{◌≡◌, IfOk, IfSome, []};
+ghost use Rattle.ados_volume.specs.Cache.{Adds, AddsNone, HasPair, Seeks, TakesOut};
 
 use ados_name::Name;
 use lru::LruCache;
@@ -49,12 +48,19 @@ impl NameCache {
     {
         let _ = self.pairs.put(seek(dir, name), key);
     }
+
+    /// Takes out the child of this name or one that is the same, if it is kept.
+    pub fn take_out(&mut self, dir: u32, name: &Name)
+        ensures { TakesOut self.old.pairs.entries dir name.now self.new.pairs.entries }
+    {
+        prove!(self.pairs.len() < usize::MAX);
+        let _ = self.pairs.pop(&seek(dir, name));
+    }
 }
 
 /// What is sought by a name in a directory.
 fn seek(dir: u32, name: &Name) -> Sought
-    ensures dir { result.dir ≡ dir }
-    ensures letters { letters_of result ≡ map upper name.now }
+    ensures { Seeks result dir name.now }
 {
     let bytes = name.bytes();
     let mut letters = [0; 30];

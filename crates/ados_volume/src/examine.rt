@@ -5,7 +5,7 @@ ghost use Rattle.adf_block.specs.Image.{block_count, byte_at};
 ghost use Rattle.adf_block.specs.Fields.{text_at};
 ghost use Rattle.ados_tree.specs.Tree.{Node, Tree, cost_in, size_in};
 ghost use Rattle.ados_tree.specs.Stands.{Stands};
-ghost use Rattle.ados_volume.specs.Keys.{HasKey, HasTree};
+ghost use Rattle.ados_tree.specs.Keys.{HasKey, HasTree};
 ghost use Rattle.ados_volume.specs.Examined.{entry_type, file_info};
 
 use crate::info::format_of;
@@ -143,7 +143,7 @@ fn date_in(image: &Image, key: u32) -> Date3
 }
 
 /// The name.
-fn name_in(image: &Image, key: u32) -> Name
+pub fn name_in(image: &Image, key: u32) -> Name
     requires tree { HasTree image.now }
     requires key { HasKey image.now key }
     ensures { (t : Tree) (node : Node) → Stands image.now t → t.nodes key ≡ Some node → result ≡ node.name }

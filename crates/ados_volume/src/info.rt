@@ -4,7 +4,7 @@ ghost use Rattle.std.specs.Prelude.{◌≡◌};
 ghost use Rattle.ados_data.specs.File.{format_of};
 ghost use Rattle.ados_tree.specs.Tree.{Tree};
 ghost use Rattle.ados_tree.specs.Stands.{Stands};
-ghost use Rattle.ados_volume.specs.Keys.{HasTree};
+ghost use Rattle.ados_tree.specs.Keys.{HasTree};
 ghost use Rattle.ados_volume.specs.Info.{disk_info};
 
 use crate::volume::Volume;

@@ -4,10 +4,16 @@
 mod blank_volume;
 mod cache;
 mod checking;
-mod edit;
+mod contents;
+#[cfg(test)]
+mod contents_tests;
+mod entries;
 mod examine;
 mod info;
 mod look;
+mod stamp;
+#[cfg(test)]
+mod stamp_tests;
 #[cfg(test)]
 mod tests;
 mod volume;
@@ -15,7 +21,8 @@ mod walk;
 
 pub use ados_chain::Next;
 pub use ados_check::Rejected;
-pub use ados_tree::{FaultKind, VolumeFault};
+pub use ados_entries::NodeKind;
+pub use ados_tree::{FaultKind, Full, VolumeFault};
 pub use blank_volume::blank;
 pub use checking::check;
 pub use examine::FileInfo;

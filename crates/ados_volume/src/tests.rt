@@ -28,7 +28,7 @@ fn work(alloc: Global, blocks: u32) -> Result<Volume, Fail>
 }
 
 /// A block has these longs, each by its place.
-fn expect_longs(rt: &impl Abort, image: &Image, block: u32, wanted: &[(u32, u32)]) {
+pub(crate) fn expect_longs(rt: &impl Abort, image: &Image, block: u32, wanted: &[(u32, u32)]) {
     for &(i, value) in wanted {
         assert!(rt; block < image.blocks() && i < 128);
         assert_eq!(rt; image.long(block, i), value, "long {i} of block {block}");
@@ -245,5 +245,22 @@ fn names_in_the_cache(rt: HostRuntime) -> Result<(), Fail> {
     expect_kept(&rt, &mut names, 5, b"Readme", None)?;
     expect_kept(&rt, &mut names, 880, b"Readm", None)?;
     expect_kept(&rt, &mut names, 880, b"Readme\0", None)?;
+    Ok(())
+}
+
+/// Takes out what is kept under a directory and a name.
+fn take_out(names: &mut NameCache, dir: u32, name: &[u8]) -> Result<(), Fail> {
+    names.take_out(dir, &Name::new(name)?);
+    Ok(())
+}
+
+#[test]
+fn names_out_of_the_cache(rt: HostRuntime) -> Result<(), Fail> {
+    let mut names = NameCache::new(rt.alloc())?;
+    keep(&mut names, 880, b"Readme", 2)?;
+    keep(&mut names, 3, b"Readme", 4)?;
+    take_out(&mut names, 880, b"README")?;
+    expect_kept(&rt, &mut names, 880, b"Readme", None)?;
+    expect_kept(&rt, &mut names, 3, b"Readme", Some(4))?;
     Ok(())
 }

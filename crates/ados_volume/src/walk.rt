@@ -6,7 +6,7 @@ ghost use Rattle.ados_tree.specs.Tree.{Tree, parent_of};
 ghost use Rattle.ados_tree.specs.Stands.{Stands};
 ghost use Rattle.ados_tree.specs.Walk.{child_of, fault_of_walk, missing_before, place, start_of, step_from, walk, walk_steps};
 ghost use Rattle.ados_tree.specs.declared.path_fault.WalkFault.{WalkFault};
-ghost use Rattle.ados_volume.specs.Keys.{HasDirectory, HasKey, HasTree};
+ghost use Rattle.ados_tree.specs.Keys.{HasDirectory, HasKey, HasTree};
 ghost use Rattle.ados_volume.specs.Steps.{found_or};
 
 use crate::look::is_file_in;
@@ -122,7 +122,7 @@ impl Volume {
 }
 
 /// The directory that holds an object; the root has none.
-fn parent_in(image: &Image, key: u32) -> Option<u32>
+pub fn parent_in(image: &Image, key: u32) -> Option<u32>
     requires tree { HasTree image.now }
     requires key { HasKey image.now key }
     ensures { (t : Tree) → Stands image.now t → result ≡ parent_of t key }

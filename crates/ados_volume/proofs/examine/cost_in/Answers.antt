@@ -1,6 +1,6 @@
 use Rattle.std.proofs.Common.{ℕ, ◌+◌, ap, ◌∙◌}
 use Rattle.ados_data.specs.Cost.{data_count, extension_count}
-use Rattle.ados_volume.proofs.Bridge.{format_is}
+use Rattle.ados_contents.proofs.Writable.{format_is}
 use Rattle.ados_volume.proofs.Examining.{file_is, file_cost_is}
 use Rattle.ados_volume.proofs.examine.cost_in.Goals as goal
 

@@ -2,7 +2,7 @@ use Rattle.std.proofs.Common.{◌≡◌, ℕ, List, Option, Some, None, IfSome, 
 use Rattle.ados_tree.specs.Tree.{Tree}
 use Rattle.ados_tree.specs.Stands.{Stands}
 use Rattle.ados_tree.specs.Walk.{child_of}
-use Rattle.ados_volume.specs.Keys.{HasKey}
+use Rattle.ados_tree.specs.Keys.{HasKey}
 use Rattle.ados_volume.proofs.Walking.{child_node, parent_node}
 use Rattle.ados_volume.proofs.volume.Volume.step_from.Goals as goal
 

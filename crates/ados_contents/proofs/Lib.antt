@@ -1,0 +1,14 @@
+pub mod Writable
+pub mod Content
+pub mod Unchanged
+pub mod Relaid
+pub mod OtherFiles
+pub mod Refilled
+pub mod Taken
+pub mod Calls
+pub mod Keeping
+pub mod NewBlocks
+pub mod Stamped
+pub mod Renewed
+pub mod Stamping
+pub mod Children

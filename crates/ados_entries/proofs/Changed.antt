@@ -1,0 +1,68 @@
+-- What the nodes of a changed tree are.
+use Rattle.std.proofs.Common.{◌≡◌, ◌≢◌, ℕ, ◌⊎◌, inl, inr, List, Option, Some, None, option_map, option_and_then, refl, sym, ap, ◌∙◌, subst, eq-eqb}
+use Rattle.std.proofs.lemmas.Bool.{ne_eqb, cases_eq}
+use Rattle.ados_name.specs.declared.Date3.{Date3}
+use Rattle.ados_tree.specs.Tree.{Node, Tree, entries, entries_in, name_in, name_of, parent_of}
+use Rattle.ados_tree.specs.Tree.Content.{Directory}
+use Rattle.ados_tree.specs.Change.{with_node, changed, listed}
+
+pub nodes_here : (key : ℕ) (o : Option Node) (t : Tree) → (with_node key o t).nodes key ≡ o
+nodes_here key o t = rw (eq-eqb key key refl) refl
+
+pub nodes_other : (key : ℕ) (o : Option Node) (t : Tree) (k : ℕ) → k ≢ key → (with_node key o t).nodes k ≡ t.nodes k
+nodes_other key o t k n = rw (ne_eqb k key n) refl
+
+-- what a change of a node does not touch stays
+pub changed_keeps : {X : Type 0} (p : Option Node → X) (f : Node → Node) (key : ℕ) (t : Tree) → ((o : Option Node) → p (option_map f o) ≡ p o) → (k : ℕ) → p ((changed key f t).nodes k) ≡ p (t.nodes k)
+changed_keeps p f key t same k = elim (cases_eq k key) [
+  | inl e ↦ ap (λ (i : ℕ). p ((changed key f t).nodes i)) e ∙ ap p (nodes_here key (option_map f (t.nodes key)) t) ∙ same (t.nodes key) ∙ ap (λ (i : ℕ). p (t.nodes i)) (sym e)
+  | inr n ↦ ap p (nodes_other key (option_map f (t.nodes key)) t k n)
+]
+
+-- the node that a node of a changed tree was
+pub record Was (f : Node → Node) (key : ℕ) (t : Tree) (k : ℕ) (node : Node) : Type 0 where
+  pub old : Node
+  pub at : t.nodes k ≡ Some old
+  pub how : ((k ≢ key) × (node ≡ old)) ⊎ ((k ≡ key) × (node ≡ f old))
+
+pub was : (f : Node → Node) (key : ℕ) (t : Tree) (k : ℕ) (node : Node) → (changed key f t).nodes k ≡ Some node → Was f key t k node
+was f key t k node e = elim (cases_eq k key) [
+  | inl d ↦ here d (t.nodes key) refl (sym (nodes_here key (option_map f (t.nodes key)) t) ∙ ap (changed key f t).nodes (sym d) ∙ e)
+  | inr n ↦ record { old = node; at = sym (nodes_other key (option_map f (t.nodes key)) t k n) ∙ e; how = inl (n, refl) }
+]
+  where
+    here : k ≡ key → (o : Option Node) → t.nodes key ≡ o → option_map f o ≡ Some node → Was f key t k node
+    here d None at h = absurd (cc h)
+    here d (Some a) at h = record { old = a; at = ap t.nodes d ∙ at; how = inr (d, sym (cc h)) }
+
+-- what a property of all nodes of a tree is after a change that keeps it
+pub was_with : (P : Node → Type 0) (f : Node → Node) (key : ℕ) (t : Tree) (k : ℕ) (node : Node) → ((a : Node) → P a → P (f a)) → (w : Was f key t k node) → P w.old → P node
+was_with P f key t k node keeps w h = elim (w.how) [
+  | inl e ↦ subst P (sym e.1) h
+  | inr e ↦ subst P (sym e.1) (keeps w.old h)
+]
+
+-- a directory with this list and date
+abbrev pub relisted : Date3 → List ℕ → Node → Node
+relisted moment keys node = record node { content = Directory keys; date = moment }
+
+module _ (moment : Date3) (dir : ℕ) (keys : List ℕ) (t : Tree) where
+  pub listed_names : (k : ℕ) → name_of (listed moment dir keys t) k ≡ name_of t k
+  listed_names k = changed_keeps name_in (relisted moment keys) dir t go k
+    where
+      go : (o : Option Node) → name_in (option_map (relisted moment keys) o) ≡ name_in o
+      go None = refl
+      go (Some a) = refl
+
+  pub listed_parents : (k : ℕ) → parent_of (listed moment dir keys t) k ≡ parent_of t k
+  listed_parents k = changed_keeps (option_and_then (λ node. node.parent)) (relisted moment keys) dir t go k
+    where
+      go : (o : Option Node) → option_and_then (λ node. node.parent) (option_map (relisted moment keys) o) ≡ option_and_then (λ node. node.parent) o
+      go None = refl
+      go (Some a) = refl
+
+  pub listed_here : (a : Node) → t.nodes dir ≡ Some a → entries (listed moment dir keys t) dir ≡ keys
+  listed_here a e = ap (λ (o : Option Node). entries_in (option_map (λ node. node.content) o)) (nodes_here dir (option_map (relisted moment keys) (t.nodes dir)) t ∙ ap (option_map (relisted moment keys)) e)
+
+  pub listed_other : (d : ℕ) → d ≢ dir → entries (listed moment dir keys t) d ≡ entries t d
+  listed_other d n = ap (λ (o : Option Node). entries_in (option_map (λ node. node.content) o)) (nodes_other dir (option_map (relisted moment keys) (t.nodes dir)) t d n)

@@ -1,0 +1,60 @@
+//! An entry that is taken away.
+
+ghost use Rattle.std.specs.Prelude.{◌≡◌};
+ghost use Rattle.ados_tree.specs.Change.{removed};
+ghost use Rattle.ados_tree.specs.Kept.{Kept};
+ghost use Rattle.ados_tree.specs.Stands.{Stands};
+ghost use Rattle.ados_tree.specs.Tree.{Tree, size_of};
+ghost use Rattle.ados_entries.specs.Conditions.{CanRemove};
+ghost use Rattle.ados_entries.specs.Emptied.{Empties};
+
+use crate::block::{PARENT, stamp, touch};
+use adf_block::Image;
+use ados_chain::unlink;
+use ados_contents::cut;
+use ados_map::give_back;
+use ados_name::Date3;
+
+/// The long of a block's secondary type, and the type of a file, -3.
+const SECONDARY_TYPE: u32 = 127;
+
+const FILE: u32 = 0xffff_fffd;
+
+/// Takes away an entry: a directory without entries, or a file, whose blocks are given back. What stands in the blocks
+/// stays.
+pub fn remove(image: &mut Image, key: u32, moment: Date3)
+    requires tree { (t : Tree) × Stands image.old t }
+    requires can { (t : Tree) → Stands image.old t → CanRemove t key }
+    ensures { (t : Tree) → Stands image.old t → Stands image.new (removed moment key t) }
+{
+    empty(image, key, moment);
+    remove_empty(image, key, moment);
+}
+
+/// Gives back what a file holds; a directory that can be removed holds nothing.
+fn empty(image: &mut Image, key: u32, moment: Date3)
+    requires tree { (t : Tree) × Stands image.old t }
+    requires can { (t : Tree) → Stands image.old t → CanRemove t key }
+    ensures { Empties moment key image.old image.new }
+{
+    if image.long(key, SECONDARY_TYPE) != FILE {
+        return;
+    }
+    cut(image, key, 0, moment);
+}
+
+/// Takes away an entry with nothing in it: a directory without entries, or a file of no bytes. What stands in its block
+/// stays.
+fn remove_empty(image: &mut Image, key: u32, moment: Date3)
+    requires tree { (t : Tree) × Stands image.old t }
+    requires can { (t : Tree) → Stands image.old t → CanRemove t key }
+    requires empty { (t : Tree) → Stands image.old t → size_of t key ≡ 0 }
+    ensures stands { (t : Tree) → Stands image.old t → Stands image.new (removed moment key t) }
+    ensures kept { Kept image.old image.new }
+{
+    let dir = image.long(key, PARENT);
+    unlink(image, dir, key);
+    touch(image, dir, moment);
+    give_back(image, key);
+    stamp(image, moment);
+}

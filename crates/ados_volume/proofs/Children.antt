@@ -1,0 +1,79 @@
+-- What a change of a tree leaves of the children that were found.
+use Rattle.std.proofs.Common.{◌≡◌, ℕ, inl, inr, List, map, Contains, Option, Some, None, option_map, refl, sym, ap, ◌∙◌, subst, eq-eqb}
+use Rattle.std.proofs.lemmas.Bool.{ne_eqb, cases_eq}
+use Rattle.std.proofs.lemmas.Slice.Eq.{bytes_eq-Decides}
+use Rattle.ados_name.specs.Name.{upper, Same}
+use Rattle.ados_tree.specs.Tree.{Node, Tree, entries, entries_in, name_in, name_of}
+use Rattle.ados_tree.specs.Stands.{Stands}
+use Rattle.ados_tree.specs.Walk.{child_of}
+use Rattle.ados_tree.specs.Change.{changed}
+use Rattle.ados_tree.proofs.OneTree.{one_tree}
+use Rattle.ados_volume.specs.declared.cache.Sought.{Sought}
+use Rattle.ados_volume.specs.Cache.{HasPair, AreChildren}
+use Rattle.ados_volume.proofs.Looking.{is_child}
+use Rattle.ados_volume.proofs.Walking.{find-is}
+
+-- an entry of the directory is one of the other tree too, under its name
+abbrev pub Stays : Tree → Tree → ℕ → ℕ → Type 0
+Stays t u dir key = Contains (entries t dir) key → Contains (entries u dir) key × (name_of u key ≡ name_of t key)
+
+-- each entry is
+abbrev pub AllStay : Tree → Tree → Type 0
+AllStay t u = (dir key : ℕ) → Stays t u dir key
+
+-- a child is an entry of that name
+pub child_there : (t : Tree) (dir key : ℕ) (name : List ℕ) → child_of t dir name ≡ Some key → Contains (entries t dir) key × Same (name_of t key) name
+child_there t dir key name e = let f = find-is _ (entries t dir) key e in (f.0, (bytes_eq-Decides (map upper (name_of t key)) (map upper name)).0 f.1)
+
+module _ (old new : List ℕ) (t u : Tree) (s : Stands old t) (r : Stands new u) where
+  child_stays : (dir key : ℕ) (name : List ℕ) → Stays t u dir key → child_of t dir name ≡ Some key → child_of u dir name ≡ Some key
+  child_stays dir key name stays e =
+      let was = child_there t dir key name e in
+      let now = stays was.0 in
+      is_child new u r dir key name now.0 (ap (map upper) now.1 ∙ was.1)
+
+  -- pairs that were children, and whose entries stay, are children of the new tree
+  pub carried : (old_pairs pairs : List (Sought × ℕ)) → AreChildren old old_pairs
+      → ((dir key : ℕ) (name : List ℕ) → HasPair pairs dir name key → HasPair old_pairs dir name key × (child_of t dir name ≡ Some key → Stays t u dir key)) → AreChildren new pairs
+  carried old_pairs pairs h from dir name key p v w =
+      let c = from dir key name p in
+      let child = h dir name key c.0 t s in
+      subst (λ (x : Tree). child_of x dir name ≡ Some key) (one_tree new u v r w) (child_stays dir key name (c.1 child) child)
+
+  -- the image stands for a tree whose children the pairs are
+  pub all_carried : (pairs : List (Sought × ℕ)) → AreChildren old pairs → AllStay t u → ((x : Tree) × Stands new x) × AreChildren new pairs
+  all_carried pairs h stay = ((u, r), carried pairs pairs h (λ dir key name p. (p, λ child. stay dir key)))
+
+-- ---- one node is changed
+
+module _ (t : Tree) (key : ℕ) (f : Node → Node) (lists : (a : Node) → t.nodes key ≡ Some a → entries_in (Some (f a).content) ≡ entries_in (Some a.content))
+    (names : (dir : ℕ) (a : Node) → Contains (entries t dir) key → t.nodes key ≡ Some a → (f a).name ≡ a.name) where
+  entries_here : entries (changed key f t) key ≡ entries t key
+  entries_here = rw (eq-eqb key key refl) (go (t.nodes key) refl)
+    where
+      go : (o : Option Node) → t.nodes key ≡ o → entries_in (option_map (λ node. node.content) (option_map f o)) ≡ entries_in (option_map (λ node. node.content) o)
+      go None e = refl
+      go (Some a) e = lists a e
+
+  entries_same : (dir : ℕ) → entries (changed key f t) dir ≡ entries t dir
+  entries_same dir = elim (cases_eq dir key) [
+    | inl e ↦ ap (entries (changed key f t)) e ∙ entries_here ∙ ap (entries t) (sym e)
+    | inr n ↦ rw (ne_eqb dir key n) refl
+  ]
+
+  name_here : (dir : ℕ) → Contains (entries t dir) key → name_of (changed key f t) key ≡ name_of t key
+  name_here dir c = rw (eq-eqb key key refl) (go (t.nodes key) refl)
+    where
+      go : (o : Option Node) → t.nodes key ≡ o → name_in (option_map f o) ≡ name_in o
+      go None e = refl
+      go (Some a) e = names dir a c e
+
+  name_same : (dir k : ℕ) → Contains (entries t dir) k → name_of (changed key f t) k ≡ name_of t k
+  name_same dir k c = elim (cases_eq k key) [
+    | inl e ↦ ap (name_of (changed key f t)) e ∙ name_here dir (subst (Contains (entries t dir)) e c) ∙ ap (name_of t) (sym e)
+    | inr n ↦ rw (ne_eqb k key n) refl
+  ]
+
+  -- where the list and an entry's name stay, all entries do
+  pub changed_stay : AllStay t (changed key f t)
+  changed_stay dir k c = (subst (λ (keys : List ℕ). Contains keys k) (sym (entries_same dir)) c, name_same dir k c)

@@ -1,0 +1,148 @@
+-- What a new entry, one that is taken away and one that moves leave of the children that were found.
+use Rattle.std.proofs.Common.{◌≡◌, ◌≢◌, ℕ, Bool, inl, inr, List, [], filter, not, ◌==◌, Contains, Option, Some, None, IsSome, Result, Ok, Err, IfOk, IfErr, MatchResult, option_map, refl, sym, ap, ◌∙◌, subst}
+use Rattle.std.specs.Option.{option_map_or}
+use Rattle.std.proofs.lemmas.Bool.{cases_eq}
+use Rattle.ados_map.specs.Pages.{IsLowestFree, NoneFree}
+use Rattle.ados_chain.proofs.Lists.{Contains-nil}
+use Rattle.ados_name.specs.declared.Date3.{Date3}
+use Rattle.ados_name.specs.Name.{Same, slot}
+use Rattle.ados_tree.specs.Tree.{Content, Node, Tree, Proper, content_at, entries, entries_in, name_in, name_of, parent_of}
+use Rattle.ados_tree.specs.Tree.Content.{Directory}
+use Rattle.ados_tree.specs.Stands.{Stands}
+use Rattle.ados_tree.specs.Walk.{child_of}
+use Rattle.ados_tree.specs.Change.{with_node, changed, listed, enter, entered, left, new_node, made, removed, renamed}
+use Rattle.ados_tree.proofs.Nodes.{content_in, directory_in, entry_node, parent_in}
+use Rattle.ados_entries.proofs.Changed.{nodes_other, changed_keeps, listed_names, listed_here, listed_other}
+use Rattle.ados_entries.proofs.Entering.{Contains-enter_kept, Contains-stays}
+use Rattle.ados_volume.specs.declared.cache.Sought.{Sought}
+use Rattle.ados_volume.specs.Cache.{AreChildren, Forgets}
+use Rattle.ados_volume.specs.Shown.{Shown}
+use Rattle.ados_volume.proofs.Walking.{has_node}
+use Rattle.ados_entries.proofs.Making.{unused}
+use Rattle.ados_volume.proofs.Children.{Stays, AllStay, child_there, carried, all_carried}
+
+stays_on : (t u v : Tree) (dir k : ℕ) → Stays t u dir k → Stays u v dir k → Stays t v dir k
+stays_on t u v dir k first second c = let a = first c in let b = second a.0 in (b.0, b.1 ∙ a.1)
+
+-- ---- the steps
+
+-- another node is put in or taken out
+beside_stays : (t : Tree) (key : ℕ) (o : Option Node) (dir k : ℕ) → dir ≢ key → k ≢ key → Stays t (with_node key o t) dir k
+beside_stays t key o dir k n m c = (
+  subst (λ (a : Option Node). Contains (entries_in (option_map (λ node. node.content) a)) k) (sym (nodes_other key o t dir n)) c,
+  ap name_in (nodes_other key o t k m),
+)
+
+-- another node gets a name and a directory
+abbrev titled : List ℕ → ℕ → Node → Node
+titled name parent node = record node { name = name; parent = Some parent }
+
+titled_stays : (t : Tree) (key : ℕ) (name : List ℕ) (parent : ℕ) (dir k : ℕ) → k ≢ key → Stays t (changed key (titled name parent) t) dir k
+titled_stays t key name parent dir k m c = (
+  subst (λ (keys : List ℕ). Contains keys k) (sym (changed_keeps (λ (o : Option Node). entries_in (option_map (λ node. node.content) o)) (titled name parent) key t same dir)) c,
+  ap name_in (nodes_other key (option_map (titled name parent) (t.nodes key)) t k m),
+)
+  where
+    same : (o : Option Node) → entries_in (option_map (λ (node : Node). node.content) (option_map (titled name parent) o)) ≡ entries_in (option_map (λ (node : Node). node.content) o)
+    same None = refl
+    same (Some a) = refl
+
+-- a directory gets a list in which the entry still stands
+listed_stays : (t : Tree) (moment : Date3) (at : ℕ) (keys : List ℕ) (dir k : ℕ) → (dir ≡ at → Contains keys k) → Stays t (listed moment at keys t) dir k
+listed_stays t moment at keys dir k still c = (elim (cases_eq dir at) [ inl e ↦ here e | inr n ↦ subst (λ (ks : List ℕ). Contains ks k) (sym (listed_other moment at keys t dir n)) c ], listed_names moment at keys t k)
+  where
+    here : dir ≡ at → Contains (entries (listed moment at keys t) dir) k
+    here e =
+        let d = directory_in (content_at t dir) k c in
+        let a = content_in (t.nodes dir) (Directory d.0) d.1 in
+        subst (λ (ks : List ℕ). Contains ks k) (sym (ap (entries (listed moment at keys t)) e ∙ listed_here moment at keys t a.0 (ap t.nodes (sym e) ∙ a.1))) (still e)
+
+entered_stays : (t : Tree) (moment : Date3) (at key : ℕ) → AllStay t (entered moment at key t)
+entered_stays t moment at key dir k c =
+    listed_stays t moment at (enter (λ j. slot (name_of t j)) key (entries t at)) dir k
+    (λ e. Contains-enter_kept (λ j. slot (name_of t j)) key (entries t at) k (subst (λ (i : ℕ). Contains (entries t i) k) e c)) c
+
+left_stays : (t : Tree) (moment : Date3) (key : ℕ) (dir k : ℕ) → k ≢ key → Stays t (left moment key t) dir k
+left_stays t moment key dir k n = go (parent_of t key)
+  where
+    go : (o : Option ℕ) → Stays t (option_map_or (λ from. listed moment from (filter (λ j. not (j == key)) (entries t from)) t) o t) dir k
+    go None c = (c, refl)
+    go (Some from) c =
+        listed_stays t moment from (filter (λ j. not (j == key)) (entries t from)) dir k
+        (λ e. Contains-stays key (entries t from) k (subst (λ (i : ℕ). Contains (entries t i) k) e c) n) c
+
+-- ---- the changes
+
+pub made_stay : (t : Tree) (proper : Proper t) (moment : Date3) (at key : ℕ) (name : List ℕ) (content : Content) → t.nodes key ≡ None → AllStay t (made moment at key name content t)
+made_stay t proper moment at key name content unused dir k c =
+    let begun : Tree = with_node key (Some (new_node moment at name content)) t in
+    stays_on t begun (entered moment at key begun) dir k
+    (beside_stays t key (Some (new_node moment at name content)) dir k not_dir not_key) (entered_stays begun moment at key dir k) c
+  where
+    not_key : k ≢ key
+    not_key e =
+        let a = entry_node t proper dir k c in
+        let both : Some a.0 ≡ None = sym a.1 ∙ ap t.nodes e ∙ unused in
+        absurd (cc both)
+
+    not_dir : dir ≢ key
+    not_dir e = Contains-nil k (subst (λ (o : Option Node). Contains (entries_in (option_map (λ node. node.content) o)) k) (ap t.nodes e ∙ unused) c)
+
+pub removed_stays : (t : Tree) (moment : Date3) (key : ℕ) → entries t key ≡ [] → (dir k : ℕ) → k ≢ key → Stays t (removed moment key t) dir k
+removed_stays t moment key empty dir k n c =
+    stays_on t (left moment key t) (with_node key None (left moment key t)) dir k
+    (left_stays t moment key dir k n) (beside_stays (left moment key t) key None dir k not_dir n) c
+  where
+    not_dir : dir ≢ key
+    not_dir e = Contains-nil k (subst (λ (keys : List ℕ). Contains keys k) (ap (entries t) e ∙ empty) c)
+
+pub renamed_stays : (t : Tree) (moment : Date3) (key at : ℕ) (name : List ℕ) (dir k : ℕ) → k ≢ key → Stays t (renamed moment key at name t) dir k
+renamed_stays t moment key at name dir k n =
+    let out : Tree = left moment key t in
+    let moved : Tree = changed key (titled name at) out in
+    stays_on t out (entered moment at key moved) dir k (left_stays t moment key dir k n)
+    (stays_on out moved (entered moment at key moved) dir k (titled_stays out key name at dir k n) (entered_stays moved moment at key dir k))
+
+-- ---- the names that are kept
+
+module _ (image : List ℕ) (t : Tree) (s : Stands image t) (key : ℕ) where
+  -- where the name of an object in its directory was taken out, no pair's child is that object
+  pub forgets : (dir : ℕ) (name : List ℕ) → parent_of t key ≡ Some dir → name ≡ name_of t key → (d : ℕ) (n : List ℕ) → ¬ ((d ≡ dir) × Same n name) → child_of t d n ≢ Some key
+  forgets dir name parent own d n gone e =
+      let there = child_there t d key n e in
+      let same_dir : Some d ≡ Some dir = sym ((s.proper.listed d key).0 there.0) ∙ parent in
+      let same : Same n name = sym (subst (λ (x : List ℕ). Same x n) (sym own) there.1) in
+      gone (cc same_dir, same)
+
+  -- an object with no directory is no child
+  pub no_child_here : parent_of t key ≡ None → (d : ℕ) (n : List ℕ) → child_of t d n ≢ Some key
+  no_child_here parent d n e =
+      let there = child_there t d key n e in
+      let both : Some d ≡ None = sym ((s.proper.listed d key).0 there.0) ∙ parent in
+      absurd (cc both)
+
+  pub has_parent : (dir : ℕ) → parent_of t key ≡ Some dir → IsSome (t.nodes key)
+  has_parent dir e = let n = parent_in (t.nodes key) dir e in has_node image t s key n.0 n.1
+
+-- where the object was forgotten, and each other entry stays, the pairs that are left are children
+pub forgotten_carried : (old new : List ℕ) (t u : Tree) (s : Stands old t) (r : Stands new u) (key : ℕ) (old_pairs pairs : List (Sought × ℕ)) → AreChildren old old_pairs → Forgets old key old_pairs pairs
+    → ((dir k : ℕ) → k ≢ key → Stays t u dir k) → ((x : Tree) × Stands new x) × AreChildren new pairs
+forgotten_carried old new t u s r key old_pairs pairs h forgotten stays = (
+  (u, r),
+  carried old new t u s r old_pairs pairs h (λ dir k name p.
+      let f = forgotten dir name k p in
+      (f.0, λ child. stays dir k (λ e. f.1 t s (child ∙ ap Some e)))),
+)
+
+-- an entry that is made where a block is free
+module _ {E : Type 0} (old new : List ℕ) (moment : Date3) (at : ℕ) (name : List ℕ) (content : Content) where
+  pub made_carried : (r : Result ℕ E) → IfOk r (λ key. IsLowestFree old key) → IfOk r (λ key. (t : Tree) → Stands old t → Stands new (made moment at key name content t)) → IfErr r (λ full. NoneFree old × (new ≡ old))
+      → (t : Tree) → Stands old t → (pairs : List (Sought × ℕ)) → AreChildren old pairs → ((x : Tree) × Stands new x) × AreChildren new pairs
+  made_carried (Ok key) lowest stands full t s pairs h = all_carried old new t (made moment at key name content t) s (stands t s) pairs h (made_stay t s.proper moment at key name content (unused old t s key lowest).no_node)
+  made_carried (Err e) lowest stands full t s pairs h = subst (λ (image : List ℕ). ((x : Tree) × Stands image x) × AreChildren image pairs) (sym full.1) ((t, s), h)
+
+  pub shown_made : (validated : Bool) (shown : Shown) → record { image = old; was_validated = validated } ≡ shown → (r : Result ℕ E)
+      → IfOk r (λ key. IsLowestFree old key) → IfOk r (λ key. (t : Tree) → Stands old t → Stands new (made moment at key name content t)) → IfErr r (λ full. NoneFree old × (new ≡ old))
+      → MatchResult r (λ key. IsLowestFree shown.image key × ((t : Tree) → Stands shown.image t → Stands new (made moment at key name content t))) (λ full. NoneFree shown.image × (record { image = new; was_validated = validated } ≡ shown))
+  shown_made validated shown v (Ok key) lowest stands full = (subst (λ (w : Shown). IsLowestFree w.image key) v lowest, λ t s. stands t (subst (λ (w : Shown). Stands w.image t) (sym v) s))
+  shown_made validated shown v (Err e) lowest stands full = (subst (λ (w : Shown). NoneFree w.image) v full.0, (λ i. record { image = full.1 i; was_validated = validated }) ∙ v)

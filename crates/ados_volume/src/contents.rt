@@ -1,0 +1,51 @@
+//! Changes of what a file holds.
+
+ghost use Rattle.std.specs.Prelude.{◌≡◌, ◌+◌, ◌<◌, ◌≤◌, length, max, MatchResult};
+ghost use Rattle.ados_tree.specs.Tree.{Tree, size_of};
+ghost use Rattle.ados_tree.specs.Stands.{Stands};
+ghost use Rattle.ados_tree.specs.Keys.{HasFileKey};
+ghost use Rattle.ados_tree.specs.Change.{grown, shortened, written};
+ghost use Rattle.ados_contents.specs.Renewed.{KeepsRest, NeedsMore};
+
+use crate::volume::Volume;
+use ados_contents::{cut, grow, write};
+use ados_name::Date3;
+use ados_tree::Full;
+
+impl Volume {
+    /// Writes bytes over those of a file from byte `pos` on, which may reach past its end. The moment becomes the file's date
+    /// and the disk date, and the file's archive bit is cleared. With no bytes nothing changes.
+    pub fn write(&mut self, key: u32, pos: u64, bytes: &[u8], moment: Date3) -> Result<(), Full>
+        requires file { HasFileKey self.old.image key }
+        requires start { (t : Tree) → Stands self.old.image t → pos ≤ size_of t key }
+        ensures done { MatchResult result (λ _. (t : Tree) → Stands self.old.image t → (¬ NeedsMore t key (max (size_of t key) (pos + length bytes.now))) × Stands self.new.image (written moment key pos bytes.now t)) (λ _. (self.new ≡ self.old) × ((t : Tree) → Stands self.old.image t → NeedsMore t key (max (size_of t key) (pos + length bytes.now)))) }
+        ensures rest { KeepsRest self.old.image key self.new.image }
+        ensures validated { self.new.was_validated ≡ self.old.was_validated }
+    {
+        write(&mut self.image, key, pos, bytes, moment)
+    }
+
+    /// Keeps the front of a file, of this size. The moment becomes the file's date and the disk date, and the file's archive bit
+    /// is cleared.
+    pub fn cut(&mut self, key: u32, size: u32, moment: Date3)
+        requires file { HasFileKey self.old.image key }
+        requires shorter { (t : Tree) → Stands self.old.image t → size ≤ size_of t key }
+        ensures stands { (t : Tree) → Stands self.old.image t → Stands self.new.image (shortened moment key size t) }
+        ensures rest { KeepsRest self.old.image key self.new.image }
+        ensures validated { self.new.was_validated ≡ self.old.was_validated }
+    {
+        cut(&mut self.image, key, size, moment);
+    }
+
+    /// Puts zeros behind the bytes of a file, up to this size. The moment becomes the file's date and the disk date, and the
+    /// file's archive bit is cleared.
+    pub fn grow(&mut self, key: u32, size: u32, moment: Date3) -> Result<(), Full>
+        requires file { HasFileKey self.old.image key }
+        requires longer { (t : Tree) → Stands self.old.image t → size_of t key < size }
+        ensures done { MatchResult result (λ _. (t : Tree) → Stands self.old.image t → (¬ NeedsMore t key size) × Stands self.new.image (grown moment key size t)) (λ _. (self.new ≡ self.old) × ((t : Tree) → Stands self.old.image t → NeedsMore t key size)) }
+        ensures rest { KeepsRest self.old.image key self.new.image }
+        ensures validated { self.new.was_validated ≡ self.old.was_validated }
+    {
+        grow(&mut self.image, key, size, moment)
+    }
+}

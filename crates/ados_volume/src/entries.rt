@@ -1,0 +1,74 @@
+//! Changes of a directory's entries.
+
+ghost use Rattle.std.specs.Prelude.{◌≡◌, MatchResult};
+ghost use Rattle.ados_map.specs.Pages.{IsLowestFree, NoneFree};
+ghost use Rattle.ados_tree.specs.Tree.{Tree};
+ghost use Rattle.ados_tree.specs.Stands.{Stands};
+ghost use Rattle.ados_tree.specs.Keys.{HasKey, HasTree};
+ghost use Rattle.ados_tree.specs.Kept.{Kept};
+ghost use Rattle.ados_tree.specs.Change.{made, removed, renamed};
+ghost use Rattle.ados_entries.specs.Conditions.{CanMake, CanRemove, CanRename};
+ghost use Rattle.ados_entries.specs.Kinds.{content_of};
+ghost use Rattle.ados_volume.specs.Cache.{Forgets};
+
+use crate::cache::NameCache;
+use crate::examine::name_in;
+use crate::volume::Volume;
+use crate::walk::parent_in;
+use adf_block::Image;
+use ados_entries::{NodeKind, create, remove, rename};
+use ados_name::{Date3, Name};
+use ados_tree::Full;
+
+impl Volume {
+    /// Makes an entry with nothing in it, whose name no other entry of the directory has, and answers its key, the lowest free
+    /// block. The moment becomes its date, that of the directory and the disk date.
+    pub fn create(
+        &mut self,
+        dir: u32,
+        name: Name,
+        kind: NodeKind,
+        moment: Date3,
+    ) -> Result<u32, Full>
+        requires { (t : Tree) → Stands self.old.image t → CanMake t dir name }
+        ensures done { MatchResult result (λ key. IsLowestFree self.old.image key × ((t : Tree) → Stands self.old.image t → Stands self.new.image (made moment dir key name (content_of kind) t))) (λ full. NoneFree self.old.image × (self.new ≡ self.old)) }
+        ensures kept { Kept self.old.image self.new.image }
+        ensures validated { self.new.was_validated ≡ self.old.was_validated }
+    {
+        create(&mut self.image, dir, &name, kind, moment)
+    }
+
+    /// Takes away a file, or a directory with no entries. What stands in the blocks that are given back stays there, but for what
+    /// a file's header tells of its bytes. The moment becomes the date of the directory and the disk date.
+    pub fn remove(&mut self, key: u32, moment: Date3)
+        requires { (t : Tree) → Stands self.old.image t → CanRemove t key }
+        ensures stands { (t : Tree) → Stands self.old.image t → Stands self.new.image (removed moment key t) }
+        ensures validated { self.new.was_validated ≡ self.old.was_validated }
+    {
+        forget(&mut self.names, &self.image, key);
+        remove(&mut self.image, key, moment);
+    }
+
+    /// Moves an entry into a directory, also its own, under a name. The moment becomes the date of both directories and the disk
+    /// date; the entry keeps its own.
+    pub fn rename(&mut self, key: u32, dir: u32, name: Name, moment: Date3)
+        requires { (t : Tree) → Stands self.old.image t → CanRename t key dir name }
+        ensures stands { (t : Tree) → Stands self.old.image t → Stands self.new.image (renamed moment key dir name t) }
+        ensures kept { Kept self.old.image self.new.image }
+        ensures validated { self.new.was_validated ≡ self.old.was_validated }
+    {
+        forget(&mut self.names, &self.image, key);
+        rename(&mut self.image, key, dir, &name, moment);
+    }
+}
+
+/// Takes an object out of the names that are kept.
+fn forget(names: &mut NameCache, image: &Image, key: u32)
+    requires tree { HasTree image.now }
+    requires key { HasKey image.now key }
+    ensures { Forgets image.now key names.old.pairs.entries names.new.pairs.entries }
+{
+    if let Some(dir) = parent_in(image, key) {
+        names.take_out(dir, &name_in(image, key));
+    }
+}
