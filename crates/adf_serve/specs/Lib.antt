@@ -1,4 +1,3 @@
-pub mod BlankWork
 pub mod Small
 pub mod SmallLaws
 pub mod Script

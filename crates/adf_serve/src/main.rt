@@ -1,7 +1,6 @@
 //! An AmigaDOS file system handler for floppy images, as a program.
 #![tactic(auto)]
 
-mod blank;
 mod commands;
 mod fault;
 mod script;
@@ -16,7 +15,11 @@ pub use words::run_words;
 #[cfg(test)]
 mod command_tests;
 #[cfg(test)]
+mod fault_tests;
+#[cfg(test)]
 mod tests;
+#[cfg(test)]
+mod trials;
 
 fn main(rt: HostRuntime) -> io::Result<ExitCode> {
     let alloc = rt.alloc();

@@ -2,18 +2,10 @@
 ghost use Rattle.std.specs.Prelude.{◌≡◌, true, false, OnOk};
 ghost use Rattle.adf_serve.specs.Script.{RunsScript};
 
-use crate::small::SmallServer;
+use crate::small::{FIRST_MOMENT, SmallServer};
 use adf_script::{TryFault, run_script};
-use ados_name::Date3;
 use std::alloc::Global;
 use std::io::{Read, Write};
-
-/// 1 January 1978.
-const FIRST_MOMENT: Date3 = Date3 {
-    days: 0,
-    minutes: 0,
-    ticks: 0,
-};
 
 /// Runs a script as the one client of a port over a blank floppy `Work`, all at the first moment. `Ok` goes with a
 /// whole script, `Script` with one that has a faulty line or is too long.

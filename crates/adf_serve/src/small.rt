@@ -1,58 +1,55 @@
-//! The small server that the program without words stands on: a blank floppy, on which DIE and DISK_INFO are served.
-ghost use Rattle.std.specs.Prelude.{◌≡◌, ◌-◌, IfOk};
-ghost use Rattle.adf_block.specs.Image.{block_count, marked_count};
+//! The small server that the program without words stands on: a volume, on which DIE and DISK_INFO are served.
+ghost use Rattle.std.specs.Prelude.{IfOk};
 ghost use Rattle.adf_serve.specs.Small.{IsOpening};
 
-use crate::blank::blank_work;
-use adf_block::Image;
-use ados_map::count_free;
-use ados_name::Date3;
-use ados_packet::{Answer, Body, DiskInfo, Packet};
+use adf_block::Format;
+use ados_name::{Date3, Name};
+use ados_packet::{Answer, Body, Packet};
 use ados_server::Server;
+use ados_volume::{Volume, blank};
 use std::alloc::{AllocError, Global};
 use std::marker::Model;
 
-/// A floppy of the Fast File System, and whether DIE was served.
+/// 1 January 1978.
+pub(crate) const FIRST_MOMENT: Date3 = Date3 {
+    days: 0,
+    minutes: 0,
+    ticks: 0,
+};
+
+/// The blocks of a double-density floppy.
+const BLOCKS: u32 = 1_760;
+
+/// A volume, and whether DIE was served.
 #[derive(Drop)]
 pub struct SmallServer {
-    image: Image,
+    volume: Volume,
     died: bool,
 }
 
 impl Model for SmallServer {
-    ghost use Rattle.ados_map.specs.Pages.{LawfulPages};
+    ghost use Rattle.ados_tree.specs.Keys.{HasTree};
     ghost use Rattle.adf_serve.specs.Small.{Small};
 
     ghost Value = { Small };
 
-    ghost view = { λ server. record { image = server.image; died = server.died } };
+    ghost view = { λ server. record { image = server.volume.image; died = server.died } };
 
-    ghost invariant = { λ server. LawfulPages server.image };
+    ghost invariant = { λ server. HasTree server.volume.image };
 }
 
 impl SmallServer {
-    /// A server over the blank floppy `Work`.
+    /// A server over a blank floppy `Work` of the Fast File System, made at the first moment.
     pub fn new(alloc: Global) -> Result<Self, AllocError>
         ensures { IfOk result IsOpening }
     {
+        let Ok(name) = Name::new(b"Work") else {
+            unreachable!()
+        };
         Ok(SmallServer {
-            image: blank_work(alloc)?,
+            volume: blank(alloc, Format::Ffs, BLOCKS, name, FIRST_MOMENT)?,
             died: false,
         })
-    }
-
-    /// What there is to tell of the volume.
-    fn disk_info(&self) -> DiskInfo
-        ensures { result ≡ record { state = 82; blocks = block_count self.now.image - 2; used = block_count self.now.image - 2 - marked_count self.now.image; bytes_per_block = 512; disk_type = 1146049281 } }
-    {
-        let blocks = self.image.blocks() - 2;
-        DiskInfo {
-            state: 82,
-            blocks,
-            used: blocks - count_free(&self.image),
-            bytes_per_block: 512,
-            disk_type: 0x444F_5301,
-        }
     }
 }
 
@@ -81,7 +78,7 @@ impl Server for SmallServer {
                 self.died = true;
                 Answer::done(packet.action(), Body::Empty)
             }
-            Packet::DiskInfo => Answer::done(packet.action(), Body::Disk(self.disk_info())),
+            Packet::DiskInfo => Answer::done(packet.action(), Body::Disk(self.volume.info())),
             Packet::Other { action } => Answer::refused(action, 209),
         }
     }

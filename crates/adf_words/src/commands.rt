@@ -1,5 +1,5 @@
 //! The program's commands, as `clap` reads and explains them.
-use clap::{Arg, ArgAction, Command, value_parser};
+use clap::{Arg, ArgAction, Command};
 use std::alloc::{AllocError, Global};
 
 /// The program with all its commands.
@@ -31,9 +31,7 @@ fn blank<'a>(alloc: Global) -> Result<Command<'a>, AllocError> {
         )
         .arg(flag(alloc, "ffs", "The Fast File System"))?
         .arg(flag(alloc, "hd", "A high-density floppy, of 3,520 blocks").conflicts_with("blocks")?)?
-        .arg(number(alloc, "blocks", "How many blocks, from 16 to 101,602").value_parser(
-            value_parser!(u32).range(16..=101_602),
-        ))?
+        .arg(number(alloc, "blocks", "How many blocks, from 16 to 101,602"))?
         .arg(part_of_moment(alloc, "days", "Days since 1 January 1978"))?
         .arg(part_of_moment(alloc, "minutes", "Minutes past midnight"))?
         .arg(part_of_moment(alloc, "ticks", "Ticks of 1/50 second past the minute"))?;
@@ -84,7 +82,5 @@ fn number<'a>(alloc: Global, name: &'static str, help: &'static str) -> Arg<'a> 
 
 /// One of the three numbers of a moment.
 fn part_of_moment<'a>(alloc: Global, name: &'static str, help: &'static str) -> Arg<'a> {
-    number(alloc, name, help)
-        .value_parser(value_parser!(u32))
-        .default_value("0")
+    number(alloc, name, help).default_value("0")
 }

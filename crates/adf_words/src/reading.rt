@@ -13,6 +13,11 @@ const DOUBLE_DENSITY: u32 = 1_760;
 
 const HIGH_DENSITY: u32 = 3_520;
 
+/// The fewest and the most blocks that a volume has.
+const FEWEST_BLOCKS: u32 = 16;
+
+const MOST_BLOCKS: u32 = 101_602;
+
 /// The job that these words ask for, which stand behind the program's own name.
 pub fn read_words<'a>(alloc: Global, words: &'a [String]) -> Result<Job<'a>, WordsFault>
     ensures { words.now ≡ [] → result ≡ Ok Job.Script }
@@ -63,7 +68,7 @@ fn blank_job<'a>(
         return Ok(None);
     };
     let given = match words.get_str("blocks") {
-        Some(_) => Some(number_of(alloc, words, "blocks")?),
+        Some(_) => Some(number_of(alloc, words, "blocks", FEWEST_BLOCKS, MOST_BLOCKS)?),
         None => None,
     };
     let usual = if words.get_flag("hd") {
@@ -77,9 +82,9 @@ fn blank_job<'a>(
         Format::Ofs
     };
     let moment = Date3 {
-        days: number_of(alloc, words, "days")?,
-        minutes: number_of(alloc, words, "minutes")?,
-        ticks: number_of(alloc, words, "ticks")?,
+        days: number_of(alloc, words, "days", 0, u32::MAX)?,
+        minutes: number_of(alloc, words, "minutes", 0, u32::MAX)?,
+        ticks: number_of(alloc, words, "ticks", 0, u32::MAX)?,
     };
     Ok(Some(Job::Blank {
         format,
@@ -90,15 +95,23 @@ fn blank_job<'a>(
     }))
 }
 
-/// The value of a number's option, which is digits alone: `clap` takes a sign too.
-fn number_of(alloc: Global, words: &ArgMatches<'_>, id: &str) -> Result<u32, WordsFault> {
+/// The value of a number's option, which is digits alone: a parse by `clap` would take a sign too.
+fn number_of(
+    alloc: Global,
+    words: &ArgMatches<'_>,
+    id: &str,
+    least: u32,
+    most: u32,
+) -> Result<u32, WordsFault> {
     let text = words.get_str(id).unwrap_or("");
     if text.as_bytes().iter().all(|byte| byte.is_ascii_digit()) {
         if let Ok(number) = text.parse::<u32>() {
-            return Ok(number);
+            if least <= number && number <= most {
+                return Ok(number);
+            }
         }
     }
     Err(WordsFault::Usage(format!(in alloc;
-        "error: invalid value '{text}' for '--{id} <N>': a decimal number of digits alone is expected\n\nFor more information, try '--help'.\n"
+        "error: invalid value '{text}' for '--{id} <N>': a decimal number from {least} to {most} is expected\n\nFor more information, try '--help'.\n"
     )?))
 }

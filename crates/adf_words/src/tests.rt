@@ -66,6 +66,10 @@ fn wrong_lines(rt: HostRuntime) -> Result<(), Fail> {
         ("blank --hd --blocks 1760 Work a", "--hd"),
         ("blank --blocks 15 Work a", "15"),
         ("blank --blocks 101603 Work a", "101603"),
+        (
+            "blank --blocks many Work a",
+            "'many' for '--blocks <N>': a decimal number from 16 to 101602 is expected",
+        ),
         ("blank --days +5 Work a", "+5"),
         ("blank --days 4294967296 Work a", "4294967296"),
         ("blank Work", "FILE"),
