@@ -144,6 +144,19 @@ module _ (image : List ℕ) (marks : List (Option Mark)) where
     waiting = h.waiting;
   }
 
+  -- so is one whose role has no places
+  pub put_away_unseen : (pending : List ℕ) (hand from : ℕ) (role : Role) → ((i : ℕ) (next : Role) → ¬ IsPlace image hand role i next) → IsInHand image marks pending hand role from → IsBetween image marks pending
+  put_away_unseen pending hand from role none h = record {
+    but = with_left image marks (IsLeft pending hand from) (λ block i. Contains pending block) (λ block i m next at p. (
+      λ l. elim l [
+        | inl q ↦ q
+        | inr a ↦ absurd (none i next (subst (λ (r : Role). IsPlace image hand r i next) h.of_role (in_hand image marks hand i block i h.mark m next h.held at a.0 refl p)))
+      ],
+      λ q. inl q,
+    )) h.but;
+    waiting = h.waiting;
+  }
+
   -- nothing is pending
   pub ended : IsBetween image marks [] → AreReached image marks
   ended b = all_reached image marks (λ block i. Contains [] block) (λ block i q. absurd (omega (arith, q.1))) b.but

@@ -1,5 +1,5 @@
 //! Which longs of a block name other blocks.
-ghost use Rattle.std.specs.Prelude.{◌≡◌, ◌<◌, ◌-◌, ◌≤◌, ◌↔◌, IsTrue, Some};
+ghost use Rattle.std.specs.Prelude.{◌≡◌, ◌<◌, ◌-◌, ◌≤◌, ◌↔◌, ℕ, List, IsTrue, Some, false};
 ghost use Rattle.adf_block.specs.Image.{block_count, page_count};
 ghost use Rattle.ados_tree.specs.declared.role.Role.{Role};
 ghost use Rattle.ados_tree.specs.declared.role.Role.TheVariants.{Root, Entry, Extension};
@@ -11,6 +11,13 @@ use crate::fields::{
 };
 use adf_block::Image;
 use ados_tree::Role;
+
+/// Whether a block in this role may name others: pages and data blocks name none.
+pub(crate) fn has_places(role: Role) -> bool
+    ensures { result ≡ false → (image : List ℕ) → (block i : ℕ) → (next : Role) → ¬ IsPlace image block role i next }
+{
+    !matches!(role, Role::Page | Role::Data(_))
+}
 
 /// The role that long `i` of a block gives to the block that it names, if it is a place of names.
 pub(crate) fn place_role(image: &Image, block: u32, role: Role, i: u32) -> Option<Role>

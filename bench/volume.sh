@@ -1,0 +1,57 @@
+#!/bin/sh
+# Prints how long it takes to check, to list and to read a full image, beside `cat` of its file and, where the machine has
+# it, `unadf -lr`. The words are sizes in blocks: 1,760, 16,000 and 101,602 if there are none. Each time is the best of
+# 21 runs. It needs the machine's rustc beside the kit.
+set -e
+runs=21
+here=$(cd "$(dirname "$0")" && pwd)
+serve=$here/../crates/adf_serve/out/adf_serve
+bench=$here/../crates/volume_bench/out/volume_bench
+room=$(mktemp -d)
+trap 'rm -rf "$room"' EXIT
+for tool in full_image best_of; do
+    rustc --edition 2021 -O -o "$room/$tool" "$here/$tool.rs"
+done
+for crate in adf_serve volume_bench; do
+    (cd "$here/../crates/$crate" && rt run < /dev/null > "$room/log" 2>&1) || { cat "$room/log" >&2; exit 1; }
+done
+
+# Microseconds, with the start of the command.
+best() { "$room/best_of" $runs "$@"; }
+
+expect() { [ "$1" = "$2" ] || { echo "$file: '$1' where '$2' is expected" >&2; exit 1; }; }
+
+for blocks in ${*:-1760 16000 101602}; do
+    for kind in ofs ffs; do
+        file=$room/$kind-$blocks.adf
+        written=$("$room/full_image" "$kind" "$blocks" "$file")
+        expect "$("$serve" check "$file")" ok
+        for run in $(seq $runs); do
+            expect "$("$bench" "$file" 2>> "$room/inside-$kind-$blocks")" "$written"
+        done
+        cat=$(best cat "$file")
+        check=$(best "$serve" check "$file")
+        list=$(best "$serve" list "$file")
+        read=$(best "$bench" "$file" 2> /dev/null)
+        unadf=-
+        if command -v unadf > /dev/null; then unadf=$(best unadf -lr "$file" 2> /dev/null); fi
+        inside=$(awk '{ check = $3 - $2; read = $4 - $3 }
+            NR == 1 || check < best_check { best_check = check }
+            NR == 1 || read < best_read { best_read = read }
+            END { print best_check, best_read }' "$room/inside-$kind-$blocks")
+        echo "$blocks $kind $cat $check $list $read $unadf $inside" >> "$room/table"
+        rm "$file"
+    done
+done
+
+echo "Milliseconds, with the start of the program, which alone is $(best true) microseconds; how many times those of cat;"
+echo "and the nanoseconds for each block that the check alone takes, and the reading of all files alone."
+echo
+awk 'BEGIN { print "blocks kind     cat   check    list    read   unadf   check  list  read   check   read" }
+    function ms(micros) { return micros == "-" ? "-" : sprintf("%.2f", micros / 1000) }
+    {
+        printf "%6d %4s %7s %7s %7s %7s %7s", $1, $2, ms($3), ms($4), ms($5), ms($6), ms($7)
+        printf "  %6.1f %5.1f %5.1f  %6.0f %6.0f\n", $4 / $3, $5 / $3, $6 / $3, 1000 * $8 / $1, 1000 * $9 / $1
+        if ($1 == 1760) floppy = floppy sprintf(" %s ms (%s)", ms($4), $2)
+    }
+    END { if (floppy) print "\nadf_serve check of a double-density floppy, with its start:" floppy }' "$room/table"
