@@ -1,0 +1,16 @@
+pub mod Holding
+pub mod Walked
+pub mod Reading
+pub mod Closes
+pub mod Carrying
+pub mod Named
+pub mod Telling
+pub mod Rewriting
+pub mod Making
+pub mod Under
+pub mod Unlisting
+pub mod Keeping
+pub mod Tables
+pub mod RefusalRows
+pub mod Sound
+pub mod Meant

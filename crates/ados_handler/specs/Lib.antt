@@ -1,0 +1,11 @@
+pub use Rattle.ados_packet.specs.Packet
+pub mod Session
+pub mod ProperSession
+pub mod Objects
+pub mod Refusals
+pub mod Success
+pub mod Meaning
+pub mod Keeps
+pub mod Closing
+pub mod Table
+pub mod Handler
