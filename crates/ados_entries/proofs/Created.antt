@@ -1,5 +1,5 @@
 -- The steps by which an entry is made.
-use Rattle.std.proofs.Common.{◌≡◌, ◌≢◌, ℕ, ◌+◌, ◌<◌, inl, inr, List, false, Some, refl, sym, ◌∙◌, subst, arith}
+use Rattle.std.proofs.Common.{◌≡◌, ◌≢◌, ℕ, ◌+◌, ◌<◌, inl, inr, List, false, Some, refl, sym, ap, ◌∙◌, subst, arith}
 use Rattle.std.proofs.lemmas.Bool.{cases_eq}
 use Rattle.adf_block.specs.Frame.{OnlyBlock}
 use Rattle.adf_block.specs.Image.{block_count, root_key}
@@ -15,6 +15,7 @@ use Rattle.ados_tree.specs.Stands.{Stands, in_slot}
 use Rattle.ados_tree.specs.Tree.{Node, Tree, root, size_in}
 use Rattle.ados_tree.specs.Kept.{Kept}
 use Rattle.ados_tree.specs.Layout.{Duty, Serves}
+use Rattle.ados_tree.specs.NewBlocks.{TakesLowest}
 use Rattle.ados_entries.specs.declared.kind.NodeKind.{NodeKind}
 use Rattle.ados_entries.specs.declared.kind.NodeKind.TheVariants as kinds
 use Rattle.ados_entries.specs.Conditions.{CanMake, IsEmpty, IsUnused}
@@ -22,13 +23,15 @@ use Rattle.ados_entries.specs.Kinds.{content_of}
 use Rattle.ados_entries.specs.Making.{IsNewEntry}
 use Rattle.ados_entries.specs.Steps.{AtDate, AtLongs, Dated}
 use Rattle.ados_entries.proofs.Changed.{nodes_here, nodes_other}
+use Rattle.ados_entries.proofs.FirstFree.{AtLink, dated_there, linked_there, stamped_there, takes_key}
 use Rattle.ados_entries.proofs.Lawful.{lawful_chains, lawful_pages, page_is, page_within}
 use Rattle.ados_entries.proofs.Keeping.{IsWritten, written_kept}
 use Rattle.ados_entries.proofs.KeptSteps.{IsKnown, dated_kept, filled_kept, linked_kept, marked_kept, stamped_kept}
 use Rattle.ados_entries.proofs.Listing.{can_insert, place_behind}
 use Rattle.ados_entries.proofs.Loose.{Loose, proper_is_loose}
-use Rattle.ados_entries.proofs.Making.{begun_spells, made_stands, no_duty, unused}
+use Rattle.ados_entries.proofs.Making.{begun_spells, made_spells, made_stands, no_duty, unused}
 use Rattle.ados_entries.proofs.ProperChanges.{IsDirectoryNode, begun_is_loose, dir_not_key, directory_at}
+use Rattle.ados_entries.proofs.Relisted.{IsLinkPlace}
 use Rattle.ados_entries.proofs.Spells.{Spells, spells}
 
 -- the pages of an image that stands for a tree are lawful
@@ -88,6 +91,12 @@ module _ (old m1 m2 : List ℕ) (t : Tree) (st : Stands old t) (moment : Date3) 
   count_m2 : block_count m2 ≡ t.blocks
   count_m2 = omega (arith, spelled.whole)
 
+  abbrev slot_key : ℕ
+  slot_key = slot_at m2 key
+
+  link_at : IsLinkPlace begun dir (link_block dir (in_slot begun dir slot_key)) (link_long (6 + slot_key) (in_slot begun dir slot_key))
+  link_at = place_behind m2 begun st.layout key spelled loose dir directory.node directory.keys dir_node directory.content slot_key (slot_at-small m2 key) (in_slot begun dir slot_key) (λ k m. m)
+
   module _ (m3 : List ℕ) (inserts : (chains : ℕ → List ℕ) → LawfulChains m2 dir chains → InsertsLast dir key chains m2 m3) where
     inserted : InsertsLast dir key (in_slot begun dir) m2 m3
     inserted = inserts (in_slot begun dir) chains
@@ -123,7 +132,6 @@ module _ (old m1 m2 : List ℕ) (t : Tree) (st : Stands old t) (moment : Date3) 
           let whole = proper_is_loose t st.proper in
           let within = page_within old t st.layout 0 (spells old t st) whole (page_of key) own_page in
           let page = page_is old t st.layout 0 (spells old t st) whole (page_of key) within in
-          let slot_key = slot_at m2 key in
           written_kept old m5 t st
           (same_trans (IsWritten old t st m5) old m4 m5
           (same_trans (IsWritten old t st m5) old m3 m4
@@ -131,8 +139,23 @@ module _ (old m1 m2 : List ℕ) (t : Tree) (st : Stands old t) (moment : Date3) 
           (same_trans (IsWritten old t st m5) old m1 m2
           (marked_kept old t st m5 key (page_of key) false old m1 within (sym page) taken)
           (filled_kept old t st m5 key fresh.inside.0 no_duties m1 m2 filled))
-          (linked_kept old t st m5 begun dir (link_block dir (in_slot begun dir slot_key)) (link_long (6 + slot_key) (in_slot begun dir slot_key)) key key directory.node directory.keys directory.at directory.content known
-          (place_behind m2 begun st.layout key spelled loose dir directory.node directory.keys dir_node directory.content slot_key (slot_at-small m2 key) (in_slot begun dir slot_key) (λ k m. m))
+          (linked_kept old t st m5 begun dir (link_block dir (in_slot begun dir slot_key)) (link_long (6 + slot_key) (in_slot begun dir slot_key)) key key directory.node directory.keys directory.at directory.content known link_at
           (inr (fresh.inside.0, no_duties)) m2 m3 inserted.relinks))
           (dated_kept old t st m5 dir directory.node directory.at moment m3 m4 dated))
           (stamped_kept old t st m5 moment m4 m5 (at_root m4 m5 t moment (dated_count dir 105 moment m3 m4 dated ∙ count_m3) stamp)))
+
+      -- ---- which block it is
+
+      pub created_lowest : TakesLowest old m5
+      created_lowest =
+          let restamped = at_root m4 m5 t moment (dated_count dir 105 moment m3 m4 dated ∙ count_m3) stamp in
+          let no_root : key ≢ root t = λ e. cc (sym fresh.no_node ∙ ap t.nodes e ∙ st.proper.root_node.1) in
+          takes_key m2 m5 key dir name (content_of kind) moment entry
+          (same_trans (AtLink key) m2 m4 m5
+          (same_trans (AtLink key) m2 m3 m4
+          (linked_there key dir t apart no_root begun (link_block dir (in_slot begun dir slot_key)) (link_long (6 + slot_key) (in_slot begun dir slot_key)) key link_at m2 m3 inserted.relinks)
+          (dated_there key dir t apart no_root moment m3 m4 dated))
+          (stamped_there key dir t apart no_root moment m4 m5 restamped))
+          old t st low no_root
+          (made_spells old m1 m2 t st moment dir key name (content_of kind) can fresh empty no_bytes low taken filled entry m3 m4 m5 inserted dated restamped)
+          created

@@ -14,10 +14,12 @@ pub mod Making
 pub mod Removing
 pub mod Renaming
 pub mod Filled
+pub mod FirstFree
 pub mod Created
 pub mod Renamed
 pub mod Removed
 pub mod Keeping
 pub mod KeptSteps
+pub mod Reaching
 pub mod Emptying
 pub mod Emptier

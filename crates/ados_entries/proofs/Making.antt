@@ -232,12 +232,13 @@ module _ (old m1 m2 : List ℕ) (t : Tree) (st : Stands old t) (moment : Date3) 
   -- ---- the entry is listed, and the dates are set
 
   module _ (m3 m4 m5 : List ℕ) (inserts : InsertsLast dir key (in_slot (with_node key (Some new) t) dir) m2 m3) (redated : Dated dir 105 moment m3 m4) (restamped : Dated (root t) 118 moment m4 m5) where
-    pub made_stands : Stands m5 (made moment dir key name content t)
-    made_stands =
+    pub made_spells : Spells m5 (made moment dir key name content t) st.layout
+    made_spells =
         let d = directory_at t dir can.directory in
-        let proper = made_is_proper t moment dir key name content st.proper can fresh empty in
         let loose = begun_is_loose t moment dir key name content st.proper can fresh empty in
         let there : (with_node key (Some new) t).nodes dir ≡ Some d.node = nodes_other key (Some new) t dir (dir_not_key t moment dir key name content st.proper can fresh empty) ∙ d.at in
         let listed = entered_spells m2 m3 m4 (with_node key (Some new) t) st.layout key begun_spells loose dir d.node d.keys there d.content new (nodes_here key (Some new) t) (λ e. dir_not_key t moment dir key name content st.proper can fresh empty (sym e)) inserts moment redated in
-        stands m5 (made moment dir key name content t) st.layout proper
-        (stamped_spells m4 m5 (entered moment dir key (with_node key (Some new) t)) st.layout 0 listed (proper_is_loose (entered moment dir key (with_node key (Some new) t)) (entered_proper t moment dir key name content st.proper can fresh empty)) moment restamped)
+        stamped_spells m4 m5 (entered moment dir key (with_node key (Some new) t)) st.layout 0 listed (proper_is_loose (entered moment dir key (with_node key (Some new) t)) (entered_proper t moment dir key name content st.proper can fresh empty)) moment restamped
+
+    pub made_stands : Stands m5 (made moment dir key name content t)
+    made_stands = stands m5 (made moment dir key name content t) st.layout (made_is_proper t moment dir key name content st.proper can fresh empty) made_spells

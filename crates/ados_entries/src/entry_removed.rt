@@ -1,6 +1,6 @@
 //! An entry that is taken away.
 
-ghost use Rattle.std.specs.Prelude.{◌≡◌};
+ghost use Rattle.std.specs.Prelude.{◌≡◌, ℕ, List};
 ghost use Rattle.ados_tree.specs.Change.{removed};
 ghost use Rattle.ados_tree.specs.Kept.{Kept};
 ghost use Rattle.ados_tree.specs.Stands.{Stands};
@@ -25,7 +25,8 @@ const FILE: u32 = 0xffff_fffd;
 pub fn remove(image: &mut Image, key: u32, moment: Date3)
     requires tree { (t : Tree) × Stands image.old t }
     requires can { (t : Tree) → Stands image.old t → CanRemove t key }
-    ensures { (t : Tree) → Stands image.old t → Stands image.new (removed moment key t) }
+    ensures stands { (t : Tree) → Stands image.old t → Stands image.new (removed moment key t) }
+    ensures kept { Kept image.old image.new }
 {
     empty(image, key, moment);
     remove_empty(image, key, moment);
@@ -35,7 +36,8 @@ pub fn remove(image: &mut Image, key: u32, moment: Date3)
 fn empty(image: &mut Image, key: u32, moment: Date3)
     requires tree { (t : Tree) × Stands image.old t }
     requires can { (t : Tree) → Stands image.old t → CanRemove t key }
-    ensures { Empties moment key image.old image.new }
+    ensures empties { Empties moment key image.old image.new }
+    ensures kept { Kept image.old image.new }
 {
     if image.long(key, SECONDARY_TYPE) != FILE {
         return;
@@ -44,13 +46,13 @@ fn empty(image: &mut Image, key: u32, moment: Date3)
 }
 
 /// Takes away an entry with nothing in it: a directory without entries, or a file of no bytes. What stands in its block
-/// stays.
+/// stays, and what an earlier change of the image kept is still kept.
 fn remove_empty(image: &mut Image, key: u32, moment: Date3)
     requires tree { (t : Tree) × Stands image.old t }
     requires can { (t : Tree) → Stands image.old t → CanRemove t key }
     requires empty { (t : Tree) → Stands image.old t → size_of t key ≡ 0 }
     ensures stands { (t : Tree) → Stands image.old t → Stands image.new (removed moment key t) }
-    ensures kept { Kept image.old image.new }
+    ensures kept { (first : List ℕ) → Kept first image.old → Kept first image.new }
 {
     let dir = image.long(key, PARENT);
     unlink(image, dir, key);

@@ -6,6 +6,7 @@ ghost use Rattle.ados_tree.specs.Tree.{Tree};
 ghost use Rattle.ados_tree.specs.Stands.{Stands};
 ghost use Rattle.ados_tree.specs.Keys.{HasKey, HasTree};
 ghost use Rattle.ados_tree.specs.Kept.{Kept};
+ghost use Rattle.ados_tree.specs.NewBlocks.{TakesLowest};
 ghost use Rattle.ados_tree.specs.Change.{made, removed, renamed};
 ghost use Rattle.ados_entries.specs.Conditions.{CanMake, CanRemove, CanRename};
 ghost use Rattle.ados_entries.specs.Kinds.{content_of};
@@ -33,6 +34,7 @@ impl Volume {
         requires { (t : Tree) → Stands self.old.image t → CanMake t dir name }
         ensures done { MatchResult result (λ key. IsLowestFree self.old.image key × ((t : Tree) → Stands self.old.image t → Stands self.new.image (made moment dir key name (content_of kind) t))) (λ full. NoneFree self.old.image × (self.new ≡ self.old)) }
         ensures kept { Kept self.old.image self.new.image }
+        ensures lowest { TakesLowest self.old.image self.new.image }
         ensures validated { self.new.was_validated ≡ self.old.was_validated }
     {
         create(&mut self.image, dir, &name, kind, moment)
@@ -43,6 +45,7 @@ impl Volume {
     pub fn remove(&mut self, key: u32, moment: Date3)
         requires { (t : Tree) → Stands self.old.image t → CanRemove t key }
         ensures stands { (t : Tree) → Stands self.old.image t → Stands self.new.image (removed moment key t) }
+        ensures kept { Kept self.old.image self.new.image }
         ensures validated { self.new.was_validated ≡ self.old.was_validated }
     {
         forget(&mut self.names, &self.image, key);

@@ -1,6 +1,6 @@
 use Rattle.std.proofs.Common.{refl}
 use Rattle.adf_block.specs.Fields.{parent_key}
-use Rattle.ados_entries.proofs.Removed.{from_inside, gone, gone_kept, key_inside, key_still, pages_still, unlinkable}
+use Rattle.ados_entries.proofs.Removed.{from_inside, gone, gone_kept_since, key_inside, key_still, pages_still, unlinkable}
 use Rattle.ados_entries.proofs.entry_removed.remove_empty.Goals as goal
 
 pub long-dir-requires-clause-block : goal.long-dir-requires-clause-block
@@ -25,5 +25,5 @@ returns-clause-stands c = λ t s.
 
 pub returns-clause-kept : goal.returns-clause-kept
 returns-clause-kept c =
-    gone_kept c.args.image.now c.requires.tree.0 c.requires.tree.1 c.args.moment c.args.key (c.requires.can c.requires.tree.0 c.requires.tree.1) (c.requires.empty c.requires.tree.0 c.requires.tree.1) c.long-dir.result c.long-dir.ensures c.unlink.new.image c.unlink.ensures.unlinks c.touch.new.image c.touch.ensures.dated
+    gone_kept_since c.args.image.now c.requires.tree.0 c.requires.tree.1 c.args.moment c.args.key (c.requires.can c.requires.tree.0 c.requires.tree.1) (c.requires.empty c.requires.tree.0 c.requires.tree.1) c.long-dir.result c.long-dir.ensures c.unlink.new.image c.unlink.ensures.unlinks c.touch.new.image c.touch.ensures.dated
     c.give_back.new.image c.stamp.new.image c.give_back.ensures.freed c.stamp.ensures.dated

@@ -18,9 +18,9 @@ invariant_of-self c =
     let t = c.self.invariant.0.0 in
     let s = c.self.invariant.0.1 in
     let can = c.requires t (subst (λ (shown : Shown). Stands shown.image t) c.self.view_is s) in
-    forgotten_carried c.self.inside.image c.remove.new.image t (removed c.args.moment c.args.key t) s (c.remove.ensures t s) c.args.key
+    forgotten_carried c.self.inside.image c.remove.new.image t (removed c.args.moment c.args.key t) s (c.remove.ensures.stands t s) c.args.key
     c.self.inside.names.pairs.entries c.forget.new.names.pairs.entries c.self.invariant.1 c.forget.ensures
     (removed_stays t c.args.moment c.args.key can.empty)
 
 pub returns-clause-stands : goal.returns-clause-stands
-returns-clause-stands c = λ t s. c.remove.ensures t (subst (λ (shown : Shown). Stands shown.image t) (sym c.self.view_is) s)
+returns-clause-stands c = λ t s. c.remove.ensures.stands t (subst (λ (shown : Shown). Stands shown.image t) (sym c.self.view_is) s)

@@ -1,0 +1,3 @@
+pub mod Deciding
+pub mod Making
+pub mod Listed
