@@ -12,6 +12,7 @@ use crate::grammar::parse;
 use crate::input::{LONGEST_SCRIPT, read_script};
 use crate::lines::{first_line, is_passed_over};
 use crate::output::{write_closed, write_fault, write_reply};
+use crate::values::keep_value;
 use ados_exchange::Exchange;
 use ados_packet::{Answer, Packet};
 use ados_server::{PutRefused, Server};
@@ -40,6 +41,7 @@ where
     let mut rest = script;
     let mut number: u64 = 0;
     let mut taken: u64 = 0;
+    let mut values = Vec::new(alloc);
     while !rest.is_empty() {
         let (line, behind) = first_line(rest);
         rest = behind;
@@ -47,13 +49,15 @@ where
         if is_passed_over(line) {
             continue;
         }
-        let Some(packet) = parse(line) else {
+        let found = parse(alloc, &values, line)?;
+        let Some(packet) = found else {
             write_fault(alloc, writer, number)?;
             return Err(TryFault::Script);
         };
         match call(exchange, moment, packet) {
             Ok(reply) => {
                 write_reply(alloc, writer, &reply)?;
+                keep_value(&mut values, &reply.answer)?;
                 taken = reply.number;
             }
             Err(PutRefused::Closed(_)) => return write_closed(alloc, writer, taken + 1),

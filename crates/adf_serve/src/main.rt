@@ -4,7 +4,6 @@
 mod commands;
 mod fault;
 mod script;
-mod small;
 mod words;
 
 pub use script::try_script;
@@ -16,6 +15,8 @@ pub use words::run_words;
 mod command_tests;
 #[cfg(test)]
 mod fault_tests;
+#[cfg(test)]
+mod script_tests;
 #[cfg(test)]
 mod tests;
 #[cfg(test)]
