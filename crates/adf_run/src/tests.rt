@@ -10,6 +10,7 @@ use ados_packet::{Answer, Body, Packet};
 use ados_server::{Outcome, PutRefused, Step};
 use ados_volume::{FaultKind, blank};
 use std::alloc::Global;
+use std::process::Abort;
 use std::test::Fail;
 
 type Asked = Step<Packet, Date3>;
@@ -40,11 +41,21 @@ fn floppy(alloc: Global) -> Result<Image, Fail> {
     Ok(blank(alloc, Format::Ffs, 1_760, name, MOMENT)?.into_image())
 }
 
-/// DIE of client 1 and DISK_INFO of client 2 are put before either is served, and each client puts once more.
-fn die_then_info(alloc: Global) -> Result<Vec<Asked>, Fail> {
+/// LOCATE_OBJECT of the root, for a shared lock.
+fn locate_root() -> Result<Packet, Fail> {
+    let path = PathText::new(b"").map_err(|_| Fail::from("no path"))?;
+    Ok(Packet::LocateObject {
+        lock: 0,
+        path,
+        mode: -2,
+    })
+}
+
+/// DIE of client 1 and LOCATE_OBJECT of client 2 are put before either is served, and each client puts once more.
+fn die_then_locate(alloc: Global) -> Result<Vec<Asked>, Fail> {
     let mut steps = Vec::new(alloc);
     steps.push(put(1, Packet::Die))?;
-    steps.push(put(2, Packet::DiskInfo))?;
+    steps.push(put(2, locate_root()?))?;
     steps.push(serve())?;
     steps.push(put(2, Packet::DiskInfo))?;
     steps.push(serve())?;
@@ -86,7 +97,7 @@ fn done(
 #[test]
 fn behind_die(rt: HostRuntime) -> Result<(), Fail> {
     let alloc = rt.alloc();
-    let ran = done(alloc, floppy(alloc)?, 2, die_then_info(alloc)?)?;
+    let ran = done(alloc, floppy(alloc)?, 2, die_then_locate(alloc)?)?;
     let outcomes = ran.outcomes.as_slice();
     assert_eq!(rt; outcomes.len(), 11);
     assert!(rt; matches!(outcomes[0], Outcome::Accepted(1)));
@@ -100,7 +111,7 @@ fn behind_die(rt: HostRuntime) -> Result<(), Fail> {
     );
     assert!(rt; matches!(outcomes[4], Outcome::Served));
     assert!(rt; matches!(outcomes[5], Outcome::Idle));
-    assert!(rt; is_plain(outcomes.get(6), 1, 25, 0, 218));
+    assert!(rt; is_plain(outcomes.get(6), 1, 8, 0, 218));
     assert!(rt; is_plain(outcomes.get(7), 1, 5, -1, 0));
     assert!(rt; matches!(outcomes[8], Outcome::Nothing));
     assert!(rt;
@@ -197,7 +208,7 @@ fn refused(rt: HostRuntime) -> Result<(), Fail> {
         image.set_long(0, long, value);
         let mut wanted = floppy(alloc)?;
         wanted.set_long(0, long, value);
-        match run_volume(alloc, image, 1, die_then_info(alloc)?) {
+        match run_volume(alloc, image, 1, die_then_locate(alloc)?) {
             Err(RunFault::Rejected(rejected)) => {
                 assert_eq!(rt; (rejected.fault.kind, rejected.fault.block), (kind, 0));
                 assert!(rt; rejected.image.as_bytes() == wanted.as_bytes());
@@ -208,15 +219,21 @@ fn refused(rt: HostRuntime) -> Result<(), Fail> {
     Ok(())
 }
 
-/// Where no memory has room for so many clients, the image comes back with its bitmap written anew.
-#[test]
-fn too_many_clients(rt: HostRuntime) -> Result<(), Fail> {
-    let alloc = rt.alloc();
+/// The blank floppy, whose root says that the bitmap is not valid.
+fn invalid_floppy(rt: &impl Abort, alloc: Global) -> Result<Image, Fail> {
     let mut image = floppy(alloc)?;
     assert!(rt; image.blocks() == 1_760);
     image.set_long(880, 78, 0);
     assert!(rt; image.blocks() == 1_760);
     image.settle(880, 5);
+    Ok(image)
+}
+
+/// Where no memory has room for so many clients, the image comes back with its bitmap written anew.
+#[test]
+fn too_many_clients(rt: HostRuntime) -> Result<(), Fail> {
+    let alloc = rt.alloc();
+    let image = invalid_floppy(&rt, alloc)?;
     match run_volume(alloc, image, usize::MAX, Vec::new(alloc)) {
         Err(RunFault::NoMemory(image)) => {
             let valid = floppy(alloc)?;
@@ -227,16 +244,12 @@ fn too_many_clients(rt: HostRuntime) -> Result<(), Fail> {
     }
 }
 
-/// A lock on the root is asked for, given up, and the disk is told of.
-fn lock_and_info(alloc: Global) -> Result<Vec<Asked>, Fail> {
+/// A lock on the root is asked for and then copied, and the disk is told of; each reply is taken before the next put.
+fn locks_and_info(alloc: Global) -> Result<Vec<Asked>, Fail> {
     let mut steps = Vec::new(alloc);
     for packet in [
-        Packet::CopyDir { lock: 0 },
-        Packet::LocateObject {
-            lock: 0,
-            path: PathText::new(b"").map_err(|_| Fail::from("no path"))?,
-            mode: -2,
-        },
+        locate_root()?,
+        Packet::CopyDir { lock: 1 },
         Packet::DiskInfo,
     ] {
         steps.push(put(2, packet))?;
@@ -246,15 +259,39 @@ fn lock_and_info(alloc: Global) -> Result<Vec<Asked>, Fail> {
     Ok(steps)
 }
 
-/// With ample memory the steps are run. Where a growth is refused, as by `tools/growths.sh`, the image comes back as it was, or
-/// the run goes on without that put or that lock; no byte of the image is changed either way.
+/// Whether a packet was answered with one of these pairs of results; or its put found no room, and nothing was served.
+fn is_answered_or_refused(outcomes: &[Got], results: &[(i32, i32)]) -> bool {
+    match outcomes {
+        [
+            Outcome::Accepted(number),
+            Outcome::Served,
+            Outcome::Taken(reply),
+        ] => {
+            *number == reply.number && results.contains(&(reply.answer.res1, reply.answer.res2))
+        }
+        [
+            Outcome::Refused(PutRefused::NoRoom(_)),
+            Outcome::Idle,
+            Outcome::Nothing,
+        ] => true,
+        _ => false,
+    }
+}
+
+/// With ample memory the steps are run. Where a growth is refused, as by `tools/growths.sh`, the image comes back, or the
+/// run goes on without that put or that lock; no byte of the image is changed either way.
 #[test]
 fn refused_growth(rt: HostRuntime) -> Result<(), Fail> {
     let alloc = rt.alloc();
     let (image, was) = (floppy(alloc)?, floppy(alloc)?);
-    let left = match run_volume(alloc, image, 2, lock_and_info(alloc)?) {
+    let left = match run_volume(alloc, image, 2, locks_and_info(alloc)?) {
         Ok(ran) => {
-            assert_eq!(rt; ran.outcomes.len(), 9);
+            let outcomes = ran.outcomes.as_slice();
+            assert_eq!(rt; outcomes.len(), 9);
+            assert!(rt; is_answered_or_refused(&outcomes[..3], &[(1, 0), (0, 103)]));
+            // Where there is no first lock, there is none to copy.
+            assert!(rt; is_answered_or_refused(&outcomes[3..6], &[(2, 0), (0, 103), (0, 211)]));
+            assert!(rt; is_answered_or_refused(&outcomes[6..], &[(-1, 0)]));
             ran.exchange.into_server().into_volume().into_image()
         }
         Err(RunFault::NoMemory(image)) => image,
@@ -264,5 +301,23 @@ fn refused_growth(rt: HostRuntime) -> Result<(), Fail> {
         }
     };
     assert!(rt; left.as_bytes() == was.as_bytes());
+    Ok(())
+}
+
+/// Where the bitmap is not valid, want of memory hands the image back as it was, or as it was accepted.
+#[test]
+fn refused_growth_of_an_invalid_bitmap(rt: HostRuntime) -> Result<(), Fail> {
+    let alloc = rt.alloc();
+    let (was, valid) = (invalid_floppy(&rt, alloc)?, floppy(alloc)?);
+    let image = invalid_floppy(&rt, alloc)?;
+    let (left, wanted) = match run_volume(alloc, image, 1, Vec::new(alloc)) {
+        Ok(ran) => (ran.exchange.into_server().into_volume().into_image(), valid),
+        Err(RunFault::NoMemory(image)) => (image, valid),
+        Err(RunFault::Rejected(rejected)) => {
+            assert!(rt; rejected.fault.kind == FaultKind::NoMemory);
+            (rejected.image, was)
+        }
+    };
+    assert!(rt; left.as_bytes() == wanted.as_bytes());
     Ok(())
 }

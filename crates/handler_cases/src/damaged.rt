@@ -1,7 +1,7 @@
 //! Damaged images of a volume that was filled by packets: the faults that they are refused with.
 
 use crate::desk::{Desk, Open};
-use crate::drawn::{copy, put};
+use crate::drawn::{copy, expect_longs, put};
 use adf_block::{Format, Image};
 use ados_tree::{FaultKind, VolumeFault};
 use ados_volume::check;
@@ -31,6 +31,8 @@ pub(crate) fn filled(
     let handle = desk.handle(Open::Output, b"A/f")?;
     assert_eq!(rt; desk.write(alloc, handle, &bytes)?, (size as i32, 0));
     assert_eq!(rt; desk.end(handle), (-1, 0));
+    let places = [(76, SECOND), (126, EXTENSION)];
+    expect_longs(rt, desk.image(), HEADER, &places);
     Ok(copy(alloc, desk.image())?)
 }
 
@@ -109,7 +111,6 @@ fn expect_faults(
 #[test]
 fn damaged_longs(rt: HostRuntime) -> Result<(), Fail> {
     let rows = [
-        shows(0, 0, 0x004f_5300, FaultKind::NotADosDisk, 0),
         shows(880, 3, 71, FaultKind::BadType, 880),
         shows(EXTENSION, 0, 2, FaultKind::BadType, EXTENSION),
         shows(2, 1, 3, FaultKind::BadOwnKey, 2),
@@ -130,6 +131,7 @@ fn damaged_longs(rt: HostRuntime) -> Result<(), Fail> {
 #[test]
 fn damaged_ffs(rt: HostRuntime) -> Result<(), Fail> {
     let rows = [
+        shows(0, 0, 0x004f_5301, FaultKind::NotADosDisk, 0),
         shows(0, 0, 0x444f_5307, FaultKind::UnsupportedKind, 0),
         shows(HEADER, 81, 36_864, FaultKind::BadCount, HEADER),
     ];
@@ -139,6 +141,7 @@ fn damaged_ffs(rt: HostRuntime) -> Result<(), Fail> {
 #[test]
 fn damaged_ofs(rt: HostRuntime) -> Result<(), Fail> {
     let rows = [
+        shows(0, 0, 0x004f_5300, FaultKind::NotADosDisk, 0),
         shows(SECOND, 1, 2, FaultKind::BadParent, SECOND),
         shows(SECOND, 2, 1, FaultKind::BadSequence, SECOND),
     ];

@@ -7,7 +7,7 @@ use ados_name::{Date3, PathText};
 use ados_packet::{Answer, Body, Buffer, DiskInfo, FileInfo, Packet};
 use ados_server::Server;
 use ados_volume::Volume;
-use std::alloc::Global;
+use std::alloc::{AllocError, Global};
 use std::process::Abort;
 use std::test::Fail;
 
@@ -22,6 +22,9 @@ pub(crate) const BEGINNING: i32 = -1;
 pub(crate) const POSITION: i32 = 0;
 
 pub(crate) const END: i32 = 1;
+
+/// The results of a packet for whose lock or handle there is no memory.
+pub(crate) const NO_MEMORY: (i32, i32) = (0, 103);
 
 /// Which packet opens a file.
 #[derive(Clone, Copy, Debug, PartialEq, Eq)]
@@ -89,6 +92,7 @@ impl Desk {
     pub(crate) fn lock_in(results: (i32, i32)) -> Result<u32, Fail> {
         match results {
             (res1, 0) if res1 > 0 => Ok(res1 as u32),
+            NO_MEMORY => Err(Fail::from(AllocError)),
             _ => Err(Fail::from("no lock")),
         }
     }
@@ -166,8 +170,9 @@ impl Desk {
 
     /// What EXAMINE_OBJECT tells; a refusal is an error.
     pub(crate) fn examine(&mut self, lock: u32) -> Result<FileInfo, Fail> {
-        match self.answer(Packet::ExamineObject { lock }).1 {
-            Body::Entry(info) => Ok(info),
+        let (_, body) = self.answer(Packet::ExamineObject { lock });
+        match &body {
+            Body::Entry(info) => Ok(*info),
             _ => Err(Fail::from("nothing is told")),
         }
     }
@@ -183,8 +188,8 @@ impl Desk {
     /// The entry behind a key, or the results of the refusal.
     pub(crate) fn next(&mut self, lock: u32, key: u32) -> Result<FileInfo, (i32, i32)> {
         let (results, body) = self.answer(Packet::ExamineNext { lock, key });
-        match body {
-            Body::Entry(info) => Ok(info),
+        match &body {
+            Body::Entry(info) => Ok(*info),
             _ => Err(results),
         }
     }
@@ -223,6 +228,7 @@ impl Desk {
     pub(crate) fn handle(&mut self, open: Open, path: &[u8]) -> Result<u32, Fail> {
         match self.open(open, path)? {
             Ok(handle) => Ok(handle),
+            Err(NO_MEMORY) => Err(Fail::from(AllocError)),
             Err(_) => Err(Fail::from("no handle")),
         }
     }

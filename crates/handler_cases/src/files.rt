@@ -122,6 +122,7 @@ pub(crate) fn protection_on(rt: &impl Abort, alloc: Global, desk: &mut Desk) -> 
     assert_eq!(rt; desk.write(alloc, handle, b"x")?, (1, 0));
     assert_eq!(rt; desk.told(b"f")?.protection.0, 0);
     assert_eq!(rt; desk.protect(b"", 1)?, (0, 212));
+    assert_eq!(rt; desk.comment(b"f", &[b'c'; 80])?, (0, 220));
     Ok(())
 }
 

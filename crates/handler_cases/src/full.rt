@@ -31,23 +31,34 @@ fn expect_full(
     Ok(())
 }
 
-/// Beside its header the file has 1,731 data blocks and 24 extension blocks. Emptied, it has its header alone.
-#[test]
-fn full_disk(rt: HostRuntime) -> Result<(), Fail> {
-    let alloc = rt.alloc();
+/// A floppy whose file `f` takes all the room, with no hold on it.
+fn with_full_file(rt: &impl Abort, alloc: Global) -> Result<Desk, Fail> {
     let bytes = vec![in alloc; b'x'; MOST as usize]?;
     let (mut desk, handle) = with_file(alloc)?;
     assert_eq!(rt; desk.write(alloc, handle, &bytes)?, (MOST as i32, 0));
     assert_eq!(rt; desk.end(handle), (-1, 0));
+    Ok(desk)
+}
+
+/// Beside its header the file has 1,731 data blocks and 24 extension blocks.
+#[test]
+fn full_disk(rt: HostRuntime) -> Result<(), Fail> {
+    let mut desk = with_full_file(&rt, rt.alloc())?;
     assert_eq!(rt; desk.told(b"f")?.blocks, 1 + 1_731 + 24);
     assert_eq!(rt; desk.used()?, 1_758);
     assert_eq!(rt; desk.open(Open::Update, b"g")?.err(), Some((0, 221)));
     assert_eq!(rt; desk.open(Open::Output, b"g")?.err(), Some((0, 221)));
-    expect_accepted(&rt, alloc, &mut desk)?;
+    expect_accepted(&rt, rt.alloc(), &mut desk)
+}
+
+/// The file has its header alone.
+#[test]
+fn full_disk_emptied(rt: HostRuntime) -> Result<(), Fail> {
+    let mut desk = with_full_file(&rt, rt.alloc())?;
     let handle = desk.handle(Open::Output, b"f")?;
-    assert_eq!(rt; desk.end(handle), (-1, 0));
     assert_eq!(rt; desk.used()?, 3);
-    expect_accepted(&rt, alloc, &mut desk)
+    assert_eq!(rt; desk.end(handle), (-1, 0));
+    expect_accepted(&rt, rt.alloc(), &mut desk)
 }
 
 #[test]

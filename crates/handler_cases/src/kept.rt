@@ -3,8 +3,9 @@
 use crate::desk::{BEGINNING, Desk, Open, expect_accepted};
 use crate::drawn::{checked, copy, expect_block, expect_longs, is_same, put, work};
 use crate::entries::list_and_rename_on;
-use crate::files::protection_on;
+use crate::files::{expect_read, protection_on};
 use adf_block::{Format, Image};
+use ados_packet::{DiskInfo, Packet};
 use std::alloc::Global;
 use std::process::Abort;
 use std::test::Fail;
@@ -49,9 +50,37 @@ fn hello(rt: &impl Abort, alloc: Global, format: Format) -> Result<Desk, Fail> {
     Ok(desk)
 }
 
+/// The file is read by its name in upper case, listed, and the handler dies.
+fn expect_hello(rt: &impl Abort, alloc: Global, desk: &mut Desk) -> Result<(), Fail> {
+    let mut wanted = vec![in alloc; b'.'; 100]?;
+    wanted[..8].copy_from_slice(b"Hi Amiga");
+    let handle = desk.handle(Open::Input, b"HELLO")?;
+    expect_read(rt, alloc, desk, handle, (8, 0), &wanted)?;
+    assert_eq!(rt; desk.end(handle), (-1, 0));
+    let root = desk.examine(0)?;
+    assert_eq!(rt; (root.key, root.entry_type, root.size), (880, 1, 0));
+    assert_eq!(rt; root.name.bytes(), b"Work".as_slice());
+    let Ok(file) = desk.next(0, 880) else {
+        return Err(Fail::from("an entry is missing"));
+    };
+    assert_eq!(rt; (file.key, file.entry_type, file.size), (2, -3, 8));
+    assert_eq!(rt; file.name.bytes(), b"hello".as_slice());
+    let disk = DiskInfo {
+        state: 82,
+        blocks: 1_758,
+        used: 4,
+        bytes_per_block: 512,
+        disk_type: 0x444f_5301,
+    };
+    assert_eq!(rt; desk.info()?, disk);
+    assert_eq!(rt; desk.ask(Packet::Die), (-1, 0));
+    Ok(())
+}
+
 #[test]
 fn hello_ffs(rt: HostRuntime) -> Result<(), Fail> {
-    let desk = hello(&rt, rt.alloc(), Format::Ffs)?;
+    let mut desk = hello(&rt, rt.alloc(), Format::Ffs)?;
+    expect_hello(&rt, rt.alloc(), &mut desk)?;
     let fields = [
         (1, 2),
         (2, 1),

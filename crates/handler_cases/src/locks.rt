@@ -1,6 +1,6 @@
 //! Locks, and where paths lead.
 
-use crate::desk::{Desk, EXCLUSIVE, SHARED, text};
+use crate::desk::{Desk, EXCLUSIVE, Open, SHARED};
 use adf_block::Format;
 use ados_packet::Packet;
 use std::alloc::Global;
@@ -131,18 +131,17 @@ fn parent_in_use(rt: HostRuntime) -> Result<(), Fail> {
     Ok(())
 }
 
-/// A lock stands against DIE.
+/// A lock stands against DIE, and so does a handle.
 #[test]
-fn die(rt: HostRuntime) -> Result<(), Fail> {
+fn lock_blocks_die(rt: HostRuntime) -> Result<(), Fail> {
     let mut desk = with_entries(rt.alloc())?;
     let lock = desk.lock(0, b"", SHARED)?;
     assert_eq!(rt; desk.ask(Packet::Die), (0, 202));
     assert_eq!(rt; desk.free(lock), (-1, 0));
-    let handle = Packet::FindInput {
-        lock: 0,
-        path: text(b"f")?,
-    };
-    assert_eq!(rt; desk.ask(handle), (-1, 0));
+    let handle = desk.handle(Open::Input, b"f")?;
     assert_eq!(rt; desk.ask(Packet::Die), (0, 202));
+    assert_eq!(rt; desk.end(handle), (-1, 0));
+    assert_eq!(rt; desk.ask(Packet::Die), (-1, 0));
+    assert_eq!(rt; desk.locate(0, b"a", SHARED)?, (0, 218));
     Ok(())
 }

@@ -4,7 +4,7 @@ use crate::desk::{Desk, expect_accepted, text};
 use crate::drawn::expect_longs;
 use adf_block::Format;
 use ados_name::Date3;
-use ados_packet::Packet;
+use ados_packet::{Body, DiskInfo, Packet};
 use std::test::Fail;
 
 /// RENAME_DISK.
@@ -25,6 +25,28 @@ fn refused_names(rt: HostRuntime) -> Result<(), Fail> {
     expect_longs(&rt, desk.image(), 880, &[(108, 0x034e_6577)]);
     assert_eq!(rt; desk.examine(0)?.name.bytes(), b"New".as_slice());
     expect_accepted(&rt, rt.alloc(), &mut desk)
+}
+
+/// DISK_INFO and INFO tell the same.
+#[test]
+fn info_of_blank(rt: HostRuntime) -> Result<(), Fail> {
+    let blank = DiskInfo {
+        state: 82,
+        blocks: 1_758,
+        used: 2,
+        bytes_per_block: 512,
+        disk_type: 0x444f_5301,
+    };
+    let mut desk = Desk::floppy(rt.alloc(), Format::Ffs)?;
+    for packet in [Packet::DiskInfo, Packet::Info { lock: 0 }] {
+        let (results, body) = desk.answer(packet);
+        assert_eq!(rt; results, (-1, 0));
+        let Body::Disk(info) = body else {
+            return Err(Fail::from("nothing is told"));
+        };
+        assert_eq!(rt; info, blank);
+    }
+    Ok(())
 }
 
 const SET: Date3 = Date3 {

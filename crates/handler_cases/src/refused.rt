@@ -3,15 +3,15 @@
 //! The test passes with ample memory. Where one growth is refused, as by `tools/growths.sh`, it passes too, or ends with the
 //! want of memory of what it stands on as its error.
 
-use crate::desk::{Desk, Open, SHARED, text};
-use crate::drawn::{copy, is_same};
+use crate::desk::{Desk, NO_MEMORY, Open, SHARED, text};
+use crate::drawn::{copy, is_same, work};
 use adf_block::Format;
 use ados_packet::Packet;
 use std::alloc::Global;
 use std::process::Abort;
 use std::test::Fail;
 
-/// The packets that make a lock or a handle.
+/// The packets that make a lock or a handle; FINDOUTPUT of a new file, and of one that it empties.
 #[derive(Clone, Copy)]
 enum Hold {
     Locate,
@@ -20,22 +20,37 @@ enum Hold {
     Create,
     Input,
     Output,
+    Emptied,
     Update,
 }
 
-const HOLDS: [Hold; 7] = [
+const HOLDS: [Hold; 8] = [
     Hold::Locate,
     Hold::Copy,
     Hold::Parent,
     Hold::Create,
     Hold::Input,
     Hold::Output,
+    Hold::Emptied,
     Hold::Update,
 ];
 
+/// A volume of few blocks, whose image is soon copied.
+fn small(alloc: Global) -> Result<Desk, Fail> {
+    Ok(Desk::new(alloc, work(alloc, Format::Ffs, 64)?))
+}
+
+/// How often each of them is served.
+const TURNS: u8 = 9;
+
+/// A name for each turn.
+fn name_of(number: u8) -> [u8; 1] {
+    [b'k' + number % TURNS]
+}
+
 /// One of these packets. With another number it makes another object, where it makes one.
 fn packet_of(hold: Hold, lock: u32, number: u8) -> Result<Packet, Fail> {
-    let new = text(&[b'a' + number % 26])?;
+    let path = text(&name_of(number))?;
     Ok(match hold {
         Hold::Locate => Packet::LocateObject {
             lock: 0,
@@ -44,13 +59,14 @@ fn packet_of(hold: Hold, lock: u32, number: u8) -> Result<Packet, Fail> {
         },
         Hold::Copy => Packet::CopyDir { lock },
         Hold::Parent => Packet::Parent { lock },
-        Hold::Create => Packet::CreateDir { lock, path: new },
+        Hold::Create => Packet::CreateDir { lock, path },
         Hold::Input => Packet::FindInput {
             lock: 0,
             path: text(b"f")?,
         },
-        Hold::Output => Packet::FindOutput { lock, path: new },
-        Hold::Update => Packet::FindUpdate { lock, path: new },
+        Hold::Output => Packet::FindOutput { lock, path },
+        Hold::Emptied => Packet::FindOutput { lock: 0, path },
+        Hold::Update => Packet::FindUpdate { lock, path },
     })
 }
 
@@ -65,7 +81,7 @@ fn expect_hold(
 ) -> Result<(), Fail> {
     let was = copy(alloc, desk.image())?;
     let mut results = desk.ask(packet_of(hold, lock, number)?);
-    if results == (0, 103) {
+    if results == NO_MEMORY {
         assert!(rt; is_same(desk.image(), &was));
         results = desk.ask(packet_of(hold, lock, number)?);
     }
@@ -73,15 +89,26 @@ fn expect_hold(
     Ok(())
 }
 
+/// Files in the root, of one byte each.
+fn make_files(rt: &impl Abort, alloc: Global, desk: &mut Desk) -> Result<(), Fail> {
+    for number in 0..TURNS {
+        let handle = desk.handle(Open::Output, &name_of(number))?;
+        assert_eq!(rt; desk.write(alloc, handle, b"x")?, (1, 0));
+        assert_eq!(rt; desk.end(handle), (-1, 0));
+    }
+    Ok(())
+}
+
 /// Each of the packets nine times over, so that the tables of locks and handles grow under each.
 #[test]
 fn refused_growth(rt: HostRuntime) -> Result<(), Fail> {
     for hold in HOLDS {
-        let mut desk = Desk::floppy(rt.alloc(), Format::Ffs)?;
+        let mut desk = small(rt.alloc())?;
         desk.directory(b"d")?;
         desk.file(b"f")?;
+        make_files(&rt, rt.alloc(), &mut desk)?;
         let lock = desk.lock(0, b"d", SHARED)?;
-        for number in 0..9 {
+        for number in 0..TURNS {
             expect_hold(&rt, rt.alloc(), &mut desk, hold, lock, number)?;
         }
         assert_eq!(rt; desk.open(Open::Input, b"none")?.err(), Some((0, 205)));

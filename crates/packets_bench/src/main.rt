@@ -63,11 +63,19 @@ fn serve(handler: &mut Handler, packet: Packet) -> Result<Answer> {
     Ok(answer)
 }
 
+/// The number of the lock that an answer brings.
+fn lock_of(answer: &Answer) -> Result<u32> {
+    match u32::try_from(answer.res1) {
+        Ok(lock) => Ok(lock),
+        Err(_) => bail!("no lock"),
+    }
+}
+
 /// Makes so many directories in the root.
 fn make_entries(handler: &mut Handler, entries: u32) -> Result<()> {
     for n in 0..entries {
         let path = path(&name_of(n))?;
-        let lock = serve(handler, Packet::CreateDir { lock: 0, path })?.res1 as u32;
+        let lock = lock_of(&serve(handler, Packet::CreateDir { lock: 0, path })?)?;
         serve(handler, Packet::FreeLock { lock })?;
     }
     Ok(())
@@ -138,7 +146,7 @@ fn serve_rounds(
     for n in 0..rounds.saturating_mul(ROUND) {
         let packet = packet(alloc, n, lock, handle, entry)?;
         let answer = serve(handler, packet)?;
-        if n % ROUND == 0 && answer.res1 as u32 != lock {
+        if n % ROUND == 0 && lock_of(&answer)? != lock {
             bail!("another lock");
         }
     }
