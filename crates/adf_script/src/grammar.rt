@@ -14,7 +14,7 @@ use ados_packet::Packet;
 use std::alloc::{AllocError, Global};
 
 /// The packet that a line puts, where it puts one. The values are those of the replies so far, which `$k` stands for.
-pub(crate) fn parse(
+pub fn parse(
     alloc: Global,
     values: &[Option<u32>],
     line: &[u8],

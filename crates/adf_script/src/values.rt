@@ -26,7 +26,7 @@ fn result_value(res1: i32) -> Option<u32>
 }
 
 /// Keeps the value of one more reply, behind those of the replies before it.
-pub(crate) fn keep_value(values: &mut Vec<Option<u32>>, answer: &Answer) -> Result<(), AllocError>
+pub fn keep_value(values: &mut Vec<Option<u32>>, answer: &Answer) -> Result<(), AllocError>
     ensures { OnOk result (values.new.items ≡ values.old.items ++ answer_value answer.now ∷ []) }
 {
     values.push(answer_value(answer))?;
