@@ -1,10 +1,10 @@
 -- What a script has told so far, line after line.
 use Rattle.std.proofs.Common.{◌≡◌, ℕ, zero, suc, ◌+◌, inl, inr, Bool, true, false, List, [], ◌∷◌, ◌++◌, length, take, slice_get, refl, sym, ap, subst, ◌∙◌, arith, append_assoc, length-append}
-use Rattle.std.specs.Prelude.{Option, Some, Result, Ok, Err, OnOk, not, cond, filter, flat_map}
+use Rattle.std.specs.Prelude.{Option, Some, not, cond, filter, flat_map}
 use Rattle.std.specs.Bool.{MatchBool}
 use Rattle.std.specs.Io.KnownBytes.{Appends, Consumes, IsAtEnd, Keeps}
 use Rattle.std.specs.List.{enumerate_from}
-use Rattle.std.proofs.lemmas.List.{append-nil, take-append-le, take_all, length-take}
+use Rattle.std.proofs.lemmas.List.{append-nil, map-append, take-append-le, take_all, length-take}
 use Rattle.std.proofs.lemmas.Bool.{cases_lt, lt-ltb}
 use Rattle.std.proofs.lemmas.Grind.{flat_map-append}
 use Rattle.std.proofs.lemmas.Option.{none-some, slice_get_past}
@@ -21,6 +21,7 @@ use Rattle.ados_server.specs.declared.step.Outcome.TheVariants.{Accepted, Refuse
 use Rattle.ados_exchange.proofs.Histories.{slice_get-push_at}
 use Rattle.ados_exchange.proofs.Grows.{Grown, grown_nil, grow}
 use Rattle.adf_script.specs.Lines.{lines_of, is_skipped, kept_from, kept_lines, is_too_long}
+use Rattle.adf_script.specs.Values.{answer_value, answer_values}
 use Rattle.adf_script.specs.Grammar.{IsPacketLine, IsFaulty}
 use Rattle.adf_script.specs.Text.{reply_line, reply_lines, closed_line, fault_line}
 use Rattle.adf_script.specs.Told.{ArePackets, NoneIsLeft, steps_of, outcomes_of, Ending, AtEnd, AtClosed, AtFault, is_whole, last_line, Ran, Told}
@@ -28,15 +29,6 @@ use Rattle.adf_script.specs.Calls.{IsQuiet, Calls}
 use Rattle.adf_script.specs.Streams.{Writes, ReadsAndWrites}
 use Rattle.adf_script.proofs.Quiet.{put_closed}
 use Rattle.std.proofs.KnownBytes.{Appends-nil as appends_nothing, Appends-trans as appends_more, Appends-kept as appends_kept}
-
--- what follows where the answer is Ok
-pub on_ok_map : {T E : Type 0} (r : Result T E) (P Q : Type 0) → (P → Q) → OnOk r P → OnOk r Q
-on_ok_map (Ok x) P Q f h = f h
-on_ok_map (Err e) P Q f h = h
-
-pub no_bytes : (xs : List ℕ) → length xs ≡ 0 → xs ≡ []
-no_bytes [] e = refl
-no_bytes (x ∷ xs) e = absurd (omega (arith, e))
 
 -- a line that is skipped, and one that is not
 pub kept_from-skipped : (number : ℕ) (rest line behind : List ℕ) → lines_of rest ≡ line ∷ lines_of behind → is_skipped line ≡ true → kept_from number rest ≡ kept_from (number + 1) behind
@@ -83,7 +75,7 @@ slice_get-seam xs y ys n e = ap (slice_get (xs ++ y ∷ ys)) e ∙ at xs
 
 -- one more packet line
 packets-push : (lines : List (ℕ × List ℕ)) (answers : List Answer) (packets : List Packet) (line : ℕ × List ℕ) (answer : Answer) (packet : Packet)
-    → length packets ≡ length lines → length packets ≡ length answers → IsPacketLine answers packet line.1 → ArePackets lines answers packets
+    → length packets ≡ length lines → length packets ≡ length answers → IsPacketLine (answer_values answers) packet line.1 → ArePackets lines answers packets
     → ArePackets (lines ++ line ∷ []) (answers ++ answer ∷ []) (packets ++ packet ∷ [])
 packets-push lines answers packets line answer packet as_lines as_answers puts each i p at_i = elim (slice_get-push_at packets packet i p at_i) [
   | inl w ↦
@@ -91,26 +83,27 @@ packets-push lines answers packets line answer packet as_lines as_answers puts e
       in (
         old.0,
         slice_get-front lines (line ∷ []) i old.0 old.1,
-        subst (λ l. IsPacketLine l p old.0.1) (sym (take-append-le i answers (answer ∷ []) (omega (arith, w.0, as_answers)))) old.2,
+        subst (λ l. IsPacketLine (answer_values l) p old.0.1) (sym (take-append-le i answers (answer ∷ []) (omega (arith, w.0, as_answers)))) old.2,
       )
   | inr w ↦
       let all : take i (answers ++ answer ∷ []) ≡ answers = take-append-le i answers (answer ∷ []) (omega (arith, w.0, as_answers)) ∙ take_all i answers (omega (arith, w.0, as_answers))
-      in (line, slice_get-seam lines line [] i (w.0 ∙ as_lines), subst (λ l. IsPacketLine l p line.1) (sym all) (subst (λ q. IsPacketLine answers q line.1) (sym w.1) puts))
+      in (line, slice_get-seam lines line [] i (w.0 ∙ as_lines), subst (λ l. IsPacketLine (answer_values l) p line.1) (sym all) (subst (λ q. IsPacketLine (answer_values answers) q line.1) (sym w.1) puts))
 ]
 
 module _ {S M : Type 0} (gives : S → Packet → M → S → Answer → Type 0) (has_died : S → Bool) (opening : PortState S Packet Answer) (moment : M) (script : List ℕ) (contents : Option (List ℕ)) where
-  -- with these bytes of the script left, behind these many lines and packets: what has come to pass and what is written
-  pub record SoFar (rest : List ℕ) (number taken : ℕ) (port : PortState S Packet Answer) (now : Option (List ℕ)) : Type 0 where
+  -- with these bytes of the script left, behind these many lines and with these values of replies: what has come to pass and what is written
+  pub record SoFar (rest : List ℕ) (number : ℕ) (values : List (Option ℕ)) (port : PortState S Packet Answer) (now : Option (List ℕ)) : Type 0 where
     pub lines : List (ℕ × List ℕ)
     pub packets : List Packet
     pub answers : List Answer
     pub split : kept_lines script ≡ lines ++ kept_from (number + 1) rest
-    pub many_lines : length lines ≡ taken
-    pub many_packets : length packets ≡ taken
-    pub many_answers : length answers ≡ taken
+    pub many_lines : length lines ≡ length values
+    pub many_packets : length packets ≡ length values
+    pub many_answers : length answers ≡ length values
+    pub values_are : values ≡ answer_values answers
     pub each : ArePackets lines answers packets
     pub grown : Grown gives has_died opening (flat_map (steps_of moment) packets) (flat_map outcomes_of (numbered 1 answers)) port
-    pub quiet : IsQuiet port taken
+    pub quiet : IsQuiet port (length values)
     pub written : Appends contents now (reply_lines 1 1 answers)
 
   -- a script that is not too long
@@ -122,7 +115,7 @@ module _ {S M : Type 0} (gives : S → Packet → M → S → Answer → Type 0)
       in subst (λ b. MatchBool b ((whole ≡ false) × (written ≡ fault_line 1 0)) Runs) (sym short) runs
 
   -- before the first line
-  pub nothing_told : IsQuiet opening 0 → SoFar script 0 0 opening contents
+  pub nothing_told : IsQuiet opening 0 → SoFar script 0 [] opening contents
   nothing_told quiet = record {
     lines = [];
     packets = [];
@@ -131,13 +124,14 @@ module _ {S M : Type 0} (gives : S → Packet → M → S → Answer → Type 0)
     many_lines = refl;
     many_packets = refl;
     many_answers = refl;
+    values_are = refl;
     each = λ i packet e. absurd (none-some packet e);
     grown = grown_nil gives has_died opening;
     quiet = quiet;
     written = appends_nothing contents;
   }
 
-  module _ (rest : List ℕ) (number taken : ℕ) (port : PortState S Packet Answer) (now : Option (List ℕ)) (sofar : SoFar rest number taken port now) where
+  module _ (rest : List ℕ) (number : ℕ) (values : List (Option ℕ)) (port : PortState S Packet Answer) (now : Option (List ℕ)) (sofar : SoFar rest number values port now) where
     -- no line is left
     pub told_end : is_too_long script ≡ false → rest ≡ [] → Writes contents now (λ written. Told gives has_died opening moment script written true)
     told_end short empty =
@@ -154,7 +148,7 @@ module _ {S M : Type 0} (gives : S → Packet → M → S → Answer → Type 0)
 
     module _ (line behind : List ℕ) (first : lines_of rest ≡ line ∷ lines_of behind) where
       -- a line that is skipped
-      pub told_skipped : is_skipped line ≡ true → SoFar behind (number + 1) taken port now
+      pub told_skipped : is_skipped line ≡ true → SoFar behind (number + 1) values port now
       told_skipped skipped = record {
         lines = sofar.lines;
         packets = sofar.packets;
@@ -163,6 +157,7 @@ module _ {S M : Type 0} (gives : S → Packet → M → S → Answer → Type 0)
         many_lines = sofar.many_lines;
         many_packets = sofar.many_packets;
         many_answers = sofar.many_answers;
+        values_are = sofar.values_are;
         each = sofar.each;
         grown = sofar.grown;
         quiet = sofar.quiet;
@@ -183,13 +178,13 @@ module _ {S M : Type 0} (gives : S → Packet → M → S → Answer → Type 0)
             in (old.0, ap (λ l. slice_get l i) split_here ∙ slice_get-front sofar.lines _ i old.0 old.1, old.2)
 
         -- a faulty line
-        pub told_fault : (after : Option (List ℕ)) → is_too_long script ≡ false → ((answers : List Answer) → IsFaulty answers line) → Appends now after (fault_line 1 (number + 1))
+        pub told_fault : (after : Option (List ℕ)) → is_too_long script ≡ false → IsFaulty values line → Appends now after (fault_line 1 (number + 1))
             → Writes contents after (λ written. Told gives has_died opening moment script written false)
         told_fault after short faulty more =
             let ran : Ran gives has_died opening moment (kept_lines script) sofar.answers (AtFault (number + 1)) = record {
               packets = sofar.packets;
               each = each_here;
-              ends = (line, line_here, faulty sofar.answers);
+              ends = (line, line_here, subst (λ v. IsFaulty v line) sofar.values_are faulty);
               closing = port;
               history = subst (λ l. PortHistory gives has_died opening l (flat_map outcomes_of (numbered 1 sofar.answers) ++ []) port) (sym (append-nil (flat_map (steps_of moment) sofar.packets)))
                   (subst (λ l. PortHistory gives has_died opening (flat_map (steps_of moment) sofar.packets) l port) (sym (append-nil (flat_map outcomes_of (numbered 1 sofar.answers)))) sofar.grown.history);
@@ -200,35 +195,39 @@ module _ {S M : Type 0} (gives : S → Packet → M → S → Answer → Type 0)
               told_by (reply_lines 1 1 sofar.answers ++ fault_line 1 (number + 1)) false short sofar.answers (AtFault (number + 1)) ran refl refl,
             )
 
-        module _ (packet : Packet) (puts : (answers : List Answer) → IsPacketLine answers packet line) where
+        module _ (packet : Packet) (spelled : IsPacketLine values packet line) where
+          puts : IsPacketLine (answer_values sofar.answers) packet line
+          puts = subst (λ v. IsPacketLine v packet line) sofar.values_are spelled
+
           -- a put that is refused as closed
           pub told_closed : (other : Packet) (new : PortState S Packet Answer) (after : Option (List ℕ)) → is_too_long script ≡ false
-              → StepGives gives has_died port (Put 1 packet) (Refused (Closed other)) new → Appends now after (closed_line 1 (taken + 1))
+              → StepGives gives has_died port (Put 1 packet) (Refused (Closed other)) new → Appends now after (closed_line 1 (length values + 1))
               → Writes contents after (λ written. Told gives has_died opening moment script written true)
           told_closed other new after short step more =
-              let same : other ≡ packet = put_closed gives has_died port.server taken packet other new (subst (λ o. StepGives gives has_died o (Put 1 packet) (Refused (Closed other)) new) sofar.quiet step)
+              let same : other ≡ packet = put_closed gives has_died port.server (length values) packet other new (subst (λ o. StepGives gives has_died o (Put 1 packet) (Refused (Closed other)) new) sofar.quiet step)
               in let history = grow gives has_died opening (flat_map (steps_of moment) sofar.packets) (flat_map outcomes_of (numbered 1 sofar.answers)) port sofar.grown
               (Put 1 packet) (Refused (Closed packet)) new (subst (λ o. StepGives gives has_died port (Put 1 packet) (Refused (Closed o)) new) same step)
               in let ran : Ran gives has_died opening moment (kept_lines script) sofar.answers (AtClosed packet) = record {
                 packets = sofar.packets;
                 each = each_here;
-                ends = ((number + 1, line), line_here, puts sofar.answers);
+                ends = ((number + 1, line), line_here, puts);
                 closing = new;
                 history = history.history;
               }
               in (
-                reply_lines 1 1 sofar.answers ++ closed_line 1 (taken + 1),
-                appends_more contents now after (reply_lines 1 1 sofar.answers) (closed_line 1 (taken + 1)) sofar.written more,
-                told_by (reply_lines 1 1 sofar.answers ++ closed_line 1 (taken + 1)) true short sofar.answers (AtClosed packet) ran refl
+                reply_lines 1 1 sofar.answers ++ closed_line 1 (length values + 1),
+                appends_more contents now after (reply_lines 1 1 sofar.answers) (closed_line 1 (length values + 1)) sofar.written more,
+                told_by (reply_lines 1 1 sofar.answers ++ closed_line 1 (length values + 1)) true short sofar.answers (AtClosed packet) ran refl
                     (ap (λ n. reply_lines 1 1 sofar.answers ++ closed_line 1 (n + 1)) (sym sofar.many_answers)),
               )
 
           -- a reply
-          pub told_reply : (reply : Reply Answer) (new : PortState S Packet Answer) (after : Option (List ℕ)) → reply.number ≡ taken + 1 → IsQuiet new (taken + 1)
+          pub told_reply : (reply : Reply Answer) (new : PortState S Packet Answer) (after : Option (List ℕ)) → reply.number ≡ length values + 1 → IsQuiet new (length values + 1)
               → Calls gives has_died moment port packet reply new → Appends now after (reply_line 1 reply.number reply.answer)
-              → SoFar behind (number + 1) reply.number new after
+              → SoFar behind (number + 1) (values ++ answer_value reply.answer ∷ []) new after
           told_reply reply new after is_next quiet calls more =
-              let steps = flat_map (steps_of moment) sofar.packets
+              let one_more : length (values ++ answer_value reply.answer ∷ []) ≡ length values + 1 = length-append values (answer_value reply.answer ∷ [])
+              in let steps = flat_map (steps_of moment) sofar.packets
               in let outcomes = flat_map outcomes_of (numbered 1 sofar.answers)
               in let one = grow gives has_died opening steps outcomes port sofar.grown (Put 1 packet) (Accepted reply.number) calls.put calls.puts
               in let two = grow gives has_died opening _ _ calls.put one (Serve moment) Served calls.served calls.serves
@@ -246,13 +245,14 @@ module _ {S M : Type 0} (gives : S → Packet → M → S → Answer → Type 0)
                 packets = sofar.packets ++ packet ∷ [];
                 answers = sofar.answers ++ reply.answer ∷ [];
                 split = split_here ∙ sym (append_assoc sofar.lines ((number + 1, line) ∷ []) (kept_from (number + 1 + 1) behind));
-                many_lines = omega (arith, length-append sofar.lines ((number + 1, line) ∷ []), sofar.many_lines, is_next);
-                many_packets = omega (arith, length-append sofar.packets (packet ∷ []), sofar.many_packets, is_next);
-                many_answers = omega (arith, length-append sofar.answers (reply.answer ∷ []), sofar.many_answers, is_next);
-                each = packets-push sofar.lines sofar.answers sofar.packets (number + 1, line) reply.answer packet (sofar.many_packets ∙ sym sofar.many_lines) (sofar.many_packets ∙ sym sofar.many_answers) (puts sofar.answers) sofar.each;
+                many_lines = omega (arith, length-append sofar.lines ((number + 1, line) ∷ []), sofar.many_lines, one_more);
+                many_packets = omega (arith, length-append sofar.packets (packet ∷ []), sofar.many_packets, one_more);
+                many_answers = omega (arith, length-append sofar.answers (reply.answer ∷ []), sofar.many_answers, one_more);
+                values_are = ap (λ v. v ++ answer_value reply.answer ∷ []) sofar.values_are ∙ sym (map-append answer_value sofar.answers (reply.answer ∷ []));
+                each = packets-push sofar.lines sofar.answers sofar.packets (number + 1, line) reply.answer packet (sofar.many_packets ∙ sym sofar.many_lines) (sofar.many_packets ∙ sym sofar.many_answers) puts sofar.each;
                 grown = subst (λ l. Grown gives has_died opening l (flat_map outcomes_of (numbered 1 (sofar.answers ++ reply.answer ∷ []))) new) all_steps
                     (subst (λ l. Grown gives has_died opening (((steps ++ Put 1 packet ∷ []) ++ Serve moment ∷ []) ++ Take 1 ∷ []) l new) all_outcomes three);
-                quiet = subst (IsQuiet new) (sym is_next) quiet;
+                quiet = subst (IsQuiet new) (sym one_more) quiet;
                 written = subst (Appends contents after) (sym (reply_lines-push 1 sofar.answers reply.answer ∙ ap (λ n. reply_lines 1 1 sofar.answers ++ reply_line 1 n reply.answer) counted))
                     (appends_more contents now after (reply_lines 1 1 sofar.answers) (reply_line 1 reply.number reply.answer) sofar.written more);
               }

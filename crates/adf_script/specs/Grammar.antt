@@ -1,9 +1,10 @@
 -- How a line of a script spells a packet.
-use Rattle.std.specs.Prelude.{◌≡◌, ◌⊎◌, ℕ, zero, suc, ◌^◌, ◌<◌, ◌≤◌, ℤ, pos, negsuc, List, [], ◌∷◌, ◌++◌, codes}
+use Rattle.std.specs.Prelude.{◌≡◌, ◌⊎◌, ℕ, zero, suc, ◌^◌, ◌<◌, ◌≤◌, ℤ, pos, negsuc, false, List, [], ◌∷◌, ◌++◌, length, replicate, Option, Some, codes}
 use Rattle.std.specs.Str.Parse.{IsNumeral, digits_value}
 use Rattle.ados_packet.specs.declared.packet.Packet.{Packet}
-use Rattle.ados_packet.specs.declared.packet.Packet.TheVariants.{Die, DiskInfo, Other}
-use Rattle.ados_packet.specs.declared.answer.Answer.{Answer}
+use Rattle.ados_packet.specs.declared.packet.Packet.TheVariants.{Die, LocateObject, RenameDisk, FreeLock, DeleteObject, RenameObject, CopyDir, SetProtect, CreateDir, ExamineObject, ExamineNext, DiskInfo, Info, SetComment, Parent, SetDate, SameLock, Read, Write, FindUpdate, FindInput, FindOutput, End, Seek, SetFileSize, Other}
+use Rattle.adf_script.specs.Pieces.{has_byte}
+use Rattle.adf_script.specs.Values.{reply_value}
 
 -- an unsigned decimal number of 32 bits
 abbrev pub IsNumber : ℕ → List ℕ → Type 0
@@ -19,33 +20,74 @@ IsSigned z bytes =
     ((n : ℕ) × IsNumber n bytes × (n < 2 ^ 31) × (z ≡ pos n))
     ⊎ ((n : ℕ) × (digits : List ℕ) × (bytes ≡ 45 ∷ digits) × IsNumber n digits × (n ≤ 2 ^ 31) × (z ≡ negative n))
 
--- a field of a line: the word in front, or a signed number
+-- a number, or `$k`: the value of reply k
+abbrev pub IsValue : List (Option ℕ) → ℕ → List ℕ → Type 0
+IsValue values n bytes =
+    IsNumber n bytes
+    ⊎ ((k : ℕ) × (digits : List ℕ) × (bytes ≡ 36 ∷ digits) × IsNumber k digits × (reply_value values k ≡ Some n))
+
+-- a text in quotes, which holds no quote; nor does it hold a line feed, since no line does
+abbrev pub IsQuoted : List ℕ → List ℕ → Type 0
+IsQuoted text bytes = (bytes ≡ 34 ∷ text ++ 34 ∷ []) × (has_byte 34 text ≡ false)
+
+-- a field behind a line's word: the number of a lock, a handle or a key; another number, unsigned or signed; a text of at
+-- most 255 bytes, and one of any length; how many zeros a buffer has
 pub data Field : Type 0 where
-  Word : (word : List ℕ) → Field
+  Value : (n : ℕ) → Field
+  Number : (n : ℕ) → Field
   Signed : (z : ℤ) → Field
+  Text : (text : List ℕ) → Field
+  LongText : (text : List ℕ) → Field
+  Zeros : (buffer : List ℕ) → Field
 
--- the bytes spell the field, in a line that is read after these answers
-abbrev pub SpellsField : List Answer → Field → List ℕ → Type 0
-SpellsField answers (Word word) bytes = bytes ≡ word
-SpellsField answers (Signed z) bytes = IsSigned z bytes
+-- the bytes spell the field, where the replies before have these values
+abbrev pub SpellsField : List (Option ℕ) → Field → List ℕ → Type 0
+SpellsField values (Value n) bytes = IsValue values n bytes
+SpellsField values (Number n) bytes = IsNumber n bytes
+SpellsField values (Signed z) bytes = IsSigned z bytes
+SpellsField values (Text text) bytes = IsQuoted text bytes × (length text ≤ 255)
+SpellsField values (LongText text) bytes = IsQuoted text bytes
+SpellsField values (Zeros buffer) bytes = IsNumber (length buffer) bytes × (length buffer ≤ 1048576) × (buffer ≡ replicate (length buffer) 0)
 
--- the line spells the fields, with one space between them
-abbrev pub Spells : List Answer → List Field → List ℕ → Type 0
-Spells answers [] line = line ≡ []
-Spells answers (field ∷ []) line = SpellsField answers field line
-Spells answers (field ∷ (next ∷ fields)) line =
-    (bytes : List ℕ) × (rest : List ℕ) × (line ≡ bytes ++ 32 ∷ rest) × SpellsField answers field bytes × Spells answers (next ∷ fields) rest
+-- the bytes spell the fields to the line's end, each behind one space
+abbrev pub SpellsFields : List (Option ℕ) → List Field → List ℕ → Type 0
+SpellsFields values [] bytes = bytes ≡ []
+SpellsFields values (field ∷ fields) bytes =
+    (spelled : List ℕ) × (behind : List ℕ) × (bytes ≡ 32 ∷ (spelled ++ behind)) × SpellsField values field spelled × SpellsFields values fields behind
 
--- the fields of each packet's line
-abbrev pub fields_of : Packet → List Field
-fields_of Die = Word (codes "die") ∷ []
-fields_of DiskInfo = Word (codes "diskinfo") ∷ []
-fields_of (Other action) = Word (codes "other") ∷ Signed action ∷ []
+-- the word and the fields of each packet's line
+abbrev pub form_of : Packet → List ℕ × List Field
+form_of Die = (codes "die", [])
+form_of DiskInfo = (codes "diskinfo", [])
+form_of (LocateObject lock path mode) = (codes "locate", Value lock ∷ Signed mode ∷ Text path ∷ [])
+form_of (RenameDisk name) = (codes "rename-disk", Text name ∷ [])
+form_of (FreeLock lock) = (codes "free", Value lock ∷ [])
+form_of (CopyDir lock) = (codes "copy", Value lock ∷ [])
+form_of (Parent lock) = (codes "parent", Value lock ∷ [])
+form_of (ExamineObject lock) = (codes "examine", Value lock ∷ [])
+form_of (Info lock) = (codes "info", Value lock ∷ [])
+form_of (DeleteObject lock path) = (codes "delete", Value lock ∷ Text path ∷ [])
+form_of (CreateDir lock path) = (codes "mkdir", Value lock ∷ Text path ∷ [])
+form_of (RenameObject from_lock from to_lock to) = (codes "rename", Value from_lock ∷ Text from ∷ Value to_lock ∷ Text to ∷ [])
+form_of (SetProtect lock path bits) = (codes "protect", Value lock ∷ Text path ∷ Number bits ∷ [])
+form_of (SetComment lock path comment) = (codes "comment", Value lock ∷ Text path ∷ Text comment ∷ [])
+form_of (SetDate lock path date) = (codes "date", Value lock ∷ Text path ∷ Number date.days ∷ Number date.minutes ∷ Number date.ticks ∷ [])
+form_of (ExamineNext lock key) = (codes "next", Value lock ∷ Value key ∷ [])
+form_of (FindUpdate lock path) = (codes "update", Value lock ∷ Text path ∷ [])
+form_of (FindInput lock path) = (codes "input", Value lock ∷ Text path ∷ [])
+form_of (FindOutput lock path) = (codes "output", Value lock ∷ Text path ∷ [])
+form_of (Read handle buffer) = (codes "read", Value handle ∷ Zeros buffer ∷ [])
+form_of (Write handle bytes) = (codes "write", Value handle ∷ LongText bytes ∷ [])
+form_of (End handle) = (codes "end", Value handle ∷ [])
+form_of (Seek handle offset mode) = (codes "seek", Value handle ∷ Signed offset ∷ Signed mode ∷ [])
+form_of (SetFileSize handle offset mode) = (codes "size", Value handle ∷ Signed offset ∷ Signed mode ∷ [])
+form_of (SameLock first second) = (codes "same", Value first ∷ Value second ∷ [])
+form_of (Other action) = (codes "other", Signed action ∷ [])
 
--- after these answers the line puts this packet
-abbrev pub IsPacketLine : List Answer → Packet → List ℕ → Type 0
-IsPacketLine answers packet line = Spells answers (fields_of packet) line
+-- after replies with these values the line puts this packet
+abbrev pub IsPacketLine : List (Option ℕ) → Packet → List ℕ → Type 0
+IsPacketLine values packet line = (rest : List ℕ) × (line ≡ (form_of packet).0 ++ rest) × SpellsFields values (form_of packet).1 rest
 
 -- it puts none
-abbrev pub IsFaulty : List Answer → List ℕ → Type 0
-IsFaulty answers line = (packet : Packet) → IsPacketLine answers packet line → ⊥
+abbrev pub IsFaulty : List (Option ℕ) → List ℕ → Type 0
+IsFaulty values line = (packet : Packet) → IsPacketLine values packet line → ⊥

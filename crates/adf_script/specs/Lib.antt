@@ -3,9 +3,13 @@ pub use Rattle.ados_server.specs.Port
 pub use Rattle.ados_server.specs.History
 pub use Rattle.ados_server.specs.Lawful
 pub mod Lines
-pub mod Grammar
 pub mod Pieces
+pub mod Values
+pub mod Grammar
+pub mod Reading
+pub mod Words
 pub mod Text
 pub mod Told
+pub mod Spoken
 pub mod Calls
 pub mod Streams

@@ -1,9 +1,11 @@
 -- What is printed of each reply, and at the end.
-use Rattle.std.specs.Prelude.{ℕ, ◌+◌, ◌/◌, ◌%◌, ◌^◌, nat_lt, if◌then◌else◌, List, [], ◌∷◌, ◌++◌, decimal, codes}
+use Rattle.std.specs.Prelude.{ℕ, ◌+◌, ◌/◌, ◌%◌, ◌^◌, ℤ, pos, negsuc, Bool, false, ◌==◌, nat_lt, if◌then◌else◌, List, [], ◌∷◌, ◌++◌, take, flat_map, decimal, codes}
 use Rattle.std.specs.Fmt.{signed_decimal}
+use Rattle.ados_volume.specs.declared.examine.FileInfo.{FileInfo}
+use Rattle.ados_volume.specs.declared.info.DiskInfo.{DiskInfo}
 use Rattle.ados_packet.specs.declared.answer.Answer.{Answer}
 use Rattle.ados_packet.specs.declared.answer.Body.{Body}
-use Rattle.ados_packet.specs.declared.answer.Body.TheVariants.{Empty, Disk}
+use Rattle.ados_packet.specs.declared.answer.Body.TheVariants.{Empty, Buffer, Handle, Entry, Disk}
 
 -- a space before a text
 abbrev pub spaced : List ℕ → List ℕ
@@ -20,12 +22,40 @@ hex_byte byte = hex_digit (byte / 16) ∷ hex_digit (byte % 16) ∷ []
 abbrev pub hex_long : ℕ → List ℕ
 hex_long n = hex_byte (n / 2 ^ 24) ++ hex_byte (n / 2 ^ 16 % 256) ++ hex_byte (n / 2 ^ 8 % 256) ++ hex_byte (n % 256)
 
--- what a reply's body adds: what there is to tell of the volume
-abbrev pub body_text : Body → List ℕ
-body_text Empty = []
-body_text (Disk info) =
+-- READ, by its action
+abbrev pub is_read : ℤ → Bool
+is_read (pos n) = n == 82
+is_read (negsuc n) = false
+
+-- how many bytes a READ gave; 0 where the action is another or the result is negative
+abbrev pub count_read : ℤ → ℤ → ℕ
+count_read action (pos count) = if is_read action then count else 0
+count_read action (negsuc n) = 0
+
+-- so many bytes of a READ
+abbrev pub read_text : ℕ → List ℕ → List ℕ
+read_text count bytes = if nat_lt 0 count then spaced (flat_map hex_byte (take count bytes)) else []
+
+-- an entry's key, type, size and name
+abbrev pub entry_text : FileInfo → List ℕ
+entry_text info = spaced (decimal info.key) ++ spaced (signed_decimal info.entry_type) ++ spaced (decimal info.size) ++ spaced info.name
+
+-- what there is to tell of the volume
+abbrev pub disk_text : DiskInfo → List ℕ
+disk_text info =
     spaced (decimal info.state) ++ spaced (decimal info.blocks) ++ spaced (decimal info.used)
     ++ spaced (decimal info.bytes_per_block) ++ spaced (hex_long info.disk_type)
+
+-- what the body adds to the results, where so many bytes were read
+abbrev pub text_by_body : Body → ℕ → List ℕ
+text_by_body Empty count = []
+text_by_body (Handle handle) count = []
+text_by_body (Buffer bytes) count = read_text count bytes
+text_by_body (Entry info) count = entry_text info
+text_by_body (Disk info) count = disk_text info
+
+abbrev pub body_text : Answer → List ℕ
+body_text answer = text_by_body answer.body (count_read answer.action answer.res1)
 
 -- a client's number, a dot and the number of a packet
 abbrev pub label : ℕ → ℕ → List ℕ
@@ -36,7 +66,7 @@ line text = text ++ 10 ∷ []
 
 -- an answer's two results, and what its body adds
 abbrev pub results : Answer → List ℕ
-results answer = signed_decimal answer.res1 ++ spaced (signed_decimal answer.res2) ++ body_text answer.body
+results answer = signed_decimal answer.res1 ++ spaced (signed_decimal answer.res2) ++ body_text answer
 
 -- the line of a reply
 abbrev pub reply_line : ℕ → ℕ → Answer → List ℕ
@@ -50,6 +80,14 @@ reply_lines client number (answer ∷ answers) = reply_line client number answer
 -- the line of a put that was refused as closed, with the number that the packet would have had
 abbrev pub closed_line : ℕ → ℕ → List ℕ
 closed_line client number = line (label client number ++ spaced (codes "closed"))
+
+-- the line of a client that waited for its reply in vain, with the number of its packet
+abbrev pub no_reply_line : ℕ → ℕ → List ℕ
+no_reply_line client number = line (label client number ++ spaced (codes "no reply"))
+
+-- the line of a client whose put found no room, with the number that the packet would have had
+abbrev pub no_room_line : ℕ → ℕ → List ℕ
+no_room_line client number = line (label client number ++ spaced (codes "no room"))
 
 -- the line of a script's fault, with the number of its line
 abbrev pub fault_line : ℕ → ℕ → List ℕ

@@ -13,6 +13,7 @@ use Rattle.ados_server.specs.declared.step.Reply.{Reply}
 use Rattle.ados_server.specs.declared.step.Outcome.{Outcome}
 use Rattle.ados_server.specs.declared.step.Outcome.TheVariants.{Accepted, Refused, Served, Taken}
 use Rattle.adf_script.specs.Lines.{kept_lines, is_too_long}
+use Rattle.adf_script.specs.Values.{answer_values}
 use Rattle.adf_script.specs.Grammar.{IsPacketLine, IsFaulty}
 use Rattle.adf_script.specs.Text.{reply_lines, closed_line, fault_line}
 
@@ -20,15 +21,15 @@ use Rattle.adf_script.specs.Text.{reply_lines, closed_line, fault_line}
 abbrev pub ArePackets : List (ℕ × List ℕ) → List Answer → List Packet → Type 0
 ArePackets lines answers packets =
     (i : ℕ) (packet : Packet) → slice_get packets i ≡ Some packet
-    → (line : ℕ × List ℕ) × (slice_get lines i ≡ Some line) × IsPacketLine (take i answers) packet line.1
+    → (line : ℕ × List ℕ) × (slice_get lines i ≡ Some line) × IsPacketLine (answer_values (take i answers)) packet line.1
 
 -- the line after these many packet lines puts this packet
 abbrev pub NextPuts : List (ℕ × List ℕ) → List Answer → ℕ → Packet → Type 0
-NextPuts lines answers count packet = (line : ℕ × List ℕ) × (slice_get lines count ≡ Some line) × IsPacketLine answers packet line.1
+NextPuts lines answers count packet = (line : ℕ × List ℕ) × (slice_get lines count ≡ Some line) × IsPacketLine (answer_values answers) packet line.1
 
 -- that line is faulty, and has this number
 abbrev pub NextIsFaulty : List (ℕ × List ℕ) → List Answer → ℕ → ℕ → Type 0
-NextIsFaulty lines answers count number = (line : List ℕ) × (slice_get lines count ≡ Some (number, line)) × IsFaulty answers line
+NextIsFaulty lines answers count number = (line : List ℕ) × (slice_get lines count ≡ Some (number, line)) × IsFaulty (answer_values answers) line
 
 -- there is no such line
 abbrev pub NoneIsLeft : List (ℕ × List ℕ) → ℕ → Type 0

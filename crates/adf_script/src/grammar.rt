@@ -1,43 +1,70 @@
 //! What packet a line of a script spells.
-ghost use Rattle.std.specs.Prelude.{◌≡◌, ℤ, List, MatchOption};
-ghost use Rattle.ados_packet.specs.declared.answer.Answer.{Answer};
-ghost use Rattle.adf_script.specs.Grammar.{IsSigned, IsPacketLine, IsFaulty};
+ghost use Rattle.std.specs.Prelude.{IfOk, MatchOption};
+ghost use Rattle.adf_script.specs.Grammar.{IsPacketLine, IsFaulty};
+ghost use Rattle.adf_script.specs.Words.{Puts};
 
-use crate::pieces::split_once;
+use crate::file_lines::{end_line, input, output, read, seek, size, update, write};
+use crate::lock_lines::{copy, examine, free, info, locate, next, parent, same};
+use crate::object_lines::{comment, date, delete, make_dir, protect, rename, rename_disk};
+use crate::other_lines::other;
+use crate::pieces::cut;
+use crate::shapes::end;
+use crate::words::Word;
 use ados_packet::Packet;
+use std::alloc::{AllocError, Global};
 
-/// The decimal number of 32 bits that a field spells, with an optional `-` in front.
-fn signed(field: &[u8]) -> Option<i32>
-    ensures { MatchOption result ((z : ℤ) → IsSigned z field.now → ⊥) (λ z. IsSigned z field.now) }
+/// The packet that a line puts, where it puts one. The values are those of the replies so far, which `$k` stands for.
+pub fn parse(
+    alloc: Global,
+    values: &[Option<u32>],
+    line: &[u8],
+) -> Result<Option<Packet>, AllocError>
+    ensures { IfOk result (λ found. MatchOption found
+        (IsFaulty values.now line.now)
+        (λ packet. IsPacketLine values.now packet line.now)) }
 {
-    if field.first() == Some(&b'+') {
-        return None;
-    }
-    match str::from_utf8(field) {
-        Ok(text) => text.parse().ok(),
-        Err(_) => None,
+    let (front, rest) = cut(line);
+    match Word::spelled(front) {
+        Some(word) => packet_of(alloc, word, values, rest),
+        None => Ok(None),
     }
 }
 
-/// The packet of `other`, whose field is its action.
-fn other(field: &[u8]) -> Option<Packet>
-    ensures { MatchOption result
-        ((z : ℤ) → IsSigned z field.now → ⊥)
-        (λ packet. (z : ℤ) × (packet ≡ Packet.Other z) × IsSigned z field.now) }
+/// The packet that a word puts with what stands behind it.
+fn packet_of(
+    alloc: Global,
+    word: Word,
+    values: &[Option<u32>],
+    rest: &[u8],
+) -> Result<Option<Packet>, AllocError>
+    ensures { IfOk result (λ found. Puts word values.now rest.now found) }
 {
-    signed(field).map(|action| Packet::Other { action })
-}
-
-/// The packet that a line puts, where it puts one.
-pub(crate) fn parse(line: &[u8]) -> Option<Packet>
-    ensures { (answers : List Answer) → MatchOption result
-        (IsFaulty answers line.now)
-        (λ packet. IsPacketLine answers packet line.now) }
-{
-    match split_once(line, b' ') {
-        None if line == b"die".as_slice() => Some(Packet::Die),
-        None if line == b"diskinfo".as_slice() => Some(Packet::DiskInfo),
-        Some((word, rest)) if word == b"other".as_slice() => other(rest),
-        _ => None,
+    match word {
+        Word::Die => Ok(end(rest).map(|()| Packet::Die)),
+        Word::DiskInfo => Ok(end(rest).map(|()| Packet::DiskInfo)),
+        Word::Other => Ok(other(rest)),
+        Word::Locate => Ok(locate(values, rest)),
+        Word::Free => Ok(free(values, rest)),
+        Word::Copy => Ok(copy(values, rest)),
+        Word::Parent => Ok(parent(values, rest)),
+        Word::Examine => Ok(examine(values, rest)),
+        Word::Next => Ok(next(values, rest)),
+        Word::Info => Ok(info(values, rest)),
+        Word::Same => Ok(same(values, rest)),
+        Word::RenameDisk => Ok(rename_disk(rest)),
+        Word::Delete => Ok(delete(values, rest)),
+        Word::MakeDir => Ok(make_dir(values, rest)),
+        Word::Rename => Ok(rename(values, rest)),
+        Word::Protect => Ok(protect(values, rest)),
+        Word::Comment => Ok(comment(values, rest)),
+        Word::Date => Ok(date(values, rest)),
+        Word::Update => Ok(update(values, rest)),
+        Word::Input => Ok(input(values, rest)),
+        Word::Output => Ok(output(values, rest)),
+        Word::Read => read(alloc, values, rest),
+        Word::Write => write(alloc, values, rest),
+        Word::End => Ok(end_line(values, rest)),
+        Word::Seek => Ok(seek(values, rest)),
+        Word::Size => Ok(size(values, rest)),
     }
 }

@@ -1,6 +1,6 @@
 //! Bytes at the first of a separating byte.
-ghost use Rattle.std.specs.Prelude.{◌≡◌, ◌==◌, false, position, MatchOption};
-ghost use Rattle.adf_script.specs.Pieces.{has_byte, IsSplit};
+ghost use Rattle.std.specs.Prelude.{◌≡◌, ◌≢◌, ◌==◌, ◌∷◌, ℕ, List, false, position, MatchOption};
+ghost use Rattle.adf_script.specs.Pieces.{has_byte, IsSplit, IsCut};
 
 /// The place of the first such byte.
 fn place_of(bytes: &[u8], separator: u8) -> Option<usize>
@@ -18,5 +18,28 @@ pub(crate) fn split_once(bytes: &[u8], separator: u8) -> Option<(&[u8], &[u8])>
     match place_of(bytes, separator) {
         Some(place) => Some((&bytes[..place], &bytes[place + 1..])),
         None => None,
+    }
+}
+
+/// What stands in front of the first space, and the rest from that space on.
+pub(crate) fn cut(bytes: &[u8]) -> (&[u8], &[u8])
+    ensures { IsCut bytes.now result.0.now result.1.now }
+{
+    match place_of(bytes, b' ') {
+        Some(place) => (&bytes[..place], &bytes[place..]),
+        None => (bytes, &[]),
+    }
+}
+
+/// What stands behind this byte, where the bytes begin with it.
+pub(crate) fn behind(bytes: &[u8], byte: u8) -> Option<&[u8]>
+    ensures { MatchOption result
+        ((rest : List ℕ) → bytes.now ≢ byte ∷ rest)
+        (λ rest. bytes.now ≡ byte ∷ rest.now) }
+{
+    if bytes.first() == Some(&byte) {
+        Some(&bytes[1..])
+    } else {
+        None
     }
 }

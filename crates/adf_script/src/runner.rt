@@ -1,10 +1,13 @@
 //! Runs a script.
-ghost use Rattle.std.specs.Prelude.{◌≡◌, ◌≢◌, ◌≤◌, OnOk, IfSome, false, true, length};
+ghost use Rattle.std.specs.Prelude.{◌≡◌, ◌≢◌, ◌≤◌, ◌∷◌, ◌++◌, [], OnOk, IfSome, false, true, length};
+ghost use Rattle.std.specs.Io.KnownBytes.{Appends};
 ghost use Rattle.ados_server.specs.Port.{opening_port};
 ghost use Rattle.adf_script.specs.Lines.{is_too_long};
 ghost use Rattle.adf_script.specs.Calls.{IsQuiet};
+ghost use Rattle.adf_script.specs.Text.{reply_line};
 ghost use Rattle.adf_script.specs.Told.{Told};
 ghost use Rattle.adf_script.specs.Streams.{ReadsAndWrites, Writes};
+ghost use Rattle.adf_script.specs.Values.{answer_value};
 
 use crate::call::call;
 use crate::fault::TryFault;
@@ -12,9 +15,10 @@ use crate::grammar::parse;
 use crate::input::{LONGEST_SCRIPT, read_script};
 use crate::lines::{first_line, is_passed_over};
 use crate::output::{write_closed, write_fault, write_reply};
+use crate::values::keep_value;
 use ados_exchange::Exchange;
 use ados_packet::{Answer, Packet};
-use ados_server::{PutRefused, Server};
+use ados_server::{PutRefused, Reply, Server};
 use std::alloc::Global;
 use std::io::{Read, Write};
 
@@ -39,7 +43,7 @@ where
 {
     let mut rest = script;
     let mut number: u64 = 0;
-    let mut taken: u64 = 0;
+    let mut values = Vec::new(alloc);
     while !rest.is_empty() {
         let (line, behind) = first_line(rest);
         rest = behind;
@@ -47,19 +51,36 @@ where
         if is_passed_over(line) {
             continue;
         }
-        let Some(packet) = parse(line) else {
+        let Some(packet) = parse(alloc, &values, line)? else {
             write_fault(alloc, writer, number)?;
             return Err(TryFault::Script);
         };
         match call(exchange, moment, packet) {
-            Ok(reply) => {
-                write_reply(alloc, writer, &reply)?;
-                taken = reply.number;
+            Ok(reply) => tell_reply(alloc, writer, &mut values, reply)?,
+            Err(PutRefused::Closed(_)) => {
+                return write_closed(alloc, writer, values.len() as u64 + 1);
             }
-            Err(PutRefused::Closed(_)) => return write_closed(alloc, writer, taken + 1),
             Err(PutRefused::NoRoom(_)) => return Err(TryFault::Memory),
         }
     }
+    Ok(())
+}
+
+/// Writes the line of a reply, and keeps its value behind those of the replies before it.
+fn tell_reply<W: Write>(
+    alloc: Global,
+    writer: &mut W,
+    values: &mut Vec<Option<u32>>,
+    reply: Reply<Answer>,
+) -> Result<(), TryFault>
+    ensures text { OnOk result (Appends (W.contents writer.old) (W.contents writer.new)
+        (reply_line 1 reply.number reply.answer)) }
+    ensures value { OnOk result (values.new.items ≡ values.old.items ++ answer_value reply.answer ∷ []) }
+    ensures no_script { result ≢ Err TryFault.Script }
+    ensures no_limit { result ≢ Err TryFault.TurnLimit }
+{
+    write_reply(alloc, writer, &reply)?;
+    keep_value(values, &reply.answer)?;
     Ok(())
 }
 

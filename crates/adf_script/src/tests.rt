@@ -50,7 +50,7 @@ impl Server for Blank {
                     disk_type: 0x444F_5301,
                 }),
             ),
-            Packet::Other { .. } => Answer::refused(action, 209),
+            _ => Answer::refused(action, 209),
         }
     }
 

@@ -1,9 +1,13 @@
 //! The lines that tell of a client's replies, and of its end.
-ghost use Rattle.std.specs.Prelude.{◌≡◌, ◌<◌, ◌++◌, IfOk, OnOk};
-ghost use Rattle.adf_script.specs.Text.{hex_digit, hex_byte, hex_long, body_text, results, line, reply_line, closed_line, fault_line};
+ghost use Rattle.std.specs.Prelude.{◌≡◌, ◌++◌, IfOk, OnOk};
+ghost use Rattle.adf_script.specs.Text.{count_read, read_text, entry_text, disk_text, body_text, results, line, reply_line, closed_line, no_reply_line, no_room_line, fault_line};
 
-use ados_packet::{Answer, Body, DiskInfo};
+use crate::hex::{push_hex, push_hex_long};
+use ados_packet::{Answer, Body, DiskInfo, FileInfo};
 use std::alloc::{AllocError, Global};
+
+/// The action of a READ.
+const READ: i32 = 82;
 
 /// The line of a reply, with its line feed.
 pub fn reply_text(
@@ -35,7 +39,7 @@ fn push_results(alloc: Global, text: &mut Vec<u8>, answer: &Answer) -> Result<()
     let res2 = answer.res2;
     let numbers = format!(in alloc; "{res1} {res2}")?;
     text.extend_from_slice(numbers.as_bytes())?;
-    push_body(alloc, text, &answer.body)?;
+    push_body(alloc, text, answer)?;
     text.push(b'\n')?;
     Ok(())
 }
@@ -48,6 +52,22 @@ pub fn closed_text(alloc: Global, client: usize, number: u64) -> Result<Vec<u8>,
     Ok(text.into_bytes())
 }
 
+/// The line of a client that got no reply to its packet with this number.
+pub fn no_reply_text(alloc: Global, client: usize, number: u64) -> Result<Vec<u8>, AllocError>
+    ensures { IfOk result (λ text. text.items ≡ no_reply_line client number) }
+{
+    let text = format!(in alloc; "{client}.{number} no reply\n")?;
+    Ok(text.into_bytes())
+}
+
+/// The line of a client whose packet, which would have had this number, found no room.
+pub fn no_room_text(alloc: Global, client: usize, number: u64) -> Result<Vec<u8>, AllocError>
+    ensures { IfOk result (λ text. text.items ≡ no_room_line client number) }
+{
+    let text = format!(in alloc; "{client}.{number} no room\n")?;
+    Ok(text.into_bytes())
+}
+
 /// The line of a faulty line, by its number.
 pub fn fault_text(alloc: Global, client: usize, number: u64) -> Result<Vec<u8>, AllocError>
     ensures { IfOk result (λ text. text.items ≡ fault_line client number) }
@@ -56,17 +76,56 @@ pub fn fault_text(alloc: Global, client: usize, number: u64) -> Result<Vec<u8>, 
     Ok(text.into_bytes())
 }
 
-fn push_body(alloc: Global, text: &mut Vec<u8>, body: &Body) -> Result<(), AllocError>
-    ensures { OnOk result (text.new.items ≡ text.old.items ++ body_text body.now) }
+fn push_body(alloc: Global, text: &mut Vec<u8>, answer: &Answer) -> Result<(), AllocError>
+    ensures { OnOk result (text.new.items ≡ text.old.items ++ body_text answer.now) }
 {
-    match body {
+    match &answer.body {
         Body::Empty => Ok(()),
+        Body::Handle(_) => Ok(()),
+        Body::Buffer(buffer) => push_read(text, count_read(answer), buffer.bytes()),
+        Body::Entry(info) => push_entry(alloc, text, info),
         Body::Disk(info) => push_disk(alloc, text, info),
     }
 }
 
+/// How many bytes a READ gave. The buffer of a WRITE is not printed.
+fn count_read(answer: &Answer) -> usize
+    ensures { result ≡ count_read answer.now.action answer.now.res1 }
+{
+    if answer.action == READ && answer.res1 > 0 {
+        answer.res1 as usize
+    } else {
+        0
+    }
+}
+
+fn push_read(text: &mut Vec<u8>, count: usize, bytes: &[u8]) -> Result<(), AllocError>
+    ensures { OnOk result (text.new.items ≡ text.old.items ++ read_text count bytes.now) }
+{
+    if count == 0 {
+        return Ok(());
+    }
+    text.push(b' ')?;
+    push_hex(text, &bytes[..count.min(bytes.len())])
+}
+
+fn push_entry(alloc: Global, text: &mut Vec<u8>, info: &FileInfo) -> Result<(), AllocError>
+    ensures { OnOk result (text.new.items ≡ text.old.items ++ entry_text info.now) }
+{
+    let FileInfo {
+        key,
+        entry_type,
+        size,
+        ..
+    } = *info;
+    let numbers = format!(in alloc; " {key} {entry_type} {size} ")?;
+    text.extend_from_slice(numbers.as_bytes())?;
+    text.extend_from_slice(info.name.bytes())?;
+    Ok(())
+}
+
 fn push_disk(alloc: Global, text: &mut Vec<u8>, info: &DiskInfo) -> Result<(), AllocError>
-    ensures { OnOk result (text.new.items ≡ text.old.items ++ body_text (Body.Disk info.now)) }
+    ensures { OnOk result (text.new.items ≡ text.old.items ++ disk_text info.now) }
 {
     let DiskInfo {
         state,
@@ -78,29 +137,4 @@ fn push_disk(alloc: Global, text: &mut Vec<u8>, info: &DiskInfo) -> Result<(), A
     let counts = format!(in alloc; " {state} {blocks} {used} {bytes_per_block} ")?;
     text.extend_from_slice(counts.as_bytes())?;
     push_hex_long(text, disk_type)
-}
-
-fn push_hex_long(text: &mut Vec<u8>, n: u32) -> Result<(), AllocError>
-    ensures { OnOk result (text.new.items ≡ text.old.items ++ hex_long n) }
-{
-    push_hex_byte(text, (n / 0x100_0000) as u8)?;
-    push_hex_byte(text, (n / 0x1_0000 % 256) as u8)?;
-    push_hex_byte(text, (n / 0x100 % 256) as u8)?;
-    push_hex_byte(text, (n % 256) as u8)
-}
-
-fn push_hex_byte(text: &mut Vec<u8>, byte: u8) -> Result<(), AllocError>
-    ensures { OnOk result (text.new.items ≡ text.old.items ++ hex_byte byte) }
-{
-    text.push(digit(byte / 16))?;
-    text.push(digit(byte % 16))?;
-    Ok(())
-}
-
-/// A lower-case hexadecimal digit.
-fn digit(n: u8) -> u8
-    requires { n < 16 }
-    ensures { result ≡ hex_digit n }
-{
-    if n < 10 { b'0' + n } else { b'a' - 10 + n }
 }

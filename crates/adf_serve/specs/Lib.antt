@@ -1,3 +1,1 @@
-pub mod Small
-pub mod SmallLaws
 pub mod Script

@@ -1,12 +1,24 @@
 -- What the program tells of a script.
-use Rattle.std.specs.Prelude.{ℕ, Bool, List, Option}
+use Rattle.std.specs.Prelude.{ℕ, Bool, List, Option, codes}
+use Rattle.adf_block.specs.declared.Format.TheVariants.{Ffs}
+use Rattle.ados_name.specs.declared.Date3.{Date3}
+use Rattle.ados_tree.specs.Blank.{blank_tree}
 use Rattle.ados_server.specs.Port.{opening_port}
+use Rattle.ados_handler.specs.Session.{opening_session}
+use Rattle.adf_run.specs.TreePort.{TreeState, means, tree_died}
 use Rattle.adf_script.specs.Streams.{ReadsAndWrites}
 use Rattle.adf_script.specs.Told.{Told}
-use Rattle.adf_serve.specs.Small.{Small, IsOpening, small_gives, has_died, first_moment}
 
--- a script is read to its end, and what is written tells of it as client 1 of a port over the blank floppy: of a whole one, or of one with a fault
+-- 1 January 1978
+abbrev pub first_moment : Date3
+first_moment = record { days = 0; minutes = 0; ticks = 0 }
+
+-- a blank double-density floppy of the Fast File System with the name `Work`, made at the first moment, with nothing held
+abbrev pub work_floppy : TreeState
+work_floppy = record { tree = blank_tree Ffs 1760 (codes "Work") first_moment; session = opening_session }
+
+-- a script is read to its end, and what is written tells of it as client 1 of a port over that floppy, each packet answered
+-- at the first moment as it is meant: of a whole one, or of one with a fault
 abbrev pub RunsScript : Option (List ℕ) → Option (List ℕ) → Option (List ℕ) → Option (List ℕ) → Bool → Type 0
 RunsScript reader_old reader_new writer_old writer_new whole =
-    (server : Small) × IsOpening server
-    × ReadsAndWrites reader_old reader_new writer_old writer_new (λ read written. Told small_gives has_died (opening_port server 1) first_moment read written whole)
+    ReadsAndWrites reader_old reader_new writer_old writer_new (λ read written. Told means tree_died (opening_port work_floppy 1) first_moment read written whole)

@@ -1,5 +1,5 @@
 //! Rows of the commands on images: what is made, and what is told of images that are accepted or refused.
-use crate::trials::{Drawn, draw, expect};
+use crate::trials::{Drawn, draw, expect, write_hello};
 use std::fs;
 use std::test::Fail;
 
@@ -121,6 +121,27 @@ fn images_that_are_accepted(rt: HostRuntime) -> Result<(), Fail> {
         )?;
         assert!(rt; fs::read(&rt, file)?.as_slice() == before.as_slice());
     }
+    Ok(fs::remove_file(&rt, file)?)
+}
+
+/// A file that packets made is listed, and its image is accepted again.
+#[test]
+fn hello_list(rt: HostRuntime) -> Result<(), Fail> {
+    let alloc = rt.alloc();
+    let file = "/tmp/adf_serve-hello.adf";
+    write_hello(&rt, alloc, file)?;
+    let list = b"Volume Work\n       8 ---rwed 1978-01-01 00:00:00.00 hello\n";
+    expect(&rt, alloc, "list /tmp/adf_serve-hello.adf", 0, list, &[])?;
+    expect(
+        &rt,
+        alloc,
+        "check /tmp/adf_serve-hello.adf",
+        0,
+        b"ok\n",
+        &[],
+    )?;
+    let info = b"-1 0 82 1758 4 512 444f5301\nboot no\n";
+    expect(&rt, alloc, "info /tmp/adf_serve-hello.adf", 0, info, &[])?;
     Ok(fs::remove_file(&rt, file)?)
 }
 

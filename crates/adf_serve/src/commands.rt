@@ -2,13 +2,17 @@
 ghost use Rattle.adf_block.specs.Image.{IsSize};
 
 use crate::fault::CommandFault;
-use adf_block::{Format, size_ok};
+use crate::script::FIRST_MOMENT;
+use adf_block::{Format, Image, size_ok};
 use adf_files::{LoadFault, load_image, store_image, write_output};
 use adf_listing::{write_info, write_list};
+use adf_run::{RunFault, run_volume};
 use adf_words::Job;
 use ados_name::{Date3, Name};
-use ados_volume::{FaultKind, Volume, blank, check};
-use std::alloc::Global;
+use ados_packet::Packet;
+use ados_server::{Outcome, Step};
+use ados_volume::{FaultKind, Volume, VolumeFault, blank, check};
+use std::alloc::{AllocError, Global};
 use std::fmt::Debug;
 use std::fs;
 use std::io::Write;
@@ -39,8 +43,8 @@ pub(crate) fn run_job<'a, R: Files, W: Write>(
             write_blank(rt, alloc, format, blocks, label, moment, file)
         }
         Job::Info { file } => {
-            let volume = open_volume(rt, alloc, file, writer)?;
-            Ok(write_info(alloc, &volume, writer)?)
+            let image = read_image(rt, alloc, file, writer)?;
+            tell_info(alloc, image, writer)
         }
         Job::Check { file } => {
             let volume = open_volume(rt, alloc, file, writer)?;
@@ -75,6 +79,25 @@ fn write_blank<'a, R: Files>(
     }
 }
 
+/// The image of a file. Of a size that no volume has the writer is told.
+fn read_image<'a, R: Files, W: Write>(
+    rt: &R,
+    alloc: Global,
+    file: &'a str,
+    writer: &mut W,
+) -> Result<Image, CommandFault<'a>> {
+    let Ok(mut reader) = fs::open(rt, file) else {
+        return Err(CommandFault::Read(file));
+    };
+    match load_image(alloc, &mut reader) {
+        Ok(image) => Ok(image),
+        Err(LoadFault::Read) => Err(CommandFault::Read(file)),
+        Err(LoadFault::Memory) => Err(CommandFault::Memory),
+        Err(LoadFault::TurnLimit) => Err(CommandFault::Endless(file)),
+        Err(LoadFault::Size(refused)) => Err(refuse(alloc, writer, refused.fault, 0)),
+    }
+}
+
 /// The volume of an image file. Of an image that is refused the writer is told why.
 fn open_volume<'a, R: Files, W: Write>(
     rt: &R,
@@ -82,22 +105,51 @@ fn open_volume<'a, R: Files, W: Write>(
     file: &'a str,
     writer: &mut W,
 ) -> Result<Volume, CommandFault<'a>> {
-    let Ok(mut reader) = fs::open(rt, file) else {
-        return Err(CommandFault::Read(file));
-    };
-    let image = match load_image(alloc, &mut reader) {
-        Ok(image) => image,
-        Err(LoadFault::Read) => return Err(CommandFault::Read(file)),
-        Err(LoadFault::Memory) => return Err(CommandFault::Memory),
-        Err(LoadFault::TurnLimit) => return Err(CommandFault::Endless(file)),
-        Err(LoadFault::Size(refused)) => return Err(refuse(alloc, writer, refused.fault, 0)),
-    };
+    let image = read_image(rt, alloc, file, writer)?;
     match check(alloc, image) {
         Ok(volume) => Ok(volume),
-        Err(rejected) => match rejected.fault.kind {
-            FaultKind::NoMemory => Err(CommandFault::Memory),
-            kind => Err(refuse(alloc, writer, kind, rejected.fault.block)),
+        Err(rejected) => Err(reject(alloc, writer, rejected.fault)),
+    }
+}
+
+/// Tells what DISK_INFO answers over an image, and whether its boot blocks run.
+fn tell_info<'a, W: Write>(
+    alloc: Global,
+    image: Image,
+    writer: &mut W,
+) -> Result<(), CommandFault<'a>> {
+    match run_volume(alloc, image, 1, disk_info(alloc)?) {
+        Ok(done) => match done.outcomes.last() {
+            Some(Outcome::Taken(reply)) => {
+                let image = done.exchange.server().volume().image();
+                Ok(write_info(alloc, &reply.answer, image, writer)?)
+            }
+            _ => Err(CommandFault::Memory),
         },
+        Err(RunFault::Rejected(rejected)) => Err(reject(alloc, writer, rejected.fault)),
+        Err(RunFault::NoMemory(_)) => Err(CommandFault::Memory),
+    }
+}
+
+/// A DISK_INFO that is put, served and taken by the one client.
+fn disk_info(alloc: Global) -> Result<Vec<Step<Packet, Date3>>, AllocError> {
+    let mut steps = Vec::new(alloc);
+    steps.push(Step::Put {
+        client: 1,
+        packet: Packet::DiskInfo,
+    })?;
+    steps.push(Step::Serve {
+        moment: FIRST_MOMENT,
+    })?;
+    steps.push(Step::Take { client: 1 })?;
+    Ok(steps)
+}
+
+/// The fault of an image that `check` refuses. The writer is told of it, but of want of memory.
+fn reject<'a, W: Write>(alloc: Global, writer: &mut W, fault: VolumeFault) -> CommandFault<'a> {
+    match fault.kind {
+        FaultKind::NoMemory => CommandFault::Memory,
+        kind => refuse(alloc, writer, kind, fault.block),
     }
 }
 

@@ -4,9 +4,9 @@
 mod commands;
 mod fault;
 mod script;
-mod small;
 mod words;
 
+pub use adf_run::{RunFault, run_volume};
 pub use script::try_script;
 use std::process::ExitCode;
 use std::{env, io};
@@ -16,6 +16,8 @@ pub use words::run_words;
 mod command_tests;
 #[cfg(test)]
 mod fault_tests;
+#[cfg(test)]
+mod script_tests;
 #[cfg(test)]
 mod tests;
 #[cfg(test)]

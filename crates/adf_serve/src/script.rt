@@ -1,11 +1,27 @@
 //! The program without words: a script over a blank floppy.
-ghost use Rattle.std.specs.Prelude.{◌≡◌, true, false, OnOk};
-ghost use Rattle.adf_serve.specs.Script.{RunsScript};
+ghost use Rattle.std.specs.Prelude.{◌≡◌, true, false, codes, IfOk, OnOk};
+ghost use Rattle.adf_block.specs.declared.Format.TheVariants.{Ffs};
+ghost use Rattle.ados_tree.specs.Blank.{IsBlank};
+ghost use Rattle.ados_handler.specs.Session.{opening_session};
+ghost use Rattle.adf_serve.specs.Script.{RunsScript, first_moment};
 
-use crate::small::{FIRST_MOMENT, SmallServer};
+use adf_block::Format;
 use adf_script::{TryFault, run_script};
-use std::alloc::Global;
+use ados_handler::Handler;
+use ados_name::{Date3, Name};
+use ados_volume::blank;
+use std::alloc::{AllocError, Global};
 use std::io::{Read, Write};
+
+/// 1 January 1978.
+pub(crate) const FIRST_MOMENT: Date3 = Date3 {
+    days: 0,
+    minutes: 0,
+    ticks: 0,
+};
+
+/// The blocks of a double-density floppy.
+const BLOCKS: u32 = 1_760;
 
 /// Runs a script as the one client of a port over a blank floppy `Work`, all at the first moment. `Ok` goes with a
 /// whole script, `Script` with one that has a faulty line or is too long.
@@ -17,6 +33,18 @@ pub fn try_script<R: Read, W: Write>(
     ensures whole { OnOk result (RunsScript (R.remaining reader.old) (R.remaining reader.new) (W.contents writer.old) (W.contents writer.new) true) }
     ensures faulty { result ≡ Err TryFault.Script → RunsScript (R.remaining reader.old) (R.remaining reader.new) (W.contents writer.old) (W.contents writer.new) false }
 {
-    let server = SmallServer::new(alloc)?;
-    run_script(alloc, server, FIRST_MOMENT, reader, writer)
+    let handler = work_floppy(alloc)?;
+    run_script(alloc, handler, FIRST_MOMENT, reader, writer)
+}
+
+/// A handler over a blank floppy `Work` of the Fast File System, made at the first moment.
+fn work_floppy(alloc: Global) -> Result<Handler, AllocError>
+    ensures image { IfOk result (λ handler. IsBlank Ffs 1760 (codes "Work") first_moment handler.image) }
+    ensures session { IfOk result (λ handler. handler.session ≡ opening_session) }
+{
+    let Ok(name) = Name::new(b"Work") else {
+        unreachable!()
+    };
+    let volume = blank(alloc, Format::Ffs, BLOCKS, name, FIRST_MOMENT)?;
+    Ok(Handler::new(alloc, volume))
 }

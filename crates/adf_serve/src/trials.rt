@@ -1,7 +1,10 @@
 //! What the rows of commands are tried with: words that are run, and images that are drawn.
 use crate::run_words;
 use adf_block::Format;
-use ados_name::{Date3, Name};
+use adf_run::run_volume;
+use ados_name::{Date3, Name, PathText};
+use ados_packet::{Buffer, Packet};
+use ados_server::Step;
 use ados_volume::blank;
 use std::alloc::Global;
 use std::fs;
@@ -83,4 +86,29 @@ pub(crate) fn draw<R: Files + Abort>(
         image.settle(*block, *field);
     }
     Ok(fs::write(rt, file, image.as_bytes())?)
+}
+
+/// Writes a floppy `Work` with the file `hello`, made by packets. The first handle has the number 1.
+pub(crate) fn write_hello<R: Files + Abort>(rt: &R, alloc: Global, file: &str) -> Result<(), Fail> {
+    let name = Name::new(b"Work").map_err(|_| Fail::from("no name"))?;
+    let path = PathText::new(b"hello").map_err(|_| Fail::from("no path"))?;
+    let bytes = Buffer::from_vec(b"Hi Amiga".to_vec(alloc)?);
+    let image = blank(alloc, Format::Ffs, 1_760, name, MOMENT)?.into_image();
+    let mut steps = Vec::new(alloc);
+    push_served(&mut steps, Packet::FindOutput { lock: 0, path })?;
+    push_served(&mut steps, Packet::Write { handle: 1, bytes })?;
+    push_served(&mut steps, Packet::End { handle: 1 })?;
+    match run_volume(alloc, image, 1, steps) {
+        Ok(done) => {
+            let image = done.exchange.server().volume().image();
+            Ok(fs::write(rt, file, image.as_bytes())?)
+        }
+        Err(_) => Err(Fail::from("no run")),
+    }
+}
+
+/// A packet is put by client 1, and served.
+fn push_served(steps: &mut Vec<Step<Packet, Date3>>, packet: Packet) -> Result<(), Fail> {
+    steps.push(Step::Put { client: 1, packet })?;
+    Ok(steps.push(Step::Serve { moment: MOMENT })?)
 }

@@ -1,10 +1,55 @@
--- The numbers of the packets' actions.
-use Rattle.std.specs.Prelude.{ℤ, pos}
+-- What the kind of a packet fixes: its action, its first result where it is refused, and the buffer that it gets back.
+use Rattle.std.specs.Prelude.{ℤ, pos, negsuc}
 use Rattle.ados_packet.specs.declared.packet.Packet.{Packet}
-use Rattle.ados_packet.specs.declared.packet.Packet.TheVariants.{Die, DiskInfo, Other}
+use Rattle.ados_packet.specs.declared.packet.Packet.TheVariants.{Die, LocateObject, RenameDisk, FreeLock, DeleteObject, RenameObject, CopyDir, SetProtect, CreateDir, ExamineObject, ExamineNext, DiskInfo, Info, SetComment, Parent, SetDate, SameLock, Read, Write, FindUpdate, FindInput, FindOutput, End, Seek, SetFileSize, Other}
+use Rattle.ados_packet.specs.declared.answer.Body.{Body}
+use Rattle.ados_packet.specs.declared.answer.Body.TheVariants as body
 
 -- the action that a packet asks for
 abbrev pub action_of : Packet → ℤ
 action_of Die = pos 5
+action_of (LocateObject lock path mode) = pos 8
+action_of (RenameDisk name) = pos 9
+action_of (FreeLock lock) = pos 15
+action_of (DeleteObject lock path) = pos 16
+action_of (RenameObject from_lock from to_lock to) = pos 17
+action_of (CopyDir lock) = pos 19
+action_of (SetProtect lock path bits) = pos 21
+action_of (CreateDir lock path) = pos 22
+action_of (ExamineObject lock) = pos 23
+action_of (ExamineNext lock key) = pos 24
 action_of DiskInfo = pos 25
+action_of (Info lock) = pos 26
+action_of (SetComment lock path comment) = pos 28
+action_of (Parent lock) = pos 29
+action_of (SetDate lock path date) = pos 34
+action_of (SameLock first second) = pos 40
+action_of (Read handle buffer) = pos 82
+action_of (Write handle bytes) = pos 87
+action_of (FindUpdate lock path) = pos 1004
+action_of (FindInput lock path) = pos 1005
+action_of (FindOutput lock path) = pos 1006
+action_of (End handle) = pos 1007
+action_of (Seek handle offset mode) = pos 1008
+action_of (SetFileSize handle offset mode) = pos 1022
 action_of (Other action) = action
+
+-- DOSTRUE and DOSFALSE
+abbrev pub dos_true : ℤ
+dos_true = negsuc 0
+
+abbrev pub dos_false : ℤ
+dos_false = pos 0
+
+-- the first result of a refusal: -1 where a count or a position would be answered
+abbrev pub failure_of : Packet → ℤ
+failure_of (Read handle buffer) = negsuc 0
+failure_of (Write handle bytes) = negsuc 0
+failure_of (Seek handle offset mode) = negsuc 0
+failure_of _ = dos_false
+
+-- what a refusal hands back: the packet's own bytes, as they were
+abbrev pub handed_back : Packet → Body
+handed_back (Read handle buffer) = body.Buffer buffer
+handed_back (Write handle bytes) = body.Buffer bytes
+handed_back _ = body.Empty

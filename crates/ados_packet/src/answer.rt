@@ -1,12 +1,20 @@
 //! The answers.
 ghost use Rattle.std.specs.Prelude.{◌≡◌, pos, negsuc};
 
-pub use ados_volume::DiskInfo;
+use crate::buffer::Buffer;
+pub use ados_volume::{DiskInfo, FileInfo};
 
 /// What an answer brings beside its results.
 #[derive(Drop)]
 pub enum Body {
     Empty,
+    /// The bytes of a READ or WRITE.
+    Buffer(Buffer),
+    /// The number of a new file handle.
+    Handle(u32),
+    /// What is told of an object.
+    Entry(FileInfo),
+    /// What is told of the volume.
     Disk(DiskInfo),
 }
 

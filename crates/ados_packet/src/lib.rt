@@ -2,9 +2,11 @@
 #![tactic(auto)]
 
 pub mod answer;
+pub mod buffer;
 pub mod packet;
 
-pub use answer::{Answer, Body, DiskInfo};
+pub use answer::{Answer, Body, DiskInfo, FileInfo};
+pub use buffer::Buffer;
 pub use packet::Packet;
 
 #[cfg(test)]

@@ -2,15 +2,138 @@
 ghost use Rattle.std.specs.Prelude.{◌≡◌};
 ghost use Rattle.ados_packet.specs.Packet.{action_of};
 
+use crate::buffer::Buffer;
+use ados_name::{Date3, PathText};
+
 /// A packet, with the arguments that its action takes. The actions are those of the AmigaDOS Technical Reference.
+///
+/// A `lock` of 0 stands for the root. A path is walked from the object of the lock in front of it.
 #[derive(Drop)]
 pub enum Packet {
     /// DIE: the handler is to take no more packets.
     Die,
+    /// LOCATE_OBJECT: a lock on an object, exclusive with mode -1, and shared with any other.
+    LocateObject {
+        lock: u32,
+        path: PathText,
+        mode: i32,
+    },
+    /// RENAME_DISK: another name for the volume.
+    RenameDisk {
+        name: PathText,
+    },
+    /// FREE_LOCK: the lock is given up.
+    FreeLock {
+        lock: u32,
+    },
+    /// DELETE_OBJECT: a file or an empty directory is taken away.
+    DeleteObject {
+        lock: u32,
+        path: PathText,
+    },
+    /// RENAME_OBJECT: an object moves to another place.
+    RenameObject {
+        from_lock: u32,
+        from: PathText,
+        to_lock: u32,
+        to: PathText,
+    },
+    /// COPY_DIR: one more shared lock on the object of a lock.
+    CopyDir {
+        lock: u32,
+    },
+    /// SET_PROTECT: an object's protection bits.
+    SetProtect {
+        lock: u32,
+        path: PathText,
+        bits: u32,
+    },
+    /// CREATE_DIR: a new directory, with a lock on it.
+    CreateDir {
+        lock: u32,
+        path: PathText,
+    },
+    /// EXAMINE_OBJECT: what there is to tell of the object of a lock.
+    ExamineObject {
+        lock: u32,
+    },
+    /// EXAMINE_NEXT: the same of the entry of a directory that comes after a key; the directory's own key asks for the first.
+    ExamineNext {
+        lock: u32,
+        key: u32,
+    },
     /// DISK_INFO: what there is to tell of the volume.
     DiskInfo,
+    /// INFO: the same, by a lock.
+    Info {
+        lock: u32,
+    },
+    /// SET_COMMENT: an object's comment.
+    SetComment {
+        lock: u32,
+        path: PathText,
+        comment: PathText,
+    },
+    /// PARENT: a shared lock on the directory that holds the object of a lock.
+    Parent {
+        lock: u32,
+    },
+    /// SET_DATE: an object's date.
+    SetDate {
+        lock: u32,
+        path: PathText,
+        date: Date3,
+    },
+    /// SAME_LOCK: whether two locks stand for one object.
+    SameLock {
+        first: u32,
+        second: u32,
+    },
+    /// READ: bytes of a file from the position of a handle on.
+    Read {
+        handle: u32,
+        buffer: Buffer,
+    },
+    /// WRITE: bytes over those of a file from the position of a handle on.
+    Write {
+        handle: u32,
+        bytes: Buffer,
+    },
+    /// FINDUPDATE: a shared handle on a file, which is made where there is none.
+    FindUpdate {
+        lock: u32,
+        path: PathText,
+    },
+    /// FINDINPUT: a shared handle on a file that is there.
+    FindInput {
+        lock: u32,
+        path: PathText,
+    },
+    /// FINDOUTPUT: an exclusive handle on a file with no bytes, which is made where there is none.
+    FindOutput {
+        lock: u32,
+        path: PathText,
+    },
+    /// END: the handle is given up.
+    End {
+        handle: u32,
+    },
+    /// SEEK: another position, counted from the beginning with mode -1, from the position with 0, from the end with 1.
+    Seek {
+        handle: u32,
+        offset: i32,
+        mode: i32,
+    },
+    /// SET_FILE_SIZE: another size, counted as a SEEK counts its position.
+    SetFileSize {
+        handle: u32,
+        offset: i32,
+        mode: i32,
+    },
     /// A packet whose action has no variant, by its number.
-    Other { action: i32 },
+    Other {
+        action: i32,
+    },
 }
 
 impl Packet {
@@ -20,7 +143,30 @@ impl Packet {
     {
         match self {
             Packet::Die => 5,
+            Packet::LocateObject { .. } => 8,
+            Packet::RenameDisk { .. } => 9,
+            Packet::FreeLock { .. } => 15,
+            Packet::DeleteObject { .. } => 16,
+            Packet::RenameObject { .. } => 17,
+            Packet::CopyDir { .. } => 19,
+            Packet::SetProtect { .. } => 21,
+            Packet::CreateDir { .. } => 22,
+            Packet::ExamineObject { .. } => 23,
+            Packet::ExamineNext { .. } => 24,
             Packet::DiskInfo => 25,
+            Packet::Info { .. } => 26,
+            Packet::SetComment { .. } => 28,
+            Packet::Parent { .. } => 29,
+            Packet::SetDate { .. } => 34,
+            Packet::SameLock { .. } => 40,
+            Packet::Read { .. } => 82,
+            Packet::Write { .. } => 87,
+            Packet::FindUpdate { .. } => 1004,
+            Packet::FindInput { .. } => 1005,
+            Packet::FindOutput { .. } => 1006,
+            Packet::End { .. } => 1007,
+            Packet::Seek { .. } => 1008,
+            Packet::SetFileSize { .. } => 1022,
             Packet::Other { action } => *action,
         }
     }

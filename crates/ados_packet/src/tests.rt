@@ -1,6 +1,7 @@
 //! Rows of packets and answers.
 use crate::answer::{Answer, Body, DiskInfo};
 use crate::packet::Packet;
+use ados_name::PathText;
 
 #[test]
 fn actions(rt: HostRuntime) {
@@ -24,4 +25,57 @@ fn a_success_and_a_refusal(rt: HostRuntime) {
     let refused = Answer::refused(999, 209);
     assert_eq!(rt; (refused.action, refused.res1, refused.res2), (999, 0, 209));
     assert!(rt; matches!(refused.body, Body::Empty));
+}
+
+fn path() -> PathText {
+    match PathText::new(b"a/b") {
+        Ok(path) => path,
+        Err(_) => unreachable!(),
+    }
+}
+
+#[test]
+fn actions_with_a_path(rt: HostRuntime) {
+    let (lock, path) = (0, path());
+    let mode = -2;
+    assert_eq!(rt; Packet::LocateObject { lock, path, mode }.action(), 8);
+    assert_eq!(rt; Packet::DeleteObject { lock, path }.action(), 16);
+    assert_eq!(rt; Packet::CreateDir { lock, path }.action(), 22);
+    assert_eq!(rt; Packet::FindUpdate { lock, path }.action(), 1004);
+    assert_eq!(rt; Packet::FindInput { lock, path }.action(), 1005);
+    assert_eq!(rt; Packet::FindOutput { lock, path }.action(), 1006);
+}
+
+#[test]
+fn actions_with_a_number(rt: HostRuntime) {
+    assert_eq!(rt; Packet::FreeLock { lock: 1 }.action(), 15);
+    assert_eq!(rt; Packet::ExamineNext { lock: 1, key: 880 }.action(), 24);
+    assert_eq!(rt;
+        Packet::SameLock {
+            first: 1,
+            second: 2
+        }
+        .action(),
+        40
+    );
+    assert_eq!(rt; Packet::End { handle: 1 }.action(), 1007);
+    let (handle, offset, mode) = (1, 0, 1);
+    assert_eq!(rt;
+        Packet::Seek {
+            handle,
+            offset,
+            mode
+        }
+        .action(),
+        1008
+    );
+    assert_eq!(rt;
+        Packet::SetFileSize {
+            handle,
+            offset,
+            mode
+        }
+        .action(),
+        1022
+    );
 }

@@ -1,6 +1,7 @@
 //! Looking into directories and files.
 
-ghost use Rattle.std.specs.Prelude.{◌≡◌, ◌++◌, ◌-◌, min, take, drop, length};
+ghost use Rattle.std.specs.Prelude.{◌≡◌, ◌++◌, ◌-◌, IsTrue, min, take, drop, length};
+ghost use Rattle.std.specs.Bool.{IsFalse};
 ghost use Rattle.ados_tree.specs.Tree.{Tree, bytes_of, root};
 ghost use Rattle.ados_tree.specs.Stands.{Stands};
 ghost use Rattle.ados_tree.specs.Walk.{child_of, is_file};
@@ -43,6 +44,16 @@ impl Volume {
             self.names.put(dir, name, key);
         }
         found
+    }
+
+    /// Whether the object of a key is a file, and not a directory.
+    pub fn is_file(&self, key: u32) -> bool
+        requires { HasKey self.now.image key }
+        ensures file { (t : Tree) → Stands self.now.image t → result ≡ is_file t key }
+        ensures file_key { IsTrue result → HasFileKey self.now.image key }
+        ensures directory { IsFalse result → HasDirectory self.now.image key }
+    {
+        is_file_in(self.image(), key)
     }
 
     /// What comes after a key in the order of a directory: slot 0 to 71, and in a slot by chain.

@@ -52,6 +52,15 @@ impl Volume {
         }
     }
 
+    /// The directory that holds an object; the root has none.
+    pub fn parent(&self, key: u32) -> Option<u32>
+        requires { HasKey self.now.image key }
+        ensures parent { (t : Tree) → Stands self.now.image t → result ≡ parent_of t key }
+        ensures key { IfSome result (λ dir. HasKey self.now.image dir) }
+    {
+        parent_in(self.image(), key)
+    }
+
     /// Where a path starts.
     fn start_of(&self, start: u32, path: &PathText) -> u32
         requires { HasKey self.now.image start }

@@ -1,0 +1,4 @@
+pub mod TreePort
+pub mod Rests
+pub mod Runs
+pub mod Laws

@@ -1,0 +1,17 @@
+//! Laws over the definitions, each as the contract of a function that does nothing.
+ghost use Rattle.adf_run.specs.Laws.{DeadHandlersRest, HistoriesFollowTrees, TreesReadBack};
+
+/// What happens at a handler's port is what happens to the tree that its image stands for.
+pub fn histories_follow_trees()
+    ensures { HistoriesFollowTrees }
+{}
+
+/// A handler that died accepts and changes nothing.
+pub fn dead_handlers_rest()
+    ensures { DeadHandlersRest }
+{}
+
+/// An image that stands for a tree is refused only for want of memory.
+pub fn trees_read_back()
+    ensures { TreesReadBack }
+{}

@@ -1,5 +1,0 @@
-use Rattle.adf_script.proofs.Faults.{signed_is_text}
-use Rattle.adf_script.proofs.grammar.signed.Goals as goal
-
-pub returns-in-Err : goal.returns-in-Err
-returns-in-Err c = λ z spelled. c.in-Err.ensures.cases.0 (signed_is_text z c.args.field.now spelled)

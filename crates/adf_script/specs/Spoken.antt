@@ -1,0 +1,37 @@
+-- What a client of a running port tells of its script.
+use Rattle.std.specs.Prelude.{◌≡◌, ◌⊎◌, ℕ, ◌+◌, Bool, IsTrue, List, [], ◌++◌, length}
+use Rattle.std.specs.Bool.{MatchBool}
+use Rattle.ados_packet.specs.declared.packet.Packet.{Packet}
+use Rattle.ados_packet.specs.declared.answer.Answer.{Answer}
+use Rattle.ados_server.specs.Lawful.{numbered}
+use Rattle.ados_server.specs.declared.step.Reply.{Reply}
+use Rattle.adf_script.specs.Lines.{kept_lines, is_too_long}
+use Rattle.adf_script.specs.Text.{reply_lines, closed_line, fault_line, no_reply_line, no_room_line}
+use Rattle.adf_script.specs.Told.{ArePackets, NextPuts, NextIsFaulty, NoneIsLeft}
+
+-- how the client comes to its end: with no line left or at a close, at a faulty line, or out of tries
+pub data ClientEnding : Type 0 where
+  Done : ClientEnding
+  Script : ClientEnding
+  Tries : ClientEnding
+
+-- the last line of a client that has put so many packets and taken these answers; knows: its end knows of the close
+abbrev pub SpokenEnd : ℕ → List (ℕ × List ℕ) → List Answer → ℕ → Bool → List ℕ → ClientEnding → Type 0
+SpokenEnd client lines answers puts knows text Done =
+    (puts ≡ length answers)
+    × ((NoneIsLeft lines puts × (text ≡ []))
+    ⊎ ((packet : Packet) × NextPuts lines answers puts packet × IsTrue knows × (text ≡ closed_line client (puts + 1))))
+SpokenEnd client lines answers puts knows text Script =
+    (puts ≡ length answers) × (number : ℕ) × NextIsFaulty lines answers puts number × (text ≡ fault_line client number)
+SpokenEnd client lines answers puts knows text Tries =
+    ((puts ≡ length answers) × (packet : Packet) × NextPuts lines answers puts packet × (text ≡ no_room_line client (puts + 1)))
+    ⊎ ((puts ≡ length answers + 1) × (text ≡ no_reply_line client puts))
+
+-- the client put the packets of its script, took these replies, and its text tells of them
+abbrev pub Spoken : ℕ → List ℕ → List Packet → List (Reply Answer) → Bool → List ℕ → ClientEnding → Type 0
+Spoken client script puts taken knows text ending =
+    MatchBool (is_too_long script)
+    ((puts ≡ []) × (taken ≡ []) × (text ≡ fault_line client 0) × (ending ≡ Script))
+    ((answers : List Answer) × (taken ≡ numbered 1 answers) × ArePackets (kept_lines script) answers puts
+    × (last : List ℕ) × SpokenEnd client (kept_lines script) answers (length puts) knows last ending
+    × (text ≡ reply_lines client 1 answers ++ last))

@@ -1,0 +1,30 @@
+-- The values of replies, which later lines may speak of.
+use Rattle.std.specs.Prelude.{ℕ, zero, suc, ℤ, pos, negsuc, List, map, slice_get, Option, Some, None}
+use Rattle.std.specs.Option.{option_flatten}
+use Rattle.ados_packet.specs.declared.answer.Answer.{Answer}
+use Rattle.ados_packet.specs.declared.answer.Body.{Body}
+use Rattle.ados_packet.specs.declared.answer.Body.TheVariants.{Empty, Buffer, Handle, Entry, Disk}
+
+-- the number that a first result stands for: none where it is negative
+abbrev pub result_value : ℤ → Option ℕ
+result_value (pos n) = Some n
+result_value (negsuc n) = None
+
+-- an answer's handle where it has one, its entry's key where it has an entry, else its first result
+abbrev pub value_by_body : Body → ℤ → Option ℕ
+value_by_body (Handle handle) res1 = Some handle
+value_by_body (Entry info) res1 = Some info.key
+value_by_body Empty res1 = result_value res1
+value_by_body (Buffer bytes) res1 = result_value res1
+value_by_body (Disk info) res1 = result_value res1
+
+abbrev pub answer_value : Answer → Option ℕ
+answer_value answer = value_by_body answer.body answer.res1
+
+abbrev pub answer_values : List Answer → List (Option ℕ)
+answer_values answers = map answer_value answers
+
+-- the value of the reply with this number, which begin at 1
+abbrev pub reply_value : List (Option ℕ) → ℕ → Option ℕ
+reply_value values zero = None
+reply_value values (suc place) = option_flatten (slice_get values place)

@@ -1,0 +1,118 @@
+//! The packets of lines about files.
+ghost use Rattle.std.specs.Prelude.{◌∷◌, [], IfOk, MatchOption, replicate};
+ghost use Rattle.adf_script.specs.Grammar.{Value, LongText, Zeros, SpellsFields, form_of};
+ghost use Rattle.adf_script.specs.Words.{Puts, EachOf};
+ghost use Rattle.adf_script.specs.declared.words.Word.TheVariants as word;
+
+use crate::fields::{long_text_field, path_of, value_field, zeros_field};
+use crate::shapes::{end, object, one_value, target};
+use ados_packet::{Buffer, Packet};
+use std::alloc::{AllocError, Global};
+
+pub(crate) fn update(values: &[Option<u32>], rest: &[u8]) -> Option<Packet>
+    ensures { Puts word.Update values.now rest.now result }
+{
+    let (lock, text) = object(values, rest)?;
+    let path = path_of(text);
+    Some(Packet::FindUpdate { lock, path })
+}
+
+pub(crate) fn input(values: &[Option<u32>], rest: &[u8]) -> Option<Packet>
+    ensures { Puts word.Input values.now rest.now result }
+{
+    let (lock, text) = object(values, rest)?;
+    let path = path_of(text);
+    Some(Packet::FindInput { lock, path })
+}
+
+pub(crate) fn output(values: &[Option<u32>], rest: &[u8]) -> Option<Packet>
+    ensures { Puts word.Output values.now rest.now result }
+{
+    let (lock, text) = object(values, rest)?;
+    let path = path_of(text);
+    Some(Packet::FindOutput { lock, path })
+}
+
+pub(crate) fn end_line(values: &[Option<u32>], rest: &[u8]) -> Option<Packet>
+    ensures { Puts word.End values.now rest.now result }
+{
+    let handle = one_value(values, rest)?;
+    Some(Packet::End { handle })
+}
+
+pub(crate) fn seek(values: &[Option<u32>], rest: &[u8]) -> Option<Packet>
+    ensures { Puts word.Seek values.now rest.now result }
+{
+    let (handle, offset, mode) = target(values, rest)?;
+    Some(Packet::Seek {
+        handle,
+        offset,
+        mode,
+    })
+}
+
+pub(crate) fn size(values: &[Option<u32>], rest: &[u8]) -> Option<Packet>
+    ensures { Puts word.Size values.now rest.now result }
+{
+    let (handle, offset, mode) = target(values, rest)?;
+    Some(Packet::SetFileSize {
+        handle,
+        offset,
+        mode,
+    })
+}
+
+/// Its buffer has as many zeros as are to be read.
+pub(crate) fn read(
+    alloc: Global,
+    values: &[Option<u32>],
+    rest: &[u8],
+) -> Result<Option<Packet>, AllocError>
+    ensures { IfOk result (λ found. Puts word.Read values.now rest.now found) }
+{
+    let Some((handle, count)) = buffer_of(values, rest) else {
+        return Ok(None);
+    };
+    let zeros = vec![in alloc; 0; count as usize]?;
+    let buffer = Buffer::from_vec(zeros);
+    Ok(Some(Packet::Read { handle, buffer }))
+}
+
+/// A handle and how many zeros its buffer has.
+fn buffer_of(values: &[Option<u32>], rest: &[u8]) -> Option<(u32, u32)>
+    ensures { MatchOption result
+        (EachOf word.Read (λ packet. SpellsFields values.now (form_of packet).1 rest.now → ⊥))
+        (λ found. SpellsFields values.now (Value found.0 ∷ Zeros (replicate found.1 0) ∷ []) rest.now) }
+{
+    let (handle, rest) = value_field(values, rest)?;
+    let (count, rest) = zeros_field(rest)?;
+    end(rest)?;
+    Some((handle, count))
+}
+
+/// Its buffer has the bytes of the text.
+pub(crate) fn write(
+    alloc: Global,
+    values: &[Option<u32>],
+    rest: &[u8],
+) -> Result<Option<Packet>, AllocError>
+    ensures { IfOk result (λ found. Puts word.Write values.now rest.now found) }
+{
+    let Some((handle, text)) = written(values, rest) else {
+        return Ok(None);
+    };
+    let bytes = Buffer::from_vec(Vec::from_slice(alloc, text)?);
+    Ok(Some(Packet::Write { handle, bytes }))
+}
+
+/// A handle and the text that is to be written.
+fn written<'a>(values: &[Option<u32>], rest: &'a [u8]) -> Option<(u32, &'a [u8])>
+    ensures { MatchOption result
+        (EachOf word.Write (λ packet. SpellsFields values.now (form_of packet).1 rest.now → ⊥))
+        (λ found. SpellsFields values.now (Value found.0 ∷ LongText found.1.now ∷ []) rest.now) }
+{
+    let (handle, rest) = value_field(values, rest)?;
+    let (text, rest) = long_text_field(rest)?;
+    end(rest)?;
+    Some((handle, text))
+}

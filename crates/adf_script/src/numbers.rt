@@ -1,0 +1,42 @@
+//! Unsigned numbers in a line, and the values of replies that stand for them.
+ghost use Rattle.std.specs.Prelude.{◌≡◌, ℕ, MatchOption};
+ghost use Rattle.adf_script.specs.Values.{reply_value};
+ghost use Rattle.adf_script.specs.Grammar.{IsNumber, IsValue};
+
+use crate::pieces::behind;
+
+/// The decimal number of 32 bits that a field spells.
+pub(crate) fn number(field: &[u8]) -> Option<u32>
+    ensures { MatchOption result ((n : ℕ) → IsNumber n field.now → ⊥) (λ n. IsNumber n field.now) }
+{
+    if field.first() == Some(&b'+') {
+        return None;
+    }
+    match str::from_utf8(field) {
+        Ok(text) => text.parse().ok(),
+        Err(_) => None,
+    }
+}
+
+/// The value of the reply with this number. Numbers begin at 1.
+fn reply_value(values: &[Option<u32>], number: u32) -> Option<u32>
+    ensures { result ≡ reply_value values.now number }
+{
+    if number == 0 {
+        return None;
+    }
+    match values.get(number as usize - 1) {
+        Some(value) => *value,
+        None => None,
+    }
+}
+
+/// The number that a field spells, or, behind a `$`, the value of the reply with that number.
+pub(crate) fn value(values: &[Option<u32>], field: &[u8]) -> Option<u32>
+    ensures { MatchOption result ((n : ℕ) → IsValue values.now n field.now → ⊥) (λ n. IsValue values.now n field.now) }
+{
+    match behind(field, b'$') {
+        Some(digits) => reply_value(values, number(digits)?),
+        None => number(field),
+    }
+}

@@ -1,0 +1,47 @@
+-- RENAME_DISK with a text that is a name.
+use Rattle.std.proofs.Common.{◌≡◌, ℕ, pos, negsuc, false, true, not, ◌==◌, List, [], ◌∷◌, length, None, Some, refl, arith}
+use Rattle.std.specs.Prelude.{is_none}
+use Rattle.std.specs.List.{list_any}
+use Rattle.std.proofs.lemmas.Bool.{le-ltb, ne_eqb, or_from}
+use Rattle.std.proofs.lemmas.List.Folds.{list_any_none}
+use Rattle.std.proofs.lemmas.List.Elements.{All-from_get_or, All-get_or}
+use Rattle.ados_name.specs.declared.Date3.{Date3}
+use Rattle.ados_name.specs.declared.name.NameFault.{NameFault}
+use Rattle.ados_name.specs.Name.{first_fault, IsName, IsNameByte, is_separator}
+use Rattle.ados_tree.specs.Tree.{Tree}
+use Rattle.ados_tree.specs.Change.{disk_renamed}
+use Rattle.ados_packet.specs.Packet.{dos_true}
+use Rattle.ados_packet.specs.declared.packet.Packet.TheVariants.{RenameDisk}
+use Rattle.ados_packet.specs.declared.answer.Body.TheVariants.{Empty}
+use Rattle.ados_handler.specs.Session.{Session}
+use Rattle.ados_handler.specs.Refusals.{first_refusal, is_name, refusal, refuse}
+use Rattle.ados_handler.specs.Success.{after}
+use Rattle.ados_handler.specs.Meaning.{Meaning}
+use Rattle.ados_handler.proofs.Meant.{served_means}
+use Rattle.ados_handler.proofs.Moving.{IsErrorOf}
+
+no_separator : (c : ℕ) → IsNameByte c → is_separator c ≡ false
+no_separator c byte = or_from (c == 47) (c == 58) (ne_eqb c 47 byte.no_slash) (ne_eqb c 58 byte.no_colon)
+
+-- a name has no fault
+pub is_named : (name : List ℕ) → IsName name → is_name name ≡ true
+is_named name is =
+    let some : (length name == 0) ≡ false = ne_eqb (length name) 0 (λ e. absurd (omega (arith, e, is.not_empty))) in
+    let plain : list_any is_separator name ≡ false = list_any_none is_separator name
+    (All-from_get_or (λ c. is_separator c ≡ false) name 0 (λ k inside. no_separator _ (All-get_or IsNameByte name k 0 inside is.plain))) in
+    rw (some, le-ltb 30 (length name) is.short, plain) refl
+
+pub rename_disk_means : (t : Tree) (s new : Session) (name : List ℕ) (now : Date3) → s.died ≡ false → IsName name → new ≡ s
+    → Meaning t s (RenameDisk name) now (disk_renamed now name t) new (record { action = pos 9; res1 = negsuc 0; res2 = pos 0; body = Empty })
+rename_disk_means t s new name now alive is same =
+    let none : refusal t s (RenameDisk name) ≡ None = λ i. first_refusal (refuse 218 (alive i) ∷ refuse 210 (not (is_named name is i)) ∷ []) in
+    served_means t (disk_renamed now name t) s new (RenameDisk name) now _ none
+    (record { success = λ i. after (disk_renamed now name t) (same i) dos_true Empty; action = refl; res2 = refl })
+
+-- a text that has a fault is refused
+pub no_name_refused : (t : Tree) (s : Session) (name : List ℕ) (fault : NameFault) → s.died ≡ false → first_fault name ≡ Some fault → IsErrorOf t s (RenameDisk name) (pos 210)
+no_name_refused t s name fault alive has = record {
+  code = 210;
+  told = refl;
+  refused = λ i. first_refusal (refuse 218 (alive i) ∷ refuse 210 (not (is_none (has i))) ∷ []);
+}

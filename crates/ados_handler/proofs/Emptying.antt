@@ -1,0 +1,76 @@
+-- A file that is emptied for a handle.
+use Rattle.std.proofs.Common.{◌≡◌, ◌≢◌, ℕ, ℤ, Bool, true, false, not, List, [], ◌∷◌, Some, None, is_some, refl, ap, ◌∙◌, subst}
+use Rattle.std.specs.Ordering.{nat_cmp}
+use Rattle.std.specs.FinMap.{FinMap}
+use Rattle.ados_name.specs.declared.Date3.{Date3}
+use Rattle.ados_name.specs.Protection.{denies_delete, denies_write}
+use Rattle.ados_tree.specs.Tree.{Tree, Proper}
+use Rattle.ados_tree.specs.Stands.{Stands}
+use Rattle.ados_tree.specs.Kept.{Kept}
+use Rattle.ados_tree.specs.Walk.{is_file}
+use Rattle.ados_tree.specs.Change.{rewritten, shortened}
+use Rattle.ados_packet.specs.declared.answer.Answer.{Answer}
+use Rattle.ados_handler.specs.declared.holds.HandleHold.{HandleHold}
+use Rattle.ados_handler.specs.Session.{Session, is_in_use}
+use Rattle.ados_handler.specs.Objects.{protection_of}
+use Rattle.ados_handler.specs.Refusals.{first_refusal, refuse}
+use Rattle.ados_handler.specs.Success.{GivesHandle}
+use Rattle.ados_handler.specs.ProperSession.{HoldNumber, hold_at, IsProperSession}
+use Rattle.ados_handler.specs.Handler.{HandlerState, IsSoundHandler}
+use Rattle.ados_handler.specs.Opening.{AnswersHandle, Opens, empty_refusals}
+use Rattle.ados_handler.proofs.Holding.{not_held}
+use Rattle.ados_handler.proofs.Carrying.{carried_session}
+use Rattle.ados_handler.proofs.Rewriting.{file_node, rewritten_here, rewritten_is_file, rewritten_other}
+use Rattle.ados_handler.proofs.Opening.{done_opens, gives_handle, proper_opened}
+
+-- a file that keeps its first 0 bytes has none
+cut_is_emptied : (now : Date3) (key : ℕ) (t : Tree) → shortened now key 0 t ≡ rewritten now key [] t
+cut_is_emptied now key t = refl
+
+-- nothing stands against an exclusive handle on a file
+no_refusal : (s : Session) (key : ℕ) (t : Tree) (bits : ℕ) → is_file t key ≡ true → is_in_use s key true ≡ false → protection_of t key ≡ bits → denies_delete bits ≡ false → denies_write bits ≡ false → first_refusal (empty_refusals s key t) ≡ None
+no_refusal s key t bits file free told delete write =
+    let named : first_refusal (empty_refusals s key t) ≡ first_refusal (refuse 222 (denies_delete bits) ∷ refuse 223 (denies_write bits) ∷ []) =
+    λ i. first_refusal (refuse 212 (not (file i)) ∷ refuse 202 (free i) ∷ refuse 222 (denies_delete (told i)) ∷ refuse 223 (denies_write (told i)) ∷ []) in
+    named ∙ (λ i. first_refusal (refuse 222 (delete i) ∷ refuse 223 (write i) ∷ []))
+
+-- no other object is touched
+emptied_session : (t : Tree) → Proper t → (s : Session) → IsProperSession t s → (key : ℕ) → is_file t key ≡ true → is_in_use s key true ≡ false → (now : Date3) → IsProperSession (rewritten now key [] t) s
+emptied_session t proper s session key file free now =
+    carried_session t (rewritten now key [] t) s session (λ hold k e h. rewritten_other t proper key (file_node t key file) [] now k (other hold k e h))
+  where
+    other : (hold : HoldNumber) (k : ℕ) (e : Bool) → hold_at s hold ≡ Some (k, e) → k ≢ key
+    other hold k e h same = not_held s key free hold e (subst (λ (i : ℕ). hold_at s hold ≡ Some (i, e)) same h)
+
+-- the file with no bytes, and a handle on it
+module _ (was : List ℕ) (s : Session) (key : ℕ) (now : Date3) (image : List ℕ) (stands : (t : Tree) → Stands was t → Stands image (shortened now key 0 t))
+    (action : ℤ) (ready held : FinMap nat_cmp HandleHold) (answer : Answer) (a : AnswersHandle action key true ready held answer) (same : ready ≡ s.handles) where
+  pub emptied_sound : (sound : IsSoundHandler was s) → is_file sound.tree key ≡ true → is_in_use s key true ≡ false → IsSoundHandler image (record s { handles = held })
+  emptied_sound sound file free =
+      let t = sound.tree in
+      let proper = sound.stands.proper in
+      let u = rewritten now key [] t in
+      let f = file_node t key file in
+      record {
+        tree = u;
+        stands = subst (Stands image) (cut_is_emptied now key t) (stands t sound.stands);
+        holds = proper_opened action key true s ready held answer a same u (emptied_session t proper s sound.holds key file free now)
+            (ap is_some (rewritten_here t proper key f [] now)) (rewritten_is_file t proper key f [] now) free;
+      }
+
+  pub emptied_opens : (old : HandlerState) (was_validated : Bool) → record { image = was; was_validated = was_validated; session = s } ≡ old → (t : Tree) → Stands was t → is_file t key ≡ true → is_in_use s key true ≡ false
+      → (bits : ℕ) → protection_of t key ≡ bits → denies_delete bits ≡ false → denies_write bits ≡ false → Kept was image → (validated : Bool) → validated ≡ was_validated
+      → Opens action (empty_refusals old.session key) (λ t left. GivesHandle (rewritten now key [] t) old.session key true left) old (record { image = image; was_validated = validated; session = record s { handles = held } }) answer
+  emptied_opens old was_validated view t stood file free bits told delete write kept validated checked =
+      let new : HandlerState = record { image = image; was_validated = validated; session = record s { handles = held } } in
+      let u = rewritten now key [] t in
+      let opens = done_opens action (empty_refusals s key) (λ t left. GivesHandle (rewritten now key [] t) s key true left) (record { image = was; was_validated = was_validated; session = s }) new answer t stood (no_refusal s key t bits file free told delete write) (record {
+        tree = u;
+        stands = subst (Stands image) (cut_is_emptied now key t) (stands t stood);
+        success = gives_handle action key true s ready held answer a same u;
+        action = ap (λ (r : Answer). r.action) a.answered;
+        res2 = ap (λ (r : Answer). r.res2) a.answered;
+        boot = kept.boot;
+        validated = checked;
+      }) in
+      subst (λ (h : HandlerState). Opens action (empty_refusals h.session key) (λ t left. GivesHandle (rewritten now key [] t) h.session key true left) h new answer) view opens

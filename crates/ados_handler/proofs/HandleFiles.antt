@@ -1,0 +1,96 @@
+-- What is known of the file of a handle that is held.
+use Rattle.std.proofs.Common.{◌≡◌, ℕ, ◌≤◌, Bool, true, false, not, List, ◌∷◌, Option, Some, None, is_some, option_map, refl, sym, ap, ap₂, ◌∙◌, subst}
+use Rattle.std.specs.Option.{option_map_or}
+use Rattle.std.specs.Prelude.{IfSome}
+use Rattle.std.specs.Ordering.{nat_cmp}
+use Rattle.std.specs.FinMap.{FinMap, get}
+use Rattle.ados_name.specs.declared.Date3.{Date3}
+use Rattle.ados_tree.specs.Tree.{Content, Node, Tree, size_in, size_of}
+use Rattle.ados_tree.specs.Tree.Content.{File}
+use Rattle.ados_tree.specs.Stands.{Stands}
+use Rattle.ados_tree.specs.Walk.{is_file}
+use Rattle.ados_tree.specs.Keys.{HasFileKey, HasKey}
+use Rattle.ados_tree.proofs.OneTree.{one_tree}
+use Rattle.ados_tree.proofs.Nodes.{content_in, some_in}
+use Rattle.ados_packet.specs.declared.packet.Packet.{Packet}
+use Rattle.ados_packet.specs.declared.answer.Answer.{Answer}
+use Rattle.ados_volume.specs.declared.examine.FileInfo.{FileInfo}
+use Rattle.ados_volume.specs.Examined.{file_info}
+use Rattle.ados_handler.specs.Session.{Session, is_handle, handle_key, handle_position}
+use Rattle.ados_handler.specs.declared.holds.HandleHold.{HandleHold}
+use Rattle.ados_handler.specs.Objects.{protection_in, protection_of}
+use Rattle.ados_handler.specs.Keeps.{HasPathTexts}
+use Rattle.ados_handler.specs.Meaning.{Meaning}
+use Rattle.ados_handler.specs.Handler.{HandlerGives, HandlerState, IsSoundHandler}
+use Rattle.ados_handler.specs.Refusals.{first_refusal, refuse}
+use Rattle.ados_handler.proofs.Rewriting.{file_node}
+use Rattle.ados_handler.proofs.Keeping.{meaning_keeps_proper}
+use Rattle.ados_handler.proofs.Leaving.{leaves_all}
+use Rattle.ados_handler.proofs.Meant.{sound_after}
+
+module _ (s : Session) (handle : ℕ) (hold : HandleHold) (at : get s.handles handle ≡ Some hold) where
+  pub key_is : handle_key s handle ≡ hold.key
+  key_is = ap (λ (o : Option HandleHold). option_map_or (λ h. h.key) o 0) at
+
+  pub position_is : handle_position s handle ≡ hold.position
+  position_is = ap (λ (o : Option HandleHold). option_map_or (λ h. h.position) o 0) at
+
+  -- a packet by it is refused neither with 218 nor with 211
+  pub opened_on : s.died ≡ false → (more : List (Option ℕ)) → first_refusal (refuse 218 s.died ∷ refuse 211 (not (is_handle s handle)) ∷ more) ≡ first_refusal more
+  opened_on alive more =
+      let held : is_handle s handle ≡ true = ap is_some at in
+      ap₂ (λ (d h : Bool). first_refusal (refuse 218 d ∷ refuse 211 (not h) ∷ more)) alive held
+
+-- the handle of a sound handler is on a file, and stands in it
+module _ (image : List ℕ) (s : Session) (sound : IsSoundHandler image s) (handle : ℕ) where
+  opened_file : (hold : HandleHold) → get s.handles handle ≡ Some hold → HasFileKey image hold.key
+  opened_file hold at t stands =
+      let same = one_tree image sound.tree t sound.stands stands in
+      let f = file_node t hold.key (subst (λ (u : Tree). is_file u hold.key ≡ true) same (sound.holds.on_files handle hold at).0) in
+      (f.bytes, ap (option_map (λ (node : Node). node.content)) f.at ∙ ap (λ (c : Content). Some c) f.content)
+
+  opened_within : (hold : HandleHold) → get s.handles handle ≡ Some hold → (t : Tree) → Stands image t → hold.position ≤ size_of t hold.key
+  opened_within hold at t stands = subst (λ (u : Tree). hold.position ≤ size_of u hold.key) (one_tree image sound.tree t sound.stands stands) (sound.holds.on_files handle hold at).1
+
+  pub file_of : (o : Option HandleHold) → o ≡ get s.handles handle → IfSome o (λ hold. HasFileKey image hold.key)
+  file_of None is = tt
+  file_of (Some hold) is = opened_file hold (sym is)
+
+  pub within_of : (o : Option HandleHold) → o ≡ get s.handles handle → IfSome o (λ hold. (t : Tree) → Stands image t → hold.position ≤ size_of t hold.key)
+  within_of None is = tt
+  within_of (Some hold) is = opened_within hold (sym is)
+
+-- what is told of a file
+module _ (image : List ℕ) (key : ℕ) (file : HasFileKey image key) where
+  pub file_is_key : HasKey image key
+  file_is_key t stands =
+      let bytes = file t stands in
+      ap is_some (content_in (t.nodes key) (File bytes.0) bytes.1).1
+
+  module _ (info : FileInfo) (told : (t : Tree) (node : Node) → Stands image t → t.nodes key ≡ Some node → info ≡ file_info t.format key node) where
+    pub size_told : (t : Tree) → Stands image t → info.size ≡ size_of t key
+    size_told t stands =
+        let n = some_in (t.nodes key) (file_is_key t stands) in
+        ap (λ (i : FileInfo). i.size) (told t n.0 stands n.1) ∙ ap (λ (o : Option Node). size_in (option_map (λ node. node.content) o)) (sym n.1)
+
+    pub protection_told : (t : Tree) → Stands image t → info.protection.0 ≡ protection_of t key
+    protection_told t stands =
+        let n = some_in (t.nodes key) (file_is_key t stands) in
+        ap (λ (i : FileInfo). i.protection.0) (told t n.0 stands n.1) ∙ ap protection_in (sym n.1)
+
+-- a packet that takes no moment, and leaves all but the handles
+module _ (old given : HandlerState) (same : old ≡ given) (handles : FinMap nat_cmp HandleHold) (packet : Packet) (answer : Answer) where
+  pub gives_moved : (t : Tree) → Stands old.image t → (now : Date3) → Meaning t old.session packet now t (record old.session { handles = handles }) answer
+      → HandlerGives given packet now (record old { session = record old.session { handles = handles } }) answer
+  gives_moved t stood now means =
+      let new : HandlerState = record old { session = record old.session { handles = handles } } in
+      subst (λ (h : HandlerState). HandlerGives h packet now new answer) same
+      (record { old_tree = t; new_tree = t; stood = stood; stands = stood; means = means; leaves = leaves_all t old packet new answer refl; validated = refl })
+
+  pub sound_moved : HasPathTexts packet → IsSoundHandler old.image old.session
+      → ((now : Date3) → HandlerGives given packet now (record old { session = record old.session { handles = handles } }) answer)
+      → IsSoundHandler old.image (record old.session { handles = handles })
+  sound_moved texts sound gives =
+      let moment : Date3 = record { days = 0; minutes = 0; ticks = 0 } in
+      sound_after given (record old { session = record old.session { handles = handles } }) packet moment answer (meaning_keeps_proper packet texts)
+      (subst (λ (h : HandlerState). IsSoundHandler h.image h.session) same sound) (gives moment)

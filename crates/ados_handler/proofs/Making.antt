@@ -1,0 +1,200 @@
+-- Packets that make an entry, or find the file that is there, keep tree and session proper.
+use Rattle.std.proofs.Common.{◌≡◌, ◌≢◌, ℕ, inl, inr, Bool, true, false, cond, nat_lt, ◌==◌, List, [], ◌∷◌, length, map, Contains, Option, Some, None, Result, Ok, Err, IsSome, is_some, option_map, MatchOption, refl, sym, ap, ◌∙◌, subst, arith}
+use Rattle.std.specs.Prelude.{◌||◌, find}
+use Rattle.std.specs.Result.{result_err}
+use Rattle.std.proofs.lemmas.Bool.{cases_eq, false≢true, true≢false}
+use Rattle.std.proofs.lemmas.Slice.Eq.{bytes_eq-Decides}
+use Rattle.ados_chain.proofs.Lists.{Contains-cases, Contains-nil}
+use Rattle.ados_name.specs.declared.Date3.{Date3}
+use Rattle.ados_name.specs.Name.{IsName, upper}
+use Rattle.ados_name.specs.Path.{IsPathText, front, last_name, steps}
+use Rattle.ados_tree.specs.Tree.{Content, Node, Tree, Proper, entries, name_of, size_in}
+use Rattle.ados_tree.specs.Tree.Content.{Directory, File}
+use Rattle.ados_tree.specs.Walk.{child_of, holds_file, is_file, place_in, start_of, walk_steps}
+use Rattle.ados_tree.specs.declared.path_fault.WalkFault.{WalkFault}
+use Rattle.ados_tree.specs.declared.path_fault.WalkFault.TheVariants.{DirectoryNotFound}
+use Rattle.ados_tree.specs.declared.path_fault.PlaceFault.TheVariants as faults
+use Rattle.ados_tree.specs.Change.{listed, made, new_node, rewritten, with_node}
+use Rattle.ados_entries.specs.Conditions.{CanMake, IsDirectory, IsEmpty, IsNewName}
+use Rattle.ados_entries.proofs.Changed.{nodes_here, nodes_other, relisted}
+use Rattle.ados_entries.proofs.ProperChanges.{directory_at, dir_not_key, made_is_proper}
+use Rattle.ados_packet.specs.declared.packet.Packet.TheVariants.{CreateDir, FindUpdate, FindOutput}
+use Rattle.ados_handler.specs.Session.{Session, is_in_use, is_lock}
+use Rattle.ados_handler.specs.Objects.{lock_key, place_error, placed, spot, spot_directory, spot_name, standing}
+use Rattle.ados_handler.specs.Refusals.{refuse, refusals, is_some_and, is_directory_there}
+use Rattle.ados_handler.specs.Success.{After, GivesHandle, GivesLock, IsNewKey, MakesFile}
+use Rattle.ados_handler.specs.ProperSession.{HoldNumber, hold_at, IsProperSession}
+use Rattle.ados_handler.specs.Keeps.{KeepsProper}
+use Rattle.ados_handler.proofs.Holding.{IsFree, not_in_use, not_held, proper_with_handle, proper_with_lock}
+use Rattle.ados_handler.proofs.Walked.{child_is_key, no_error, start_is_key, walk_key}
+use Rattle.ados_handler.proofs.Reading.{none_refuses, not_refused, from_not, IsProperAfter, same_after, by_success}
+use Rattle.ados_handler.proofs.Carrying.{Carried, carried_beside, carried_changed, carried_new, carried_on, carried_session}
+use Rattle.ados_handler.proofs.Named.{last_is_name}
+use Rattle.ados_handler.proofs.Rewriting.{file_node, rewritten_proper, rewritten_here, rewritten_is_file, rewritten_other}
+
+-- ---- places
+
+-- a directory with a name
+pub record IsSpot (t : Tree) (there : ℕ × List ℕ) : Type 0 where
+  pub node : IsSome (t.nodes there.0)
+  pub no_file : is_file t there.0 ≡ false
+  pub name : IsName there.1
+
+module _ (t : Tree) (path : List ℕ) (valid : IsPathText path) where
+  in_place : (key : ℕ) → IsSome (t.nodes key) → (p : ℕ × List ℕ) → place_in t (Ok key) (last_name path) ≡ Ok p → IsSpot t p
+  in_place key there p e = go (is_file t key) refl (length (last_name path) == 0) refl (nat_lt 30 (length (last_name path))) refl e
+    where
+      go : (b : Bool) → is_file t key ≡ b → (c : Bool) → (length (last_name path) == 0) ≡ c → (d : Bool) → nat_lt 30 (length (last_name path)) ≡ d
+          → cond b (Err faults.WrongType) (cond (c || d) (Err faults.InvalidName) (Ok (key, last_name path))) ≡ Ok p → IsSpot t p
+      go true f c g d h w = absurd (cc w)
+      go false f true g d h w = absurd (cc w)
+      go false f false g true h w = absurd (cc w)
+      go false f false g false h w =
+          let same : (key, last_name path) ≡ p = cc w in
+          subst (IsSpot t) same (record { node = there; no_file = f; name = last_is_name path valid g h })
+
+  from_walk : (r : Result ℕ WalkFault) → ((key : ℕ) → r ≡ Ok key → IsSome (t.nodes key)) → (p : ℕ × List ℕ) → place_in t r (last_name path) ≡ Ok p → IsSpot t p
+  from_walk (Ok key) there p e = in_place key (there key refl) p e
+  from_walk (Err fault) there p e = absurd (cc e)
+
+-- the place of a path that was not refused
+pub spot_is : (t : Tree) → Proper t → (s : Session) → IsProperSession t s → (lock : ℕ) (path : List ℕ) → IsPathText path → is_lock s lock ≡ true → option_map place_error (result_err (placed t s lock path)) ≡ None → IsSpot t (spot t s lock path)
+spot_is t proper s session lock path valid held none =
+    from_walk t path valid (walk_steps t (start_of t (lock_key t s lock) path) (steps (front path)) DirectoryNotFound)
+    (λ key e. walk_key t proper (start_of t (lock_key t s lock) path) (steps (front path)) DirectoryNotFound key (start_is_key t proper s session lock path held) e)
+    (spot t s lock path) (no_error place_error (placed t s lock path) (0, []) none)
+
+pub is_directory : (t : Tree) (key : ℕ) → IsSome (t.nodes key) → is_file t key ≡ false → IsDirectory t key
+is_directory t key = go (t.nodes key)
+  where
+    go : (o : Option Node) → IsSome o → holds_file (option_map (λ node. node.content) o) ≡ false → (keys : List ℕ) × (option_map (λ node. node.content) o ≡ Some (Directory keys))
+    go None h f = absurd (false≢true h)
+    go (Some a) h f = by_content a.content f
+      where
+        by_content : (c : Content) → holds_file (Some c) ≡ false → (keys : List ℕ) × (Some c ≡ Some (Directory keys))
+        by_content (Directory keys) f = (keys, refl)
+        by_content (File bytes) f = absurd (true≢false f)
+
+-- what is found nowhere passes nowhere
+find_none : (p : ℕ → Bool) (xs : List ℕ) (x : ℕ) → find p xs ≡ None → Contains xs x → p x ≡ true → ⊥
+find_none p [] x e c h = Contains-nil x c
+find_none p (y ∷ ys) x e c h = go (p y) refl e (λ f m. find_none p ys x f m h)
+  where
+    go : (b : Bool) → p y ≡ b → cond b (Some y) (find p ys) ≡ None → (find p ys ≡ None → Contains ys x → ⊥) → ⊥
+    go true at f rest = absurd (cc f)
+    go false at f rest = elim (Contains-cases y ys x c) [ inl same ↦ true≢false (sym h ∙ ap p (sym same) ∙ at) | inr later ↦ rest f later ]
+
+pub no_child_new : (t : Tree) (dir : ℕ) (name : List ℕ) → child_of t dir name ≡ None → IsNewName t dir name
+no_child_new t dir name e k c same = find_none _ (entries t dir) k e c ((bytes_eq-Decides (map upper (name_of t k)) (map upper name)).1 same)
+
+-- ---- a new entry
+
+-- a directory that gets another list is one still, and each other object is as it was
+pub carried_listed : (t : Tree) (moment : Date3) (dir : ℕ) (keys : List ℕ) → IsDirectory t dir → (k : ℕ) → Carried (t.nodes k) ((listed moment dir keys t).nodes k)
+carried_listed t moment dir keys is = carried_changed t dir (relisted moment keys) (λ a at.
+    let d = directory_at t dir is in
+    let same : d.node ≡ a = cc (d.at, at) in
+    let content : a.content ≡ Directory d.keys = ap (λ (b : Node). b.content) (sym same) ∙ d.content in
+    let no_size : size_in (Some a.content) ≡ 0 = ap (λ (c : Content). size_in (Some c)) content in
+    record {
+      node = λ h. h;
+      file = λ h. absurd (false≢true (sym (ap (λ (c : Content). holds_file (Some c)) content) ∙ h));
+      size = omega (arith, no_size);
+    })
+
+module _ (t : Tree) (s : Session) (proper : Proper t) (session : IsProperSession t s) (moment : Date3) (dir key : ℕ) (name : List ℕ) (content : Content) (can : CanMake t dir name) (fresh : IsNewKey t key) (empty : IsEmpty content) where
+  abbrev grown_tree : Tree
+  grown_tree = made moment dir key name content t
+
+  abbrev begun : Tree
+  begun = with_node key (Some (new_node moment dir name content)) t
+
+  grown_proper : Proper grown_tree
+  grown_proper = made_is_proper t moment dir key name content proper can fresh.0 empty
+
+  not_key : dir ≢ key
+  not_key = dir_not_key t moment dir key name content proper can fresh.0 empty
+
+  begun_carried : (k : ℕ) → Carried (t.nodes k) (begun.nodes k)
+  begun_carried k = elim (cases_eq k key) [
+    | inl same ↦ subst (λ (o : Option Node). Carried o (begun.nodes k)) (sym (ap t.nodes same ∙ fresh.0.no_node)) (carried_new (begun.nodes k))
+    | inr other ↦ carried_beside t key (Some (new_node moment dir name content)) k other
+  ]
+
+  begun_directory : IsDirectory begun dir
+  begun_directory = (can.directory.0, ap (λ (o : Option Node). option_map (λ node. node.content) o) (nodes_other key (Some (new_node moment dir name content)) t dir not_key) ∙ can.directory.1)
+
+  made_carried : (k : ℕ) → Carried (t.nodes k) (grown_tree.nodes k)
+  made_carried k = carried_on (t.nodes k) (begun.nodes k) (grown_tree.nodes k) (begun_carried k) (carried_listed begun moment dir _ begun_directory k)
+
+  -- the new node
+  here : grown_tree.nodes key ≡ Some (new_node moment dir name content)
+  here = nodes_other dir _ begun key (λ e. not_key (sym e)) ∙ nodes_here key (Some (new_node moment dir name content)) t
+
+  holds_kept : IsProperSession grown_tree s
+  holds_kept = carried_session t grown_tree s session (λ hold k e h. made_carried k)
+
+  -- nothing is held that was not there
+  unheld : (exclusive : Bool) → IsFree s key exclusive
+  unheld exclusive hold e h = absurd (false≢true (sym (ap is_some fresh.0.no_node) ∙ session.on_keys hold key e h))
+
+  pub made_lock : (exclusive : Bool) (result : After) → GivesLock grown_tree s key exclusive result → IsProperAfter result
+  made_lock exclusive result w = same_after result _ w.2 (grown_proper, proper_with_lock grown_tree s holds_kept w.0 key exclusive (ap is_some here) (unheld exclusive))
+
+  pub made_handle : (exclusive : Bool) (result : After) → holds_file (Some content) ≡ true → GivesHandle grown_tree s key exclusive result → IsProperAfter result
+  made_handle exclusive result file w =
+      same_after result _ w.2 (grown_proper, proper_with_handle grown_tree s holds_kept w.0 key exclusive (ap is_some here) (ap (λ (o : Option Node). holds_file (option_map (λ node. node.content) o)) here ∙ file) (unheld exclusive))
+
+can_make : (t : Tree) (there : ℕ × List ℕ) → IsSpot t there → child_of t there.0 there.1 ≡ None → CanMake t there.0 there.1
+can_make t there is none = record { directory = is_directory t there.0 is.node is.no_file; valid = is.name; new_name = no_child_new t there.0 there.1 none }
+
+pub none_there : (o : Option ℕ) → is_some o ≡ false → o ≡ None
+none_there None h = refl
+none_there (Some k) h = absurd (true≢false h)
+
+pub create_dir_keeps : (lock : ℕ) (path : List ℕ) → IsPathText path → KeepsProper (CreateDir lock path)
+create_dir_keeps lock path valid = by_success (CreateDir lock path) (λ t s now result proper session none w.
+    let no = none_refuses (refuse 218 s.died ∷ refusals t s (CreateDir lock path)) none in
+    let is = spot_is t proper s session lock path valid (from_not (is_lock s lock) (not_refused 211 _ no.1.0)) no.1.1.0 in
+    let new = none_there (standing t s lock path) (not_refused 203 _ no.1.1.1.0) in
+    made_lock t s proper session now (spot_directory t s lock path) w.0 (spot_name t s lock path) (Directory []) (can_make t (spot t s lock path) is new) w.1 refl true result w.2)
+
+makes_file : (t : Tree) (s : Session) (now : Date3) (result : After) → Proper t → IsProperSession t s → (there : ℕ × List ℕ) → IsSpot t there → child_of t there.0 there.1 ≡ None → (exclusive : Bool) → MakesFile t s there.0 there.1 exclusive now result → IsProperAfter result
+makes_file t s now result proper session there is none exclusive w =
+    made_handle t s proper session now there.0 w.0 there.1 (File []) (can_make t there is none) w.1 refl exclusive result refl w.2
+
+pub find_update_keeps : (lock : ℕ) (path : List ℕ) → IsPathText path → KeepsProper (FindUpdate lock path)
+find_update_keeps lock path valid = by_success (FindUpdate lock path) (λ t s now result proper session none w.
+    let no = none_refuses (refuse 218 s.died ∷ refusals t s (FindUpdate lock path)) none in
+    let is = spot_is t proper s session lock path valid (from_not (is_lock s lock) (not_refused 211 _ no.1.0)) no.1.1.0 in
+    go t s now result proper session (spot t s lock path) is (standing t s lock path) refl (not_refused 212 _ no.1.1.1.0) (not_refused 202 _ no.1.1.1.1.0) w)
+  where
+    go : (t : Tree) (s : Session) (now : Date3) (result : After) → Proper t → IsProperSession t s → (there : ℕ × List ℕ) → IsSpot t there → (o : Option ℕ) → child_of t there.0 there.1 ≡ o
+        → is_directory_there t o ≡ false → is_some_and (λ key. is_in_use s key false) o ≡ false
+        → MatchOption o (MakesFile t s there.0 there.1 false now result) (λ key. GivesHandle t s key false result) → IsProperAfter result
+    go t s now result proper session there is None e type free w = makes_file t s now result proper session there is e false w
+    go t s now result proper session there is (Some key) e type free w =
+        same_after result _ w.2 (proper, proper_with_handle t s session w.0 key false (child_is_key t proper there.0 there.1 key e) (from_not (is_file t key) type) (not_in_use s key false free))
+
+pub find_output_keeps : (lock : ℕ) (path : List ℕ) → IsPathText path → KeepsProper (FindOutput lock path)
+find_output_keeps lock path valid = by_success (FindOutput lock path) (λ t s now result proper session none w.
+    let no = none_refuses (refuse 218 s.died ∷ refusals t s (FindOutput lock path)) none in
+    let is = spot_is t proper s session lock path valid (from_not (is_lock s lock) (not_refused 211 _ no.1.0)) no.1.1.0 in
+    go t s now result proper session (spot t s lock path) is (standing t s lock path) refl (not_refused 212 _ no.1.1.1.0) (not_refused 202 _ no.1.1.1.1.0) w)
+  where
+    emptied : (t : Tree) (s : Session) (now : Date3) (result : After) → Proper t → IsProperSession t s → (key : ℕ) → is_file t key ≡ true → is_in_use s key true ≡ false → GivesHandle (rewritten now key [] t) s key true result → IsProperAfter result
+    emptied t s now result proper session key file free w =
+        let f = file_node t key file in
+        let u = rewritten now key [] t in
+        let others : (hold : HoldNumber) (k : ℕ) (e : Bool) → hold_at s hold ≡ Some (k, e) → k ≢ key = λ hold k e h same. not_held s key free hold e (subst (λ (i : ℕ). hold_at s hold ≡ Some (i, e)) same h) in
+        let holds = carried_session t u s session (λ hold k e h. rewritten_other t proper key f [] now k (others hold k e h)) in
+        same_after result _ w.2 (
+          rewritten_proper t proper key f [] now,
+          proper_with_handle u s holds w.0 key true (ap is_some (rewritten_here t proper key f [] now)) (rewritten_is_file t proper key f [] now) (not_in_use s key true free),
+        )
+
+    go : (t : Tree) (s : Session) (now : Date3) (result : After) → Proper t → IsProperSession t s → (there : ℕ × List ℕ) → IsSpot t there → (o : Option ℕ) → child_of t there.0 there.1 ≡ o
+        → is_directory_there t o ≡ false → is_some_and (λ key. is_in_use s key true) o ≡ false
+        → MatchOption o (MakesFile t s there.0 there.1 true now result) (λ key. GivesHandle (rewritten now key [] t) s key true result) → IsProperAfter result
+    go t s now result proper session there is None e type free w = makes_file t s now result proper session there is e true w
+    go t s now result proper session there is (Some key) e type free w = emptied t s now result proper session key (from_not (is_file t key) type) free w

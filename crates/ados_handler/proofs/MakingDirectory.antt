@@ -1,0 +1,51 @@
+-- CREATE_DIR.
+use Rattle.std.proofs.Common.{◌≡◌, ℕ, pos, true, false, List, [], ◌∷◌, Option, None, Ok, refl, sym, ap, ◌∙◌}
+use Rattle.std.specs.Prelude.{is_some}
+use Rattle.ados_name.specs.declared.Date3.{Date3}
+use Rattle.ados_tree.specs.Tree.{Tree, Proper}
+use Rattle.ados_tree.specs.Tree.Content.{Directory}
+use Rattle.ados_tree.specs.Stands.{Stands}
+use Rattle.ados_tree.specs.Walk.{child_of}
+use Rattle.ados_tree.specs.Change.{made}
+use Rattle.ados_entries.specs.Conditions.{CanMake}
+use Rattle.ados_packet.specs.declared.packet.Packet.TheVariants.{CreateDir}
+use Rattle.ados_packet.specs.declared.answer.Body.TheVariants.{Empty}
+use Rattle.ados_handler.specs.Session.{Session, IsFreeNumber, with_lock}
+use Rattle.ados_handler.specs.ProperSession.{IsProperSession}
+use Rattle.ados_handler.specs.Objects.{lacks, placed_at, spot}
+use Rattle.ados_handler.specs.Refusals.{first_refusal, refusal, refusals, refuse}
+use Rattle.ados_handler.specs.Success.{GivesLock, IsNewKey, after}
+use Rattle.ados_handler.specs.Meaning.{Meaning}
+use Rattle.ados_handler.specs.Handler.{IsSoundHandler}
+use Rattle.ados_handler.proofs.Making.{made_lock}
+use Rattle.ados_handler.proofs.Meant.{served_means}
+use Rattle.ados_handler.proofs.Placed.{passed, placed_on}
+
+-- the refusals that look at the place
+abbrev place_row : Tree → ℕ × List ℕ → List (Option ℕ)
+place_row t there = refuse 203 (is_some (child_of t there.0 there.1)) ∷ refuse 221 (lacks t 1) ∷ []
+
+-- a directory is made at the place, and the new session has a lock on it
+module _ (t : Tree) (s new : Session) (now : Date3) (there : ℕ × List ℕ) (key number : ℕ) (fresh : IsNewKey t key) (free : IsFreeNumber s.locks number) (same : new ≡ with_lock number key true s) where
+  pub create_dir_means : (lock : ℕ) (path : List ℕ) → s.died ≡ false → placed_at t s lock path ≡ Ok there → is_some (child_of t there.0 there.1) ≡ false → lacks t 1 ≡ false
+      → Meaning t s (CreateDir lock path) now (made now there.0 key there.1 (Directory []) t) new (record { action = pos 22; res1 = pos number; res2 = pos 0; body = Empty })
+  create_dir_means lock path alive place none room =
+      let p = placed_on t s lock path there [] place in
+      let not_refused : refusal t s (CreateDir lock path) ≡ None =
+      passed 218 s.died (refusals t s (CreateDir lock path)) alive
+      ∙ (placed_on t s lock path there (place_row t (spot t s lock path)) place).0
+      ∙ ap (λ (p : ℕ × List ℕ). first_refusal (place_row t p)) p.1
+      ∙ passed 203 (is_some (child_of t there.0 there.1)) _ none
+      ∙ passed 221 (lacks t 1) [] room in
+      served_means t (made now there.0 key there.1 (Directory []) t) s new (CreateDir lock path) now _ not_refused
+      (record {
+        success = (key, fresh, (number, free, λ i. after (made now (sym p.1 i).0 key (sym p.1 i).1 (Directory []) t) (same i) (pos number) Empty));
+        action = refl;
+        res2 = refl;
+      })
+
+  pub create_dir_sound : (image : List ℕ) → Proper t → IsProperSession t s → CanMake t there.0 there.1 → Stands image (made now there.0 key there.1 (Directory []) t) → IsSoundHandler image new
+  create_dir_sound image proper session can stands =
+      let u = made now there.0 key there.1 (Directory []) t in
+      let given : GivesLock u s key true (after u new (pos number) Empty) = (number, free, λ i. after u (same i) (pos number) Empty) in
+      record { tree = u; stands = stands; holds = (made_lock t s proper session now there.0 key there.1 (Directory []) can fresh refl true (after u new (pos number) Empty) given).1 }

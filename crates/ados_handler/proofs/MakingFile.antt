@@ -1,0 +1,63 @@
+-- A file that is made for a handle, where there is room for it.
+use Rattle.std.proofs.Common.{◌≡◌, ℕ, ℤ, Bool, false, List, [], ◌∷◌, None, refl, ap, subst}
+use Rattle.std.specs.Ordering.{nat_cmp}
+use Rattle.std.specs.FinMap.{FinMap}
+use Rattle.ados_map.specs.Pages.{IsLowestFree}
+use Rattle.ados_name.specs.declared.Date3.{Date3}
+use Rattle.ados_name.specs.Name.{IsName}
+use Rattle.ados_tree.specs.Change.{made}
+use Rattle.ados_tree.specs.Keys.{HasDirectory}
+use Rattle.ados_tree.specs.Kept.{Kept}
+use Rattle.ados_tree.specs.Stands.{Stands}
+use Rattle.ados_tree.specs.Tree.{Tree}
+use Rattle.ados_tree.specs.Tree.Content.{File}
+use Rattle.ados_tree.specs.Walk.{child_of}
+use Rattle.ados_entries.specs.Conditions.{CanMake}
+use Rattle.ados_packet.specs.declared.answer.Answer.{Answer}
+use Rattle.ados_handler.specs.declared.holds.HandleHold.{HandleHold}
+use Rattle.ados_handler.specs.Session.{Session}
+use Rattle.ados_handler.specs.Objects.{lacks}
+use Rattle.ados_handler.specs.Refusals.{first_refusal, refuse}
+use Rattle.ados_handler.specs.Success.{MakesFile}
+use Rattle.ados_handler.specs.Handler.{HandlerState, IsSoundHandler}
+use Rattle.ados_handler.specs.Opening.{AnswersHandle, Opens, make_refusals}
+use Rattle.ados_handler.proofs.FreeBlock.{new_key}
+use Rattle.ados_handler.proofs.Making.{made_handle, no_child_new}
+use Rattle.ados_handler.proofs.Opening.{done_opens, gives_handle}
+
+-- a name that the directory does not have can be made in it
+pub can_make_in : (image : List ℕ) (dir : ℕ) (name : List ℕ) → HasDirectory image dir → IsName name → ((t : Tree) → Stands image t → child_of t dir name ≡ None)
+    → (was : List ℕ) → was ≡ image → (t : Tree) → Stands was t → CanMake t dir name
+can_make_in image dir name directory valid none was same t stands =
+    let stood = subst (λ (m : List ℕ). Stands m t) same stands in
+    record { directory = directory t stood; valid = valid; new_name = no_child_new t dir name (none t stood) }
+
+-- the file under the lowest free key, and a handle on it
+module _ (was : List ℕ) (s : Session) (dir : ℕ) (name : List ℕ) (now : Date3) (key : ℕ) (low : IsLowestFree was key) (image : List ℕ) (stands : (t : Tree) → Stands was t → Stands image (made now dir key name (File []) t))
+    (action : ℤ) (exclusive : Bool) (ready held : FinMap nat_cmp HandleHold) (answer : Answer) (a : AnswersHandle action key exclusive ready held answer) (same : ready ≡ s.handles) where
+  pub made_sound : IsSoundHandler was s → ((t : Tree) → Stands was t → CanMake t dir name) → IsSoundHandler image (record s { handles = held })
+  made_sound sound can =
+      let t = sound.tree in
+      let u = made now dir key name (File []) t in
+      let gives = gives_handle action key exclusive s ready held answer a same u in
+      record {
+        tree = u;
+        stands = stands t sound.stands;
+        holds = (made_handle t s sound.stands.proper sound.holds now dir key name (File []) (can t sound.stands) (new_key was t sound.stands key low) refl exclusive _ refl gives).1;
+      }
+
+  pub made_opens : (old : HandlerState) (was_validated : Bool) → record { image = was; was_validated = was_validated; session = s } ≡ old → (t : Tree) → Stands was t → lacks t 1 ≡ false → Kept was image → (validated : Bool) → validated ≡ was_validated
+      → Opens action make_refusals (λ t left. MakesFile t old.session dir name exclusive now left) old (record { image = image; was_validated = validated; session = record s { handles = held } }) answer
+  made_opens old was_validated view t stood room kept validated checked =
+      let new : HandlerState = record { image = image; was_validated = validated; session = record s { handles = held } } in
+      let u = made now dir key name (File []) t in
+      let opens = done_opens action make_refusals (λ t left. MakesFile t s dir name exclusive now left) (record { image = was; was_validated = was_validated; session = s }) new answer t stood (ap (λ (b : Bool). first_refusal (refuse 221 b ∷ [])) room) (record {
+        tree = u;
+        stands = stands t stood;
+        success = (key, new_key was t stood key low, gives_handle action key exclusive s ready held answer a same u);
+        action = ap (λ (r : Answer). r.action) a.answered;
+        res2 = ap (λ (r : Answer). r.res2) a.answered;
+        boot = kept.boot;
+        validated = checked;
+      }) in
+      subst (λ (h : HandlerState). Opens action make_refusals (λ t left. MakesFile t h.session dir name exclusive now left) h new answer) view opens

@@ -1,0 +1,83 @@
+-- What a packet means where none of its refusals holds, and why a handler stays sound.
+use Rattle.std.proofs.Common.{◌≡◌, ◌≢◌, ℕ, pos, negsuc, Bool, true, false, cond, not, ◌==◌, List, [], ◌∷◌, Option, None, Result, Ok, Err, MatchOption, option_map, inl, refl, sym, ap, ◌∙◌, subst}
+use Rattle.std.specs.Result.{result_err, result_unwrap_or}
+use Rattle.std.specs.Prelude.{length}
+use Rattle.std.proofs.lemmas.Bool.{le-leb, ne_eqb}
+use Rattle.ados_name.specs.declared.Date3.{Date3}
+use Rattle.ados_name.specs.Name.{IsComment}
+use Rattle.ados_tree.specs.Tree.{Tree, root}
+use Rattle.ados_tree.specs.Change.{with_comment, with_date, with_protection}
+use Rattle.ados_tree.specs.declared.path_fault.WalkFault.{WalkFault}
+use Rattle.ados_tree.proofs.OneTree.{one_tree}
+use Rattle.ados_packet.specs.Packet.{dos_true}
+use Rattle.ados_packet.specs.declared.packet.Packet.{Packet}
+use Rattle.ados_packet.specs.declared.packet.Packet.TheVariants.{SetComment, SetDate, SetProtect}
+use Rattle.ados_packet.specs.declared.answer.Answer.{Answer}
+use Rattle.ados_packet.specs.declared.answer.Body.TheVariants.{Empty}
+use Rattle.ados_handler.specs.Session.{Session, is_lock}
+use Rattle.ados_handler.specs.Objects.{found, object, walk_error, walk_result, walked}
+use Rattle.ados_handler.specs.Refusals.{is_comment, first_refusal, refusal, refusals, refuse}
+use Rattle.ados_handler.specs.Success.{after}
+use Rattle.ados_handler.specs.Meaning.{IsRefused, IsServed, Meaning, ServedOrNoMemory}
+use Rattle.ados_handler.specs.ProperSession.{IsProperSession}
+use Rattle.ados_handler.specs.Keeps.{KeepsProper}
+use Rattle.ados_handler.specs.Handler.{HandlerGives, HandlerState, IsSoundHandler}
+
+-- a handler that did what a packet means is sound, where it was
+pub sound_after : (old new : HandlerState) (packet : Packet) (now : Date3) (answer : Answer) → KeepsProper packet → IsSoundHandler old.image old.session → HandlerGives old packet now new answer → IsSoundHandler new.image new.session
+sound_after old new packet now answer keeps sound gives =
+    let same = one_tree old.image sound.tree gives.old_tree sound.stands gives.stood in
+    let kept = keeps gives.old_tree gives.new_tree old.session new.session now answer gives.stood.proper (subst (λ (t : Tree). IsProperSession t old.session) same sound.holds) gives.means in
+    record { tree = gives.new_tree; stands = gives.stands; holds = kept.1 }
+
+-- a walk that leads to an object is no refusal
+pub walked_on : (t : Tree) (s : Session) (lock : ℕ) (path : List ℕ) (key : ℕ) (more : List (Option ℕ)) → walked t s lock path ≡ Ok key
+    → (first_refusal (refuse 211 (not (is_lock s lock)) ∷ option_map walk_error (result_err (found t s lock path)) ∷ more) ≡ first_refusal more) × (object t s lock path ≡ key)
+walked_on t s lock path key more = go (is_lock s lock) (found t s lock path)
+  where
+    go : (b : Bool) (r : Result ℕ WalkFault) → cond b (walk_result r) (Err (pos 211)) ≡ Ok key
+        → (first_refusal (refuse 211 (not b) ∷ option_map walk_error (result_err r) ∷ more) ≡ first_refusal more) × (result_unwrap_or r 0 ≡ key)
+    go true (Ok k) e = (refl, cc e)
+    go true (Err fault) e = absurd (cc e)
+    go false r e = absurd (cc e)
+
+-- a packet that is refused by the walk and at the root alone, of an object that is not the root
+pub marked_on : (t : Tree) (s : Session) (lock : ℕ) (path : List ℕ) (key : ℕ) → s.died ≡ false → walked t s lock path ≡ Ok key → key ≢ root t
+    → (first_refusal (refuse 218 s.died ∷ refuse 211 (not (is_lock s lock)) ∷ option_map walk_error (result_err (found t s lock path)) ∷ refuse 212 (object t s lock path == root t) ∷ []) ≡ None) × (object t s lock path ≡ key)
+marked_on t s lock path key alive walk other =
+    let row : List (Option ℕ) = refuse 211 (not (is_lock s lock)) ∷ option_map walk_error (result_err (found t s lock path)) ∷ refuse 212 (object t s lock path == root t) ∷ [] in
+    let w = walked_on t s lock path key (refuse 212 (object t s lock path == root t) ∷ []) walk in
+    let not_root : (object t s lock path == root t) ≡ false = ap (λ (k : ℕ). k == root t) w.1 ∙ ne_eqb key (root t) other in
+    (ap (λ (b : Bool). first_refusal (refuse 218 b ∷ row)) alive ∙ w.0 ∙ ap (λ (b : Bool). first_refusal (refuse 212 b ∷ [])) not_root, w.1)
+
+-- a packet that no refusal stands against means what it does where it is served
+pub served_means : (t u : Tree) (s new : Session) (packet : Packet) (now : Date3) (answer : Answer) → refusal t s packet ≡ None → IsServed t s packet now u new answer → Meaning t s packet now u new answer
+served_means t u s new packet now answer none served =
+    subst (λ (o : Option ℕ). MatchOption o (ServedOrNoMemory t s packet now u new answer) (λ code. IsRefused t s packet code u new answer)) (sym none) (inl served)
+
+module _ (t : Tree) (s new : Session) (lock : ℕ) (path : List ℕ) (now : Date3) (key : ℕ) (alive : s.died ≡ false) (walk : walked t s lock path ≡ Ok key) (other : key ≢ root t) (same : new ≡ s) where
+  pub set_protect_means : (bits : ℕ) → Meaning t s (SetProtect lock path bits) now (with_protection now key bits t) new (record { action = pos 21; res1 = negsuc 0; res2 = pos 0; body = Empty })
+  set_protect_means bits =
+      let m = marked_on t s lock path key alive walk other in
+      served_means t (with_protection now key bits t) s new (SetProtect lock path bits) now _ m.0
+      (record { success = λ i. after (with_protection now (sym m.1 i) bits t) (same i) dos_true Empty; action = refl; res2 = refl })
+
+  pub set_date_means : (date : Date3) → Meaning t s (SetDate lock path date) now (with_date now key date t) new (record { action = pos 34; res1 = negsuc 0; res2 = pos 0; body = Empty })
+  set_date_means date =
+      let m = marked_on t s lock path key alive walk other in
+      served_means t (with_date now key date t) s new (SetDate lock path date) now _ m.0
+      (record { success = λ i. after (with_date now (sym m.1 i) date t) (same i) dos_true Empty; action = refl; res2 = refl })
+
+-- SET_COMMENT with a text that is a comment
+module _ (t : Tree) (s : Session) (lock : ℕ) (path comment : List ℕ) (now : Date3) (key : ℕ) (alive : s.died ≡ false) (walk : walked t s lock path ≡ Ok key) where
+  pub set_comment_means : (new : Session) → key ≢ root t → new ≡ s → IsComment comment → Meaning t s (SetComment lock path comment) now (with_comment now key comment t) new (record { action = pos 28; res1 = negsuc 0; res2 = pos 0; body = Empty })
+  set_comment_means new other same is =
+      let last : List (Option ℕ) = refuse 212 (object t s lock path == root t) ∷ [] in
+      let w = walked_on t s lock path key (refuse 220 (not (is_comment comment)) ∷ last) walk in
+      let away : (object t s lock path == root t) ≡ false = ap (λ (k : ℕ). k == root t) w.1 ∙ ne_eqb key (root t) other in
+      let fits : is_comment comment ≡ true = le-leb (length comment) 79 is.short in
+      let none : refusal t s (SetComment lock path comment) ≡ None =
+      ap (λ (d : Bool). first_refusal (refuse 218 d ∷ refusals t s (SetComment lock path comment))) alive ∙ w.0
+      ∙ ap (λ (c : Bool). first_refusal (refuse 220 (not c) ∷ last)) fits ∙ ap (λ (b : Bool). first_refusal (refuse 212 b ∷ [])) away in
+      served_means t (with_comment now key comment t) s new (SetComment lock path comment) now _ none
+      (record { success = λ i. after (with_comment now (sym w.1 i) comment t) (same i) dos_true Empty; action = refl; res2 = refl })

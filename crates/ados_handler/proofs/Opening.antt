@@ -1,0 +1,121 @@
+-- What a packet that opens a file gives, and FINDINPUT.
+use Rattle.std.proofs.Common.{◌≡◌, ℕ, ℤ, pos, Bool, true, false, List, ◌∷◌, Option, Some, None, IsSome, Ok, MatchOption, ◌⊎◌, inl, inr, refl, sym, ap, ◌∙◌, subst}
+use Rattle.std.specs.Prelude.{IsTrue}
+use Rattle.std.specs.Ordering.{nat_cmp}
+use Rattle.std.specs.FinMap.{FinMap, insert}
+use Rattle.ados_name.specs.declared.Date3.{Date3}
+use Rattle.ados_tree.specs.Tree.{Tree}
+use Rattle.ados_tree.specs.Stands.{Stands}
+use Rattle.ados_tree.specs.Walk.{is_file}
+use Rattle.ados_packet.specs.Packet.{action_of, dos_false, failure_of, handed_back}
+use Rattle.ados_packet.specs.declared.packet.Packet.{Packet}
+use Rattle.ados_packet.specs.declared.packet.Packet.TheVariants.{FindInput}
+use Rattle.ados_packet.specs.declared.answer.Answer.{Answer}
+use Rattle.ados_packet.specs.declared.answer.Body.TheVariants.{Empty}
+use Rattle.ados_handler.specs.declared.holds.HandleHold.{HandleHold}
+use Rattle.ados_handler.specs.Session.{Session, IsFreeNumber, is_in_use}
+use Rattle.ados_handler.specs.Objects.{object, walked}
+use Rattle.ados_handler.specs.Refusals.{first_refusal, refusal, refuse, refusals}
+use Rattle.ados_handler.specs.Success.{After, after, GivesHandle, Success}
+use Rattle.ados_handler.specs.Meaning.{IsRefused, Meaning, ServedOrNoMemory, makes_hold, sets_disk_date}
+use Rattle.ados_handler.specs.ProperSession.{IsProperSession}
+use Rattle.ados_handler.specs.Handler.{HandlerGives, HandlerState}
+use Rattle.ados_handler.specs.Opening.{AnswersHandle, IsOpened, IsUnopened, Opens, open_refusals}
+use Rattle.ados_handler.proofs.Holding.{not_in_use, proper_with_handle}
+use Rattle.ados_handler.proofs.Leaving.{leaves_all}
+use Rattle.ados_handler.proofs.Meant.{walked_on}
+
+-- ---- what a packet that opens a file means
+
+module _ (packet : Packet) (now : Date3) (rows : Tree → List (Option ℕ)) (success : Tree → After → Type 0) (old new : HandlerState) (answer : Answer) where
+  -- the packet is this opening
+  pub record IsOpening (t : Tree) : Type 0 where
+    pub fails : failure_of packet ≡ dos_false
+    pub back : handed_back packet ≡ Empty
+    pub makes : IsTrue (makes_hold t old.session packet)
+    pub row : refusal t old.session packet ≡ first_refusal (rows t)
+    pub serves : (left : After) → success t left → Success t old.session packet now left
+    pub quiet : sets_disk_date t old.session packet ≡ false → new.image ≡ old.image
+
+  pub opening_gives : (o : Opens (action_of packet) rows success old new answer) → IsOpening o.tree → HandlerGives old packet now new answer
+  opening_gives o is = go (first_refusal (rows o.tree)) refl o.means
+    where
+      refused : (code : ℕ) → IsUnopened (action_of packet) code old new answer → IsRefused o.tree old.session packet code o.tree new.session answer
+      refused code u = record {
+        tree = refl;
+        session = ap (λ (h : HandlerState). h.session) u.same;
+        answered = u.answered ∙ (λ i. record { action = action_of packet; res1 = sym is.fails i; res2 = pos code; body = sym is.back i });
+      }
+
+      meaning : (u : Tree) (r : Option ℕ) → first_refusal (rows o.tree) ≡ r → MatchOption r (ServedOrNoMemory o.tree old.session packet now u new.session answer) (λ code. IsRefused o.tree old.session packet code u new.session answer) → Meaning o.tree old.session packet now u new.session answer
+      meaning u r e m = subst (λ (r : Option ℕ). MatchOption r (ServedOrNoMemory o.tree old.session packet now u new.session answer) (λ code. IsRefused o.tree old.session packet code u new.session answer)) (sym (is.row ∙ e)) m
+
+      unopened : (code : ℕ) → IsUnopened (action_of packet) code old new answer → Meaning o.tree old.session packet now o.tree new.session answer → HandlerGives old packet now new answer
+      unopened code u means = record {
+        old_tree = o.tree;
+        new_tree = o.tree;
+        stood = o.stood;
+        stands = subst (λ (h : HandlerState). Stands h.image o.tree) (sym u.same) o.stood;
+        means = means;
+        leaves = leaves_all o.tree old packet new answer (ap (λ (h : HandlerState). h.image) u.same);
+        validated = ap (λ (h : HandlerState). h.was_validated) u.same;
+      }
+
+      go : (r : Option ℕ) → first_refusal (rows o.tree) ≡ r → MatchOption r (IsOpened (action_of packet) (success o.tree) old new answer ⊎ IsUnopened (action_of packet) 103 old new answer) (λ code. IsUnopened (action_of packet) code old new answer) → HandlerGives old packet now new answer
+      go (Some code) e u = unopened code u (meaning o.tree (Some code) e (refused code u))
+      go None e (inr u) = unopened 103 u (meaning o.tree None e (inr (is.makes, refused 103 u)))
+      go None e (inl d) = record {
+        old_tree = o.tree;
+        new_tree = d.tree;
+        stood = o.stood;
+        stands = d.stands;
+        means = meaning d.tree None e (inl (record { success = is.serves _ d.success; action = d.action; res2 = d.res2 }));
+        leaves = record { boot = d.boot; rest = λ why. elim why [ inl other ↦ absurd (other d.res2) | inr quiet ↦ is.quiet quiet ] };
+        validated = d.validated;
+      }
+
+-- an opening that no refusal stands against, and that is done
+pub done_opens : (action : ℤ) (rows : Tree → List (Option ℕ)) (gives : Tree → After → Type 0) (old new : HandlerState) (answer : Answer) (t : Tree) → Stands old.image t → first_refusal (rows t) ≡ None
+    → IsOpened action (gives t) old new answer → Opens action rows gives old new answer
+done_opens action rows gives old new answer t stood none done = record {
+  tree = t;
+  stood = stood;
+  means = subst (λ (r : Option ℕ). MatchOption r (IsOpened action (gives t) old new answer ⊎ IsUnopened action 103 old new answer) (λ code. IsUnopened action code old new answer)) (sym none) (inl done);
+}
+
+-- ---- FINDINPUT
+
+module _ (old : HandlerState) (lock : ℕ) (path : List ℕ) (key : ℕ) (alive : old.session.died ≡ false) where
+  input_row : (t : Tree) → walked t old.session lock path ≡ Ok key → (refusal t old.session (FindInput lock path) ≡ first_refusal (open_refusals old.session key t)) × (object t old.session lock path ≡ key)
+  input_row t walk =
+      let s = old.session in
+      let w = walked_on t s lock path key (open_refusals s (object t s lock path) t) walk in
+      (ap (λ (b : Bool). first_refusal (refuse 218 b ∷ refusals t s (FindInput lock path))) alive ∙ w.0 ∙ ap (λ (k : ℕ). first_refusal (open_refusals s k t)) w.1, w.1)
+
+  pub input_gives : (there new : HandlerState) (answer : Answer) (now : Date3) → ((t : Tree) → Stands old.image t → walked t old.session lock path ≡ Ok key)
+      → there ≡ old → Opens (pos 1005) (open_refusals there.session key) (λ t left. GivesHandle t there.session key false left) there new answer → new.image ≡ there.image → HandlerGives old (FindInput lock path) now new answer
+  input_gives there new answer now walk same opens image =
+      let o = subst (λ (h : HandlerState). Opens (pos 1005) (open_refusals h.session key) (λ t left. GivesHandle t h.session key false left) h new answer) same opens in
+      let row = input_row o.tree (walk o.tree o.stood) in
+      opening_gives (FindInput lock path) now _ _ old new answer o (record {
+        fails = refl;
+        back = refl;
+        makes = refl;
+        row = row.0;
+        serves = λ left w. subst (λ (k : ℕ). GivesHandle o.tree old.session k false left) (sym row.1) w;
+        quiet = λ _. image ∙ ap (λ (h : HandlerState). h.image) same;
+      })
+
+-- ---- the handle
+
+module _ (action : ℤ) (key : ℕ) (exclusive : Bool) (s : Session) (ready held : FinMap nat_cmp HandleHold) (answer : Answer) (a : AnswersHandle action key exclusive ready held answer) (same : ready ≡ s.handles) where
+  added : held ≡ insert s.handles a.number (record { key = key; position = 0; exclusive = exclusive })
+  added = a.added ∙ ap (λ (m : FinMap nat_cmp HandleHold). insert m a.number (record { key = key; position = 0; exclusive = exclusive })) same
+
+  pub gives_handle : (u : Tree) → GivesHandle u s key exclusive (after u (record s { handles = held }) answer.res1 answer.body)
+  gives_handle u = (a.number, subst (λ (m : FinMap nat_cmp HandleHold). IsFreeNumber m a.number) same a.free, λ i. after u (record s { handles = added i }) (a.answered i).res1 (a.answered i).body)
+
+  -- the holds stay proper where nothing stands against the handle
+  pub proper_opened : (u : Tree) → IsProperSession u s → IsSome (u.nodes key) → is_file u key ≡ true → is_in_use s key exclusive ≡ false → IsProperSession u (record s { handles = held })
+  proper_opened u holds there file free =
+      subst (IsProperSession u) (λ i. record s { handles = sym added i }) (proper_with_handle u s holds a.number key exclusive there file (not_in_use s key exclusive free))

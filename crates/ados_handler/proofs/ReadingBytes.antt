@@ -1,0 +1,72 @@
+-- What READ means where it is not refused.
+use Rattle.std.proofs.Common.{◌≡◌, ℕ, ◌+◌, ◌-◌, ◌≤◌, min, pos, Bool, false, List, [], ◌∷◌, ◌++◌, length, take, drop, Some, None, refl, sym, ap, ap₂, ◌∙◌, subst, arith, length-append, length-take, length-drop}
+use Rattle.std.specs.Ordering.{nat_cmp}
+use Rattle.std.specs.FinMap.{FinMap, get}
+use Rattle.std.proofs.lemmas.List.{take_min}
+use Rattle.ados_name.specs.declared.Date3.{Date3}
+use Rattle.ados_name.specs.Protection.{denies_read}
+use Rattle.ados_tree.specs.Tree.{Tree, bytes_of, content_at, size_of}
+use Rattle.ados_tree.specs.Stands.{Stands}
+use Rattle.ados_packet.specs.declared.packet.Packet.TheVariants.{Read}
+use Rattle.ados_packet.specs.declared.answer.Answer.{Answer}
+use Rattle.ados_packet.specs.declared.answer.Body.TheVariants.{Buffer}
+use Rattle.ados_handler.specs.Session.{Session, at_position, handle_key}
+use Rattle.ados_handler.specs.declared.holds.HandleHold.{HandleHold}
+use Rattle.ados_handler.specs.Objects.{bytes_read, protection_of}
+use Rattle.ados_handler.specs.Refusals.{first_refusal, refuse, refusal}
+use Rattle.ados_handler.specs.Success.{after}
+use Rattle.ados_handler.specs.Meaning.{Meaning}
+use Rattle.ados_handler.specs.Handler.{HandlerGives, HandlerState}
+use Rattle.ados_handler.proofs.HandleFiles.{key_is, position_is, opened_on, gives_moved}
+use Rattle.ados_handler.proofs.Reading.{size_is}
+use Rattle.ados_handler.proofs.Sizes.{size_small}
+use Rattle.ados_handler.proofs.Meant.{served_means}
+
+module _ (t : Tree) (s : Session) (handle : ℕ) (buffer : List ℕ) (hold : HandleHold) (at : get s.handles handle ≡ Some hold)
+    (count : ℕ) (counted : count ≡ min (length buffer) (length (bytes_of t hold.key) - hold.position)) where
+  read_is : bytes_read t s handle buffer ≡ take count (drop hold.position (bytes_of t hold.key))
+  read_is =
+      let left : List ℕ = drop hold.position (bytes_of t hold.key) in
+      let most : count ≡ min (length buffer) (length left) = counted ∙ ap (min (length buffer)) (sym (length-drop hold.position (bytes_of t hold.key))) in
+      ap₂ (λ (p key : ℕ). take (length buffer) (drop p (bytes_of t key))) (position_is s handle hold at) (key_is s handle hold at)
+      ∙ sym (take_min (length buffer) left) ∙ ap (λ (n : ℕ). take n left) (sym most)
+
+  count_is : length (bytes_read t s handle buffer) ≡ count
+  count_is = ap length read_is ∙ omega (arith, counted, length-take count (drop hold.position (bytes_of t hold.key)), length-drop hold.position (bytes_of t hold.key))
+
+  pub read_means : (new : Session) (now : Date3) (filled : List ℕ) → s.died ≡ false → denies_read (protection_of t hold.key) ≡ false
+      → filled ≡ take count (drop hold.position (bytes_of t hold.key)) ++ drop count buffer → new ≡ at_position handle (hold.position + count) s
+      → Meaning t s (Read handle buffer) now t new (record { action = pos 82; res1 = pos count; res2 = pos 0; body = Buffer filled })
+  read_means new now filled alive readable bytes moved =
+      let denied = ap (λ (key : ℕ). denies_read (protection_of t key)) (key_is s handle hold at) ∙ readable in
+      let none : refusal t s (Read handle buffer) ≡ None =
+      opened_on s handle hold at alive (refuse 224 (denies_read (protection_of t (handle_key s handle))) ∷ [])
+      ∙ ap (λ (b : Bool). first_refusal (refuse 224 b ∷ [])) denied in
+      let moves = moved ∙ ap₂ (λ (p n : ℕ). at_position handle (p + n) s) (sym (position_is s handle hold at)) (sym count_is) in
+      let given = bytes ∙ ap₂ (λ (xs : List ℕ) (n : ℕ). xs ++ drop n buffer) (sym read_is) (sym count_is) in
+      served_means t t s new (Read handle buffer) now _ none
+      (record { success = λ i. after t (moves i) (pos (sym count_is i)) (Buffer (given i)); action = refl; res2 = refl })
+
+module _ (old given : HandlerState) (same : old ≡ given) (t : Tree) (stood : Stands old.image t) (handle : ℕ) (buffer : List ℕ) (hold : HandleHold) (at : get given.session.handles handle ≡ Some hold)
+    (count : ℕ) (counted : count ≡ min (length buffer) (length (bytes_of t hold.key) - hold.position)) where
+  pub read_gives : (filled : List ℕ) (handles : FinMap nat_cmp HandleHold) (answer : Answer) → old.session.died ≡ false → denies_read (protection_of t hold.key) ≡ false
+      → filled ≡ take count (drop hold.position (bytes_of t hold.key)) ++ drop count buffer
+      → handles ≡ (at_position handle (hold.position + count) old.session).handles → answer ≡ record { action = pos 82; res1 = pos count; res2 = pos 0; body = Buffer filled }
+      → (now : Date3) → HandlerGives given (Read handle buffer) now (record old { session = record old.session { handles = handles } }) answer
+  read_gives filled handles answer alive readable bytes moved answered now =
+      let new : Session = record old.session { handles = handles } in
+      let held = ap (λ (h : HandlerState). get h.session.handles handle) same ∙ at in
+      gives_moved old given same handles (Read handle buffer) answer t stood now
+      (subst (λ (a : Answer). Meaning t old.session (Read handle buffer) now t new a) (sym answered)
+      (read_means t old.session handle buffer hold held count counted new now filled alive readable bytes (λ i. record old.session { handles = moved i })))
+
+-- the bytes that are read end where a file can
+pub read_ends : (image : List ℕ) (t : Tree) → Stands image t → (key start room count : ℕ) → start ≤ size_of t key → count ≡ min room (length (bytes_of t key) - start) → start + count ≤ 52020224
+read_ends image t stands key start room count within counted =
+    omega (arith, within, counted, size_small image t stands key, size_is (content_at t key))
+
+-- a buffer keeps its length
+pub filled_length : (xs buffer filled : List ℕ) (start count : ℕ) → count ≡ min (length buffer) (length xs - start) → filled ≡ take count (drop start xs) ++ drop count buffer → length filled ≡ length buffer
+filled_length xs buffer filled start count counted is =
+    let whole = ap length is ∙ length-append (take count (drop start xs)) (drop count buffer) in
+    omega (arith, counted, whole, length-take count (drop start xs), length-drop start xs, length-drop count buffer)

@@ -1,0 +1,180 @@
+-- SET_FILE_SIZE.
+use Rattle.std.proofs.Common.{◌≡◌, MutBor, ℕ, ◌+◌, ◌-◌, ◌/◌, ◌<◌, ◌≤◌, ℤ, pos, Bool, true, false, cond, List, [], ◌∷◌, Option, Some, None, Result, Ok, Err, MatchOption, MatchResult, inl, inr, refl, sym, ap, ap₂, ◌∙◌, subst, arith, nat_lt, eq-eqb}
+use Rattle.std.specs.Prelude.{map, option_map}
+use Rattle.std.specs.Ordering.{nat_cmp}
+use Rattle.std.specs.Cmp.{nat_cmp_total}
+use Rattle.std.specs.FinMap as numbered
+use Rattle.std.specs.FinMap.{get, find, nat_cmp-IsAntisymmetric, get-from_sorted, get-from_entries, entries-from_sorted, same_map}
+use Rattle.std.proofs.lemmas.Bool.{eqb-true, false_from_ne_true, le-ltb, lt-ltb, ltb-true, ne_eqb, not-false}
+use Rattle.slab.specs.Slab.{Slab, RetainsFrom, entries_from}
+use Rattle.adf_block.specs.declared.Format.{Format}
+use Rattle.adf_block.specs.declared.Format.TheVariants.{Ofs, Ffs}
+use Rattle.ados_data.specs.Cost.{block_cost}
+use Rattle.ados_name.specs.declared.Date3.{Date3}
+use Rattle.ados_name.specs.Protection.{denies_write}
+use Rattle.ados_tree.specs.Tree.{Tree, free, size_of}
+use Rattle.ados_tree.specs.Stands.{Stands}
+use Rattle.ados_tree.specs.Kept.{Kept}
+use Rattle.ados_tree.specs.Change.{grown, shortened}
+use Rattle.ados_contents.specs.Renewed.{NeedsMore}
+use Rattle.ados_packet.specs.Packet.{dos_true}
+use Rattle.ados_packet.specs.declared.packet.Packet.{Packet}
+use Rattle.ados_packet.specs.declared.packet.Packet.TheVariants.{SetFileSize}
+use Rattle.ados_packet.specs.declared.answer.Answer.{Answer}
+use Rattle.ados_packet.specs.declared.answer.Body.TheVariants.{Empty}
+use Rattle.ados_handler.specs.declared.holds.HandleHold.{HandleHold}
+use Rattle.ados_handler.specs.Session.{handle_key, positions_within}
+use Rattle.ados_handler.specs.Table.{numbered_from_one}
+use Rattle.ados_handler.specs.Objects.{handle_target, is_bad_target, needs_more, protection_of, seek_target, target_number}
+use Rattle.ados_handler.specs.Refusals.{first_refusal, refusal, refuse}
+use Rattle.ados_handler.specs.Success.{after, resized}
+use Rattle.ados_handler.specs.Meaning.{IsRefused, ServedOrNoMemory}
+use Rattle.ados_handler.specs.Handler.{HandlerGives, HandlerState}
+use Rattle.ados_handler.proofs.Leaving.{leaves_all}
+use Rattle.ados_handler.proofs.Meant.{served_means}
+use Rattle.ados_handler.proofs.HandleFiles.{key_is, opened_on, position_is}
+use Rattle.ados_handler.proofs.Tables.{sorted_entries}
+
+-- a smaller size takes no more blocks
+cost_below : (format : Format) (a b : ℕ) → a ≤ b → block_cost format a ≤ block_cost format b
+cost_below Ofs a b h = let d : (a + 488 - 1) / 488 ≤ (b + 488 - 1) / 488 = omega arith in omega arith
+cost_below Ffs a b h = let d : (a + 512 - 1) / 512 ≤ (b + 512 - 1) / 512 = omega arith in omega arith
+
+pub needs_no_more : (t : Tree) (key size : ℕ) → size ≤ size_of t key → needs_more t key size ≡ false
+needs_no_more t key size h =
+    le-ltb (free t + block_cost t.format (size_of t key)) (block_cost t.format size) (omega (arith, cost_below t.format size (size_of t key) h))
+
+-- the three ways in which a file gets a size
+module _ (now : Date3) (key size : ℕ) (t : Tree) where
+  pub resized_same : size ≡ size_of t key → resized now key size t ≡ t
+  resized_same e = ap (λ (b : Bool). cond b t (cond (nat_lt size (size_of t key)) (shortened now key size t) (grown now key size t))) (eq-eqb size (size_of t key) e)
+
+  pub resized_shorter : size < size_of t key → resized now key size t ≡ shortened now key size t
+  resized_shorter h =
+      ap (λ (b : Bool). cond b t (cond (nat_lt size (size_of t key)) (shortened now key size t) (grown now key size t))) (ne_eqb size (size_of t key) (λ e. omega (arith, h, e)))
+      ∙ ap (λ (b : Bool). cond b (shortened now key size t) (grown now key size t)) (lt-ltb size (size_of t key) h)
+
+  pub resized_longer : size_of t key < size → resized now key size t ≡ grown now key size t
+  resized_longer h =
+      ap (λ (b : Bool). cond b t (cond (nat_lt size (size_of t key)) (shortened now key size t) (grown now key size t))) (ne_eqb size (size_of t key) (λ e. omega (arith, h, e)))
+      ∙ ap (λ (b : Bool). cond b (shortened now key size t) (grown now key size t)) (le-ltb size (size_of t key) (omega (arith, h)))
+
+-- what the answer of a growth says of the size
+pub full_or_grown : {A E : Type 0} (now : Date3) (key size : ℕ) (old new : List ℕ) (r : Result A E) (Same : Type 0)
+    → ((t : Tree) → Stands old t → size_of t key < size)
+    → MatchResult r (λ _. (t : Tree) → Stands old t → (¬ NeedsMore t key size) × Stands new (grown now key size t)) (λ _. Same × ((t : Tree) → Stands old t → NeedsMore t key size))
+    → MatchResult r (λ _. (t : Tree) → Stands old t → (needs_more t key size ≡ false) × Stands new (resized now key size t)) (λ _. Same × ((t : Tree) → Stands old t → needs_more t key size ≡ true))
+full_or_grown now key size old new (Ok x) Same longer done = λ t stands.
+    let d = done t stands in (
+      false_from_ne_true (needs_more t key size) (λ e. d.0 (ltb-true (free t + block_cost t.format (size_of t key)) (block_cost t.format size) e)),
+      subst (Stands new) (sym (resized_longer now key size t (longer t stands))) d.1,
+    )
+full_or_grown now key size old new (Err x) Same longer done =
+    (done.0, λ t stands. lt-ltb (free t + block_cost t.format (size_of t key)) (block_cost t.format size) (done.1 t stands))
+
+-- SET_FILE_SIZE by a handle that is held, on a file that may be written, of a handler that has not died
+module _ (old given : HandlerState) (same : old ≡ given) (t : Tree) (stood : Stands old.image t) (handle : ℕ) (offset mode : ℤ) (now : Date3) (hold : HandleHold) (at : get given.session.handles handle ≡ Some hold)
+    (alive : old.session.died ≡ false) (free : denies_write (protection_of t hold.key) ≡ false) (held : ℕ) (is : held ≡ size_of t hold.key) where
+  abbrev packet : Packet
+  packet = SetFileSize handle offset mode
+
+  abbrev target : Option ℤ
+  target = seek_target hold.position held offset mode
+
+  by_handle : get old.session.handles handle ≡ Some hold
+  by_handle = ap (λ (h : HandlerState). get h.session.handles handle) same ∙ at
+
+  file_is : handle_key old.session handle ≡ hold.key
+  file_is = key_is old.session handle hold by_handle
+
+  target_is : handle_target t old.session handle offset mode ≡ target
+  target_is = ap₂ (λ (p z : ℕ). seek_target p z offset mode) (position_is old.session handle hold by_handle) (ap (size_of t) file_is ∙ sym is)
+
+  row : (bad more : Bool) → is_bad_target 2147483647 target ≡ bad → needs_more t hold.key (target_number target) ≡ more → refusal t old.session packet ≡ first_refusal (refuse 219 bad ∷ refuse 221 more ∷ [])
+  row bad more b m =
+      let denied = ap (λ (k : ℕ). denies_write (protection_of t k)) file_is ∙ free in
+      let is_bad = ap (is_bad_target 2147483647) target_is ∙ b in
+      let needs = ap₂ (needs_more t) file_is (ap target_number target_is) ∙ m in
+      opened_on old.session handle hold by_handle alive
+      (refuse 223 (denies_write (protection_of t (handle_key old.session handle))) ∷ refuse 219 (is_bad_target 2147483647 (handle_target t old.session handle offset mode))
+      ∷ refuse 221 (needs_more t (handle_key old.session handle) (target_number (handle_target t old.session handle offset mode))) ∷ [])
+      ∙ (λ i. first_refusal (refuse 223 (denied i) ∷ refuse 219 (is_bad i) ∷ refuse 221 (needs i) ∷ []))
+
+  refused : (new : HandlerState) (answer : Answer) (code : ℕ) → refusal t old.session packet ≡ Some code → new ≡ old → answer ≡ record { action = pos 1022; res1 = pos 0; res2 = pos code; body = Empty } → HandlerGives given packet now new answer
+  refused new answer code first stays answered = subst (λ (h : HandlerState). HandlerGives h packet now new answer) same (record {
+    old_tree = t;
+    new_tree = t;
+    stood = stood;
+    stands = subst (λ (h : HandlerState). Stands h.image t) (sym stays) stood;
+    means = subst (λ (o : Option ℕ). MatchOption o (ServedOrNoMemory t old.session packet now t new.session answer) (λ c. IsRefused t old.session packet c t new.session answer)) (sym first)
+        (record { tree = refl; session = ap (λ (h : HandlerState). h.session) stays; answered = answered });
+    leaves = leaves_all t old packet new answer (ap (λ (h : HandlerState). h.image) stays);
+    validated = ap (λ (h : HandlerState). h.was_validated) stays;
+  })
+
+  -- the target is no size
+  pub bad_gives : (answer : Answer) → is_bad_target 2147483647 target ≡ true → answer ≡ record { action = pos 1022; res1 = pos 0; res2 = pos 219; body = Empty } → HandlerGives given packet now given answer
+  bad_gives answer bad answered = subst (λ (h : HandlerState). HandlerGives given packet now h answer) same (refused old answer 219 (row true _ bad refl) refl answered)
+
+  module _ (size : ℕ) (good : is_bad_target 2147483647 target ≡ false) (there : size ≡ target_number target) (new : HandlerState) (answer : Answer) where
+    size_is : target_number (handle_target t old.session handle offset mode) ≡ size
+    size_is = ap target_number target_is ∙ sym there
+
+    -- there is no room for it
+    pub full_gives : needs_more t hold.key size ≡ true → new ≡ old → answer ≡ record { action = pos 1022; res1 = pos 0; res2 = pos 221; body = Empty } → HandlerGives given packet now new answer
+    full_gives more stays answered = refused new answer 221 (row false true good (ap (needs_more t hold.key) (sym there) ∙ more)) stays answered
+
+    -- the file has it now
+    pub sized_gives : needs_more t hold.key size ≡ false → Stands new.image (resized now hold.key size t) → Kept old.image new.image
+        → (size ≡ size_of t hold.key → new.image ≡ old.image) → new.was_validated ≡ old.was_validated → new.session ≡ positions_within hold.key size old.session
+        → answer ≡ record { action = pos 1022; res1 = dos_true; res2 = pos 0; body = Empty } → HandlerGives given packet now new answer
+    sized_gives room stands kept stays validated holds answered =
+        let u = resized now hold.key size t in
+        subst (λ (h : HandlerState). HandlerGives h packet now new answer) same (record {
+          old_tree = t;
+          new_tree = u;
+          stood = stood;
+          stands = stands;
+          means = served_means t u old.session new.session packet now answer (row false false good (ap (needs_more t hold.key) (sym there) ∙ room)) (record {
+            success = (λ i. after u (holds i) (answered i).res1 (answered i).body)
+                ∙ (λ i. after (resized now (sym file_is i) (sym size_is i) t) (positions_within (sym file_is i) (sym size_is i) old.session) dos_true Empty);
+            action = ap (λ (a : Answer). a.action) answered;
+            res2 = ap (λ (a : Answer). a.res2) answered;
+          });
+          leaves = record {
+            boot = kept.boot;
+            rest = λ why. elim why [
+              | inl failed ↦ absurd (failed (ap (λ (a : Answer). a.res2) answered))
+              | inr none ↦ stays (sym size_is ∙ eqb-true _ _ (not-false _ none) ∙ ap (size_of t) file_is)
+            ];
+          };
+          validated = validated;
+        })
+
+-- ---- the handles of the file
+
+-- a slab whose values are each changed in place, by a closure that stays as it is
+module _ {T F : Type 0} (step : F → ℕ → MutBor T → Bool → MutBor T → F → Type 0) (change : T → T) (f : F)
+    (calls : (k : ℕ) (shown : MutBor T) (keep : Bool) (left : MutBor T) (next : F) → step f k shown keep left next → (keep ≡ true) × (left.now ≡ change shown.now) × (next ≡ f)) where
+  pub all_changed : (g : F) → g ≡ f → (k : ℕ) (slots kept : List (Option T)) → RetainsFrom step g k slots kept → kept ≡ map (option_map change) slots
+  all_changed g e k [] kept r = r
+  all_changed g e k (None ∷ rest) kept (later, is, more) = is ∙ ap (λ (l : List (Option T)). None ∷ l) (all_changed g e (k + 1) rest later more)
+  all_changed g e k (Some old ∷ rest) kept (keep, new, next, called, later, is, more) =
+      let c = calls k called.shown keep called.left next (subst (λ (y : F). step y k called.shown keep called.left next) e called.called) in
+      let changed : new ≡ change old = sym called.leaves ∙ c.1 ∙ ap change called.shows in
+      let others = all_changed next c.2 (k + 1) rest later more in
+      is ∙ (λ i. cond (c.0 i) (Some (changed i)) None ∷ others i)
+
+entries_changed : {T : Type 0} (f : T → T) (slots : List (Option T)) (i : ℕ) → entries_from i (map (option_map f) slots) ≡ map (λ e. (e.0, f e.1)) (entries_from i slots)
+entries_changed f [] i = refl
+entries_changed f (None ∷ rest) i = entries_changed f rest (i + 1)
+entries_changed f (Some x ∷ rest) i = ap (λ l. (i, f x) ∷ l) (entries_changed f rest (i + 1))
+
+-- has them changed under their numbers
+pub numbers_changed : {T : Type 0} (f : T → T) (old new : Slab T) → new.slots ≡ map (option_map f) old.slots
+    → numbered_from_one new ≡ numbered.from_entries (map (λ e. (e.0, f e.1)) (numbered.entries (numbered_from_one old)))
+numbers_changed f old new is = same_map nat_cmp_total nat_cmp-IsAntisymmetric _ _ (λ q.
+    get-from_sorted nat_cmp (entries_from 1 new.slots) q (sorted_entries new.slots 1)
+    ∙ ap (λ slots. find nat_cmp q (entries_from 1 slots)) is ∙ ap (find nat_cmp q) (entries_changed f old.slots 1)
+    ∙ ap (λ es. find nat_cmp q (map (λ e. (e.0, f e.1)) es)) (sym (entries-from_sorted nat_cmp (entries_from 1 old.slots) (sorted_entries old.slots 1)))
+    ∙ sym (get-from_entries nat_cmp_total (map (λ e. (e.0, f e.1)) (numbered.entries (numbered_from_one old))) q))

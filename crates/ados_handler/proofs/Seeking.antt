@@ -1,0 +1,46 @@
+-- What SEEK means where it is not refused.
+use Rattle.std.proofs.Common.{◌≡◌, ℕ, ℤ, pos, Bool, false, [], ◌∷◌, Option, Some, None, refl, sym, ap, ap₂, ◌∙◌, subst}
+use Rattle.std.specs.Ordering.{nat_cmp}
+use Rattle.std.specs.FinMap.{FinMap, get}
+use Rattle.ados_name.specs.declared.Date3.{Date3}
+use Rattle.ados_tree.specs.Tree.{Tree, size_of}
+use Rattle.ados_tree.specs.Stands.{Stands}
+use Rattle.ados_packet.specs.declared.packet.Packet.{Packet}
+use Rattle.ados_packet.specs.declared.packet.Packet.TheVariants.{Seek}
+use Rattle.ados_packet.specs.declared.answer.Answer.{Answer}
+use Rattle.ados_packet.specs.declared.answer.Body.TheVariants.{Empty}
+use Rattle.ados_handler.specs.Session.{Session, at_position, handle_key}
+use Rattle.ados_handler.specs.declared.holds.HandleHold.{HandleHold}
+use Rattle.ados_handler.specs.Objects.{handle_target, is_bad_target, seek_target, target_number}
+use Rattle.ados_handler.specs.Refusals.{first_refusal, refuse, refusal}
+use Rattle.ados_handler.specs.Success.{after}
+use Rattle.ados_handler.specs.Meaning.{Meaning}
+use Rattle.ados_handler.specs.Handler.{HandlerGives, HandlerState}
+use Rattle.ados_handler.proofs.HandleFiles.{key_is, position_is, opened_on, gives_moved}
+use Rattle.ados_handler.proofs.Meant.{served_means}
+
+module _ (old given : HandlerState) (same : old ≡ given) (t : Tree) (stood : Stands old.image t) (handle : ℕ) (offset mode : ℤ) (hold : HandleHold) (at : get given.session.handles handle ≡ Some hold)
+    (size : ℕ) (is : (u : Tree) → Stands given.image u → size ≡ size_of u hold.key) where
+  abbrev target : Option ℤ
+  target = seek_target hold.position size offset mode
+
+  pub seek_gives : (position : ℕ) (handles : FinMap nat_cmp HandleHold) (answer : Answer) → old.session.died ≡ false → is_bad_target size target ≡ false → position ≡ target_number target
+      → handles ≡ (at_position handle position old.session).handles → answer ≡ record { action = pos 1008; res1 = pos hold.position; res2 = pos 0; body = Empty }
+      → (now : Date3) → HandlerGives given (Seek handle offset mode) now (record old { session = record old.session { handles = handles } }) answer
+  seek_gives position handles answer alive good there moved answered now =
+      let s : Session = old.session in
+      let new : Session = record s { handles = handles } in
+      let packet : Packet = Seek handle offset mode in
+      let held = ap (λ (h : HandlerState). get h.session.handles handle) same ∙ at in
+      let stands = position_is s handle hold held in
+      let sized : size_of t (handle_key s handle) ≡ size = ap (size_of t) (key_is s handle hold held) ∙ sym (is t (subst (λ (h : HandlerState). Stands h.image t) same stood)) in
+      let leads : handle_target t s handle offset mode ≡ target = ap₂ (λ (p z : ℕ). seek_target p z offset mode) stands sized in
+      let none : refusal t s packet ≡ None =
+      opened_on s handle hold held alive (refuse 219 (is_bad_target (size_of t (handle_key s handle)) (handle_target t s handle offset mode)) ∷ [])
+      ∙ ap (λ (b : Bool). first_refusal (refuse 219 b ∷ [])) (ap₂ is_bad_target sized leads ∙ good) in
+      let arrives : position ≡ target_number (handle_target t s handle offset mode) = there ∙ sym (ap target_number leads) in
+      let moves : new ≡ at_position handle position s = λ i. record s { handles = moved i } in
+      let reached = moves ∙ ap (λ (p : ℕ). at_position handle p s) arrives in
+      gives_moved old given same handles packet answer t stood now
+      (subst (λ (a : Answer). Meaning t s packet now t new a) (sym answered)
+      (served_means t t s new packet now _ none (record { success = λ i. after t (reached i) (pos (sym stands i)) Empty; action = refl; res2 = refl })))

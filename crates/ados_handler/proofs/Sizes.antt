@@ -1,0 +1,49 @@
+-- A file has no more data blocks than the volume has blocks, so its size is below 2 ^ 31.
+use Rattle.std.proofs.Common.{◌≡◌, ◌≢◌, ℕ, suc, ◌<◌, ◌≤◌, inl, inr, List, [], ◌∷◌, true, eqb, length, slice_index, Some, sym, ap, ◌∙◌, subst, arith}
+use Rattle.std.proofs.lemmas.Bool.{ne_eqb, cases_eq}
+use Rattle.std.proofs.lemmas.Bool.Decides.{Decides-eqb}
+use Rattle.std.proofs.lemmas.List.{get_or_default}
+use Rattle.std.proofs.lemmas.Map.Made.{IsDistinct-from_AllPairs}
+use Rattle.std.proofs.lemmas.Map.Steps.{length-le_from_distinct_below}
+use Rattle.std.specs.List.{list_any}
+use Rattle.adf_block.specs.declared.Format.{Format}
+use Rattle.adf_block.specs.declared.Format.TheVariants.{Ofs, Ffs}
+use Rattle.ados_data.specs.Cost.{data_count}
+use Rattle.ados_tree.specs.Tree.{Tree, size_of}
+use Rattle.ados_tree.specs.Layout.{Duty}
+use Rattle.ados_tree.specs.Stands.{Stands}
+use Rattle.ados_tree.proofs.Standing.{slice_get-index}
+
+-- a number found in a list is below the bound of its elements
+below_bound : (xs : List ℕ) (n q : ℕ) → ((i : ℕ) → i < length xs → slice_index xs i < n) → list_any (eqb q) xs ≡ true → q < n
+below_bound [] n q small any = cc
+below_bound (x ∷ xs) n q small any = elim (cases_eq q x) [
+  | inl e ↦ omega (arith, e, small 0 (omega arith))
+  | inr ne ↦ below_bound xs n q (λ i l. small (suc i) (omega arith)) (rw (ne_eqb q x ne) at any)
+]
+
+-- so many data blocks hold at most so many bytes
+size_bound : (format : Format) (size blocks : ℕ) → data_count format size ≤ blocks → blocks ≤ 101602 → size ≤ 52020224
+size_bound Ofs size blocks fits small = omega arith
+size_bound Ffs size blocks fits small = omega arith
+
+module _ (image : List ℕ) (t : Tree) (s : Stands image t) (file : ℕ) where
+  -- the file's data blocks
+  abbrev data_blocks : List ℕ
+  data_blocks = s.layout.file_data file
+
+  serves_once : (i j : ℕ) → i < j → j < length data_blocks → slice_index data_blocks i ≢ slice_index data_blocks j
+  serves_once i j before within same =
+      let duty = s.fits.one_duty (slice_index data_blocks i) (Duty.Data file i) (Duty.Data file j) (slice_get-index data_blocks i (omega arith)) (slice_get-index data_blocks j within ∙ ap Some (sym same)) in
+      let places : i ≡ j = cc duty in
+      omega arith
+
+  few_blocks : length data_blocks ≤ t.blocks
+  few_blocks =
+      length-le_from_distinct_below data_blocks t.blocks
+      (IsDistinct-from_AllPairs Decides-eqb data_blocks (λ i j d l m e. serves_once i j l m (get_or_default data_blocks i 0 d (omega (arith, l, m)) ∙ e ∙ get_or_default data_blocks j d 0 m)))
+      (λ q any. below_bound data_blocks t.blocks q (λ i l. (s.fits.inside (slice_index data_blocks i) (Duty.Data file i) (slice_get-index data_blocks i l)).1) any)
+
+  -- 101,602 blocks hold at most 52,020,224 bytes
+  pub size_small : size_of t file ≤ 52020224
+  size_small = size_bound t.format (size_of t file) t.blocks (subst (λ (n : ℕ). n ≤ t.blocks) (s.fits.file_data file) few_blocks) s.proper.size.1

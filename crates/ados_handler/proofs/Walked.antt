@@ -1,0 +1,83 @@
+-- The walks of packets lead to nodes.
+use Rattle.std.proofs.Common.{◌≡◌, ℕ, Bool, true, false, cond, List, [], ◌∷◌, nat_eq, Option, Some, None, Result, Ok, Err, IsSome, is_some, refl, sym, ap, ◌∙◌}
+use Rattle.std.specs.Prelude.{◌||◌, ok_or, option_map}
+use Rattle.std.specs.Option.{option_map_or}
+use Rattle.std.specs.Result.{result_err, result_unwrap_or}
+use Rattle.std.specs.FinMap.{get}
+use Rattle.ados_name.specs.Path.{Step, is_from_root, steps}
+use Rattle.ados_name.specs.Path.Step.{ToParent, ToChild}
+use Rattle.ados_tree.specs.Tree.{Tree, Proper, root, entries, parent_of}
+use Rattle.ados_tree.specs.Walk.{and_then, child_of, is_file, missing_before, start_of, step_from, walk_steps}
+use Rattle.ados_tree.specs.declared.path_fault.WalkFault.{WalkFault}
+use Rattle.ados_tree.specs.declared.path_fault.WalkFault.TheVariants.{ObjectNotFound, WrongType}
+use Rattle.ados_tree.proofs.Nodes.{entry_node, directory_node}
+use Rattle.ados_volume.proofs.Walking.{find-is}
+use Rattle.ados_handler.specs.Session.{Session, is_lock}
+use Rattle.ados_handler.specs.declared.holds.LockHold.{LockHold}
+use Rattle.ados_handler.specs.Objects.{lock_key, found}
+use Rattle.ados_handler.specs.ProperSession.{IsProperSession}
+use Rattle.ados_handler.specs.ProperSession.HoldNumber.{ByLock}
+
+-- a result that has no error has its value
+pub no_error : {A E : Type 0} (number : E → ℕ) (r : Result A E) (d : A) → option_map number (result_err r) ≡ None → r ≡ Ok (result_unwrap_or r d)
+no_error number (Ok x) d e = refl
+no_error number (Err c) d e = absurd (cc e)
+
+ok_or_some : {E : Type 0} (o : Option ℕ) (fault : E) (key : ℕ) → ok_or o fault ≡ Ok key → o ≡ Some key
+ok_or_some None fault key e = absurd (cc e)
+ok_or_some (Some x) fault key e = cc e
+
+and_then_ok : {E : Type 0} (r : Result ℕ E) (rest : ℕ → Result ℕ E) (key : ℕ) → and_then r rest ≡ Ok key → (middle : ℕ) × (r ≡ Ok middle) × (rest middle ≡ Ok key)
+and_then_ok (Ok middle) rest key e = (middle, refl, e)
+and_then_ok (Err fault) rest key e = absurd (cc e)
+
+module _ (t : Tree) (proper : Proper t) where
+  pub root_is_key : IsSome (t.nodes (root t))
+  root_is_key = ap is_some proper.root_node.1
+
+  -- a child is a node, and so is a parent
+  pub child_is_key : (dir : ℕ) (name : List ℕ) (key : ℕ) → child_of t dir name ≡ Some key → IsSome (t.nodes key)
+  child_is_key dir name key e = ap is_some (entry_node t proper dir key (find-is _ (entries t dir) key e).0).1
+
+  pub parent_is_key : (key dir : ℕ) → parent_of t key ≡ Some dir → IsSome (t.nodes dir)
+  parent_is_key key dir e = ap is_some (directory_node t proper dir key ((proper.listed dir key).1 e)).2
+
+  step_key : (at : ℕ) (step : Step) (missing : WalkFault) (key : ℕ) → step_from t at step missing ≡ Ok key → IsSome (t.nodes key)
+  step_key at ToParent missing key e = parent_is_key at key (ok_or_some (parent_of t at) ObjectNotFound key e)
+  step_key at (ToChild name) missing key e = go (is_file t at) e
+    where
+      go : (b : Bool) → cond b (Err WrongType) (ok_or (child_of t at name) missing) ≡ Ok key → IsSome (t.nodes key)
+      go true e = absurd (cc e)
+      go false e = child_is_key at name key (ok_or_some (child_of t at name) missing key e)
+
+  -- steps from a node lead to a node
+  pub walk_key : (start : ℕ) (path : List Step) (last : WalkFault) (key : ℕ) → IsSome (t.nodes start) → walk_steps t start path last ≡ Ok key → IsSome (t.nodes key)
+  walk_key start [] last key there e = let same : start ≡ key = cc e in ap (λ k. is_some (t.nodes k)) (sym same) ∙ there
+  walk_key start (step ∷ rest) last key there e =
+      let first = and_then_ok (step_from t start step (missing_before rest last)) (λ next. walk_steps t next rest last) key e
+      in walk_key first.0 rest last key (step_key start step (missing_before rest last) first.0 first.1) first.2
+
+  module _ (s : Session) (session : IsProperSession t s) where
+    -- the object of a lock is a node
+    pub lock_is_key : (lock : ℕ) → is_lock s lock ≡ true → IsSome (t.nodes (lock_key t s lock))
+    lock_is_key lock held = go (nat_eq lock 0) held
+      where
+        at_lock : (o : Option LockHold) → get s.locks lock ≡ o → is_some o ≡ true → IsSome (t.nodes (option_map_or (λ l. l.key) o 0))
+        at_lock None e h = absurd (cc)
+        at_lock (Some l) e h = session.on_keys (ByLock lock) l.key l.exclusive (ap (option_map (λ l. (l.key, l.exclusive))) e)
+
+        go : (b : Bool) → b || is_some (get s.locks lock) ≡ true → IsSome (t.nodes (cond b (root t) (option_map_or (λ l. l.key) (get s.locks lock) 0)))
+        go true h = root_is_key
+        go false h = at_lock (get s.locks lock) refl h
+
+    -- where a path from it starts there is one
+    pub start_is_key : (lock : ℕ) (path : List ℕ) → is_lock s lock ≡ true → IsSome (t.nodes (start_of t (lock_key t s lock) path))
+    start_is_key lock path held = go (is_from_root path)
+      where
+        go : (b : Bool) → IsSome (t.nodes (cond b (root t) (lock_key t s lock)))
+        go true = root_is_key
+        go false = lock_is_key lock held
+
+    -- and where it leads
+    pub found_is_key : (lock : ℕ) (path : List ℕ) (key : ℕ) → is_lock s lock ≡ true → found t s lock path ≡ Ok key → IsSome (t.nodes key)
+    found_is_key lock path key held e = walk_key (start_of t (lock_key t s lock) path) (steps path) ObjectNotFound key (start_is_key lock path held) e

@@ -1,0 +1,118 @@
+-- What WRITE means where it is not refused.
+use Rattle.std.proofs.Common.{◌≡◌, ℕ, ◌+◌, ◌-◌, ◌≤◌, pos, Bool, true, false, List, [], ◌∷◌, ◌++◌, length, take, drop, Some, None, inl, inr, refl, sym, ap, ap₂, ◌∙◌, subst, arith, length-take, length-append, ltb-false}
+use Rattle.std.specs.Prelude.{max}
+use Rattle.std.specs.Ordering.{nat_cmp}
+use Rattle.std.specs.FinMap.{FinMap, get}
+use Rattle.std.proofs.lemmas.Bool.{le-ltb}
+use Rattle.std.proofs.lemmas.List.{nil_from_length}
+use Rattle.adf_block.specs.Image.{bytes_at}
+use Rattle.ados_data.specs.Cost.{block_cost}
+use Rattle.ados_name.specs.declared.Date3.{Date3}
+use Rattle.ados_name.specs.Protection.{denies_write}
+use Rattle.ados_tree.specs.Tree.{Tree, Proper, bytes_of, content_at, size_of}
+use Rattle.ados_tree.specs.Stands.{Stands}
+use Rattle.ados_tree.specs.Keys.{HasFileKey, HasTree}
+use Rattle.ados_tree.specs.Walk.{holds_file, is_file}
+use Rattle.ados_tree.specs.Change.{overlaid, written}
+use Rattle.ados_contents.specs.Renewed.{NeedsMore}
+use Rattle.ados_packet.specs.declared.packet.Packet.TheVariants.{Write}
+use Rattle.ados_packet.specs.declared.answer.Answer.{Answer}
+use Rattle.ados_packet.specs.declared.answer.Body.TheVariants.{Buffer}
+use Rattle.ados_handler.specs.Session.{Session, at_position, handle_key, handle_position}
+use Rattle.ados_handler.specs.declared.holds.HandleHold.{HandleHold}
+use Rattle.ados_handler.specs.Objects.{needs_more, protection_of}
+use Rattle.ados_handler.specs.Refusals.{first_refusal, refuse, refusal}
+use Rattle.ados_handler.specs.Success.{after}
+use Rattle.ados_handler.specs.Meaning.{Meaning}
+use Rattle.ados_handler.specs.Handler.{HandlerGives, HandlerState, LeavesImage}
+use Rattle.ados_handler.proofs.Reading.{size_is}
+use Rattle.ados_handler.proofs.Rewriting.{file_node, rewritten_size}
+use Rattle.ados_handler.proofs.HandleFiles.{key_is, position_is, opened_on}
+use Rattle.ados_handler.proofs.Sizes.{size_small}
+use Rattle.ados_handler.proofs.Meant.{served_means}
+
+module _ (t : Tree) (s : Session) (handle : ℕ) (bytes : List ℕ) (hold : HandleHold) (at : get s.handles handle ≡ Some hold) where
+  pub write_means : (new : Session) (now : Date3) (count : ℕ) → s.died ≡ false → denies_write (protection_of t hold.key) ≡ false
+      → ¬ NeedsMore t hold.key (max (size_of t hold.key) (hold.position + length bytes)) → count ≡ length bytes → new ≡ at_position handle (hold.position + length bytes) s
+      → Meaning t s (Write handle bytes) now (written now hold.key hold.position bytes t) new (record { action = pos 87; res1 = pos count; res2 = pos 0; body = Buffer bytes })
+  write_means new now count alive writable room counted moved =
+      let key = key_is s handle hold at in
+      let position = position_is s handle hold at in
+      let denied = ap (λ (k : ℕ). denies_write (protection_of t k)) key ∙ writable in
+      let more = ap₂ (λ (k p : ℕ). needs_more t k (max (size_of t k) (p + length bytes))) key position ∙ le-ltb _ _ (omega (arith, room)) in
+      let none : refusal t s (Write handle bytes) ≡ None =
+      opened_on s handle hold at alive (refuse 223 (denies_write (protection_of t (handle_key s handle))) ∷ refuse 221 (needs_more t (handle_key s handle) (max (size_of t (handle_key s handle)) (handle_position s handle + length bytes))) ∷ [])
+      ∙ ap₂ (λ (b c : Bool). first_refusal (refuse 223 b ∷ refuse 221 c ∷ [])) denied more in
+      let moves = moved ∙ ap (λ (p : ℕ). at_position handle (p + length bytes) s) (sym position) in
+      served_means t (written now hold.key hold.position bytes t) s new (Write handle bytes) now _ none
+      (record { success = λ i. after (written now (sym key i) (sym position i) bytes t) (moves i) (pos (counted i)) (Buffer bytes); action = refl; res2 = refl })
+
+-- what a WRITE that is served leaves of the image
+written_leaves : (t : Tree) (old new : HandlerState) (handle : ℕ) (bytes : List ℕ) (answer : Answer) → answer.res2 ≡ pos 0 → bytes_at new.image 0 0 1024 ≡ bytes_at old.image 0 0 1024 → (bytes ≡ [] → new.image ≡ old.image)
+    → LeavesImage t old (Write handle bytes) new answer
+written_leaves t old new handle bytes answer served boot empty = record {
+  boot = boot;
+  rest = λ why. elim why [
+    | inl refused ↦ absurd (refused served)
+    | inr none ↦ empty (nil_from_length bytes (omega (arith, ltb-false 0 (length bytes) none)))
+  ];
+}
+
+module _ (old given : HandlerState) (same : old ≡ given) (t : Tree) (stood : Stands old.image t) (handle : ℕ) (hold : HandleHold) (at : get given.session.handles handle ≡ Some hold) (now : Date3)
+    (bytes shown : List ℕ) (is : shown ≡ bytes) where
+  pub write_gives : (image : List ℕ) (validated : Bool) (handles : FinMap nat_cmp HandleHold) (end : ℕ) (answer : Answer) → old.session.died ≡ false → denies_write (protection_of t hold.key) ≡ false
+      → end ≡ hold.position + length shown
+      → (¬ NeedsMore t hold.key (max (size_of t hold.key) (hold.position + length shown))) × Stands image (written now hold.key hold.position shown t)
+      → bytes_at image 0 0 1024 ≡ bytes_at old.image 0 0 1024 → (shown ≡ [] → image ≡ old.image) → validated ≡ old.was_validated
+      → handles ≡ (at_position handle end old.session).handles → answer ≡ record { action = pos 87; res1 = pos (end - hold.position); res2 = pos 0; body = Buffer bytes }
+      → HandlerGives given (Write handle bytes) now (record { image = image; was_validated = validated; session = record old.session { handles = handles } }) answer
+  write_gives image validated handles end answer alive writable ends done boot empty kept moved answered =
+      let s : Session = old.session in
+      let new : HandlerState = record { image = image; was_validated = validated; session = record s { handles = handles } } in
+      let ended : end ≡ hold.position + length bytes = ends ∙ ap (λ (xs : List ℕ). hold.position + length xs) is in
+      let count : end - hold.position ≡ length bytes = omega (arith, ended) in
+      let held = ap (λ (h : HandlerState). get h.session.handles handle) same ∙ at in
+      let wrote = subst (λ (xs : List ℕ). (¬ NeedsMore t hold.key (max (size_of t hold.key) (hold.position + length xs))) × Stands image (written now hold.key hold.position xs t)) is done in
+      let moves : record s { handles = handles } ≡ at_position handle end s = λ i. record s { handles = moved i } in
+      let means = write_means t s handle bytes hold held (record s { handles = handles }) now (end - hold.position) alive writable wrote.0 count (moves ∙ ap (λ (p : ℕ). at_position handle p s) ended) in
+      subst (λ (h : HandlerState). HandlerGives h (Write handle bytes) now new answer) same (record {
+        old_tree = t;
+        new_tree = written now hold.key hold.position bytes t;
+        stood = stood;
+        stands = wrote.1;
+        means = subst (λ (a : Answer). Meaning t s (Write handle bytes) now (written now hold.key hold.position bytes t) (record s { handles = handles }) a) (sym answered) means;
+        leaves = written_leaves t old new handle bytes answer (ap (λ (a : Answer). a.res2) answered) boot (λ e. empty (is ∙ e));
+        validated = kept;
+      })
+
+-- behind a file's new bytes the file does not end
+written_reaches : (t : Tree) → Proper t → (now : Date3) (key start : ℕ) → is_file t key ≡ true → start ≤ size_of t key → (bytes : List ℕ) → start + length bytes ≤ size_of (written now key start bytes t) key
+written_reaches t proper now key start file within [] = omega (arith, within)
+written_reaches t proper now key start file within (c ∷ cs) =
+    let new : List ℕ = c ∷ cs in
+    let old : List ℕ = bytes_of t key in
+    let size = rewritten_size t proper key (file_node t key file) (overlaid start new old) now in
+    let whole = length-append (take start old ++ new) (drop (start + length new) old) in
+    let front = length-append (take start old) new in
+    omega (arith, size, whole, front, length-take start old, size_is (content_at t key), within)
+
+-- they end where a file can
+pub written_end : (old new : List ℕ) → HasTree old → (now : Date3) (key start : ℕ) → HasFileKey old key → ((t : Tree) → Stands old t → start ≤ size_of t key) → (bytes : List ℕ)
+    → ((t : Tree) → Stands old t → Stands new (written now key start bytes t)) → start + length bytes ≤ 52020224
+written_end old new (t, stands) now key start file within bytes stood =
+    let is : is_file t key ≡ true = ap holds_file (file t stands).1 in
+    let reaches = written_reaches t stands.proper now key start is (within t stands) bytes in
+    omega (arith, reaches, size_small new (written now key start bytes t) (stood t stands) key)
+
+-- to write no bytes there is room, and they change no tree
+pub written_none : (image : List ℕ) → HasTree image → (now : Date3) (key start : ℕ) → ((t : Tree) → Stands image t → start ≤ size_of t key) → (bytes : List ℕ) → length bytes ≡ 0
+    → (start ≡ start + length bytes) × (start ≤ 52020224)
+    × ((t : Tree) → Stands image t → (¬ NeedsMore t key (max (size_of t key) (start + length bytes))) × Stands image (written now key start bytes t))
+written_none image (u, stood) now key start within [] none = (
+  omega arith,
+  omega (arith, within u stood, size_small image u stood key),
+  λ t stands.
+      let same : max (size_of t key) (start + 0) ≡ size_of t key = omega (arith, within t stands) in
+      (λ more. omega (arith, more, ap (block_cost t.format) same), stands),
+)
+written_none image tree now key start within (c ∷ cs) none = absurd (omega (arith, none))

@@ -1,0 +1,97 @@
+use Rattle.std.proofs.Common.{◌≡◌, ◌<◌, ◌^◌, ℤ, [], pos, w32, not, true, sym, ap, ◌∙◌, subst, refl, arith, rules, to_z}
+use Rattle.std.specs.Prelude.{is_some}
+use Rattle.std.specs.FinMap.{FinMap, insert}
+use Rattle.std.specs.Ordering.{nat_cmp}
+use Rattle.std.proofs.lemmas.Bool.{true≢false}
+use Rattle.std.proofs.lemmas.Int.{to_z_pos}
+use Rattle.ados_name.specs.Name.{IsName}
+use Rattle.ados_tree.specs.Tree.Content.{Directory}
+use Rattle.ados_tree.specs.Stands.{Stands}
+use Rattle.ados_tree.specs.Kept.{Kept}
+use Rattle.ados_tree.specs.Change.{made}
+use Rattle.ados_volume.specs.Shown.{Shown}
+use Rattle.ados_packet.specs.declared.packet.Packet.TheVariants.{CreateDir}
+use Rattle.ados_packet.specs.declared.answer.Answer.{Answer}
+use Rattle.ados_packet.specs.declared.answer.Body.TheVariants.{Empty}
+use Rattle.ados_handler.specs.Session.{Session, IsFreeNumber, with_lock}
+use Rattle.ados_handler.specs.Meaning.{Meaning}
+use Rattle.ados_handler.specs.declared.holds.LockHold.{LockHold}
+use Rattle.ados_handler.specs.Objects.{lacks}
+use Rattle.ados_handler.specs.Handler.{HandlerState}
+use Rattle.ados_handler.proofs.Leaving.{leaves_boot}
+use Rattle.ados_handler.proofs.FreeBlock.{can_make_new, new_key, none_free_lacks, not_lacking}
+use Rattle.ados_handler.proofs.MakingDirectory.{create_dir_means, create_dir_sound}
+use Rattle.ados_handler.proofs.handler.Handler.create_dir.Goals as goal
+
+pub create-requires : goal.create-requires
+create-requires c = λ t s.
+    let opened = subst (λ (v : Shown). Stands v.image t) c.child.ensures.same s in
+    let stood = subst (λ (h : HandlerState). Stands h.image t) (c.self-2.view_is ∙ c.placed.ensures.same) opened in
+    let valid : IsName c.in-Ok.found.1 = search rules in
+    let none = ap is_some (sym (c.child.ensures.child t opened)) ∙ sym c.is_some.ensures ∙ c.if-is_some.false in
+    can_make_new t c.in-Ok.found.0 c.in-Ok.found.1 (c.in-Ok.ensures.directory t stood) valid none
+
+pub unreachable-requires : goal.unreachable-requires
+unreachable-requires c =
+    let t = c.self-2.invariant.tree in
+    let stands = subst (λ (v : Shown). Stands v.image t) (sym c.child.ensures.same) c.self-2.invariant.stands in
+    let lack = none_free_lacks c.child.new.self.image t stands c.in_default.ensures.done.0 in
+    true≢false (sym c.if-not-has_room.false ∙ c.has_room.ensures t stands ∙ ap not lack)
+
+pub returns : goal.returns
+returns c =
+    let same = c.self-2.view_is ∙ c.placed.ensures.same in
+    let t = c.self-2.invariant.tree in
+    let s = c.args.self.now.session in
+    let there = c.in-Ok.found in
+    let key = c.in-Ok-create.key in
+    let number = c.insert_reserved-number.result in
+    let opened = c.self-2.invariant.stands in
+    let stood = subst (λ (h : HandlerState). Stands h.image t) same opened in
+    let stands = subst (λ (v : Shown). Stands v.image t) (sym c.child.ensures.same) opened in
+    let alive = sym (ap (λ (h : HandlerState). h.session.died) c.self.view_is) ∙ c.if-self.false in
+    let place = sym (c.placed.ensures.place t stood) ∙ c.in-Ok.is in
+    let none = ap is_some (sym (c.child.ensures.child t opened)) ∙ sym c.is_some.ensures ∙ c.if-is_some.false in
+    let room = not_lacking (lacks t 1) (sym (c.has_room.ensures t stands) ∙ c.if-not-has_room.false) in
+    let fresh = new_key c.child.new.self.image t stands key c.in-Ok-create.ensures.done.0 in
+    let held : Session = record { locks = c.self-2.inside.locks.held; handles = c.self-2.inside.handles.held; died = c.self-2.inside.died } in
+    let kept : held ≡ s = ap (λ (h : HandlerState). h.session) same in
+    let locks = c.reserve.ensures.held ∙ ap (λ (x : Session). x.locks) kept in
+    let free = subst (λ (m : FinMap nat_cmp LockHold). IsFreeNumber m number) locks c.insert_reserved-number.ensures.free in
+    let new : Session = record { locks = c.insert_reserved-number.new.self.held; handles = c.self-2.inside.handles.held; died = c.self-2.inside.died } in
+    let more = c.insert_reserved-number.ensures.held ∙ ap (λ (m : FinMap nat_cmp LockHold). insert m number (record { key = key; exclusive = true })) locks in
+    let is : new ≡ with_lock number key true s = λ i. record { locks = more i; handles = (kept i).handles; died = (kept i).died } in
+    let small : number < 2 ^ 31 = omega (arith, free.1) in
+    let u = made c.args.now there.0 key there.1 (Directory []) t in
+    let answer : Answer = record { action = pos 22; res1 = to_z w32 number; res2 = pos 0; body = Empty } in
+    let kept_image = subst (λ (v : Shown). Kept v.image c.create.new.self.image) c.child.ensures.same c.create.ensures.kept in
+    record {
+      old_tree = t;
+      new_tree = u;
+      stood = stood;
+      stands = c.in-Ok-create.ensures.done.1 t stands;
+      means = subst (λ (z : ℤ). Meaning t s (CreateDir c.args.lock c.args.path) c.args.now u new (record { action = pos 22; res1 = z; res2 = pos 0; body = Empty })) (sym (to_z_pos w32 number small))
+          (create_dir_means t s new c.args.now there key number fresh free is c.args.lock c.args.path alive place none room);
+      leaves = leaves_boot t c.args.self.now (CreateDir c.args.lock c.args.path) _ answer (subst (λ (h : HandlerState). Kept h.image c.create.new.self.image) same kept_image) refl refl;
+      validated = c.create.ensures.validated ∙ ap (λ (v : Shown). v.was_validated) c.child.ensures.same ∙ ap (λ (h : HandlerState). h.was_validated) same;
+    }
+
+pub invariant_of-self-3 : goal.invariant_of-self-3
+invariant_of-self-3 c =
+    let same = c.self-2.view_is ∙ c.placed.ensures.same in
+    let t = c.self-2.invariant.tree in
+    let there = c.in-Ok.found in
+    let key = c.in-Ok-create.key in
+    let number = c.insert_reserved-number.result in
+    let opened = c.self-2.invariant.stands in
+    let stands = subst (λ (v : Shown). Stands v.image t) (sym c.child.ensures.same) opened in
+    let stood = subst (λ (h : HandlerState). Stands h.image t) same opened in
+    let none = ap is_some (sym (c.child.ensures.child t opened)) ∙ sym c.is_some.ensures ∙ c.if-is_some.false in
+    let valid : IsName there.1 = search rules in
+    let can = can_make_new t there.0 there.1 (c.in-Ok.ensures.directory t stood) valid none in
+    let held : Session = record { locks = c.self-2.inside.locks.held; handles = c.self-2.inside.handles.held; died = c.self-2.inside.died } in
+    let new : Session = record held { locks = c.insert_reserved-number.new.self.held } in
+    let free = subst (λ (m : FinMap nat_cmp LockHold). IsFreeNumber m number) c.reserve.ensures.held c.insert_reserved-number.ensures.free in
+    let more = c.insert_reserved-number.ensures.held ∙ ap (λ (m : FinMap nat_cmp LockHold). insert m number (record { key = key; exclusive = true })) c.reserve.ensures.held in
+    create_dir_sound t held new c.args.now there key number (new_key c.child.new.self.image t stands key c.in-Ok-create.ensures.done.0) free (λ i. record held { locks = more i })
+    c.create.new.self.image opened.proper c.self-2.invariant.holds can (c.in-Ok-create.ensures.done.1 t stands)

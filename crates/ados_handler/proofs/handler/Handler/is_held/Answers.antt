@@ -1,0 +1,17 @@
+use Rattle.std.proofs.Common.{nat_eq, ap, ◌∙◌, rules}
+use Rattle.ados_handler.specs.Session.{is_held}
+use Rattle.ados_handler.proofs.HeldObjects.{by_lock, by_handle}
+use Rattle.ados_handler.proofs.handler.Handler.is_held.Goals as goal
+
+pub returns-then-any : goal.returns-then-any
+returns-then-any c =
+    by_lock (λ hold. nat_eq hold.0 c.args.key) (record { locks = c.self.inside.locks.held; handles = c.self.inside.handles.held; died = c.self.inside.died }) c.any.result
+    (c.any.ensures (λ hold. nat_eq hold.key c.args.key) (λ x b answers. search rules)) c.if-any.true
+    ∙ ap (λ h. is_held h.session c.args.key) c.self.view_is
+
+pub returns-else-any : goal.returns-else-any
+returns-else-any c =
+    by_handle (λ hold. nat_eq hold.0 c.args.key) (record { locks = c.self.inside.locks.held; handles = c.self.inside.handles.held; died = c.self.inside.died }) c.any.result c.any-else-any.result
+    (c.any.ensures (λ hold. nat_eq hold.key c.args.key) (λ x b answers. search rules)) c.if-any.false
+    (c.any-else-any.ensures (λ hold. nat_eq hold.key c.args.key) (λ x b answers. search rules))
+    ∙ ap (λ h. is_held h.session c.args.key) c.self.view_is

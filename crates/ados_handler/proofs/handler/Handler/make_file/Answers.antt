@@ -1,0 +1,37 @@
+use Rattle.std.proofs.Common.{rules, ◌≡◌, false, arith, sym, ap, ◌∙◌, subst, to_z, of_z, w32}
+use Rattle.std.proofs.lemmas.Int.{ints}
+use Rattle.ados_name.specs.Name.{IsName}
+use Rattle.ados_tree.specs.Stands.{Stands}
+use Rattle.ados_handler.specs.Objects.{lacks}
+use Rattle.ados_handler.specs.Handler.{HandlerState}
+use Rattle.ados_handler.specs.Opening.{AnswersHandle}
+use Rattle.ados_handler.proofs.FreeBlock.{none_free_lacks, not_lacking}
+use Rattle.ados_handler.proofs.Holding.{true_false}
+use Rattle.ados_handler.proofs.MakingFile.{can_make_in, made_opens, made_sound}
+use Rattle.ados_handler.proofs.handler.Handler.make_file.Goals as goal
+
+pub create-requires : goal.create-requires
+create-requires c =
+    let valid : IsName c.args.name = search rules in
+    can_make_in c.args.self.now.image c.args.dir c.args.name c.requires.directory valid c.requires.new_name _ (ap (λ (h : HandlerState). h.image) c.self.view_is)
+
+pub unreachable-requires : goal.unreachable-requires
+unreachable-requires c =
+    let sound = c.self.invariant in
+    let room : lacks sound.tree 1 ≡ false = not_lacking _ (sym (c.has_room.ensures sound.tree (subst (λ (h : HandlerState). Stands h.image sound.tree) c.self.view_is sound.stands)) ∙ c.if-not-has_room.false) in
+    true_false (sym (none_free_lacks _ sound.tree sound.stands c.in_default.ensures.done.0) ∙ room)
+
+pub invariant_of-self-2 : goal.invariant_of-self-2
+invariant_of-self-2 c =
+    let valid : IsName c.args.name = search rules in
+    let can = can_make_in c.args.self.now.image c.args.dir c.args.name c.requires.directory valid c.requires.new_name _ (ap (λ (h : HandlerState). h.image) c.self.view_is) in
+    made_sound _ _ c.args.dir c.args.name c.args.now c.in-Ok.key c.in-Ok.ensures.done.0 _ c.in-Ok.ensures.done.1 _ c.args.exclusive _ _ _ c.opened.ensures c.reserve.ensures.held c.self.invariant can
+
+pub returns : goal.returns
+returns c =
+    let sound = c.self.invariant in
+    let room : lacks sound.tree 1 ≡ false = not_lacking _ (sym (c.has_room.ensures sound.tree (subst (λ (h : HandlerState). Stands h.image sound.tree) c.self.view_is sound.stands)) ∙ c.if-not-has_room.false) in
+    let same : to_z w32 (of_z w32 c.args.action) ≡ c.args.action = omega (arith, ints) in
+    let answers = subst (λ z. AnswersHandle z c.in-Ok.key c.args.exclusive c.reserve.new.self.held c.opened.new.handles.held c.opened.result) same c.opened.ensures in
+    made_opens _ _ c.args.dir c.args.name c.args.now c.in-Ok.key c.in-Ok.ensures.done.0 _ c.in-Ok.ensures.done.1 c.args.action c.args.exclusive _ _ _ answers c.reserve.ensures.held c.args.self.now _ c.self.view_is
+    sound.tree sound.stands room c.create.ensures.kept _ c.create.ensures.validated

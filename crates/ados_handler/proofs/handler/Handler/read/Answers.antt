@@ -1,0 +1,33 @@
+use Rattle.std.proofs.Common.{length, sym, ap, ◌∙◌, subst}
+use Rattle.std.proofs.lemmas.List.{with_items_is}
+use Rattle.ados_name.specs.Protection.{denies_read}
+use Rattle.ados_tree.specs.Tree.{bytes_of}
+use Rattle.ados_tree.specs.Stands.{Stands}
+use Rattle.ados_packet.specs.declared.packet.Packet.TheVariants.{Read}
+use Rattle.ados_handler.specs.Handler.{HandlerState}
+use Rattle.ados_handler.proofs.HandleFiles.{sound_moved}
+use Rattle.ados_handler.proofs.ReadingBytes.{filled_length, read_gives}
+use Rattle.ados_handler.proofs.handler.Handler.read.Goals as goal
+
+pub returns : goal.returns
+returns c =
+    let t = c.self.invariant.tree in
+    let hold = c.in-Some.hold in
+    let stands = c.self.invariant.stands in
+    let shown = subst (λ (h : HandlerState). Stands h.image t) c.self.view_is stands in
+    let vec = c.into_vec-bytes.result in
+    let was = c.deref_mut.ensures.value ∙ c.into_vec-bytes.ensures in
+    let count = c.read_some-count.ensures.count t stands in
+    let bytes = c.read_some-count.ensures.bytes t stands in
+    let long = filled_length (bytes_of t hold.key) c.deref_mut.result.now c.read_some-count.new.buffer hold.position c.read_some-count.result count bytes in
+    let full = with_items_is vec c.read_some-count.new.buffer (long ∙ ap length c.deref_mut.ensures.value ∙ sym vec.ok.0) in
+    let readable = ap denies_read (sym (c.file_protection.ensures t shown)) ∙ sym c.denies_read.ensures ∙ c.if-denies_read.false in
+    record {
+      gives =
+          read_gives _ c.args.self.now c.self.view_is t stands c.args.handle c.args.buffer hold (sym c.hold_of.ensures.hold ∙ c.in-Some.is)
+          c.read_some-count.result (rw was at count) c.from_vec.result c.set_position.new.self.held c.counted.result c.if-self.false readable
+          (c.from_vec.ensures ∙ full ∙ rw was at bytes) c.set_position.ensures.held c.counted.ensures;
+    }
+
+pub invariant_of-self : goal.invariant_of-self
+invariant_of-self c = sound_moved _ c.args.self.now c.self.view_is c.set_position.new.self.held (Read c.args.handle c.args.buffer) c.counted.result tt c.self.invariant (returns c).gives

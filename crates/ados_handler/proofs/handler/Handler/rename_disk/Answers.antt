@@ -1,0 +1,49 @@
+use Rattle.std.proofs.Common.{◌≡◌, ℕ, pos, List, Some, sym, ap, ◌∙◌, subst, refl}
+use Rattle.ados_name.specs.Name.{IsName, first_fault}
+use Rattle.ados_tree.specs.Stands.{Stands}
+use Rattle.ados_tree.specs.Kept.{Kept}
+use Rattle.ados_tree.specs.Change.{disk_renamed}
+use Rattle.ados_packet.specs.declared.packet.Packet.TheVariants.{RenameDisk}
+use Rattle.ados_packet.specs.declared.answer.Answer.{Answer}
+use Rattle.ados_handler.specs.Session.{Session}
+use Rattle.ados_handler.specs.Meaning.{Meaning}
+use Rattle.ados_handler.specs.Handler.{HandlerState, IsSoundHandler}
+use Rattle.ados_handler.proofs.Telling.{rename_disk_keeps}
+use Rattle.ados_handler.proofs.Leaving.{leaves_boot}
+use Rattle.ados_handler.proofs.Meant.{sound_after}
+use Rattle.ados_handler.proofs.Moving.{refused_gives}
+use Rattle.ados_handler.proofs.DiskNamed.{no_name_refused, rename_disk_means}
+use Rattle.ados_handler.proofs.handler.Handler.rename_disk.Goals as goal
+
+pub returns-in-Err : goal.returns-in-Err
+returns-in-Err c =
+    let t = c.self.invariant.tree in
+    let stood = subst (λ (h : HandlerState). Stands h.image t) c.self.view_is c.self.invariant.stands in
+    let alive = sym (ap (λ (h : HandlerState). h.session.died) c.self.view_is) ∙ c.if-self.false in
+    let fault : first_fault c.args.name ≡ Some c.in-Err.field-0 = ap first_fault (sym c.bytes.ensures.value) ∙ c.in-Err.ensures.fault in
+    refused_gives c.args.self.now c.args.self.now (RenameDisk c.args.name) c.args.now c.refused-in-Err.result t (pos 210) stood refl
+    (no_name_refused t c.args.self.now.session c.args.name c.in-Err.field-0 alive fault) c.refused-in-Err.ensures
+
+pub returns : goal.returns
+returns c =
+    let t = c.self.invariant.tree in
+    let alive = sym (ap (λ (h : HandlerState). h.session.died) c.self.view_is) ∙ c.if-self.false in
+    let held : Session = record { locks = c.self.inside.locks.held; handles = c.self.inside.handles.held; died = c.self.inside.died } in
+    let kept : held ≡ c.args.self.now.session = ap (λ (h : HandlerState). h.session) c.self.view_is in
+    let is = subst IsName c.bytes.ensures.value ((c.in-Ok.ensures.valid).0 refl) in
+    let text = c.in-Ok.ensures.ok ∙ c.bytes.ensures.value in
+    record {
+      old_tree = t;
+      new_tree = disk_renamed c.args.now c.args.name t;
+      stood = subst (λ (h : HandlerState). Stands h.image t) c.self.view_is c.self.invariant.stands;
+      stands = subst (λ (x : List ℕ). Stands c.rename_disk.new.self.image (disk_renamed c.args.now x t)) text (c.rename_disk.ensures.stands t c.self.invariant.stands);
+      means = subst (λ (a : Answer). Meaning t c.args.self.now.session (RenameDisk c.args.name) c.args.now (disk_renamed c.args.now c.args.name t) held a) (sym c.done.ensures)
+          (rename_disk_means t c.args.self.now.session held c.args.name c.args.now alive is kept);
+      leaves = leaves_boot t c.args.self.now (RenameDisk c.args.name) _ c.done.result (subst (λ (h : HandlerState). Kept h.image c.rename_disk.new.self.image) c.self.view_is c.rename_disk.ensures.kept) (ap (λ (a : Answer). a.res2) c.done.ensures) refl;
+      validated = c.rename_disk.ensures.validated ∙ ap (λ (h : HandlerState). h.was_validated) c.self.view_is;
+    }
+
+pub invariant_of-self : goal.invariant_of-self
+invariant_of-self c =
+    sound_after c.args.self.now _ (RenameDisk c.args.name) c.args.now c.done.result (rename_disk_keeps c.args.name c.bytes.ensures.valid)
+    (subst (λ (h : HandlerState). IsSoundHandler h.image h.session) c.self.view_is c.self.invariant) (returns c)

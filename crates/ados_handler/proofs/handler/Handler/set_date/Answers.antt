@@ -1,0 +1,41 @@
+use Rattle.std.proofs.Common.{◌≡◌, ◌≢◌, sym, ap, ◌∙◌, subst, refl}
+use Rattle.ados_tree.specs.Tree.{root}
+use Rattle.ados_tree.specs.Stands.{Stands}
+use Rattle.ados_tree.specs.Kept.{Kept}
+use Rattle.ados_tree.specs.Change.{with_date}
+use Rattle.ados_packet.specs.declared.packet.Packet.TheVariants.{SetDate}
+use Rattle.ados_packet.specs.declared.answer.Answer.{Answer}
+use Rattle.ados_handler.specs.Session.{Session}
+use Rattle.ados_handler.specs.Meaning.{Meaning}
+use Rattle.ados_handler.specs.Handler.{HandlerState, IsSoundHandler}
+use Rattle.ados_handler.proofs.Telling.{set_date_keeps}
+use Rattle.ados_handler.proofs.Leaving.{leaves_boot}
+use Rattle.ados_handler.proofs.Meant.{set_date_means, sound_after}
+use Rattle.ados_handler.proofs.handler.Handler.set_date.Goals as goal
+
+pub returns : goal.returns
+returns c =
+    let same = c.self-2.view_is ∙ c.walked.ensures.same in
+    let t = c.self-2.invariant.tree in
+    let stood = subst (λ (h : HandlerState). Stands h.image t) same c.self-2.invariant.stands in
+    let alive = sym (ap (λ (h : HandlerState). h.session.died) c.self.view_is) ∙ c.if-self.false in
+    let walk = sym (c.walked.ensures.walk t stood) ∙ c.in-Ok.is in
+    let other : c.in-Ok.key ≢ root t = λ e. c.if-key-root.false (e ∙ sym (c.root.ensures.root t c.self-2.invariant.stands)) in
+    let held : Session = record { locks = c.self-2.inside.locks.held; handles = c.self-2.inside.handles.held; died = c.self-2.inside.died } in
+    let kept : held ≡ c.args.self.now.session = ap (λ (h : HandlerState). h.session) same in
+    record {
+      old_tree = t;
+      new_tree = with_date c.args.now c.in-Ok.key c.args.date t;
+      stood = stood;
+      stands = c.set_date.ensures.stands t c.self-2.invariant.stands;
+      means = subst (λ (a : Answer). Meaning t c.args.self.now.session (SetDate c.args.lock c.args.path c.args.date) c.args.now (with_date c.args.now c.in-Ok.key c.args.date t) held a) (sym c.done.ensures)
+          (set_date_means t c.args.self.now.session held c.args.lock c.args.path c.args.now c.in-Ok.key alive walk other kept c.args.date);
+      leaves = leaves_boot t c.args.self.now (SetDate c.args.lock c.args.path c.args.date) _ c.done.result (subst (λ (h : HandlerState). Kept h.image c.set_date.new.self.image) same c.set_date.ensures.kept) (ap (λ (a : Answer). a.res2) c.done.ensures) refl;
+      validated = c.set_date.ensures.validated ∙ ap (λ (h : HandlerState). h.was_validated) same;
+    }
+
+pub invariant_of-self : goal.invariant_of-self
+invariant_of-self c =
+    let same = c.self-2.view_is ∙ c.walked.ensures.same in
+    sound_after c.args.self.now _ (SetDate c.args.lock c.args.path c.args.date) c.args.now c.done.result (set_date_keeps c.args.lock c.args.path c.args.date)
+    (subst (λ (h : HandlerState). IsSoundHandler h.image h.session) same c.self-2.invariant) (returns c)

@@ -1,0 +1,58 @@
+use Rattle.std.proofs.Common.{ℤ, w32, sym, ap, ap₂, ◌∙◌, subst}
+use Rattle.std.proofs.lemmas.Int.{to_z-of_z}
+use Rattle.ados_name.specs.Protection.{denies_write}
+use Rattle.ados_tree.specs.Stands.{Stands}
+use Rattle.ados_packet.specs.declared.packet.Packet.TheVariants.{SetFileSize}
+use Rattle.ados_handler.specs.Session.{Session}
+use Rattle.ados_handler.specs.Objects.{is_bad_target, seek_target, target_number}
+use Rattle.ados_handler.specs.Handler.{HandlerState, IsSoundHandler}
+use Rattle.ados_handler.proofs.Meant.{sound_after}
+use Rattle.ados_handler.proofs.Rewriting.{set_file_size_keeps}
+use Rattle.ados_handler.proofs.Resizing.{bad_gives, full_gives, sized_gives}
+use Rattle.ados_handler.proofs.handler.Handler.set_file_size.Goals as goal
+
+pub returns-in_default-number_within : goal.returns-in_default-number_within
+returns-in_default-number_within c =
+    let t = c.self.invariant.tree in
+    let shown = subst (λ (h : HandlerState). Stands h.image t) c.self.view_is c.self.invariant.stands in
+    let free = ap denies_write (sym (c.file_protection.ensures t shown)) ∙ sym c.denies_write.ensures ∙ c.if-denies_write.false in
+    let target = c.target_of-target.ensures ∙ ap₂ (λ (o m : ℤ). seek_target c.in-Some.hold.position c.file_size-held.result o m) (to_z-of_z w32 c.args.offset c.ranges.offset) (to_z-of_z w32 c.args.mode c.ranges.mode) in
+    bad_gives _ c.args.self.now c.self.view_is t c.self.invariant.stands c.args.handle c.args.offset c.args.mode c.args.now c.in-Some.hold (sym c.hold_of.ensures.hold ∙ c.in-Some.is) c.if-self.false free
+    c.file_size-held.result (c.file_size-held.ensures.size t shown) c.refused-in_default-number_within.result
+    (ap (is_bad_target 2147483647) (sym target) ∙ c.in_default-number_within.ensures) c.refused-in_default-number_within.ensures
+
+pub returns-in-Err : goal.returns-in-Err
+returns-in-Err c =
+    let t = c.self.invariant.tree in
+    let stands = c.self.invariant.stands in
+    let shown = subst (λ (h : HandlerState). Stands h.image t) c.self.view_is stands in
+    let free = ap denies_write (sym (c.file_protection.ensures t shown)) ∙ sym c.denies_write.ensures ∙ c.if-denies_write.false in
+    let target = c.target_of-target.ensures ∙ ap₂ (λ (o m : ℤ). seek_target c.in-Some.hold.position c.file_size-held.result o m) (to_z-of_z w32 c.args.offset c.ranges.offset) (to_z-of_z w32 c.args.mode c.ranges.mode) in
+    let held : Session = record { locks = c.self.inside.locks.held; handles = c.self.inside.handles.held; died = c.self.inside.died } in
+    let new : HandlerState = record { image = c.resize.new.volume.image; was_validated = c.resize.new.volume.was_validated; session = held } in
+    let full = c.in-Err.ensures.done in
+    full_gives _ c.args.self.now c.self.view_is t stands c.args.handle c.args.offset c.args.mode c.args.now c.in-Some.hold (sym c.hold_of.ensures.hold ∙ c.in-Some.is) c.if-self.false free
+    c.file_size-held.result (c.file_size-held.ensures.size t shown) c.in-Some-number_within.size
+    (ap (is_bad_target 2147483647) (sym target) ∙ c.in-Some-number_within.ensures.0) (c.in-Some-number_within.ensures.1 ∙ ap target_number target)
+    new c.refused-in-Err.result (full.1 t stands) (λ i. record { image = (full.0 i).image; was_validated = (full.0 i).was_validated; session = held }) c.refused-in-Err.ensures
+
+pub returns : goal.returns
+returns c =
+    let t = c.self.invariant.tree in
+    let stands = c.self.invariant.stands in
+    let shown = subst (λ (h : HandlerState). Stands h.image t) c.self.view_is stands in
+    let free = ap denies_write (sym (c.file_protection.ensures t shown)) ∙ sym c.denies_write.ensures ∙ c.if-denies_write.false in
+    let target = c.target_of-target.ensures ∙ ap₂ (λ (o m : ℤ). seek_target c.in-Some.hold.position c.file_size-held.result o m) (to_z-of_z w32 c.args.offset c.ranges.offset) (to_z-of_z w32 c.args.mode c.ranges.mode) in
+    let held : Session = record { locks = c.self.inside.locks.held; handles = c.keep_within.new.self.held; died = c.self.inside.died } in
+    let new : HandlerState = record { image = c.resize.new.volume.image; was_validated = c.resize.new.volume.was_validated; session = held } in
+    let sized = c.in-Ok.ensures.done t stands in
+    sized_gives _ c.args.self.now c.self.view_is t stands c.args.handle c.args.offset c.args.mode c.args.now c.in-Some.hold (sym c.hold_of.ensures.hold ∙ c.in-Some.is) c.if-self.false free
+    c.file_size-held.result (c.file_size-held.ensures.size t shown) c.in-Some-number_within.size
+    (ap (is_bad_target 2147483647) (sym target) ∙ c.in-Some-number_within.ensures.0) (c.in-Some-number_within.ensures.1 ∙ ap target_number target)
+    new c.done.result sized.0 sized.1 c.in-Ok.ensures.kept (c.in-Ok.ensures.same t stands) c.in-Ok.ensures.validated
+    (λ i. record { locks = c.self.inside.locks.held; handles = c.keep_within.ensures i; died = c.self.inside.died }) c.done.ensures
+
+pub invariant_of-self-2 : goal.invariant_of-self-2
+invariant_of-self-2 c =
+    sound_after c.args.self.now _ (SetFileSize c.args.handle c.args.offset c.args.mode) c.args.now c.done.result (set_file_size_keeps c.args.handle c.args.offset c.args.mode)
+    (subst (λ (h : HandlerState). IsSoundHandler h.image h.session) c.self.view_is c.self.invariant) (returns c)

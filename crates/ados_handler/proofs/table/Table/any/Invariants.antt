@@ -1,0 +1,14 @@
+use Rattle.std.proofs.Common.{◌≡◌, Bool, map}
+use Rattle.std.specs.Fn.{FnReturnsAt}
+use Rattle.std.specs.FinMap as numbered
+use Rattle.std.specs.List.{list_any}
+use Rattle.ados_handler.specs.Table.{IsTestBy}
+use Rattle.ados_handler.proofs.table.Table.any.Given as goal
+
+-- what a test finds among the values that are left is what it finds among all
+abbrev pub invariant-loop-value : goal.invariant-loop-value
+invariant-loop-value g l =
+    (goal.iterator-loop-value g).can_next l.value-iterator
+    × (goal.iterator-loop-value g).is_finite l.value-iterator
+    × ((passes : _ → Bool) → IsTestBy (FnReturnsAt g.F.Fn) l.test passes
+    → list_any passes (map (λ e. e.1) l.value-iterator) ≡ list_any passes (numbered.values l.self.held))

@@ -1,0 +1,15 @@
+pub use Rattle.ados_packet.specs.Packet
+pub mod Session
+pub mod ProperSession
+pub mod Objects
+pub mod Refusals
+pub mod Moves
+pub mod Success
+pub mod Meaning
+pub mod NewLock
+pub mod Keeps
+pub mod Closing
+pub mod Table
+pub mod Handler
+pub mod Closes
+pub mod Opening

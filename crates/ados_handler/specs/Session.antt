@@ -1,0 +1,105 @@
+-- The locks and handles that are held.
+use Rattle.std.specs.Prelude.{◌≡◌, ℕ, ◌≤◌, Bool, false, ◌==◌, ◌&&◌, ◌||◌, nat_lt, if◌then◌else◌, List, ◌++◌, map, length, None, refl}
+use Rattle.std.specs.List.{list_any}
+use Rattle.std.specs.Option.{option_map_or}
+use Rattle.std.specs.Ordering.{nat_cmp}
+use Rattle.std.specs.FinMap as numbered
+use Rattle.std.specs.Coded.{Coded, code_by, coded×, coded_ℕ, coded_bool}
+use Rattle.ados_handler.specs.declared.holds.LockHold.{LockHold}
+use Rattle.ados_handler.specs.declared.holds.HandleHold.{HandleHold}
+
+-- the locks and the handles, each by its number, and whether the handler has died. Locks and handles are numbered apart
+pub record Session : Type 0 where
+  pub locks : numbered.FinMap nat_cmp LockHold
+  pub handles : numbered.FinMap nat_cmp HandleHold
+  pub died : Bool
+
+-- that sessions can be seen by contracts, as a model asks
+abbrev pub lock_code : Coded LockHold
+lock_code =
+    code_by (ℕ × Bool) (coded× coded_ℕ coded_bool) (λ l. (l.key, l.exclusive))
+    (λ p. record { key = p.0; exclusive = p.1 }) (λ _. refl)
+
+abbrev pub handle_code : Coded HandleHold
+handle_code =
+    code_by (ℕ × (ℕ × Bool)) (coded× coded_ℕ (coded× coded_ℕ coded_bool)) (λ h. (h.key, (h.position, h.exclusive)))
+    (λ p. record { key = p.0; position = p.1.0; exclusive = p.1.1 }) (λ _. refl)
+
+abbrev pub session_code : Coded Session
+session_code =
+    code_by (numbered.FinMap nat_cmp LockHold × (numbered.FinMap nat_cmp HandleHold × Bool))
+    (coded× (numbered.code coded_ℕ lock_code) (coded× (numbered.code coded_ℕ handle_code) coded_bool))
+    (λ s. (s.locks, (s.handles, s.died)))
+    (λ p. record { locks = p.0; handles = p.1.0; died = p.1.1 }) (λ _. refl)
+
+-- no lock, no handle, and not dead
+abbrev pub opening_session : Session
+opening_session = record { locks = numbered.empty; handles = numbered.empty; died = false }
+
+-- every hold: the key of its object, and whether it is exclusive
+abbrev pub holds : Session → List (ℕ × Bool)
+holds s = map (λ l. (l.key, l.exclusive)) (numbered.values s.locks) ++ map (λ h. (h.key, h.exclusive)) (numbered.values s.handles)
+
+abbrev pub has_holds : Session → Bool
+has_holds s = nat_lt 0 (length (holds s))
+
+-- some hold is on the object
+abbrev pub is_held : Session → ℕ → Bool
+is_held s key = list_any (λ hold. hold.0 == key) (holds s)
+
+abbrev pub is_held_exclusively : Session → ℕ → Bool
+is_held_exclusively s key = list_any (λ hold. (hold.0 == key) && hold.1) (holds s)
+
+-- a shared hold is given where no exclusive one is on the object, and an exclusive one where there is none at all
+abbrev pub is_in_use : Session → ℕ → Bool → Bool
+is_in_use s key exclusive = if exclusive then is_held s key else is_held_exclusively s key
+
+-- 0 and the numbers of the locks that are held
+abbrev pub is_lock : Session → ℕ → Bool
+is_lock s lock = (lock == 0) || numbered.contains_key s.locks lock
+
+-- lock 0 is no hold, and so not exclusive
+abbrev pub is_exclusive_lock : Session → ℕ → Bool
+is_exclusive_lock s lock = if lock == 0 then false else option_map_or (λ l. l.exclusive) (numbered.get s.locks lock) false
+
+-- the numbers of the handles that are held
+abbrev pub is_handle : Session → ℕ → Bool
+is_handle s handle = numbered.contains_key s.handles handle
+
+-- the file of a handle that is held, and where it stands
+abbrev pub handle_key : Session → ℕ → ℕ
+handle_key s handle = option_map_or (λ h. h.key) (numbered.get s.handles handle) 0
+
+abbrev pub handle_position : Session → ℕ → ℕ
+handle_position s handle = option_map_or (λ h. h.position) (numbered.get s.handles handle) 0
+
+-- a number for a new lock or handle: positive, below 2 ^ 31 and not in use as such
+abbrev pub IsFreeNumber : {X : Type 0} → numbered.FinMap nat_cmp X → ℕ → Type 0
+IsFreeNumber held number = (1 ≤ number) × (number ≤ 2147483647) × (numbered.get held number ≡ None)
+
+-- a lock more, and a lock less
+abbrev pub with_lock : ℕ → ℕ → Bool → Session → Session
+with_lock number key exclusive s = record s { locks = numbered.insert s.locks number (record { key = key; exclusive = exclusive }) }
+
+abbrev pub without_lock : ℕ → Session → Session
+without_lock number s = record s { locks = numbered.remove s.locks number }
+
+-- a handle more, which stands at the beginning, and a handle less
+abbrev pub with_handle : ℕ → ℕ → Bool → Session → Session
+with_handle number key exclusive s = record s { handles = numbered.insert s.handles number (record { key = key; position = 0; exclusive = exclusive }) }
+
+abbrev pub without_handle : ℕ → Session → Session
+without_handle number s = record s { handles = numbered.remove s.handles number }
+
+-- a handle at another position
+abbrev pub at_position : ℕ → ℕ → Session → Session
+at_position handle position s =
+    record s { handles = option_map_or (λ h. numbered.insert s.handles handle (record h { position = position })) (numbered.get s.handles handle) s.handles }
+
+-- a handle of the file that stands behind this size stands at it; another one stays where it is
+abbrev pub within : ℕ → ℕ → HandleHold → HandleHold
+within key size h = if (h.key == key) && nat_lt size h.position then record h { position = size } else h
+
+-- no handle of the file stands behind its end
+abbrev pub positions_within : ℕ → ℕ → Session → Session
+positions_within key size s = record s { handles = numbered.from_entries (map (λ e. (e.0, within key size e.1)) (numbered.entries s.handles)) }

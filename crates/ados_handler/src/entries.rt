@@ -1,0 +1,87 @@
+//! Packets that make entries and take them away.
+
+ghost use Rattle.std.specs.Prelude.{◌≡◌, not};
+ghost use Rattle.ados_tree.specs.Keys.{HasKey};
+ghost use Rattle.ados_tree.specs.Tree.{Tree, entries};
+ghost use Rattle.ados_tree.specs.Stands.{Stands};
+ghost use Rattle.ados_packet.specs.declared.packet.Packet.TheVariants.{CreateDir, DeleteObject};
+ghost use Rattle.ados_handler.specs.Refusals.{is_empty};
+ghost use Rattle.ados_handler.specs.Handler.{HandlerGives};
+
+use crate::handler::Handler;
+use crate::holds::LockHold;
+use ados_name::{Date3, PathText};
+use ados_packet::{Answer, Body};
+use ados_volume::{Next, NodeKind};
+
+impl Handler {
+    /// DELETE_OBJECT.
+    pub(crate) fn delete_object(&mut self, lock: u32, path: PathText, now: Date3) -> Answer
+        ensures { HandlerGives self.old (DeleteObject lock path) now self.new result }
+    {
+        if self.died {
+            return Answer::refused(16, 218);
+        }
+        let key = match self.walked(lock, &path) {
+            Ok(key) => key,
+            Err(error) => return Answer::refused(16, error),
+        };
+        if key == self.volume.root() {
+            return Answer::refused(16, 212);
+        }
+        if self.is_held(key) {
+            return Answer::refused(16, 202);
+        }
+        if self.has_entries(key) {
+            return Answer::refused(16, 216);
+        }
+        if self.volume.examine(key).protection.denies_delete() {
+            return Answer::refused(16, 222);
+        }
+        self.volume.remove(key, now);
+        Answer::done(16, Body::Empty)
+    }
+
+    /// CREATE_DIR. The new lock is exclusive.
+    pub(crate) fn create_dir(&mut self, lock: u32, path: PathText, now: Date3) -> Answer
+        ensures { HandlerGives self.old (CreateDir lock path) now self.new result }
+    {
+        if self.died {
+            return Answer::refused(22, 218);
+        }
+        let (dir, name) = match self.placed(lock, &path) {
+            Ok(found) => found,
+            Err(error) => return Answer::refused(22, error),
+        };
+        if self.volume.child(dir, &name).is_some() {
+            return Answer::refused(22, 203);
+        }
+        if !self.has_room() {
+            return Answer::refused(22, 221);
+        }
+        if self.locks.reserve().is_err() {
+            return Answer::refused(22, 103);
+        }
+        let Ok(key) = self.volume.create(dir, name, NodeKind::Directory, now) else {
+            unreachable!()
+        };
+        let number = self.locks.insert_reserved(LockHold {
+            key,
+            exclusive: true,
+        });
+        Answer {
+            action: 22,
+            res1: number as i32,
+            res2: 0,
+            body: Body::Empty,
+        }
+    }
+
+    /// Whether the object is a directory with entries.
+    fn has_entries(&self, key: u32) -> bool
+        requires { HasKey self.now.image key }
+        ensures { (t : Tree) → Stands self.now.image t → result ≡ not (is_empty (entries t key)) }
+    {
+        !self.volume.is_file(key) && self.volume.next(key, key) != Next::End
+    }
+}

@@ -1,0 +1,69 @@
+//! The handler: a volume, the locks and handles on it, and whether it has died.
+
+ghost use Rattle.std.specs.Prelude.{◌≡◌};
+ghost use Rattle.ados_handler.specs.Session.{opening_session};
+
+use crate::holds::{HandleHold, LockHold};
+use crate::table::Table;
+use ados_volume::Volume;
+use std::alloc::Global;
+use std::marker::Model;
+
+/// A handler over a volume. Contracts see the volume's image and the holds, and speak of the tree that the image stands for.
+#[derive(Drop)]
+pub struct Handler {
+    pub(crate) volume: Volume,
+    pub(crate) locks: Table<LockHold>,
+    pub(crate) handles: Table<HandleHold>,
+    pub(crate) died: bool,
+}
+
+impl Model for Handler {
+    ghost use Rattle.ados_handler.specs.Handler.{HandlerState, IsSoundHandler, handler_code};
+
+    ghost Value = { HandlerState };
+
+    ghost coded = { handler_code };
+
+    ghost view = { λ h. record { image = h.volume.image; was_validated = h.volume.was_validated; session = record { locks = h.locks.held; handles = h.handles.held; died = h.died } } };
+
+    ghost invariant = { λ h. IsSoundHandler h.volume.image (record { locks = h.locks.held; handles = h.handles.held; died = h.died }) };
+}
+
+impl Handler {
+    /// A handler with no locks and handles. The allocator is kept for them.
+    pub fn new(alloc: Global, volume: Volume) -> Handler
+        ensures image { result.image ≡ volume.image }
+        ensures validated { result.was_validated ≡ volume.was_validated }
+        ensures session { result.session ≡ opening_session }
+    {
+        prove!(volume.image().blocks() >= 16);
+        Handler {
+            volume,
+            locks: Table::new(alloc),
+            handles: Table::new(alloc),
+            died: false,
+        }
+    }
+
+    /// Whether a DIE was served. It is never taken back.
+    pub fn died(&self) -> bool
+        ensures { result ≡ self.now.session.died }
+    {
+        self.died
+    }
+
+    pub fn volume(&self) -> &Volume
+        ensures image { result.now.image ≡ self.now.image }
+        ensures validated { result.now.was_validated ≡ self.now.was_validated }
+    {
+        &self.volume
+    }
+
+    pub fn into_volume(self) -> Volume
+        ensures image { result.image ≡ self.image }
+        ensures validated { result.was_validated ≡ self.was_validated }
+    {
+        self.volume
+    }
+}

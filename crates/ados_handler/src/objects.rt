@@ -1,0 +1,80 @@
+//! What locks and paths lead to.
+
+ghost use Rattle.std.specs.Prelude.{◌≡◌, IfOk, IfSome, pos};
+ghost use Rattle.ados_tree.specs.Keys.{HasDirectory, HasKey};
+ghost use Rattle.ados_tree.specs.Tree.{Tree};
+ghost use Rattle.ados_tree.specs.Stands.{Stands};
+ghost use Rattle.ados_handler.specs.Objects.{lock_object, place_error, placed_at, walk_error, walked};
+
+use crate::handler::Handler;
+use ados_name::{Name, PathText};
+use ados_tree::{PlaceFault, WalkFault};
+
+impl Handler {
+    /// The object of a lock, where it is one.
+    pub(crate) fn object_of(&self, lock: u32) -> Option<u32>
+        ensures object { (t : Tree) → Stands self.now.image t → result ≡ lock_object t self.now.session lock }
+        ensures key { IfSome result (λ key. HasKey self.now.image key) }
+    {
+        if lock == 0 {
+            return Some(self.volume.root());
+        }
+        match self.locks.get(lock) {
+            Some(hold) => Some(hold.key),
+            None => None,
+        }
+    }
+
+    /// The object of a path from a lock, or the DOS error number.
+    pub(crate) fn walked(&mut self, lock: u32, path: &PathText) -> Result<u32, i32>
+        ensures walk { (t : Tree) → Stands self.old.image t → result ≡ walked t self.old.session lock path.now }
+        ensures key { IfOk result (λ key. HasKey self.old.image key) }
+        ensures same { self.new ≡ self.old }
+    {
+        let Some(start) = self.object_of(lock) else {
+            return Err(211);
+        };
+        match self.volume.walk(start, path) {
+            Ok(key) => Ok(key),
+            Err(fault) => Err(walk_error(fault)),
+        }
+    }
+
+    /// The directory and the name that a path from a lock names as a place, or the DOS error number.
+    pub(crate) fn placed(&mut self, lock: u32, path: &PathText) -> Result<(u32, Name), i32>
+        ensures place { (t : Tree) → Stands self.old.image t → result ≡ placed_at t self.old.session lock path.now }
+        ensures directory { IfOk result (λ found. HasDirectory self.old.image found.0) }
+        ensures same { self.new ≡ self.old }
+    {
+        let Some(start) = self.object_of(lock) else {
+            return Err(211);
+        };
+        match self.volume.place(start, path) {
+            Ok(found) => Ok(found),
+            Err(fault) => Err(place_error(fault)),
+        }
+    }
+}
+
+/// The DOS error number of a walk that ends at no object.
+fn walk_error(fault: WalkFault) -> i32
+    ensures { result ≡ pos (walk_error fault) }
+{
+    match fault {
+        WalkFault::DirectoryNotFound => 204,
+        WalkFault::ObjectNotFound => 205,
+        WalkFault::WrongType => 212,
+    }
+}
+
+/// The DOS error number of a path that names no place.
+fn place_error(fault: PlaceFault) -> i32
+    ensures { result ≡ pos (place_error fault) }
+{
+    match fault {
+        PlaceFault::DirectoryNotFound => 204,
+        PlaceFault::ObjectNotFound => 205,
+        PlaceFault::WrongType => 212,
+        PlaceFault::InvalidName => 210,
+    }
+}

@@ -1,0 +1,104 @@
+//! Packets that open files to be written.
+
+ghost use Rattle.std.specs.Prelude.{◌≡◌, [], None, pos, true};
+ghost use Rattle.ados_tree.specs.Tree.{Tree};
+ghost use Rattle.ados_tree.specs.Keys.{HasDirectory, HasKey};
+ghost use Rattle.ados_tree.specs.Stands.{Stands};
+ghost use Rattle.ados_tree.specs.Walk.{child_of};
+ghost use Rattle.ados_tree.specs.Change.{rewritten};
+ghost use Rattle.ados_packet.specs.declared.packet.Packet.TheVariants.{FindOutput, FindUpdate};
+ghost use Rattle.ados_handler.specs.Handler.{HandlerGives};
+ghost use Rattle.ados_handler.specs.Opening.{Opens, empty_refusals, make_refusals};
+ghost use Rattle.ados_handler.specs.Success.{GivesHandle, MakesFile};
+
+use crate::files::opened;
+use crate::handler::Handler;
+use ados_name::{Date3, Name, PathText};
+use ados_packet::Answer;
+use ados_volume::NodeKind;
+
+impl Handler {
+    /// FINDUPDATE.
+    pub(crate) fn find_update(&mut self, lock: u32, path: PathText, now: Date3) -> Answer
+        ensures { HandlerGives self.old (FindUpdate lock path) now self.new result }
+    {
+        if self.died {
+            return Answer::refused(1004, 218);
+        }
+        let (dir, name) = match self.placed(lock, &path) {
+            Ok(found) => found,
+            Err(error) => return Answer::refused(1004, error),
+        };
+        match self.volume.child(dir, &name) {
+            Some(key) => self.open_file(1004, key),
+            None => self.make_file(1004, dir, name, false, now),
+        }
+    }
+
+    /// FINDOUTPUT.
+    pub(crate) fn find_output(&mut self, lock: u32, path: PathText, now: Date3) -> Answer
+        ensures { HandlerGives self.old (FindOutput lock path) now self.new result }
+    {
+        if self.died {
+            return Answer::refused(1006, 218);
+        }
+        let (dir, name) = match self.placed(lock, &path) {
+            Ok(found) => found,
+            Err(error) => return Answer::refused(1006, error),
+        };
+        match self.volume.child(dir, &name) {
+            Some(key) => self.empty_file(key, now),
+            None => self.make_file(1006, dir, name, true, now),
+        }
+    }
+
+    /// The answer of FINDOUTPUT with an exclusive handle on a file, which is emptied.
+    fn empty_file(&mut self, key: u32, now: Date3) -> Answer
+        requires { HasKey self.old.image key }
+        ensures { Opens (pos 1006) (empty_refusals self.old.session key) (λ t left. GivesHandle (rewritten now key [] t) self.old.session key true left) self.old self.new result }
+    {
+        if !self.volume.is_file(key) {
+            return Answer::refused(1006, 212);
+        }
+        if self.is_in_use(key, true) {
+            return Answer::refused(1006, 202);
+        }
+        let protection = self.file_protection(key);
+        if protection.denies_delete() {
+            return Answer::refused(1006, 222);
+        }
+        if protection.denies_write() {
+            return Answer::refused(1006, 223);
+        }
+        if self.handles.reserve().is_err() {
+            return Answer::refused(1006, 103);
+        }
+        self.volume.cut(key, 0, now);
+        opened(&mut self.handles, 1006, key, true)
+    }
+
+    /// The answer with a handle on a new file, under a name that its directory does not have.
+    fn make_file(
+        &mut self,
+        action: i32,
+        dir: u32,
+        name: Name,
+        exclusive: bool,
+        now: Date3,
+    ) -> Answer
+        requires directory { HasDirectory self.old.image dir }
+        requires new_name { (t : Tree) → Stands self.old.image t → child_of t dir name ≡ None }
+        ensures { Opens action make_refusals (λ t left. MakesFile t self.old.session dir name exclusive now left) self.old self.new result }
+    {
+        if !self.has_room() {
+            return Answer::refused(action, 221);
+        }
+        if self.handles.reserve().is_err() {
+            return Answer::refused(action, 103);
+        }
+        let Ok(key) = self.volume.create(dir, name, NodeKind::File, now) else {
+            unreachable!()
+        };
+        opened(&mut self.handles, action, key, exclusive)
+    }
+}

@@ -1,0 +1,113 @@
+//! The handler as a server of packets.
+
+ghost use Rattle.ados_name.specs.declared.Date3.{Date3 as Moment};
+ghost use Rattle.ados_packet.specs.declared.packet.Packet.TheVariants.{Die, Other};
+ghost use Rattle.ados_handler.specs.Handler.{HandlerGives};
+
+use crate::handler::Handler;
+use ados_name::Date3;
+use ados_packet::{Answer, Body, Packet};
+use ados_server::Server;
+
+impl Handler {
+    /// DIE, which waits until nothing is held.
+    pub(crate) fn die(&mut self) -> Answer
+        ensures gives { (now : Moment) → HandlerGives self.old Die now self.new result }
+    {
+        if self.died {
+            return Answer::refused(5, 218);
+        }
+        if !self.locks.is_empty() || !self.handles.is_empty() {
+            return Answer::refused(5, 202);
+        }
+        self.died = true;
+        Answer::done(5, Body::Empty)
+    }
+
+    /// A packet whose action is not known.
+    pub(crate) fn unknown(&self, action: i32) -> Answer
+        ensures { (now : Moment) → HandlerGives self.now (Other action) now self.now result }
+    {
+        if self.died {
+            return Answer::refused(action, 218);
+        }
+        Answer::refused(action, 209)
+    }
+}
+
+impl Server for Handler {
+    ghost use Rattle.ados_handler.specs.Meaning.{is_closing};
+    ghost use Rattle.ados_handler.specs.Closes.{serves_dead, serves_closing};
+
+    type Request = Packet;
+
+    type Reply = Answer;
+
+    type Moment = Date3;
+
+    ghost gives = { HandlerGives };
+
+    ghost has_died = { λ handler. handler.session.died };
+
+    ghost is_closing = { is_closing };
+
+    fn serve(&mut self, packet: Packet, now: Date3) -> Answer {
+        match packet {
+            Packet::Die => self.die(),
+            Packet::LocateObject { lock, path, mode } => self.locate_object(lock, path, mode),
+            Packet::RenameDisk { name } => self.rename_disk(name, now),
+            Packet::FreeLock { lock } => self.free_lock(lock),
+            Packet::DeleteObject { lock, path } => self.delete_object(lock, path, now),
+            Packet::RenameObject {
+                from_lock,
+                from,
+                to_lock,
+                to,
+            } => self.rename_object(from_lock, from, to_lock, to, now),
+            Packet::CopyDir { lock } => self.copy_dir(lock),
+            Packet::SetProtect { lock, path, bits } => self.set_protect(lock, path, bits, now),
+            Packet::CreateDir { lock, path } => self.create_dir(lock, path, now),
+            Packet::ExamineObject { lock } => self.examine_object(lock),
+            Packet::ExamineNext { lock, key } => self.examine_next(lock, key),
+            Packet::DiskInfo => self.disk_info(),
+            Packet::Info { lock } => self.info(lock),
+            Packet::SetComment {
+                lock,
+                path,
+                comment,
+            } => self.set_comment(lock, path, comment, now),
+            Packet::Parent { lock } => self.parent(lock),
+            Packet::SetDate { lock, path, date } => self.set_date(lock, path, date, now),
+            Packet::SameLock { first, second } => self.same_lock(first, second),
+            Packet::Read { handle, buffer } => self.read(handle, buffer),
+            Packet::Write { handle, bytes } => self.write(handle, bytes, now),
+            Packet::FindUpdate { lock, path } => self.find_update(lock, path, now),
+            Packet::FindInput { lock, path } => self.find_input(lock, path),
+            Packet::FindOutput { lock, path } => self.find_output(lock, path, now),
+            Packet::End { handle } => self.end_handle(handle),
+            Packet::Seek {
+                handle,
+                offset,
+                mode,
+            } => self.seek(handle, offset, mode),
+            Packet::SetFileSize {
+                handle,
+                offset,
+                mode,
+            } => self.set_file_size(handle, offset, mode, now),
+            Packet::Other { action } => self.unknown(action),
+        }
+    }
+
+    fn died(&self) -> bool {
+        self.died
+    }
+
+    fn closes(reply: &Answer) -> bool {
+        reply.res2 == 218 || (reply.action == 5 && reply.res1 == -1)
+    }
+
+    ghost stays_dead = { λ old new packet now answer given dead. serves_dead old new packet now answer given dead };
+
+    ghost closes_dead = { λ old new packet now answer given closing. serves_closing old new packet now answer given closing };
+}

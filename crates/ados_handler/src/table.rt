@@ -1,0 +1,113 @@
+//! A table of values under numbers from 1 to 2,147,483,647 that it picks.
+ghost use Rattle.std.specs.Prelude.{◌≡◌, ◌==◌, Bool, IsTrue, OnOk, length};
+ghost use Rattle.std.specs.Fn.{FnReturnsAt};
+ghost use Rattle.std.specs.List.{list_any};
+ghost use Rattle.std.specs.Option.{option_copied};
+ghost use Rattle.std.specs.FinMap as numbered;
+
+use slab::Slab;
+use std::alloc::{AllocError, Global};
+use std::marker::Model;
+
+/// Values under their numbers. A number that was freed may be given again.
+///
+/// A contract sees the finite map from numbers to values, and whether a place for one more is ready.
+#[derive(Drop)]
+pub struct Table<T> {
+    pub(crate) slab: Slab<T>,
+}
+
+impl<T> Model for Table<T> {
+    ghost use Rattle.ados_handler.specs.Table.{TableState, table_code, table_view};
+
+    ghost Value = { TableState T };
+
+    ghost coded = { table_code T.code };
+
+    ghost view = { λ a. table_view a.slab };
+}
+
+/// There is no memory, or no number below 2 ^ 31.
+#[derive(Clone, Copy, Debug, PartialEq, Eq)]
+pub struct NoPlace;
+
+impl<T> Table<T> {
+    ghost use Rattle.ados_handler.specs.Session.{IsFreeNumber};
+    ghost use Rattle.ados_handler.specs.Table.{IsTestBy};
+
+    pub fn new(alloc: Global) -> Self
+        ensures { result.held ≡ numbered.empty }
+    {
+        Table {
+            slab: Slab::new(alloc),
+        }
+    }
+
+    /// The value under a number.
+    pub fn get(&self, number: u32) -> Option<&T>
+        ensures { option_copied result ≡ numbered.get self.now.held number }
+    {
+        let slab = &self.slab;
+        if number == 0 {
+            return None;
+        }
+        slab.get(number as usize - 1)
+    }
+
+    /// Gets a place ready for one more value.
+    pub fn reserve(&mut self) -> Result<(), NoPlace>
+        ensures held { self.new.held ≡ self.old.held }
+        ensures ready { OnOk result (IsTrue self.new.ready) }
+    {
+        if self.slab.vacant_key() >= 2_147_483_647 {
+            return Err(NoPlace);
+        }
+        match self.slab.reserve(1) {
+            Ok(()) => Ok(()),
+            Err(AllocError) => Err(NoPlace),
+        }
+    }
+
+    /// Puts a value in the place that is ready, under a number that is not in use.
+    pub fn insert_reserved(&mut self, value: T) -> u32
+        requires { IsTrue self.old.ready }
+        ensures free { IsFreeNumber self.old.held result }
+        ensures held { self.new.held ≡ numbered.insert self.old.held result value }
+    {
+        let key = self.slab.insert_reserved(value);
+        key as u32 + 1
+    }
+
+    /// Takes the value under a number away.
+    pub fn remove(&mut self, number: u32) -> Option<T>
+        ensures value { result ≡ numbered.get self.old.held number }
+        ensures held { self.new.held ≡ numbered.remove self.old.held number }
+    {
+        let slab = &mut self.slab;
+        if number == 0 {
+            return None;
+        }
+        slab.try_remove(number as usize - 1)
+    }
+
+    /// Whether the test passes of some value.
+    pub fn any<F: Fn(&T) -> bool>(&self, test: F) -> bool
+        requires { F.IsAlwaysCallable test }
+        ensures { (passes : T → Bool) → IsTestBy (FnReturnsAt F.Fn) test passes → result ≡ list_any passes (numbered.values self.now.held) }
+    {
+        let slab = &self.slab;
+        for (_, value) in slab.iter() {
+            if test(value) {
+                return true;
+            }
+        }
+        false
+    }
+
+    /// Whether no number is in use.
+    pub fn is_empty(&self) -> bool
+        ensures { result ≡ (length (numbered.values self.now.held) == 0) }
+    {
+        self.slab.is_empty()
+    }
+}
