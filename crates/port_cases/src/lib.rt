@@ -1,4 +1,4 @@
-//! Cases of the running port, over a server of their own.
+//! Cases of the running port: its ends in one hand or on threads, over any server, and the cases over a server of their own.
 #![tactic(auto)]
 
 mod desk;

@@ -1,11 +1,24 @@
-ghost use Rattle.std.specs.Prelude.{◌≡◌, ◌<◌};
+ghost use Rattle.std.specs.Prelude.{◌≡◌, ◌<◌, IfSome, length};
 
-use crate::{Answer, DIE, Port, Results, Stub, race};
+use crate::{Answer, DIE, Port, Putter, Results, Stub, race};
 use ados_ends::{Gathered, ServeEnd};
 use ados_server::{PutRefused, Reply};
 use std::alloc::Global;
 use std::sync::Wait;
 use std::test::*;
+use std::thread::Threads;
+
+/// The moment of every batch.
+const MOMENT: u64 = 7;
+
+/// How many packets a client of a race puts, and how often it tries a put.
+const PUTS: usize = 1000;
+
+const TURNS: u64 = 100_000_000;
+
+fn open(alloc: Global, clients: usize, ring: usize) -> Option<Port<Stub>> {
+    Port::open(alloc, Stub::new(), MOMENT, clients, ring).ok()
+}
 
 // The results of a reply with this number.
 fn results(reply: Option<Reply<Answer>>, number: u64) -> Option<(i32, i32)> {
@@ -54,7 +67,7 @@ fn unanswered(left: &Gathered<Stub>, all: &[(usize, u32)]) -> bool {
 }
 
 // Gathers, and once more where memory was refused.
-fn gathered<R: Wait>(rt: &R, alloc: Global, port: Port) -> Option<Gathered<Stub>> {
+fn gathered<R: Wait>(rt: &R, alloc: Global, port: Port<Stub>) -> Option<Gathered<Stub>> {
     match port.gather(rt, alloc) {
         Ok(left) => Some(left),
         Err(port) => port.gather(rt, alloc).ok(),
@@ -69,7 +82,7 @@ const DEAD: (i32, i32) = (0, 218);
 
 #[test]
 fn rings(rt: HostRuntime) {
-    let mut port = Port::open(rt.alloc(), 1, 1).expect(&rt, "a port");
+    let mut port = open(rt.alloc(), 1, 1).expect(&rt, "a port");
     for number in 1..4u64 {
         assert!(rt; matches!(port.put(&rt, 1, 999), Ok(n) if n == number));
     }
@@ -85,7 +98,7 @@ fn rings(rt: HostRuntime) {
 
 #[test]
 fn half_served(rt: HostRuntime) {
-    let mut port = Port::open(rt.alloc(), 2, 8).expect(&rt, "a port");
+    let mut port = open(rt.alloc(), 2, 8).expect(&rt, "a port");
     assert!(rt; matches!(port.put(&rt, 1, 999), Ok(1)));
     assert!(rt; matches!(port.put(&rt, 1, 999), Ok(2)));
     assert!(rt; matches!(port.put(&rt, 2, 25), Ok(1)));
@@ -98,7 +111,7 @@ fn half_served(rt: HostRuntime) {
 
 #[test]
 fn close(rt: HostRuntime) {
-    let mut port = Port::open(rt.alloc(), 2, 8).expect(&rt, "a port");
+    let mut port = open(rt.alloc(), 2, 8).expect(&rt, "a port");
     assert!(rt; matches!(port.put(&rt, 1, DIE), Ok(1)));
     assert!(rt; matches!(port.put(&rt, 2, 999), Ok(1)));
     assert!(rt; matches!(port.serve_batch(&rt, 8), Ok(2)));
@@ -113,7 +126,7 @@ fn close(rt: HostRuntime) {
 
 #[test]
 fn die_in_the_ring(rt: HostRuntime) {
-    let mut port = Port::open(rt.alloc(), 1, 1).expect(&rt, "a port");
+    let mut port = open(rt.alloc(), 1, 1).expect(&rt, "a port");
     assert!(rt; !port.is_shut(1));
     assert!(rt; matches!(port.put(&rt, 1, DIE), Ok(1)));
     assert!(rt; matches!(port.serve_batch(&rt, 1), Ok(1)));
@@ -125,7 +138,7 @@ fn die_in_the_ring(rt: HostRuntime) {
 
 #[test]
 fn news_of_the_close(rt: HostRuntime) {
-    let mut port = Port::open(rt.alloc(), 3, 8).expect(&rt, "a port");
+    let mut port = open(rt.alloc(), 3, 8).expect(&rt, "a port");
     assert!(rt; matches!(port.put(&rt, 1, DIE), Ok(1)));
     assert!(rt; matches!(port.serve_batch(&rt, 1), Ok(1)));
     assert!(rt; port.is_shut(3));
@@ -135,7 +148,7 @@ fn news_of_the_close(rt: HostRuntime) {
 
 #[test]
 fn idle_limit(rt: HostRuntime) {
-    let mut port = Port::open(rt.alloc(), 1, 2).expect(&rt, "a port");
+    let mut port = open(rt.alloc(), 1, 2).expect(&rt, "a port");
     assert!(rt; matches!(port.serve_until_closed(&rt, 3), Ok(ServeEnd::Idle)));
     assert!(rt; matches!(port.put(&rt, 1, 999), Ok(1)));
     assert!(rt; matches!(port.put(&rt, 1, 999), Ok(2)));
@@ -146,7 +159,7 @@ fn idle_limit(rt: HostRuntime) {
 
 #[test]
 fn a_thousand_puts(rt: HostRuntime) {
-    let mut port = Port::open(rt.alloc(), 1, 1).expect(&rt, "a port");
+    let mut port = open(rt.alloc(), 1, 1).expect(&rt, "a port");
     for number in 1..1001u64 {
         assert!(rt; matches!(port.put(&rt, 1, 999), Ok(n) if n == number));
     }
@@ -163,7 +176,7 @@ fn a_thousand_puts(rt: HostRuntime) {
 
 #[test]
 fn unanswered_after_die(rt: HostRuntime) {
-    let mut port = Port::open(rt.alloc(), 2, 8).expect(&rt, "a port");
+    let mut port = open(rt.alloc(), 2, 8).expect(&rt, "a port");
     assert!(rt; matches!(port.put(&rt, 1, DIE), Ok(1)));
     for number in 1..4u64 {
         assert!(rt; matches!(port.put(&rt, 2, 999), Ok(n) if n == number));
@@ -178,7 +191,7 @@ fn unanswered_after_die(rt: HostRuntime) {
 
 #[test]
 fn batch_refused(rt: HostRuntime) {
-    let mut port = Port::open(rt.alloc(), 2, 1).expect(&rt, "a port");
+    let mut port = open(rt.alloc(), 2, 1).expect(&rt, "a port");
     assert!(rt; matches!(port.put(&rt, 1, 999), Ok(1)));
     assert!(rt; matches!(port.put(&rt, 2, 999), Ok(1)));
     assert!(rt; matches!(port.put(&rt, 1, 999), Ok(2)));
@@ -193,7 +206,7 @@ fn batch_refused(rt: HostRuntime) {
 }
 
 // Puts, and once more where memory was refused.
-fn put_again<R: Wait>(rt: &R, port: &mut Port, client: usize, action: u32) -> Option<u64> {
+fn put_again<R: Wait>(rt: &R, port: &mut Port<Stub>, client: usize, action: u32) -> Option<u64> {
     match port.put(rt, client, action) {
         Ok(number) => Some(number),
         Err(PutRefused::NoRoom(back)) => {
@@ -209,10 +222,10 @@ fn put_again<R: Wait>(rt: &R, port: &mut Port, client: usize, action: u32) -> Op
 // Each call is made once more where its growth was refused: `tools/growths.sh` refuses each in turn.
 #[test]
 fn gather_refused(rt: HostRuntime) {
-    assert!(rt; Port::open(rt.alloc(), 1, usize::MAX).is_none());
-    let mut port = match Port::open(rt.alloc(), 2, 1) {
+    assert!(rt; open(rt.alloc(), 1, usize::MAX).is_none());
+    let mut port = match open(rt.alloc(), 2, 1) {
         Some(port) => port,
-        None => Port::open(rt.alloc(), 2, 1).expect(&rt, "a port"),
+        None => open(rt.alloc(), 2, 1).expect(&rt, "a port"),
     };
     for number in 1..41u64 {
         assert!(rt; put_again(&rt, &mut port, 1, 999) == Some(number));
@@ -231,9 +244,48 @@ fn gather_refused(rt: HostRuntime) {
     assert!(rt; untaken(&left, 2, 1, &[]));
 }
 
+// The packets of a client. The one at the place `die_at` is DIE.
+fn packets(alloc: Global, die_at: Option<usize>) -> Option<Vec<u32>> {
+    let mut packets = Vec::new(alloc);
+    for place in 0..PUTS {
+        let action = if die_at == Some(place) { DIE } else { 999 };
+        packets.push(action).ok()?;
+    }
+    Some(packets)
+}
+
+// The jobs of four clients. The packet of the first one at the place `die_at` is DIE.
+fn jobs(alloc: Global, die_at: Option<usize>) -> Option<Vec<Putter<Stub>>>
+    ensures { IfSome result (λ jobs. length jobs.items ≡ 4) }
+{
+    let first = putter(alloc, die_at)?;
+    let second = putter(alloc, None)?;
+    let third = putter(alloc, None)?;
+    let fourth = putter(alloc, None)?;
+    vec![in alloc; first, second, third, fourth].ok()
+}
+
+fn putter(alloc: Global, die_at: Option<usize>) -> Option<Putter<Stub>> {
+    let packets = packets(alloc, die_at)?;
+    Some(Putter {
+        packets,
+        turns: TURNS,
+    })
+}
+
+// What four clients leave of a port, and how many packets of each were accepted.
+fn four_clients<R: Threads + Wait + Copy + Send + Drop + 'static>(
+    rt: &R,
+    alloc: Global,
+    die_at: Option<usize>,
+) -> Option<(Gathered<Stub>, Vec<usize>)> {
+    let jobs = jobs(alloc, die_at)?;
+    race(rt, alloc, Stub::new(), MOMENT, jobs)
+}
+
 #[test]
 fn four_threads_put(rt: HostRuntime) {
-    let (left, accepted) = race(&rt, rt.alloc(), 4, usize::MAX).expect(&rt, "all ends");
+    let (left, accepted) = four_clients(&rt, rt.alloc(), None).expect(&rt, "all ends");
     assert!(rt; unanswered(&left, &[]));
     for client in 1..5usize {
         assert!(rt; accepted.get(client.saturating_sub(1)) == Some(&1000));
@@ -243,7 +295,7 @@ fn four_threads_put(rt: HostRuntime) {
 
 #[test]
 fn racing_die(rt: HostRuntime) {
-    let (left, accepted) = race(&rt, rt.alloc(), 4, 500).expect(&rt, "all ends");
+    let (left, accepted) = four_clients(&rt, rt.alloc(), Some(500)).expect(&rt, "all ends");
     assert!(rt; left.server.died);
     let death = place_of_death(&left).expect(&rt, "one DIE that was served");
     for client in 1..5usize {

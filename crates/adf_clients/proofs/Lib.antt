@@ -1,0 +1,2 @@
+pub mod Speaking
+pub mod Joining
