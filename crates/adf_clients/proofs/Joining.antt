@@ -23,19 +23,19 @@ same_at f g xs ys k x y same at_x at_y =
     cc
 
 -- clients with their ends and scripts, the jobs with theirs, and what came back: an end, a report and what it tells
-module _ {M C D J T : Type 0} (end_of : C → ClientView Packet M Answer) (script_of : C → List ℕ) (job_script : J → List ℕ)
+module _ {M C D J T X : Type 0} (bytes : X → List ℕ) (end_of : C → ClientView Packet M Answer) (script_of : C → X) (job_script : J → X)
     (client_of : D → ClientView Packet M Answer) (report_of : D → T) (told_of : D → List ℕ × ClientEnding)
     (does : J → ClientView Packet M Answer → ClientView Packet M Answer → T → Type 0)
-    (says : (job : J) (old new : ClientView Packet M Answer) (d : D) → does job old new (report_of d) → IsUnused old → Tells (job_script job) new (told_of d).0 (told_of d).1) where
+    (says : (job : J) (old new : ClientView Packet M Answer) (d : D) → does job old new (report_of d) → IsUnused old → Tells (bytes (job_script job)) new (told_of d).0 (told_of d).1) where
   pub each_tells : (clients : List C) (ends : List (ClientView Packet M Answer)) (jobs : List J) (news : List (ClientView Packet M Answer)) (reports : List T) (done : List D)
       → ends ≡ map end_of clients → map job_script jobs ≡ map script_of clients → map client_of done ≡ news → map report_of done ≡ reports
       → AreUnused ends → EachDid does jobs ends news reports
-      → EachTells (map (λ c. (end_of c, script_of c)) clients) (map (λ d. (client_of d, told_of d)) done)
+      → EachTells (map (λ c. (end_of c, bytes (script_of c))) clients) (map (λ d. (client_of d, told_of d)) done)
   each_tells clients ends jobs news reports done are_ends are_scripts are_clients are_reports unused each = (
     length-map done (λ d. (client_of d, told_of d)) ∙ (sym (length-map done client_of) ∙ (ap (λ l. length l) are_clients ∙ (each.0 ∙ (ap (λ l. length l) are_ends
-        ∙ (length-map clients end_of ∙ sym (length-map clients (λ c. (end_of c, script_of c)))))))),
+        ∙ (length-map clients end_of ∙ sym (length-map clients (λ c. (end_of c, bytes (script_of c))))))))),
     λ k c at.
-        let x = get_map_back (λ c. (end_of c, script_of c)) clients k c at in
+        let x = get_map_back (λ c. (end_of c, bytes (script_of c))) clients k c at in
         let here : slice_get ends k ≡ Some (end_of x.0) = ap (λ l. slice_get l k) are_ends ∙ get_map end_of clients k x.0 x.1 in
         let e = each.2 k (end_of x.0) here in
         let y = get_map_back client_of done k e.1 (ap (λ l. slice_get l k) are_clients ∙ e.4) in
@@ -48,6 +48,6 @@ module _ {M C D J T : Type 0} (end_of : C → ClientView Packet M Answer) (scrip
           (client_of y.0, told_of y.0),
           get_map (λ d. (client_of d, told_of d)) done k y.0 y.1,
           subst (λ n. Grown (end_of x.0) n) (sym y.2) e.6.0,
-          subst (λ s. Tells s (client_of y.0) (told_of y.0).0 (told_of y.0).1) is_script (says e.0 (end_of x.0) (client_of y.0) y.0 said (unused k (end_of x.0) here)),
+          subst (λ s. Tells (bytes s) (client_of y.0) (told_of y.0).0 (told_of y.0).1) is_script (says e.0 (end_of x.0) (client_of y.0) y.0 said (unused k (end_of x.0) here)),
         ),
   )

@@ -1,2 +1,2 @@
-pub mod Speaking
+pub mod Said
 pub mod Joining

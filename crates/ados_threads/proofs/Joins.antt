@@ -68,6 +68,11 @@ module _ {Q M A J T : Type 0} (does : J → ClientView Q M A → ClientView Q M 
     ],
   )
 
+  -- the same of lists that are equal
+  pub did_alike : (jobs jobs' : List J) (old old' new : List (ClientView Q M A)) (reports : List T) → jobs ≡ jobs' → old ≡ old' → EachDid does jobs old new reports → EachDid does jobs' old' new reports
+  did_alike jobs jobs' old old' new reports same_jobs same_old did =
+      subst (λ (l : List J). EachDid does l old' new reports) same_jobs (subst (λ (l : List (ClientView Q M A)). EachDid does jobs l new reports) same_old did)
+
   -- one more thread was joined
   pub joined_more : {H : Type 0} (jobv : H → J) (endv : H → ClientView Q M A) (hs : List H) (h : H) (new new' : List (ClientView Q M A)) (reports reports' : List T) (n : ClientView Q M A) (report : T)
       → EachDid does (map jobv hs) (map endv hs) new reports → Did does (jobv h) (endv h) n report → new' ≡ new ++ n ∷ [] → reports' ≡ reports ++ report ∷ []

@@ -1,7 +1,7 @@
 use Rattle.std.proofs.Common.{◌≡◌, length, arith, rules}
 use Rattle.std.proofs.lemmas.List.{nil_from_length}
 use Rattle.ados_threads.proofs.Growth.{grown_refl}
-use Rattle.adf_clients.proofs.Speaking.{begins, said_all}
+use Rattle.adf_clients.proofs.Said.{begins, said_all}
 use Rattle.adf_clients.proofs.speaking.speak.Goals as goal
 
 pub loop-rest-init : goal.loop-rest-init

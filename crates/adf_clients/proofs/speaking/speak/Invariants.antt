@@ -2,7 +2,7 @@ use Rattle.std.proofs.Common.{◌≡◌, ◌+◌, ◌≤◌, length}
 use Rattle.ados_ends.specs.Gathering.{answers}
 use Rattle.ados_threads.specs.Grown.{Grown}
 use Rattle.adf_clients.specs.Scripts.{IsUnused}
-use Rattle.adf_clients.proofs.Speaking.{SoFar}
+use Rattle.adf_clients.proofs.Said.{SoFar}
 use Rattle.adf_clients.proofs.speaking.speak.Given as goal
 
 abbrev pub invariant-loop-rest : goal.invariant-loop-rest

@@ -1,4 +1,4 @@
-use Rattle.std.proofs.Common.{rules, ◌≡◌, length, map, subst, arith}
+use Rattle.std.proofs.Common.{rules, ◌≡◌, [], ◌∷◌, ◌++◌, length, map, sym, ap, subst, ◌∙◌, append_assoc, arith}
 use Rattle.ados_threads.specs.Grown.{EachDid}
 use Rattle.ados_threads.proofs.Joins.{joined_more, none_left}
 use Rattle.ados_threads.proofs.serve.join_clients.Goals as goal
@@ -7,7 +7,7 @@ pub loop-handle-preserved : goal.loop-handle-preserved
 loop-handle-preserved g c =
     let h = c.loop-handle.invariant in
     record {
-      all = search rules;
+      all = append_assoc c.loop-handle.yielded (c.in-Some.handle ∷ []) c.next.new.self.rest.items ∙ (ap (λ l. c.loop-handle.yielded ++ l) (sym c.in-Some.ensures.steps.0) ∙ h.all);
       did = joined_more g.C.Client.does (λ h. h.promise.job.value) (λ h. h.promise.end.value) c.loop-handle.yielded c.in-Some.handle _ _ _ _ _ _ h.did c.join-end.ensures c.push_reserved.ensures.items c.push_reserved-in-loop-handle.ensures.items;
       room_ends = search rules;
       room_reports = search rules;

@@ -1,12 +1,10 @@
-use Rattle.std.proofs.Common.{subst}
 use Rattle.ados_threads.proofs.Growth.{ends_after}
-use Rattle.ados_threads.specs.Grown.{EachDid}
+use Rattle.ados_threads.proofs.Joins.{did_alike}
 use Rattle.ados_threads.proofs.serve.serve_clients.Goals as goal
 
 pub returns-clause-clients : goal.returns-clause-clients
 returns-clause-clients g c =
-    subst (λ l. EachDid g.C.Client.does c.args.jobs.items l c.join_clients-ends.result.0.items c.join_clients-ends.result.1.items) c.in_ok-started.ensures.ends
-    (subst (λ l. EachDid g.C.Client.does l _ c.join_clients-ends.result.0.items c.join_clients-ends.result.1.items) c.in_ok-started.ensures.jobs c.join_clients-ends.ensures)
+    did_alike g.C.Client.does _ _ _ _ _ _ c.in_ok-started.ensures.jobs c.in_ok-started.ensures.ends c.join_clients-ends.ensures
 
 pub returns-clause-all : goal.returns-clause-all
 returns-clause-all g c =
