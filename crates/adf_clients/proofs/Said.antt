@@ -23,7 +23,7 @@ use Rattle.adf_script.proofs.Telling.{kept_from-skipped, kept_from-kept, reply_l
 use Rattle.adf_clients.specs.declared.asking.Stopped.{Stopped}
 use Rattle.adf_clients.specs.declared.asking.Stopped.TheVariants.{Closed, NoRoom, NoReply}
 use Rattle.adf_clients.specs.Asking.{HasPut, Replied, StoppedBy, stop_line, stop_ending}
-use Rattle.adf_clients.specs.Scripts.{IsUnused}
+use Rattle.adf_clients.specs.Scripts.{IsUnused, Tells}
 
 module _ (client : ℕ) (script : List ℕ) where
   -- with these bytes of the script left, behind so many lines and packets: these packets were put, answered so, and this text told
@@ -187,6 +187,13 @@ module _ {M : Type 0} (client : ℕ) (script : List ℕ) where
   abbrev pub SpokenBy : ClientView Packet M Answer → List ℕ → ClientEnding → Type 0
   SpokenBy end text ending = Spoken client script end.put (numbered 1 (answers_of end.taken)) end.knows text ending
 
+  -- what this client, whose number its end knows, has told
+  pub tells_by : (end : ClientView Packet M Answer) (text told : List ℕ) (ending ended : ClientEnding) → client ≡ end.number → told ≡ text → ended ≡ ending → SpokenBy end text ending → Tells script end told ended
+  tells_by end text told ending ended is_client is_text is_ending spoken =
+      subst (λ (n : ℕ). Spoken n script end.put (numbered 1 (answers_of end.taken)) end.knows told ended) is_client
+      (subst (λ (t : List ℕ). Spoken client script end.put (numbered 1 (answers_of end.taken)) end.knows t ended) (sym is_text)
+      (subst (λ (e : ClientEnding). Spoken client script end.put (numbered 1 (answers_of end.taken)) end.knows text e) (sym is_ending) spoken))
+
   -- before the first line
   pub begins : (end : ClientView Packet M Answer) → IsUnused end → SaidBy script 0 0 [] [] end
   begins end unused = subst (λ p. SoFar client script script 0 0 [] [] p (answers_of end.taken)) (sym unused.0)
@@ -200,13 +207,17 @@ module _ {M : Type 0} (client : ℕ) (script : List ℕ) where
   module _ (short : is_too_long script ≡ false) (rest : List ℕ) (number taken : ℕ) (values : List (Option ℕ)) (text : List ℕ) (old : ClientView Packet M Answer) (said : SaidBy rest number taken values text old)
       (line behind : List ℕ) (first : lines_of rest ≡ line ∷ lines_of behind) (kept : is_skipped line ≡ false) (packet : Packet) (spelled : IsPacketLine values packet line) (new : ClientView Packet M Answer) where
     -- a packet with its reply
-    pub replies : (reply : Reply Answer) → Replied old packet reply new → SaidBy behind (number + 1) (taken + 1) (values ++ answer_value reply.answer ∷ []) (text ++ reply_line client (taken + 1) reply.answer) new
-    replies reply replied =
-        let Now : List Packet → List Answer → Type 0 = SoFar client script behind (number + 1) (taken + 1) (values ++ answer_value reply.answer ∷ []) (text ++ reply_line client (taken + 1) reply.answer)
+    pub replies : (reply : Reply Answer) (values_now : List (Option ℕ)) (text_now : List ℕ) → Replied old packet reply new
+        → values_now ≡ values ++ answer_value reply.answer ∷ [] → text_now ≡ text ++ reply_line client (taken + 1) reply.answer → SaidBy behind (number + 1) (taken + 1) values_now text_now new
+    replies reply values_now text_now replied are_values is_text =
+        let Now : List Packet → List Answer → Type 0 = SoFar client script behind (number + 1) (taken + 1) values_now text_now
+        in let Kept : List (Option ℕ) → Type 0 = λ v. SoFar client script behind (number + 1) (taken + 1) v text_now (old.put ++ packet ∷ []) (answers_of old.taken ++ reply.answer ∷ [])
+        in let Written : List ℕ → Type 0 = λ t. SoFar client script behind (number + 1) (taken + 1) (values ++ answer_value reply.answer ∷ []) t (old.put ++ packet ∷ []) (answers_of old.taken ++ reply.answer ∷ [])
         in let answers_are : answers_of new.taken ≡ answers_of old.taken ++ reply.answer ∷ [] = ap answers_of replied.taken ∙ map-append (λ (r : M × Answer). r.1) old.taken ((replied.moment, reply.answer) ∷ [])
         in subst (λ p. Now p (answers_of new.taken)) (sym replied.put)
         (subst (Now (old.put ++ packet ∷ [])) (sym answers_are)
-        (said_reply client script short rest number taken values text old.put (answers_of old.taken) said line behind first kept packet spelled reply.answer))
+        (subst Kept (sym are_values) (subst Written (sym is_text)
+        (said_reply client script short rest number taken values text old.put (answers_of old.taken) said line behind first kept packet spelled reply.answer))))
 
     -- the end of a client with these lists
     with_lists : (puts : List Packet) (put_is : new.put ≡ puts) (taken_is : new.taken ≡ old.taken) (told : List ℕ) (ending : ClientEnding)
@@ -217,9 +228,9 @@ module _ {M : Type 0} (client : ℕ) (script : List ℕ) where
 
     -- a packet without one
     pub stops : (stopped : Stopped) → StoppedBy old packet stopped new → SpokenBy new (text ++ stop_line client (taken + 1) stopped) (stop_ending stopped)
-    stops Closed by = with_lists old.put by.0.0 by.0.1 _ _
-        (said_closed client script short rest number taken values text old.put (answers_of old.taken) said line behind first kept packet spelled new.knows by.1)
-    stops NoRoom by = with_lists old.put by.0 by.1 _ _
+    stops Closed how = with_lists old.put how.0.0 how.0.1 _ _
+        (said_closed client script short rest number taken values text old.put (answers_of old.taken) said line behind first kept packet spelled new.knows how.1)
+    stops NoRoom how = with_lists old.put how.0 how.1 _ _
         (said_no_room client script short rest number taken values text old.put (answers_of old.taken) said line behind first kept packet spelled new.knows)
-    stops NoReply by = with_lists (old.put ++ packet ∷ []) by.put by.taken _ _
+    stops NoReply how = with_lists (old.put ++ packet ∷ []) how.put how.taken _ _
         (said_no_reply client script short rest number taken values text old.put (answers_of old.taken) said line behind first kept packet spelled new.knows)

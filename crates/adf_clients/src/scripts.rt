@@ -1,5 +1,7 @@
 //! Scripts of clients, each on a thread of its own.
 ghost use Rattle.std.specs.Prelude.{◌≡◌, List, IfOk, map};
+ghost use Rattle.ados_packet.specs.declared.packet.Packet.{Packet};
+ghost use Rattle.ados_packet.specs.declared.answer.Answer.{Answer};
 ghost use Rattle.ados_server.specs.History.{Serving};
 ghost use Rattle.ados_ends.specs.Ends.{AreEnds, Serves};
 ghost use Rattle.adf_clients.specs.Scripts.{AreUnused, EachTells};
@@ -66,7 +68,7 @@ where
     R: Threads + Wait + Copy + Send + Drop + 'static,
     requires all { AreEnds handler (map (λ c. c.0) clients.items) }
     requires unused { AreUnused (map (λ c. c.0) clients.items) }
-    ensures handler { IfOk result (λ done. (xs : List (Serving S.Request S.Moment S.Reply)) × Serves S.gives moment handler xs done.handler) }
+    ensures handler { IfOk result (λ done. (xs : List (Serving Packet S.Moment Answer)) × Serves S.gives moment handler xs done.handler) }
     ensures clients { IfOk result (λ done. EachTells (map (λ c. (c.0, c.1.items)) clients.items) (map (λ d. (d.client, (d.text.items, d.end))) done.clients.items)) }
     ensures all { IfOk result (λ done. AreEnds done.handler (map (λ d. d.client) done.clients.items)) }
 {
