@@ -1,12 +1,11 @@
 -- One end of a port that changed stands for the same client.
-use Rattle.std.proofs.Common.{◌≡◌, ◌≢◌, ℕ, ◌+◌, ◌<◌, List, length, set, Some, slice_get, sym, refl, ap, ◌∙◌, subst, arith, ⊎_elim, ◌⊎◌, inl, inr}
+use Rattle.std.proofs.Common.{◌≡◌, ◌≢◌, ℕ, ◌<◌, List, length, set, Some, slice_get, sym, refl, ap, ◌∙◌, subst}
 use Rattle.std.proofs.lemmas.List.{length-set}
 use Rattle.std.proofs.lemmas.Option.{slice_get_read}
 use Rattle.std.proofs.Math.ListN.{get_or}
 use native.Mathlib.Decide.{ℕ_discrete}
 use mathlib.Core.Logic.{dite}
 use Rattle.ados_ends.proofs.Eachs.{get_set_same, get_set_other}
-use Rattle.ados_ends.specs.Rings.{OutView}
 use Rattle.ados_ends.specs.Ends.{ClientView, HandlerView, IsEndOf, AreEnds}
 
 module _ {S Q M A : Type 0} where

@@ -14,7 +14,7 @@ const MOMENT: u64 = 7;
 /// A case goes as it says.
 fn expect<R: Abort + Wait>(rt: &R, alloc: Global, case: Case) -> Result<(), Fail> {
     let strayed = play(rt, alloc, &Numbers, Stub::new(), MOMENT, case)?;
-    assert_eq!(rt; strayed.as_str(), "");
+    assert!(rt; strayed.is_empty(), "{strayed}");
     Ok(())
 }
 

@@ -2,10 +2,4 @@
 #![tactic(auto)]
 
 #[cfg(test)]
-mod desk;
-#[cfg(test)]
-mod ends;
-#[cfg(test)]
-mod races;
-#[cfg(test)]
-mod refused;
+mod tests;
