@@ -1,10 +1,10 @@
 //! Cases of scripts at a running handler, each client on a thread of its own.
 #![tactic(auto)]
 
-mod stage;
+mod staging;
 mod turns;
 
-pub use stage::{Staged, stage};
+pub use staging::{Staged, stage};
 pub use turns::{Progress, Side, TurnGate};
 
 #[cfg(test)]
