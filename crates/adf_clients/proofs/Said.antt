@@ -1,8 +1,8 @@
 -- What a client has told of its script so far, line after line.
-use Rattle.std.proofs.Common.{◌≡◌, ℕ, ◌+◌, ◌<◌, inl, inr, Bool, true, false, IsTrue, List, [], ◌∷◌, ◌++◌, length, take, map, slice_get, refl, sym, ap, subst, ◌∙◌, arith, append_assoc, append-nil, length-append}
+use Rattle.std.proofs.Common.{◌≡◌, ℕ, ◌+◌, inl, inr, Bool, true, false, List, [], ◌∷◌, ◌++◌, length, take, slice_get, refl, sym, ap, subst, ◌∙◌, arith, append_assoc, append-nil, length-append}
 use Rattle.std.specs.Prelude.{Option, Some}
 use Rattle.std.specs.Bool.{MatchBool}
-use Rattle.std.proofs.lemmas.List.{map-append, take_all, length-map}
+use Rattle.std.proofs.lemmas.List.{map-append, take_all}
 use Rattle.std.proofs.lemmas.Option.{none-some, slice_get_past}
 use Rattle.ados_packet.specs.declared.packet.Packet.{Packet}
 use Rattle.ados_packet.specs.declared.answer.Answer.{Answer}
@@ -22,7 +22,7 @@ use Rattle.adf_script.specs.Spoken.{SpokenEnd, Spoken}
 use Rattle.adf_script.proofs.Telling.{kept_from-skipped, kept_from-kept, reply_lines-push, packets-push, slice_get-front, slice_get-seam}
 use Rattle.adf_clients.specs.declared.asking.Stopped.{Stopped}
 use Rattle.adf_clients.specs.declared.asking.Stopped.TheVariants.{Closed, NoRoom, NoReply}
-use Rattle.adf_clients.specs.Asking.{HasPut, Replied, StoppedBy, stop_line, stop_ending}
+use Rattle.adf_clients.specs.Asking.{Replied, StoppedBy, stop_line, stop_ending}
 use Rattle.adf_clients.specs.Scripts.{IsUnused, Tells}
 
 module _ (client : ℕ) (script : List ℕ) where

@@ -1,5 +1,5 @@
 -- What the joined threads hand back, client by client.
-use Rattle.std.proofs.Common.{◌≡◌, ℕ, zero, suc, List, [], ◌∷◌, ◌++◌, map, length, Some, None, slice_get, sym, refl, ap, ◌∙◌, subst, arith, append-nil, length-append, inl, inr}
+use Rattle.std.proofs.Common.{◌≡◌, ℕ, zero, suc, List, [], ◌∷◌, ◌++◌, map, length, Some, slice_get, sym, refl, ap, ◌∙◌, subst, arith, append-nil, length-append, inl, inr}
 use Rattle.std.proofs.lemmas.List.{length-map, map-append}
 use Rattle.std.proofs.lemmas.Option.{none-some}
 use Rattle.ados_ends.specs.Ends.{ClientView}

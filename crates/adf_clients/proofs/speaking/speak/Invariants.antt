@@ -1,4 +1,4 @@
-use Rattle.std.proofs.Common.{◌≡◌, ◌+◌, ◌≤◌, length}
+use Rattle.std.proofs.Common.{◌+◌, ◌≤◌, length}
 use Rattle.ados_threads.specs.Grown.{Grown}
 use Rattle.adf_clients.specs.Scripts.{IsUnused}
 use Rattle.adf_clients.proofs.Said.{SaidBy}
