@@ -59,20 +59,21 @@ fn images_that_are_written(rt: HostRuntime) -> Result<(), Fail> {
 fn scripts_that_end_early(rt: HostRuntime) -> Result<(), Fail> {
     let alloc = rt.alloc();
     draw(&rt, alloc, BLANK, "/tmp/adf_serve-early.adf")?;
-    let long = vec![in alloc; b'#'; 1_048_577]?;
+    let longest = vec![in alloc; b'#'; 1_048_576]?;
+    let too_long = vec![in alloc; b'#'; 1_048_577]?;
     for (script, status, lines) in [
         (
             b"mkdir 0 \"d\"\nfree $1 2\n".as_slice(),
             3,
             b"1 fault line 2\n".as_slice(),
         ),
-        (long.as_slice(), 3, b"1 fault line 0\n".as_slice()),
+        (too_long.as_slice(), 3, b"1 fault line 0\n".as_slice()),
         (
             b"die\ndie\n".as_slice(),
             0,
             b"1.1 -1 0\n1.2 closed\n".as_slice(),
         ),
-        (&long.as_slice()[..1_048_576], 0, b"".as_slice()),
+        (longest.as_slice(), 0, b"".as_slice()),
         (b"".as_slice(), 0, b"".as_slice()),
     ] {
         fs::write(&rt, "/tmp/adf_serve-early.a", script)?;

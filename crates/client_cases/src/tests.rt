@@ -5,9 +5,10 @@ use crate::{Progress, Side, Staged, TurnGate, stage};
 use adf_block::Format;
 use adf_clients::{ClientEnding, OpenGate};
 use ados_handler::Handler;
-use ados_name::{Date3, Name};
+use ados_name::{Date3, Name, PathText};
 use ados_packet::Packet;
-use ados_volume::{NodeKind, blank};
+use ados_server::Server;
+use ados_volume::blank;
 use std::alloc::Global;
 use std::sync::Arc;
 use std::test::Fail;
@@ -18,19 +19,20 @@ const START: Date3 = Date3 {
     ticks: 0,
 };
 
-/// A handler over the blank floppy, with this directory in the root if there is a name.
+/// A handler over the blank floppy, with this directory in the root if there is a name. Nothing is held.
 fn floppy(alloc: Global, directory: Option<&[u8]>) -> Result<Handler, Fail>
     ensures { IfOk result (λ handler. handler.session.died ≡ false) }
 {
-    let name = Name::new(b"Work").map_err(|_| Fail::from("no name"))?;
-    let mut volume = blank(alloc, Format::Ffs, 1_760, name, START)?;
+    let name = Name::new(b"Work")?;
+    let mut handler = Handler::new(alloc, blank(alloc, Format::Ffs, 1_760, name, START)?);
     if let Some(directory) = directory {
-        let name = Name::new(directory).map_err(|_| Fail::from("no name"))?;
-        volume
-            .create(880, name, NodeKind::Directory, START)
-            .map_err(|_| Fail::from("full"))?;
+        let path = PathText::new(directory)?;
+        let made = handler.serve(Packet::CreateDir { lock: 0, path }, START);
+        if made.res2 != 0 {
+            return Err(Fail::from("no directory"));
+        }
     }
-    Ok(Handler::new(alloc, volume))
+    Ok(Handler::new(alloc, handler.into_volume()))
 }
 
 // Whether a client told these lines, and ended well.
@@ -83,7 +85,7 @@ fn threads(rt: HostRuntime) -> Result<(), Fail> {
     assert!(rt; has_lock(b, b"2.1 0 202\n2.2 ", b" 0\n"));
     assert_eq!(rt; staged.number, Some(3));
     match staged.left.unanswered.as_slice() {
-        [(1, Packet::Other { action: 999 })] => {}
+        [(client, packet)] => assert_eq!(rt; (*client, packet.action()), (1, 999)),
         _ => return Err(Fail::from("unanswered packets")),
     }
     assert!(rt; staged.left.untaken.iter().all(|replies| replies.is_empty()));

@@ -9,4 +9,4 @@ serve_scripts-requires-clause-all g c κs within = subst (λ l. AreEnds c.in-Ok.
 pub serve_scripts-requires-clause-unused : goal.serve_scripts-requires-clause-unused
 serve_scripts-requires-clause-unused g c κs within =
     subst (λ l. AreUnused l) (sym c.in_ok-clients.ensures.ends)
-        (λ k end at. let fresh = c.in-Ok.ensures.3 k end at in (fresh.0, fresh.1))
+    (λ k end at. let fresh = c.in-Ok.ensures.3 k end at in (fresh.0, fresh.1))
