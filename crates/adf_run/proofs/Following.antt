@@ -11,7 +11,7 @@ use Rattle.ados_handler.specs.Session.{Session}
 use Rattle.ados_handler.specs.Meaning.{Meaning}
 use Rattle.ados_handler.specs.Handler.{HandlerState, HandlerGives}
 use Rattle.adf_run.specs.TreePort.{TreeState, means, over_tree}
-use Rattle.adf_run.specs.Laws.{HistoriesFollowTrees}
+use Rattle.adf_run.specs.Laws.{HistoriesFollowTrees, ListsFollowTrees}
 
 -- the state of a handler over this tree
 abbrev state_of : Tree → HandlerState → TreeState
@@ -78,4 +78,21 @@ histories_follow_trees t opening steps outcomes closing stood h =
       };
       stands = subst (λ (s : HandlerState). Stands s.image last.tree) (sym h.closing_server) trees.stands;
       validated = ap (λ (s : HandlerState). s.was_validated) h.closing_server ∙ trees.validated;
+    }
+
+pub lists_follow_trees : ListsFollowTrees
+lists_follow_trees t opening clients served unanswered closing stood h =
+    let trees : TreeRun opening t served h.meaning.0 = tree_run opening t stood served h.meaning.0 h.meaning.1 in
+    let last : TreeState = last_server (state_of t opening) trees.states in
+    let session : last.session ≡ closing.session = trees.session ∙ ap (λ (s : HandlerState). s.session) h.meaning.2 in
+    record {
+      last_tree = last.tree;
+      lawful = record {
+        meaning = (trees.states, trees.run, λ i. record { tree = last.tree; session = session i });
+        each_put = h.each_put;
+        each_reply = h.each_reply;
+        known = h.known;
+      };
+      stands = subst (λ (s : HandlerState). Stands s.image last.tree) h.meaning.2 trees.stands;
+      validated = sym (ap (λ (s : HandlerState). s.was_validated) h.meaning.2) ∙ trees.validated;
     }

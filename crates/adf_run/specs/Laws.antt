@@ -8,12 +8,15 @@ use Rattle.ados_tree.specs.declared.fault.FaultKind.TheVariants.{NoMemory}
 use Rattle.ados_tree.specs.declared.fault.VolumeFault.{VolumeFault}
 use Rattle.ados_server.specs.Port.{PortState}
 use Rattle.ados_server.specs.History.{PortHistory}
+use Rattle.ados_server.specs.Lawful.{ClientLists, Lawful}
+use Rattle.ados_server.specs.Serving.{Serving}
 use Rattle.ados_server.specs.declared.step.Step.{Step}
 use Rattle.ados_server.specs.declared.step.Outcome.{Outcome}
 use Rattle.ados_packet.specs.declared.packet.Packet.{Packet}
 use Rattle.ados_packet.specs.declared.answer.Answer.{Answer}
 use Rattle.ados_handler.specs.Handler.{HandlerState, HandlerGives}
 use Rattle.adf_run.specs.TreePort.{FollowsTree, handler_died}
+use Rattle.adf_run.specs.TreeLists.{ListsFollowTree}
 use Rattle.adf_run.specs.Rests.{RestsOnceDead}
 
 -- a history of a handler's port, also of one in use, follows the tree that the handler's image stood for
@@ -21,6 +24,12 @@ abbrev pub HistoriesFollowTrees : Type 0
 HistoriesFollowTrees =
     (t : Tree) (opening : PortState HandlerState Packet Answer) (steps : List (Step Packet Date3)) (outcomes : List (Outcome Packet Answer)) (closing : PortState HandlerState Packet Answer)
     → Stands opening.server.image t → PortHistory HandlerGives handler_died opening steps outcomes closing → FollowsTree t opening steps outcomes closing
+
+-- where the lists of a running handler's port are lawful, they follow the tree that its opening image stood for
+abbrev pub ListsFollowTrees : Type 0
+ListsFollowTrees =
+    (t : Tree) (opening : HandlerState) (clients : List (ClientLists Packet Answer)) (served : List (Serving Packet Date3 Answer)) (unanswered : List (ℕ × Packet)) (closing : HandlerState)
+    → Stands opening.image t → Lawful HandlerGives opening clients served unanswered closing → ListsFollowTree t opening clients served unanswered closing
 
 -- in a history of a handler's port nothing is accepted or changed once the handler has died
 abbrev pub DeadHandlersRest : Type 0

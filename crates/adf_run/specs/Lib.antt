@@ -1,4 +1,5 @@
 pub mod TreePort
+pub mod TreeLists
 pub mod Rests
 pub mod Runs
 pub mod Laws

@@ -6,5 +6,5 @@ mod run;
 #[cfg(test)]
 mod tests;
 
-pub use laws::{dead_handlers_rest, histories_follow_trees, trees_read_back};
+pub use laws::{dead_handlers_rest, histories_follow_trees, lists_follow_trees, trees_read_back};
 pub use run::{RunFault, run_volume};

@@ -43,7 +43,7 @@ kept_from-kept number rest line behind split kept =
     ∙ ap (λ b. cond (not b) ((number, line) ∷ kept_from (number + 1) behind) (kept_from (number + 1) behind)) kept
 
 -- one more at the end
-numbered-push : {A : Type 0} (number : ℕ) (xs : List A) (y : A) → numbered number (xs ++ y ∷ []) ≡ numbered number xs ++ (record { number = number + length xs; answer = y }) ∷ []
+pub numbered-push : {A : Type 0} (number : ℕ) (xs : List A) (y : A) → numbered number (xs ++ y ∷ []) ≡ numbered number xs ++ (record { number = number + length xs; answer = y }) ∷ []
 numbered-push number [] y = λ i. record { number = same i; answer = y } ∷ []
   where
     same : number ≡ number + 0
@@ -52,21 +52,21 @@ numbered-push number (x ∷ xs) y =
     let same : number + 1 + length xs ≡ number + length (x ∷ xs) = omega arith
     in ap (λ l. record { number = number; answer = x } ∷ l) (numbered-push (number + 1) xs y ∙ ap (λ n. numbered (number + 1) xs ++ (record { number = n; answer = y }) ∷ []) same)
 
-reply_lines-push : (number : ℕ) (xs : List Answer) (y : Answer) → reply_lines 1 number (xs ++ y ∷ []) ≡ reply_lines 1 number xs ++ reply_line 1 (number + length xs) y
-reply_lines-push number [] y =
+pub reply_lines-push : (client number : ℕ) (xs : List Answer) (y : Answer) → reply_lines client number (xs ++ y ∷ []) ≡ reply_lines client number xs ++ reply_line client (number + length xs) y
+reply_lines-push client number [] y =
     let same : number ≡ number + 0 = omega arith
-    in append-nil (reply_line 1 number y) ∙ ap (λ n. reply_line 1 n y) same
-reply_lines-push number (x ∷ xs) y =
+    in append-nil (reply_line client number y) ∙ ap (λ n. reply_line client n y) same
+reply_lines-push client number (x ∷ xs) y =
     let same : number + 1 + length xs ≡ number + length (x ∷ xs) = omega arith
-    in ap (λ l. reply_line 1 number x ++ l) (reply_lines-push (number + 1) xs y ∙ ap (λ n. reply_lines 1 (number + 1) xs ++ reply_line 1 n y) same)
-    ∙ sym (append_assoc (reply_line 1 number x) (reply_lines 1 (number + 1) xs) (reply_line 1 (number + length (x ∷ xs)) y))
+    in ap (λ l. reply_line client number x ++ l) (reply_lines-push client (number + 1) xs y ∙ ap (λ n. reply_lines client (number + 1) xs ++ reply_line client n y) same)
+    ∙ sym (append_assoc (reply_line client number x) (reply_lines client (number + 1) xs) (reply_line client (number + length (x ∷ xs)) y))
 
-slice_get-front : {A : Type 0} (xs ys : List A) (i : ℕ) (x : A) → slice_get xs i ≡ Some x → slice_get (xs ++ ys) i ≡ Some x
+pub slice_get-front : {A : Type 0} (xs ys : List A) (i : ℕ) (x : A) → slice_get xs i ≡ Some x → slice_get (xs ++ ys) i ≡ Some x
 slice_get-front [] ys i x h = absurd (none-some x h)
 slice_get-front (z ∷ zs) ys zero x h = h
 slice_get-front (z ∷ zs) ys (suc i) x h = slice_get-front zs ys i x h
 
-slice_get-seam : {A : Type 0} (xs : List A) (y : A) (ys : List A) (n : ℕ) → n ≡ length xs → slice_get (xs ++ y ∷ ys) n ≡ Some y
+pub slice_get-seam : {A : Type 0} (xs : List A) (y : A) (ys : List A) (n : ℕ) → n ≡ length xs → slice_get (xs ++ y ∷ ys) n ≡ Some y
 slice_get-seam xs y ys n e = ap (slice_get (xs ++ y ∷ ys)) e ∙ at xs
   where
     at : (zs : List _) → slice_get (zs ++ y ∷ ys) (length zs) ≡ Some y
@@ -74,7 +74,7 @@ slice_get-seam xs y ys n e = ap (slice_get (xs ++ y ∷ ys)) e ∙ at xs
     at (z ∷ zs) = at zs
 
 -- one more packet line
-packets-push : (lines : List (ℕ × List ℕ)) (answers : List Answer) (packets : List Packet) (line : ℕ × List ℕ) (answer : Answer) (packet : Packet)
+pub packets-push : (lines : List (ℕ × List ℕ)) (answers : List Answer) (packets : List Packet) (line : ℕ × List ℕ) (answer : Answer) (packet : Packet)
     → length packets ≡ length lines → length packets ≡ length answers → IsPacketLine (answer_values answers) packet line.1 → ArePackets lines answers packets
     → ArePackets (lines ++ line ∷ []) (answers ++ answer ∷ []) (packets ++ packet ∷ [])
 packets-push lines answers packets line answer packet as_lines as_answers puts each i p at_i = elim (slice_get-push_at packets packet i p at_i) [
@@ -253,7 +253,7 @@ module _ {S M : Type 0} (gives : S → Packet → M → S → Answer → Type 0)
                 grown = subst (λ l. Grown gives has_died opening l (flat_map outcomes_of (numbered 1 (sofar.answers ++ reply.answer ∷ []))) new) all_steps
                     (subst (λ l. Grown gives has_died opening (((steps ++ Put 1 packet ∷ []) ++ Serve moment ∷ []) ++ Take 1 ∷ []) l new) all_outcomes three);
                 quiet = subst (IsQuiet new) (sym one_more) quiet;
-                written = subst (Appends contents after) (sym (reply_lines-push 1 sofar.answers reply.answer ∙ ap (λ n. reply_lines 1 1 sofar.answers ++ reply_line 1 n reply.answer) counted))
+                written = subst (Appends contents after) (sym (reply_lines-push 1 1 sofar.answers reply.answer ∙ ap (λ n. reply_lines 1 1 sofar.answers ++ reply_line 1 n reply.answer) counted))
                     (appends_more contents now after (reply_lines 1 1 sofar.answers) (reply_line 1 reply.number reply.answer) sofar.written more);
               }
 

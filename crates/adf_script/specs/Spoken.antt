@@ -5,15 +5,11 @@ use Rattle.ados_packet.specs.declared.packet.Packet.{Packet}
 use Rattle.ados_packet.specs.declared.answer.Answer.{Answer}
 use Rattle.ados_server.specs.Lawful.{numbered}
 use Rattle.ados_server.specs.declared.step.Reply.{Reply}
+use Rattle.adf_script.specs.declared.ending.ClientEnding.{ClientEnding}
+use Rattle.adf_script.specs.declared.ending.ClientEnding.TheVariants.{Done, Script, Tries}
 use Rattle.adf_script.specs.Lines.{kept_lines, is_too_long}
 use Rattle.adf_script.specs.Text.{reply_lines, closed_line, fault_line, no_reply_line, no_room_line}
 use Rattle.adf_script.specs.Told.{ArePackets, NextPuts, NextIsFaulty, NoneIsLeft}
-
--- how the client comes to its end: with no line left or at a close, at a faulty line, or out of tries
-pub data ClientEnding : Type 0 where
-  Done : ClientEnding
-  Script : ClientEnding
-  Tries : ClientEnding
 
 -- the last line of a client that has put so many packets and taken these answers; knows: its end knows of the close
 abbrev pub SpokenEnd : ℕ → List (ℕ × List ℕ) → List Answer → ℕ → Bool → List ℕ → ClientEnding → Type 0

@@ -8,7 +8,7 @@ use std::alloc::Global;
 use std::io::Read;
 
 /// The length in bytes of the longest script that is run.
-pub(crate) const LONGEST_SCRIPT: usize = 1_048_576;
+pub const LONGEST_SCRIPT: usize = 1_048_576;
 
 /// Reads to the end, and keeps the front: one byte more than a script may have shows that it is too long.
 pub(crate) fn read_script<R: Read>(alloc: Global, reader: &mut R) -> Result<Vec<u8>, TryFault>

@@ -17,13 +17,14 @@
 #![tactic(auto)]
 
 mod call;
+pub mod ending;
 pub mod fault;
 mod fields;
 mod file_lines;
 pub mod grammar;
 mod hex;
 mod input;
-mod lines;
+pub mod lines;
 mod lock_lines;
 mod numbers;
 mod object_lines;
@@ -37,7 +38,9 @@ pub mod text;
 pub mod values;
 mod words;
 
+pub use ending::ClientEnding;
 pub use fault::TryFault;
+pub use input::LONGEST_SCRIPT;
 pub use runner::run_script;
 
 #[cfg(test)]

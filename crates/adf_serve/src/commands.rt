@@ -3,6 +3,7 @@ ghost use Rattle.adf_block.specs.Image.{IsSize};
 
 use crate::fault::CommandFault;
 use crate::script::FIRST_MOMENT;
+use crate::serving::serve;
 use adf_block::{Format, Image, size_ok};
 use adf_files::{LoadFault, load_image, store_image, write_output};
 use adf_listing::{write_info, write_list};
@@ -17,14 +18,20 @@ use std::fmt::Debug;
 use std::fs;
 use std::io::Write;
 use std::rt::Files;
+use std::sync::Wait;
+use std::thread::Threads;
 
 /// Does a job on image files. What it tells of an image goes to the writer.
-pub(crate) fn run_job<'a, R: Files, W: Write>(
+pub(crate) fn run_job<'a, R, W>(
     rt: &R,
     alloc: Global,
     job: Job<'a>,
     writer: &mut W,
-) -> Result<(), CommandFault<'a>> {
+) -> Result<(), CommandFault<'a>>
+where
+    R: Files + Threads + Wait + Copy + Send + Drop + 'static,
+    W: Write,
+{
     match job {
         Job::Script => Ok(()),
         Job::Blank {
@@ -54,6 +61,7 @@ pub(crate) fn run_job<'a, R: Files, W: Write>(
             let volume = open_volume(rt, alloc, file, writer)?;
             Ok(write_list(alloc, &volume, writer)?)
         }
+        Job::Serve(job) => serve(rt, alloc, job, writer),
     }
 }
 
@@ -70,10 +78,19 @@ fn write_blank<'a, R: Files>(
     requires { IsSize blocks }
 {
     let volume = blank(alloc, format, blocks, name, moment)?;
+    write_image(rt, volume.image(), file)
+}
+
+/// Writes an image whole. A file that is there already stays as it is where it cannot be opened to be written.
+pub(crate) fn write_image<'a, R: Files>(
+    rt: &R,
+    image: &Image,
+    file: &'a str,
+) -> Result<(), CommandFault<'a>> {
     let Ok(mut writer) = fs::create(rt, file) else {
         return Err(CommandFault::Write(file));
     };
-    match store_image(volume.image(), &mut writer) {
+    match store_image(image, &mut writer) {
         Ok(()) => Ok(()),
         Err(_) => Err(CommandFault::Write(file)),
     }
@@ -99,7 +116,7 @@ fn read_image<'a, R: Files, W: Write>(
 }
 
 /// The volume of an image file. Of an image that is refused the writer is told why.
-fn open_volume<'a, R: Files, W: Write>(
+pub(crate) fn open_volume<'a, R: Files, W: Write>(
     rt: &R,
     alloc: Global,
     file: &'a str,
@@ -179,7 +196,7 @@ fn accepted(volume: &Volume) -> &'static str {
 }
 
 /// Writes a text to standard output.
-fn tell<'a, W: Write>(writer: &mut W, text: &[u8]) -> Result<(), CommandFault<'a>> {
+pub(crate) fn tell<'a, W: Write>(writer: &mut W, text: &[u8]) -> Result<(), CommandFault<'a>> {
     match write_output(text, writer) {
         Ok(()) => Ok(()),
         Err(_) => Err(CommandFault::Output),

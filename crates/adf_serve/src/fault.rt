@@ -22,14 +22,20 @@ pub enum CommandFault<'a> {
     Name(&'a str),
     #[error("the image is refused")]
     Refused,
+    #[error("a thread cannot be made")]
+    Thread,
+    #[error("a client ran out of tries")]
+    Tries,
+    #[error("a script is faulty")]
+    Script,
 }
 
 impl CommandFault<'_> {
-    /// The program's exit status: 1 for a wrong number of blocks, 2 for what could not be read or written and for want of memory, 3 for what is refused.
+    /// The program's exit status: 1 for a wrong number of blocks, 2 for what could not be read or written, for want of memory or a thread and for a client that ran out of tries, 3 for what is refused.
     pub(crate) fn status(&self) -> u8 {
         match self {
             CommandFault::Blocks(_) => 1,
-            CommandFault::Name(_) | CommandFault::Refused => 3,
+            CommandFault::Name(_) | CommandFault::Refused | CommandFault::Script => 3,
             _ => 2,
         }
     }

@@ -4,6 +4,7 @@
 mod commands;
 mod fault;
 mod script;
+mod serving;
 mod words;
 
 pub use adf_run::{RunFault, run_volume};
@@ -18,6 +19,8 @@ mod command_tests;
 mod fault_tests;
 #[cfg(test)]
 mod script_tests;
+#[cfg(test)]
+mod serving_tests;
 #[cfg(test)]
 mod tests;
 #[cfg(test)]

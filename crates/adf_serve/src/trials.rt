@@ -11,7 +11,9 @@ use std::fs;
 use std::process::Abort;
 use std::rt::Files;
 use std::str::from_utf8;
+use std::sync::Wait;
 use std::test::Fail;
+use std::thread::Threads;
 
 const MOMENT: Date3 = Date3 {
     days: 0,
@@ -31,7 +33,7 @@ pub(crate) fn words_of(alloc: Global, line: &str) -> Result<Vec<String>, Fail> {
 
 /// Runs the words of a line, which are to end with this status and print this. They are to tell of a fault in a text
 /// that has all of these parts, or, where there are none, of no fault at all.
-pub(crate) fn expect<R: Files + Abort>(
+pub(crate) fn expect<R: Files + Threads + Wait + Copy + Send + Drop + Abort + 'static>(
     rt: &R,
     alloc: Global,
     line: &str,

@@ -10,11 +10,13 @@ use adf_words::{WordsFault, read_words};
 use std::alloc::Global;
 use std::io::{Read, Write};
 use std::rt::Files;
+use std::sync::Wait;
+use std::thread::Threads;
 
 /// Runs the program on the words behind its own name, and answers its exit status: 0 done, 1 a wrong command line,
-/// 2 a file or stream that cannot be read or written, or no memory, 3 an image, a name or a script that is refused. What
+/// 2 a file or stream that cannot be read or written, no memory, no thread, or a client that ran out of tries, 3 an image, a name or a script that is refused. What
 /// went wrong with the words, the files or the streams is told on `faults`.
-pub fn run_words<T: Files, R: Read, W: Write, F: Write>(
+pub fn run_words<T, R, W, F>(
     rt: &T,
     alloc: Global,
     words: &[String],
@@ -22,6 +24,11 @@ pub fn run_words<T: Files, R: Read, W: Write, F: Write>(
     writer: &mut W,
     faults: &mut F,
 ) -> u8
+where
+    T: Files + Threads + Wait + Copy + Send + Drop + 'static,
+    R: Read,
+    W: Write,
+    F: Write,
     ensures whole { words.now ≡ [] → result ≡ 0 → RunsScript (R.remaining reader.old) (R.remaining reader.new) (W.contents writer.old) (W.contents writer.new) true }
     ensures faulty { words.now ≡ [] → result ≡ 3 → RunsScript (R.remaining reader.old) (R.remaining reader.new) (W.contents writer.old) (W.contents writer.new) false }
 {
@@ -67,9 +74,9 @@ fn run_script<R: Read, W: Write, F: Write>(
     }
 }
 
-/// Tells a person of a fault, but of a refused image, of which standard output tells.
+/// Tells a person of a fault, but of a refused image and a faulty script, of which standard output tells.
 fn tell_fault<F: Write>(fault: &CommandFault<'_>, faults: &mut F) {
-    if !matches!(fault, CommandFault::Refused) {
+    if !matches!(fault, CommandFault::Refused | CommandFault::Script) {
         let _ = write!(faults, "adf_serve: {fault}\n");
     }
 }

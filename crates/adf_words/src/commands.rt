@@ -20,7 +20,8 @@ pub(crate) fn program<'a>(alloc: Global) -> Result<Command<'a>, AllocError> {
             alloc,
             "list",
             "Prints all directories and files of an image",
-        )?)
+        )?)?
+        .subcommand(serve(alloc)?)
 }
 
 /// The command `blank`.
@@ -31,17 +32,42 @@ fn blank<'a>(alloc: Global) -> Result<Command<'a>, AllocError> {
         )
         .arg(flag(alloc, "ffs", "The Fast File System"))?
         .arg(flag(alloc, "hd", "A high-density floppy, of 3,520 blocks").conflicts_with("blocks")?)?
-        .arg(number(alloc, "blocks", "How many blocks, from 16 to 101,602"))?
-        .arg(part_of_moment(alloc, "days", "Days since 1 January 1978"))?
-        .arg(part_of_moment(alloc, "minutes", "Minutes past midnight"))?
-        .arg(part_of_moment(alloc, "ticks", "Ticks of 1/50 second past the minute"))?;
-    command
+        .arg(option(alloc, "blocks", "N", "How many blocks, from 16 to 101,602"))?;
+    with_moment(alloc, command)?
         .arg(word(
             alloc,
             "NAME",
             "The volume's name: 1 to 30 bytes without `/` and `:`",
         ))?
         .arg(word(alloc, "FILE", "The file to write"))
+}
+
+/// The command `serve`.
+fn serve<'a>(alloc: Global) -> Result<Command<'a>, AllocError> {
+    let command = Command::new(alloc, "serve")
+        .about(
+            "Runs scripts over an image, each as a client on a thread of its own, and prints what each client was told",
+        )
+        .arg(option(
+            alloc,
+            "out",
+            "FILE",
+            "Writes the image to this file at the end",
+        ))?
+        .arg(option(
+            alloc,
+            "turns",
+            "N",
+            "How often a client tries to put a packet, and to take its reply",
+        )
+        .default_value("100000000"))?;
+    with_moment(alloc, command)?
+        .arg(word(alloc, "IMAGE", "The image"))?
+        .arg(
+            word(alloc, "SCRIPT", "A file of lines, one for each client")
+                .action(ArgAction::Append)
+                .num_args(1..),
+        )
 }
 
 /// A command on one image.
@@ -71,16 +97,24 @@ fn flag<'a>(alloc: Global, name: &'static str, help: &'static str) -> Arg<'a> {
         .help(help)
 }
 
-/// An option with a decimal number.
-fn number<'a>(alloc: Global, name: &'static str, help: &'static str) -> Arg<'a> {
+/// An option with a value.
+fn option<'a>(
+    alloc: Global,
+    name: &'static str,
+    value: &'static str,
+    help: &'static str,
+) -> Arg<'a> {
     Arg::new(alloc, name)
         .long(name)
-        .value_name("N")
+        .value_name(value)
         .action(ArgAction::Set)
         .help(help)
 }
 
-/// One of the three numbers of a moment.
-fn part_of_moment<'a>(alloc: Global, name: &'static str, help: &'static str) -> Arg<'a> {
-    number(alloc, name, help).default_value("0")
+/// A command with the three numbers of its moment.
+fn with_moment<'a>(alloc: Global, command: Command<'a>) -> Result<Command<'a>, AllocError> {
+    command
+        .arg(option(alloc, "days", "N", "Days since 1 January 1978").default_value("0"))?
+        .arg(option(alloc, "minutes", "N", "Minutes past midnight").default_value("0"))?
+        .arg(option(alloc, "ticks", "N", "Ticks of 1/50 second past the minute").default_value("0"))
 }

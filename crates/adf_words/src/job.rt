@@ -1,10 +1,12 @@
 //! What words ask for.
+ghost use Rattle.std.specs.Prelude.{◌<◌, length};
+
 use adf_block::Format;
 use ados_name::Date3;
 use std::alloc::AllocError;
 
 /// A job of the program. Names of files, and the name of a blank volume, are the words themselves.
-#[derive(Clone, Copy, Debug, PartialEq, Eq)]
+#[derive(Debug, Drop)]
 pub enum Job<'a> {
     /// No words: a script from standard input over a blank floppy.
     Script,
@@ -28,6 +30,22 @@ pub enum Job<'a> {
     List {
         file: &'a str,
     },
+    /// `serve`: scripts over an image.
+    Serve(ServeJob<'a>),
+}
+
+/// What `serve` is asked for.
+#[derive(Debug, Drop)]
+pub struct ServeJob<'a> {
+    pub image: &'a str,
+    /// The scripts of the clients 1, 2 and so on.
+    pub scripts: Vec<&'a str>,
+    /// Where the image is to be written.
+    pub out: Option<&'a str>,
+    /// How often a client tries to put a packet, and to take its reply.
+    pub turns: u64,
+    pub moment: Date3,
+    ghost some: { 0 < length scripts.items },
 }
 
 /// Why words ask for no job.

@@ -5,7 +5,7 @@ mod commands;
 mod job;
 mod reading;
 
-pub use job::{Job, WordsFault};
+pub use job::{Job, ServeJob, WordsFault};
 pub use reading::read_words;
 
 #[cfg(test)]

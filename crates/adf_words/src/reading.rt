@@ -1,8 +1,8 @@
 //! From words to a job.
-ghost use Rattle.std.specs.Prelude.{◌≡◌, []};
+ghost use Rattle.std.specs.Prelude.{◌≡◌, ◌≤◌, [], IfOk};
 
 use crate::commands::program;
-use crate::job::{Job, WordsFault};
+use crate::job::{Job, ServeJob, WordsFault};
 use adf_block::Format;
 use ados_name::Date3;
 use clap::ArgMatches;
@@ -14,9 +14,12 @@ const DOUBLE_DENSITY: u32 = 1_760;
 const HIGH_DENSITY: u32 = 3_520;
 
 /// The fewest and the most blocks that a volume has.
-const FEWEST_BLOCKS: u32 = 16;
+const FEWEST_BLOCKS: u64 = 16;
 
-const MOST_BLOCKS: u32 = 101_602;
+const MOST_BLOCKS: u64 = 101_602;
+
+/// The largest number of a moment.
+const LARGEST: u64 = 4_294_967_295;
 
 /// The job that these words ask for, which stand behind the program's own name.
 pub fn read_words<'a>(alloc: Global, words: &'a [String]) -> Result<Job<'a>, WordsFault>
@@ -46,6 +49,9 @@ fn job_of<'a>(
     name: &str,
     words: &ArgMatches<'a>,
 ) -> Result<Option<Job<'a>>, WordsFault> {
+    if name == "serve" {
+        return serve_job(alloc, words);
+    }
     let Some(file) = words.get_str("FILE") else {
         return Ok(None);
     };
@@ -68,7 +74,7 @@ fn blank_job<'a>(
         return Ok(None);
     };
     let given = match words.get_str("blocks") {
-        Some(_) => Some(number_of(alloc, words, "blocks", FEWEST_BLOCKS, MOST_BLOCKS)?),
+        Some(_) => Some(number_of(alloc, words, "blocks", FEWEST_BLOCKS, MOST_BLOCKS)? as u32),
         None => None,
     };
     let usual = if words.get_flag("hd") {
@@ -81,18 +87,40 @@ fn blank_job<'a>(
     } else {
         Format::Ofs
     };
-    let moment = Date3 {
-        days: number_of(alloc, words, "days", 0, u32::MAX)?,
-        minutes: number_of(alloc, words, "minutes", 0, u32::MAX)?,
-        ticks: number_of(alloc, words, "ticks", 0, u32::MAX)?,
-    };
     Ok(Some(Job::Blank {
         format,
         blocks: given.unwrap_or(usual),
-        moment,
+        moment: moment_of(alloc, words)?,
         name,
         file,
     }))
+}
+
+/// The job of `serve`.
+fn serve_job<'a>(alloc: Global, words: &ArgMatches<'a>) -> Result<Option<Job<'a>>, WordsFault> {
+    let Some(image) = words.get_str("IMAGE") else {
+        return Ok(None);
+    };
+    let scripts = Vec::from_slice(alloc, words.get_strs("SCRIPT").unwrap_or(&[]))?;
+    if scripts.is_empty() {
+        return Ok(None);
+    }
+    Ok(Some(Job::Serve(ServeJob {
+        image,
+        scripts,
+        out: words.get_str("out"),
+        turns: number_of(alloc, words, "turns", 0, u64::MAX)?,
+        moment: moment_of(alloc, words)?,
+    })))
+}
+
+/// The moment of a command.
+fn moment_of(alloc: Global, words: &ArgMatches<'_>) -> Result<Date3, WordsFault> {
+    Ok(Date3 {
+        days: number_of(alloc, words, "days", 0, LARGEST)? as u32,
+        minutes: number_of(alloc, words, "minutes", 0, LARGEST)? as u32,
+        ticks: number_of(alloc, words, "ticks", 0, LARGEST)? as u32,
+    })
 }
 
 /// The value of a number's option, which is digits alone: a parse by `clap` would take a sign too.
@@ -100,12 +128,14 @@ fn number_of(
     alloc: Global,
     words: &ArgMatches<'_>,
     id: &str,
-    least: u32,
-    most: u32,
-) -> Result<u32, WordsFault> {
+    least: u64,
+    most: u64,
+) -> Result<u64, WordsFault>
+    ensures { IfOk result (λ number. (least ≤ number) × (number ≤ most)) }
+{
     let text = words.get_str(id).unwrap_or("");
     if text.as_bytes().iter().all(|byte| byte.is_ascii_digit()) {
-        if let Ok(number) = text.parse::<u32>() {
+        if let Ok(number) = text.parse::<u64>() {
             if least <= number && number <= most {
                 return Ok(number);
             }

@@ -1,18 +1,18 @@
 -- What the joined threads hand back, client by client.
-use Rattle.std.proofs.Common.{◌≡◌, ℕ, zero, suc, ◌<◌, ◌≤◌, List, [], ◌∷◌, ◌++◌, map, length, Some, None, slice_get, sym, refl, ap, ◌∙◌, subst, arith, append-nil, length-append, ⊎_elim}
-use Rattle.std.proofs.lemmas.Option.{slice_get_within, slice_get_read, slice_get_cases}
-use Rattle.std.proofs.Math.ListN.{get_or}
-use Rattle.std.proofs.lemmas.List.{length-map}
+use Rattle.std.proofs.Common.{◌≡◌, ℕ, zero, suc, List, [], ◌∷◌, ◌++◌, map, length, Some, slice_get, sym, refl, ap, ◌∙◌, subst, arith, append-nil, length-append, inl, inr}
+use Rattle.std.proofs.lemmas.List.{length-map, map-append}
+use Rattle.std.proofs.lemmas.Option.{none-some}
+use Rattle.ados_ends.specs.Ends.{ClientView}
+use Rattle.ados_ends.proofs.Moves.{get_end}
+use Rattle.ados_threads.specs.Grown.{Did, EachDid}
 
 nil_of : {X : Type 0} (xs : List X) → length xs ≡ 0 → xs ≡ []
 nil_of [] e = refl
 nil_of (x ∷ xs) e = absurd (omega arith)
 
-module _ {X Y : Type 0} where
-  get_map : (f : X → Y) (xs : List X) (k : ℕ) (x : X) → slice_get xs k ≡ Some x → slice_get (map f xs) k ≡ Some (f x)
-  get_map f [] k x e = cc
-  get_map f (y ∷ ys) zero x e = ap (λ z. Some (f z)) (let s : y ≡ x = cc in s)
-  get_map f (y ∷ ys) (suc k) x e = get_map f ys k x e
+-- all was gone over
+pub none_left : {X : Type 0} (ys rest all : List X) → ys ++ rest ≡ all → length rest ≡ 0 → ys ≡ all
+none_left ys rest all whole none = sym (append-nil ys) ∙ (ap (λ l. ys ++ l) (sym (nil_of rest none)) ∙ whole)
 
 module _ {H J V : Type 0} where
   -- every job was started, where every end was
@@ -29,33 +29,54 @@ module _ {H J V : Type 0} where
       let r : jobs ≡ [] = nil_of jobs (omega arith) in
       sym (append-nil (map jobv hs)) ∙ (ap (λ (l : List J). map jobv hs ++ l) (sym r) ∙ parts)
 
-module _ {H J V T : Type 0} where
-  -- hs are the handles, each with its end and its job, and done is what their threads handed back
-  pub each_did : (endv : H → V) (jobv : H → J) (K : J → V → V → T → Type 0) (hs : List H) (done : List (V × T)) (ends new : List V) (jobs : List J) (reports : List T)
-      → map endv hs ≡ ends → map jobv hs ≡ jobs → new ≡ map (λ d. d.0) done → reports ≡ map (λ d. d.1) done → length done ≡ length hs
-      → ((k : ℕ) (d : V × T) → k < length hs → (h : H) × (h ≡ get_or hs k h) × K (jobv h) (endv h) (get_or done k d).0 (get_or done k d).1)
-      → (length new ≡ length ends) × (length reports ≡ length ends)
-      × ((k : ℕ) (o : V) → slice_get ends k ≡ Some o → (job : J) × (n : V) × (report : T) × (slice_get jobs k ≡ Some job) × (slice_get new k ≡ Some n) × (slice_get reports k ≡ Some report) × K job o n report)
-  each_did endv jobv K hs done ends new jobs reports is_ends is_jobs is_new is_reports len each =
-      let long : length hs ≡ length ends = sym (length-map hs endv) ∙ ap (λ (l : List V). length l) is_ends in (
-        ap (λ (l : List V). length l) is_new ∙ (length-map done (λ (d : V × T). d.0) ∙ (len ∙ long)),
-        ap (λ (l : List T). length l) is_reports ∙ (length-map done (λ (d : V × T). d.1) ∙ (len ∙ long)),
-        λ k o at.
-            let within = slice_get_within ends k o at in
-            ⊎_elim
-            (λ (e : (d : V × T) × (k < length done) × (slice_get done k ≡ Some d) × (get_or done k d ≡ d)).
-            let h = each k e.0 (omega arith) in
-            let place : slice_get hs k ≡ Some h.0 = slice_get_read hs (length hs) k h.0 refl (omega arith) h.1 in
-            let there : slice_get ends k ≡ Some (endv h.0) = subst (λ (l : List V). slice_get l k ≡ Some (endv h.0)) is_ends (get_map endv hs k h.0 place) in
-            let same : endv h.0 ≡ o = cc in (
-              jobv h.0,
-              e.0.0,
-              e.0.1,
-              subst (λ (l : List J). slice_get l k ≡ Some (jobv h.0)) is_jobs (get_map jobv hs k h.0 place),
-              subst (λ (l : List V). slice_get l k ≡ Some e.0.0) (sym is_new) (get_map (λ (d : V × T). d.0) done k e.0 e.2),
-              subst (λ (l : List T). slice_get l k ≡ Some e.0.1) (sym is_reports) (get_map (λ (d : V × T). d.1) done k e.0 e.2),
-              subst (λ (z : V × (V × T)). K (jobv h.0) z.0 z.1.0 z.1.1) (λ i. (same i, e.3 i)) h.2,
-            ))
-            (λ (e : (length done ≤ k) × (slice_get done k ≡ None)). let far = e.0 in absurd (omega arith))
-            (slice_get_cases done k).1,
+module _ {X : Type 0} where
+  -- an element stays where it is in a longer list
+  get_front : (xs ys : List X) (k : ℕ) (x : X) → slice_get xs k ≡ Some x → slice_get (xs ++ ys) k ≡ Some x
+  get_front [] ys k x e = absurd (none-some x e)
+  get_front (z ∷ zs) ys zero x e = e
+  get_front (z ∷ zs) ys (suc k) x e = get_front zs ys k x e
+
+  -- the last element
+  get_last : (xs : List X) (x : X) (k : ℕ) → k ≡ length xs → slice_get (xs ++ x ∷ []) k ≡ Some x
+  get_last xs x k e = ap (slice_get (xs ++ x ∷ [])) e ∙ at xs
+    where
+      at : (zs : List X) → slice_get (zs ++ x ∷ []) (length zs) ≡ Some x
+      at [] = refl
+      at (z ∷ zs) = at zs
+
+module _ {Q M A J T : Type 0} (does : J → ClientView Q M A → ClientView Q M A → T → Type 0) where
+  -- one more client did its job
+  pub each_did_more : (jobs : List J) (old new : List (ClientView Q M A)) (reports : List T) (job : J) (o n : ClientView Q M A) (report : T)
+      → length jobs ≡ length old → EachDid does jobs old new reports → Did does job o n report
+      → EachDid does (jobs ++ job ∷ []) (old ++ o ∷ []) (new ++ n ∷ []) (reports ++ report ∷ [])
+  each_did_more jobs old new reports job o n report as_long each did = (
+    (let a = length-append new (n ∷ []) in let b = length-append old (o ∷ []) in let e = each.0 in omega arith),
+    (let a = length-append reports (report ∷ []) in let b = length-append old (o ∷ []) in let e = each.1 in omega arith),
+    λ k x at. elim (get_end old o x k at) [
+      | inl w ↦
+          let d = each.2 k x w in
+          (d.0, d.1, d.2, get_front jobs (job ∷ []) k d.0 d.3, get_front new (n ∷ []) k d.1 d.4, get_front reports (report ∷ []) k d.2 d.5, d.6)
+      | inr w ↦ (
+        job,
+        n,
+        report,
+        get_last jobs job k (w.0 ∙ sym as_long),
+        get_last new n k (w.0 ∙ sym each.0),
+        get_last reports report k (w.0 ∙ sym each.1),
+        subst (λ (z : ClientView Q M A). Did does job z n report) w.1 did,
       )
+    ],
+  )
+
+  -- the same of lists that are equal
+  pub did_alike : (jobs jobs' : List J) (old old' new : List (ClientView Q M A)) (reports : List T) → jobs ≡ jobs' → old ≡ old' → EachDid does jobs old new reports → EachDid does jobs' old' new reports
+  did_alike jobs jobs' old old' new reports same_jobs same_old did =
+      subst (λ (l : List J). EachDid does l old' new reports) same_jobs (subst (λ (l : List (ClientView Q M A)). EachDid does jobs l new reports) same_old did)
+
+  -- one more thread was joined
+  pub joined_more : {H : Type 0} (jobv : H → J) (endv : H → ClientView Q M A) (hs : List H) (h : H) (new new' : List (ClientView Q M A)) (reports reports' : List T) (n : ClientView Q M A) (report : T)
+      → EachDid does (map jobv hs) (map endv hs) new reports → Did does (jobv h) (endv h) n report → new' ≡ new ++ n ∷ [] → reports' ≡ reports ++ report ∷ []
+      → EachDid does (map jobv (hs ++ h ∷ [])) (map endv (hs ++ h ∷ [])) new' reports'
+  joined_more jobv endv hs h new new' reports reports' n report each did is_new is_reports =
+      rw (map-append jobv hs (h ∷ []), map-append endv hs (h ∷ []), is_new, is_reports)
+      (each_did_more (map jobv hs) (map endv hs) new reports (jobv h) (endv h) n report (length-map hs jobv ∙ sym (length-map hs endv)) each did)

@@ -1,5 +1,5 @@
 // The clients' threads, and the batches beside them.
-ghost use Rattle.std.specs.Prelude.{◌≡◌, ◌≤◌, List, [], IfOk, length, map, vec_capacity};
+ghost use Rattle.std.specs.Prelude.{◌≡◌, ◌≤◌, List, [], IfOk, OnOk, length, map, vec_capacity};
 ghost use Rattle.ados_server.specs.History.{Serving};
 ghost use Rattle.ados_ends.specs.Ends.{AreEnds, Serves};
 ghost use Rattle.ados_threads.specs.Grown.{Did, EachDid};
@@ -87,7 +87,9 @@ where
     }
 }
 
-// Serves until this many threads have ended and a batch finds nothing.
+// Serves until this many threads have ended and a batch found nothing.
+//
+// A batch that is refused memory is tried again as long as a thread runs. After the last one has ended it is a fault.
 fn serve_until_ended<S: Server, R: Wait>(
     rt: &R,
     handler: &mut HandlerEnd<S>,
@@ -107,20 +109,25 @@ fn serve_until_ended<S: Server, R: Wait>(
                 thread::yield_now();
             }
             Ok(_) => {}
-            Err(_) => return Err(ServeClientsFault::Memory),
+            Err(_) => {
+                if all {
+                    return Err(ServeClientsFault::Memory);
+                }
+                thread::yield_now();
+            }
         }
     }
     Ok(())
 }
 
-// Starts a thread for each client, in order.
+// Starts a thread for each client, in order. After a fault those that were started run on.
 fn start_clients<S, C, R>(
     rt: &R,
-    alloc: Global,
     ends: Vec<ClientEnd<S>>,
     jobs: Vec<C>,
     ended: &Arc<AtomicUsize, Global>,
-) -> Result<Vec<PromisedHandle<(ClientEnd<S>, C::Report), EndOf<S, C>>>, ServeClientsFault>
+    handles: &mut Vec<PromisedHandle<(ClientEnd<S>, C::Report), EndOf<S, C>>>,
+) -> Result<(), ServeClientsFault>
 where
     S: Server + Send + 'static,
     S::Request: Send + 'static,
@@ -129,11 +136,12 @@ where
     C: Client<S> + Drop + Send + 'static,
     C::Report: Send + 'static,
     R: Threads + Wait + Copy + Send + Drop + 'static,
-    requires { length jobs.items ≡ length ends.items }
-    ensures ends { IfOk result (λ hs. map (λ h. h.promise.end.value) hs.items ≡ ends.items) }
-    ensures jobs { IfOk result (λ hs. map (λ h. h.promise.job.value) hs.items ≡ jobs.items) }
+    requires jobs { length jobs.items ≡ length ends.items }
+    requires empty { handles.old.items ≡ [] }
+    ensures ends { OnOk result (map (λ h. h.promise.end.value) handles.new.items ≡ ends.items) }
+    ensures jobs { OnOk result (map (λ h. h.promise.job.value) handles.new.items ≡ jobs.items) }
+    ensures few { length handles.new.items ≤ length ends.items }
 {
-    let mut handles = Vec::new(alloc);
     let mut jobs = VecDeque::from_vec(jobs);
     for end in ends {
         let Some(job) = jobs.pop_front() else {
@@ -148,18 +156,28 @@ where
         let handle = start_client(rt, end, job, there)?;
         handles.push_reserved(handle);
     }
-    Ok(handles)
+    Ok(())
 }
 
-// Parts what the threads hand back, into lists that have the room.
-fn part<E: Drop, T: Drop>(done: Vec<(E, T)>, ends: Vec<E>, reports: Vec<T>) -> (Vec<E>, Vec<T>)
+// Joins each thread, in order. The lists have the room for what the threads hand back.
+fn join_clients<S, C, R>(
+    rt: &R,
+    handles: Vec<PromisedHandle<(ClientEnd<S>, C::Report), EndOf<S, C>>>,
+    ends: Vec<ClientEnd<S>>,
+    reports: Vec<C::Report>,
+) -> (Vec<ClientEnd<S>>, Vec<C::Report>)
+where
+    S: Server,
+    C: Client<S>,
+    R: Threads,
     requires empty { (ends.items ≡ []) × (reports.items ≡ []) }
-    requires room { (length done.items ≤ vec_capacity ends) × (length done.items ≤ vec_capacity reports) }
-    ensures { (result.0.items ≡ map (λ d. d.0) done.items) × (result.1.items ≡ map (λ d. d.1) done.items) }
+    requires room { (length handles.items ≤ vec_capacity ends) × (length handles.items ≤ vec_capacity reports) }
+    ensures { EachDid C.does (map (λ h. h.promise.job.value) handles.items) (map (λ h. h.promise.end.value) handles.items) result.0.items result.1.items }
 {
     let mut ends = ends;
     let mut reports = reports;
-    for (end, report) in done {
+    for handle in handles {
+        let (end, report) = handle.join(rt);
         ends.push_reserved(end);
         reports.push_reserved(report);
     }
@@ -168,7 +186,7 @@ fn part<E: Drop, T: Drop>(done: Vec<(E, T)>, ends: Vec<E>, reports: Vec<T>) -> (
 
 /// Runs each client on a thread of its own, and the handler on this one, until every client has ended and a batch found nothing.
 ///
-/// The ends come back in the order of the clients, each grown from its own, so that `gather` can be called with them. On a fault they are given up, and threads that were started are not joined.
+/// The ends come back in the order of the clients, each grown from its own, so that `gather` can be called with them. On a fault the ends are given up, after the clients whose threads were started have been served to their end and joined.
 pub fn serve_clients<S, C, R>(
     rt: &R,
     alloc: Global,
@@ -201,13 +219,13 @@ where
     let Ok(reports) = Vec::with_capacity(alloc, threads) else {
         return Err(ServeClientsFault::Memory);
     };
-    let handles = start_clients(rt, alloc, ends, jobs, &ended)?;
+    let mut handles = Vec::new(alloc);
+    let started = start_clients(rt, ends, jobs, &ended, &mut handles);
     let mut handler = handler;
-    serve_until_ended(rt, &mut handler, moment, &ended, threads)?;
-    let Ok(done) = thread::join_promised(rt, handles) else {
-        return Err(ServeClientsFault::Memory);
-    };
-    let (ends, reports) = part(done, kept, reports);
+    let served = serve_until_ended(rt, &mut handler, moment, &ended, handles.len());
+    let (ends, reports) = join_clients(rt, handles, kept, reports);
+    started?;
+    served?;
     Ok(Served {
         handler,
         ends,

@@ -1,5 +1,5 @@
 -- What the tests' own server does.
-use Rattle.std.specs.Prelude.{◌≡◌, ℕ, Bool, true, false, ◌==◌, ◌||◌}
+use Rattle.std.specs.Prelude.{ℕ, Bool, true, false, ◌==◌}
 use Rattle.port_cases.specs.declared.stub.Results.{Results}
 use Rattle.port_cases.specs.declared.stub.Results.TheVariants.{Unknown, Ended, Dead}
 

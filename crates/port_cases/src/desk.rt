@@ -1,35 +1,46 @@
 // A port with all its ends in one hand.
-ghost use Rattle.std.specs.Prelude.{◌≡◌, ◌<◌, length};
+ghost use Rattle.std.specs.Prelude.{◌≡◌, ◌<◌, false, IfErr, length};
 ghost use Rattle.ados_ends.specs.Ends.{AreEnds};
 
-use crate::stub::{Answer, Stub};
 use ados_ends::{
     ClientEnd, GatherRefused, Gathered, HandlerEnd, ServeEnd, ServeFault, gather, open_port,
 };
-use ados_server::{PutRefused, Reply};
+use ados_server::{PutRefused, Reply, Server};
 use std::alloc::Global;
 use std::sync::Wait;
 
-/// The moment of every batch.
-pub const MOMENT: u64 = 7;
-
 /// A port's ends. Clients are named by their number, from 1.
 #[derive(Drop)]
-pub struct Port {
-    pub handler: HandlerEnd<Stub>,
-    pub ends: Vec<ClientEnd<Stub>>,
+pub struct Port<S: Server> {
+    pub handler: HandlerEnd<S>,
+    pub ends: Vec<ClientEnd<S>>,
+    /// The moment of every batch.
+    pub moment: S::Moment,
     ghost all: { AreEnds handler ends.items },
 }
 
-impl Port {
-    /// Opens a port. It needs a client and a place, and hands nothing back where memory was refused.
-    pub fn open(alloc: Global, clients: usize, ring: usize) -> Option<Port> {
+impl<S: Server> Port<S> {
+    /// Opens a port. It needs a client and a place, and hands the server back where there is none, or memory was refused.
+    pub fn open(
+        alloc: Global,
+        server: S,
+        moment: S::Moment,
+        clients: usize,
+        ring: usize,
+    ) -> Result<Port<S>, S>
+        requires { S.has_died server ≡ false }
+        ensures { IfErr result (λ back. back ≡ server) }
+    {
         if clients == 0 || ring == 0 {
-            return None;
+            return Err(server);
         }
-        match open_port(alloc, Stub::new(), clients, ring) {
-            Ok((handler, ends)) => Some(Port { handler, ends }),
-            Err(_) => None,
+        match open_port(alloc, server, clients, ring) {
+            Ok((handler, ends)) => Ok(Port {
+                handler,
+                ends,
+                moment,
+            }),
+            Err(refused) => Err(refused.server),
         }
     }
 
@@ -38,20 +49,20 @@ impl Port {
         &mut self,
         rt: &R,
         client: usize,
-        action: u32,
-    ) -> Result<u64, PutRefused<u32>> {
+        packet: S::Request,
+    ) -> Result<u64, PutRefused<S::Request>> {
         if client == 0 || client > self.ends.len() {
-            return Err(PutRefused::NoRoom(action));
+            return Err(PutRefused::NoRoom(packet));
         }
         let end = &mut self.ends[client - 1];
-        match end.put(rt, action) {
+        match end.put(rt, packet) {
             Ok(number) => Ok(number),
             Err(PutRefused::Closed(back)) => Err(PutRefused::Closed(back)),
             Err(PutRefused::NoRoom(back)) => Err(PutRefused::NoRoom(back)),
         }
     }
 
-    pub fn take(&mut self, client: usize) -> Option<Reply<Answer>> {
+    pub fn take(&mut self, client: usize) -> Option<Reply<S::Reply>> {
         if client == 0 || client > self.ends.len() {
             return None;
         }
@@ -69,7 +80,7 @@ impl Port {
     }
 
     pub fn serve_batch<R: Wait>(&mut self, rt: &R, limit: usize) -> Result<usize, ServeFault> {
-        let served = self.handler.serve_batch(rt, MOMENT, limit)?;
+        let served = self.handler.serve_batch(rt, self.moment, limit)?;
         Ok(served)
     }
 
@@ -84,17 +95,22 @@ impl Port {
     ) -> Result<ServeEnd, ServeFault>
         requires { 0 < idle_limit }
     {
-        self.handler.serve_until_closed(rt, MOMENT, idle_limit)
+        self.handler.serve_until_closed(rt, self.moment, idle_limit)
     }
 
     /// Gathers the ends. Where memory was refused the port is as it was.
-    pub fn gather<R: Wait>(self, rt: &R, alloc: Global) -> Result<Gathered<Stub>, Port> {
-        let Port { handler, ends } = self;
+    pub fn gather<R: Wait>(self, rt: &R, alloc: Global) -> Result<Gathered<S>, Port<S>> {
+        let Port {
+            handler,
+            ends,
+            moment,
+        } = self;
         match gather(rt, alloc, handler, ends) {
             Ok(gathered) => Ok(gathered),
             Err(GatherRefused { handler, clients }) => Err(Port {
                 handler,
                 ends: clients,
+                moment,
             }),
         }
     }

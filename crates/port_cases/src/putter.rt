@@ -1,49 +1,59 @@
-// A client that puts one action after another.
-ghost use Rattle.std.specs.Prelude.{◌≡◌, ◌≤◌};
+// A client that puts one packet after another.
+ghost use Rattle.std.specs.Prelude.{◌≡◌, ◌≤◌, length};
 ghost use Rattle.ados_threads.specs.Grown.{Grown};
 
-use crate::stub::{DIE, Stub};
 use ados_ends::ClientEnd;
-use ados_server::PutRefused;
+use ados_server::{PutRefused, Server};
 use ados_threads::Client;
 use std::sync::Wait;
 use std::thread;
 
-/// Puts so many packets of action 999, trying again where memory was refused, and ends at the close. It may put DIE in between.
+/// Puts its packets in order, each again where memory was refused, and ends at the close.
 #[derive(Drop)]
-pub struct Putter {
-    pub puts: usize,
-    pub die_after: usize,
+pub struct Putter<S: Server> {
+    pub packets: Vec<S::Request>,
+    /// How often it tries a put.
     pub turns: u64,
 }
 
-impl Client<Stub> for Putter {
+impl<S: Server> Client<S> for Putter<S> {
+    ghost use Rattle.std.specs.Prelude.{◌≤◌, length};
+
     type Report = usize;
 
-    ghost does = { λ job old new report. report ≤ job.puts };
+    ghost does = { λ job old new report. report ≤ length job.packets.items };
 
     // How many packets were accepted.
-    fn run<R: Wait>(self, rt: &R, end: &mut ClientEnd<Stub>) -> usize {
-        for place in 0..self.puts {
-            let action = if place == self.die_after { DIE } else { 999 };
-            if !put_one(rt, end, action, self.turns) {
-                return place;
+    fn run<R: Wait>(self, rt: &R, end: &mut ClientEnd<S>) -> usize {
+        let Putter { packets, turns } = self;
+        let mut accepted = 0;
+        for packet in packets {
+            if !put_one(rt, end, packet, turns) {
+                return accepted;
             }
+            accepted += 1;
         }
-        self.puts
+        accepted
     }
 }
 
 // Puts one packet, with so many tries. It was not put where the port has closed or the tries ran out.
-fn put_one<R: Wait>(rt: &R, end: &mut ClientEnd<Stub>, action: u32, turns: u64) -> bool
+fn put_one<S: Server, R: Wait>(
+    rt: &R,
+    end: &mut ClientEnd<S>,
+    packet: S::Request,
+    turns: u64,
+) -> bool
     ensures { Grown end.old end.new }
 {
+    let mut packet = packet;
     for _ in 0..turns {
-        match end.put(rt, action) {
+        match end.put(rt, packet) {
             Ok(_) => return true,
             Err(PutRefused::Closed(_)) => return false,
-            Err(PutRefused::NoRoom(_)) => thread::yield_now(),
+            Err(PutRefused::NoRoom(back)) => packet = back,
         }
+        thread::yield_now();
     }
     false
 }

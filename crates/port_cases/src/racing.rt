@@ -1,12 +1,13 @@
-// Clients that put at the same time.
-ghost use Rattle.std.specs.Prelude.{◌≡◌, ◌<◌, IfSome, length};
+// Four clients that put at the same time.
+ghost use Rattle.std.specs.Prelude.{◌≡◌, false};
 
-use crate::desk::MOMENT;
 use crate::putter::Putter;
-use crate::stub::Stub;
+use crate::turns::{DIE, STRANGE};
+use crate::voice::Voice;
 use ados_ends::{Gathered, gather, open_port};
+use ados_server::Server;
 use ados_threads::{Served, serve_clients};
-use std::alloc::Global;
+use std::alloc::{AllocError, Global};
 use std::sync::Wait;
 use std::thread::Threads;
 
@@ -15,36 +16,57 @@ const PUTS: usize = 1000;
 
 const TURNS: u64 = 100_000_000;
 
-// The clients' jobs. The first one's packet at the place `die_at` is DIE.
-fn jobs(alloc: Global, clients: usize, die_at: usize) -> Option<Vec<Putter>>
-    ensures { IfSome result (λ v. length v.items ≡ clients) }
-{
-    let mut jobs = Vec::new(alloc);
-    for client in 0..clients {
-        let job = Putter {
-            puts: PUTS,
-            die_after: if client == 0 { die_at } else { usize::MAX },
-            turns: TURNS,
-        };
-        jobs.push(job).ok()?;
+/// How many places the ring of each client has.
+const RING: usize = 8;
+
+// A client's packets. The one at the place `die_at` is DIE.
+fn putter<S: Server, V: Voice<S>>(
+    alloc: Global,
+    voice: &V,
+    die_at: Option<usize>,
+) -> Result<Putter<S>, AllocError> {
+    let mut packets = Vec::new(alloc);
+    for place in 0..PUTS {
+        let action = if die_at == Some(place) { DIE } else { STRANGE };
+        packets.push(voice.packet(action))?;
     }
-    Some(jobs)
+    Ok(Putter {
+        packets,
+        turns: TURNS,
+    })
 }
 
-/// Lets clients put 1,000 packets each, on threads of their own. It gives what is left of the port, and how many packets of each client were accepted.
-pub fn race<R: Threads + Wait + Copy + Send + Drop + 'static>(
+/// What a race leaves of a port, and how many packets of each client were accepted.
+#[derive(Drop)]
+pub struct Raced<S: Server> {
+    pub left: Gathered<S>,
+    pub accepted: Vec<usize>,
+}
+
+// Lets clients do their jobs, each on a thread of its own, and the handler serve on this one. It gives none where there is no job, or memory or a thread was refused.
+fn race<S, R>(
     rt: &R,
     alloc: Global,
-    clients: usize,
-    die_at: usize,
-) -> Option<(Gathered<Stub>, Vec<usize>)>
-    requires { 0 < clients }
+    server: S,
+    moment: S::Moment,
+    jobs: Vec<Putter<S>>,
+) -> Option<Raced<S>>
+where
+    S: Server + Drop + Send + 'static,
+    S::Request: Send + 'static,
+    S::Reply: Send + 'static,
+    S::Moment: Send + 'static,
+    R: Threads + Wait + Copy + Send + Drop + 'static,
+    requires { S.has_died server ≡ false }
 {
-    let jobs = jobs(alloc, clients, die_at)?;
-    let Ok((handler, ends)) = open_port(alloc, Stub::new(), clients, 8) else {
+    let clients = jobs.len();
+    if clients == 0 {
+        return None;
+    }
+    let Ok((handler, ends)) = open_port(alloc, server, clients, RING) else {
         return None;
     };
-    let Ok(served) = serve_clients(rt, alloc, handler, ends, jobs, MOMENT) else {
+    let Ok(served) = serve_clients(rt, alloc, handler, ends, jobs, moment) else {
         return None;
     };
     let Served {
@@ -55,5 +77,34 @@ pub fn race<R: Threads + Wait + Copy + Send + Drop + 'static>(
     let Ok(left) = gather(rt, alloc, handler, ends) else {
         return None;
     };
-    Some((left, reports))
+    Some(Raced {
+        left,
+        accepted: reports,
+    })
+}
+
+/// Lets four clients put 1,000 packets each, on threads of their own, and the handler serve on this one. The first client's packet at the place `die_at` is DIE. It gives none where memory or a thread was refused.
+pub fn race_of_four<S, V, R>(
+    rt: &R,
+    alloc: Global,
+    voice: &V,
+    server: S,
+    moment: S::Moment,
+    die_at: Option<usize>,
+) -> Option<Raced<S>>
+where
+    S: Server + Drop + Send + 'static,
+    S::Request: Send + 'static,
+    S::Reply: Send + 'static,
+    S::Moment: Send + 'static,
+    V: Voice<S>,
+    R: Threads + Wait + Copy + Send + Drop + 'static,
+    requires { S.has_died server ≡ false }
+{
+    let first = putter(alloc, voice, die_at).ok()?;
+    let second = putter(alloc, voice, None).ok()?;
+    let third = putter(alloc, voice, None).ok()?;
+    let fourth = putter(alloc, voice, None).ok()?;
+    let jobs = vec![in alloc; first, second, third, fourth].ok()?;
+    race(rt, alloc, server, moment, jobs)
 }

@@ -1,10 +1,11 @@
 // A server of action numbers.
 ghost use Rattle.std.specs.Prelude.{◌≡◌, false};
 
+use crate::voice::Voice;
 use ados_server::Server;
 
 /// The action number of DIE.
-pub const DIE: u32 = 5;
+const DIE: u32 = 5;
 
 /// The two results of an action.
 #[derive(Drop, Copy, Clone, PartialEq, Debug)]
@@ -97,4 +98,22 @@ impl Server for Stub {
     ghost stays_dead = { λ old new request moment reply given dead. stays old.died new.died request given.1 dead };
 
     ghost closes_dead = { λ old new request moment reply given closing. closes_then old.died new.died request reply.results given.0 given.1 closing };
+}
+
+/// A packet of this server is the number of its action.
+#[derive(Clone, Copy)]
+pub struct Numbers;
+
+impl Voice<Stub> for Numbers {
+    fn packet(&self, action: i32) -> u32 {
+        action.cast_unsigned()
+    }
+
+    fn action(&self, packet: &u32) -> i32 {
+        packet.cast_signed()
+    }
+
+    fn results(&self, reply: &Answer) -> (i32, i32) {
+        reply.results.numbers()
+    }
 }

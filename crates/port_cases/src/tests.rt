@@ -1,305 +1,119 @@
-ghost use Rattle.std.specs.Prelude.{◌≡◌, ◌<◌};
+//! The cases over the server of action numbers.
+ghost use Rattle.std.specs.Prelude.{◌≡◌};
 
-use crate::{Answer, DIE, Port, Results, Stub, race};
-use ados_ends::{Gathered, ServeEnd};
-use ados_server::{PutRefused, Reply};
+use crate::cases::*;
+use crate::{Case, Numbers, Raced, Results, Stub, is_parted, left_text, play, race_of_four};
 use std::alloc::Global;
+use std::process::Abort;
 use std::sync::Wait;
-use std::test::*;
+use std::test::Fail;
 
-// The results of a reply with this number.
-fn results(reply: Option<Reply<Answer>>, number: u64) -> Option<(i32, i32)> {
-    let reply = reply?;
-    if reply.number != number {
-        return None;
-    }
-    Some(reply.answer.results.numbers())
+/// The moment of every batch.
+const MOMENT: u64 = 7;
+
+/// A case goes as it says.
+fn expect<R: Abort + Wait>(rt: &R, alloc: Global, case: Case) -> Result<(), Fail> {
+    let strayed = play(rt, alloc, &Numbers, Stub::new(), MOMENT, case)?;
+    assert!(rt; strayed.is_empty(), "{strayed}");
+    Ok(())
 }
 
-fn is_closed(put: Result<u64, PutRefused<u32>>, action: u32) -> bool {
-    match put {
-        Err(PutRefused::Closed(back)) => back == action,
-        _ => false,
-    }
+#[test]
+fn rings(rt: HostRuntime) -> Result<(), Fail> {
+    expect(&rt, rt.alloc(), RINGS)
 }
 
-// Whether these are the untaken replies of a client: their first number, and each one's results.
-fn untaken(left: &Gathered<Stub>, client: usize, first: u64, all: &[(i32, i32)]) -> bool {
-    let Some(replies) = left.untaken.get(client.saturating_sub(1)) else {
-        return false;
+#[test]
+fn half_served(rt: HostRuntime) -> Result<(), Fail> {
+    expect(&rt, rt.alloc(), HALF_SERVED)
+}
+
+#[test]
+fn close(rt: HostRuntime) -> Result<(), Fail> {
+    expect(&rt, rt.alloc(), CLOSE)
+}
+
+#[test]
+fn die_in_the_ring(rt: HostRuntime) -> Result<(), Fail> {
+    expect(&rt, rt.alloc(), DIE_IN_THE_RING)
+}
+
+#[test]
+fn news_of_the_close(rt: HostRuntime) -> Result<(), Fail> {
+    expect(&rt, rt.alloc(), NEWS_OF_THE_CLOSE)
+}
+
+#[test]
+fn idle_limit(rt: HostRuntime) -> Result<(), Fail> {
+    expect(&rt, rt.alloc(), IDLE_LIMIT)
+}
+
+#[test]
+fn a_thousand_puts(rt: HostRuntime) -> Result<(), Fail> {
+    expect(&rt, rt.alloc(), A_THOUSAND_PUTS)
+}
+
+#[test]
+fn unanswered_after_die(rt: HostRuntime) -> Result<(), Fail> {
+    expect(&rt, rt.alloc(), UNANSWERED_AFTER_DIE)
+}
+
+#[test]
+fn batch_refused(rt: HostRuntime) -> Result<(), Fail> {
+    expect(&rt, rt.alloc(), BATCH_REFUSED)
+}
+
+#[test]
+fn gather_refused(rt: HostRuntime) -> Result<(), Fail> {
+    expect(&rt, rt.alloc(), GATHER_REFUSED)
+}
+
+#[test]
+fn port_refused(rt: HostRuntime) -> Result<(), Fail> {
+    expect(&rt, rt.alloc(), PORT_REFUSED)
+}
+
+#[test]
+fn four_threads_put(rt: HostRuntime) -> Result<(), Fail> {
+    let Some(raced) = race_of_four(&rt, rt.alloc(), &Numbers, Stub::new(), MOMENT, None) else {
+        return Err(Fail::from("memory or a thread"));
     };
-    if replies.len() != all.len() {
-        return false;
-    }
-    let mut number = first;
-    for (reply, wanted) in replies.iter().zip(all) {
-        if reply.number != number || reply.answer.results.numbers() != *wanted {
-            return false;
-        }
-        number = number.wrapping_add(1);
-    }
-    true
-}
-
-fn unanswered(left: &Gathered<Stub>, all: &[(usize, u32)]) -> bool {
-    if left.unanswered.len() != all.len() {
-        return false;
-    }
-    for (packet, wanted) in left.unanswered.iter().zip(all) {
-        if packet.0 != wanted.0 || packet.1 != wanted.1 {
-            return false;
-        }
-    }
-    true
-}
-
-// Gathers, and once more where memory was refused.
-fn gathered<R: Wait>(rt: &R, alloc: Global, port: Port) -> Option<Gathered<Stub>> {
-    match port.gather(rt, alloc) {
-        Ok(left) => Some(left),
-        Err(port) => port.gather(rt, alloc).ok(),
-    }
-}
-
-const UNKNOWN: (i32, i32) = (0, 209);
-
-const ENDED: (i32, i32) = (-1, 0);
-
-const DEAD: (i32, i32) = (0, 218);
-
-#[test]
-fn rings(rt: HostRuntime) {
-    let mut port = Port::open(rt.alloc(), 1, 1).expect(&rt, "a port");
-    for number in 1..4u64 {
-        assert!(rt; matches!(port.put(&rt, 1, 999), Ok(n) if n == number));
-    }
-    assert!(rt; matches!(port.serve_batch(&rt, 8), Ok(3)));
-    assert!(rt; port.post_waiting() == 2);
-    assert!(rt; results(port.take(1), 1) == Some(UNKNOWN));
-    assert!(rt; port.post_waiting() == 1);
-    assert!(rt; results(port.take(1), 2) == Some(UNKNOWN));
-    let left = gathered(&rt, rt.alloc(), port).expect(&rt, "all ends");
-    assert!(rt; unanswered(&left, &[]));
-    assert!(rt; untaken(&left, 1, 3, &[UNKNOWN]));
+    assert_eq!(rt; raced.accepted.as_slice(), [1000; 4].as_slice());
+    assert_eq!(rt;
+        left_text(rt.alloc(), &Numbers, &raced.left)?.as_str(),
+        FOUR_THREADS_PUT
+    );
+    Ok(())
 }
 
 #[test]
-fn half_served(rt: HostRuntime) {
-    let mut port = Port::open(rt.alloc(), 2, 8).expect(&rt, "a port");
-    assert!(rt; matches!(port.put(&rt, 1, 999), Ok(1)));
-    assert!(rt; matches!(port.put(&rt, 1, 999), Ok(2)));
-    assert!(rt; matches!(port.put(&rt, 2, 25), Ok(1)));
-    assert!(rt; matches!(port.serve_batch(&rt, 2), Ok(2)));
-    let left = gathered(&rt, rt.alloc(), port).expect(&rt, "all ends");
-    assert!(rt; unanswered(&left, &[(2, 25)]));
-    assert!(rt; untaken(&left, 1, 1, &[UNKNOWN, UNKNOWN]));
-    assert!(rt; untaken(&left, 2, 1, &[]));
-}
-
-#[test]
-fn close(rt: HostRuntime) {
-    let mut port = Port::open(rt.alloc(), 2, 8).expect(&rt, "a port");
-    assert!(rt; matches!(port.put(&rt, 1, DIE), Ok(1)));
-    assert!(rt; matches!(port.put(&rt, 2, 999), Ok(1)));
-    assert!(rt; matches!(port.serve_batch(&rt, 8), Ok(2)));
-    assert!(rt; results(port.take(1), 1) == Some(ENDED));
-    assert!(rt; results(port.take(2), 1) == Some(DEAD));
-    for client in 1..3usize {
-        assert!(rt; port.is_shut(client));
-        assert!(rt; is_closed(port.put(&rt, client, 999), 999));
-    }
-    assert!(rt; matches!(port.serve_until_closed(&rt, 3), Ok(ServeEnd::Closed)));
-}
-
-#[test]
-fn die_in_the_ring(rt: HostRuntime) {
-    let mut port = Port::open(rt.alloc(), 1, 1).expect(&rt, "a port");
-    assert!(rt; !port.is_shut(1));
-    assert!(rt; matches!(port.put(&rt, 1, DIE), Ok(1)));
-    assert!(rt; matches!(port.serve_batch(&rt, 1), Ok(1)));
-    assert!(rt; port.is_shut(1));
-    assert!(rt; results(port.take(1), 1) == Some(ENDED));
-    assert!(rt; port.is_shut(1));
-    assert!(rt; is_closed(port.put(&rt, 1, 999), 999));
-}
-
-#[test]
-fn news_of_the_close(rt: HostRuntime) {
-    let mut port = Port::open(rt.alloc(), 3, 8).expect(&rt, "a port");
-    assert!(rt; matches!(port.put(&rt, 1, DIE), Ok(1)));
-    assert!(rt; matches!(port.serve_batch(&rt, 1), Ok(1)));
-    assert!(rt; port.is_shut(3));
-    assert!(rt; is_closed(port.put(&rt, 3, 999), 999));
-    assert!(rt; port.take(3).is_none());
-}
-
-#[test]
-fn idle_limit(rt: HostRuntime) {
-    let mut port = Port::open(rt.alloc(), 1, 2).expect(&rt, "a port");
-    assert!(rt; matches!(port.serve_until_closed(&rt, 3), Ok(ServeEnd::Idle)));
-    assert!(rt; matches!(port.put(&rt, 1, 999), Ok(1)));
-    assert!(rt; matches!(port.put(&rt, 1, 999), Ok(2)));
-    assert!(rt; matches!(port.serve_until_closed(&rt, 3), Ok(ServeEnd::Idle)));
-    assert!(rt; results(port.take(1), 1) == Some(UNKNOWN));
-    assert!(rt; results(port.take(1), 2) == Some(UNKNOWN));
-}
-
-#[test]
-fn a_thousand_puts(rt: HostRuntime) {
-    let mut port = Port::open(rt.alloc(), 1, 1).expect(&rt, "a port");
-    for number in 1..1001u64 {
-        assert!(rt; matches!(port.put(&rt, 1, 999), Ok(n) if n == number));
-    }
-    for _ in 0..15 {
-        assert!(rt; matches!(port.serve_batch(&rt, 64), Ok(64)));
-    }
-    assert!(rt; matches!(port.serve_batch(&rt, 64), Ok(40)));
-    assert!(rt; matches!(port.serve_batch(&rt, 64), Ok(0)));
-    assert!(rt; port.post_waiting() == 999);
-    let left = gathered(&rt, rt.alloc(), port).expect(&rt, "all ends");
-    assert!(rt; unanswered(&left, &[]));
-    assert!(rt; untaken(&left, 1, 1, &[UNKNOWN; 1000]));
-}
-
-#[test]
-fn unanswered_after_die(rt: HostRuntime) {
-    let mut port = Port::open(rt.alloc(), 2, 8).expect(&rt, "a port");
-    assert!(rt; matches!(port.put(&rt, 1, DIE), Ok(1)));
-    for number in 1..4u64 {
-        assert!(rt; matches!(port.put(&rt, 2, 999), Ok(n) if n == number));
-    }
-    assert!(rt; matches!(port.serve_batch(&rt, 2), Ok(2)));
-    let left = gathered(&rt, rt.alloc(), port).expect(&rt, "all ends");
-    assert!(rt; left.server.died);
-    assert!(rt; unanswered(&left, &[(2, 999), (2, 999)]));
-    assert!(rt; untaken(&left, 1, 1, &[ENDED]));
-    assert!(rt; untaken(&left, 2, 1, &[DEAD]));
-}
-
-#[test]
-fn batch_refused(rt: HostRuntime) {
-    let mut port = Port::open(rt.alloc(), 2, 1).expect(&rt, "a port");
-    assert!(rt; matches!(port.put(&rt, 1, 999), Ok(1)));
-    assert!(rt; matches!(port.put(&rt, 2, 999), Ok(1)));
-    assert!(rt; matches!(port.put(&rt, 1, 999), Ok(2)));
-    // no list has room for so many
-    assert!(rt; port.serve_batch(&rt, usize::MAX).is_err());
-    assert!(rt; port.take(1).is_none());
-    assert!(rt; matches!(port.serve_batch(&rt, 8), Ok(3)));
-    let left = gathered(&rt, rt.alloc(), port).expect(&rt, "all ends");
-    assert!(rt; unanswered(&left, &[]));
-    assert!(rt; untaken(&left, 1, 1, &[UNKNOWN, UNKNOWN]));
-    assert!(rt; untaken(&left, 2, 1, &[UNKNOWN]));
-}
-
-// Puts, and once more where memory was refused.
-fn put_again<R: Wait>(rt: &R, port: &mut Port, client: usize, action: u32) -> Option<u64> {
-    match port.put(rt, client, action) {
-        Ok(number) => Some(number),
-        Err(PutRefused::NoRoom(back)) => {
-            if back != action {
-                return None;
-            }
-            port.put(rt, client, action).ok()
-        }
-        Err(PutRefused::Closed(_)) => None,
-    }
-}
-
-// Each call is made once more where its growth was refused: `tools/growths.sh` refuses each in turn.
-#[test]
-fn gather_refused(rt: HostRuntime) {
-    assert!(rt; Port::open(rt.alloc(), 1, usize::MAX).is_none());
-    let mut port = match Port::open(rt.alloc(), 2, 1) {
-        Some(port) => port,
-        None => Port::open(rt.alloc(), 2, 1).expect(&rt, "a port"),
+fn racing_die(rt: HostRuntime) -> Result<(), Fail> {
+    let Some(raced) = race_of_four(&rt, rt.alloc(), &Numbers, Stub::new(), MOMENT, Some(500)) else {
+        return Err(Fail::from("memory or a thread"));
     };
-    for number in 1..41u64 {
-        assert!(rt; put_again(&rt, &mut port, 1, 999) == Some(number));
-    }
-    let end = match port.serve_until_closed(&rt, 3) {
-        Ok(end) => end,
-        Err(_) => port.serve_until_closed(&rt, 3).ok().expect(&rt, "batches"),
+    assert_eq!(rt; raced.accepted.len(), 4);
+    assert!(rt; is_parted(&Numbers, &raced, 500));
+    let untaken = &raced.left.untaken;
+    let death = match untaken.first().and_then(|replies| replies.get(500)) {
+        Some(reply) => reply.answer.place,
+        None => return Err(Fail::from("no DIE")),
     };
-    assert!(rt; matches!(end, ServeEnd::Idle));
-    assert!(rt; put_again(&rt, &mut port, 2, DIE) == Some(1));
-    assert!(rt; results(port.take(1), 1) == Some(UNKNOWN));
-    let left = gathered(&rt, rt.alloc(), port).expect(&rt, "all ends");
-    assert!(rt; !left.server.died);
-    assert!(rt; unanswered(&left, &[(2, DIE)]));
-    assert!(rt; untaken(&left, 1, 2, &[UNKNOWN; 39]));
-    assert!(rt; untaken(&left, 2, 1, &[]));
-}
-
-#[test]
-fn four_threads_put(rt: HostRuntime) {
-    let (left, accepted) = race(&rt, rt.alloc(), 4, usize::MAX).expect(&rt, "all ends");
-    assert!(rt; unanswered(&left, &[]));
-    for client in 1..5usize {
-        assert!(rt; accepted.get(client.saturating_sub(1)) == Some(&1000));
-        assert!(rt; untaken(&left, client, 1, &[UNKNOWN; 1000]));
+    for replies in untaken {
+        assert!(rt;
+            replies.iter().all(|reply| reply.answer.results
+                == results_at(reply.answer.place, death))
+        );
     }
+    Ok(())
 }
 
-#[test]
-fn racing_die(rt: HostRuntime) {
-    let (left, accepted) = race(&rt, rt.alloc(), 4, 500).expect(&rt, "all ends");
-    assert!(rt; left.server.died);
-    let death = place_of_death(&left).expect(&rt, "one DIE that was served");
-    for client in 1..5usize {
-        assert!(rt; is_split_by(&left, client, death));
-        let puts = accepted
-            .get(client.saturating_sub(1))
-            .expect(&rt, "a client");
-        assert!(rt; answers_all(&left, client, *puts));
+/// The results of the packet behind so many others, where the DIE stands behind so many.
+fn results_at(place: u64, death: u64) -> Results {
+    if place < death {
+        Results::Unknown
+    } else if place == death {
+        Results::Ended
+    } else {
+        Results::Dead
     }
-}
-
-// How many packets were served before the DIE that ended the server, where there is just one.
-fn place_of_death(left: &Gathered<Stub>) -> Option<u64> {
-    let mut found = None;
-    for replies in left.untaken.iter() {
-        for reply in replies.iter() {
-            if reply.answer.results == Results::Ended {
-                if found.is_some() {
-                    return None;
-                }
-                found = Some(reply.answer.place);
-            }
-        }
-    }
-    found
-}
-
-// Whether each reply to this client is 0 209 before the DIE, and 0 218 after it.
-fn is_split_by(left: &Gathered<Stub>, client: usize, death: u64) -> bool {
-    let Some(replies) = left.untaken.get(client.saturating_sub(1)) else {
-        return false;
-    };
-    for reply in replies.iter() {
-        let wanted = if reply.answer.place < death {
-            UNKNOWN
-        } else if reply.answer.place == death {
-            ENDED
-        } else {
-            DEAD
-        };
-        if reply.answer.results.numbers() != wanted {
-            return false;
-        }
-    }
-    true
-}
-
-// Whether the served and the unanswered packets of this client are as many as it put.
-fn answers_all(left: &Gathered<Stub>, client: usize, puts: usize) -> bool {
-    let Some(replies) = left.untaken.get(client.saturating_sub(1)) else {
-        return false;
-    };
-    let waiting = left
-        .unanswered
-        .iter()
-        .filter(|packet| packet.0 == client)
-        .count();
-    replies.len().checked_add(waiting) == Some(puts)
 }

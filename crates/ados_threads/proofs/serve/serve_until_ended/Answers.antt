@@ -10,12 +10,16 @@ pub loop-preserved-in-Ok-eq0 : goal.loop-preserved-in-Ok-eq0
 loop-preserved-in-Ok-eq0 g c =
     let h = c.loop.invariant in let b = c.in-Ok-eq0.ensures.ok.1 in (h.0 ++ b.0, serves_more g.S.Server.gives _ _ _ _ _ _ h.1 b.2)
 
-pub loop-preserved : goal.loop-preserved
-loop-preserved g c =
+pub loop-preserved-in-Ok : goal.loop-preserved-in-Ok
+loop-preserved-in-Ok g c =
     let h = c.loop.invariant in let b = c.in-Ok.ensures.ok.1 in (h.0 ++ b.0, serves_more g.S.Server.gives _ _ _ _ _ _ h.1 b.2)
 
-pub returns-in-Err : goal.returns-in-Err
-returns-in-Err g c =
+pub loop-preserved : goal.loop-preserved
+loop-preserved g c =
+    let h = c.loop.invariant in let e = c.in-Err.ensures.err in (h.0 ++ [], serves_more g.S.Server.gives _ _ _ _ _ _ h.1 (serves_posts g.S.Server.gives _ _ _ _ e.0 e.1))
+
+pub returns-then-all-2 : goal.returns-then-all-2
+returns-then-all-2 g c =
     let h = c.loop.invariant in let e = c.in-Err.ensures.err in (h.0 ++ [], serves_more g.S.Server.gives _ _ _ _ _ _ h.1 (serves_posts g.S.Server.gives _ _ _ _ e.0 e.1))
 
 pub returns : goal.returns

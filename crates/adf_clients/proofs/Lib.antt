@@ -1,0 +1,3 @@
+pub mod Said
+pub mod Parting
+pub mod Joining

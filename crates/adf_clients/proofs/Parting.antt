@@ -1,0 +1,18 @@
+-- Lists that are made element by element of others.
+use Rattle.std.proofs.Common.{◌≡◌, List, [], ◌∷◌, ◌++◌, map, refl, sym, ap, ◌∙◌, append_assoc}
+use Rattle.std.proofs.lemmas.List.{map-append}
+
+module _ {X : Type 0} where
+  -- one more of a list was gone over
+  pub gone_over : (ys rest rest' all : List X) (x : X) → ys ++ rest ≡ all → rest ≡ x ∷ rest' → (ys ++ x ∷ []) ++ rest' ≡ all
+  gone_over ys rest rest' all x whole first = append_assoc ys (x ∷ []) rest' ∙ (ap (λ (l : List X). ys ++ l) (sym first) ∙ whole)
+
+module _ {X Y : Type 0} where
+  -- one more was made, of this element
+  pub made_more : (f : X → Y) (made made' : List X) (ys : List Y) (x : X) (y : Y) → map f made ≡ ys → made' ≡ made ++ x ∷ [] → f x ≡ y → map f made' ≡ ys ++ y ∷ []
+  made_more f made made' ys x y was longer of_this = ap (λ (l : List X). map f l) longer ∙ (map-append f made (x ∷ []) ∙ (λ i. was i ++ of_this i ∷ []))
+
+  -- one more was made, of the first that was left
+  pub used_more : (f : X → Y) (made made' : List X) (rest rest' all : List Y) (x : X) (y : Y) → map f made ++ rest ≡ all → rest ≡ y ∷ rest' → made' ≡ made ++ x ∷ [] → f x ≡ y → map f made' ++ rest' ≡ all
+  used_more f made made' rest rest' all x y whole first longer of_this =
+      ap (λ (l : List Y). l ++ rest') (made_more f made made' (map f made) x y refl longer of_this) ∙ gone_over (map f made) rest rest' all y whole first

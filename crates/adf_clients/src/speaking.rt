@@ -1,0 +1,124 @@
+//! The lines of a client's script, one after another.
+ghost use Rattle.std.specs.Prelude.{◌≡◌, ◌++◌, ◌∷◌, [], false, IfOk, OnOk};
+ghost use Rattle.adf_script.specs.Lines.{is_too_long};
+ghost use Rattle.adf_script.specs.Text.{reply_line};
+ghost use Rattle.adf_script.specs.Values.{answer_value};
+ghost use Rattle.ados_threads.specs.Grown.{Grown};
+ghost use Rattle.adf_clients.specs.Asking.{stop_line, stop_ending};
+ghost use Rattle.adf_clients.specs.Scripts.{IsUnused, Tells};
+
+use crate::asking::{Stopped, ask};
+use crate::gate::Gate;
+use adf_script::ClientEnding;
+use adf_script::grammar::parse;
+use adf_script::lines::{first_line, is_passed_over};
+use adf_script::text::{closed_text, fault_text, no_reply_text, no_room_text, reply_text};
+use adf_script::values::keep_value;
+use ados_ends::ClientEnd;
+use ados_packet::{Answer, Packet};
+use ados_server::Server;
+use std::alloc::{AllocError, Global};
+use std::sync::Wait;
+
+/// What a client tells of its script, and how it came to its end.
+#[derive(Drop)]
+pub(crate) struct ClientText {
+    pub(crate) text: Vec<u8>,
+    pub(crate) end: ClientEnding,
+}
+
+/// The text with its last line.
+pub(crate) fn finish(
+    text: Vec<u8>,
+    line: Vec<u8>,
+    end: ClientEnding,
+) -> Result<ClientText, AllocError>
+    ensures { IfOk result (λ told. (told.text.items ≡ text.items ++ line.items) × (told.end ≡ end)) }
+{
+    let mut text = text;
+    text.extend_from_slice(&line)?;
+    Ok(ClientText { text, end })
+}
+
+/// The end of a client that got no reply to the packet with this number.
+fn stop(
+    alloc: Global,
+    client: usize,
+    number: u64,
+    stopped: Stopped,
+    text: Vec<u8>,
+) -> Result<ClientText, AllocError>
+    ensures { IfOk result (λ told. (told.text.items ≡ text.items ++ stop_line client number stopped) × (told.end ≡ stop_ending stopped)) }
+{
+    let (line, end) = match stopped {
+        Stopped::Closed => (closed_text(alloc, client, number)?, ClientEnding::Done),
+        Stopped::NoRoom => (no_room_text(alloc, client, number)?, ClientEnding::Tries),
+        Stopped::NoReply => (no_reply_text(alloc, client, number)?, ClientEnding::Tries),
+    };
+    finish(text, line, end)
+}
+
+/// Adds the line of a reply, and its value to those of the replies before.
+fn keep(
+    alloc: Global,
+    client: usize,
+    number: u64,
+    answer: &Answer,
+    text: &mut Vec<u8>,
+    values: &mut Vec<Option<u32>>,
+) -> Result<(), AllocError>
+    ensures text { OnOk result (text.new.items ≡ text.old.items ++ reply_line client number answer.now) }
+    ensures values { OnOk result (values.new.items ≡ values.old.items ++ answer_value answer.now ∷ []) }
+{
+    let line = reply_text(alloc, client, number, answer)?;
+    text.extend_from_slice(&line)?;
+    keep_value(values, answer)
+}
+
+/// Puts the packets of a script, each after the reply to the one before it, and tells of the replies.
+pub(crate) fn speak<S, G, R>(
+    rt: &R,
+    alloc: Global,
+    end: &mut ClientEnd<S>,
+    script: &[u8],
+    gate: &mut G,
+    turns: u64,
+) -> Result<ClientText, AllocError>
+where
+    S: Server<Request = Packet, Reply = Answer>,
+    G: Gate,
+    R: Wait,
+    requires { is_too_long script.now ≡ false }
+    ensures tells { IsUnused end.old → IfOk result (λ told. Tells script.now end.new told.text.items told.end) }
+    ensures grown { Grown end.old end.new }
+{
+    let client = end.number();
+    let mut rest = script;
+    let mut number: u64 = 0;
+    let mut taken: u64 = 0;
+    let mut values = Vec::new(alloc);
+    let mut text = Vec::new(alloc);
+    while !rest.is_empty() {
+        let (line, behind) = first_line(rest);
+        rest = behind;
+        number += 1;
+        if is_passed_over(line) {
+            continue;
+        }
+        let Some(packet) = parse(alloc, &values, line)? else {
+            let fault = fault_text(alloc, client, number)?;
+            return finish(text, fault, ClientEnding::Script);
+        };
+        match ask(rt, end, gate, taken + 1, packet, turns) {
+            Ok(reply) => {
+                taken += 1;
+                keep(alloc, client, taken, &reply.answer, &mut text, &mut values)?;
+            }
+            Err(stopped) => return stop(alloc, client, taken + 1, stopped, text),
+        }
+    }
+    Ok(ClientText {
+        text,
+        end: ClientEnding::Done,
+    })
+}
