@@ -1,3 +1,4 @@
 pub mod Following
 pub mod Resting
 pub mod Runs
+pub mod Serving

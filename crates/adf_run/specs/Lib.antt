@@ -2,4 +2,5 @@ pub mod TreePort
 pub mod TreeLists
 pub mod Rests
 pub mod Runs
+pub mod Serves
 pub mod Laws

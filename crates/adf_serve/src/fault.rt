@@ -1,4 +1,5 @@
 //! Why a command is not done.
+use adf_clients::ScriptsFault;
 use adf_listing::PrintFault;
 use std::alloc::AllocError;
 use thiserror::Error;
@@ -52,6 +53,15 @@ impl From<PrintFault> for CommandFault<'_> {
         match fault {
             PrintFault::Write => CommandFault::Output,
             PrintFault::Memory => CommandFault::Memory,
+        }
+    }
+}
+
+impl From<ScriptsFault> for CommandFault<'_> {
+    fn from(fault: ScriptsFault) -> Self {
+        match fault {
+            ScriptsFault::Memory => CommandFault::Memory,
+            ScriptsFault::Thread => CommandFault::Thread,
         }
     }
 }
