@@ -2,17 +2,14 @@
 # Prints how long changes of a volume take, in memory and without the start of the program: files of 100 bytes that are made,
 # read and taken away, among ten directories and in the root alone, and a file of 819,200 bytes that is written in one call
 # and in calls of 512 bytes, read and taken away. Each time is the best of 5 runs.
-set -e
+. "$(dirname "$0")/setup.sh"
 runs=5
-here=$(cd "$(dirname "$0")" && pwd)
-bench=$here/../crates/changes_bench/out/changes_bench
-room=$(mktemp -d)
-trap 'rm -rf "$room"' EXIT
-(cd "$here/../crates/changes_bench" && rt run > "$room/log" 2>&1) || { cat "$room/log" >&2; exit 1; }
+bench=$(program bench)
+build bench changes
 
 for counts in "1000 10" "500 0" "1000 0" "2000 0" "4000 0" "8000 0"; do
     for run in $(seq $runs); do
-        "$bench" $counts 2>&1 > "$room/told" | sed "s/^/$counts /" >> "$room/figures"
+        "$bench" changes $counts 2>&1 > "$room/told" | sed "s/^/$counts /" >> "$room/figures"
         grep -q " 819200 bytes; 6 blocks left in use$" "$room/told" || { cat "$room/told" >&2; exit 1; }
     done
 done

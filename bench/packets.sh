@@ -3,20 +3,17 @@
 # READ of 512 bytes, SEEK and FREE_LOCK, by the handler alone and as steps of a port, each with its Put, Serve and Take. It
 # says how that changes with the locks that are held meanwhile, and with the entries of the directory. Each time is the best
 # of 5 runs. The steps are made before the clock starts; the handler alone makes its packets as it goes.
-set -e
+. "$(dirname "$0")/setup.sh"
 runs=5
 rounds=20000
-here=$(cd "$(dirname "$0")" && pwd)
-bench=$here/../crates/packets_bench/out/packets_bench
-room=$(mktemp -d)
-trap 'rm -rf "$room"' EXIT
-(cd "$here/../crates/packets_bench" && rt run > "$room/log" 2>&1) || { cat "$room/log" >&2; exit 1; }
+bench=$(program bench)
+build bench packets
 
 echo "locks entries  handler alone  as steps of a port  (packets a second)"
 for counts in "0 10" "10 10" "100 10" "1000 10" "0 100" "0 1000" "0 10000"; do
     : > "$room/figures"
     for run in $(seq $runs); do
-        "$bench" $rounds $counts 2>> "$room/figures" > "$room/told"
+        "$bench" packets $rounds $counts 2>> "$room/figures" > "$room/told"
         grep -q "^$((7 * rounds)) replies of success$" "$room/told" || { cat "$room/told" >&2; exit 1; }
     done
     awk -v counts="$counts" '

@@ -4,17 +4,12 @@
 # on one thread. A script has 10,000 packets: LOCATE_OBJECT, EXAMINE_OBJECT, INFO, SAME_LOCK and FREE_LOCK in turn. Each
 # time is the best of 5 runs, with the start of the program; the words may give another number of packets. It needs the
 # machine's rustc beside the kit.
-set -e
+. "$(dirname "$0")/setup.sh"
 runs=5
 packets=${1:-10000}
-here=$(cd "$(dirname "$0")" && pwd)
-serve=$here/../crates/adf_serve/out/adf_serve
-room=$(mktemp -d)
-trap 'rm -rf "$room"' EXIT
-for tool in full_image best_of; do
-    rustc --edition 2021 -O -o "$room/$tool" "$here/$tool.rs"
-done
-"$here/../adf_serve" --help > "$room/log" 2>&1 || [ $? = 1 ] || { cat "$room/log" >&2; exit 1; }
+serve=$(program adf_serve)
+tools full_image best_of
+build adf_serve
 
 # A packet's line names the reply to the LOCATE_OBJECT of its round.
 awk -v packets="$packets" 'BEGIN {

@@ -2,19 +2,13 @@
 # Prints how long it takes to check, to list and to read a full image, beside `cat` of its file and, where the machine has
 # it, `unadf -lr`. The words are sizes in blocks: 1,760, 16,000 and 101,602 if there are none. Each time is the best of
 # 21 runs. It needs the machine's rustc beside the kit.
-set -e
+. "$(dirname "$0")/setup.sh"
 runs=21
-here=$(cd "$(dirname "$0")" && pwd)
-serve=$here/../crates/adf_serve/out/adf_serve
-bench=$here/../crates/volume_bench/out/volume_bench
-room=$(mktemp -d)
-trap 'rm -rf "$room"' EXIT
-for tool in full_image best_of; do
-    rustc --edition 2021 -O -o "$room/$tool" "$here/$tool.rs"
-done
-for crate in adf_serve volume_bench; do
-    (cd "$here/../crates/$crate" && rt run < /dev/null > "$room/log" 2>&1) || { cat "$room/log" >&2; exit 1; }
-done
+serve=$(program adf_serve)
+bench=$(program bench)
+tools full_image best_of
+build adf_serve
+build bench volume
 
 # Microseconds, with the start of the command.
 best() { "$room/best_of" $runs "$@"; }
@@ -27,12 +21,12 @@ for blocks in ${*:-1760 16000 101602}; do
         written=$("$room/full_image" "$kind" "$blocks" "$file")
         expect "$("$serve" check "$file")" ok
         for run in $(seq $runs); do
-            expect "$("$bench" "$file" 2>> "$room/inside-$kind-$blocks")" "$written"
+            expect "$("$bench" volume "$file" 2>> "$room/inside-$kind-$blocks")" "$written"
         done
         cat=$(best cat "$file")
         check=$(best "$serve" check "$file")
         list=$(best "$serve" list "$file")
-        read=$(best "$bench" "$file" 2> /dev/null)
+        read=$(best "$bench" volume "$file" 2> /dev/null)
         unadf=-
         if command -v unadf > /dev/null; then unadf=$(best unadf -lr "$file" 2> /dev/null); fi
         inside=$(awk '{ check = $3 - $2; read = $4 - $3 }

@@ -1,6 +1,7 @@
 -- The boot blocks: the kind of the disk, and the boot sum.
-use Rattle.std.specs.Prelude.{◌≡◌, ◌≢◌, ℕ, ◌+◌, ◌-◌, ◌/◌, ◌%◌, ◌^◌, ◌==◌, List, if◌then◌else◌}
+use Rattle.std.specs.Prelude.{◌≡◌, ◌≢◌, ℕ, ◌+◌, ◌-◌, ◌*◌, ◌/◌, ◌%◌, ◌^◌, ◌==◌, List, if◌then◌else◌}
 use Rattle.adf_block.specs.Image.{byte_at, long, total}
+use Rattle.adf_block.specs.Layout.{boot_blocks, block_longs, kind_byte, boot_sum_long}
 use Rattle.adf_block.specs.declared.boot.BootKind.{BootKind}
 use Rattle.adf_block.specs.declared.boot.BootKind.TheVariants.{Ofs, Ffs, OtherDos, NotDos}
 
@@ -10,14 +11,14 @@ IsDos image = (byte_at image 0 0 ≡ 68) × (byte_at image 0 1 ≡ 79) × (byte_
 
 -- the kind that bytes 0 to 3 name
 abbrev pub HasKind : List ℕ → BootKind → Type 0
-HasKind image Ofs = IsDos image × (byte_at image 0 3 ≡ 0)
-HasKind image Ffs = IsDos image × (byte_at image 0 3 ≡ 1)
-HasKind image (OtherDos k) = IsDos image × (byte_at image 0 3 ≡ k) × (k ≢ 0) × (k ≢ 1)
+HasKind image Ofs = IsDos image × (byte_at image 0 kind_byte ≡ 0)
+HasKind image Ffs = IsDos image × (byte_at image 0 kind_byte ≡ 1)
+HasKind image (OtherDos k) = IsDos image × (byte_at image 0 kind_byte ≡ k) × (k ≢ 0) × (k ≢ 1)
 HasKind image NotDos = ¬ IsDos image
 
 -- long k of the two boot blocks, with the boot sum's own long taken as 0
 unfoldable pub boot_long : List ℕ → ℕ → ℕ
-boot_long image k = if k == 1 then 0 else long image (k / 128) (k % 128)
+boot_long image k = if k == boot_sum_long then 0 else long image (k / block_longs) (k % block_longs)
 
 -- the end-around-carry sum of longs with the total t: 0 if there is nothing to sum, else the number from 1 to 2^32 - 1 that t is modulo 2^32 - 1
 abbrev pub carried_sum : ℕ → ℕ
@@ -25,4 +26,4 @@ carried_sum t = if t == 0 then 0 else (t - 1) % (2 ^ 32 - 1) + 1
 
 -- the boot sum: the complement of the end-around-carry sum of the 256 boot longs
 unfoldable pub boot_sum : List ℕ → ℕ
-boot_sum image = 2 ^ 32 - 1 - carried_sum (total (boot_long image) 256)
+boot_sum image = 2 ^ 32 - 1 - carried_sum (total (boot_long image) (boot_blocks * block_longs))

@@ -1,5 +1,5 @@
 -- What a change of an image leaves as it was.
-use Rattle.std.specs.Prelude.{◌≡◌, ℕ, ◌/◌, ◌<◌, List, length}
+use Rattle.std.specs.Prelude.{◌≡◌, ℕ, ◌/◌, ◌<◌, ◌≤◌, List, length}
 use Rattle.adf_block.specs.Image.{byte_at}
 
 -- the new image has the old one's length, and each byte of the old one but those at the changed places, given by block and byte
@@ -10,6 +10,10 @@ pub record SameBut (changed : ℕ → ℕ → Type 0) (old new : List ℕ) : Typ
 -- the bytes of long i of block b
 abbrev pub AtLong : ℕ → ℕ → ℕ → ℕ → Type 0
 AtLong b i c k = (c ≡ b) × (k / 4 ≡ i)
+
+-- bytes low to high - 1 of block b
+abbrev pub Within : ℕ → ℕ → ℕ → ℕ → ℕ → Type 0
+Within b low high c k = (c ≡ b) × (low ≤ k) × (k < high)
 
 -- the bytes of block b
 abbrev pub InBlock : ℕ → ℕ → ℕ → Type 0

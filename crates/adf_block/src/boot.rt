@@ -3,8 +3,11 @@
 ghost use Rattle.std.specs.Prelude.{◌≡◌, ◌≤◌, ◌^◌, ◌↔◌, IsTrue};
 ghost use Rattle.adf_block.specs.Image.{long, total};
 ghost use Rattle.adf_block.specs.Boot.{HasKind, boot_long, boot_sum, carried_sum};
+ghost use Rattle.adf_block.specs.Kind.{format_of};
 
+use crate::Format;
 use crate::floppy::Image;
+use crate::layout::{BLOCK_LONGS, BOOT_BLOCKS, BOOT_SUM, KIND_BYTE};
 
 /// What the first four bytes say of the disk.
 #[derive(Clone, Copy, Debug, PartialEq, Eq)]
@@ -28,10 +31,21 @@ impl Image {
         if self.byte(0, 0) != b'D' || self.byte(0, 1) != b'O' || self.byte(0, 2) != b'S' {
             return BootKind::NotDos;
         }
-        match self.byte(0, 3) {
+        match self.byte(0, KIND_BYTE) {
             0 => BootKind::Ofs,
             1 => BootKind::Ffs,
             other => BootKind::OtherDos(other),
+        }
+    }
+
+    /// How the volume's data blocks are laid out.
+    pub fn format(&self) -> Format
+        ensures { result ≡ format_of self.now }
+    {
+        prove!(self.blocks() >= 2);
+        match self.byte(0, KIND_BYTE) {
+            0 => Format::Ofs,
+            _ => Format::Ffs,
         }
     }
 
@@ -41,7 +55,7 @@ impl Image {
         ensures { IsTrue result ↔ (long self.now 0 1 ≡ boot_sum self.now) }
     {
         prove!(self.blocks() >= 2);
-        self.long(0, 1) == !carry_round(self.boot_total())
+        self.long(0, BOOT_SUM) == !carry_round(self.boot_total())
     }
 
     /// The sum of the 256 boot longs but for the boot sum's own, with no wrap.
@@ -51,9 +65,9 @@ impl Image {
     {
         prove!(self.blocks() >= 2);
         let mut total = 0_u64;
-        for k in 0..256 {
-            if k != 1 {
-                total += u64::from(self.long(k / 128, k % 128));
+        for k in 0..BOOT_BLOCKS * BLOCK_LONGS {
+            if k != BOOT_SUM {
+                total += u64::from(self.long(k / BLOCK_LONGS, k % BLOCK_LONGS));
             }
         }
         total

@@ -8,12 +8,13 @@ ghost use Rattle.adf_block.specs.Frame.{OnlyLong};
 ghost use Rattle.adf_block.specs.Size.{IsSizeFault};
 ghost use Rattle.adf_block.specs.Lending.{LendsBlock};
 
-use crate::size::{SizeFault, SizeRefused};
+use crate::layout::{BLOCK_BYTES, FEWEST_BLOCKS, MOST_BLOCKS};
+use crate::volume_size::{SizeFault, SizeRefused};
 use byteorder::{BigEndian, ByteOrder};
 use std::marker::Model;
 
 /// The bytes of a block.
-const BLOCK: usize = 512;
+const BLOCK: usize = BLOCK_BYTES as usize;
 
 /// A whole image: 16 to 101,602 blocks. Contracts see the list of its bytes.
 #[derive(Drop)]
@@ -45,13 +46,13 @@ impl Image {
             });
         }
         let blocks = whole_blocks(&bytes);
-        if blocks < 16 {
+        if blocks < FEWEST_BLOCKS as usize {
             return Err(SizeRefused {
                 fault: SizeFault::TooFewBlocks,
                 bytes,
             });
         }
-        if blocks > 101_602 {
+        if blocks > MOST_BLOCKS as usize {
             return Err(SizeRefused {
                 fault: SizeFault::TooManyBlocks,
                 bytes,

@@ -4,14 +4,14 @@
 
 mod boot;
 mod floppy;
-mod size;
+pub mod layout;
 mod sums;
-#[cfg(test)]
-mod tests;
+mod volume_size;
+mod writing;
 
 pub use boot::BootKind;
 pub use floppy::Image;
-pub use size::{SizeFault, SizeRefused, size_ok};
+pub use volume_size::{SizeFault, SizeRefused, page_count, size_ok};
 
 /// How data blocks are laid out.
 #[derive(Clone, Copy, Debug, PartialEq, Eq)]

@@ -5,6 +5,7 @@ ghost use Rattle.adf_block.specs.Image.{IsImage, block_count, block_sum, long};
 ghost use Rattle.adf_block.specs.Frame.{OnlyLong};
 
 use crate::floppy::Image;
+use crate::layout::BLOCK_LONGS;
 
 impl Image {
     /// The sum of the 128 longs of block `b`, which wraps.
@@ -13,7 +14,7 @@ impl Image {
         ensures { result ≡ block_sum self.now b }
     {
         let mut sum = 0_u32;
-        for i in 0..128 {
+        for i in 0..BLOCK_LONGS {
             sum = sum.wrapping_add(self.long(b, i));
         }
         sum

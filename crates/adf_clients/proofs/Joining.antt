@@ -4,9 +4,9 @@ use Rattle.std.proofs.lemmas.List.{length-map}
 use Rattle.std.proofs.lemmas.Option.{none-some}
 use Rattle.ados_packet.specs.declared.packet.Packet.{Packet}
 use Rattle.ados_packet.specs.declared.answer.Answer.{Answer}
-use Rattle.ados_ends.specs.Ends.{ClientView}
-use Rattle.ados_ends.proofs.Gathers.{get_map}
-use Rattle.ados_threads.specs.Grown.{Grown, EachDid}
+use Rattle.ados_port.specs.Ends.{ClientView}
+use Rattle.ados_port.proofs.Gathers.{get_map}
+use Rattle.ados_port.specs.Grown.{Grown, EachDid}
 use Rattle.adf_script.specs.declared.ending.ClientEnding.{ClientEnding}
 use Rattle.adf_clients.specs.Scripts.{IsUnused, AreUnused, Tells, EachTells}
 

@@ -6,11 +6,11 @@ use Rattle.std.proofs.lemmas.List.{map-append, take_all}
 use Rattle.std.proofs.lemmas.Option.{none-some, slice_get_past}
 use Rattle.ados_packet.specs.declared.packet.Packet.{Packet}
 use Rattle.ados_packet.specs.declared.answer.Answer.{Answer}
-use Rattle.ados_server.specs.Lawful.{numbered}
-use Rattle.ados_server.specs.declared.step.Reply.{Reply}
-use Rattle.ados_ends.specs.Ends.{ClientView}
-use Rattle.ados_ends.specs.Gathering.{answers as answers_of}
-use Rattle.ados_ends.proofs.Moves.{get_end}
+use Rattle.ados_port.specs.Lawful.{numbered}
+use Rattle.ados_port.specs.Reply.{Reply}
+use Rattle.ados_port.specs.Ends.{ClientView}
+use Rattle.ados_port.specs.Gathering.{answers as answers_of}
+use Rattle.ados_port.proofs.Moves.{get_end}
 use Rattle.adf_script.specs.declared.ending.ClientEnding.{ClientEnding}
 use Rattle.adf_script.specs.declared.ending.ClientEnding.TheVariants.{Done, Script, Tries}
 use Rattle.adf_script.specs.Lines.{lines_of, is_skipped, kept_from, kept_lines, is_too_long}

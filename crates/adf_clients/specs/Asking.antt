@@ -1,7 +1,7 @@
 -- What a packet of a client comes to. Its end is given before and after.
 use Rattle.std.specs.Prelude.{◌≡◌, ℕ, true, List, [], ◌∷◌, ◌++◌, length}
-use Rattle.ados_server.specs.declared.step.Reply.{Reply}
-use Rattle.ados_ends.specs.Ends.{ClientView}
+use Rattle.ados_port.specs.Reply.{Reply}
+use Rattle.ados_port.specs.Ends.{ClientView}
 use Rattle.adf_script.specs.declared.ending.ClientEnding.{ClientEnding}
 use Rattle.adf_script.specs.declared.ending.ClientEnding.TheVariants.{Done, Tries}
 use Rattle.adf_script.specs.Text.{closed_line, no_room_line, no_reply_line}

@@ -2,10 +2,10 @@
 use Rattle.std.specs.Prelude.{◌≡◌, ℕ, List, [], length, Some, slice_get}
 use Rattle.ados_packet.specs.declared.packet.Packet.{Packet}
 use Rattle.ados_packet.specs.declared.answer.Answer.{Answer}
-use Rattle.ados_server.specs.Lawful.{numbered}
-use Rattle.ados_ends.specs.Ends.{ClientView}
-use Rattle.ados_ends.specs.Gathering.{answers}
-use Rattle.ados_threads.specs.Grown.{Grown}
+use Rattle.ados_port.specs.Lawful.{numbered}
+use Rattle.ados_port.specs.Ends.{ClientView}
+use Rattle.ados_port.specs.Gathering.{answers}
+use Rattle.ados_port.specs.Grown.{Grown}
 use Rattle.adf_script.specs.declared.ending.ClientEnding.{ClientEnding}
 use Rattle.adf_script.specs.Spoken.{Spoken}
 

@@ -1,11 +1,10 @@
 //! One packet of a client, up to its reply.
 ghost use Rattle.std.specs.Prelude.{◌≡◌, ◌++◌, ◌∷◌, [], length, true, IfSome, IfNone, MatchResult};
-ghost use Rattle.ados_threads.specs.Grown.{Grown};
+ghost use Rattle.ados_port.specs.Grown.{Grown};
 ghost use Rattle.adf_clients.specs.Asking.{HasPut, HasTaken, Replied, StoppedBy};
 
 use crate::gate::Gate;
-use ados_ends::ClientEnd;
-use ados_server::{PutRefused, Reply, Server};
+use ados_port::{ClientEnd, PutRefused, Reply, Server};
 use std::sync::Wait;
 use std::thread;
 

@@ -1,13 +1,12 @@
 //! The clients' ends with their jobs, and with what they told.
 ghost use Rattle.std.specs.Prelude.{◌≡◌, IfOk, Ok, length, map};
 
+use crate::client_job::ScriptJob;
 use crate::gate::Gate;
-use crate::job::ScriptJob;
 use crate::scripts::ClientDone;
 use crate::speaking::ClientText;
 use adf_script::ClientEnding;
-use ados_ends::ClientEnd;
-use ados_server::Server;
+use ados_port::{ClientEnd, Server};
 use std::alloc::{AllocError, Global};
 use std::collections::VecDeque;
 

@@ -2,9 +2,9 @@
 #![tactic(auto)]
 
 mod asking;
+mod client_job;
 mod ends;
 mod gate;
-mod job;
 mod scripts;
 mod speaking;
 

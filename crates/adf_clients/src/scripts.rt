@@ -2,17 +2,15 @@
 ghost use Rattle.std.specs.Prelude.{◌≡◌, List, IfOk, map};
 ghost use Rattle.ados_packet.specs.declared.packet.Packet.{Packet};
 ghost use Rattle.ados_packet.specs.declared.answer.Answer.{Answer};
-ghost use Rattle.ados_server.specs.History.{Serving};
-ghost use Rattle.ados_ends.specs.Ends.{AreEnds, Serves};
+ghost use Rattle.ados_port.specs.History.{Serving};
+ghost use Rattle.ados_port.specs.Ends.{AreEnds, Serves};
 ghost use Rattle.adf_clients.specs.Scripts.{AreUnused, EachTells};
 
 use crate::ends::{join, part};
 use crate::gate::Gate;
 use adf_script::ClientEnding;
-use ados_ends::{ClientEnd, HandlerEnd};
 use ados_packet::{Answer, Packet};
-use ados_server::Server;
-use ados_threads::{ServeClientsFault, Served, serve_clients};
+use ados_port::{ClientEnd, HandlerEnd, ServeClientsFault, Served, Server, serve_clients};
 use std::alloc::{AllocError, Global};
 use std::sync::Wait;
 use std::thread::Threads;

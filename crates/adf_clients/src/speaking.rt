@@ -3,7 +3,7 @@ ghost use Rattle.std.specs.Prelude.{◌≡◌, ◌++◌, ◌∷◌, [], false, I
 ghost use Rattle.adf_script.specs.Lines.{is_too_long};
 ghost use Rattle.adf_script.specs.Text.{reply_line};
 ghost use Rattle.adf_script.specs.Values.{answer_value};
-ghost use Rattle.ados_threads.specs.Grown.{Grown};
+ghost use Rattle.ados_port.specs.Grown.{Grown};
 ghost use Rattle.adf_clients.specs.Asking.{stop_line, stop_ending};
 ghost use Rattle.adf_clients.specs.Scripts.{IsUnused, Tells};
 
@@ -14,9 +14,8 @@ use adf_script::grammar::parse;
 use adf_script::lines::{first_line, is_passed_over};
 use adf_script::text::{closed_text, fault_text, no_reply_text, no_room_text, reply_text};
 use adf_script::values::keep_value;
-use ados_ends::ClientEnd;
 use ados_packet::{Answer, Packet};
-use ados_server::Server;
+use ados_port::{ClientEnd, Server};
 use std::alloc::{AllocError, Global};
 use std::sync::Wait;
 

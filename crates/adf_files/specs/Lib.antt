@@ -1,1 +1,2 @@
+-- What is loaded, and what a load that gives no image tells.
 pub mod Load

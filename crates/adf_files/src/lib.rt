@@ -8,6 +8,3 @@ mod store;
 pub use load::{LoadFault, load_image};
 pub use output::{StoreFault, write_output};
 pub use store::store_image;
-
-#[cfg(test)]
-mod tests;

@@ -1,1 +1,2 @@
+-- Lemmas on input of which the front is kept.
 mod Fronts

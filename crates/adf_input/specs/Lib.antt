@@ -1,0 +1,2 @@
+-- What is kept of input.
+pub mod Front

@@ -1,7 +1,8 @@
 //! Input that is read to its end, within a number of reads.
-ghost use Rattle.std.specs.Prelude.{◌≡◌, ◌≤◌, ◌++◌, ℕ, List, take, length, IfOk, OnOk, IfSome, MatchResult};
-ghost use Rattle.std.specs.Io.KnownBytes.{Consumes, IsAtEnd, Keeps, ReadConsumes};
+ghost use Rattle.std.specs.Prelude.{◌≡◌, ◌≤◌, ◌++◌, take, length, IfOk, OnOk, IfSome};
+ghost use Rattle.std.specs.Io.KnownBytes.{ReadConsumes};
 ghost use Rattle.std.specs.Io.{ReadsAtMost};
+ghost use Rattle.adf_input.specs.Front.{ReadsFront};
 
 use std::alloc::{AllocError, Global};
 use std::io::{Error, ErrorKind, Read, Result as IoResult};
@@ -29,8 +30,7 @@ pub fn read_input<R: Read>(
     reader: &mut R,
     most: usize,
 ) -> Result<Vec<u8>, InputFault>
-    ensures bytes { IfOk result (λ bytes. (input : List ℕ) × Consumes (R.remaining reader.old) (R.remaining reader.new) input
-        × IsAtEnd (R.remaining reader.new) × (bytes.items ≡ take most input)) }
+    ensures bytes { IfOk result (λ bytes. ReadsFront most (R.remaining reader.old) (R.remaining reader.new) bytes.items) }
     // An end that was near enough is found.
     ensures endless { result ≡ Err InputFault.TurnLimit → IfSome (R.remaining reader.old) (λ input. READS ≤ length input) }
 {

@@ -4,6 +4,3 @@
 mod input;
 
 pub use input::{InputFault, READS, read_input};
-
-#[cfg(test)]
-mod tests;

@@ -1,1 +1,2 @@
+-- Where a list of a volume stands.
 pub mod Levels

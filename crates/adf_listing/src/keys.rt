@@ -2,7 +2,8 @@
 ghost use Rattle.std.specs.Prelude.{◌≡◌, ◌↔◌, IfSome, IsTrue, pos};
 ghost use Rattle.ados_tree.specs.Keys.{HasDirectory, HasKey};
 
-use ados_volume::{FileInfo, Next, Volume};
+use ados_packet::FileInfo;
+use ados_volume::{Next, Volume};
 
 /// The entry type of a directory other than the root.
 const DIRECTORY: i32 = 2;

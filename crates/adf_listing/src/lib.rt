@@ -10,6 +10,3 @@ mod listing;
 pub use fault::PrintFault;
 pub use info::write_info;
 pub use listing::write_list;
-
-#[cfg(test)]
-mod tests;

@@ -1,5 +1,5 @@
 //! The lines of a list.
-use ados_volume::FileInfo;
+use ados_packet::FileInfo;
 use std::alloc::{AllocError, Global};
 
 /// The entry type of a file.

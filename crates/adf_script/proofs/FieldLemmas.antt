@@ -8,7 +8,7 @@ use Rattle.std.proofs.lemmas.List.{append-nil, length-replicate, get_or_default}
 use Rattle.std.proofs.Math.ListN.{get_or-append}
 use Rattle.adf_script.specs.Pieces.{has_byte, IsSplit, IsBehind, IsCut}
 use Rattle.adf_script.specs.Grammar.{IsNumber, IsSigned, IsValue, Field, Value, Number, Signed, Text, LongText, Zeros, SpellsField, SpellsFields}
-use Rattle.adf_script.specs.Reading.{a_text, a_long_text, a_buffer, ReadsNone, Reads}
+use Rattle.adf_script.specs.steps.Reading.{a_text, a_long_text, a_buffer, ReadsNone, Reads}
 use Rattle.adf_script.proofs.Splitting.{has_byte-split, split_unique, true_is_false}
 
 -- numbers have no space

@@ -4,13 +4,13 @@ use Rattle.std.specs.Prelude.{slice_set, Some}
 use Rattle.std.specs.Bool.{MatchBool}
 use Rattle.ados_packet.specs.declared.packet.Packet.{Packet}
 use Rattle.ados_packet.specs.declared.answer.Answer.{Answer}
-use Rattle.ados_server.specs.Port.{ClientState, PortState, client_state}
-use Rattle.ados_server.specs.Steps.{PutGives, ServeGives, TakeGives}
-use Rattle.ados_server.specs.declared.step.PutRefused.TheVariants.{Closed, NoRoom}
-use Rattle.ados_server.specs.declared.step.Reply.{Reply}
-use Rattle.ados_server.specs.declared.step.Outcome.{Outcome}
-use Rattle.ados_server.specs.declared.step.Outcome.TheVariants.{Accepted, Refused, Served, Taken}
-use Rattle.adf_script.specs.Calls.{quiet_port, IsQuiet, Calls}
+use Rattle.ados_port.specs.Port.{ClientState, PortState, client_state}
+use Rattle.ados_port.specs.Steps.{PutGives, ServeGives, TakeGives}
+use Rattle.ados_port.specs.PutRefused.TheVariants.{Closed, NoRoom}
+use Rattle.ados_port.specs.Reply.{Reply}
+use Rattle.ados_port.specs.Outcome.{Outcome}
+use Rattle.ados_port.specs.Outcome.TheVariants.{Accepted, Refused, Served, Taken}
+use Rattle.adf_script.specs.steps.Calls.{quiet_port, IsQuiet, Calls}
 
 module _ {S : Type 0} where
   -- the packet waits

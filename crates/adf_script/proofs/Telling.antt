@@ -10,22 +10,22 @@ use Rattle.std.proofs.lemmas.Grind.{flat_map-append}
 use Rattle.std.proofs.lemmas.Option.{none-some, slice_get_past}
 use Rattle.ados_packet.specs.declared.packet.Packet.{Packet}
 use Rattle.ados_packet.specs.declared.answer.Answer.{Answer}
-use Rattle.ados_server.specs.Port.{PortState}
-use Rattle.ados_server.specs.History.{PortHistory}
-use Rattle.ados_server.specs.Lawful.{numbered}
-use Rattle.ados_server.specs.Steps.{StepGives}
-use Rattle.ados_server.specs.declared.step.Step.TheVariants.{Put, Serve, Take}
-use Rattle.ados_server.specs.declared.step.PutRefused.TheVariants.{Closed}
-use Rattle.ados_server.specs.declared.step.Reply.{Reply}
-use Rattle.ados_server.specs.declared.step.Outcome.TheVariants.{Accepted, Refused, Served, Taken}
-use Rattle.ados_exchange.proofs.Histories.{slice_get-push_at}
-use Rattle.ados_exchange.proofs.Grows.{Grown, grown_nil, grow}
+use Rattle.ados_port.specs.Port.{PortState}
+use Rattle.ados_port.specs.History.{PortHistory}
+use Rattle.ados_port.specs.Lawful.{numbered}
+use Rattle.ados_port.specs.Steps.{StepGives}
+use Rattle.ados_port.specs.Step.TheVariants.{Put, Serve, Take}
+use Rattle.ados_port.specs.PutRefused.TheVariants.{Closed}
+use Rattle.ados_port.specs.Reply.{Reply}
+use Rattle.ados_port.specs.Outcome.TheVariants.{Accepted, Refused, Served, Taken}
+use Rattle.ados_port.proofs.Histories.{slice_get-push_at}
+use Rattle.ados_port.proofs.Grows.{Grown, grown_nil, grow}
 use Rattle.adf_script.specs.Lines.{lines_of, is_skipped, kept_from, kept_lines, is_too_long}
 use Rattle.adf_script.specs.Values.{answer_value, answer_values}
 use Rattle.adf_script.specs.Grammar.{IsPacketLine, IsFaulty}
 use Rattle.adf_script.specs.Text.{reply_line, reply_lines, closed_line, fault_line}
 use Rattle.adf_script.specs.Told.{ArePackets, NoneIsLeft, steps_of, outcomes_of, Ending, AtEnd, AtClosed, AtFault, is_whole, last_line, Ran, Told}
-use Rattle.adf_script.specs.Calls.{IsQuiet, Calls}
+use Rattle.adf_script.specs.steps.Calls.{IsQuiet, Calls}
 use Rattle.adf_script.specs.Streams.{Writes, ReadsAndWrites}
 use Rattle.adf_script.proofs.Quiet.{put_closed}
 use Rattle.std.proofs.KnownBytes.{Appends-nil as appends_nothing, Appends-trans as appends_more, Appends-kept as appends_kept}

@@ -8,7 +8,7 @@ use Rattle.adf_script.specs.declared.words.Word.TheVariants.{Die, Locate, Rename
 use Rattle.adf_script.specs.declared.words.TheConstants.Word.{ALL}
 use Rattle.adf_script.specs.Pieces.{has_byte, IsCut}
 use Rattle.adf_script.specs.Grammar.{form_of, SpellsFields, IsPacketLine, IsFaulty}
-use Rattle.adf_script.specs.Words.{spelling, EachOf, Puts}
+use Rattle.adf_script.specs.steps.Words.{spelling, EachOf, Puts}
 use Rattle.adf_script.proofs.FieldLemmas.{cut_unique, behind_fields}
 
 abbrev same_bytes : List ℕ → List ℕ → Bool

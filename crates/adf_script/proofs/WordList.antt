@@ -3,7 +3,7 @@ use Rattle.std.proofs.Common.{◌≡◌, ◌≢◌, ℕ, ◌<◌, List, get_or, 
 use Rattle.adf_script.specs.declared.words.Word.{Word}
 use Rattle.adf_script.specs.declared.words.Word.TheVariants.{Die, Locate, RenameDisk, Free, Delete, Rename, Copy, Protect, MakeDir, Examine, Next, DiskInfo, Info, Comment, Parent, Date, Same, Read, Write, Update, Input, Output, End, Seek, Size, Other}
 use Rattle.adf_script.specs.declared.words.TheConstants.Word.{ALL}
-use Rattle.adf_script.specs.Words.{spelling}
+use Rattle.adf_script.specs.steps.Words.{spelling}
 
 -- where a word stands in the list
 abbrev pub place_of : Word → ℕ

@@ -3,8 +3,8 @@ use Rattle.std.specs.Prelude.{◌≡◌, ◌⊎◌, ℕ, ◌+◌, Bool, IsTrue, 
 use Rattle.std.specs.Bool.{MatchBool}
 use Rattle.ados_packet.specs.declared.packet.Packet.{Packet}
 use Rattle.ados_packet.specs.declared.answer.Answer.{Answer}
-use Rattle.ados_server.specs.Lawful.{numbered}
-use Rattle.ados_server.specs.declared.step.Reply.{Reply}
+use Rattle.ados_port.specs.Lawful.{numbered}
+use Rattle.ados_port.specs.Reply.{Reply}
 use Rattle.adf_script.specs.declared.ending.ClientEnding.{ClientEnding}
 use Rattle.adf_script.specs.declared.ending.ClientEnding.TheVariants.{Done, Script, Tries}
 use Rattle.adf_script.specs.Lines.{kept_lines, is_too_long}

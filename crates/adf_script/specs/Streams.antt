@@ -1,6 +1,10 @@
 -- What goes from a reader to a writer.
 use Rattle.std.specs.Prelude.{List, ℕ, Option}
 use Rattle.std.specs.Io.KnownBytes.{Consumes, Appends, IsAtEnd}
+use Rattle.adf_input.specs.declared.input.InputFault.{InputFault}
+use Rattle.adf_input.specs.declared.input.InputFault.TheVariants as input
+use Rattle.adf_script.specs.declared.fault.TryFault.{TryFault}
+use Rattle.adf_script.specs.declared.fault.TryFault.TheVariants.{Read, Memory, TurnLimit}
 
 -- something of this kind is written; the writer is given before and after
 abbrev pub Writes : Option (List ℕ) → Option (List ℕ) → (List ℕ → Type 0) → Type 0
@@ -10,3 +14,9 @@ Writes old new IsFit = (written : List ℕ) × Appends old new written × IsFit 
 abbrev pub ReadsAndWrites : Option (List ℕ) → Option (List ℕ) → Option (List ℕ) → Option (List ℕ) → (List ℕ → List ℕ → Type 0) → Type 0
 ReadsAndWrites reader_old reader_new writer_old writer_new Fits =
     (read : List ℕ) × Consumes reader_old reader_new read × IsAtEnd reader_new × Writes writer_old writer_new (Fits read)
+
+-- input that failed, as the fault of a script
+abbrev pub input_fault : InputFault → TryFault
+input_fault input.Read = Read
+input_fault input.Memory = Memory
+input_fault input.TurnLimit = TurnLimit

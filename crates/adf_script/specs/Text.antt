@@ -1,8 +1,8 @@
 -- What is printed of each reply, and at the end.
 use Rattle.std.specs.Prelude.{ℕ, ◌+◌, ◌/◌, ◌%◌, ◌^◌, ℤ, pos, negsuc, Bool, false, ◌==◌, nat_lt, if◌then◌else◌, List, [], ◌∷◌, ◌++◌, take, flat_map, decimal, codes}
 use Rattle.std.specs.Fmt.{signed_decimal}
-use Rattle.ados_volume.specs.declared.examine.FileInfo.{FileInfo}
-use Rattle.ados_volume.specs.declared.info.DiskInfo.{DiskInfo}
+use Rattle.ados_packet.specs.declared.info.FileInfo.{FileInfo}
+use Rattle.ados_packet.specs.declared.info.DiskInfo.{DiskInfo}
 use Rattle.ados_packet.specs.declared.answer.Answer.{Answer}
 use Rattle.ados_packet.specs.declared.answer.Body.{Body}
 use Rattle.ados_packet.specs.declared.answer.Body.TheVariants.{Empty, Buffer, Handle, Entry, Disk}

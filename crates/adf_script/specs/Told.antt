@@ -1,18 +1,19 @@
 -- What a run of a script tells, over whatever a server does.
-use Rattle.std.specs.Prelude.{◌≡◌, ℕ, ◌+◌, Bool, true, false, List, [], ◌∷◌, ◌++◌, length, take, slice_get, flat_map, Some, None}
+use Rattle.std.specs.Prelude.{◌≡◌, ℕ, ◌+◌, Bool, true, false, List, [], ◌∷◌, ◌++◌, length, take, slice_get, flat_map, Option, Some, None}
 use Rattle.std.specs.Bool.{MatchBool}
 use Rattle.ados_packet.specs.declared.packet.Packet.{Packet}
 use Rattle.ados_packet.specs.declared.answer.Answer.{Answer}
-use Rattle.ados_server.specs.Port.{PortState}
-use Rattle.ados_server.specs.History.{PortHistory}
-use Rattle.ados_server.specs.Lawful.{numbered}
-use Rattle.ados_server.specs.declared.step.Step.{Step}
-use Rattle.ados_server.specs.declared.step.Step.TheVariants.{Put, Serve, Take}
-use Rattle.ados_server.specs.declared.step.PutRefused.TheVariants.{Closed}
-use Rattle.ados_server.specs.declared.step.Reply.{Reply}
-use Rattle.ados_server.specs.declared.step.Outcome.{Outcome}
-use Rattle.ados_server.specs.declared.step.Outcome.TheVariants.{Accepted, Refused, Served, Taken}
+use Rattle.ados_port.specs.Port.{PortState}
+use Rattle.ados_port.specs.History.{PortHistory}
+use Rattle.ados_port.specs.Lawful.{numbered}
+use Rattle.ados_port.specs.Step.{Step}
+use Rattle.ados_port.specs.Step.TheVariants.{Put, Serve, Take}
+use Rattle.ados_port.specs.PutRefused.TheVariants.{Closed}
+use Rattle.ados_port.specs.Reply.{Reply}
+use Rattle.ados_port.specs.Outcome.{Outcome}
+use Rattle.ados_port.specs.Outcome.TheVariants.{Accepted, Refused, Served, Taken}
 use Rattle.adf_script.specs.Lines.{kept_lines, is_too_long}
+use Rattle.adf_script.specs.Streams.{Writes}
 use Rattle.adf_script.specs.Values.{answer_values}
 use Rattle.adf_script.specs.Grammar.{IsPacketLine, IsFaulty}
 use Rattle.adf_script.specs.Text.{reply_lines, closed_line, fault_line}
@@ -53,10 +54,10 @@ is_whole AtEnd = true
 is_whole (AtClosed packet) = true
 is_whole (AtFault number) = false
 
-abbrev pub Ends : List (ℕ × List ℕ) → List Answer → ℕ → Ending → Type 0
-Ends lines answers count AtEnd = NoneIsLeft lines count
-Ends lines answers count (AtClosed packet) = NextPuts lines answers count packet
-Ends lines answers count (AtFault number) = NextIsFaulty lines answers count number
+abbrev pub EndsWith : List (ℕ × List ℕ) → List Answer → ℕ → Ending → Type 0
+EndsWith lines answers count AtEnd = NoneIsLeft lines count
+EndsWith lines answers count (AtClosed packet) = NextPuts lines answers count packet
+EndsWith lines answers count (AtFault number) = NextIsFaulty lines answers count number
 
 abbrev pub last_steps : {M : Type 0} → Ending → List (Step Packet M)
 last_steps AtEnd = []
@@ -79,7 +80,7 @@ module _ {S M : Type 0} (gives : S → Packet → M → S → Answer → Type 0)
   pub record Ran (lines : List (ℕ × List ℕ)) (answers : List Answer) (ending : Ending) : Type 0 where
     pub packets : List Packet
     pub each : ArePackets lines answers packets
-    pub ends : Ends lines answers (length packets) ending
+    pub ends : EndsWith lines answers (length packets) ending
     pub closing : PortState S Packet Answer
     pub history : PortHistory gives has_died opening
         (flat_map (steps_of moment) packets ++ last_steps ending)
@@ -93,3 +94,7 @@ module _ {S M : Type 0} (gives : S → Packet → M → S → Answer → Type 0)
       ((whole ≡ false) × (written ≡ fault_line 1 0))
       ((answers : List Answer) × (ending : Ending) × Ran (kept_lines read) answers ending × (whole ≡ is_whole ending)
       × (written ≡ reply_lines 1 1 answers ++ last_line 1 (length answers) ending))
+
+  -- a writer, given before and after, was written to so
+  abbrev pub WritesTold : List ℕ → Bool → Option (List ℕ) → Option (List ℕ) → Type 0
+  WritesTold read whole old new = Writes old new (λ written. Told read written whole)

@@ -1,11 +1,10 @@
 //! One packet through a port.
-ghost use Rattle.std.specs.Prelude.{◌≡◌, ℕ, ◌+◌, MatchResult};
-ghost use Rattle.ados_server.specs.Steps.{StepGives};
-ghost use Rattle.adf_script.specs.Calls.{IsQuiet, Calls};
+ghost use Rattle.std.specs.Prelude.{ℕ, MatchResult};
+ghost use Rattle.ados_port.specs.Steps.{StepGives};
+ghost use Rattle.adf_script.specs.steps.Calls.{IsQuiet, CallsNext};
 
-use ados_exchange::Exchange;
 use ados_packet::{Answer, Packet};
-use ados_server::{Outcome, PutRefused, Reply, Server, Step};
+use ados_port::{Exchange, Outcome, PutRefused, Reply, Server, Step};
 
 /// Puts a packet of client 1, serves it and takes its reply.
 pub(crate) fn call<S>(
@@ -17,8 +16,7 @@ where
     S: Server<Request = Packet, Reply = Answer>,
     requires { (count : ℕ) × IsQuiet exchange.old count }
     ensures { (count : ℕ) → IsQuiet exchange.old count → MatchResult result
-        (λ reply. (reply.number ≡ count + 1) × IsQuiet exchange.new (count + 1)
-        × Calls S.gives S.has_died moment exchange.old packet reply exchange.new)
+        (λ reply. CallsNext S.gives S.has_died moment exchange.old count packet reply exchange.new)
         (λ refused. StepGives S.gives S.has_died exchange.old (Step.Put 1 packet) (Outcome.Refused refused) exchange.new) }
 {
     match exchange.step(Step::Put { client: 1, packet }) {

@@ -1,5 +1,5 @@
 //! Why a script comes to no good end.
-
+use adf_input::InputFault;
 use std::alloc::AllocError;
 
 /// Why a script was not run to a good end.
@@ -25,5 +25,22 @@ impl From<AllocError> for TryFault {
 
     fn from(_: AllocError) -> Self {
         TryFault::Memory
+    }
+}
+
+impl From<InputFault> for TryFault {
+    ghost use Rattle.std.specs.Prelude.{◌≡◌};
+    ghost use Rattle.adf_script.specs.Streams.{input_fault};
+
+    ghost from_gives = { λ fault told. told ≡ input_fault fault };
+
+    fn from(fault: InputFault) -> Self
+        ensures { result ≡ input_fault fault }
+    {
+        match fault {
+            InputFault::Read => TryFault::Read,
+            InputFault::Memory => TryFault::Memory,
+            InputFault::TurnLimit => TryFault::TurnLimit,
+        }
     }
 }

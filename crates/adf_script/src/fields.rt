@@ -2,7 +2,7 @@
 ghost use Rattle.std.specs.Prelude.{◌≡◌, ◌≢◌, ◌∷◌, ◌++◌, [], ℕ, false, List, Option, replicate, IfSome, MatchOption};
 ghost use Rattle.ados_name.specs.Path.{IsPathText};
 ghost use Rattle.adf_script.specs.Pieces.{IsSplit, IsCut};
-ghost use Rattle.adf_script.specs.Reading.{a_value, a_number, a_signed, a_text, a_long_text, a_buffer, an_object, a_date, ReadsNone, Reads};
+ghost use Rattle.adf_script.specs.steps.Reading.{a_value, a_number, a_signed, a_text, a_long_text, a_buffer, an_object, a_date, ReadsNone, Reads};
 
 use crate::numbers::{number, value};
 use crate::pieces::{behind, cut, split_once};

@@ -1,7 +1,7 @@
 //! The packets of lines about files.
 ghost use Rattle.std.specs.Prelude.{◌∷◌, [], IfOk, MatchOption, replicate};
 ghost use Rattle.adf_script.specs.Grammar.{Value, LongText, Zeros, SpellsFields, form_of};
-ghost use Rattle.adf_script.specs.Words.{Puts, EachOf};
+ghost use Rattle.adf_script.specs.steps.Words.{Puts, EachOf};
 ghost use Rattle.adf_script.specs.declared.words.Word.TheVariants as word;
 
 use crate::fields::{long_text_field, path_of, value_field, zeros_field};

@@ -1,7 +1,7 @@
 //! What packet a line of a script spells.
 ghost use Rattle.std.specs.Prelude.{IfOk, MatchOption};
 ghost use Rattle.adf_script.specs.Grammar.{IsPacketLine, IsFaulty};
-ghost use Rattle.adf_script.specs.Words.{Puts};
+ghost use Rattle.adf_script.specs.steps.Words.{Puts};
 
 use crate::file_lines::{end_line, input, output, read, seek, size, update, write};
 use crate::lock_lines::{copy, examine, free, info, locate, next, parent, same};

@@ -40,12 +40,5 @@ mod words;
 
 pub use ending::ClientEnding;
 pub use fault::TryFault;
-pub use input::LONGEST_SCRIPT;
+pub use input::{LONGEST_SCRIPT, read_script};
 pub use runner::run_script;
-
-#[cfg(test)]
-mod line_tests;
-#[cfg(test)]
-mod tests;
-#[cfg(test)]
-mod text_tests;

@@ -1,5 +1,5 @@
 //! The packets of lines about locks.
-ghost use Rattle.adf_script.specs.Words.{Puts};
+ghost use Rattle.adf_script.specs.steps.Words.{Puts};
 ghost use Rattle.adf_script.specs.declared.words.Word.TheVariants as word;
 
 use crate::fields::{path_of, signed_field, text_field, value_field};

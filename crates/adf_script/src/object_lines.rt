@@ -1,6 +1,6 @@
 //! The packets of lines about objects and their names.
 ghost use Rattle.std.specs.Prelude.{ℕ, List, Option};
-ghost use Rattle.adf_script.specs.Words.{Puts};
+ghost use Rattle.adf_script.specs.steps.Words.{Puts};
 ghost use Rattle.adf_script.specs.declared.words.Word.TheVariants as word;
 
 use crate::fields::{date_fields, number_field, object_fields, path_of, text_field};

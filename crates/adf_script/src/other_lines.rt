@@ -1,6 +1,6 @@
 //! The packets of lines without locks.
 ghost use Rattle.std.specs.Prelude.{ℕ, List, Option};
-ghost use Rattle.adf_script.specs.Words.{Puts};
+ghost use Rattle.adf_script.specs.steps.Words.{Puts};
 ghost use Rattle.adf_script.specs.declared.words.Word.TheVariants as word;
 
 use crate::fields::signed_field;

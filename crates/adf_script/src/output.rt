@@ -6,7 +6,7 @@ ghost use Rattle.adf_script.specs.Text.{reply_line, closed_line, fault_line};
 use crate::fault::TryFault;
 use crate::text::{closed_text, fault_text, reply_text};
 use ados_packet::Answer;
-use ados_server::Reply;
+use ados_port::Reply;
 use std::alloc::Global;
 use std::io::Write;
 

@@ -1,12 +1,12 @@
 //! Runs a script.
 ghost use Rattle.std.specs.Prelude.{◌≡◌, ◌≢◌, ◌≤◌, ◌∷◌, ◌++◌, [], OnOk, IfSome, false, true, length};
 ghost use Rattle.std.specs.Io.KnownBytes.{Appends};
-ghost use Rattle.ados_server.specs.Port.{opening_port};
+ghost use Rattle.ados_port.specs.Port.{opening_port};
 ghost use Rattle.adf_script.specs.Lines.{is_too_long};
-ghost use Rattle.adf_script.specs.Calls.{IsQuiet};
+ghost use Rattle.adf_script.specs.steps.Calls.{IsQuiet};
 ghost use Rattle.adf_script.specs.Text.{reply_line};
-ghost use Rattle.adf_script.specs.Told.{Told};
-ghost use Rattle.adf_script.specs.Streams.{ReadsAndWrites, Writes};
+ghost use Rattle.adf_script.specs.Told.{Told, WritesTold};
+ghost use Rattle.adf_script.specs.Streams.{ReadsAndWrites};
 ghost use Rattle.adf_script.specs.Values.{answer_value};
 
 use crate::call::call;
@@ -16,9 +16,8 @@ use crate::input::{LONGEST_SCRIPT, read_script};
 use crate::lines::{first_line, is_passed_over};
 use crate::output::{write_closed, write_fault, write_reply};
 use crate::values::keep_value;
-use ados_exchange::Exchange;
 use ados_packet::{Answer, Packet};
-use ados_server::{PutRefused, Reply, Server};
+use ados_port::{Exchange, PutRefused, Reply, Server};
 use std::alloc::Global;
 use std::io::{Read, Write};
 
@@ -35,10 +34,10 @@ where
     W: Write,
     requires quiet { IsQuiet exchange.old 0 }
     requires short { is_too_long script.now ≡ false }
-    ensures whole { OnOk result (Writes (W.contents writer.old) (W.contents writer.new)
-        (λ written. Told S.gives S.has_died exchange.old moment script.now written true)) }
-    ensures faulty { result ≡ Err TryFault.Script → Writes (W.contents writer.old) (W.contents writer.new)
-        (λ written. Told S.gives S.has_died exchange.old moment script.now written false) }
+    ensures whole { OnOk result
+        (WritesTold S.gives S.has_died exchange.old moment script.now true (W.contents writer.old) (W.contents writer.new)) }
+    ensures faulty { result ≡ Err TryFault.Script →
+        WritesTold S.gives S.has_died exchange.old moment script.now false (W.contents writer.old) (W.contents writer.new) }
     ensures no_limit { result ≢ Err TryFault.TurnLimit }
 {
     let mut rest = script;
@@ -95,10 +94,10 @@ fn tell<S, W>(
 where
     S: Server<Request = Packet, Reply = Answer> + Drop,
     W: Write,
-    ensures whole { OnOk result (Writes (W.contents writer.old) (W.contents writer.new)
-        (λ written. Told S.gives S.has_died (opening_port server 1) moment script.now written true)) }
-    ensures faulty { result ≡ Err TryFault.Script → Writes (W.contents writer.old) (W.contents writer.new)
-        (λ written. Told S.gives S.has_died (opening_port server 1) moment script.now written false) }
+    ensures whole { OnOk result
+        (WritesTold S.gives S.has_died (opening_port server 1) moment script.now true (W.contents writer.old) (W.contents writer.new)) }
+    ensures faulty { result ≡ Err TryFault.Script →
+        WritesTold S.gives S.has_died (opening_port server 1) moment script.now false (W.contents writer.old) (W.contents writer.new) }
     ensures no_limit { result ≢ Err TryFault.TurnLimit }
 {
     if LONGEST_SCRIPT < script.len() {

@@ -2,7 +2,7 @@
 ghost use Rattle.std.specs.Prelude.{◌≡◌, ◌≢◌, ℕ, List, [], IfSome, MatchOption};
 ghost use Rattle.ados_name.specs.Path.{IsPathText};
 ghost use Rattle.adf_script.specs.Grammar.{SpellsFields};
-ghost use Rattle.adf_script.specs.Reading.{a_value, a_pair, an_object, a_target, Ends};
+ghost use Rattle.adf_script.specs.steps.Reading.{a_value, a_pair, an_object, a_target, ReadsToEnd};
 
 use crate::fields::{object_fields, signed_field, value_field};
 
@@ -15,7 +15,7 @@ pub(crate) fn end(rest: &[u8]) -> Option<()>
 
 /// A lock or a handle.
 pub(crate) fn one_value(values: &[Option<u32>], rest: &[u8]) -> Option<u32>
-    ensures { Ends values.now a_value rest.now result }
+    ensures { ReadsToEnd values.now a_value rest.now result }
 {
     let (n, rest) = value_field(values, rest)?;
     end(rest)?;
@@ -24,7 +24,7 @@ pub(crate) fn one_value(values: &[Option<u32>], rest: &[u8]) -> Option<u32>
 
 /// Two locks, or a lock and a key.
 pub(crate) fn two_values(values: &[Option<u32>], rest: &[u8]) -> Option<(u32, u32)>
-    ensures { Ends values.now a_pair rest.now result }
+    ensures { ReadsToEnd values.now a_pair rest.now result }
 {
     let (first, rest) = value_field(values, rest)?;
     let (second, rest) = value_field(values, rest)?;
@@ -46,7 +46,7 @@ pub(crate) fn object<'a>(values: &[Option<u32>], rest: &'a [u8]) -> Option<(u32,
 
 /// A handle, and an offset with its mode.
 pub(crate) fn target(values: &[Option<u32>], rest: &[u8]) -> Option<(u32, i32, i32)>
-    ensures { Ends values.now a_target rest.now result }
+    ensures { ReadsToEnd values.now a_target rest.now result }
 {
     let (handle, rest) = value_field(values, rest)?;
     let (offset, rest) = signed_field(rest)?;

@@ -1,6 +1,6 @@
 //! The words that lines begin with.
 ghost use Rattle.std.specs.Prelude.{◌≡◌, ◌≢◌, MatchOption};
-ghost use Rattle.adf_script.specs.Words.{spelling};
+ghost use Rattle.adf_script.specs.steps.Words.{spelling};
 
 /// The word in front of a line. It says which packet the line puts.
 #[derive(Clone, Copy, Debug, PartialEq, Eq)]

@@ -5,13 +5,13 @@ use Rattle.adf_block.specs.declared.Format.TheVariants.{Ffs}
 use Rattle.ados_tree.specs.Tree.{Tree}
 use Rattle.ados_tree.specs.Blank.{IsBlank, blank_tree}
 use Rattle.ados_tree.specs.Stands.{Stands}
-use Rattle.ados_server.specs.Port.{PortState, opening_port}
+use Rattle.ados_port.specs.Port.{PortState, opening_port}
 use Rattle.ados_packet.specs.declared.packet.Packet.{Packet}
 use Rattle.ados_packet.specs.declared.answer.Answer.{Answer}
 use Rattle.ados_handler.specs.Session.{Session, opening_session}
 use Rattle.ados_handler.specs.Handler.{HandlerState, HandlerGives}
-use Rattle.adf_run.specs.TreePort.{means, tree_died, handler_died, over_tree}
-use Rattle.adf_run.proofs.Following.{histories_follow_trees}
+use Rattle.ados_run.specs.TreePort.{means, tree_died, handler_died, over_tree}
+use Rattle.ados_run.proofs.Following.{histories_follow_trees}
 use Rattle.adf_script.specs.Lines.{kept_lines, is_too_long}
 use Rattle.adf_script.specs.Streams.{ReadsAndWrites}
 use Rattle.adf_script.specs.Text.{reply_lines, fault_line}

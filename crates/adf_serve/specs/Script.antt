@@ -3,9 +3,9 @@ use Rattle.std.specs.Prelude.{ℕ, Bool, List, Option, codes}
 use Rattle.adf_block.specs.declared.Format.TheVariants.{Ffs}
 use Rattle.ados_name.specs.declared.Date3.{Date3}
 use Rattle.ados_tree.specs.Blank.{blank_tree}
-use Rattle.ados_server.specs.Port.{opening_port}
+use Rattle.ados_port.specs.Port.{opening_port}
 use Rattle.ados_handler.specs.Session.{opening_session}
-use Rattle.adf_run.specs.TreePort.{TreeState, means, tree_died}
+use Rattle.ados_run.specs.TreePort.{TreeState, means, tree_died}
 use Rattle.adf_script.specs.Streams.{ReadsAndWrites}
 use Rattle.adf_script.specs.Told.{Told}
 

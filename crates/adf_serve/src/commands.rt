@@ -2,30 +2,48 @@
 ghost use Rattle.adf_block.specs.Image.{IsSize};
 
 use crate::fault::CommandFault;
+use crate::refusal::Refusal;
 use crate::script::FIRST_MOMENT;
 use crate::serving::serve;
 use adf_block::{Format, Image, size_ok};
 use adf_files::{LoadFault, load_image, store_image, write_output};
 use adf_listing::{write_info, write_list};
-use adf_run::{RunFault, run_volume};
-use adf_words::Job;
+use adf_words::ImageJob;
 use ados_name::{Date3, Name};
 use ados_packet::Packet;
-use ados_server::{Outcome, Step};
-use ados_volume::{FaultKind, Volume, VolumeFault, blank, check};
+use ados_port::{Outcome, Step};
+use ados_run::{RunFault, run_volume};
+use ados_volume::{Volume, blank, check};
 use std::alloc::{AllocError, Global};
-use std::fmt::Debug;
 use std::fs;
 use std::io::Write;
 use std::rt::Files;
 use std::sync::Wait;
 use std::thread::Threads;
 
-/// Does a job on image files. What it tells of an image goes to the writer.
+/// Does a job on image files. What it tells of an image goes to the writer, and why one is refused.
 pub(crate) fn run_job<'a, R, W>(
     rt: &R,
     alloc: Global,
-    job: Job<'a>,
+    job: ImageJob<'a>,
+    writer: &mut W,
+) -> Result<(), CommandFault<'a>>
+where
+    R: Files + Threads + Wait + Copy + Send + Drop + 'static,
+    W: Write,
+{
+    let done = do_job(rt, alloc, job, writer);
+    if let Err(CommandFault::Refused(refusal)) = &done {
+        refusal.print(alloc, writer)?;
+    }
+    done
+}
+
+/// Does a job on image files, and tells nothing of an image that is refused.
+fn do_job<'a, R, W>(
+    rt: &R,
+    alloc: Global,
+    job: ImageJob<'a>,
     writer: &mut W,
 ) -> Result<(), CommandFault<'a>>
 where
@@ -33,8 +51,7 @@ where
     W: Write,
 {
     match job {
-        Job::Script => Ok(()),
-        Job::Blank {
+        ImageJob::Blank {
             format,
             blocks,
             moment,
@@ -49,19 +66,19 @@ where
             }
             write_blank(rt, alloc, format, blocks, label, moment, file)
         }
-        Job::Info { file } => {
-            let image = read_image(rt, alloc, file, writer)?;
+        ImageJob::Info { file } => {
+            let image = read_image(rt, alloc, file)?;
             tell_info(alloc, image, writer)
         }
-        Job::Check { file } => {
-            let volume = open_volume(rt, alloc, file, writer)?;
+        ImageJob::Check { file } => {
+            let volume = open_volume(rt, alloc, file)?;
             tell(writer, accepted(&volume).as_bytes())
         }
-        Job::List { file } => {
-            let volume = open_volume(rt, alloc, file, writer)?;
+        ImageJob::List { file } => {
+            let volume = open_volume(rt, alloc, file)?;
             Ok(write_list(alloc, &volume, writer)?)
         }
-        Job::Serve(job) => serve(rt, alloc, job, writer),
+        ImageJob::Serve(job) => serve(rt, alloc, job, writer),
     }
 }
 
@@ -96,12 +113,11 @@ pub(crate) fn write_image<'a, R: Files>(
     }
 }
 
-/// The image of a file. Of a size that no volume has the writer is told.
-fn read_image<'a, R: Files, W: Write>(
+/// The image of a file.
+fn read_image<'a, R: Files>(
     rt: &R,
     alloc: Global,
     file: &'a str,
-    writer: &mut W,
 ) -> Result<Image, CommandFault<'a>> {
     let Ok(mut reader) = fs::open(rt, file) else {
         return Err(CommandFault::Read(file));
@@ -111,21 +127,22 @@ fn read_image<'a, R: Files, W: Write>(
         Err(LoadFault::Read) => Err(CommandFault::Read(file)),
         Err(LoadFault::Memory) => Err(CommandFault::Memory),
         Err(LoadFault::TurnLimit) => Err(CommandFault::Endless(file)),
-        Err(LoadFault::Size(refused)) => Err(refuse(alloc, writer, refused.fault, 0)),
+        Err(LoadFault::Size(refused)) => {
+            Err(CommandFault::Refused(Refusal::of_size(refused.fault)))
+        }
     }
 }
 
-/// The volume of an image file. Of an image that is refused the writer is told why.
-pub(crate) fn open_volume<'a, R: Files, W: Write>(
+/// The volume of an image file.
+pub(crate) fn open_volume<'a, R: Files>(
     rt: &R,
     alloc: Global,
     file: &'a str,
-    writer: &mut W,
 ) -> Result<Volume, CommandFault<'a>> {
-    let image = read_image(rt, alloc, file, writer)?;
+    let image = read_image(rt, alloc, file)?;
     match check(alloc, image) {
         Ok(volume) => Ok(volume),
-        Err(rejected) => Err(reject(alloc, writer, rejected.fault)),
+        Err(rejected) => Err(CommandFault::from(rejected.fault)),
     }
 }
 
@@ -143,7 +160,7 @@ fn tell_info<'a, W: Write>(
             }
             _ => Err(CommandFault::Memory),
         },
-        Err(RunFault::Rejected(rejected)) => Err(reject(alloc, writer, rejected.fault)),
+        Err(RunFault::Rejected(rejected)) => Err(CommandFault::from(rejected.fault)),
         Err(RunFault::NoMemory(_)) => Err(CommandFault::Memory),
     }
 }
@@ -160,30 +177,6 @@ fn disk_info(alloc: Global) -> Result<Vec<Step<Packet, Date3>>, AllocError> {
     })?;
     steps.push(Step::Take { client: 1 })?;
     Ok(steps)
-}
-
-/// The fault of an image that `check` refuses. The writer is told of it, but of want of memory.
-fn reject<'a, W: Write>(alloc: Global, writer: &mut W, fault: VolumeFault) -> CommandFault<'a> {
-    match fault.kind {
-        FaultKind::NoMemory => CommandFault::Memory,
-        kind => refuse(alloc, writer, kind, fault.block),
-    }
-}
-
-/// Tells that an image is refused: the fault by its name, and the block that shows it.
-fn refuse<'a, W: Write, K: Debug + Drop>(
-    alloc: Global,
-    writer: &mut W,
-    kind: K,
-    block: u32,
-) -> CommandFault<'a> {
-    let Ok(line) = format!(in alloc; "refused {kind:?} {block}\n") else {
-        return CommandFault::Memory;
-    };
-    match tell(writer, line.as_bytes()) {
-        Ok(()) => CommandFault::Refused,
-        Err(fault) => fault,
-    }
 }
 
 /// What `check` prints of an image that is accepted.

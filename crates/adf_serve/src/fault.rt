@@ -1,11 +1,20 @@
 //! Why a command is not done.
+use crate::refusal::Refusal;
+use adf_clients::ScriptsFault;
+use adf_input::InputFault;
 use adf_listing::PrintFault;
+use adf_script::TryFault;
+use ados_volume::VolumeFault;
 use std::alloc::AllocError;
 use thiserror::Error;
 
 /// Why a command is not done, with what a person is told of it.
 #[derive(Debug, Drop, Error)]
 pub enum CommandFault<'a> {
+    #[error("standard input cannot be read")]
+    Input,
+    #[error("standard input does not end")]
+    EndlessInput,
     #[error("'{0}' cannot be read")]
     Read(&'a str),
     #[error("'{0}' gave no end within 2,097,152 reads")]
@@ -20,8 +29,8 @@ pub enum CommandFault<'a> {
     Blocks(u32),
     #[error("'{0}' is no name of a volume, which has 1 to 30 bytes without `/` and `:`")]
     Name(&'a str),
-    #[error("the image is refused")]
-    Refused,
+    #[error("{0}")]
+    Refused(Refusal),
     #[error("a thread cannot be made")]
     Thread,
     #[error("a client ran out of tries")]
@@ -30,12 +39,21 @@ pub enum CommandFault<'a> {
     Script,
 }
 
-impl CommandFault<'_> {
-    /// The program's exit status: 1 for a wrong number of blocks, 2 for what could not be read or written, for want of memory or a thread and for a client that ran out of tries, 3 for what is refused.
+impl<'a> CommandFault<'a> {
+    /// The fault of a file that was not read to its end.
+    pub(crate) fn of_input(fault: InputFault, file: &'a str) -> CommandFault<'a> {
+        match fault {
+            InputFault::Read => CommandFault::Read(file),
+            InputFault::Memory => CommandFault::Memory,
+            InputFault::TurnLimit => CommandFault::Endless(file),
+        }
+    }
+
+    /// The program's exit status: 1 for a wrong number of blocks, 3 for what is refused, 2 for any other fault.
     pub(crate) fn status(&self) -> u8 {
         match self {
             CommandFault::Blocks(_) => 1,
-            CommandFault::Name(_) | CommandFault::Refused | CommandFault::Script => 3,
+            CommandFault::Name(_) | CommandFault::Refused(_) | CommandFault::Script => 3,
             _ => 2,
         }
     }
@@ -52,6 +70,36 @@ impl From<PrintFault> for CommandFault<'_> {
         match fault {
             PrintFault::Write => CommandFault::Output,
             PrintFault::Memory => CommandFault::Memory,
+        }
+    }
+}
+
+impl From<ScriptsFault> for CommandFault<'_> {
+    fn from(fault: ScriptsFault) -> Self {
+        match fault {
+            ScriptsFault::Memory => CommandFault::Memory,
+            ScriptsFault::Thread => CommandFault::Thread,
+        }
+    }
+}
+
+impl From<VolumeFault> for CommandFault<'_> {
+    fn from(fault: VolumeFault) -> Self {
+        match Refusal::of_volume(fault) {
+            Some(refusal) => CommandFault::Refused(refusal),
+            None => CommandFault::Memory,
+        }
+    }
+}
+
+impl From<TryFault> for CommandFault<'_> {
+    fn from(fault: TryFault) -> Self {
+        match fault {
+            TryFault::Script => CommandFault::Script,
+            TryFault::Read => CommandFault::Input,
+            TryFault::Write => CommandFault::Output,
+            TryFault::Memory => CommandFault::Memory,
+            TryFault::TurnLimit => CommandFault::EndlessInput,
         }
     }
 }

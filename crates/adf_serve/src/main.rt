@@ -3,11 +3,12 @@
 
 mod commands;
 mod fault;
+mod refusal;
 mod script;
 mod serving;
 mod words;
 
-pub use adf_run::{RunFault, run_volume};
+pub use ados_run::{RunFault, run_volume};
 pub use script::try_script;
 use std::process::ExitCode;
 use std::{env, io};
@@ -16,15 +17,9 @@ pub use words::run_words;
 #[cfg(test)]
 mod command_tests;
 #[cfg(test)]
-mod fault_tests;
-#[cfg(test)]
 mod script_tests;
 #[cfg(test)]
-mod serving_tests;
-#[cfg(test)]
-mod tests;
-#[cfg(test)]
-mod trials;
+mod stream_tests;
 
 fn main(rt: HostRuntime) -> io::Result<ExitCode> {
     let alloc = rt.alloc();

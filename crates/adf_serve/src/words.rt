@@ -6,7 +6,7 @@ use crate::commands::run_job;
 use crate::fault::CommandFault;
 use crate::script::try_script;
 use adf_script::TryFault;
-use adf_words::{WordsFault, read_words};
+use adf_words::{Job, WordsFault, read_words};
 use std::alloc::Global;
 use std::io::{Read, Write};
 use std::rt::Files;
@@ -14,8 +14,9 @@ use std::sync::Wait;
 use std::thread::Threads;
 
 /// Runs the program on the words behind its own name, and answers its exit status: 0 done, 1 a wrong command line,
-/// 2 a file or stream that cannot be read or written, no memory, no thread, or a client that ran out of tries, 3 an image, a name or a script that is refused. What
-/// went wrong with the words, the files or the streams is told on `faults`.
+/// 2 a file or stream that cannot be read or written, no memory, no thread, or a client that ran out of tries, 3 an
+/// image, a name or a script that is refused. What went wrong with the words, the files or the streams is told on
+/// `faults`.
 pub fn run_words<T, R, W, F>(
     rt: &T,
     alloc: Global,
@@ -32,24 +33,20 @@ where
     ensures whole { words.now ≡ [] → result ≡ 0 → RunsScript (R.remaining reader.old) (R.remaining reader.new) (W.contents writer.old) (W.contents writer.new) true }
     ensures faulty { words.now ≡ [] → result ≡ 3 → RunsScript (R.remaining reader.old) (R.remaining reader.new) (W.contents writer.old) (W.contents writer.new) false }
 {
-    if words.is_empty() {
-        return run_script(alloc, reader, writer, faults);
-    }
-    match read_words(alloc, words) {
-        Ok(job) => match run_job(rt, alloc, job, writer) {
-            Ok(()) => 0,
-            Err(fault) => {
-                tell_fault(&fault, faults);
-                fault.status()
-            }
-        },
+    let done = match read_words(alloc, words) {
+        Ok(Job::Script) => return run_script(alloc, reader, writer, faults),
+        Ok(Job::OnImage(job)) => run_job(rt, alloc, job, writer),
         Err(WordsFault::Usage(text)) => {
             let _ = faults.write_all(text.as_bytes());
-            1
+            return 1;
         }
-        Err(WordsFault::Memory) => {
-            tell_fault(&CommandFault::Memory, faults);
-            2
+        Err(WordsFault::Memory) => Err(CommandFault::Memory),
+    };
+    match done {
+        Ok(()) => 0,
+        Err(fault) => {
+            tell_fault(&fault, faults);
+            fault.status()
         }
     }
 }
@@ -68,7 +65,7 @@ fn run_script<R: Read, W: Write, F: Write>(
         Ok(()) => 0,
         Err(TryFault::Script) => 3,
         Err(fault) => {
-            let _ = faults.write_all(text_of(fault).as_bytes());
+            tell_fault(&CommandFault::from(fault), faults);
             2
         }
     }
@@ -76,18 +73,7 @@ fn run_script<R: Read, W: Write, F: Write>(
 
 /// Tells a person of a fault, but of a refused image and a faulty script, of which standard output tells.
 fn tell_fault<F: Write>(fault: &CommandFault<'_>, faults: &mut F) {
-    if !matches!(fault, CommandFault::Refused | CommandFault::Script) {
+    if !matches!(fault, CommandFault::Refused(_) | CommandFault::Script) {
         let _ = write!(faults, "adf_serve: {fault}\n");
-    }
-}
-
-/// What a person is told of a fault that is not the script's.
-fn text_of(fault: TryFault) -> &'static str {
-    match fault {
-        TryFault::Script => "adf_serve: a line of the script is faulty\n",
-        TryFault::Read => "adf_serve: standard input cannot be read\n",
-        TryFault::Write => "adf_serve: standard output cannot be written\n",
-        TryFault::Memory => "adf_serve: there is not enough memory\n",
-        TryFault::TurnLimit => "adf_serve: standard input does not end\n",
     }
 }

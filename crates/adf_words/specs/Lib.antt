@@ -1,0 +1,1 @@
+-- None: what the command line means is said by its types.

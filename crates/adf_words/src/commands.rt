@@ -5,6 +5,7 @@ use std::alloc::{AllocError, Global};
 /// The program with all its commands.
 pub(crate) fn program<'a>(alloc: Global) -> Result<Command<'a>, AllocError> {
     Command::new(alloc, "adf_serve")
+        .bin_name("adf_serve")?
         .no_binary_name(true)
         .about(
             "Serves Amiga floppy images as an AmigaDOS file system handler does. Without a command it runs a script from standard input over a blank floppy `Work`.",

@@ -1,9 +1,10 @@
 //! From words to a job.
 ghost use Rattle.std.specs.Prelude.{◌≡◌, ◌≤◌, [], IfOk};
 
+use crate::command::{ImageJob, Job, ServeJob, WordsFault};
 use crate::commands::program;
-use crate::job::{Job, ServeJob, WordsFault};
 use adf_block::Format;
+use adf_block::layout::{FEWEST_BLOCKS, MOST_BLOCKS};
 use ados_name::Date3;
 use clap::ArgMatches;
 use std::alloc::Global;
@@ -12,11 +13,6 @@ use std::alloc::Global;
 const DOUBLE_DENSITY: u32 = 1_760;
 
 const HIGH_DENSITY: u32 = 3_520;
-
-/// The fewest and the most blocks that a volume has.
-const FEWEST_BLOCKS: u64 = 16;
-
-const MOST_BLOCKS: u64 = 101_602;
 
 /// The largest number of a moment.
 const LARGEST: u64 = 4_294_967_295;
@@ -38,7 +34,7 @@ pub fn read_words<'a>(alloc: Global, words: &'a [String]) -> Result<Job<'a>, Wor
         None => None,
     };
     match job {
-        Some(job) => Ok(job),
+        Some(job) => Ok(Job::OnImage(job)),
         None => Err(WordsFault::Usage(command.render_help()?)),
     }
 }
@@ -48,7 +44,7 @@ fn job_of<'a>(
     alloc: Global,
     name: &str,
     words: &ArgMatches<'a>,
-) -> Result<Option<Job<'a>>, WordsFault> {
+) -> Result<Option<ImageJob<'a>>, WordsFault> {
     if name == "serve" {
         return serve_job(alloc, words);
     }
@@ -57,9 +53,9 @@ fn job_of<'a>(
     };
     match name {
         "blank" => blank_job(alloc, words, file),
-        "info" => Ok(Some(Job::Info { file })),
-        "check" => Ok(Some(Job::Check { file })),
-        "list" => Ok(Some(Job::List { file })),
+        "info" => Ok(Some(ImageJob::Info { file })),
+        "check" => Ok(Some(ImageJob::Check { file })),
+        "list" => Ok(Some(ImageJob::List { file })),
         _ => Ok(None),
     }
 }
@@ -69,12 +65,13 @@ fn blank_job<'a>(
     alloc: Global,
     words: &ArgMatches<'a>,
     file: &'a str,
-) -> Result<Option<Job<'a>>, WordsFault> {
+) -> Result<Option<ImageJob<'a>>, WordsFault> {
     let Some(name) = words.get_str("NAME") else {
         return Ok(None);
     };
+    let (fewest, most) = (u64::from(FEWEST_BLOCKS), u64::from(MOST_BLOCKS));
     let given = match words.get_str("blocks") {
-        Some(_) => Some(number_of(alloc, words, "blocks", FEWEST_BLOCKS, MOST_BLOCKS)? as u32),
+        Some(_) => Some(number_of(alloc, words, "blocks", fewest, most)? as u32),
         None => None,
     };
     let usual = if words.get_flag("hd") {
@@ -87,7 +84,7 @@ fn blank_job<'a>(
     } else {
         Format::Ofs
     };
-    Ok(Some(Job::Blank {
+    Ok(Some(ImageJob::Blank {
         format,
         blocks: given.unwrap_or(usual),
         moment: moment_of(alloc, words)?,
@@ -97,7 +94,10 @@ fn blank_job<'a>(
 }
 
 /// The job of `serve`.
-fn serve_job<'a>(alloc: Global, words: &ArgMatches<'a>) -> Result<Option<Job<'a>>, WordsFault> {
+fn serve_job<'a>(
+    alloc: Global,
+    words: &ArgMatches<'a>,
+) -> Result<Option<ImageJob<'a>>, WordsFault> {
     let Some(image) = words.get_str("IMAGE") else {
         return Ok(None);
     };
@@ -105,7 +105,7 @@ fn serve_job<'a>(alloc: Global, words: &ArgMatches<'a>) -> Result<Option<Job<'a>
     if scripts.is_empty() {
         return Ok(None);
     }
-    Ok(Some(Job::Serve(ServeJob {
+    Ok(Some(ImageJob::Serve(ServeJob {
         image,
         scripts,
         out: words.get_str("out"),

@@ -4,7 +4,7 @@ use Rattle.std.proofs.lemmas.Bool.{cases_eq}
 use Rattle.std.proofs.lemmas.List.Elements.{Contains-append_left}
 use Rattle.adf_block.specs.Image.{block_count, root_key}
 use Rattle.adf_block.specs.Chained.{Chained}
-use Rattle.adf_block.specs.Fields.{table_entry, next_in_chain}
+use Rattle.adf_block.specs.Fields.{table_entry, next_in_chain, first_slot}
 use Rattle.ados_name.specs.Name.{IsName, slot}
 use Rattle.ados_chain.specs.Chains.{name_at, slot_at, IsEntryBlock, LawfulChains}
 use Rattle.ados_chain.specs.Relinks.{link_block, link_long, AtLinks, Relinks}
@@ -34,12 +34,12 @@ chains_same image dir chains other h g s l =
     Chained-unique image next_in_chain (table_entry image dir s) (chains s) (other s) (none_zero image dir chains h s l) (none_zero image dir other g s l) (h.spelled s l) (g.spelled s l)
 
 -- the link behind some entries of a slot is no link of another slot's table
-link_long-other : (s t : ℕ) (keys : List ℕ) → t < 72 → t ≢ s → 6 + t ≢ link_long (6 + s) keys
+link_long-other : (s t : ℕ) (keys : List ℕ) → t < 72 → t ≢ s → first_slot + t ≢ link_long (first_slot + s) keys
 link_long-other s t [] l n e = n (omega arith)
 link_long-other s t (key ∷ keys) l n e = omega (arith, link_long-entry keys, e)
 
 -- an entry that is not the last of these keeps its next in chain, as long as the link behind them alone changes
-pub entry_apart : (dir s : ℕ) (keys : List ℕ) (b : ℕ) → s < 72 → ¬ Contains keys b → (b ≢ link_block dir keys) ⊎ (next_in_chain ≢ link_long (6 + s) keys)
+pub entry_apart : (dir s : ℕ) (keys : List ℕ) (b : ℕ) → s < 72 → ¬ Contains keys b → (b ≢ link_block dir keys) ⊎ (next_in_chain ≢ link_long (first_slot + s) keys)
 entry_apart dir s [] b l n = inr (λ e. omega (arith, e))
 entry_apart dir s (key ∷ keys) b l n = inl (λ e. n (subst (Contains (key ∷ keys)) (sym e) (link_block-in key keys)))
 
@@ -56,7 +56,7 @@ entry-kept old new dir key count name e = record {
 pub record NewRest (dir s key next : ℕ) (chains chains' : ℕ → List ℕ) (front rest rest' : List ℕ) (old new : List ℕ) : Type 0 where
   pub small : s < 72
   pub split : chains s ≡ front ++ rest
-  pub relinks : Relinks (link_block dir front) (link_long (6 + s) front) next key old new
+  pub relinks : Relinks (link_block dir front) (link_long (first_slot + s) front) next key old new
   pub key_not_dir : key ≢ dir
   pub key_not_before : ¬ Contains front key
   pub key_elsewhere : (t : ℕ) → t < 72 → t ≢ s → ¬ Contains (chains t) key
@@ -68,24 +68,24 @@ pub record NewRest (dir s key next : ℕ) (chains chains' : ℕ → List ℕ) (f
   pub others : (t : ℕ) → t < 72 → t ≢ s → chains' t ≡ chains t
 
 module _ (dir s key next : ℕ) (chains chains' : ℕ → List ℕ) (front rest rest' : List ℕ) (old new : List ℕ) (h : LawfulChains old dir chains) (r : NewRest dir s key next chains chains' front rest rest' old new) where
-  at : IsLink (link_long (6 + s) front)
+  at : IsLink (link_long (first_slot + s) front)
   at = link_long-is s front r.small
 
-  kept : KeepsLongs (link_block dir front) (link_long (6 + s) front) key old new
-  kept = longs-kept (link_block dir front) (link_long (6 + s) front) key old new at r.relinks.rest
+  kept : KeepsLongs (link_block dir front) (link_long (first_slot + s) front) key old new
+  kept = longs-kept (link_block dir front) (link_long (first_slot + s) front) key old new at r.relinks.rest
 
   count : block_count new ≡ block_count old
-  count = same_count (AtLinks (link_block dir front) (link_long (6 + s) front) key) old new r.relinks.rest
+  count = same_count (AtLinks (link_block dir front) (link_long (first_slot + s) front) key) old new r.relinks.rest
 
   name : (k : ℕ) → IsEntryBlock old dir k → name_at new k ≡ name_at old k
-  name k e = name-kept (link_block dir front) (link_long (6 + s) front) key old new at r.relinks.rest k e.inside.1 e.name
+  name k e = name-kept (link_block dir front) (link_long (first_slot + s) front) key old new at r.relinks.rest k e.inside.1 e.name
 
   front_in : (k : ℕ) → Contains front k → Contains (chains s) k
   front_in k m = subst (λ (xs : List ℕ). Contains xs k) (sym r.split) (Contains-append_left front rest k m)
 
   spelled_here : Chained new next_in_chain (table_entry new dir s) (front ++ rest')
   spelled_here =
-      Chained-relinked old new dir (6 + s) key front rest rest' (omega (arith, r.small)) (omega arith)
+      Chained-relinked old new dir (first_slot + s) key front rest rest' (omega (arith, r.small)) (omega arith)
       (λ m. dir_absent old dir chains h s r.small (front_in dir m))
       (Once-front front rest' r.once) r.key_not_dir r.key_not_before kept
       (subst (λ (xs : List ℕ). Chained old next_in_chain (table_entry old dir s) xs) r.split (h.spelled s r.small))
@@ -93,7 +93,7 @@ module _ (dir s key next : ℕ) (chains chains' : ℕ → List ℕ) (front rest 
 
   spelled_there : (t : ℕ) → t < 72 → t ≢ s → Chained new next_in_chain (table_entry new dir t) (chains t)
   spelled_there t l n =
-      let first : table_entry new dir t ≡ table_entry old dir t = kept dir (6 + t) (omega arith) (omega arith) (inr (link_long-other s t front l n)) (inl (λ e. r.key_not_dir (sym e))) in
+      let first : table_entry new dir t ≡ table_entry old dir t = kept dir (first_slot + t) (omega arith) (omega arith) (inr (link_long-other s t front l n)) (inl (λ e. r.key_not_dir (sym e))) in
       Chained-kept old new next_in_chain (table_entry new dir t) (chains t)
       (λ b m. kept b next_in_chain (omega arith) (omega arith) (entry_apart dir s front b r.small (λ c. n (one_chain old dir chains h t s b l r.small m (front_in b c)))) (inl (λ e. r.key_elsewhere t l n (subst (Contains (chains t)) e m))))
       (subst (λ (x : ℕ). Chained old next_in_chain x (chains t)) (sym first) (h.spelled t l))

@@ -5,7 +5,7 @@ use Rattle.std.proofs.lemmas.List.Kept.{AllPairs-cons}
 use Rattle.std.proofs.lemmas.List.Elements.{Contains-append_right, Contains-get_or}
 use Rattle.adf_block.specs.Image.{block_count, long, IsInside}
 use Rattle.adf_block.specs.Chained.{Chained}
-use Rattle.adf_block.specs.Fields.{next_in_chain}
+use Rattle.adf_block.specs.Fields.{next_in_chain, first_slot}
 use Rattle.ados_chain.specs.Chains.{IsEntryBlock, HasChains, slot_at}
 use Rattle.ados_chain.proofs.Lists.{Once, Contains-later, Contains-cases, Contains-nil, Contains-split}
 use Rattle.ados_chain.proofs.Spelling.{NoneZero, NoneZero-tail, Chained-unique, Chained-behind}
@@ -34,7 +34,7 @@ Chained-once image first (x ∷ xs) n c =
         let same : back ≡ xs = Chained-unique image next_in_chain (long image x next_in_chain) back xs in_tail (NoneZero-tail x xs n) rest c.1 in
         omega (arith, ap length same, ap length split, length-append front (x ∷ back))
 
-module _ (image : List ℕ) (dir : ℕ) (inside : IsInside (block_count image) dir) (leads : (s : ℕ) → s < 72 → LeadsAlong image dir s (long image dir (6 + s))) where
+module _ (image : List ℕ) (dir : ℕ) (inside : IsInside (block_count image) dir) (leads : (s : ℕ) → s < 72 → LeadsAlong image dir s (long image dir (first_slot + s))) where
   -- the chain of a slot, empty past the table
   abbrev chain : (s : ℕ) → (s < 72) ⊎ (72 ≤ s) → List ℕ
   chain s (inl l) = (leads s l).0
@@ -46,13 +46,13 @@ module _ (image : List ℕ) (dir : ℕ) (inside : IsInside (block_count image) d
     record {
       inside = inside;
       spelled = λ s l. spelled s (cases_lt s 72) l;
-      once = λ s l. Chained-once image (long image dir (6 + s)) (chain s (cases_lt s 72)) (λ k m e. omega (arith, (entries s (cases_lt s 72) k m).0.inside.0, e)) (spelled s (cases_lt s 72) l);
+      once = λ s l. Chained-once image (long image dir (first_slot + s)) (chain s (cases_lt s 72)) (λ k m e. omega (arith, (entries s (cases_lt s 72) k m).0.inside.0, e)) (spelled s (cases_lt s 72) l);
       entry = λ s k l m. (entries s (cases_lt s 72) k m).0;
       slotted = λ s k l m. (entries s (cases_lt s 72) k m).1;
     },
   )
     where
-      spelled : (s : ℕ) (d : (s < 72) ⊎ (72 ≤ s)) → s < 72 → Chained image next_in_chain (long image dir (6 + s)) (chain s d)
+      spelled : (s : ℕ) (d : (s < 72) ⊎ (72 ≤ s)) → s < 72 → Chained image next_in_chain (long image dir (first_slot + s)) (chain s d)
       spelled s (inl n) l = (leads s n).1
       spelled s (inr n) l = absurd (omega arith)
 

@@ -3,7 +3,7 @@ use Rattle.std.proofs.Common.{◌≡◌, ◌≢◌, ℕ, ◌+◌, ◌-◌, ◌<�
 use Rattle.std.proofs.lemmas.List.Elements.{Contains-append_left, Contains-append_right, Contains-append_cases}
 use Rattle.adf_block.specs.Image.{block_count, long}
 use Rattle.adf_block.specs.Chained.{Chained}
-use Rattle.adf_block.specs.Fields.{table_entry, next_in_chain}
+use Rattle.adf_block.specs.Fields.{table_entry, next_in_chain, first_slot}
 use Rattle.ados_chain.specs.Chains.{LawfulChains, slot_at, InChains, chains_from, entries_of}
 use Rattle.ados_chain.specs.Look.{first_of, next_after}
 use Rattle.ados_chain.specs.declared.read.Next.TheVariants.{Entry}
@@ -53,7 +53,7 @@ module _ (image : List ℕ) (dir : ℕ) (chains : ℕ → List ℕ) (h : LawfulC
   -- what the link holds
   pub held : Chained image next_in_chain (long image block i) to.rest
   held =
-      let behind = Chained-behind image dir (6 + s) to.front to.rest (subst (λ (xs : List ℕ). Chained image next_in_chain (table_entry image dir s) xs) to.split (h.spelled s small)) in
+      let behind = Chained-behind image dir (first_slot + s) to.front to.rest (subst (λ (xs : List ℕ). Chained image next_in_chain (table_entry image dir s) xs) to.split (h.spelled s small)) in
       subst (λ (b : ℕ). Chained image next_in_chain (long image b i) to.rest) (sym to.at_block) (subst (λ (j : ℕ). Chained image next_in_chain (long image (link_block dir to.front) j) to.rest) (sym to.at_long) behind)
 
   -- an entry of the chain is the first of the rest
@@ -93,7 +93,7 @@ module _ (image : List ℕ) (dir : ℕ) (chains : ℕ → List ℕ) (h : LawfulC
   next_after-entry =
       let at = Contains-split (chains s) key m in
       let spelled = subst (λ (xs : List ℕ). Chained image next_in_chain (table_entry image dir s) xs) at.2 (h.spelled s small) in
-      (at.1, (Chained-behind image dir (6 + s) at.0 (key ∷ at.1) spelled).1, λ k b. subst (λ (xs : List ℕ). Contains xs k) (sym at.2) (Contains-append_right at.0 (key ∷ at.1) k (Contains-later key at.1 k b)), after at.0 at.1 at.2)
+      (at.1, (Chained-behind image dir (first_slot + s) at.0 (key ∷ at.1) spelled).1, λ k b. subst (λ (xs : List ℕ). Contains xs k) (sym at.2) (Contains-append_right at.0 (key ∷ at.1) k (Contains-later key at.1 k b)), after at.0 at.1 at.2)
     where
       after : (front back : List ℕ) → chains s ≡ front ++ key ∷ back → next_after (entries_of chains) key ≡ first_of (back ++ chains_from chains (s + 1) (72 - (s + 1)))
       after front back split =

@@ -1,6 +1,7 @@
 -- What stays where a link of a chain changes: other longs, and the names of entries.
 use Rattle.std.proofs.Common.{◌≡◌, ℕ, ◌+◌, ◌-◌, ◌*◌, ◌/◌, ◌<◌, ◌≤◌, inl, inr, List, [], ◌∷◌, length, take, drop, min, slice_index, sym, ap, ap₂, ◌∙◌, arith}
 use Rattle.std.proofs.lemmas.List.{drop-take, take-take, drop-drop, length-take, length-drop}
+use Rattle.adf_block.specs.Fields.{first_slot, name_byte}
 use Rattle.adf_block.specs.Image.{byte_at, bytes_at, block_count}
 use Rattle.adf_block.specs.Frame.{SameBut}
 use Rattle.adf_block.proofs.Frames.{same_long, same_bytes_at}
@@ -16,21 +17,21 @@ pub block-within : (image : List ℕ) (b : ℕ) → b < block_count image → 51
 block-within image b l = omega arith
 
 -- how long the text is that a block gives as its name
-pub length-name_at : (image : List ℕ) (key : ℕ) → key < block_count image → min (byte_at image key 432) 79 ≤ length (name_at image key)
+pub length-name_at : (image : List ℕ) (key : ℕ) → key < block_count image → min (byte_at image key name_byte) 79 ≤ length (name_at image key)
 unfolding bytes_at
 length-name_at image key l =
-    omega (arith, length-take (byte_at image key 432) (drop (512 * key + 433) image), length-drop (512 * key + 433) image, block-within image key l)
+    omega (arith, length-take (byte_at image key name_byte) (drop (512 * key + 433) image), length-drop (512 * key + 433) image, block-within image key l)
 
 -- a valid name lies within its block
-pub name-short : (image : List ℕ) (key : ℕ) → key < block_count image → IsName (name_at image key) → byte_at image key 432 ≤ 30
+pub name-short : (image : List ℕ) (key : ℕ) → key < block_count image → IsName (name_at image key) → byte_at image key name_byte ≤ 30
 name-short image key l h = omega (arith, length-name_at image key l, h.short)
 
 -- the byte of a name's length, read from the bytes of its block
-pub name_byte-read : (image block : List ℕ) (key : ℕ) → block ≡ bytes_at image key 0 512 → slice_index block 432 ≡ byte_at image key 432
-name_byte-read image block key e = ap (λ (xs : List ℕ). slice_index xs 432) e ∙ byte-bytes_at image key 0 512 432 (omega arith)
+pub name_byte-read : (image block : List ℕ) (key : ℕ) → block ≡ bytes_at image key 0 512 → slice_index block name_byte ≡ byte_at image key name_byte
+name_byte-read image block key e = ap (λ (xs : List ℕ). slice_index xs name_byte) e ∙ byte-bytes_at image key 0 512 name_byte (omega arith)
 
 -- a name, read from the bytes of its block
-pub name-read : (image block : List ℕ) (key n : ℕ) → block ≡ bytes_at image key 0 512 → n ≡ byte_at image key 432 → n ≤ 30 → take (433 + n - 433) (drop 433 block) ≡ name_at image key
+pub name-read : (image block : List ℕ) (key n : ℕ) → block ≡ bytes_at image key 0 512 → n ≡ byte_at image key name_byte → n ≤ 30 → take (433 + n - 433) (drop 433 block) ≡ name_at image key
 unfolding bytes_at
 name-read image block key n e counted l =
     let m : 433 + n - 433 ≡ n = omega arith in
@@ -42,7 +43,7 @@ name-read image block key n e counted l =
     ∙ ap (λ (k : ℕ). take k (drop (512 * key + 433) image)) counted
 
 -- the link behind some entries of a slot is a link
-pub link_long-is : (s : ℕ) (keys : List ℕ) → s < 72 → IsLink (link_long (6 + s) keys)
+pub link_long-is : (s : ℕ) (keys : List ℕ) → s < 72 → IsLink (link_long (first_slot + s) keys)
 link_long-is s [] l = inl (omega arith, omega arith)
 link_long-is s (key ∷ keys) l = inr (link_long-entry keys)
 
@@ -56,10 +57,10 @@ module _ (block i key : ℕ) (old new : List ℕ) (at : IsLink i) (h : SameBut (
 
   pub name-kept : (b : ℕ) → b < block_count old → IsName (name_at old b) → name_at new b ≡ name_at old b
   name-kept b l name =
-      let counted : byte_at new b 432 ≡ byte_at old b 432 = h.same_byte b 432 (omega arith) (bytes_apart b 432 (omega arith) (omega arith)) in
+      let counted : byte_at new b name_byte ≡ byte_at old b name_byte = h.same_byte b name_byte (omega arith) (bytes_apart b name_byte (omega arith) (omega arith)) in
       let short = name-short old b l name in
       ap (λ (n : ℕ). bytes_at new b 433 n) counted
-      ∙ same_bytes_at (AtLinks block i key) old new h b 433 (byte_at old b 432) (omega arith) (λ j m n. bytes_apart b j (omega arith) (omega arith))
+      ∙ same_bytes_at (AtLinks block i key) old new h b 433 (byte_at old b name_byte) (omega arith) (λ j m n. bytes_apart b j (omega arith) (omega arith))
 
   pub longs-kept : KeepsLongs block i key old new
   longs-kept b j l n apart apart' =

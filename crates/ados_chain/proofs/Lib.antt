@@ -1,3 +1,4 @@
+-- Lists of keys, the links that spell them, a change of one link, and then the order, the walks and what they find. `Kept` and `Rising` are for the crates above, `Checked` for the tests.
 pub mod Lists
 pub mod Spelling
 pub mod Framing

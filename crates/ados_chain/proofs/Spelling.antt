@@ -3,7 +3,7 @@ use Rattle.std.proofs.Common.{◌≡◌, ◌≢◌, ℕ, zero, suc, ◌<◌, ◌
 use Rattle.std.proofs.lemmas.Bool.{ne_eqb}
 use Rattle.adf_block.specs.Image.{long}
 use Rattle.adf_block.specs.Chained.{Chained}
-use Rattle.adf_block.specs.Fields.{next_in_chain}
+use Rattle.adf_block.specs.Fields.{next_in_chain, sum_long}
 use Rattle.ados_chain.specs.Relinks.{link_block, link_long}
 use Rattle.ados_chain.proofs.Lists.{Once, Once-tail, Once-head, Contains-here, Contains-later}
 
@@ -54,10 +54,10 @@ link_long-push i (next ∷ keys) key = link_long-push next_in_chain keys key
 
 -- every long stays but long i of a block, the next in chain of a key, and sums
 abbrev pub KeepsLongs : ℕ → ℕ → ℕ → List ℕ → List ℕ → Type 0
-KeepsLongs block i key old new = (b j : ℕ) → j < 128 → j ≢ 5 → (b ≢ block) ⊎ (j ≢ i) → (b ≢ key) ⊎ (j ≢ next_in_chain) → long new b j ≡ long old b j
+KeepsLongs block i key old new = (b j : ℕ) → j < 128 → j ≢ sum_long → (b ≢ block) ⊎ (j ≢ i) → (b ≢ key) ⊎ (j ≢ next_in_chain) → long new b j ≡ long old b j
 
 -- a new list behind the link, and the same front before it
-pub Chained-relinked : (old new : List ℕ) (block i key : ℕ) (front rest rest' : List ℕ) → i < 128 → i ≢ 5 → ¬ Contains front block → Once front → key ≢ block → ¬ Contains front key
+pub Chained-relinked : (old new : List ℕ) (block i key : ℕ) (front rest rest' : List ℕ) → i < 128 → i ≢ sum_long → ¬ Contains front block → Once front → key ≢ block → ¬ Contains front key
     → KeepsLongs (link_block block front) (link_long i front) key old new
     → Chained old next_in_chain (long old block i) (front ++ rest)
     → Chained new next_in_chain (long new (link_block block front) (link_long i front)) rest'

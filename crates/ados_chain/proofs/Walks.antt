@@ -3,7 +3,7 @@ use Rattle.std.proofs.Common.{◌≡◌, ◌≢◌, ℕ, ◌+◌, ◌<◌, ◌�
 use Rattle.std.proofs.lemmas.List.Elements.{Contains-append_right, Contains-push_cases}
 use Rattle.adf_block.specs.Image.{block_count, long}
 use Rattle.adf_block.specs.Chained.{Chained}
-use Rattle.adf_block.specs.Fields.{next_in_chain}
+use Rattle.adf_block.specs.Fields.{next_in_chain, first_slot}
 use Rattle.ados_name.specs.Name.{Same}
 use Rattle.ados_chain.specs.Chains.{LawfulChains, name_at}
 use Rattle.ados_chain.specs.Look.{NoneNamed, IsFirstNamed}
@@ -25,7 +25,7 @@ pub record LinksOn (image : List ℕ) (dir s : ℕ) (keys : List ℕ) (entry blo
   pub stands : StandsAt image keys key front rest
   pub absent : ¬ Contains front entry
   pub at_block : block ≡ link_block dir front
-  pub at_long : i ≡ link_long (6 + s) front
+  pub at_long : i ≡ link_long (first_slot + s) front
 
 -- a walk to the first entry of a name, which none of the front has
 pub record SearchedOn (image name keys : List ℕ) (key : ℕ) : Type 0 where
@@ -78,7 +78,7 @@ module _ (image : List ℕ) (dir : ℕ) (chains : ℕ → List ℕ) (h : LawfulC
       let m = stands_more image (chains s) key front rest st n in
       omega (arith, counted key front rest st, counted (long image key next_in_chain) (front ++ key ∷ []) m.0 m.2, ap length m.1)
 
-  pub links_none : (entry : ℕ) → LinksOn image dir s (chains s) entry dir (6 + s) (long image dir (6 + s))
+  pub links_none : (entry : ℕ) → LinksOn image dir s (chains s) entry dir (first_slot + s) (long image dir (first_slot + s))
   links_none entry = record {
     front = [];
     rest = chains s;
@@ -97,7 +97,7 @@ module _ (image : List ℕ) (dir : ℕ) (chains : ℕ → List ℕ) (h : LawfulC
         stands = subst (λ (k : ℕ). StandsAt image (chains s) k (w.front ++ key ∷ []) m.0) (sym at_key) m.2;
         absent = λ a. elim (Contains-push_cases w.front key entry a) [ inl b ↦ w.absent b | inr e ↦ other e ];
         at_block = at_block ∙ sym (link_block-push dir w.front key);
-        at_long = at_long ∙ sym (link_long-push (6 + s) w.front key);
+        at_long = at_long ∙ sym (link_long-push (first_slot + s) w.front key);
       }
 
   -- a walk that stops at the entry or at the end has found the link
@@ -117,7 +117,7 @@ module _ (image : List ℕ) (dir : ℕ) (chains : ℕ → List ℕ) (h : LawfulC
       begins (k ∷ ks) st (inr e) = sym st.spelled.0 ∙ e
       begins (k ∷ ks) st (inl e) = absurd (rest_none_zero key w.front (k ∷ ks) st k (Contains-here k ks) (sym st.spelled.0 ∙ e))
 
-  pub searched_none : (name : List ℕ) → SearchedOn image name (chains s) (long image dir (6 + s))
+  pub searched_none : (name : List ℕ) → SearchedOn image name (chains s) (long image dir (first_slot + s))
   searched_none name = record {
     front = [];
     rest = chains s;

@@ -2,7 +2,7 @@
 use Rattle.std.specs.Prelude.{◌≡◌, ◌≢◌, ℕ, zero, suc, ◌<◌, ◌==◌, not, if◌then◌else◌, List, [], ◌∷◌, ◌++◌, filter, AllPairs, Contains}
 use Rattle.adf_block.specs.Image.{block_count, root_key, IsInside}
 use Rattle.adf_block.specs.Chained.{Chained}
-use Rattle.adf_block.specs.Fields.{table_entry, next_in_chain, text_at, name_byte}
+use Rattle.adf_block.specs.Fields.{table_entry, next_in_chain, text_at, name_byte, table_longs}
 use Rattle.ados_name.specs.Name.{IsName, slot}
 
 -- the name of the entry in a block
@@ -23,10 +23,10 @@ pub record IsEntryBlock (image : List ℕ) (dir key : ℕ) : Type 0 where
 -- the slots of the directory's table lead along these lists, of blocks that may hold entries, none twice, each in the slot of its name
 pub record LawfulChains (image : List ℕ) (dir : ℕ) (chains : ℕ → List ℕ) : Type 0 where
   pub inside : IsInside (block_count image) dir
-  pub spelled : (s : ℕ) → s < 72 → Chained image next_in_chain (table_entry image dir s) (chains s)
-  pub once : (s : ℕ) → s < 72 → AllPairs (λ j k. j ≢ k) (chains s)
-  pub entry : (s key : ℕ) → s < 72 → Contains (chains s) key → IsEntryBlock image dir key
-  pub slotted : (s key : ℕ) → s < 72 → Contains (chains s) key → slot_at image key ≡ s
+  pub spelled : (s : ℕ) → s < table_longs → Chained image next_in_chain (table_entry image dir s) (chains s)
+  pub once : (s : ℕ) → s < table_longs → AllPairs (λ j k. j ≢ k) (chains s)
+  pub entry : (s key : ℕ) → s < table_longs → Contains (chains s) key → IsEntryBlock image dir key
+  pub slotted : (s key : ℕ) → s < table_longs → Contains (chains s) key → slot_at image key ≡ s
 
 -- the directory has lawful chains; it has no others, by `chains_same`
 abbrev pub HasChains : List ℕ → ℕ → Type 0
@@ -34,7 +34,7 @@ HasChains image dir = (chains : ℕ → List ℕ) × LawfulChains image dir chai
 
 -- one of the chains has the key
 abbrev pub InChains : (ℕ → List ℕ) → ℕ → Type 0
-InChains chains key = (s : ℕ) × (s < 72) × Contains (chains s) key
+InChains chains key = (s : ℕ) × (s < table_longs) × Contains (chains s) key
 
 -- the chains with the key last in that of its slot
 abbrev pub with_last : (ℕ → List ℕ) → ℕ → ℕ → ℕ → List ℕ
@@ -51,4 +51,4 @@ chains_from chains s (suc n) = chains s ++ chains_from chains (suc s) n
 
 -- the entries in the order of the directory: by slot, and in a slot by chain
 abbrev pub entries_of : (ℕ → List ℕ) → List ℕ
-entries_of chains = chains_from chains 0 72
+entries_of chains = chains_from chains 0 table_longs

@@ -1,3 +1,4 @@
+-- The chains of a directory: what they are, what looking into them answers, how one is changed, and the links that lead along them.
 pub mod Chains
 pub mod Look
 pub mod Relinks

@@ -1,10 +1,11 @@
 -- The link to an entry of a chain.
 use Rattle.std.specs.Prelude.{◌≡◌, ℕ, ◌+◌, ◌<◌, ◌≤◌, ◌⊎◌, List, [], ◌∷◌, ◌++◌, Contains}
+use Rattle.adf_block.specs.Fields.{first_slot, table_longs, next_in_chain}
 use Rattle.ados_chain.specs.Relinks.{link_block, link_long}
 
 -- the long is one of a directory's table or the next in chain
 abbrev pub IsLink : ℕ → Type 0
-IsLink i = ((6 ≤ i) × (i < 78)) ⊎ (i ≡ 124)
+IsLink i = ((first_slot ≤ i) × (i < first_slot + table_longs)) ⊎ (i ≡ next_in_chain)
 
 -- the rest of a chain begins with the entry, or has ended
 abbrev pub BeginsWith : ℕ → List ℕ → Type 0
@@ -19,4 +20,4 @@ pub record LeadsTo (dir s : ℕ) (keys : List ℕ) (entry block i : ℕ) : Type 
   pub absent : ¬ Contains front entry
   pub begins : BeginsWith entry rest
   pub at_block : block ≡ link_block dir front
-  pub at_long : i ≡ link_long (6 + s) front
+  pub at_long : i ≡ link_long (first_slot + s) front

@@ -1,5 +1,6 @@
 -- What looking into a directory answers.
 use Rattle.std.specs.Prelude.{◌≡◌, ◌<◌, ◌==◌, if◌then◌else◌, ℕ, List, [], ◌∷◌, ◌++◌, Option, None, Some, Contains}
+use Rattle.adf_block.specs.Fields.{table_longs}
 use Rattle.ados_name.specs.Name.{Same}
 use Rattle.ados_chain.specs.Chains.{name_at, InChains}
 use Rattle.ados_chain.specs.declared.read.Next.{Next}
@@ -25,7 +26,7 @@ FindsNamed image name keys (Some key) = IsFirstNamed image name keys key
 -- the slot whose chain has the key, or none where no chain has it
 abbrev pub FindsSlot : (ℕ → List ℕ) → ℕ → Option ℕ → Type 0
 FindsSlot chains key None = ¬ InChains chains key
-FindsSlot chains key (Some s) = (s < 72) × Contains (chains s) key
+FindsSlot chains key (Some s) = (s < table_longs) × Contains (chains s) key
 
 -- the first of the keys, or the end
 abbrev pub first_of : List ℕ → Next

@@ -1,7 +1,7 @@
 -- How a chain is changed: one link of it and the link of the entry that is put in or taken out.
 use Rattle.std.specs.Prelude.{◌≡◌, ℕ, ◌+◌, ◌⊎◌, List, [], ◌∷◌, ◌++◌}
 use Rattle.adf_block.specs.Image.{block_sum, long}
-use Rattle.adf_block.specs.Fields.{next_in_chain}
+use Rattle.adf_block.specs.Fields.{next_in_chain, sum_long, first_slot}
 use Rattle.adf_block.specs.Frame.{SameBut, AtLong}
 use Rattle.ados_chain.specs.Chains.{LawfulChains, IsEntryBlock, InChains, slot_at, with_last, without}
 
@@ -17,7 +17,7 @@ link_long i (key ∷ keys) = link_long next_in_chain keys
 
 -- the bytes of a long and of the sum field of its block
 abbrev pub AtSummed : ℕ → ℕ → ℕ → ℕ → Type 0
-AtSummed block i b k = AtLong block i b k ⊎ AtLong block 5 b k
+AtSummed block i b k = AtLong block i b k ⊎ AtLong block sum_long b k
 
 -- the bytes of long i of a block, of the next in chain of a key, and of the sum fields of both
 abbrev pub AtLinks : ℕ → ℕ → ℕ → ℕ → ℕ → Type 0
@@ -46,7 +46,7 @@ pub record CanUnlink (image : List ℕ) (dir key : ℕ) : Type 0 where
 
 -- the key was put last into the chain of its slot
 pub record InsertsLast (dir key : ℕ) (chains : ℕ → List ℕ) (old new : List ℕ) : Type 0 where
-  pub relinks : Relinks (link_block dir (chains (slot_at old key))) (link_long (6 + slot_at old key) (chains (slot_at old key))) key key old new
+  pub relinks : Relinks (link_block dir (chains (slot_at old key))) (link_long (first_slot + slot_at old key) (chains (slot_at old key))) key key old new
   pub lawful : LawfulChains new dir (with_last chains (slot_at old key) key)
 
 -- the key was taken out of the chain of its slot, behind these first entries of it
@@ -54,5 +54,5 @@ pub record Unlinks (dir key : ℕ) (chains : ℕ → List ℕ) (old new : List �
   pub front : List ℕ
   pub back : List ℕ
   pub split : chains (slot_at old key) ≡ front ++ key ∷ back
-  pub relinks : Relinks (link_block dir front) (link_long (6 + slot_at old key) front) (long old key next_in_chain) key old new
+  pub relinks : Relinks (link_block dir front) (link_long (first_slot + slot_at old key) front) (long old key next_in_chain) key old new
   pub lawful : LawfulChains new dir (without chains key)

@@ -6,10 +6,8 @@ ghost use Rattle.ados_name.specs.Name.{IsName, Same};
 ghost use Rattle.ados_chain.specs.Chains.{name_at, slot_at};
 
 use adf_block::Image;
+use adf_block::layout::NAME_BYTE;
 use ados_name::Name;
-
-/// The byte of a name's length, in front of the name.
-const NAME: usize = 432;
 
 /// The name in a block, if it is valid.
 pub fn name_of(image: &Image, key: u32) -> Option<Name>
@@ -17,11 +15,12 @@ pub fn name_of(image: &Image, key: u32) -> Option<Name>
     ensures { MatchOption result (¬ IsName (name_at image.now key)) (λ name. (name ≡ name_at image.now key) × IsName (name_at image.now key)) }
 {
     let block = image.block(key);
-    let length = block[NAME] as usize;
+    let at = NAME_BYTE as usize;
+    let length = block[at] as usize;
     if length > Name::MAX_LEN {
         return None;
     }
-    Name::new(&block[NAME + 1..NAME + 1 + length]).ok()
+    Name::new(&block[at + 1..at + 1 + length]).ok()
 }
 
 /// The slot of a valid name.

@@ -9,8 +9,6 @@ mod change;
 mod entry;
 mod link;
 mod read;
-#[cfg(test)]
-mod tests;
 
 pub use change::{insert_last, unlink};
 pub use read::{Next, after, find, is_empty};

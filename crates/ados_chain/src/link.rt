@@ -1,21 +1,14 @@
 //! Links: the longs that lead along a chain.
 
 ghost use Rattle.std.specs.Prelude.{◌≡◌, ◌≢◌, ◌<◌, ◌+◌, ◌^◌, ℕ, List};
+ghost use Rattle.adf_block.specs.Fields.{table_longs, first_slot, next_in_chain};
 ghost use Rattle.adf_block.specs.Image.{block_count, IsImage, long};
 ghost use Rattle.ados_chain.specs.Chains.{HasChains, LawfulChains};
 ghost use Rattle.ados_chain.specs.Relinks.{Relinks};
 ghost use Rattle.ados_chain.specs.Links.{LeadsTo, IsLink};
 
 use adf_block::Image;
-
-/// The first long of a directory's table.
-pub const TABLE: u32 = 6;
-
-/// The long of the next entry in the chain.
-pub const NEXT_IN_CHAIN: u32 = 124;
-
-/// The long that holds the sum.
-const SUM: u32 = 5;
+use adf_block::layout::{FIRST_SLOT, NEXT_IN_CHAIN, SUM};
 
 /// A long that names an entry of a chain or ends the chain with 0: one of a directory's table, or an entry's next in
 /// chain.
@@ -28,20 +21,20 @@ pub struct Link {
 impl Link {
     /// The link that starts the chain of a slot.
     pub fn first(dir: u32, slot: u32) -> Link
-        requires { slot < 72 }
+        requires { slot < table_longs }
         ensures block { result.block ≡ dir }
-        ensures long { result.long ≡ 6 + slot }
+        ensures long { result.long ≡ first_slot + slot }
     {
         Link {
             block: dir,
-            long: TABLE + slot,
+            long: FIRST_SLOT + slot,
         }
     }
 
     /// The link behind an entry.
     pub fn behind(key: u32) -> Link
         ensures block { result.block ≡ key }
-        ensures long { result.long ≡ 124 }
+        ensures long { result.long ≡ next_in_chain }
     {
         Link {
             block: key,
@@ -53,7 +46,7 @@ impl Link {
 /// The link to an entry in the chain of a slot, or the link that ends the chain, which has no such entry.
 pub fn link_to(image: &Image, dir: u32, slot: u32, entry: u32) -> Link
     requires chains { HasChains image.now dir }
-    requires slot { slot < 72 }
+    requires slot { slot < table_longs }
     ensures { (chains : ℕ → List ℕ) → LawfulChains image.now dir chains → LeadsTo dir slot (chains slot) entry result.block result.long }
 {
     let mut link = Link::first(dir, slot);

@@ -1,17 +1,16 @@
 //! Looking into a directory: an entry by its name, and the entries in order.
 
 ghost use Rattle.std.specs.Prelude.{◌≡◌, ◌≤◌, ◌-◌, ◌↔◌, ◌∷◌, [], ℕ, List, IsTrue};
+ghost use Rattle.adf_block.specs.Fields.{table_longs};
 ghost use Rattle.ados_name.specs.Name.{slot};
 ghost use Rattle.ados_chain.specs.Chains.{HasChains, LawfulChains, chains_from, entries_of};
 ghost use Rattle.ados_chain.specs.Look.{FindsNamed, FindsSlot, first_of, next_after};
 
 use crate::entry::{has_name, name_of};
-use crate::link::{NEXT_IN_CHAIN, TABLE, link_to};
+use crate::link::link_to;
 use adf_block::Image;
+use adf_block::layout::{BOOT_BLOCKS, FIRST_SLOT, NEXT_IN_CHAIN, TABLE_LONGS};
 use ados_name::Name;
-
-/// The slots of a directory's table.
-const SLOTS: u32 = 72;
 
 /// What comes after a key in the order of a directory.
 #[derive(Clone, Copy, Debug, PartialEq, Eq)]
@@ -29,7 +28,7 @@ pub fn find(image: &Image, dir: u32, name: &Name) -> Option<u32>
     requires { HasChains image.now dir }
     ensures { (chains : ℕ → List ℕ) → LawfulChains image.now dir chains → FindsNamed image.now name.now (chains (slot name.now)) result }
 {
-    let mut key = image.long(dir, TABLE + name.slot());
+    let mut key = image.long(dir, FIRST_SLOT + name.slot());
     while key != 0 {
         if has_name(image, key, name) {
             return Some(key);
@@ -72,11 +71,11 @@ pub fn is_empty(image: &Image, dir: u32) -> bool
 /// The first entry of the slots from one on.
 fn first_from(image: &Image, dir: u32, slot: u32) -> Next
     requires chains { HasChains image.now dir }
-    requires slot { slot ≤ 72 }
-    ensures { (chains : ℕ → List ℕ) → LawfulChains image.now dir chains → result ≡ first_of (chains_from chains slot (72 - slot)) }
+    requires slot { slot ≤ table_longs }
+    ensures { (chains : ℕ → List ℕ) → LawfulChains image.now dir chains → result ≡ first_of (chains_from chains slot (table_longs - slot)) }
 {
-    for s in slot..SLOTS {
-        let key = image.long(dir, TABLE + s);
+    for s in slot..TABLE_LONGS {
+        let key = image.long(dir, FIRST_SLOT + s);
         if key != 0 {
             return Next::Entry(key);
         }
@@ -89,7 +88,7 @@ pub fn slot_with(image: &Image, dir: u32, key: u32) -> Option<u32>
     requires { HasChains image.now dir }
     ensures { (chains : ℕ → List ℕ) → LawfulChains image.now dir chains → FindsSlot chains key result }
 {
-    if key < 2 || key >= image.blocks() {
+    if key < BOOT_BLOCKS || key >= image.blocks() {
         return None;
     }
     let slot = name_of(image, key)?.slot();

@@ -4,27 +4,28 @@ use Rattle.std.proofs.lemmas.Bool.{cases_lt, cases_eq}
 use Rattle.std.proofs.lemmas.List.{length_push}
 use Rattle.adf_block.specs.declared.Format.{Format}
 use Rattle.adf_block.specs.declared.Format.TheVariants.{Ofs}
-use Rattle.adf_block.specs.Image.{byte_at, block_count, marked_count, IsInside, IsSize}
+use Rattle.adf_block.specs.Image.{byte_at, block_count, free_bit_count, IsInside, IsSize}
 use Rattle.ados_data.specs.Cost.{data_count, extension_count}
 use Rattle.ados_data.specs.File.{format_of, file_byte}
-use Rattle.ados_data.specs.Changing.{IsInUse, IsWritable, IsNewBlock, IsExtended, IsLengthened, IsResized}
+use Rattle.ados_data.specs.Changing.{IsInUse, IsWritable}
+use Rattle.ados_data.specs.steps.Blocks.{IsNewBlock, IsExtended, IsLengthened, IsResized}
 use Rattle.std.proofs.lemmas.List.{length-append, length-replicate, get_or-replicate, get_or_append_left, get_or-append_right}
 use Rattle.ados_data.specs.declared.grow.End.{End}
 use Rattle.ados_data.specs.Cost.{data_size, data_start}
 use Rattle.ados_data.specs.File.{data_blocks, extension_blocks, contents}
 use Rattle.ados_data.specs.Changing.{WritableFile}
-use Rattle.ados_data.specs.Ends.{IsEnd}
+use Rattle.ados_data.specs.steps.FileEnd.{IsEnd}
 use Rattle.ados_data.proofs.Sizes.{one_more_block, below_count, at_count, in_block, behind_start}
 use Rattle.ados_data.proofs.Spelled.{data_blocks_are, extension_blocks_are, contents_are}
 use Rattle.ados_data.proofs.Lists.{head_pushed_before, head_pushed_last, pushed_before, pushed_last}
 use Rattle.std.proofs.lemmas.List.{take_all, take_at}
-use Rattle.ados_data.specs.Changing.{HasRoom}
+use Rattle.ados_data.specs.steps.Blocks.{HasPointerRoom}
 use Rattle.ados_data.proofs.Standing.{Standing, standing_of, writable_of, writable_file, stands_beside_new, new_inside, new_in_use, header_beside_new, data_beside_new, untouched_new, same_blocks}
 use Rattle.ados_data.specs.Others.{Leaves, LeavesOthers, Gains}
 use Rattle.ados_data.proofs.Leaving.{leaves_same, leaves_both, leaves_taken, leaves_extended, leaves_longer, leaves_resized, beside_gains, gains_same, gains_both, gains_taken, gains_kept}
 use Rattle.ados_data.proofs.Growing.{extended_marks, longer_marks, stands_extended, stands_longer, extended_byte, extended_count, longer_count, longer_byte, longer_new_byte}
 use Rattle.ados_data.proofs.Resizing.{stands_resized, resized_byte, resized_count, resized_marks}
-use Rattle.ados_data.specs.Keeping.{KeepsUnnamed}
+use Rattle.ados_data.specs.Unnamed.{KeepsUnnamed}
 use Rattle.ados_data.proofs.Grown.{Grown, grown_of, keeps_same, keeps_both}
 use Rattle.ados_data.proofs.Gained.{keeps_extended}
 use Rattle.ados_data.proofs.Longer.{keeps_longer}
@@ -37,7 +38,7 @@ pub record Roomy (old : List ℕ) (format : Format) (file : ℕ) (blocks was : L
   pub least : 72 * length extensions ≤ length blocks
   pub room : length blocks < 72 * suc (length extensions)
   pub bytes : (i k : ℕ) → i < length blocks → k < 512 → byte_at new (slice_index blocks i) k ≡ byte_at old (slice_index blocks i) k
-  pub count : marked_count new + (length blocks / 72 - (length blocks - 1) / 72) ≡ marked_count old
+  pub count : free_bit_count new + (length blocks / 72 - (length blocks - 1) / 72) ≡ free_bit_count old
   pub leaves : Leaves old file blocks was new
   pub gains : Gains old file blocks was new blocks extensions
   pub front : take (length was) extensions ≡ was
@@ -54,7 +55,7 @@ module _ (old : List ℕ) (format : Format) (file : ℕ) (blocks extensions : Li
     least = omega (arith, fits);
     room = elim free [ inl z ↦ omega (arith, z) | inr n ↦ omega (arith, n, fits) ];
     bytes = λ i k l m. ap (λ (j : List ℕ). byte_at j (slice_index blocks i) k) same;
-    count = elim free [ inl z ↦ omega (arith, z, ap marked_count same) | inr n ↦ omega (arith, n, ap marked_count same) ];
+    count = elim free [ inl z ↦ omega (arith, z, ap free_bit_count same) | inr n ↦ omega (arith, n, ap free_bit_count same) ];
     leaves = subst (λ (i : List ℕ). Leaves old file blocks extensions i) (sym same) (leaves_same old file blocks extensions);
     gains = subst (λ (i : List ℕ). Gains old file blocks extensions i blocks extensions) (sym same) (gains_same old file blocks extensions);
     front = take_all (length extensions) extensions (omega arith);
@@ -96,7 +97,7 @@ module _ (old : List ℕ) (format : Format) (file : ℕ) (blocks extensions : Li
         gains = gains_kept old mid new file blocks extensions blocks (extensions ++ holder ∷ []) (same_blocks old holder mid n s.size_ok s.map) (extended_marks mid new format file blocks extensions size holder t x inside used headers datas) taken_gains;
       }
 
-  pub roomy : HasRoom old file (slice_index (file ∷ extensions) (length extensions)) (length blocks) holder new → Roomy old format file blocks extensions size holder new
+  pub roomy : HasPointerRoom old file (slice_index (file ∷ extensions) (length extensions)) (length blocks) holder new → Roomy old format file blocks extensions size holder new
   roomy h = elim (cases_eq (length blocks) 0) [
     | inl z ↦ let k = h.kept (inl z) in roomy_kept (inl z) k.0 k.1
     | inr m ↦ elim (cases_eq (length blocks % 72) 0) [
@@ -115,7 +116,7 @@ pub record Appended (old : List ℕ) (format : Format) (file : ℕ) (blocks was 
   pub holder_is : holder ≡ slice_index (file ∷ extensions) (length extensions)
   pub bytes : (i k : ℕ) → i < length blocks → k < 512 → (format ≡ Ofs → 24 ≤ k) → byte_at new (slice_index blocks i) k ≡ byte_at old (slice_index blocks i) k
   pub empty : (k : ℕ) → k < 512 → (format ≡ Ofs → 24 ≤ k) → byte_at new b k ≡ 0
-  pub count : marked_count new + 1 + (length blocks / 72 - (length blocks - 1) / 72) ≡ marked_count old
+  pub count : free_bit_count new + 1 + (length blocks / 72 - (length blocks - 1) / 72) ≡ free_bit_count old
   pub leaves : Leaves old file blocks was new
   pub gains : Gains old file blocks was new (blocks ++ b ∷ []) extensions
   pub front : take (length was) extensions ≡ was
@@ -272,11 +273,11 @@ module _ (i0 : List ℕ) (format : Format) (file : ℕ) (end : End) (w : Writabl
   pub stands_first : Standing i0 format file (data_blocks i0 file) (extension_blocks i0 file) (length (contents i0 file))
   stands_first = subst (λ (t : Format). Standing i0 t file (data_blocks i0 file) (extension_blocks i0 file) (length (contents i0 file))) (sym f) (standing_of i0 file (data_blocks i0 file) (extension_blocks i0 file) (contents i0 file) ok w)
 
-  pub room_of : (holder : ℕ) (i1 : List ℕ) → HasRoom i0 file end.holder end.count holder i1 → Roomy i0 format file (data_blocks i0 file) (extension_blocks i0 file) (length (contents i0 file)) holder i1
+  pub room_of : (holder : ℕ) (i1 : List ℕ) → HasPointerRoom i0 file end.holder end.count holder i1 → Roomy i0 format file (data_blocks i0 file) (extension_blocks i0 file) (length (contents i0 file)) holder i1
   room_of holder i1 h =
       roomy i0 format file (data_blocks i0 file) (extension_blocks i0 file) (length (contents i0 file)) holder i1 stands_first w.lawful.extensions_fit
-      (subst (λ (c : ℕ). HasRoom i0 file (slice_index (file ∷ extension_blocks i0 file) (length (extension_blocks i0 file))) c holder i1) e.counted
-      (subst (λ (c : ℕ). HasRoom i0 file c end.count holder i1) e.holder_is h))
+      (subst (λ (c : ℕ). HasPointerRoom i0 file (slice_index (file ∷ extension_blocks i0 file) (length (extension_blocks i0 file))) c holder i1) e.counted
+      (subst (λ (c : ℕ). HasPointerRoom i0 file c end.count holder i1) e.holder_is h))
 
   module _ (size' holder b : ℕ) (new : List ℕ) (a : Appended i0 format file (data_blocks i0 file) (extension_blocks i0 file) b holder size' new) (full : length (contents i0 file) ≡ data_size format * end.count) (over : data_size format * end.count < size') (within : size' ≤ data_size format * (end.count + 1)) where
     abbrev grown : List ℕ
@@ -327,7 +328,7 @@ pub record IsAppended (old : List ℕ) (format : Format) (file : ℕ) (end : End
   pub same_format : format_of new ≡ format
   pub end_is : IsEnd new file (record { count = end.count + 1; holder = holder; last = b })
   pub bytes : contents new file ≡ contents old file ++ replicate (size - length (contents old file)) 0
-  pub free : marked_count new + 1 + (end.count / 72 - (end.count - 1) / 72) ≡ marked_count old
+  pub free : free_bit_count new + 1 + (end.count / 72 - (end.count - 1) / 72) ≡ free_bit_count old
   pub leaves : LeavesOthers old file new
   pub gains : Gains old file (data_blocks old file) (extension_blocks old file) new (data_blocks new file) (extension_blocks new file)
   pub blocks : take (length (data_blocks old file)) (data_blocks new file) ≡ data_blocks old file
@@ -335,7 +336,7 @@ pub record IsAppended (old : List ℕ) (format : Format) (file : ℕ) (end : End
   pub keeps : KeepsUnnamed old file (data_blocks old file) (extension_blocks old file) new (data_blocks new file) (extension_blocks new file)
 
 module _ (i0 : List ℕ) (format : Format) (file : ℕ) (end : End) (w : WritableFile i0 file) (ok : IsSize (block_count i0)) (f : format ≡ format_of i0) (e : IsEnd i0 file end)
-    (size : ℕ) (i1 i2 i3 i4 : List ℕ) (holder b : ℕ) (h : HasRoom i0 file end.holder end.count holder i1) (n : IsNewBlock i1 b i2) (x : IsLengthened i2 format file holder end.last end.count b i3) (y : IsResized i3 format file holder b (end.count + 1) size i4)
+    (size : ℕ) (i1 i2 i3 i4 : List ℕ) (holder b : ℕ) (h : HasPointerRoom i0 file end.holder end.count holder i1) (n : IsNewBlock i1 b i2) (x : IsLengthened i2 format file holder end.last end.count b i3) (y : IsResized i3 format file holder b (end.count + 1) size i4)
     (full : length (contents i0 file) ≡ data_size format * end.count) (over : data_size format * end.count < size) (within : size ≤ data_size format * (end.count + 1)) where
   result : Appended i0 format file (data_blocks i0 file) (extension_blocks i0 file) b holder size i4
   result =

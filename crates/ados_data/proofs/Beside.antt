@@ -4,7 +4,7 @@ use Rattle.adf_block.specs.Image.{byte_at, long, block_sum}
 use Rattle.adf_block.specs.Frame.{SameBut}
 use Rattle.adf_block.proofs.Longs.{long-bytes}
 use Rattle.adf_block.proofs.Frames.{same_long, same_sum}
-use Rattle.ados_data.specs.Edits.{AtField, AtFields}
+use Rattle.ados_data.specs.steps.Edits.{AtField, AtFields}
 
 -- another long, where two fields were set
 pub beside_fields : (b i j : ℕ) (old new : List ℕ) → SameBut (AtFields b i j) old new → (c n : ℕ) → n < 128 → (c ≡ b → (n ≢ i) × (n ≢ j) × (n ≢ 5)) → long new c n ≡ long old c n

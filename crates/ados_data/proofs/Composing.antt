@@ -3,7 +3,7 @@ use Rattle.std.proofs.Common.{◌≡◌, ℕ, ◌≤◌, List, length, take, ap,
 use Rattle.std.proofs.lemmas.List.{take_all}
 use Rattle.ados_data.specs.File.{LawfulFile, contents, data_blocks, extension_blocks, format_of}
 use Rattle.ados_data.specs.Others.{LeavesOthers}
-use Rattle.ados_data.specs.Keeping.{KeepsUnnamed}
+use Rattle.ados_data.specs.Unnamed.{KeepsUnnamed}
 use Rattle.ados_data.proofs.Skeleton.{skeleton_of}
 use Rattle.ados_data.proofs.Grown.{Grown, grown_of, keeps_both}
 

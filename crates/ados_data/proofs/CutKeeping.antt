@@ -1,20 +1,21 @@
 -- What a cut keeps of the bytes that no field names.
 use Rattle.std.proofs.Common.{◌≡◌, ◌≢◌, ℕ, suc, ◌-◌, ◌/◌, ◌<◌, ◌≤◌, ◌⊎◌, inl, inr, List, ◌∷◌, length, take, slice_index, refl, sym, ap, ◌∙◌, arith}
 use Rattle.std.proofs.lemmas.List.{length-take-le}
+use Rattle.adf_block.specs.Fields.{pointer_count_long, size_long, next_extension, next_data}
 use Rattle.adf_block.specs.declared.Format.{Format}
 use Rattle.adf_block.specs.declared.Format.TheVariants.{Ofs, Ffs}
 use Rattle.adf_block.specs.Image.{byte_at, long, block_count}
 use Rattle.ados_map.specs.Pages.{pages_of, page_block}
 use Rattle.ados_data.specs.Cost.{extension_count}
-use Rattle.ados_data.specs.Edits.{AtFields}
+use Rattle.ados_data.specs.steps.Edits.{AtFields}
 use Rattle.ados_data.specs.File.{AreApart, format_of}
-use Rattle.ados_data.specs.Changing.{AtEnd}
-use Rattle.ados_data.specs.Keeping.{IsPointerField, IsHeaderField, data_end, most_pointers, larger_size, KeepsUnnamed}
+use Rattle.ados_data.specs.steps.Blocks.{AtEnd}
+use Rattle.ados_data.specs.Unnamed.{IsPointerField, IsHeaderField, data_end, most_pointers, larger_size, KeepsUnnamed}
 use Rattle.ados_data.proofs.Lists.{head_taken, taken_before}
 
 -- the bytes that a cut to d data blocks writes outside the pages: in the last data and pointer blocks that stay, and in the header
 abbrev pub AtEnds : Format → ℕ → List ℕ → List ℕ → ℕ → ℕ → ℕ → Type 0
-AtEnds format file blocks extensions d c k = AtEnd format d (slice_index blocks (d - 1)) c k ⊎ (AtFields (slice_index (file ∷ extensions) (extension_count d)) 2 126 c k ⊎ AtFields file 4 81 c k)
+AtEnds format file blocks extensions d c k = AtEnd format d (slice_index blocks (d - 1)) c k ⊎ (AtFields (slice_index (file ∷ extensions) (extension_count d)) pointer_count_long next_extension c k ⊎ AtFields file next_data size_long c k)
 
 -- nothing changes
 pub keeps_same : (image : List ℕ) (file : ℕ) (blocks extensions : List ℕ) → KeepsUnnamed image file blocks extensions image blocks extensions

@@ -1,27 +1,28 @@
 -- A file of which some data bytes were written.
 use Rattle.std.proofs.Common.{◌≡◌, ◌≢◌, ℕ, ◌+◌, ◌-◌, ◌/◌, ◌%◌, ◌<◌, ◌≤◌, ◌⊎◌, inl, inr, List, ◌∷◌, length, slice_index, sym, ap, ap₂, ◌∙◌, subst, arith}
 use Rattle.std.proofs.lemmas.Bool.{cases_lt, cases_eq}
+use Rattle.adf_block.specs.Fields.{size_long}
 use Rattle.adf_block.specs.declared.Format.{Format}
 use Rattle.adf_block.specs.declared.Format.TheVariants.{Ofs}
-use Rattle.adf_block.specs.Image.{is_marked_free, byte_at, long, block_sum, block_count, marked_count, IsInside, IsSize}
+use Rattle.adf_block.specs.Image.{has_free_bit, byte_at, long, block_sum, block_count, free_bit_count, IsInside, IsSize}
 use Rattle.adf_block.specs.Frame.{SameBut}
 use Rattle.adf_block.proofs.Frames.{same_long, same_sum, same_count}
 use Rattle.ados_data.specs.Cost.{data_count}
 use Rattle.ados_data.specs.File.{AreApart, format_of, file_byte}
 use Rattle.ados_data.specs.Changing.{IsInUse}
-use Rattle.ados_data.proofs.Steps.{KeepsData, untouched_holder, untouched_data, skeleton_kept}
+use Rattle.ados_data.proofs.GrowthSteps.{KeepsData, untouched_holder, untouched_data, skeleton_kept}
 use Rattle.ados_data.proofs.Standing.{marks_stay, Standing, standing_of, writable_of, writable_file, format_kept, map_stays, use_stays, count_stays}
 use Rattle.ados_data.specs.Cost.{data_size, data_start}
 use Rattle.ados_map.specs.Pages.{HasBit}
 use Rattle.ados_data.specs.Others.{Leaves, LeavesOthers}
 use Rattle.ados_data.proofs.Leaving.{leaves_owned}
-use Rattle.ados_data.specs.Edits.{AtData}
+use Rattle.ados_data.specs.steps.Edits.{AtData}
 use Rattle.ados_data.specs.File.{overlaid, data_blocks, extension_blocks, contents}
 use Rattle.ados_data.specs.Changing.{WritableFile}
 use Rattle.ados_data.proofs.Sizes.{same_block, in_front, behind_part, in_block, behind_start, in_count}
 use Rattle.ados_data.proofs.Overlaid.{overlaid_before, overlaid_within, overlaid_behind, length-overlaid}
 use Rattle.ados_data.proofs.Spelled.{data_blocks_are, extension_blocks_are, contents_are}
-use Rattle.ados_data.specs.Keeping.{data_end, KeepsUnnamed}
+use Rattle.ados_data.specs.Unnamed.{data_end, KeepsUnnamed}
 use Rattle.ados_data.proofs.Within.{put_end, keeps_put}
 
 module _ (old new : List ℕ) (format : Format) (file : ℕ) (blocks extensions : List ℕ) (size i low high : ℕ) (s : Standing old format file blocks extensions size) (within : i < length blocks) (fields : format ≡ Ofs → 24 ≤ low)
@@ -58,7 +59,7 @@ module _ (old new : List ℕ) (format : Format) (file : ℕ) (blocks extensions 
     size_ok = subst IsSize (sym put_blocks) s.size_ok;
     skeleton = skeleton_kept old new format file blocks extensions size s.skeleton
         (λ q l. untouched_holder old new (slice_index (file ∷ extensions) q) (λ k m. h.same_byte (slice_index (file ∷ extensions) q) k m (header_beside q k l)))
-        (same_long Put old new h file 81 (omega arith) (λ k e. header_beside 0 k (omega arith)))
+        (same_long Put old new h file size_long (omega arith) (λ k e. header_beside 0 k (omega arith)))
         (same_long Put old new h file 4 (omega arith) (λ k e. header_beside 0 k (omega arith)))
         (λ f j l. elim (cases_eq j i) [
           | inr ne ↦ untouched_data old new (slice_index blocks j) (λ k m. h.same_byte (slice_index blocks j) k m (data_beside j k l ne))
@@ -73,10 +74,10 @@ module _ (old new : List ℕ) (format : Format) (file : ℕ) (blocks extensions 
     data_used = λ j l. put_used (slice_index blocks j) (s.places.data_inside j l) (s.data_used j l);
   }
 
-  pub put_marks : (c : ℕ) → HasBit old c → is_marked_free new c ≡ is_marked_free old c
+  pub put_marks : (c : ℕ) → HasBit old c → has_free_bit new c ≡ has_free_bit old c
   put_marks = marks_stay Put old new h s.size_ok put_owner
 
-  pub put_count : marked_count new ≡ marked_count old
+  pub put_count : free_bit_count new ≡ free_bit_count old
   put_count = count_stays Put old new h s.size_ok put_owner
 
   -- the other bytes
@@ -108,9 +109,9 @@ pub record IsPut (old : List ℕ) (file : ℕ) (at : ℕ) (ys : List ℕ) (new :
   pub blocks : data_blocks new file ≡ data_blocks old file
   pub extensions : extension_blocks new file ≡ extension_blocks old file
   pub bytes : contents new file ≡ overlaid (contents old file) at ys
-  pub count : marked_count new ≡ marked_count old
+  pub count : free_bit_count new ≡ free_bit_count old
   pub leaves : LeavesOthers old file new
-  pub marks : (c : ℕ) → HasBit old c → is_marked_free new c ≡ is_marked_free old c
+  pub marks : (c : ℕ) → HasBit old c → has_free_bit new c ≡ has_free_bit old c
   pub keeps : KeepsUnnamed old file (data_blocks old file) (extension_blocks old file) new (data_blocks new file) (extension_blocks new file)
 
 module _ (old new : List ℕ) (format : Format) (file : ℕ) (w : WritableFile old file) (ok : IsSize (block_count old)) (f : format ≡ format_of old) (at : ℕ) (ys : List ℕ) (block : ℕ)
@@ -169,7 +170,7 @@ module _ (old new : List ℕ) (format : Format) (file : ℕ) (w : WritableFile o
     ]
   ]
 
-  reached : data_start format + at % data_size format + length ys ≤ data_end format (long new file 81) (at / data_size format)
+  reached : data_start format + at % data_size format + length ys ≤ data_end format (long new file size_long) (at / data_size format)
   reached = subst (λ (n : ℕ). data_start format + at % data_size format + length ys ≤ data_end format n (at / data_size format)) (sym stands.skeleton.size_field) (put_end format at (length ys) (length (contents old file)) fits within)
 
   kept : KeepsUnnamed old file (data_blocks old file) (extension_blocks old file) new (data_blocks old file) (extension_blocks old file)

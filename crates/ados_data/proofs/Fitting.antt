@@ -8,7 +8,7 @@ use Rattle.std.proofs.lemmas.Map.Steps.{length-le_from_distinct_below}
 use Rattle.std.specs.List.{list_any}
 use Rattle.adf_block.specs.declared.Format.{Format}
 use Rattle.adf_block.specs.declared.Format.TheVariants.{Ofs, Ffs}
-use Rattle.adf_block.specs.Image.{block_count, is_marked_free, marked_count}
+use Rattle.adf_block.specs.Image.{block_count, has_free_bit, free_bit_count}
 use Rattle.adf_block.proofs.Totals.{total-bound}
 use Rattle.ados_data.specs.Cost.{block_cost, data_count}
 use Rattle.ados_data.specs.File.{LawfulFile, contents, data_blocks, format_of}
@@ -30,8 +30,8 @@ few_once xs n small once =
     (λ q any. below_bound xs n q small any)
 
 -- no more blocks are marked free than there are
-marked_bound : (image : List ℕ) → marked_count image ≤ block_count image - 2
-marked_bound image = omega (arith, total-bound (λ k. cond (is_marked_free image (k + 2)) 1 0) 1 (block_count image - 2) (λ k. at_most (is_marked_free image (k + 2))))
+marked_bound : (image : List ℕ) → free_bit_count image ≤ block_count image - 2
+marked_bound image = omega (arith, total-bound (λ k. cond (has_free_bit image (k + 2)) 1 0) 1 (block_count image - 2) (λ k. at_most (has_free_bit image (k + 2))))
   where
     at_most : (v : Bool) → cond v 1 0 ≤ 1
     at_most true = omega arith
@@ -46,6 +46,6 @@ size_bound Ffs size count m n a b d l = omega arith
 pub size_fits : (image : List ℕ) (file size : ℕ) → block_count image ≤ 101602 → LawfulFile image file → HasFree image file size → size < 2 ^ 32
 size_fits image file size small lawful free =
     let count : length (data_blocks image file) ≡ data_count (format_of image) (length (contents image file)) = lawful.data_fits in
-    size_bound (format_of image) size (data_count (format_of image) (length (contents image file))) (marked_count image) (block_count image) small (marked_bound image)
+    size_bound (format_of image) size (data_count (format_of image) (length (contents image file))) (free_bit_count image) (block_count image) small (marked_bound image)
     (subst (λ (n : ℕ). n ≤ block_count image) count (few_once (data_blocks image file) (block_count image) (λ i l. (lawful.places.data_inside i l).1) lawful.places.data_once))
     free

@@ -1,15 +1,16 @@
 -- A block of a file given back.
 use Rattle.std.proofs.Common.{inl, inr, ◌≡◌, ◌≢◌, ℕ, ◌+◌, ◌<◌, ◌≤◌, true, cond, eqb, List, ◌∷◌, length, slice_index, sym, ap, ◌∙◌, subst, arith}
+use Rattle.adf_block.specs.Fields.{size_long}
 use Rattle.adf_block.specs.declared.Format.{Format}
 use Rattle.adf_block.specs.declared.Format.TheVariants.{Ofs, Ffs}
-use Rattle.adf_block.specs.Image.{long, block_count, root_key, is_marked_free, marked_count, IsInside, IsSize}
+use Rattle.adf_block.specs.Image.{long, block_count, root_key, has_free_bit, free_bit_count, IsInside, IsSize}
 use Rattle.adf_block.proofs.Frames.{same_count}
 use Rattle.ados_map.specs.Pages.{LawfulPages, pages_of, page_block, page_of}
-use Rattle.ados_map.specs.Changes.{MapPlace, Marked}
+use Rattle.ados_map.specs.Changes.{MapPlace, BitChanged}
 use Rattle.ados_data.specs.File.{AreApart, format_of}
 use Rattle.ados_data.specs.Changing.{IsInUse, LawfulMap}
 use Rattle.ados_data.proofs.Untouched.{Untouched, untouched_long}
-use Rattle.ados_data.proofs.Steps.{untouched_holder, untouched_data, skeleton_kept}
+use Rattle.ados_data.proofs.GrowthSteps.{untouched_holder, untouched_data, skeleton_kept}
 use Rattle.ados_data.proofs.Marks.{has_bit, page_kept, in_use_kept}
 use Rattle.ados_data.proofs.Standing.{Standing}
 use Rattle.std.proofs.lemmas.Bool.{cases_eq}
@@ -18,7 +19,7 @@ use Rattle.ados_data.proofs.Untouched.{untouched_sum}
 use Rattle.ados_data.specs.Others.{IsOther, Leaves}
 use Rattle.ados_data.proofs.Counts.{one_more}
 
-module _ (old : List ℕ) (b : ℕ) (new : List ℕ) (m : Marked old b true new) (pages : LawfulPages new) (ok : IsSize (block_count old)) (map : LawfulMap old) (inside : IsInside (block_count old) b) (used : IsInUse old b) where
+module _ (old : List ℕ) (b : ℕ) (new : List ℕ) (m : BitChanged old b true new) (pages : LawfulPages new) (ok : IsSize (block_count old)) (map : LawfulMap old) (inside : IsInside (block_count old) b) (used : IsInUse old b) where
   page_within : page_of b < pages_of old
   page_within = omega (arith, inside.0, inside.1)
 
@@ -48,16 +49,16 @@ module _ (old : List ℕ) (b : ℕ) (new : List ℕ) (m : Marked old b true new)
   given_map = record {
     pages = pages;
     root_marked =
-        ap (λ (x : ℕ). is_marked_free new (root_key x)) given_count
+        ap (λ (x : ℕ). has_free_bit new (root_key x)) given_count
         ∙ m.others (root_key (block_count old)) (has_bit old (root_key (block_count old)) (omega (arith, ok.0), omega (arith, ok.0))) (λ e. used.beside_root (sym e))
         ∙ map.root_marked;
     pages_marked = λ p l. let a : p < pages_of old = omega (arith, given_count, l) in
-        ap (is_marked_free new) (given_page p a)
+        ap (has_free_bit new) (given_page p a)
         ∙ m.others (page_block old p) (has_bit old (page_block old p) (map.pages.inside p a)) (λ e. used.beside_pages p a (sym e))
         ∙ map.pages_marked p a;
   }
 
-  pub given_total : marked_count new ≡ marked_count old + 1
+  pub given_total : free_bit_count new ≡ free_bit_count old + 1
   given_total = one_more old new b inside given_count (λ j i ne. m.others j (has_bit old j i) ne) used.marked m.bit
 
   pub stands_given : (format : Format) (file : ℕ) (blocks extensions : List ℕ) (size : ℕ) → Standing old format file blocks extensions size → ((q : ℕ) → q ≤ length extensions → slice_index (file ∷ extensions) q ≢ b) → ((i : ℕ) → i < length blocks → slice_index blocks i ≢ b) → Standing new format file blocks extensions size
@@ -66,7 +67,7 @@ module _ (old : List ℕ) (b : ℕ) (new : List ℕ) (m : Marked old b true new)
     size_ok = subst IsSize (sym given_count) ok;
     skeleton = skeleton_kept old new format file blocks extensions size s.skeleton
         (λ q l. untouched_holder old new (slice_index (file ∷ extensions) q) (untouched_given (slice_index (file ∷ extensions) q) (s.headers_used q l).beside_pages))
-        (given_long file (s.headers_used 0 (omega arith)).beside_pages 81 (omega arith)) (given_long file (s.headers_used 0 (omega arith)).beside_pages 4 (omega arith))
+        (given_long file (s.headers_used 0 (omega arith)).beside_pages size_long (omega arith)) (given_long file (s.headers_used 0 (omega arith)).beside_pages 4 (omega arith))
         (λ e i l. untouched_data old new (slice_index blocks i) (untouched_given (slice_index blocks i) (s.data_used i l).beside_pages));
     places = subst (λ (x : ℕ). AreApart x file blocks extensions) (sym given_count) s.places;
     map = given_map;

@@ -9,7 +9,7 @@ use Rattle.adf_block.specs.Fields.{pointer_count, file_size}
 use Rattle.adf_block.specs.Frame.{SameBut}
 use Rattle.ados_map.specs.Pages.{pages_of, page_block}
 use Rattle.ados_data.specs.File.{format_of}
-use Rattle.ados_data.specs.Keeping.{IsPointerField, IsHeaderField, IsExtensionField, data_end, most_pointers, larger_size, IsBeside, KeepsUnnamed}
+use Rattle.ados_data.specs.Unnamed.{IsPointerField, IsHeaderField, IsExtensionField, data_end, most_pointers, larger_size, IsBeside, KeepsUnnamed}
 use Rattle.ados_data.proofs.Skeleton.{Skeleton}
 
 -- ---- the fields of more pointers, and the end of more bytes

@@ -2,14 +2,16 @@
 use Rattle.std.proofs.Common.{◌≡◌, ◌≢◌, ℕ, suc, ◌-◌, ◌/◌, ◌<◌, ◌≤◌, ◌⊎◌, inl, inr, true, List, [], ◌∷◌, ◌++◌, length, take, slice_index, refl, sym, ap, ◌∙◌, subst, arith}
 use Rattle.std.proofs.lemmas.Bool.{cases_Bool, cases_lt, cases_eq, false≢true}
 use Rattle.std.proofs.lemmas.List.{length_push}
+use Rattle.adf_block.specs.Fields.{next_extension}
 use Rattle.adf_block.specs.declared.Format.{Format}
-use Rattle.adf_block.specs.Image.{block_sum, block_count, root_key, is_marked_free, IsInside, IsSize}
+use Rattle.adf_block.specs.Image.{block_sum, block_count, root_key, has_free_bit, IsInside, IsSize}
 use Rattle.adf_block.specs.Frame.{SameBut}
 use Rattle.adf_block.proofs.Frames.{same_sum}
 use Rattle.ados_map.specs.Pages.{pages_of, page_block, page_of, HasBit}
 use Rattle.ados_map.specs.Changes.{MapPlace}
-use Rattle.ados_data.specs.Edits.{AtField, AtExtensionFields}
-use Rattle.ados_data.specs.Changing.{IsInUse, LawfulMap, IsNewBlock, IsExtended, IsLengthened, IsResized}
+use Rattle.ados_data.specs.steps.Edits.{AtField, AtExtensionFields}
+use Rattle.ados_data.specs.Changing.{IsInUse, LawfulMap}
+use Rattle.ados_data.specs.steps.Blocks.{IsNewBlock, IsExtended, IsLengthened, IsResized}
 use Rattle.ados_data.proofs.Lists.{head_pushed_before, head_pushed_last, pushed_before, pushed_last}
 use Rattle.ados_data.proofs.Untouched.{untouched_sum}
 use Rattle.ados_data.proofs.Marks.{has_bit, page_kept}
@@ -124,11 +126,11 @@ pub beside_gains : (old new : List ℕ) (file : ℕ) (blocks extensions blocks' 
 beside_gains old new file blocks extensions blocks' extensions' g c o = (
   (λ q l e. elim (g.headers q l) [
     | inl s ↦ o.beside_headers q s.0 (e ∙ s.1)
-    | inr f ↦ false≢true (sym (o.used (omega (arith, e, f.0))) ∙ ap (is_marked_free old) e ∙ f.1)
+    | inr f ↦ false≢true (sym (o.used (omega (arith, e, f.0))) ∙ ap (has_free_bit old) e ∙ f.1)
   ]),
   (λ i l e. elim (g.data_blocks_of i l) [
     | inl s ↦ o.beside_data i s.0 (e ∙ s.1)
-    | inr f ↦ false≢true (sym (o.used (omega (arith, e, f.0))) ∙ ap (is_marked_free old) e ∙ f.1)
+    | inr f ↦ false≢true (sym (o.used (omega (arith, e, f.0))) ∙ ap (has_free_bit old) e ∙ f.1)
   ]),
 )
 
@@ -142,29 +144,29 @@ gains_both old mid new file blocks extensions blocks' extensions' blocks'' exten
     | inr f ↦ inr (f.0, was (slice_index (file ∷ extensions'') q) (inside_headers q l) f.1)
     | inl s ↦ elim (a.headers q s.0) [
       | inl t ↦ inl (t.0, s.1 ∙ t.1)
-      | inr f ↦ inr (subst (λ (n : ℕ). 2 ≤ n) (sym s.1) f.0, ap (is_marked_free old) s.1 ∙ f.1)
+      | inr f ↦ inr (subst (λ (n : ℕ). 2 ≤ n) (sym s.1) f.0, ap (has_free_bit old) s.1 ∙ f.1)
     ]
   ];
   data_blocks_of = λ i l. elim (b.data_blocks_of i l) [
     | inr f ↦ inr (f.0, was (slice_index blocks'' i) (inside_data i l) f.1)
     | inl s ↦ elim (a.data_blocks_of i s.0) [
       | inl t ↦ inl (t.0, s.1 ∙ t.1)
-      | inr f ↦ inr (subst (λ (n : ℕ). 2 ≤ n) (sym s.1) f.0, ap (is_marked_free old) s.1 ∙ f.1)
+      | inr f ↦ inr (subst (λ (n : ℕ). 2 ≤ n) (sym s.1) f.0, ap (has_free_bit old) s.1 ∙ f.1)
     ]
   ];
   marks = λ c i u. b.marks c (i.0, omega (arith, i.1, counts)) (a.marks c i u);
-  taken = λ c i f u. elim (cases_Bool (is_marked_free mid c)) [
+  taken = λ c i f u. elim (cases_Bool (has_free_bit mid c)) [
     | inl t ↦ b.taken c (i.0, omega (arith, i.1, counts)) t u
     | inr e ↦ still_own c (a.taken c i f e)
   ];
-  lowest = λ c d i p l f u. elim (cases_Bool (is_marked_free mid d)) [
+  lowest = λ c d i p l f u. elim (cases_Bool (has_free_bit mid d)) [
     | inl t ↦ b.lowest c d (i.0, omega (arith, i.1, counts)) p l t u
     | inr e ↦ b.marks c (p, omega (arith, l, i.1, counts)) (a.lowest c d i p l f e)
   ];
 }
   where
-    was : (c : ℕ) → IsInside (block_count old) c → is_marked_free mid c ≡ true → is_marked_free old c ≡ true
-    was c i f = true_from_ne_false (is_marked_free old c) (λ e. false≢true (sym (a.marks c i e) ∙ f))
+    was : (c : ℕ) → IsInside (block_count old) c → has_free_bit mid c ≡ true → has_free_bit old c ≡ true
+    was c i f = true_from_ne_false (has_free_bit old c) (λ e. false≢true (sym (a.marks c i e) ∙ f))
 
     still_own : (c : ℕ) → IsOwn file blocks' extensions' c → IsOwn file blocks'' extensions'' c
     still_own c (inl (q, l, e)) = inl (q, omega (arith, l, front_length extensions' extensions'' front'), e ∙ sym (front_header file extensions' extensions'' front' q l))
@@ -176,25 +178,25 @@ module _ (old new : List ℕ) (format : Format) (file : ℕ) (blocks extensions 
     (inside : IsInside (block_count old) e) (used : IsInUse old e) (beside_headers : (q : ℕ) → q ≤ length extensions → slice_index (file ∷ extensions) q ≢ e) (beside_data : (i : ℕ) → i < length blocks → slice_index blocks i ≢ e) where
   pub leaves_extended : Leaves old file blocks (extensions ++ e ∷ []) new
   leaves_extended =
-      leaves_owned (λ c k. AtExtensionFields e c k ⊎ AtField (slice_index (file ∷ extensions) (length extensions)) 126 c k) old new file blocks (extensions ++ e ∷ []) x.rest s.size_ok
+      leaves_owned (λ c k. AtExtensionFields e c k ⊎ AtField (slice_index (file ∷ extensions) (length extensions)) next_extension c k) old new file blocks (extensions ++ e ∷ []) x.rest s.size_ok
       (extended_owner old new format file blocks extensions size e s x inside used beside_headers beside_data) beside field summed
     where
-      beside : (c k : ℕ) → IsOther old file blocks (extensions ++ e ∷ []) c → ¬ (AtExtensionFields e c k ⊎ AtField (slice_index (file ∷ extensions) (length extensions)) 126 c k)
+      beside : (c k : ℕ) → IsOther old file blocks (extensions ++ e ∷ []) c → ¬ (AtExtensionFields e c k ⊎ AtField (slice_index (file ∷ extensions) (length extensions)) next_extension c k)
       beside c k o (inl at) = o.beside_headers (suc (length extensions)) (omega (arith, length_push extensions e)) (at.0 ∙ sym (head_pushed_last file extensions e (suc (length extensions)) refl))
       beside c k o (inr at) = o.beside_headers (length extensions) (omega (arith, length_push extensions e)) (at.0 ∙ sym (head_pushed_before file extensions e (length extensions) (omega arith)))
 
-      field : (k : ℕ) → (AtExtensionFields e file k ⊎ AtField (slice_index (file ∷ extensions) (length extensions)) 126 file k) → IsDataField (k / 4)
+      field : (k : ℕ) → (AtExtensionFields e file k ⊎ AtField (slice_index (file ∷ extensions) (length extensions)) next_extension file k) → IsDataField (k / 4)
       field k (inl at) = absurd (beside_headers 0 (omega arith) at.0)
       field k (inr (at, inl z)) = inr (inr (inr (inr (inr z))))
       field k (inr (at, inr z)) = inr (inr (inl z))
 
       summed : block_sum old file ≡ 0 → block_sum new file ≡ 0
       summed z = elim (cases_lt 0 (length extensions)) [
-        | inl l ↦ same_sum (λ c k. AtExtensionFields e c k ⊎ AtField (slice_index (file ∷ extensions) (length extensions)) 126 c k) old new x.rest file (λ k m. other k l) ∙ z
+        | inl l ↦ same_sum (λ c k. AtExtensionFields e c k ⊎ AtField (slice_index (file ∷ extensions) (length extensions)) next_extension c k) old new x.rest file (λ k m. other k l) ∙ z
         | inr l ↦ let here : length extensions ≡ 0 = omega arith in ap (λ (n : ℕ). block_sum new (slice_index (file ∷ extensions) n)) (sym here) ∙ x.sum
       ]
         where
-          other : (k : ℕ) → 0 < length extensions → ¬ (AtExtensionFields e file k ⊎ AtField (slice_index (file ∷ extensions) (length extensions)) 126 file k)
+          other : (k : ℕ) → 0 < length extensions → ¬ (AtExtensionFields e file k ⊎ AtField (slice_index (file ∷ extensions) (length extensions)) next_extension file k)
           other k l (inl at) = beside_headers 0 (omega arith) at.0
           other k l (inr at) = s.places.headers_once 0 (length extensions) l (omega arith) at.0
 
@@ -245,9 +247,9 @@ module _ (old new : List ℕ) (format : Format) (file : ℕ) (blocks extensions 
 pub gains_taken : (old : List ℕ) (b : ℕ) (new : List ℕ) (file : ℕ) (blocks extensions blocks' extensions' : List ℕ) → IsNewBlock old b new → ((q : ℕ) → q ≤ length extensions' → ((q ≤ length extensions) × (slice_index (file ∷ extensions') q ≡ slice_index (file ∷ extensions) q)) ⊎ (slice_index (file ∷ extensions') q ≡ b)) →
     ((i : ℕ) → i < length blocks' → ((i < length blocks) × (slice_index blocks' i ≡ slice_index blocks i)) ⊎ (slice_index blocks' i ≡ b)) → IsOwn file blocks' extensions' b → Gains old file blocks extensions new blocks' extensions'
 gains_taken old b new file blocks extensions blocks' extensions' n headers datas own = record {
-  headers = λ q l. elim (headers q l) [ inl s ↦ inl s | inr e ↦ inr (omega (arith, e, n.lowest.inside.0), ap (is_marked_free old) e ∙ n.lowest.free) ];
-  data_blocks_of = λ i l. elim (datas i l) [ inl s ↦ inl s | inr e ↦ inr (omega (arith, e, n.lowest.inside.0), ap (is_marked_free old) e ∙ n.lowest.free) ];
-  marks = λ c i u. n.others c (has_bit old c i) (λ e. false≢true (sym u ∙ ap (is_marked_free old) e ∙ n.lowest.free)) ∙ u;
+  headers = λ q l. elim (headers q l) [ inl s ↦ inl s | inr e ↦ inr (omega (arith, e, n.lowest.inside.0), ap (has_free_bit old) e ∙ n.lowest.free) ];
+  data_blocks_of = λ i l. elim (datas i l) [ inl s ↦ inl s | inr e ↦ inr (omega (arith, e, n.lowest.inside.0), ap (has_free_bit old) e ∙ n.lowest.free) ];
+  marks = λ c i u. n.others c (has_bit old c i) (λ e. false≢true (sym u ∙ ap (has_free_bit old) e ∙ n.lowest.free)) ∙ u;
   taken = λ c i f u. elim (cases_eq c b) [
     | inl e ↦ subst (IsOwn file blocks' extensions') (sym e) own
     | inr ne ↦ absurd (false≢true (sym u ∙ n.others c (has_bit old c i) ne ∙ f))
@@ -259,7 +261,7 @@ gains_taken old b new file blocks extensions blocks' extensions' n headers datas
 }
 
 -- marks that all stay
-pub gains_kept : (old new new' : List ℕ) (file : ℕ) (blocks extensions blocks' extensions' : List ℕ) → block_count new ≡ block_count old → ((c : ℕ) → HasBit new c → is_marked_free new' c ≡ is_marked_free new c) → Gains old file blocks extensions new blocks' extensions' → Gains old file blocks extensions new' blocks' extensions'
+pub gains_kept : (old new new' : List ℕ) (file : ℕ) (blocks extensions blocks' extensions' : List ℕ) → block_count new ≡ block_count old → ((c : ℕ) → HasBit new c → has_free_bit new' c ≡ has_free_bit new c) → Gains old file blocks extensions new blocks' extensions' → Gains old file blocks extensions new' blocks' extensions'
 gains_kept old new new' file blocks extensions blocks' extensions' counts same g = record {
   headers = g.headers;
   data_blocks_of = g.data_blocks_of;

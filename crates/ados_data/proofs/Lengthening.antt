@@ -1,29 +1,30 @@
 -- A file that becomes longer within its last data block.
 use Rattle.std.proofs.Common.{◌≡◌, ◌≢◌, ℕ, ◌+◌, ◌-◌, ◌*◌, ◌/◌, ◌%◌, ◌<◌, ◌≤◌, inl, inr, List, ◌∷◌, ◌++◌, length, replicate, take, slice_index, refl, sym, ap, ap₂, ◌∙◌, subst, arith}
 use Rattle.std.proofs.lemmas.Bool.{cases_lt}
+use Rattle.adf_block.specs.Fields.{size_long}
 use Rattle.adf_block.specs.declared.Format.{Format}
 use Rattle.adf_block.specs.declared.Format.TheVariants.{Ofs}
-use Rattle.adf_block.specs.Image.{byte_at, long, block_sum, block_count, marked_count, IsSize}
+use Rattle.adf_block.specs.Image.{byte_at, long, block_sum, block_count, free_bit_count, IsSize}
 use Rattle.adf_block.specs.Frame.{SameBut}
 use Rattle.ados_data.specs.Cost.{data_count}
 use Rattle.ados_data.specs.File.{format_of, file_byte}
-use Rattle.ados_data.specs.Changing.{IsResized}
+use Rattle.ados_data.specs.steps.Blocks.{IsResized}
 use Rattle.ados_data.proofs.Standing.{Standing, standing_of, writable_of, writable_file}
 use Rattle.std.proofs.lemmas.List.{append_assoc, replicate-append-replicate, take_all, length-take, get_or-take, length-append, length-replicate, get_or-replicate, get_or_append_left, get_or-append_right}
 use Rattle.std.proofs.Math.Nat.{mod-lt}
 use Rattle.ados_data.specs.declared.grow.End.{End}
 use Rattle.ados_data.specs.Cost.{data_size, data_start}
-use Rattle.ados_data.specs.Edits.{AtData}
+use Rattle.ados_data.specs.steps.Edits.{AtData}
 use Rattle.ados_data.specs.File.{data_blocks, extension_blocks, contents}
 use Rattle.ados_data.specs.Changing.{WritableFile}
-use Rattle.ados_data.specs.Ends.{IsEnd}
+use Rattle.ados_data.specs.steps.FileEnd.{IsEnd}
 use Rattle.ados_data.proofs.Sizes.{few_bytes, in_block, behind_start, in_front, filled_size, filled_place, in_count}
 use Rattle.ados_data.specs.Others.{LeavesOthers, Gains}
 use Rattle.ados_data.proofs.Leaving.{leaves_both, leaves_resized, gains_same, gains_kept}
 use Rattle.ados_data.proofs.Filling.{leaves_put, put_marks, stands_put, put_other, put_count}
 use Rattle.ados_data.proofs.Resizing.{stands_resized, resized_byte, resized_count, resized_marks}
 use Rattle.ados_data.proofs.Spelled.{data_blocks_are, extension_blocks_are, contents_are}
-use Rattle.ados_data.specs.Keeping.{data_end, KeepsUnnamed}
+use Rattle.ados_data.specs.Unnamed.{data_end, KeepsUnnamed}
 use Rattle.ados_data.proofs.Within.{put_end, keeps_filled}
 
 -- a file that got zeros behind its bytes, and kept its end
@@ -32,7 +33,7 @@ pub record IsFilled (old : List ℕ) (file : ℕ) (end : End) (size : ℕ) (new 
   pub same_format : format_of new ≡ format_of old
   pub end_is : IsEnd new file end
   pub bytes : contents new file ≡ contents old file ++ replicate (size - length (contents old file)) 0
-  pub count : marked_count new ≡ marked_count old
+  pub count : free_bit_count new ≡ free_bit_count old
   pub leaves : LeavesOthers old file new
   pub gains : Gains old file (data_blocks old file) (extension_blocks old file) new (data_blocks new file) (extension_blocks new file)
   pub blocks : data_blocks new file ≡ data_blocks old file
@@ -159,7 +160,7 @@ module _ (i0 i1 i2 : List ℕ) (format : Format) (file : ℕ) (end : End) (part 
 
 -- the same, by the numbers of a call
 module _ (i0 i1 i2 : List ℕ) (format : Format) (file : ℕ) (end : End) (part size room : ℕ) (zeros : List ℕ) (w : WritableFile i0 file) (ok : IsSize (block_count i0)) (f : format ≡ format_of i0) (e : IsEnd i0 file end)
-    (room_is : room ≡ data_size format) (size_is : size ≡ long i0 file 81) (started : size % room ≢ 0) (fits : part ≤ room - size % room) (zeros_are : zeros ≡ take part (replicate 512 0))
+    (room_is : room ≡ data_size format) (size_is : size ≡ long i0 file size_long) (started : size % room ≢ 0) (fits : part ≤ room - size % room) (zeros_are : zeros ≡ take part (replicate 512 0))
     (put : (k : ℕ) → k < length zeros → byte_at i1 end.last (data_start format + size % room + k) ≡ slice_index zeros k) (summed : format ≡ Ofs → block_sum i1 end.last ≡ 0)
     (h : SameBut (AtData format end.last (data_start format + size % room) (data_start format + size % room + length zeros)) i0 i1)
     (y : IsResized i1 format file end.holder end.last end.count (size + part) i2) where

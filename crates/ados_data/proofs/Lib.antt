@@ -1,3 +1,4 @@
+-- Lists and sizes, a lawful file and its blocks, then each step of a change, and the changes made of these steps.
 pub mod Chains
 pub mod Spelled
 pub mod Sizes
@@ -7,7 +8,7 @@ pub mod Walking
 pub mod Untouched
 pub mod Skeleton
 pub mod Lists
-pub mod Steps
+pub mod GrowthSteps
 pub mod Beside
 pub mod Putting
 pub mod Marks

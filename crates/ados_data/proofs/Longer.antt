@@ -4,15 +4,15 @@ use Rattle.std.proofs.lemmas.List.{length_push}
 use Rattle.adf_block.specs.declared.Format.{Format}
 use Rattle.adf_block.specs.declared.Format.TheVariants.{Ofs, Ffs}
 use Rattle.adf_block.specs.Image.{byte_at, long}
-use Rattle.adf_block.specs.Fields.{pointer_count}
+use Rattle.adf_block.specs.Fields.{pointer_count, pointer_count_long, first_pointer, size_long, next_extension, next_data}
 use Rattle.adf_block.specs.Frame.{SameBut}
 use Rattle.adf_block.proofs.Frames.{same_long, same_trans, same_weaken}
 use Rattle.ados_map.specs.Pages.{pages_of, page_of}
 use Rattle.ados_map.specs.Changes.{MapPlace}
-use Rattle.ados_data.specs.Edits.{AtField, AtFields, AtDataFields}
+use Rattle.ados_data.specs.steps.Edits.{AtField, AtFields, AtDataFields}
 use Rattle.ados_data.specs.File.{format_of}
-use Rattle.ados_data.specs.Changing.{IsNewBlock, IsLengthened, IsResized, AtLink, AtEnd}
-use Rattle.ados_data.specs.Keeping.{IsPointerField, IsHeaderField, data_end, most_pointers, larger_size, IsBeside, KeepsUnnamed}
+use Rattle.ados_data.specs.steps.Blocks.{IsNewBlock, IsLengthened, IsResized, AtLink, AtEnd}
+use Rattle.ados_data.specs.Unnamed.{IsPointerField, IsHeaderField, data_end, most_pointers, larger_size, IsBeside, KeepsUnnamed}
 use Rattle.ados_data.proofs.Lists.{pushed_before, pushed_last}
 use Rattle.ados_data.proofs.Standing.{Standing, untaken, header_beside_new, data_beside_new}
 use Rattle.ados_data.proofs.Grown.{more_pointers, more_header}
@@ -26,16 +26,16 @@ module _ (i1 i2 i3 i4 : List ℕ) (format : Format) (file : ℕ) (blocks extensi
     (x : IsLengthened i2 format file (slice_index (file ∷ extensions) (length extensions)) (slice_index blocks (length blocks - 1)) (length blocks) b i3) (y : IsResized i3 format file (slice_index (file ∷ extensions) (length extensions)) b (length blocks + 1) size' i4)
     (least : 72 * length extensions ≤ length blocks) (room : length blocks < 72 * suc (length extensions)) where
   abbrev Set : ℕ → ℕ → Type 0
-  Set c k = (AtDataFields format b c k ⊎ (AtLink format (length blocks) (slice_index blocks (length blocks - 1)) c k ⊎ (AtFields (slice_index (file ∷ extensions) (length extensions)) (77 - length blocks % 72) 2 c k ⊎ AtField file 4 c k)))
-      ⊎ (AtEnd format (length blocks + 1) b c k ⊎ (AtFields (slice_index (file ∷ extensions) (length extensions)) 2 126 c k ⊎ AtFields file 4 81 c k))
+  Set c k = (AtDataFields format b c k ⊎ (AtLink format (length blocks) (slice_index blocks (length blocks - 1)) c k ⊎ (AtFields (slice_index (file ∷ extensions) (length extensions)) (first_pointer - length blocks % 72) 2 c k ⊎ AtField file 4 c k)))
+      ⊎ (AtEnd format (length blocks + 1) b c k ⊎ (AtFields (slice_index (file ∷ extensions) (length extensions)) pointer_count_long next_extension c k ⊎ AtFields file next_data size_long c k))
 
   abbrev Changed : ℕ → ℕ → Type 0
   Changed c k = (MapPlace i1 b c k ⊎ (c ≡ b)) ⊎ Set c k
 
   set_rest : SameBut Set i2 i4
   set_rest =
-      same_trans Set i2 i3 i4 (same_weaken (λ c k. AtDataFields format b c k ⊎ (AtLink format (length blocks) (slice_index blocks (length blocks - 1)) c k ⊎ (AtFields (slice_index (file ∷ extensions) (length extensions)) (77 - length blocks % 72) 2 c k ⊎ AtField file 4 c k))) Set i2 i3 (λ c k at. inl at) x.rest)
-      (same_weaken (λ c k. AtEnd format (length blocks + 1) b c k ⊎ (AtFields (slice_index (file ∷ extensions) (length extensions)) 2 126 c k ⊎ AtFields file 4 81 c k)) Set i3 i4 (λ c k at. inr at) y.rest)
+      same_trans Set i2 i3 i4 (same_weaken (λ c k. AtDataFields format b c k ⊎ (AtLink format (length blocks) (slice_index blocks (length blocks - 1)) c k ⊎ (AtFields (slice_index (file ∷ extensions) (length extensions)) (first_pointer - length blocks % 72) 2 c k ⊎ AtField file 4 c k))) Set i2 i3 (λ c k at. inl at) x.rest)
+      (same_weaken (λ c k. AtEnd format (length blocks + 1) b c k ⊎ (AtFields (slice_index (file ∷ extensions) (length extensions)) pointer_count_long next_extension c k ⊎ AtFields file next_data size_long c k)) Set i3 i4 (λ c k at. inr at) y.rest)
 
   rest : SameBut Changed i1 i4
   rest = same_trans Changed i1 i2 i4 (same_weaken (λ c k. MapPlace i1 b c k ⊎ (c ≡ b)) Changed i1 i2 (λ c k at. inl at) n.rest) (same_weaken Set Changed i2 i4 (λ c k at. inr at) set_rest)
@@ -50,7 +50,7 @@ module _ (i1 i2 i3 i4 : List ℕ) (format : Format) (file : ℕ) (blocks extensi
   beside_data = data_beside_new i1 b i2 n s.size_ok s.map format file blocks extensions size s
 
   -- what changes in a pointer block, but for the fields of the header alone
-  in_header : (q k : ℕ) → q ≤ length extensions → Changed (slice_index (file ∷ extensions) q) k → IsPointerField (pointer_count i4 (slice_index (file ∷ extensions) q)) (k / 4) ⊎ ((slice_index (file ∷ extensions) q ≡ file) × ((k / 4 ≡ 4) ⊎ (k / 4 ≡ 81)))
+  in_header : (q k : ℕ) → q ≤ length extensions → Changed (slice_index (file ∷ extensions) q) k → IsPointerField (pointer_count i4 (slice_index (file ∷ extensions) q)) (k / 4) ⊎ ((slice_index (file ∷ extensions) q ≡ file) × ((k / 4 ≡ 4) ⊎ (k / 4 ≡ size_long)))
   in_header q k l (inl at) = absurd (untaken i1 b i2 n s.size_ok s.map (slice_index (file ∷ extensions) q) k (s.headers_used q l) at)
   in_header q k l (inr (inl (inl at))) = absurd (beside_header q l at.1)
   in_header q k l (inr (inl (inr (inl at)))) = absurd (s.places.apart q (length blocks - 1) l (omega (arith, at.1)) at.2.0)
@@ -128,7 +128,7 @@ module _ (i1 i2 i3 i4 : List ℕ) (format : Format) (file : ℕ) (blocks extensi
     new_extension = λ q k l m r f. absurd (omega (arith, l, m));
     new_data = λ i k l m r d.
         let here : slice_index (blocks ++ b ∷ []) i ≡ b = pushed_last blocks b i (omega (arith, l, m, length_push blocks b)) in
-        ap (λ (c : ℕ). byte_at i4 c k) here ∙ set_rest.same_byte b k r (λ at. end_behind i k (long i4 file 81) d (in_new k at)) ∙ n.empty k r;
+        ap (λ (c : ℕ). byte_at i4 c k) here ∙ set_rest.same_byte b k r (λ at. end_behind i k (long i4 file size_long) d (in_new k at)) ∙ n.empty k r;
     first_taken = λ z l. y.first (omega arith) ∙ x.new_first z ∙ sym (pushed_last blocks b 0 z);
     first_given = λ l z. absurd (omega (arith, z, length_push blocks b));
     first_kept = λ e. elim e [

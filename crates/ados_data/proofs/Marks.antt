@@ -1,6 +1,6 @@
 -- The map where neither the root nor a page changes.
 use Rattle.std.proofs.Common.{◌≡◌, ℕ, ◌+◌, ◌-◌, ◌/◌, ◌%◌, ◌^◌, ◌<◌, ◌≤◌, List, not, eqb, bit_and, sym, ap, ◌∙◌, subst, arith}
-use Rattle.adf_block.specs.Image.{long, block_count, root_key, is_marked_free, IsInside}
+use Rattle.adf_block.specs.Image.{long, block_count, root_key, has_free_bit, IsInside}
 use Rattle.adf_block.specs.Frame.{SameBut}
 use Rattle.adf_block.proofs.Frames.{same_long, same_count}
 use Rattle.ados_map.specs.Pages.{LawfulPages, pages_of, page_block, HasBit}
@@ -23,7 +23,7 @@ module _ (changed : ℕ → ℕ → Type 0) (old new : List ℕ) (h : SameBut ch
   pub pages_kept : pages_of new ≡ pages_of old
   pages_kept = ap (λ (n : ℕ). (n - 2 + 4063) / 4064) count
 
-  pub in_use_kept : (c : ℕ) → is_marked_free new c ≡ is_marked_free old c → IsInUse old c → IsInUse new c
+  pub in_use_kept : (c : ℕ) → has_free_bit new c ≡ has_free_bit old c → IsInUse old c → IsInUse new c
   in_use_kept c same u = record {
     marked = same ∙ u.marked;
     beside_root = λ e. u.beside_root (e ∙ ap root_key count);
@@ -31,8 +31,8 @@ module _ (changed : ℕ → ℕ → Type 0) (old new : List ℕ) (h : SameBut ch
   }
 
   module _ (pages_free : (p k : ℕ) → p < pages_of old → ¬ changed (page_block old p) k) where
-    pub mark_kept : (c : ℕ) → HasBit old c → is_marked_free new c ≡ is_marked_free old c
-    unfolding is_marked_free
+    pub mark_kept : (c : ℕ) → HasBit old c → has_free_bit new c ≡ has_free_bit old c
+    unfolding has_free_bit
     mark_kept c bit =
         let p = (c - 2) / 4064 in
         let within : (c - 2) / 4064 < pages_of old = omega (arith, bit.0, bit.1) in
@@ -53,7 +53,7 @@ module _ (changed : ℕ → ℕ → Type 0) (old new : List ℕ) (h : SameBut ch
     pub map_kept : 16 ≤ block_count old → LawfulMap old → LawfulMap new
     map_kept many m = record {
       pages = lawful_pages_kept m.pages;
-      root_marked = ap (λ (n : ℕ). is_marked_free new (root_key n)) count ∙ mark_kept (root_key (block_count old)) (has_bit old (root_key (block_count old)) (omega arith, omega arith)) ∙ m.root_marked;
+      root_marked = ap (λ (n : ℕ). has_free_bit new (root_key n)) count ∙ mark_kept (root_key (block_count old)) (has_bit old (root_key (block_count old)) (omega arith, omega arith)) ∙ m.root_marked;
       pages_marked = λ p l. let a : p < pages_of old = omega (arith, pages_kept, l) in
-          ap (is_marked_free new) (page_kept p a) ∙ mark_kept (page_block old p) (has_bit old (page_block old p) (m.pages.inside p a)) ∙ m.pages_marked p a;
+          ap (has_free_bit new) (page_kept p a) ∙ mark_kept (page_block old p) (has_bit old (page_block old p) (m.pages.inside p a)) ∙ m.pages_marked p a;
     }

@@ -1,6 +1,7 @@
 -- One turn of a walk that writes over a file.
 use Rattle.std.proofs.Common.{◌≡◌, ◌≢◌, ℕ, ◌+◌, ◌-◌, ◌*◌, ◌/◌, ◌%◌, ◌^◌, ◌<◌, ◌≤◌, min, List, length, take, drop, slice_index, ◌∷◌, sym, ap, ◌∙◌, subst, arith}
 use Rattle.std.proofs.lemmas.List.{length-take, length-drop}
+use Rattle.adf_block.specs.Fields.{first_pointer, size_long, next_extension}
 use Rattle.adf_block.specs.declared.Format.{Format}
 use Rattle.adf_block.specs.declared.Format.TheVariants.{Ofs}
 use Rattle.adf_block.specs.Image.{byte_at, long, block_sum, block_count, IsImage, IsSize}
@@ -8,7 +9,7 @@ use Rattle.adf_block.specs.Frame.{SameBut}
 use Rattle.adf_block.proofs.Longs.{long-below}
 use Rattle.adf_block.proofs.Frames.{same_count}
 use Rattle.ados_data.specs.Cost.{data_size, data_start}
-use Rattle.ados_data.specs.Edits.{AtData}
+use Rattle.ados_data.specs.steps.Edits.{AtData}
 use Rattle.ados_data.specs.File.{LawfulFile, contents, data_blocks, extension_blocks, format_of, overlaid, pointer_block}
 use Rattle.ados_data.specs.Changing.{WritableFile}
 use Rattle.ados_data.proofs.Sizes.{few_bytes, part_bounds}
@@ -17,12 +18,12 @@ use Rattle.ados_data.proofs.Overlaid.{length-overlaid, overlaid_more}
 use Rattle.ados_data.proofs.Walking.{holder_inside, block_is, block_inside, on_to_next, on_in_same}
 use Rattle.ados_data.proofs.Filling.{IsPut, is_put}
 use Rattle.ados_data.specs.Others.{LeavesOthers}
-use Rattle.ados_data.specs.Keeping.{KeepsUnnamed}
+use Rattle.ados_data.specs.Unnamed.{KeepsUnnamed}
 use Rattle.ados_data.proofs.Composing.{keeps_calls, whole_front}
 
 -- a file's size is a long
 pub size_below : (image : List ℕ) (file : ℕ) → LawfulFile image file → IsImage image → length (contents image file) < 2 ^ 32
-size_below image file s i = omega (arith, s.holds.size, long-below image file 81 i)
+size_below image file s i = omega (arith, s.holds.size, long-below image file size_long i)
 
 module _ (init i0 : List ℕ) (format : Format) (file pos : ℕ) (all : List ℕ) (done part room holder : ℕ) (w : WritableFile i0 file) (ok : IsSize (block_count i0)) (f : format_of i0 ≡ format) (room_is : room ≡ data_size format)
     (fits : pos + length all ≤ length (contents init file)) (test : done < length all) (written : contents i0 file ≡ overlaid (contents init file) pos (take done all)) (part_is : part ≡ min (room - (pos + done) % room) (length all - done))
@@ -48,7 +49,7 @@ module _ (init i0 : List ℕ) (format : Format) (file pos : ℕ) (all : List ℕ
   pub holder_is_inside : holder < block_count i0
   holder_is_inside = holder_inside i0 file w.lawful room room_here (pos + done) holder at_within holder_is
 
-  module _ (block : ℕ) (b : block ≡ long i0 holder (77 - (pos + done) / room % 72)) where
+  module _ (block : ℕ) (b : block ≡ long i0 holder (first_pointer - (pos + done) / room % 72)) where
     pub block_is_inside : block < block_count i0
     block_is_inside = block_inside i0 file w.lawful room room_here (pos + done) holder block at_within holder_is b
 
@@ -117,7 +118,7 @@ module _ (init i0 : List ℕ) (format : Format) (file pos : ℕ) (all : List ℕ
       next_place : pos + done + part ≡ pos + (done + part)
       next_place = omega arith
 
-      pub holder_next : (next : ℕ) → (pos + done + part) % (72 * room) ≡ 0 → next ≡ long i1 holder 126 → next ≡ pointer_block i1 file ((pos + (done + part)) / room / 72)
+      pub holder_next : (next : ℕ) → (pos + done + part) % (72 * room) ≡ 0 → next ≡ long i1 holder next_extension → next ≡ pointer_block i1 file ((pos + (done + part)) / room / 72)
       holder_next next z n =
           on_to_next i1 file turn.writable.lawful room room_new (pos + done) part holder next bounds.0 bounds.1 z holder_new n ∙ ap (λ (k : ℕ). pointer_block i1 file (k / room / 72)) next_place
 

@@ -2,24 +2,26 @@
 use Rattle.std.proofs.Common.{◌≡◌, ◌≢◌, ℕ, zero, suc, ◌+◌, ◌-◌, ◌*◌, ◌/◌, ◌<◌, ◌≤◌, ◌⊎◌, inl, inr, List, ◌∷◌, length, take, slice_index, refl, sym, ap, ◌∙◌, subst, arith}
 use Rattle.std.proofs.lemmas.Bool.{cases_lt}
 use Rattle.std.proofs.lemmas.List.{length-take-le}
+use Rattle.adf_block.specs.Fields.{pointer_count_long, size_long, next_extension, next_data}
 use Rattle.adf_block.specs.declared.Format.{Format}
 use Rattle.adf_block.specs.declared.Format.TheVariants.{Ofs}
-use Rattle.adf_block.specs.Image.{byte_at, long, block_sum, block_count, is_marked_free, marked_count, IsInside, IsSize}
+use Rattle.adf_block.specs.Image.{byte_at, long, block_sum, block_count, has_free_bit, free_bit_count, IsInside, IsSize}
 use Rattle.adf_block.proofs.Frames.{same_long, same_count}
 use Rattle.ados_map.specs.Pages.{pages_of, page_block, HasBit}
 use Rattle.ados_data.specs.Cost.{extension_count}
-use Rattle.ados_data.specs.Edits.{AtFields}
+use Rattle.ados_data.specs.steps.Edits.{AtFields}
 use Rattle.ados_data.specs.File.{AreApart}
-use Rattle.ados_data.specs.Changing.{IsInUse, IsResized, AtEnd}
+use Rattle.ados_data.specs.Changing.{IsInUse}
+use Rattle.ados_data.specs.steps.Blocks.{IsResized, AtEnd}
 use Rattle.ados_data.proofs.Lists.{head_taken, taken_before, apart_taken}
-use Rattle.ados_data.proofs.Steps.{KeepsHolder, untouched_holder, untouched_data, skeleton_resized}
+use Rattle.ados_data.proofs.GrowthSteps.{KeepsHolder, untouched_holder, untouched_data, skeleton_resized}
 use Rattle.ados_data.proofs.Marks.{page_kept}
 use Rattle.ados_data.proofs.Standing.{Standing, format_kept, map_stays, use_stays, marks_stay, count_stays, root_free}
 
 module _ (old new : List ℕ) (format : Format) (file : ℕ) (blocks extensions : List ℕ) (size d e size' : ℕ) (s : Standing old format file blocks extensions size)
     (x : IsResized old format file (slice_index (file ∷ extensions) e) (slice_index blocks (d - 1)) d size' new) (few : d ≤ length blocks) (fewer : e ≤ length extensions) where
   abbrev pub Resized : ℕ → ℕ → Type 0
-  Resized c k = AtEnd format d (slice_index blocks (d - 1)) c k ⊎ (AtFields (slice_index (file ∷ extensions) e) 2 126 c k ⊎ AtFields file 4 81 c k)
+  Resized c k = AtEnd format d (slice_index blocks (d - 1)) c k ⊎ (AtFields (slice_index (file ∷ extensions) e) pointer_count_long next_extension c k ⊎ AtFields file next_data size_long c k)
 
   pub resized_owner : (c k : ℕ) → Resized c k → IsInUse old c × IsInside (block_count old) c
   resized_owner c k (inl at) = (subst (IsInUse old) (sym at.2.0) (s.data_used (d - 1) (omega (arith, at.1))), subst (IsInside (block_count old)) (sym at.2.0) (s.places.data_inside (d - 1) (omega (arith, at.1))))
@@ -42,7 +44,7 @@ module _ (old new : List ℕ) (format : Format) (file : ℕ) (blocks extensions 
   later_long q j l m n = same_long Resized old new x.rest (slice_index (file ∷ extensions) q) j l (λ k r. later_extension q k m n)
 
   -- a long of a pointer block that stays
-  other_long : (q k j : ℕ) → k / 4 ≡ j → q ≤ e → (q ≡ e → (j ≢ 2) × (j ≢ 126)) → j ≢ 4 → j ≢ 5 → j ≢ 81 → ¬ Resized (slice_index (file ∷ extensions) q) k
+  other_long : (q k j : ℕ) → k / 4 ≡ j → q ≤ e → (q ≡ e → (j ≢ 2) × (j ≢ next_extension)) → j ≢ 4 → j ≢ 5 → j ≢ size_long → ¬ Resized (slice_index (file ∷ extensions) q) k
   other_long q k j m l a f g h (inl at) = s.places.apart q (d - 1) (omega arith) (omega (arith, at.1)) at.2.0
   other_long q k j m l a f g h (inr (inl (at, z))) = elim (cases_lt q e) [
     | inl r ↦ s.places.headers_once q e r fewer at
@@ -55,7 +57,7 @@ module _ (old new : List ℕ) (format : Format) (file : ℕ) (blocks extensions 
   other_long q k j m l a f g h (inr (inr (at, inr (inl z)))) = h (sym m ∙ z)
   other_long q k j m l a f g h (inr (inr (at, inr (inr z)))) = g (sym m ∙ z)
 
-  pub header_long : (q j : ℕ) → j < 128 → q ≤ e → (q ≡ e → (j ≢ 2) × (j ≢ 126)) → j ≢ 4 → j ≢ 5 → j ≢ 81 → long new (slice_index (file ∷ extensions) q) j ≡ long old (slice_index (file ∷ extensions) q) j
+  pub header_long : (q j : ℕ) → j < 128 → q ≤ e → (q ≡ e → (j ≢ 2) × (j ≢ next_extension)) → j ≢ 4 → j ≢ 5 → j ≢ size_long → long new (slice_index (file ∷ extensions) q) j ≡ long old (slice_index (file ∷ extensions) q) j
   header_long q j l m a f g h = same_long Resized old new x.rest (slice_index (file ∷ extensions) q) j l (λ k r. other_long q k j r m a f g h)
 
   -- a data block that isn't the last one, or is of FFS
@@ -121,10 +123,10 @@ module _ (old new : List ℕ) (format : Format) (file : ℕ) (blocks extensions 
       }
 
   -- the marks stay
-  pub resized_marks : (c : ℕ) → HasBit old c → is_marked_free new c ≡ is_marked_free old c
+  pub resized_marks : (c : ℕ) → HasBit old c → has_free_bit new c ≡ has_free_bit old c
   resized_marks = marks_stay Resized old new x.rest s.size_ok resized_owner
 
-  pub resized_count : marked_count new ≡ marked_count old
+  pub resized_count : free_bit_count new ≡ free_bit_count old
   resized_count = count_stays Resized old new x.rest s.size_ok resized_owner
 
   -- the pages stay where they are

@@ -1,22 +1,24 @@
 -- A file that can be changed, through the steps of a change.
 use Rattle.std.proofs.Common.{◌≡◌, ◌≢◌, ℕ, ◌<◌, ◌≤◌, ◌⊎◌, inl, inr, false, cond, eqb, List, ◌∷◌, length, slice_index, refl, sym, ap, ◌∙◌, subst, arith}
 use Rattle.std.proofs.lemmas.Bool.{false≢true}
+use Rattle.adf_block.specs.Fields.{size_long}
 use Rattle.adf_block.specs.declared.Format.{Format}
 use Rattle.adf_block.specs.declared.Format.TheVariants.{Ofs, Ffs}
-use Rattle.adf_block.specs.Image.{long, block_count, root_key, is_marked_free, marked_count, IsInside, IsSize}
+use Rattle.adf_block.specs.Image.{long, block_count, root_key, has_free_bit, free_bit_count, IsInside, IsSize}
 use Rattle.adf_block.specs.Frame.{SameBut}
 use Rattle.adf_block.proofs.Frames.{same_long, same_count}
 use Rattle.ados_map.specs.Pages.{pages_of, page_block, page_of, HasBit}
 use Rattle.ados_map.specs.Changes.{MapPlace}
 use Rattle.ados_data.specs.Cost.{data_count, extension_count}
 use Rattle.ados_data.specs.File.{HasFile, AreApart, format_of, file_byte}
-use Rattle.ados_data.specs.Changing.{IsInUse, LawfulMap, IsWritable, IsNewBlock}
+use Rattle.ados_data.specs.Changing.{IsInUse, LawfulMap, IsWritable}
+use Rattle.ados_data.specs.steps.Blocks.{IsNewBlock}
 use Rattle.ados_data.specs.File.{extension_blocks, contents}
 use Rattle.ados_data.specs.Changing.{WritableFile}
 use Rattle.ados_data.proofs.Spelled.{data_blocks_are, extension_blocks_are, contents_are}
 use Rattle.ados_data.proofs.Untouched.{Untouched}
 use Rattle.ados_data.proofs.Skeleton.{Skeleton, skeleton_of, file_of}
-use Rattle.ados_data.proofs.Steps.{untouched_holder, untouched_data, skeleton_kept}
+use Rattle.ados_data.proofs.GrowthSteps.{untouched_holder, untouched_data, skeleton_kept}
 use Rattle.ados_data.proofs.Counts.{as_many}
 use Rattle.ados_data.proofs.Marks.{has_bit, page_kept, in_use_kept, mark_kept, map_kept}
 
@@ -74,10 +76,10 @@ module _ (changed : ℕ → ℕ → Type 0) (old new : List ℕ) (h : SameBut ch
   pub pages_free : (p k : ℕ) → p < pages_of old → ¬ changed (page_block old p) k
   pages_free p k l at = (owner (page_block old p) k at).0.beside_pages p l refl
 
-  pub marks_stay : (c : ℕ) → HasBit old c → is_marked_free new c ≡ is_marked_free old c
+  pub marks_stay : (c : ℕ) → HasBit old c → has_free_bit new c ≡ has_free_bit old c
   marks_stay = mark_kept changed old new h ok.1 root_free pages_free
 
-  pub count_stays : marked_count new ≡ marked_count old
+  pub count_stays : free_bit_count new ≡ free_bit_count old
   count_stays = as_many old new (same_count changed old new h) (λ j inside. marks_stay j (has_bit old j inside))
 
   pub map_stays : LawfulMap old → LawfulMap new
@@ -96,8 +98,8 @@ module _ (old : List ℕ) (b : ℕ) (new : List ℕ) (n : IsNewBlock old b new) 
   page_within = omega (arith, n.lowest.inside.0, n.lowest.inside.1)
 
   -- a block that is marked used is another one
-  pub beside_new : (c : ℕ) → is_marked_free old c ≡ false → c ≢ b
-  beside_new c u e = false≢true (sym u ∙ ap (is_marked_free old) e ∙ n.lowest.free)
+  pub beside_new : (c : ℕ) → has_free_bit old c ≡ false → c ≢ b
+  beside_new c u e = false≢true (sym u ∙ ap (has_free_bit old) e ∙ n.lowest.free)
 
   pub untaken : (c k : ℕ) → IsInUse old c → ¬ (MapPlace old b c k ⊎ (c ≡ b))
   untaken c k u (inl p) = u.beside_pages (page_of b) page_within p.0
@@ -137,11 +139,11 @@ module _ (old : List ℕ) (b : ℕ) (new : List ℕ) (n : IsNewBlock old b new) 
   new_map = record {
     pages = n.pages;
     root_marked =
-        ap (λ (x : ℕ). is_marked_free new (root_key x)) same_blocks
+        ap (λ (x : ℕ). has_free_bit new (root_key x)) same_blocks
         ∙ n.others (root_key (block_count old)) (has_bit old (root_key (block_count old)) (omega (arith, ok.0), omega (arith, ok.0))) (beside_new (root_key (block_count old)) m.root_marked)
         ∙ m.root_marked;
     pages_marked = λ p l. let a : p < pages_of old = omega (arith, same_blocks, l) in
-        ap (is_marked_free new) (pages_same p a)
+        ap (has_free_bit new) (pages_same p a)
         ∙ n.others (page_block old p) (has_bit old (page_block old p) (m.pages.inside p a)) (beside_new (page_block old p) (m.pages_marked p a))
         ∙ m.pages_marked p a;
   }
@@ -156,7 +158,7 @@ module _ (old : List ℕ) (b : ℕ) (new : List ℕ) (n : IsNewBlock old b new) 
       size_ok = subst IsSize (sym same_blocks) ok;
       skeleton = skeleton_kept old new format file blocks extensions size s.skeleton
           (λ q l. untouched_holder old new (slice_index (file ∷ extensions) q) (untouched_new (slice_index (file ∷ extensions) q) (s.headers_used q l)))
-          (file_long 81 (omega arith)) (file_long 4 (omega arith))
+          (file_long size_long (omega arith)) (file_long 4 (omega arith))
           (λ e i l. untouched_data old new (slice_index blocks i) (untouched_new (slice_index blocks i) (s.data_used i l)));
       places = subst (λ (x : ℕ). AreApart x file blocks extensions) (sym same_blocks) s.places;
       map = new_map;

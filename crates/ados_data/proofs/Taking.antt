@@ -1,18 +1,19 @@
 -- A free block, taken and cleared.
 use Rattle.std.proofs.Common.{◌≡◌, ◌≢◌, ℕ, ◌<◌, ◌≤◌, inl, inr, List, false, sym, ap, ◌∙◌, arith}
 use Rattle.std.proofs.lemmas.Bool.{false≢true}
-use Rattle.adf_block.specs.Image.{byte_at, block_count, root_key, is_marked_free, IsSize}
+use Rattle.adf_block.specs.Image.{byte_at, block_count, root_key, has_free_bit, IsSize}
 use Rattle.adf_block.specs.Frame.{InBlock, OnlyBlock}
 use Rattle.adf_block.proofs.Frames.{same_count, other_block_sum}
 use Rattle.ados_map.specs.Pages.{LawfulPages, IsLowestFree, pages_of, page_block, page_of, HasBit}
-use Rattle.ados_map.specs.Changes.{MapPlace, Marked}
-use Rattle.ados_data.specs.Changing.{LawfulMap, IsNewBlock}
+use Rattle.ados_map.specs.Changes.{MapPlace, BitChanged}
+use Rattle.ados_data.specs.Changing.{LawfulMap}
+use Rattle.ados_data.specs.steps.Blocks.{IsNewBlock}
 use Rattle.ados_data.proofs.Marks.{has_bit, page_kept, mark_kept, lawful_pages_kept}
 use Rattle.ados_data.proofs.Counts.{one_less}
 
-module _ (old : List ℕ) (b : ℕ) (mid new : List ℕ) (ok : IsSize (block_count old)) (m : LawfulMap old) (low : IsLowestFree old b) (taken : Marked old b false mid) (pages : LawfulPages mid) (cleared : OnlyBlock b mid new) where
-  another : (c : ℕ) → is_marked_free old c ≡ false → c ≢ b
-  another c u e = false≢true (sym u ∙ ap (is_marked_free old) e ∙ low.free)
+module _ (old : List ℕ) (b : ℕ) (mid new : List ℕ) (ok : IsSize (block_count old)) (m : LawfulMap old) (low : IsLowestFree old b) (taken : BitChanged old b false mid) (pages : LawfulPages mid) (cleared : OnlyBlock b mid new) where
+  another : (c : ℕ) → has_free_bit old c ≡ false → c ≢ b
+  another c u e = false≢true (sym u ∙ ap (has_free_bit old) e ∙ low.free)
 
   within : page_of b < pages_of old
   within = omega (arith, low.inside.0, low.inside.1)
@@ -35,16 +36,16 @@ module _ (old : List ℕ) (b : ℕ) (mid new : List ℕ) (ok : IsSize (block_cou
   small : block_count mid ≤ 101602
   small = omega (arith, count_mid, ok.1)
 
-  mark_new : (c : ℕ) → HasBit mid c → is_marked_free new c ≡ is_marked_free mid c
+  mark_new : (c : ℕ) → HasBit mid c → has_free_bit new c ≡ has_free_bit mid c
   mark_new = mark_kept (InBlock b) mid new cleared small root_free page_free
 
   bit_mid : (c : ℕ) → HasBit old c → HasBit mid c
   bit_mid c h = (h.0, omega (arith, count_mid, h.1))
 
-  others : (j : ℕ) → HasBit old j → j ≢ b → is_marked_free new j ≡ is_marked_free old j
+  others : (j : ℕ) → HasBit old j → j ≢ b → has_free_bit new j ≡ has_free_bit old j
   others j h ne = mark_new j (bit_mid j h) ∙ taken.others j h ne
 
-  marked : is_marked_free new b ≡ false
+  marked : has_free_bit new b ≡ false
   marked = mark_new b (bit_mid b (has_bit old b low.inside)) ∙ taken.bit
 
   pub new_block_taken : ((k : ℕ) → k < 512 → byte_at new b k ≡ 0) → IsNewBlock old b new

@@ -2,6 +2,7 @@
 use Rattle.std.proofs.Common.{◌≡◌, ◌≢◌, ℕ, suc, ◌+◌, ◌-◌, ◌*◌, ◌/◌, ◌%◌, ◌<◌, ◌≤◌, ◌++◌, List, length, take, drop, sym, ap, ◌∙◌, subst, arith}
 use Rattle.std.proofs.lemmas.List.{drop-drop, length-drop}
 use borrow.Rule.Slice.PartMut.{put_mid}
+use Rattle.adf_block.specs.Fields.{first_pointer, next_extension}
 use Rattle.adf_block.specs.Image.{long, bytes_at, block_count}
 use Rattle.ados_data.specs.Cost.{data_size, data_start}
 use Rattle.ados_data.specs.File.{LawfulFile, format_of, pointer_block, data_block, contents}
@@ -18,21 +19,21 @@ module _ (image : List ℕ) (file : ℕ) (s : LawfulFile image file) (room : ℕ
       omega (arith, e, here, header_inside image file s (at / data_size (format_of image) / 72) (holder_of image file s (at / data_size (format_of image)) (byte_within image file s at l)))
 
   -- the data block of a byte, by its pointer
-  pub block_is : (at holder block : ℕ) → holder ≡ pointer_block image file (at / room / 72) → block ≡ long image holder (77 - at / room % 72) → block ≡ data_block image file (at / room)
-  block_is at holder block e b = b ∙ ap (λ (h : ℕ). long image h (77 - at / room % 72)) e
+  pub block_is : (at holder block : ℕ) → holder ≡ pointer_block image file (at / room / 72) → block ≡ long image holder (first_pointer - at / room % 72) → block ≡ data_block image file (at / room)
+  block_is at holder block e b = b ∙ ap (λ (h : ℕ). long image h (first_pointer - at / room % 72)) e
 
-  pub block_inside : (at holder block : ℕ) → at < length (contents image file) → holder ≡ pointer_block image file (at / room / 72) → block ≡ long image holder (77 - at / room % 72) → block < block_count image
+  pub block_inside : (at holder block : ℕ) → at < length (contents image file) → holder ≡ pointer_block image file (at / room / 72) → block ≡ long image holder (first_pointer - at / room % 72) → block < block_count image
   block_inside at holder block l e b =
       let here : data_block image file (at / room) ≡ data_block image file (at / data_size (format_of image)) = ap (λ (n : ℕ). data_block image file (at / n)) room_is in
       omega (arith, block_is at holder block e b, here, data_inside image file s (at / data_size (format_of image)) (byte_within image file s at l))
 
   -- the pointer block of the byte behind a part, on to the next one
-  pub on_to_next : (at part holder next : ℕ) → 0 < part → at % room + part ≤ room → (at + part) % (72 * room) ≡ 0 → holder ≡ pointer_block image file (at / room / 72) → next ≡ long image holder 126 → next ≡ pointer_block image file ((at + part) / room / 72)
+  pub on_to_next : (at part holder next : ℕ) → 0 < part → at % room + part ≤ room → (at + part) % (72 * room) ≡ 0 → holder ≡ pointer_block image file (at / room / 72) → next ≡ long image holder next_extension → next ≡ pointer_block image file ((at + part) / room / 72)
   on_to_next at part holder next h l z e n =
       let P : ℕ → Type 0 = λ r. at % r + part ≤ r → (at + part) % (72 * r) ≡ 0 → (at + part) / r / 72 ≡ at / r / 72 + 1 in
       let steps : (at + part) / room / 72 ≡ at / room / 72 + 1 = subst P (sym room_is) (next_holder (format_of image) at part h) l z in
       let one : at / room / 72 + 1 ≡ suc (at / room / 72) = omega arith in
-      n ∙ ap (λ (b : ℕ). long image b 126) e ∙ ap (pointer_block image file) (sym (steps ∙ one))
+      n ∙ ap (λ (b : ℕ). long image b next_extension) e ∙ ap (pointer_block image file) (sym (steps ∙ one))
 
   -- or the same one
   pub on_in_same : (at part holder : ℕ) → at % room + part ≤ room → (at + part) % (72 * room) ≢ 0 → holder ≡ pointer_block image file (at / room / 72) → holder ≡ pointer_block image file ((at + part) / room / 72)

@@ -3,14 +3,14 @@ use Rattle.std.proofs.Common.{◌≡◌, ℕ, suc, ◌+◌, ◌-◌, ◌/◌, �
 use Rattle.std.proofs.lemmas.Bool.{cases_lt, cases_eq}
 use Rattle.adf_block.specs.declared.Format.{Format}
 use Rattle.adf_block.specs.declared.Format.TheVariants.{Ofs, Ffs}
-use Rattle.adf_block.specs.Fields.{pointer_count, file_size}
+use Rattle.adf_block.specs.Fields.{pointer_count, file_size, pointer_count_long, size_long, next_extension, next_data}
 use Rattle.adf_block.specs.Frame.{SameBut}
 use Rattle.adf_block.proofs.Frames.{same_long, same_trans, same_weaken}
 use Rattle.ados_data.specs.Cost.{data_size, data_start}
-use Rattle.ados_data.specs.Edits.{AtData, AtFields}
+use Rattle.ados_data.specs.steps.Edits.{AtData, AtFields}
 use Rattle.ados_data.specs.File.{format_of}
-use Rattle.ados_data.specs.Changing.{IsResized, AtEnd}
-use Rattle.ados_data.specs.Keeping.{IsPointerField, data_end, IsBeside, KeepsUnnamed}
+use Rattle.ados_data.specs.steps.Blocks.{IsResized, AtEnd}
+use Rattle.ados_data.specs.Unnamed.{IsPointerField, data_end, IsBeside, KeepsUnnamed}
 use Rattle.ados_data.proofs.Standing.{Standing}
 use Rattle.ados_data.proofs.Grown.{keeps_within}
 
@@ -63,7 +63,7 @@ module _ (old : List ℕ) (format : Format) (file : ℕ) (blocks extensions : Li
   module _ (mid new : List ℕ) (size' : ℕ) (some : 0 < length blocks) (h : SameBut (AtData format (slice_index blocks i) low high) old mid)
       (y : IsResized mid format file (slice_index (file ∷ extensions) (length extensions)) (slice_index blocks (length blocks - 1)) (length blocks) size' new) (reached : high ≤ data_end format size' i) where
     abbrev Resized : ℕ → ℕ → Type 0
-    Resized c k = AtEnd format (length blocks) (slice_index blocks (length blocks - 1)) c k ⊎ (AtFields (slice_index (file ∷ extensions) (length extensions)) 2 126 c k ⊎ AtFields file 4 81 c k)
+    Resized c k = AtEnd format (length blocks) (slice_index blocks (length blocks - 1)) c k ⊎ (AtFields (slice_index (file ∷ extensions) (length extensions)) pointer_count_long next_extension c k ⊎ AtFields file next_data size_long c k)
 
     abbrev Changed : ℕ → ℕ → Type 0
     Changed c k = Put c k ⊎ Resized c k
@@ -77,7 +77,7 @@ module _ (old : List ℕ) (format : Format) (file : ℕ) (blocks extensions : Li
     beside c k o (inr (inr (inl at))) = o.beside_headers (length extensions) (omega arith) at.0
     beside c k o (inr (inr (inr at))) = o.beside_headers 0 (omega arith) at.0
 
-    in_header : (q k : ℕ) → q ≤ length extensions → Changed (slice_index (file ∷ extensions) q) k → IsPointerField (pointer_count new (slice_index (file ∷ extensions) q)) (k / 4) ⊎ ((slice_index (file ∷ extensions) q ≡ file) × ((k / 4 ≡ 4) ⊎ (k / 4 ≡ 81)))
+    in_header : (q k : ℕ) → q ≤ length extensions → Changed (slice_index (file ∷ extensions) q) k → IsPointerField (pointer_count new (slice_index (file ∷ extensions) q)) (k / 4) ⊎ ((slice_index (file ∷ extensions) q ≡ file) × ((k / 4 ≡ 4) ⊎ (k / 4 ≡ size_long)))
     in_header q k l (inl at) = absurd (header_beside q k l at)
     in_header q k l (inr (inl at)) = absurd (s.places.apart q (length blocks - 1) l (omega (arith, some)) at.2.0)
     in_header q k l (inr (inr (inl (at, inl z)))) = inl (inl z)

@@ -5,16 +5,13 @@ use Rattle.adf_block.specs.declared.Format.{Format}
 use Rattle.adf_block.specs.declared.Format.TheVariants.{Ofs, Ffs}
 use Rattle.adf_block.specs.Image.{byte_at, long, block_sum, block_count, IsInside}
 use Rattle.adf_block.specs.Chained.{Chained}
-use Rattle.adf_block.specs.Fields.{primary_type, own_key, pointer_count, sequence_number, held_count, next_data, pointer, file_size, parent_key, next_extension, secondary_type, file_type}
+use Rattle.adf_block.specs.Fields.{primary_type, own_key, pointer_count, sequence_number, held_count, next_data, pointer, file_size, parent_key, next_extension, secondary_type, file_type, data_type, list_type, table_longs, ofs_room}
+pub use Rattle.adf_block.specs.Kind.{format_of}
 use Rattle.ados_data.specs.Cost.{data_size, data_start, data_count, extension_count}
-
--- how data blocks are laid out, by the last of the four bytes of the volume's kind
-abbrev pub format_of : List ℕ → Format
-format_of image = if byte_at image 0 3 == 0 then Ofs else Ffs
 
 -- the fields of an extension block of a file
 pub record HasExtension (image : List ℕ) (file block : ℕ) : Type 0 where
-  pub primary : primary_type image block ≡ 16
+  pub primary : primary_type image block ≡ list_type
   pub key_field : own_key image block ≡ block
   pub sum : block_sum image block ≡ 0
   pub parent : parent_key image block ≡ file
@@ -22,10 +19,10 @@ pub record HasExtension (image : List ℕ) (file block : ℕ) : Type 0 where
 
 -- the fields of an OFS data block, the one at place i of a file
 pub record HasOfsData (image : List ℕ) (file size i block : ℕ) : Type 0 where
-  pub primary : primary_type image block ≡ 8
+  pub primary : primary_type image block ≡ data_type
   pub header : own_key image block ≡ file
   pub sequence : sequence_number image block ≡ i + 1
-  pub held : held_count image block ≡ min 488 (size - 488 * i)
+  pub held : held_count image block ≡ min ofs_room (size - ofs_room * i)
   pub sum : block_sum image block ≡ 0
 
 -- byte k of a file of these data blocks, each of which holds as many bytes as fit
@@ -37,8 +34,8 @@ pub record HasFile (image : List ℕ) (format : Format) (file : ℕ) (blocks ext
   pub size : file_size image file ≡ length bytes
   pub chain : Chained image next_extension (long image file next_extension) extensions
   pub extension : (i : ℕ) → i < length extensions → HasExtension image file (slice_index extensions i)
-  pub counts : (i : ℕ) → i ≤ length extensions → pointer_count image (slice_index (file ∷ extensions) i) ≡ min 72 (length blocks - 72 * i)
-  pub pointers : (i : ℕ) → i < length blocks → pointer image (slice_index (file ∷ extensions) (i / 72)) (i % 72) ≡ slice_index blocks i
+  pub counts : (i : ℕ) → i ≤ length extensions → pointer_count image (slice_index (file ∷ extensions) i) ≡ min table_longs (length blocks - table_longs * i)
+  pub pointers : (i : ℕ) → i < length blocks → pointer image (slice_index (file ∷ extensions) (i / table_longs)) (i % table_longs) ≡ slice_index blocks i
   pub contents : (k : ℕ) → k < length bytes → slice_index bytes k ≡ file_byte format image blocks k
   pub ofs_chain : format ≡ Ofs → Chained image next_data (long image file next_data) blocks
   pub ofs_data : format ≡ Ofs → (i : ℕ) → i < length blocks → HasOfsData image file (length bytes) i (slice_index blocks i)
@@ -65,7 +62,7 @@ pointer_block image file (suc q) = long image (pointer_block image file q) next_
 
 -- data block i of a file, by the pointers
 abbrev pub data_block : List ℕ → ℕ → ℕ → ℕ
-data_block image file i = pointer image (pointer_block image file (i / 72)) (i % 72)
+data_block image file i = pointer image (pointer_block image file (i / table_longs)) (i % table_longs)
 
 -- the data blocks of a file, as many as its size needs
 unfoldable pub data_blocks : List ℕ → ℕ → List ℕ
@@ -73,7 +70,8 @@ data_blocks image file = map (data_block image file) (range_with_len 0 (data_cou
 
 -- the extension blocks of a file, as many as its data blocks need
 unfoldable pub extension_blocks : List ℕ → ℕ → List ℕ
-extension_blocks image file = map (λ q. pointer_block image file (q + 1)) (range_with_len 0 (extension_count (data_count (format_of image) (file_size image file))))
+extension_blocks image file =
+    map (λ q. pointer_block image file (q + 1)) (range_with_len 0 (extension_count (data_count (format_of image) (file_size image file))))
 
 -- the bytes of a file
 unfoldable pub contents : List ℕ → ℕ → List ℕ

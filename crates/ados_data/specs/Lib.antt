@@ -1,8 +1,8 @@
+-- Files as lists of bytes: the blocks that a size takes, the file in these blocks, when it can be changed, and what a change keeps.
 pub mod Cost
 pub mod File
-pub mod Edits
 pub mod Changing
-pub mod Ends
-pub mod Giving
 pub mod Others
-pub mod Keeping
+pub mod Unnamed
+pub mod Cut
+pub mod steps

@@ -1,12 +1,13 @@
 //! A new block put behind the last one of a file.
 
 ghost use Rattle.std.specs.Prelude.{◌≡◌, ◌≢◌, ◌<◌, ◌≤◌, ◌-◌, ◌*◌, ◌+◌, ◌^◌, ◌%◌, ℕ};
+ghost use Rattle.adf_block.specs.Fields.{next_data};
 ghost use Rattle.adf_block.specs.Image.{block_count, block_sum, byte_at, long};
 ghost use Rattle.adf_block.specs.Frame.{SameBut};
-ghost use Rattle.ados_data.specs.Changing.{AtLink, IsExtended, IsLengthened};
+ghost use Rattle.ados_data.specs.steps.Blocks.{AtLink, IsExtended, IsLengthened};
 
 use crate::edit::{make_data, make_extension, set_field, set_fields};
-use crate::fields::{FIRST_POINTER, NEXT_EXTENSION};
+use adf_block::layout::{FIRST_POINTER, NEXT_DATA, NEXT_EXTENSION, POINTER_COUNT, TABLE_LONGS};
 use adf_block::{Format, Image};
 
 /// Makes the empty block `e` an extension block, behind `holder`, the last pointer block of a file.
@@ -47,23 +48,27 @@ pub fn attach_data(
     set_fields(
         image,
         holder,
-        FIRST_POINTER - count % 72,
+        FIRST_POINTER - count % TABLE_LONGS,
         b,
-        2,
-        count % 72 + 1,
+        POINTER_COUNT,
+        count % TABLE_LONGS + 1,
     );
-    let first = if count == 0 { b } else { image.long(file, 4) };
-    set_field(image, file, 4, first);
+    let first = if count == 0 {
+        b
+    } else {
+        image.long(file, NEXT_DATA)
+    };
+    set_field(image, file, NEXT_DATA, first);
 }
 
 /// Names `b` as the data block behind `last`; FFS blocks don't.
 fn link_data(image: &mut Image, format: Format, last: u32, count: u32, b: u32)
     requires last { 0 < count → last < block_count image.old }
-    ensures link { format ≡ Format.Ofs → 0 < count → long image.new last 4 ≡ b }
+    ensures link { format ≡ Format.Ofs → 0 < count → long image.new last next_data ≡ b }
     ensures sum { format ≡ Format.Ofs → 0 < count → block_sum image.new last ≡ 0 }
     ensures rest { SameBut (AtLink format count last) image.old image.new }
 {
     if format == Format::Ofs && count > 0 {
-        set_field(image, last, 4, b);
+        set_field(image, last, NEXT_DATA, b);
     }
 }

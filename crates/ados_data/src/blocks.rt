@@ -1,25 +1,27 @@
 //! Blocks that a file gets.
 
 ghost use Rattle.std.specs.Prelude.{◌≡◌, ◌<◌, ◌%◌, false};
-ghost use Rattle.adf_block.specs.Image.{IsInside, block_count, is_marked_free, marked_count};
-ghost use Rattle.ados_data.specs.Changing.{HasRoom, IsNewBlock, LawfulMap};
+ghost use Rattle.adf_block.specs.Fields.{table_longs};
+ghost use Rattle.adf_block.specs.Image.{IsInside, block_count, has_free_bit, free_bit_count};
+ghost use Rattle.ados_data.specs.Changing.{LawfulMap};
+ghost use Rattle.ados_data.specs.steps.Blocks.{HasPointerRoom, IsNewBlock};
 
 use crate::attach::attach_extension;
-use crate::put::clear;
 use adf_block::Image;
+use adf_block::layout::{MOST_BLOCKS, TABLE_LONGS};
 use ados_map::take_first;
 
 /// Takes the lowest free block and fills it with zeros.
 pub fn new_block(image: &mut Image) -> u32
     requires map { LawfulMap image.old }
-    requires free { 0 < marked_count image.old }
+    requires free { 0 < free_bit_count image.old }
     ensures { IsNewBlock image.old result image.new }
 {
-    prove!(image.blocks() <= 101_602);
+    prove!(image.blocks() <= MOST_BLOCKS);
     let Some(block) = take_first(image) else {
         unreachable!()
     };
-    clear(image, block);
+    image.clear(block);
     block
 }
 
@@ -28,11 +30,11 @@ pub fn new_block(image: &mut Image) -> u32
 pub fn pointer_room(image: &mut Image, file: u32, holder: u32, count: u32) -> u32
     requires map { LawfulMap image.old }
     requires inside { IsInside (block_count image.old) holder }
-    requires used { is_marked_free image.old holder ≡ false }
-    requires free { 0 < count → count % 72 ≡ 0 → 0 < marked_count image.old }
-    ensures { HasRoom image.old file holder count result image.new }
+    requires used { has_free_bit image.old holder ≡ false }
+    requires free { 0 < count → count % table_longs ≡ 0 → 0 < free_bit_count image.old }
+    ensures { HasPointerRoom image.old file holder count result image.new }
 {
-    if count == 0 || count % 72 != 0 {
+    if count == 0 || count % TABLE_LONGS != 0 {
         return holder;
     }
     let extension = new_block(image);

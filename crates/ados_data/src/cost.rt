@@ -1,20 +1,18 @@
-// How many blocks a file takes.
+//! How many blocks a file takes.
 
 ghost use Rattle.std.specs.Prelude.{◌≡◌};
 ghost use Rattle.ados_data.specs.Cost.{data_size, data_start, block_cost, data_count, extension_count};
 
 use adf_block::Format;
-
-/// The data pointers that a file header or extension block has room for.
-const POINTERS: u64 = 72;
+use adf_block::layout::{FFS_ROOM, OFS_DATA_BYTE, OFS_ROOM, TABLE_LONGS};
 
 /// The bytes of a file that one data block holds.
 pub fn data_size(format: Format) -> usize
     ensures { result ≡ data_size format }
 {
     match format {
-        Format::Ofs => 488,
-        Format::Ffs => 512,
+        Format::Ofs => OFS_ROOM as usize,
+        Format::Ffs => FFS_ROOM as usize,
     }
 }
 
@@ -23,7 +21,7 @@ pub fn data_start(format: Format) -> usize
     ensures { result ≡ data_start format }
 {
     match format {
-        Format::Ofs => 24,
+        Format::Ofs => OFS_DATA_BYTE as usize,
         Format::Ffs => 0,
     }
 }
@@ -39,7 +37,7 @@ pub fn data_count(format: Format, size: u64) -> u64
 pub fn extension_count(count: u64) -> u64
     ensures { result ≡ extension_count count }
 {
-    count.div_ceil(POINTERS).saturating_sub(1)
+    count.div_ceil(TABLE_LONGS as u64).saturating_sub(1)
 }
 
 /// The data and extension blocks of a file of so many bytes; its header isn't among them.

@@ -3,23 +3,23 @@
 ghost use Rattle.std.specs.Prelude.{◌≡◌, ◌≢◌, ℕ, ◌<◌, ◌+◌, ◌^◌, ◌⊎◌};
 ghost use Rattle.adf_block.specs.Image.{block_count, block_sum, byte_at, long};
 ghost use Rattle.adf_block.specs.Frame.{SameBut, OnlyBlock};
-ghost use Rattle.adf_block.specs.Fields.{primary_type, own_key, sequence_number};
+ghost use Rattle.adf_block.specs.Fields.{primary_type, own_key, sequence_number, held_count, sum_long, next_data};
 ghost use Rattle.ados_data.specs.File.{HasExtension};
-ghost use Rattle.ados_data.specs.Edits.{AtField, AtFields, AtExtensionFields, AtDataFields};
+ghost use Rattle.ados_data.specs.steps.Edits.{AtField, AtFields, AtExtensionFields, AtDataFields};
 
+use adf_block::layout::{
+    DATA_TYPE, FILE_TYPE, LIST_TYPE, OWN_KEY, PARENT, PRIMARY_TYPE, SECONDARY_TYPE, SEQUENCE, SUM,
+};
 use adf_block::{Format, Image};
-
-/// The long of the sum in every block but a bitmap page.
-pub const SUM: u32 = 5;
 
 /// Sets long `i` of block `b`.
 pub fn set_field(image: &mut Image, b: u32, i: u32, v: u32)
     requires block { b < block_count image.old }
     requires place { i < 128 }
-    requires not_sum { i ≢ 5 }
+    requires not_sum { i ≢ sum_long }
     ensures set { long image.new b i ≡ v }
     ensures sum { block_sum image.new b ≡ 0 }
-    ensures others { (c j : ℕ) → j < 128 → (c ≢ b) ⊎ ((j ≢ i) × (j ≢ 5)) → long image.new c j ≡ long image.old c j }
+    ensures others { (c j : ℕ) → j < 128 → (c ≢ b) ⊎ ((j ≢ i) × (j ≢ sum_long)) → long image.new c j ≡ long image.old c j }
     ensures rest { SameBut (AtField b i) image.old image.new }
 {
     image.set_long(b, i, v);
@@ -32,8 +32,8 @@ pub fn set_fields(image: &mut Image, b: u32, i: u32, v: u32, j: u32, w: u32)
     requires place { i < 128 }
     requires other_place { j < 128 }
     requires apart { i ≢ j }
-    requires not_sum { i ≢ 5 }
-    requires other_not_sum { j ≢ 5 }
+    requires not_sum { i ≢ sum_long }
+    requires other_not_sum { j ≢ sum_long }
     ensures set { long image.new b i ≡ v }
     ensures other_set { long image.new b j ≡ w }
     ensures sum { block_sum image.new b ≡ 0 }
@@ -49,10 +49,10 @@ pub fn make_extension(image: &mut Image, b: u32, file: u32)
     ensures fields { HasExtension image.new file b }
     ensures rest { SameBut (AtExtensionFields b) image.old image.new }
 {
-    image.set_long(b, 0, 16);
-    image.set_long(b, 1, b);
-    image.set_long(b, 125, file);
-    set_field(image, b, 127, 0xffff_fffd);
+    image.set_long(b, PRIMARY_TYPE, LIST_TYPE);
+    image.set_long(b, OWN_KEY, b);
+    image.set_long(b, PARENT, file);
+    set_field(image, b, SECONDARY_TYPE, FILE_TYPE);
 }
 
 /// Makes block `b`, which is empty, a data block of a file, the one with this sequence number. It holds
@@ -62,14 +62,14 @@ pub fn make_data(image: &mut Image, format: Format, b: u32, file: u32, sequence:
     ensures primary { format ≡ Format.Ofs → primary_type image.new b ≡ 8 }
     ensures header { format ≡ Format.Ofs → own_key image.new b ≡ file }
     ensures sequence { format ≡ Format.Ofs → sequence_number image.new b ≡ sequence }
-    ensures held { long image.new b 3 ≡ long image.old b 3 }
-    ensures next { long image.new b 4 ≡ long image.old b 4 }
+    ensures held { held_count image.new b ≡ held_count image.old b }
+    ensures next { long image.new b next_data ≡ long image.old b next_data }
     ensures sum { format ≡ Format.Ofs → block_sum image.new b ≡ 0 }
     ensures rest { SameBut (AtDataFields format b) image.old image.new }
 {
     if format == Format::Ofs {
-        image.set_long(b, 0, 8);
-        image.set_long(b, 1, file);
-        set_field(image, b, 2, sequence);
+        image.set_long(b, PRIMARY_TYPE, DATA_TYPE);
+        image.set_long(b, OWN_KEY, file);
+        set_field(image, b, SEQUENCE, sequence);
     }
 }

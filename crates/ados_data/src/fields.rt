@@ -1,30 +1,20 @@
 //! The longs that lead through a file.
 
 ghost use Rattle.std.specs.Prelude.{◌≡◌, ◌<◌, ◌≤◌, ◌-◌, ◌%◌, length};
+ghost use Rattle.adf_block.specs.Fields.{table_longs, first_pointer};
 ghost use Rattle.adf_block.specs.Image.{block_count, bytes_at, long};
 ghost use Rattle.ados_data.specs.Cost.{data_size, data_start};
 ghost use Rattle.ados_data.specs.File.{LawfulFile, format_of, pointer_block, extension_blocks};
 
 use crate::cost::data_start;
+use adf_block::layout::{FIRST_POINTER, NEXT_EXTENSION, TABLE_LONGS};
 use adf_block::{Format, Image};
-
-/// The long of the first data pointer; the others stand below it.
-pub const FIRST_POINTER: u32 = 77;
-/// The long of a file's size in bytes.
-pub const SIZE: u32 = 81;
-/// The long of the first or next extension block.
-pub const NEXT_EXTENSION: u32 = 126;
 
 /// How the volume's data blocks are laid out.
 pub fn format_of(image: &Image) -> Format
     ensures { result ≡ format_of image.now }
 {
-    prove!(image.blocks() >= 16);
-    if image.byte(0, 3) == 0 {
-        Format::Ofs
-    } else {
-        Format::Ffs
-    }
+    image.format()
 }
 
 /// The pointer block behind `q` others: 0 is the header.
@@ -43,9 +33,9 @@ pub fn pointer_block(image: &Image, file: u32, q: u64) -> u32
 /// The data block of pointer `i` of a file, by the pointer block that holds it.
 pub fn data_block(image: &Image, holder: u32, i: u64) -> u32
     requires { holder < block_count image.now }
-    ensures { result ≡ long image.now holder (77 - i % 72) }
+    ensures { result ≡ long image.now holder (first_pointer - i % table_longs) }
 {
-    image.long(holder, FIRST_POINTER - (i % 72) as u32)
+    image.long(holder, FIRST_POINTER - (i % TABLE_LONGS as u64) as u32)
 }
 
 /// The data of a data block, in OFS behind its header.

@@ -1,21 +1,26 @@
 //! A file that becomes longer.
 
 ghost use Rattle.std.specs.Prelude.{◌≡◌, ◌<◌, ◌≤◌, ◌+◌, ◌-◌, ◌*◌, ◌/◌, ◌^◌, ◌++◌, length, replicate, take};
-ghost use Rattle.adf_block.specs.Image.{marked_count};
-ghost use Rattle.ados_data.specs.Cost.{block_cost, data_size};
+ghost use Rattle.adf_block.specs.Fields.{table_longs};
+ghost use Rattle.adf_block.specs.Image.{free_bit_count};
+ghost use Rattle.ados_data.specs.Cost.{data_size};
 ghost use Rattle.ados_data.specs.File.{LawfulFile, contents, data_blocks, extension_blocks, format_of};
-ghost use Rattle.ados_data.specs.Changing.{HasFree, WritableFile};
-ghost use Rattle.ados_data.specs.Ends.{IsEnd};
-ghost use Rattle.ados_data.specs.Others.{Gains, LeavesOthers};
-ghost use Rattle.ados_data.specs.Keeping.{KeepsUnnamed};
+ghost use Rattle.ados_data.specs.Changing.{HasFree, PaysFor, WritableFile};
+ghost use Rattle.ados_data.specs.steps.FileEnd.{IsEnd};
+ghost use Rattle.ados_data.specs.Others.{FileGains, LeavesOthers};
+ghost use Rattle.ados_data.specs.Unnamed.{FileKeepsUnnamed};
 
 use crate::attach::attach_data;
 use crate::blocks::{new_block, pointer_room};
 use crate::cost::{data_count, data_size, extension_count};
-use crate::fields::{SIZE, data_block, format_of, pointer_block};
+use crate::fields::{data_block, pointer_block};
 use crate::put::put_data;
 use crate::resize::resize;
+use adf_block::layout::{FFS_ROOM, MOST_BLOCKS, SIZE};
 use adf_block::{Format, Image};
+
+/// The most bytes that a data block has room for.
+const ROOM: usize = FFS_ROOM as usize;
 
 /// The end of a file.
 #[derive(Clone, Copy)]
@@ -62,14 +67,14 @@ fn fill_last(image: &mut Image, format: Format, file: u32, end: End, size: u32) 
     ensures over { length (contents image.old file) ≤ result }
     ensures full { result < size → result ≡ data_size format * end.count }
     ensures bytes { contents image.new file ≡ contents image.old file ++ replicate (result - length (contents image.old file)) 0 }
-    ensures free { marked_count image.new ≡ marked_count image.old }
+    ensures free { free_bit_count image.new ≡ free_bit_count image.old }
     ensures leaves { LeavesOthers image.old file image.new }
-    ensures gains { Gains image.old file (data_blocks image.old file) (extension_blocks image.old file) image.new (data_blocks image.new file) (extension_blocks image.new file) }
+    ensures gains { FileGains image.old file image.new }
     ensures blocks { data_blocks image.new file ≡ data_blocks image.old file }
     ensures extensions { extension_blocks image.new file ≡ extension_blocks image.old file }
-    ensures keeps { KeepsUnnamed image.old file (data_blocks image.old file) (extension_blocks image.old file) image.new (data_blocks image.new file) (extension_blocks image.new file) }
+    ensures keeps { FileKeepsUnnamed image.old file image.new }
 {
-    prove!(image.blocks() <= 101_602);
+    prove!(image.blocks() <= MOST_BLOCKS);
     let room = data_size(format);
     let old = image.long(file, SIZE);
     let from = old as usize % room;
@@ -77,7 +82,7 @@ fn fill_last(image: &mut Image, format: Format, file: u32, end: End, size: u32) 
         return old;
     }
     let part = (room - from).min((size - old) as usize);
-    let zeros = [0; 512];
+    let zeros = [0; ROOM];
     put_data(image, format, end.last, from, &zeros[..part]);
     let reached = old + part as u32;
     resize(
@@ -95,20 +100,20 @@ fn append(image: &mut Image, format: Format, file: u32, end: End, size: u32) -> 
     requires full { length (contents image.old file) ≡ data_size format * end.count }
     requires over { data_size format * end.count < size }
     requires within { size ≤ data_size format * (end.count + 1) }
-    requires free { end.count / 72 - (end.count - 1) / 72 < marked_count image.old }
+    requires free { end.count / table_longs - (end.count - 1) / table_longs < free_bit_count image.old }
     ensures writable { WritableFile image.new file }
     ensures format { format_of image.new ≡ format }
     ensures end { IsEnd image.new file result }
     ensures count { result.count ≡ end.count + 1 }
     ensures bytes { contents image.new file ≡ contents image.old file ++ replicate (size - length (contents image.old file)) 0 }
-    ensures free { marked_count image.new + 1 + (end.count / 72 - (end.count - 1) / 72) ≡ marked_count image.old }
+    ensures free { free_bit_count image.new + 1 + (end.count / table_longs - (end.count - 1) / table_longs) ≡ free_bit_count image.old }
     ensures leaves { LeavesOthers image.old file image.new }
-    ensures gains { Gains image.old file (data_blocks image.old file) (extension_blocks image.old file) image.new (data_blocks image.new file) (extension_blocks image.new file) }
+    ensures gains { FileGains image.old file image.new }
     ensures blocks { take (length (data_blocks image.old file)) (data_blocks image.new file) ≡ data_blocks image.old file }
     ensures extensions { take (length (extension_blocks image.old file)) (extension_blocks image.new file) ≡ extension_blocks image.old file }
-    ensures keeps { KeepsUnnamed image.old file (data_blocks image.old file) (extension_blocks image.old file) image.new (data_blocks image.new file) (extension_blocks image.new file) }
+    ensures keeps { FileKeepsUnnamed image.old file image.new }
 {
-    prove!(image.blocks() <= 101_602);
+    prove!(image.blocks() <= MOST_BLOCKS);
     let holder = pointer_room(image, file, end.holder, end.count);
     let last = new_block(image);
     attach_data(image, format, file, holder, end.last, end.count, last);
@@ -131,15 +136,15 @@ pub fn extend(image: &mut Image, file: u32, size: u32)
     ensures writable { WritableFile image.new file }
     ensures format { format_of image.new ≡ format_of image.old }
     ensures bytes { contents image.new file ≡ contents image.old file ++ replicate (size - length (contents image.old file)) 0 }
-    ensures free { marked_count image.new + block_cost (format_of image.old) size ≡ marked_count image.old + block_cost (format_of image.old) (length (contents image.old file)) }
+    ensures free { PaysFor image.old file size image.new }
     ensures leaves { LeavesOthers image.old file image.new }
-    ensures gains { Gains image.old file (data_blocks image.old file) (extension_blocks image.old file) image.new (data_blocks image.new file) (extension_blocks image.new file) }
+    ensures gains { FileGains image.old file image.new }
     ensures blocks { take (length (data_blocks image.old file)) (data_blocks image.new file) ≡ data_blocks image.old file }
     ensures extensions { take (length (extension_blocks image.old file)) (extension_blocks image.new file) ≡ extension_blocks image.old file }
-    ensures keeps { KeepsUnnamed image.old file (data_blocks image.old file) (extension_blocks image.old file) image.new (data_blocks image.new file) (extension_blocks image.new file) }
+    ensures keeps { FileKeepsUnnamed image.old file image.new }
 {
-    prove!(image.blocks() <= 101_602);
-    let format = format_of(image);
+    prove!(image.blocks() <= MOST_BLOCKS);
+    let format = image.format();
     let room = data_size(format) as u64;
     let mut end = end_of(image, format, file);
     let mut reached = fill_last(image, format, file, end, size);

@@ -19,6 +19,3 @@ pub use grow::extend;
 pub use read::read_at;
 pub use shorten::cut;
 pub use write::write_at;
-
-#[cfg(test)]
-mod tests;

@@ -4,8 +4,9 @@ ghost use Rattle.std.specs.Prelude.{◌≡◌, ◌++◌, ◌-◌, min, take, dro
 ghost use Rattle.ados_data.specs.File.{LawfulFile, contents};
 
 use crate::cost::data_size;
-use crate::fields::{NEXT_EXTENSION, SIZE, data_block, data_in, format_of, pointer_block};
+use crate::fields::{data_block, data_in, pointer_block};
 use adf_block::Image;
+use adf_block::layout::{NEXT_EXTENSION, SIZE, TABLE_LONGS};
 
 /// Copies the bytes of a file from byte `pos` on into the buffer, as many as are there and fit, and
 /// answers how many these are. The rest of the buffer stays.
@@ -14,14 +15,14 @@ pub fn read_at(image: &Image, file: u32, pos: u64, buffer: &mut [u8]) -> usize
     ensures count { result ≡ min (length buffer.old) (length (contents image.now file) - pos) }
     ensures bytes { buffer.new ≡ take result (drop pos (contents image.now file)) ++ drop result buffer.old }
 {
-    let format = format_of(image);
+    let format = image.format();
     let room = data_size(format);
     let size = image.long(file, SIZE) as u64;
     if size <= pos {
         return 0;
     }
     let count = buffer.len().min((size - pos) as usize);
-    let mut holder = pointer_block(image, file, pos / room as u64 / 72);
+    let mut holder = pointer_block(image, file, pos / room as u64 / TABLE_LONGS as u64);
     let mut done = 0;
     while done < count {
         let at = pos + done as u64;
@@ -31,7 +32,7 @@ pub fn read_at(image: &Image, file: u32, pos: u64, buffer: &mut [u8]) -> usize
         let found = data_in(image, format, data_block(image, holder, i));
         buffer[done..done + part].copy_from_slice(&found[from..from + part]);
         done += part;
-        if (at + part as u64) % (72 * room as u64) == 0 {
+        if (at + part as u64) % (TABLE_LONGS as u64 * room as u64) == 0 {
             holder = image.long(holder, NEXT_EXTENSION);
         }
     }

@@ -2,11 +2,14 @@
 
 ghost use Rattle.std.specs.Prelude.{◌≡◌, ◌≢◌, ◌<◌, ◌≤◌, ◌-◌, ◌*◌, ◌+◌, ◌^◌};
 ghost use Rattle.adf_block.specs.Image.{block_count, block_sum, long};
+ghost use Rattle.adf_block.specs.Fields.{held_count, next_data, ofs_room};
 ghost use Rattle.adf_block.specs.Frame.{SameBut};
-ghost use Rattle.ados_data.specs.Changing.{AtEnd, IsResized};
+ghost use Rattle.ados_data.specs.steps.Blocks.{AtEnd, IsResized};
 
 use crate::edit::set_fields;
-use crate::fields::{NEXT_EXTENSION, SIZE};
+use adf_block::layout::{
+    HELD, NEXT_DATA, NEXT_EXTENSION, OFS_ROOM, POINTER_COUNT, SIZE, TABLE_LONGS,
+};
 use adf_block::{Format, Image};
 
 /// Gives a file this size and so many data blocks. The last of these is `last`, and its pointer stands in
@@ -24,26 +27,37 @@ pub fn resize(
     requires holder { holder < block_count image.old }
     requires last { 0 < count → last < block_count image.old }
     requires apart { 0 < count → (last ≢ holder) × (last ≢ file) }
-    requires size { 488 * (count - 1) ≤ size }
+    requires size { ofs_room * (count - 1) ≤ size }
     ensures { IsResized image.old format file holder last count size image.new }
 {
     end_data(image, format, last, count, size);
-    let pointers = count - 72 * (count.saturating_sub(1) / 72);
-    set_fields(image, holder, 2, pointers, NEXT_EXTENSION, 0);
-    let first = if count == 0 { 0 } else { image.long(file, 4) };
-    set_fields(image, file, 4, first, SIZE, size);
+    let pointers = count - TABLE_LONGS * (count.saturating_sub(1) / TABLE_LONGS);
+    set_fields(image, holder, POINTER_COUNT, pointers, NEXT_EXTENSION, 0);
+    let first = if count == 0 {
+        0
+    } else {
+        image.long(file, NEXT_DATA)
+    };
+    set_fields(image, file, NEXT_DATA, first, SIZE, size);
 }
 
 /// Makes `last` the last data block of a file of this size; FFS blocks don't say so.
 fn end_data(image: &mut Image, format: Format, last: u32, count: u32, size: u32)
     requires last { 0 < count → last < block_count image.old }
-    requires size { 488 * (count - 1) ≤ size }
-    ensures held { format ≡ Format.Ofs → 0 < count → long image.new last 3 ≡ size - 488 * (count - 1) }
-    ensures next { format ≡ Format.Ofs → 0 < count → long image.new last 4 ≡ 0 }
+    requires size { ofs_room * (count - 1) ≤ size }
+    ensures held { format ≡ Format.Ofs → 0 < count → held_count image.new last ≡ size - ofs_room * (count - 1) }
+    ensures next { format ≡ Format.Ofs → 0 < count → long image.new last next_data ≡ 0 }
     ensures sum { format ≡ Format.Ofs → 0 < count → block_sum image.new last ≡ 0 }
     ensures rest { SameBut (AtEnd format count last) image.old image.new }
 {
     if format == Format::Ofs && count > 0 {
-        set_fields(image, last, 3, size - 488 * (count - 1), 4, 0);
+        set_fields(
+            image,
+            last,
+            HELD,
+            size - OFS_ROOM * (count - 1),
+            NEXT_DATA,
+            0,
+        );
     }
 }

@@ -1,19 +1,22 @@
 //! A file that becomes shorter.
 
 ghost use Rattle.std.specs.Prelude.{◌≡◌, ℕ, true, slice_index, ◌<◌, ◌≤◌, ◌+◌, ◌-◌, ◌%◌, length, take};
-ghost use Rattle.adf_block.specs.Image.{IsInside, is_marked_free, block_count, byte_at, long, marked_count};
+ghost use Rattle.adf_block.specs.Fields.{table_longs, ofs_data_byte};
+ghost use Rattle.adf_block.specs.Image.{IsInside, has_free_bit, block_count, byte_at, long, free_bit_count};
 ghost use Rattle.ados_map.specs.Pages.{LawfulPages};
 ghost use Rattle.ados_data.specs.Cost.{block_cost, data_count, extension_count};
 ghost use Rattle.ados_data.specs.File.{contents, data_blocks, extension_blocks, format_of};
-ghost use Rattle.ados_data.specs.Changing.{WritableFile};
+ghost use Rattle.ados_data.specs.Cut.{FreesData, FreesExtensions, KeepsData};
+ghost use Rattle.ados_data.specs.Changing.{PaysFor, WritableFile};
 ghost use Rattle.ados_data.specs.Others.{LeavesOthers};
-ghost use Rattle.ados_data.specs.Keeping.{KeepsUnnamed};
-ghost use Rattle.ados_data.specs.Giving.{IsEntered};
+ghost use Rattle.ados_data.specs.Unnamed.{FileKeepsUnnamed};
+ghost use Rattle.ados_data.specs.steps.Giving.{IsEntered};
 
 use crate::cost::{data_count, extension_count};
-use crate::fields::{NEXT_EXTENSION, SIZE, data_block, format_of, pointer_block};
+use crate::fields::{data_block, pointer_block};
 use crate::resize::resize;
-use adf_block::{Format, Image};
+use adf_block::Image;
+use adf_block::layout::{MOST_BLOCKS, NEXT_EXTENSION, SIZE, TABLE_LONGS};
 use ados_map::give_back;
 
 /// The pointer block at hand while blocks are given back, and the one behind it.
@@ -31,18 +34,18 @@ pub fn cut(image: &mut Image, file: u32, size: u32)
     ensures writable { WritableFile image.new file }
     ensures format { format_of image.new ≡ format_of image.old }
     ensures bytes { contents image.new file ≡ take size (contents image.old file) }
-    ensures free { marked_count image.new + block_cost (format_of image.old) size ≡ marked_count image.old + block_cost (format_of image.old) (length (contents image.old file)) }
+    ensures free { PaysFor image.old file size image.new }
     ensures leaves { LeavesOthers image.old file image.new }
-    ensures keeps { KeepsUnnamed image.old file (data_blocks image.old file) (extension_blocks image.old file) image.new (data_blocks image.new file) (extension_blocks image.new file) }
-    ensures free_stays { (c : ℕ) → IsInside (block_count image.old) c → is_marked_free image.old c ≡ true → is_marked_free image.new c ≡ true }
-    ensures data_stays { (i k : ℕ) → i < data_count (format_of image.old) size → k < 512 → (format_of image.old ≡ Format.Ofs → 24 ≤ k) → byte_at image.new (slice_index (data_blocks image.old file) i) k ≡ byte_at image.old (slice_index (data_blocks image.old file) i) k }
+    ensures keeps { FileKeepsUnnamed image.old file image.new }
+    ensures free_stays { (c : ℕ) → IsInside (block_count image.old) c → has_free_bit image.old c ≡ true → has_free_bit image.new c ≡ true }
+    ensures data_stays { KeepsData image.old file size image.new }
     ensures blocks { data_blocks image.new file ≡ take (data_count (format_of image.old) size) (data_blocks image.old file) }
     ensures extensions { extension_blocks image.new file ≡ take (extension_count (data_count (format_of image.old) size)) (extension_blocks image.old file) }
-    ensures freed { (j : ℕ) → data_count (format_of image.old) size ≤ j → j < length (data_blocks image.old file) → is_marked_free image.new (slice_index (data_blocks image.old file) j) ≡ true }
-    ensures freed_extensions { (q : ℕ) → extension_count (data_count (format_of image.old) size) ≤ q → q < length (extension_blocks image.old file) → is_marked_free image.new (slice_index (extension_blocks image.old file) q) ≡ true }
+    ensures freed { FreesData image.old file size image.new }
+    ensures freed_extensions { FreesExtensions image.old file size image.new }
 {
-    prove!(image.blocks() <= 101_602);
-    let format = format_of(image);
+    prove!(image.blocks() <= MOST_BLOCKS);
+    let format = image.format();
     let old = image.long(file, SIZE);
     if size == old {
         return;
@@ -65,10 +68,10 @@ pub fn cut(image: &mut Image, file: u32, size: u32)
 /// stands in it stays.
 fn enter(image: &mut Image, at: Cursor, i: u64) -> Cursor
     requires pages { LawfulPages image.old }
-    requires inside { 0 < i → i % 72 ≡ 0 → IsInside (block_count image.old) at.next }
+    requires inside { 0 < i → i % table_longs ≡ 0 → IsInside (block_count image.old) at.next }
     ensures { IsEntered image.old at.holder at.next i result.holder result.next image.new }
 {
-    if i == 0 || i % 72 != 0 {
+    if i == 0 || i % TABLE_LONGS as u64 != 0 {
         return at;
     }
     let next = image.long(at.next, NEXT_EXTENSION);

@@ -1,19 +1,19 @@
 //! Writing over the bytes of a file.
 
 ghost use Rattle.std.specs.Prelude.{◌≡◌, ℕ, ◌≤◌, ◌+◌, length, max, take};
-ghost use Rattle.ados_data.specs.Cost.{block_cost};
-ghost use Rattle.adf_block.specs.Image.{is_marked_free, marked_count};
+ghost use Rattle.adf_block.specs.Image.{has_free_bit, free_bit_count};
 ghost use Rattle.ados_map.specs.Pages.{HasBit};
-ghost use Rattle.ados_data.specs.Others.{Gains, LeavesOthers};
-ghost use Rattle.ados_data.specs.Keeping.{KeepsUnnamed};
+ghost use Rattle.ados_data.specs.Others.{FileGains, LeavesOthers};
+ghost use Rattle.ados_data.specs.Unnamed.{FileKeepsUnnamed};
 ghost use Rattle.ados_data.specs.File.{contents, data_blocks, extension_blocks, format_of, overlaid};
-ghost use Rattle.ados_data.specs.Changing.{HasFree, WritableFile};
+ghost use Rattle.ados_data.specs.Changing.{HasFree, PaysFor, WritableFile};
 
 use crate::cost::data_size;
-use crate::fields::{NEXT_EXTENSION, SIZE, data_block, format_of, pointer_block};
+use crate::fields::{data_block, pointer_block};
 use crate::grow::extend;
 use crate::put::put_data;
 use adf_block::Image;
+use adf_block::layout::{MOST_BLOCKS, NEXT_EXTENSION, SIZE, TABLE_LONGS};
 
 /// Writes bytes over those of a file from byte `pos` on; all of these are there.
 fn overlay(image: &mut Image, file: u32, pos: u64, bytes: &[u8])
@@ -24,18 +24,18 @@ fn overlay(image: &mut Image, file: u32, pos: u64, bytes: &[u8])
     ensures bytes { contents image.new file ≡ overlaid (contents image.old file) pos bytes.now }
     ensures blocks { data_blocks image.new file ≡ data_blocks image.old file }
     ensures extensions { extension_blocks image.new file ≡ extension_blocks image.old file }
-    ensures free { marked_count image.new ≡ marked_count image.old }
+    ensures free { free_bit_count image.new ≡ free_bit_count image.old }
     ensures leaves { LeavesOthers image.old file image.new }
-    ensures marks { (c : ℕ) → HasBit image.old c → is_marked_free image.new c ≡ is_marked_free image.old c }
-    ensures keeps { KeepsUnnamed image.old file (data_blocks image.old file) (extension_blocks image.old file) image.new (data_blocks image.new file) (extension_blocks image.new file) }
+    ensures marks { (c : ℕ) → HasBit image.old c → has_free_bit image.new c ≡ has_free_bit image.old c }
+    ensures keeps { FileKeepsUnnamed image.old file image.new }
 {
-    prove!(image.blocks() <= 101_602);
+    prove!(image.blocks() <= MOST_BLOCKS);
     if bytes.is_empty() {
         return;
     }
-    let format = format_of(image);
+    let format = image.format();
     let room = data_size(format);
-    let mut holder = pointer_block(image, file, pos / room as u64 / 72);
+    let mut holder = pointer_block(image, file, pos / room as u64 / TABLE_LONGS as u64);
     let mut done = 0;
     while done < bytes.len() {
         let at = pos + done as u64;
@@ -44,7 +44,7 @@ fn overlay(image: &mut Image, file: u32, pos: u64, bytes: &[u8])
         let block = data_block(image, holder, at / room as u64);
         put_data(image, format, block, from, &bytes[done..done + part]);
         done += part;
-        if (at + part as u64) % (72 * room as u64) == 0 {
+        if (at + part as u64) % (TABLE_LONGS as u64 * room as u64) == 0 {
             holder = image.long(holder, NEXT_EXTENSION);
         }
     }
@@ -59,14 +59,14 @@ pub fn write_at(image: &mut Image, file: u32, pos: u64, bytes: &[u8])
     ensures writable { WritableFile image.new file }
     ensures format { format_of image.new ≡ format_of image.old }
     ensures bytes { contents image.new file ≡ overlaid (contents image.old file) pos bytes.now }
-    ensures free { marked_count image.new + block_cost (format_of image.old) (max (length (contents image.old file)) (pos + length bytes.now)) ≡ marked_count image.old + block_cost (format_of image.old) (length (contents image.old file)) }
+    ensures free { PaysFor image.old file (max (length (contents image.old file)) (pos + length bytes.now)) image.new }
     ensures leaves { LeavesOthers image.old file image.new }
-    ensures gains { Gains image.old file (data_blocks image.old file) (extension_blocks image.old file) image.new (data_blocks image.new file) (extension_blocks image.new file) }
+    ensures gains { FileGains image.old file image.new }
     ensures blocks { take (length (data_blocks image.old file)) (data_blocks image.new file) ≡ data_blocks image.old file }
     ensures extensions { take (length (extension_blocks image.old file)) (extension_blocks image.new file) ≡ extension_blocks image.old file }
-    ensures keeps { KeepsUnnamed image.old file (data_blocks image.old file) (extension_blocks image.old file) image.new (data_blocks image.new file) (extension_blocks image.new file) }
+    ensures keeps { FileKeepsUnnamed image.old file image.new }
 {
-    prove!(image.blocks() <= 101_602);
+    prove!(image.blocks() <= MOST_BLOCKS);
     let size = (image.long(file, SIZE) as u64).max(pos + bytes.len() as u64);
     extend(image, file, size as u32);
     overlay(image, file, pos, bytes);

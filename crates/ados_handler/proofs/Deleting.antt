@@ -6,9 +6,11 @@ use Rattle.ados_name.specs.Protection.{denies_delete}
 use Rattle.ados_tree.specs.Tree.{Node, Tree, Proper, entries, root}
 use Rattle.ados_tree.specs.Change.{removed}
 use Rattle.ados_tree.proofs.Nodes.{some_in}
-use Rattle.ados_entries.specs.Conditions.{CanRemove}
+use Rattle.change_entries.specs.Conditions.{CanRemove}
 use Rattle.ados_volume.specs.Examined.{file_info}
-use Rattle.ados_volume.specs.declared.examine.FileInfo.{FileInfo}
+use Rattle.ados_packet.specs.declared.dos_error.DosError.{DosError}
+use Rattle.ados_packet.specs.declared.dos_error.DosError.TheVariants.{DeleteProtected, DeviceNotMounted, DirectoryNotEmpty, ObjectInUse, ObjectWrongType}
+use Rattle.ados_packet.specs.declared.info.FileInfo.{FileInfo}
 use Rattle.ados_packet.specs.Packet.{dos_true}
 use Rattle.ados_packet.specs.declared.packet.Packet.TheVariants.{DeleteObject}
 use Rattle.ados_packet.specs.declared.answer.Body.TheVariants.{Empty}
@@ -28,25 +30,25 @@ denial_told t key node info denied at told is =
     ap (λ (o : Option Node). denies_delete (protection_in o)) at ∙ ap (λ (i : FileInfo). denies_delete i.protection.0) (sym told) ∙ sym is
 
 -- the refusals that look at the object
-abbrev object_row : Tree → Session → ℕ → List (Option ℕ)
+abbrev object_row : Tree → Session → ℕ → List (Option DosError)
 object_row t s key =
-    refuse 212 (key == root t) ∷ refuse 202 (is_held s key) ∷ refuse 216 (not (is_empty (entries t key))) ∷ refuse 222 (denies_delete (protection_of t key)) ∷ []
+    refuse ObjectWrongType (key == root t) ∷ refuse ObjectInUse (is_held s key) ∷ refuse DirectoryNotEmpty (not (is_empty (entries t key))) ∷ refuse DeleteProtected (denies_delete (protection_of t key)) ∷ []
 
 module _ (t : Tree) (s : Session) (lock : ℕ) (path : List ℕ) (key : ℕ) (alive : s.died ≡ false) (walk : walked t s lock path ≡ Ok key) (other : key ≢ root t) (free : is_held s key ≡ false) (empty : not (is_empty (entries t key)) ≡ false) where
   -- only its protection can refuse it
-  pub delete_refusal : refusal t s (DeleteObject lock path) ≡ first_refusal (refuse 222 (denies_delete (protection_of t key)) ∷ [])
+  pub delete_refusal : refusal t s (DeleteObject lock path) ≡ first_refusal (refuse DeleteProtected (denies_delete (protection_of t key)) ∷ [])
   delete_refusal =
-      passed 218 s.died (refusals t s (DeleteObject lock path)) alive
+      passed DeviceNotMounted s.died (refusals t s (DeleteObject lock path)) alive
       ∙ (walked_on t s lock path key (object_row t s (object t s lock path)) walk).0
       ∙ ap (λ (k : ℕ). first_refusal (object_row t s k)) (walked_on t s lock path key [] walk).1
-      ∙ passed 212 (key == root t) _ (ne_eqb key (root t) other)
-      ∙ passed 202 (is_held s key) _ free
-      ∙ passed 216 (not (is_empty (entries t key))) _ empty
+      ∙ passed ObjectWrongType (key == root t) _ (ne_eqb key (root t) other)
+      ∙ passed ObjectInUse (is_held s key) _ free
+      ∙ passed DirectoryNotEmpty (not (is_empty (entries t key))) _ empty
 
   pub delete_means : (now : Date3) (new : Session) → denies_delete (protection_of t key) ≡ false → new ≡ s
       → Meaning t s (DeleteObject lock path) now (removed now key t) new (record { action = pos 16; res1 = negsuc 0; res2 = pos 0; body = Empty })
   delete_means now new allowed same =
-      served_means t (removed now key t) s new (DeleteObject lock path) now _ (delete_refusal ∙ passed 222 (denies_delete (protection_of t key)) [] allowed)
+      served_means t (removed now key t) s new (DeleteObject lock path) now _ (delete_refusal ∙ passed DeleteProtected (denies_delete (protection_of t key)) [] allowed)
       (record { success = λ i. after (removed now (sym (walked_on t s lock path key [] walk).1 i) t) (same i) dos_true Empty; action = refl; res2 = refl })
 
 -- a node that is not the root and has no entries can be taken away

@@ -10,6 +10,7 @@ use Rattle.ados_name.specs.declared.name.NameFault.{NameFault}
 use Rattle.ados_name.specs.Name.{first_fault, IsName, IsNameByte, is_separator}
 use Rattle.ados_tree.specs.Tree.{Tree}
 use Rattle.ados_tree.specs.Change.{disk_renamed}
+use Rattle.ados_packet.specs.declared.dos_error.DosError.TheVariants.{DeviceNotMounted, InvalidComponentName}
 use Rattle.ados_packet.specs.Packet.{dos_true}
 use Rattle.ados_packet.specs.declared.packet.Packet.TheVariants.{RenameDisk}
 use Rattle.ados_packet.specs.declared.answer.Body.TheVariants.{Empty}
@@ -18,7 +19,6 @@ use Rattle.ados_handler.specs.Refusals.{first_refusal, is_name, refusal, refuse}
 use Rattle.ados_handler.specs.Success.{after}
 use Rattle.ados_handler.specs.Meaning.{Meaning}
 use Rattle.ados_handler.proofs.Meant.{served_means}
-use Rattle.ados_handler.proofs.Moving.{IsErrorOf}
 
 no_separator : (c : ℕ) → IsNameByte c → is_separator c ≡ false
 no_separator c byte = or_from (c == 47) (c == 58) (ne_eqb c 47 byte.no_slash) (ne_eqb c 58 byte.no_colon)
@@ -34,14 +34,10 @@ is_named name is =
 pub rename_disk_means : (t : Tree) (s new : Session) (name : List ℕ) (now : Date3) → s.died ≡ false → IsName name → new ≡ s
     → Meaning t s (RenameDisk name) now (disk_renamed now name t) new (record { action = pos 9; res1 = negsuc 0; res2 = pos 0; body = Empty })
 rename_disk_means t s new name now alive is same =
-    let none : refusal t s (RenameDisk name) ≡ None = λ i. first_refusal (refuse 218 (alive i) ∷ refuse 210 (not (is_named name is i)) ∷ []) in
+    let none : refusal t s (RenameDisk name) ≡ None = λ i. first_refusal (refuse DeviceNotMounted (alive i) ∷ refuse InvalidComponentName (not (is_named name is i)) ∷ []) in
     served_means t (disk_renamed now name t) s new (RenameDisk name) now _ none
     (record { success = λ i. after (disk_renamed now name t) (same i) dos_true Empty; action = refl; res2 = refl })
 
 -- a text that has a fault is refused
-pub no_name_refused : (t : Tree) (s : Session) (name : List ℕ) (fault : NameFault) → s.died ≡ false → first_fault name ≡ Some fault → IsErrorOf t s (RenameDisk name) (pos 210)
-no_name_refused t s name fault alive has = record {
-  code = 210;
-  told = refl;
-  refused = λ i. first_refusal (refuse 218 (alive i) ∷ refuse 210 (not (is_none (has i))) ∷ []);
-}
+pub no_name_refused : (t : Tree) (s : Session) (name : List ℕ) (fault : NameFault) → s.died ≡ false → first_fault name ≡ Some fault → refusal t s (RenameDisk name) ≡ Some InvalidComponentName
+no_name_refused t s name fault alive has = λ i. first_refusal (refuse DeviceNotMounted (alive i) ∷ refuse InvalidComponentName (not (is_none (has i))) ∷ [])

@@ -9,6 +9,7 @@ use Rattle.ados_tree.specs.Stands.{Stands}
 use Rattle.ados_tree.specs.Kept.{Kept}
 use Rattle.ados_tree.specs.Walk.{is_file}
 use Rattle.ados_tree.specs.Change.{rewritten, shortened}
+use Rattle.ados_packet.specs.declared.dos_error.DosError.TheVariants.{DeleteProtected, ObjectInUse, ObjectWrongType, WriteProtected}
 use Rattle.ados_packet.specs.declared.answer.Answer.{Answer}
 use Rattle.ados_handler.specs.declared.holds.HandleHold.{HandleHold}
 use Rattle.ados_handler.specs.Session.{Session, is_in_use}
@@ -17,7 +18,7 @@ use Rattle.ados_handler.specs.Refusals.{first_refusal, refuse}
 use Rattle.ados_handler.specs.Success.{GivesHandle}
 use Rattle.ados_handler.specs.ProperSession.{HoldNumber, hold_at, IsProperSession}
 use Rattle.ados_handler.specs.Handler.{HandlerState, IsSoundHandler}
-use Rattle.ados_handler.specs.Opening.{AnswersHandle, Opens, empty_refusals}
+use Rattle.ados_handler.specs.steps.Opening.{AnswersHandle, Opens, empty_refusals}
 use Rattle.ados_handler.proofs.Holding.{not_held}
 use Rattle.ados_handler.proofs.Carrying.{carried_session}
 use Rattle.ados_handler.proofs.Rewriting.{file_node, rewritten_here, rewritten_is_file, rewritten_other}
@@ -30,9 +31,9 @@ cut_is_emptied now key t = refl
 -- nothing stands against an exclusive handle on a file
 no_refusal : (s : Session) (key : ℕ) (t : Tree) (bits : ℕ) → is_file t key ≡ true → is_in_use s key true ≡ false → protection_of t key ≡ bits → denies_delete bits ≡ false → denies_write bits ≡ false → first_refusal (empty_refusals s key t) ≡ None
 no_refusal s key t bits file free told delete write =
-    let named : first_refusal (empty_refusals s key t) ≡ first_refusal (refuse 222 (denies_delete bits) ∷ refuse 223 (denies_write bits) ∷ []) =
-    λ i. first_refusal (refuse 212 (not (file i)) ∷ refuse 202 (free i) ∷ refuse 222 (denies_delete (told i)) ∷ refuse 223 (denies_write (told i)) ∷ []) in
-    named ∙ (λ i. first_refusal (refuse 222 (delete i) ∷ refuse 223 (write i) ∷ []))
+    let named : first_refusal (empty_refusals s key t) ≡ first_refusal (refuse DeleteProtected (denies_delete bits) ∷ refuse WriteProtected (denies_write bits) ∷ []) =
+    λ i. first_refusal (refuse ObjectWrongType (not (file i)) ∷ refuse ObjectInUse (free i) ∷ refuse DeleteProtected (denies_delete (told i)) ∷ refuse WriteProtected (denies_write (told i)) ∷ []) in
+    named ∙ (λ i. first_refusal (refuse DeleteProtected (delete i) ∷ refuse WriteProtected (write i) ∷ []))
 
 -- no other object is touched
 emptied_session : (t : Tree) → Proper t → (s : Session) → IsProperSession t s → (key : ℕ) → is_file t key ≡ true → is_in_use s key true ≡ false → (now : Date3) → IsProperSession (rewritten now key [] t) s

@@ -12,9 +12,11 @@ use Rattle.ados_tree.specs.Walk.{is_file}
 use Rattle.ados_tree.specs.Keys.{HasFileKey, HasKey}
 use Rattle.ados_tree.proofs.OneTree.{one_tree}
 use Rattle.ados_tree.proofs.Nodes.{content_in, some_in}
+use Rattle.ados_packet.specs.declared.dos_error.DosError.{DosError}
+use Rattle.ados_packet.specs.declared.dos_error.DosError.TheVariants.{DeviceNotMounted, InvalidLock}
 use Rattle.ados_packet.specs.declared.packet.Packet.{Packet}
 use Rattle.ados_packet.specs.declared.answer.Answer.{Answer}
-use Rattle.ados_volume.specs.declared.examine.FileInfo.{FileInfo}
+use Rattle.ados_packet.specs.declared.info.FileInfo.{FileInfo}
 use Rattle.ados_volume.specs.Examined.{file_info}
 use Rattle.ados_handler.specs.Session.{Session, is_handle, handle_key, handle_position}
 use Rattle.ados_handler.specs.declared.holds.HandleHold.{HandleHold}
@@ -24,7 +26,7 @@ use Rattle.ados_handler.specs.Meaning.{Meaning}
 use Rattle.ados_handler.specs.Handler.{HandlerGives, HandlerState, IsSoundHandler}
 use Rattle.ados_handler.specs.Refusals.{first_refusal, refuse}
 use Rattle.ados_handler.proofs.Rewriting.{file_node}
-use Rattle.ados_handler.proofs.Keeping.{meaning_keeps_proper}
+use Rattle.ados_handler.proofs.ImageKept.{meaning_keeps_proper}
 use Rattle.ados_handler.proofs.Leaving.{leaves_all}
 use Rattle.ados_handler.proofs.Meant.{sound_after}
 
@@ -35,11 +37,11 @@ module _ (s : Session) (handle : ℕ) (hold : HandleHold) (at : get s.handles ha
   pub position_is : handle_position s handle ≡ hold.position
   position_is = ap (λ (o : Option HandleHold). option_map_or (λ h. h.position) o 0) at
 
-  -- a packet by it is refused neither with 218 nor with 211
-  pub opened_on : s.died ≡ false → (more : List (Option ℕ)) → first_refusal (refuse 218 s.died ∷ refuse 211 (not (is_handle s handle)) ∷ more) ≡ first_refusal more
+  -- a packet by it is refused neither as dead nor for its handle
+  pub opened_on : s.died ≡ false → (more : List (Option DosError)) → first_refusal (refuse DeviceNotMounted s.died ∷ refuse InvalidLock (not (is_handle s handle)) ∷ more) ≡ first_refusal more
   opened_on alive more =
       let held : is_handle s handle ≡ true = ap is_some at in
-      ap₂ (λ (d h : Bool). first_refusal (refuse 218 d ∷ refuse 211 (not h) ∷ more)) alive held
+      ap₂ (λ (d h : Bool). first_refusal (refuse DeviceNotMounted d ∷ refuse InvalidLock (not h) ∷ more)) alive held
 
 -- the handle of a sound handler is on a file, and stands in it
 module _ (image : List ℕ) (s : Session) (sound : IsSoundHandler image s) (handle : ℕ) where

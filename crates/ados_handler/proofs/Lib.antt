@@ -1,3 +1,4 @@
+-- Lemmas of the handler: what it holds, how it looks things up, what each packet means, and that sessions stay proper.
 pub mod Holding
 pub mod Walked
 pub mod Reading
@@ -8,7 +9,7 @@ pub mod Rewriting
 pub mod Making
 pub mod Under
 pub mod Unlisting
-pub mod Keeping
+pub mod ImageKept
 pub mod Tables
 pub mod RefusalRows
 pub mod Sound

@@ -15,9 +15,10 @@ use Rattle.ados_tree.specs.declared.path_fault.WalkFault.{WalkFault}
 use Rattle.ados_tree.specs.declared.path_fault.WalkFault.TheVariants.{DirectoryNotFound}
 use Rattle.ados_tree.specs.declared.path_fault.PlaceFault.TheVariants as faults
 use Rattle.ados_tree.specs.Change.{listed, made, new_node, rewritten, with_node}
-use Rattle.ados_entries.specs.Conditions.{CanMake, IsDirectory, IsEmpty, IsNewName}
-use Rattle.ados_entries.proofs.Changed.{nodes_here, nodes_other, relisted}
-use Rattle.ados_entries.proofs.ProperChanges.{directory_at, dir_not_key, made_is_proper}
+use Rattle.change_entries.specs.Conditions.{CanMake, IsDirectoryKey, IsEmpty, IsNewName}
+use Rattle.change_entries.proofs.Changed.{nodes_here, nodes_other, relisted}
+use Rattle.change_entries.proofs.ProperChanges.{directory_at, dir_not_key, made_is_proper}
+use Rattle.ados_packet.specs.declared.dos_error.DosError.TheVariants.{DeviceNotMounted, InvalidLock, ObjectExists, ObjectInUse, ObjectWrongType}
 use Rattle.ados_packet.specs.declared.packet.Packet.TheVariants.{CreateDir, FindUpdate, FindOutput}
 use Rattle.ados_handler.specs.Session.{Session, is_in_use, is_lock}
 use Rattle.ados_handler.specs.Objects.{lock_key, place_error, placed, spot, spot_directory, spot_name, standing}
@@ -64,7 +65,7 @@ spot_is t proper s session lock path valid held none =
     (λ key e. walk_key t proper (start_of t (lock_key t s lock) path) (steps (front path)) DirectoryNotFound key (start_is_key t proper s session lock path held) e)
     (spot t s lock path) (no_error place_error (placed t s lock path) (0, []) none)
 
-pub is_directory : (t : Tree) (key : ℕ) → IsSome (t.nodes key) → is_file t key ≡ false → IsDirectory t key
+pub is_directory : (t : Tree) (key : ℕ) → IsSome (t.nodes key) → is_file t key ≡ false → IsDirectoryKey t key
 is_directory t key = go (t.nodes key)
   where
     go : (o : Option Node) → IsSome o → holds_file (option_map (λ node. node.content) o) ≡ false → (keys : List ℕ) × (option_map (λ node. node.content) o ≡ Some (Directory keys))
@@ -90,7 +91,7 @@ no_child_new t dir name e k c same = find_none _ (entries t dir) k e c ((bytes_e
 -- ---- a new entry
 
 -- a directory that gets another list is one still, and each other object is as it was
-pub carried_listed : (t : Tree) (moment : Date3) (dir : ℕ) (keys : List ℕ) → IsDirectory t dir → (k : ℕ) → Carried (t.nodes k) ((listed moment dir keys t).nodes k)
+pub carried_listed : (t : Tree) (moment : Date3) (dir : ℕ) (keys : List ℕ) → IsDirectoryKey t dir → (k : ℕ) → Carried (t.nodes k) ((listed moment dir keys t).nodes k)
 carried_listed t moment dir keys is = carried_changed t dir (relisted moment keys) (λ a at.
     let d = directory_at t dir is in
     let same : d.node ≡ a = cc (d.at, at) in
@@ -121,7 +122,7 @@ module _ (t : Tree) (s : Session) (proper : Proper t) (session : IsProperSession
     | inr other ↦ carried_beside t key (Some (new_node moment dir name content)) k other
   ]
 
-  begun_directory : IsDirectory begun dir
+  begun_directory : IsDirectoryKey begun dir
   begun_directory = (can.directory.0, ap (λ (o : Option Node). option_map (λ node. node.content) o) (nodes_other key (Some (new_node moment dir name content)) t dir not_key) ∙ can.directory.1)
 
   made_carried : (k : ℕ) → Carried (t.nodes k) (grown_tree.nodes k)
@@ -154,9 +155,9 @@ none_there (Some k) h = absurd (true≢false h)
 
 pub create_dir_keeps : (lock : ℕ) (path : List ℕ) → IsPathText path → KeepsProper (CreateDir lock path)
 create_dir_keeps lock path valid = by_success (CreateDir lock path) (λ t s now result proper session none w.
-    let no = none_refuses (refuse 218 s.died ∷ refusals t s (CreateDir lock path)) none in
-    let is = spot_is t proper s session lock path valid (from_not (is_lock s lock) (not_refused 211 _ no.1.0)) no.1.1.0 in
-    let new = none_there (standing t s lock path) (not_refused 203 _ no.1.1.1.0) in
+    let no = none_refuses (refuse DeviceNotMounted s.died ∷ refusals t s (CreateDir lock path)) none in
+    let is = spot_is t proper s session lock path valid (from_not (is_lock s lock) (not_refused InvalidLock _ no.1.0)) no.1.1.0 in
+    let new = none_there (standing t s lock path) (not_refused ObjectExists _ no.1.1.1.0) in
     made_lock t s proper session now (spot_directory t s lock path) w.0 (spot_name t s lock path) (Directory []) (can_make t (spot t s lock path) is new) w.1 refl true result w.2)
 
 makes_file : (t : Tree) (s : Session) (now : Date3) (result : After) → Proper t → IsProperSession t s → (there : ℕ × List ℕ) → IsSpot t there → child_of t there.0 there.1 ≡ None → (exclusive : Bool) → MakesFile t s there.0 there.1 exclusive now result → IsProperAfter result
@@ -165,9 +166,9 @@ makes_file t s now result proper session there is none exclusive w =
 
 pub find_update_keeps : (lock : ℕ) (path : List ℕ) → IsPathText path → KeepsProper (FindUpdate lock path)
 find_update_keeps lock path valid = by_success (FindUpdate lock path) (λ t s now result proper session none w.
-    let no = none_refuses (refuse 218 s.died ∷ refusals t s (FindUpdate lock path)) none in
-    let is = spot_is t proper s session lock path valid (from_not (is_lock s lock) (not_refused 211 _ no.1.0)) no.1.1.0 in
-    go t s now result proper session (spot t s lock path) is (standing t s lock path) refl (not_refused 212 _ no.1.1.1.0) (not_refused 202 _ no.1.1.1.1.0) w)
+    let no = none_refuses (refuse DeviceNotMounted s.died ∷ refusals t s (FindUpdate lock path)) none in
+    let is = spot_is t proper s session lock path valid (from_not (is_lock s lock) (not_refused InvalidLock _ no.1.0)) no.1.1.0 in
+    go t s now result proper session (spot t s lock path) is (standing t s lock path) refl (not_refused ObjectWrongType _ no.1.1.1.0) (not_refused ObjectInUse _ no.1.1.1.1.0) w)
   where
     go : (t : Tree) (s : Session) (now : Date3) (result : After) → Proper t → IsProperSession t s → (there : ℕ × List ℕ) → IsSpot t there → (o : Option ℕ) → child_of t there.0 there.1 ≡ o
         → is_directory_there t o ≡ false → is_some_and (λ key. is_in_use s key false) o ≡ false
@@ -178,9 +179,9 @@ find_update_keeps lock path valid = by_success (FindUpdate lock path) (λ t s no
 
 pub find_output_keeps : (lock : ℕ) (path : List ℕ) → IsPathText path → KeepsProper (FindOutput lock path)
 find_output_keeps lock path valid = by_success (FindOutput lock path) (λ t s now result proper session none w.
-    let no = none_refuses (refuse 218 s.died ∷ refusals t s (FindOutput lock path)) none in
-    let is = spot_is t proper s session lock path valid (from_not (is_lock s lock) (not_refused 211 _ no.1.0)) no.1.1.0 in
-    go t s now result proper session (spot t s lock path) is (standing t s lock path) refl (not_refused 212 _ no.1.1.1.0) (not_refused 202 _ no.1.1.1.1.0) w)
+    let no = none_refuses (refuse DeviceNotMounted s.died ∷ refusals t s (FindOutput lock path)) none in
+    let is = spot_is t proper s session lock path valid (from_not (is_lock s lock) (not_refused InvalidLock _ no.1.0)) no.1.1.0 in
+    go t s now result proper session (spot t s lock path) is (standing t s lock path) refl (not_refused ObjectWrongType _ no.1.1.1.0) (not_refused ObjectInUse _ no.1.1.1.1.0) w)
   where
     emptied : (t : Tree) (s : Session) (now : Date3) (result : After) → Proper t → IsProperSession t s → (key : ℕ) → is_file t key ≡ true → is_in_use s key true ≡ false → GivesHandle (rewritten now key [] t) s key true result → IsProperAfter result
     emptied t s now result proper session key file free w =

@@ -7,7 +7,9 @@ use Rattle.ados_tree.specs.Tree.Content.{Directory}
 use Rattle.ados_tree.specs.Stands.{Stands}
 use Rattle.ados_tree.specs.Walk.{child_of}
 use Rattle.ados_tree.specs.Change.{made}
-use Rattle.ados_entries.specs.Conditions.{CanMake}
+use Rattle.change_entries.specs.Conditions.{CanMake}
+use Rattle.ados_packet.specs.declared.dos_error.DosError.{DosError}
+use Rattle.ados_packet.specs.declared.dos_error.DosError.TheVariants.{DeviceNotMounted, DiskFull, ObjectExists}
 use Rattle.ados_packet.specs.declared.packet.Packet.TheVariants.{CreateDir}
 use Rattle.ados_packet.specs.declared.answer.Body.TheVariants.{Empty}
 use Rattle.ados_handler.specs.Session.{Session, IsFreeNumber, with_lock}
@@ -22,8 +24,19 @@ use Rattle.ados_handler.proofs.Meant.{served_means}
 use Rattle.ados_handler.proofs.Placed.{passed, placed_on}
 
 -- the refusals that look at the place
-abbrev place_row : Tree → ℕ × List ℕ → List (Option ℕ)
-place_row t there = refuse 203 (is_some (child_of t there.0 there.1)) ∷ refuse 221 (lacks t 1) ∷ []
+abbrev place_row : Tree → ℕ × List ℕ → List (Option DosError)
+place_row t there = refuse ObjectExists (is_some (child_of t there.0 there.1)) ∷ refuse DiskFull (lacks t 1) ∷ []
+
+-- no refusal stands against a new directory there
+pub create_dir_passes : (t : Tree) (s : Session) (there : ℕ × List ℕ) (lock : ℕ) (path : List ℕ) → s.died ≡ false → placed_at t s lock path ≡ Ok there → is_some (child_of t there.0 there.1) ≡ false → lacks t 1 ≡ false
+    → refusal t s (CreateDir lock path) ≡ None
+create_dir_passes t s there lock path alive place none room =
+    let p = placed_on t s lock path there [] place in
+    passed DeviceNotMounted s.died (refusals t s (CreateDir lock path)) alive
+    ∙ (placed_on t s lock path there (place_row t (spot t s lock path)) place).0
+    ∙ ap (λ (p : ℕ × List ℕ). first_refusal (place_row t p)) p.1
+    ∙ passed ObjectExists (is_some (child_of t there.0 there.1)) _ none
+    ∙ passed DiskFull (lacks t 1) [] room
 
 -- a directory is made at the place, and the new session has a lock on it
 module _ (t : Tree) (s new : Session) (now : Date3) (there : ℕ × List ℕ) (key number : ℕ) (fresh : IsNewKey t key) (free : IsFreeNumber s.locks number) (same : new ≡ with_lock number key true s) where
@@ -31,12 +44,7 @@ module _ (t : Tree) (s new : Session) (now : Date3) (there : ℕ × List ℕ) (k
       → Meaning t s (CreateDir lock path) now (made now there.0 key there.1 (Directory []) t) new (record { action = pos 22; res1 = pos number; res2 = pos 0; body = Empty })
   create_dir_means lock path alive place none room =
       let p = placed_on t s lock path there [] place in
-      let not_refused : refusal t s (CreateDir lock path) ≡ None =
-      passed 218 s.died (refusals t s (CreateDir lock path)) alive
-      ∙ (placed_on t s lock path there (place_row t (spot t s lock path)) place).0
-      ∙ ap (λ (p : ℕ × List ℕ). first_refusal (place_row t p)) p.1
-      ∙ passed 203 (is_some (child_of t there.0 there.1)) _ none
-      ∙ passed 221 (lacks t 1) [] room in
+      let not_refused = create_dir_passes t s there lock path alive place none room in
       served_means t (made now there.0 key there.1 (Directory []) t) s new (CreateDir lock path) now _ not_refused
       (record {
         success = (key, fresh, (number, free, λ i. after (made now (sym p.1 i).0 key (sym p.1 i).1 (Directory []) t) (same i) (pos number) Empty));

@@ -12,7 +12,8 @@ use Rattle.ados_tree.specs.Stands.{Stands}
 use Rattle.ados_tree.specs.Tree.{Tree}
 use Rattle.ados_tree.specs.Tree.Content.{File}
 use Rattle.ados_tree.specs.Walk.{child_of}
-use Rattle.ados_entries.specs.Conditions.{CanMake}
+use Rattle.change_entries.specs.Conditions.{CanMake}
+use Rattle.ados_packet.specs.declared.dos_error.DosError.TheVariants.{DiskFull}
 use Rattle.ados_packet.specs.declared.answer.Answer.{Answer}
 use Rattle.ados_handler.specs.declared.holds.HandleHold.{HandleHold}
 use Rattle.ados_handler.specs.Session.{Session}
@@ -20,7 +21,7 @@ use Rattle.ados_handler.specs.Objects.{lacks}
 use Rattle.ados_handler.specs.Refusals.{first_refusal, refuse}
 use Rattle.ados_handler.specs.Success.{MakesFile}
 use Rattle.ados_handler.specs.Handler.{HandlerState, IsSoundHandler}
-use Rattle.ados_handler.specs.Opening.{AnswersHandle, Opens, make_refusals}
+use Rattle.ados_handler.specs.steps.Opening.{AnswersHandle, Opens, make_refusals}
 use Rattle.ados_handler.proofs.FreeBlock.{new_key}
 use Rattle.ados_handler.proofs.Making.{made_handle, no_child_new}
 use Rattle.ados_handler.proofs.Opening.{done_opens, gives_handle}
@@ -51,7 +52,7 @@ module _ (was : List ℕ) (s : Session) (dir : ℕ) (name : List ℕ) (now : Dat
   made_opens old was_validated view t stood room kept validated checked =
       let new : HandlerState = record { image = image; was_validated = validated; session = record s { handles = held } } in
       let u = made now dir key name (File []) t in
-      let opens = done_opens action make_refusals (λ t left. MakesFile t s dir name exclusive now left) (record { image = was; was_validated = was_validated; session = s }) new answer t stood (ap (λ (b : Bool). first_refusal (refuse 221 b ∷ [])) room) (record {
+      let opens = done_opens action make_refusals (λ t left. MakesFile t s dir name exclusive now left) (record { image = was; was_validated = was_validated; session = s }) new answer t stood (ap (λ (b : Bool). first_refusal (refuse DiskFull b ∷ [])) room) (record {
         tree = u;
         stands = stands t stood;
         success = (key, new_key was t stood key low, gives_handle action key exclusive s ready held answer a same u);

@@ -9,6 +9,8 @@ use Rattle.ados_tree.specs.Tree.{Tree, root}
 use Rattle.ados_tree.specs.Change.{with_comment, with_date, with_protection}
 use Rattle.ados_tree.specs.declared.path_fault.WalkFault.{WalkFault}
 use Rattle.ados_tree.proofs.OneTree.{one_tree}
+use Rattle.ados_packet.specs.declared.dos_error.DosError.{DosError}
+use Rattle.ados_packet.specs.declared.dos_error.DosError.TheVariants.{CommentTooBig, DeviceNotMounted, InvalidLock, ObjectWrongType}
 use Rattle.ados_packet.specs.Packet.{dos_true}
 use Rattle.ados_packet.specs.declared.packet.Packet.{Packet}
 use Rattle.ados_packet.specs.declared.packet.Packet.TheVariants.{SetComment, SetDate, SetProtect}
@@ -31,29 +33,29 @@ sound_after old new packet now answer keeps sound gives =
     record { tree = gives.new_tree; stands = gives.stands; holds = kept.1 }
 
 -- a walk that leads to an object is no refusal
-pub walked_on : (t : Tree) (s : Session) (lock : ℕ) (path : List ℕ) (key : ℕ) (more : List (Option ℕ)) → walked t s lock path ≡ Ok key
-    → (first_refusal (refuse 211 (not (is_lock s lock)) ∷ option_map walk_error (result_err (found t s lock path)) ∷ more) ≡ first_refusal more) × (object t s lock path ≡ key)
+pub walked_on : (t : Tree) (s : Session) (lock : ℕ) (path : List ℕ) (key : ℕ) (more : List (Option DosError)) → walked t s lock path ≡ Ok key
+    → (first_refusal (refuse InvalidLock (not (is_lock s lock)) ∷ option_map walk_error (result_err (found t s lock path)) ∷ more) ≡ first_refusal more) × (object t s lock path ≡ key)
 walked_on t s lock path key more = go (is_lock s lock) (found t s lock path)
   where
-    go : (b : Bool) (r : Result ℕ WalkFault) → cond b (walk_result r) (Err (pos 211)) ≡ Ok key
-        → (first_refusal (refuse 211 (not b) ∷ option_map walk_error (result_err r) ∷ more) ≡ first_refusal more) × (result_unwrap_or r 0 ≡ key)
+    go : (b : Bool) (r : Result ℕ WalkFault) → cond b (walk_result r) (Err InvalidLock) ≡ Ok key
+        → (first_refusal (refuse InvalidLock (not b) ∷ option_map walk_error (result_err r) ∷ more) ≡ first_refusal more) × (result_unwrap_or r 0 ≡ key)
     go true (Ok k) e = (refl, cc e)
     go true (Err fault) e = absurd (cc e)
     go false r e = absurd (cc e)
 
 -- a packet that is refused by the walk and at the root alone, of an object that is not the root
 pub marked_on : (t : Tree) (s : Session) (lock : ℕ) (path : List ℕ) (key : ℕ) → s.died ≡ false → walked t s lock path ≡ Ok key → key ≢ root t
-    → (first_refusal (refuse 218 s.died ∷ refuse 211 (not (is_lock s lock)) ∷ option_map walk_error (result_err (found t s lock path)) ∷ refuse 212 (object t s lock path == root t) ∷ []) ≡ None) × (object t s lock path ≡ key)
+    → (first_refusal (refuse DeviceNotMounted s.died ∷ refuse InvalidLock (not (is_lock s lock)) ∷ option_map walk_error (result_err (found t s lock path)) ∷ refuse ObjectWrongType (object t s lock path == root t) ∷ []) ≡ None) × (object t s lock path ≡ key)
 marked_on t s lock path key alive walk other =
-    let row : List (Option ℕ) = refuse 211 (not (is_lock s lock)) ∷ option_map walk_error (result_err (found t s lock path)) ∷ refuse 212 (object t s lock path == root t) ∷ [] in
-    let w = walked_on t s lock path key (refuse 212 (object t s lock path == root t) ∷ []) walk in
+    let row : List (Option DosError) = refuse InvalidLock (not (is_lock s lock)) ∷ option_map walk_error (result_err (found t s lock path)) ∷ refuse ObjectWrongType (object t s lock path == root t) ∷ [] in
+    let w = walked_on t s lock path key (refuse ObjectWrongType (object t s lock path == root t) ∷ []) walk in
     let not_root : (object t s lock path == root t) ≡ false = ap (λ (k : ℕ). k == root t) w.1 ∙ ne_eqb key (root t) other in
-    (ap (λ (b : Bool). first_refusal (refuse 218 b ∷ row)) alive ∙ w.0 ∙ ap (λ (b : Bool). first_refusal (refuse 212 b ∷ [])) not_root, w.1)
+    (ap (λ (b : Bool). first_refusal (refuse DeviceNotMounted b ∷ row)) alive ∙ w.0 ∙ ap (λ (b : Bool). first_refusal (refuse ObjectWrongType b ∷ [])) not_root, w.1)
 
 -- a packet that no refusal stands against means what it does where it is served
 pub served_means : (t u : Tree) (s new : Session) (packet : Packet) (now : Date3) (answer : Answer) → refusal t s packet ≡ None → IsServed t s packet now u new answer → Meaning t s packet now u new answer
 served_means t u s new packet now answer none served =
-    subst (λ (o : Option ℕ). MatchOption o (ServedOrNoMemory t s packet now u new answer) (λ code. IsRefused t s packet code u new answer)) (sym none) (inl served)
+    subst (λ (o : Option DosError). MatchOption o (ServedOrNoMemory t s packet now u new answer) (λ code. IsRefused t s packet code u new answer)) (sym none) (inl served)
 
 module _ (t : Tree) (s new : Session) (lock : ℕ) (path : List ℕ) (now : Date3) (key : ℕ) (alive : s.died ≡ false) (walk : walked t s lock path ≡ Ok key) (other : key ≢ root t) (same : new ≡ s) where
   pub set_protect_means : (bits : ℕ) → Meaning t s (SetProtect lock path bits) now (with_protection now key bits t) new (record { action = pos 21; res1 = negsuc 0; res2 = pos 0; body = Empty })
@@ -72,12 +74,12 @@ module _ (t : Tree) (s new : Session) (lock : ℕ) (path : List ℕ) (now : Date
 module _ (t : Tree) (s : Session) (lock : ℕ) (path comment : List ℕ) (now : Date3) (key : ℕ) (alive : s.died ≡ false) (walk : walked t s lock path ≡ Ok key) where
   pub set_comment_means : (new : Session) → key ≢ root t → new ≡ s → IsComment comment → Meaning t s (SetComment lock path comment) now (with_comment now key comment t) new (record { action = pos 28; res1 = negsuc 0; res2 = pos 0; body = Empty })
   set_comment_means new other same is =
-      let last : List (Option ℕ) = refuse 212 (object t s lock path == root t) ∷ [] in
-      let w = walked_on t s lock path key (refuse 220 (not (is_comment comment)) ∷ last) walk in
+      let last : List (Option DosError) = refuse ObjectWrongType (object t s lock path == root t) ∷ [] in
+      let w = walked_on t s lock path key (refuse CommentTooBig (not (is_comment comment)) ∷ last) walk in
       let away : (object t s lock path == root t) ≡ false = ap (λ (k : ℕ). k == root t) w.1 ∙ ne_eqb key (root t) other in
       let fits : is_comment comment ≡ true = le-leb (length comment) 79 is.short in
       let none : refusal t s (SetComment lock path comment) ≡ None =
-      ap (λ (d : Bool). first_refusal (refuse 218 d ∷ refusals t s (SetComment lock path comment))) alive ∙ w.0
-      ∙ ap (λ (c : Bool). first_refusal (refuse 220 (not c) ∷ last)) fits ∙ ap (λ (b : Bool). first_refusal (refuse 212 b ∷ [])) away in
+      ap (λ (d : Bool). first_refusal (refuse DeviceNotMounted d ∷ refusals t s (SetComment lock path comment))) alive ∙ w.0
+      ∙ ap (λ (c : Bool). first_refusal (refuse CommentTooBig (not c) ∷ last)) fits ∙ ap (λ (b : Bool). first_refusal (refuse ObjectWrongType b ∷ [])) away in
       served_means t (with_comment now key comment t) s new (SetComment lock path comment) now _ none
       (record { success = λ i. after (with_comment now (sym w.1 i) comment t) (same i) dos_true Empty; action = refl; res2 = refl })

@@ -6,7 +6,7 @@ use Rattle.std.specs.FinMap as numbered
 use Rattle.slab.specs.Slab.{Slab, get, with_value}
 use Rattle.slab.proofs.SlabLemmas.{Updates-with_value}
 use Rattle.ados_handler.specs.declared.holds.HandleHold.{HandleHold}
-use Rattle.ados_handler.specs.Table.{numbered_from_one}
+use Rattle.ados_handler.specs.steps.Table.{numbered_from_one}
 use Rattle.ados_handler.proofs.Tables.{get_suc, update_inserts}
 
 -- the handles with what is found under the number at this position

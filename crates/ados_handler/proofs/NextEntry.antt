@@ -12,7 +12,8 @@ use Rattle.ados_tree.specs.Walk.{is_file}
 use Rattle.ados_tree.specs.Change.{behind, entries_after}
 use Rattle.ados_tree.proofs.Nodes.{entry_node}
 use Rattle.ados_volume.specs.Examined.{file_info}
-use Rattle.ados_volume.specs.declared.examine.FileInfo.{FileInfo}
+use Rattle.ados_packet.specs.declared.dos_error.DosError.TheVariants.{DeviceNotMounted, InvalidLock, NoMoreEntries, ObjectNotFound, ObjectWrongType}
+use Rattle.ados_packet.specs.declared.info.FileInfo.{FileInfo}
 use Rattle.ados_volume.specs.Listing.{first_left}
 use Rattle.ados_packet.specs.Packet.{dos_true}
 use Rattle.ados_packet.specs.declared.packet.Packet.TheVariants.{ExamineNext}
@@ -74,7 +75,7 @@ module _ (t : Tree) (s : Session) (lock dir key : ℕ) (alive : s.died ≡ false
       let after : entries_after t (lock_key t s lock) key ≡ Some (next ∷ left.0) = ap (λ (d : ℕ). entries_after t d key) l.1 ∙ left.1 in
       let no_file : is_file t (lock_key t s lock) ≡ false = ap (is_file t) l.1 ∙ directory in
       let none : refusal t s (ExamineNext lock key) ≡ None =
-      λ i. first_refusal (refuse 218 (alive i) ∷ refuse 211 (not (l.0 i)) ∷ refuse 212 (no_file i) ∷ refuse 205 (is_none (after i)) ∷ refuse 232 (is_some_and is_empty (after i)) ∷ []) in
+      λ i. first_refusal (refuse DeviceNotMounted (alive i) ∷ refuse InvalidLock (not (l.0 i)) ∷ refuse ObjectWrongType (no_file i) ∷ refuse ObjectNotFound (is_none (after i)) ∷ refuse NoMoreEntries (is_some_and is_empty (after i)) ∷ []) in
       let is_told : answer ≡ record { action = pos 24; res1 = dos_true; res2 = pos 0; body = body.Entry (file_info t.format next node) } =
       answered ∙ (λ i. record { action = pos 24; res1 = dos_true; res2 = pos 0; body = body.Entry (told i) }) in
       subst (λ (a : Answer). Meaning t s (ExamineNext lock key) now t s a) (sym is_told)

@@ -7,6 +7,9 @@ use Rattle.ados_name.specs.declared.Date3.{Date3}
 use Rattle.ados_tree.specs.Tree.{Tree}
 use Rattle.ados_tree.specs.Stands.{Stands}
 use Rattle.ados_tree.specs.Walk.{is_file}
+use Rattle.ados_packet.specs.declared.dos_error.DosError.{DosError}
+use Rattle.ados_packet.specs.declared.dos_error.DosError.TheVariants.{DeviceNotMounted, NoFreeStore}
+use Rattle.ados_packet.specs.Numbers.{error_number}
 use Rattle.ados_packet.specs.Packet.{action_of, dos_false, failure_of, handed_back}
 use Rattle.ados_packet.specs.declared.packet.Packet.{Packet}
 use Rattle.ados_packet.specs.declared.packet.Packet.TheVariants.{FindInput}
@@ -20,14 +23,14 @@ use Rattle.ados_handler.specs.Success.{After, after, GivesHandle, Success}
 use Rattle.ados_handler.specs.Meaning.{IsRefused, Meaning, ServedOrNoMemory, makes_hold, sets_disk_date}
 use Rattle.ados_handler.specs.ProperSession.{IsProperSession}
 use Rattle.ados_handler.specs.Handler.{HandlerGives, HandlerState}
-use Rattle.ados_handler.specs.Opening.{AnswersHandle, IsOpened, IsUnopened, Opens, open_refusals}
+use Rattle.ados_handler.specs.steps.Opening.{AnswersHandle, IsOpened, IsUnopened, Opens, open_refusals}
 use Rattle.ados_handler.proofs.Holding.{not_in_use, proper_with_handle}
 use Rattle.ados_handler.proofs.Leaving.{leaves_all}
 use Rattle.ados_handler.proofs.Meant.{walked_on}
 
 -- ---- what a packet that opens a file means
 
-module _ (packet : Packet) (now : Date3) (rows : Tree → List (Option ℕ)) (success : Tree → After → Type 0) (old new : HandlerState) (answer : Answer) where
+module _ (packet : Packet) (now : Date3) (rows : Tree → List (Option DosError)) (success : Tree → After → Type 0) (old new : HandlerState) (answer : Answer) where
   -- the packet is this opening
   pub record IsOpening (t : Tree) : Type 0 where
     pub fails : failure_of packet ≡ dos_false
@@ -40,17 +43,17 @@ module _ (packet : Packet) (now : Date3) (rows : Tree → List (Option ℕ)) (su
   pub opening_gives : (o : Opens (action_of packet) rows success old new answer) → IsOpening o.tree → HandlerGives old packet now new answer
   opening_gives o is = go (first_refusal (rows o.tree)) refl o.means
     where
-      refused : (code : ℕ) → IsUnopened (action_of packet) code old new answer → IsRefused o.tree old.session packet code o.tree new.session answer
+      refused : (code : DosError) → IsUnopened (action_of packet) code old new answer → IsRefused o.tree old.session packet code o.tree new.session answer
       refused code u = record {
         tree = refl;
         session = ap (λ (h : HandlerState). h.session) u.same;
-        answered = u.answered ∙ (λ i. record { action = action_of packet; res1 = sym is.fails i; res2 = pos code; body = sym is.back i });
+        answered = u.answered ∙ (λ i. record { action = action_of packet; res1 = sym is.fails i; res2 = pos (error_number code); body = sym is.back i });
       }
 
-      meaning : (u : Tree) (r : Option ℕ) → first_refusal (rows o.tree) ≡ r → MatchOption r (ServedOrNoMemory o.tree old.session packet now u new.session answer) (λ code. IsRefused o.tree old.session packet code u new.session answer) → Meaning o.tree old.session packet now u new.session answer
-      meaning u r e m = subst (λ (r : Option ℕ). MatchOption r (ServedOrNoMemory o.tree old.session packet now u new.session answer) (λ code. IsRefused o.tree old.session packet code u new.session answer)) (sym (is.row ∙ e)) m
+      meaning : (u : Tree) (r : Option DosError) → first_refusal (rows o.tree) ≡ r → MatchOption r (ServedOrNoMemory o.tree old.session packet now u new.session answer) (λ code. IsRefused o.tree old.session packet code u new.session answer) → Meaning o.tree old.session packet now u new.session answer
+      meaning u r e m = subst (λ (r : Option DosError). MatchOption r (ServedOrNoMemory o.tree old.session packet now u new.session answer) (λ code. IsRefused o.tree old.session packet code u new.session answer)) (sym (is.row ∙ e)) m
 
-      unopened : (code : ℕ) → IsUnopened (action_of packet) code old new answer → Meaning o.tree old.session packet now o.tree new.session answer → HandlerGives old packet now new answer
+      unopened : (code : DosError) → IsUnopened (action_of packet) code old new answer → Meaning o.tree old.session packet now o.tree new.session answer → HandlerGives old packet now new answer
       unopened code u means = record {
         old_tree = o.tree;
         new_tree = o.tree;
@@ -61,9 +64,9 @@ module _ (packet : Packet) (now : Date3) (rows : Tree → List (Option ℕ)) (su
         validated = ap (λ (h : HandlerState). h.was_validated) u.same;
       }
 
-      go : (r : Option ℕ) → first_refusal (rows o.tree) ≡ r → MatchOption r (IsOpened (action_of packet) (success o.tree) old new answer ⊎ IsUnopened (action_of packet) 103 old new answer) (λ code. IsUnopened (action_of packet) code old new answer) → HandlerGives old packet now new answer
+      go : (r : Option DosError) → first_refusal (rows o.tree) ≡ r → MatchOption r (IsOpened (action_of packet) (success o.tree) old new answer ⊎ IsUnopened (action_of packet) NoFreeStore old new answer) (λ code. IsUnopened (action_of packet) code old new answer) → HandlerGives old packet now new answer
       go (Some code) e u = unopened code u (meaning o.tree (Some code) e (refused code u))
-      go None e (inr u) = unopened 103 u (meaning o.tree None e (inr (is.makes, refused 103 u)))
+      go None e (inr u) = unopened NoFreeStore u (meaning o.tree None e (inr (is.makes, refused NoFreeStore u)))
       go None e (inl d) = record {
         old_tree = o.tree;
         new_tree = d.tree;
@@ -75,12 +78,12 @@ module _ (packet : Packet) (now : Date3) (rows : Tree → List (Option ℕ)) (su
       }
 
 -- an opening that no refusal stands against, and that is done
-pub done_opens : (action : ℤ) (rows : Tree → List (Option ℕ)) (gives : Tree → After → Type 0) (old new : HandlerState) (answer : Answer) (t : Tree) → Stands old.image t → first_refusal (rows t) ≡ None
+pub done_opens : (action : ℤ) (rows : Tree → List (Option DosError)) (gives : Tree → After → Type 0) (old new : HandlerState) (answer : Answer) (t : Tree) → Stands old.image t → first_refusal (rows t) ≡ None
     → IsOpened action (gives t) old new answer → Opens action rows gives old new answer
 done_opens action rows gives old new answer t stood none done = record {
   tree = t;
   stood = stood;
-  means = subst (λ (r : Option ℕ). MatchOption r (IsOpened action (gives t) old new answer ⊎ IsUnopened action 103 old new answer) (λ code. IsUnopened action code old new answer)) (sym none) (inl done);
+  means = subst (λ (r : Option DosError). MatchOption r (IsOpened action (gives t) old new answer ⊎ IsUnopened action NoFreeStore old new answer) (λ code. IsUnopened action code old new answer)) (sym none) (inl done);
 }
 
 -- ---- FINDINPUT
@@ -90,7 +93,7 @@ module _ (old : HandlerState) (lock : ℕ) (path : List ℕ) (key : ℕ) (alive 
   input_row t walk =
       let s = old.session in
       let w = walked_on t s lock path key (open_refusals s (object t s lock path) t) walk in
-      (ap (λ (b : Bool). first_refusal (refuse 218 b ∷ refusals t s (FindInput lock path))) alive ∙ w.0 ∙ ap (λ (k : ℕ). first_refusal (open_refusals s k t)) w.1, w.1)
+      (ap (λ (b : Bool). first_refusal (refuse DeviceNotMounted b ∷ refusals t s (FindInput lock path))) alive ∙ w.0 ∙ ap (λ (k : ℕ). first_refusal (open_refusals s k t)) w.1, w.1)
 
   pub input_gives : (there new : HandlerState) (answer : Answer) (now : Date3) → ((t : Tree) → Stands old.image t → walked t old.session lock path ≡ Ok key)
       → there ≡ old → Opens (pos 1005) (open_refusals there.session key) (λ t left. GivesHandle t there.session key false left) there new answer → new.image ≡ there.image → HandlerGives old (FindInput lock path) now new answer

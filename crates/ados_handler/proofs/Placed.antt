@@ -1,32 +1,47 @@
 -- Places that packets name, and what a refused packet means.
-use Rattle.std.proofs.Common.{◌≡◌, ℕ, pos, Bool, true, false, cond, not, List, [], ◌∷◌, Option, Some, MatchOption, Result, Ok, Err, option_map, refl, sym, ap, subst}
+use Rattle.std.proofs.Common.{◌≡◌, ℕ, Bool, true, false, cond, not, List, [], ◌∷◌, Option, Some, MatchOption, Result, Ok, Err, option_map, refl, sym, ap, ◌∙◌, subst}
 use Rattle.std.specs.Result.{result_err, result_unwrap_or}
 use Rattle.ados_name.specs.declared.Date3.{Date3}
 use Rattle.ados_tree.specs.Tree.{Tree}
 use Rattle.ados_tree.specs.declared.path_fault.PlaceFault.{PlaceFault}
+use Rattle.ados_packet.specs.declared.dos_error.DosError.{DosError}
+use Rattle.ados_packet.specs.declared.dos_error.DosError.TheVariants.{DeviceNotMounted, InvalidLock}
 use Rattle.ados_packet.specs.declared.packet.Packet.{Packet}
 use Rattle.ados_packet.specs.declared.answer.Answer.{Answer}
 use Rattle.ados_handler.specs.Session.{Session, is_lock}
 use Rattle.ados_handler.specs.Objects.{place_error, place_result, placed, placed_at, spot}
-use Rattle.ados_handler.specs.Refusals.{first_refusal, refusal, refuse}
+use Rattle.ados_handler.specs.Refusals.{first_refusal, refusal, refusals, refuse}
 use Rattle.ados_handler.specs.Meaning.{IsRefused, Meaning, ServedOrNoMemory}
 
 -- a path that names a place is no refusal
-pub placed_on : (t : Tree) (s : Session) (lock : ℕ) (path : List ℕ) (there : ℕ × List ℕ) (more : List (Option ℕ)) → placed_at t s lock path ≡ Ok there
-    → (first_refusal (refuse 211 (not (is_lock s lock)) ∷ option_map place_error (result_err (placed t s lock path)) ∷ more) ≡ first_refusal more) × (spot t s lock path ≡ there)
+pub placed_on : (t : Tree) (s : Session) (lock : ℕ) (path : List ℕ) (there : ℕ × List ℕ) (more : List (Option DosError)) → placed_at t s lock path ≡ Ok there
+    → (first_refusal (refuse InvalidLock (not (is_lock s lock)) ∷ option_map place_error (result_err (placed t s lock path)) ∷ more) ≡ first_refusal more) × (spot t s lock path ≡ there)
 placed_on t s lock path there more = go (is_lock s lock) (placed t s lock path)
   where
-    go : (b : Bool) (r : Result (ℕ × List ℕ) PlaceFault) → cond b (place_result r) (Err (pos 211)) ≡ Ok there
-        → (first_refusal (refuse 211 (not b) ∷ option_map place_error (result_err r) ∷ more) ≡ first_refusal more) × (result_unwrap_or r (0, []) ≡ there)
+    go : (b : Bool) (r : Result (ℕ × List ℕ) PlaceFault) → cond b (place_result r) (Err InvalidLock) ≡ Ok there
+        → (first_refusal (refuse InvalidLock (not b) ∷ option_map place_error (result_err r) ∷ more) ≡ first_refusal more) × (result_unwrap_or r (0, []) ≡ there)
     go true (Ok p) e = (refl, cc e)
     go true (Err fault) e = absurd (cc e)
     go false r e = absurd (cc e)
 
+-- and one that names none is
+pub place_refused : (t : Tree) (s : Session) (packet : Packet) (lock : ℕ) (path : List ℕ) (error : DosError) (rest : List (Option DosError))
+    → refusals t s packet ≡ refuse InvalidLock (not (is_lock s lock)) ∷ option_map place_error (result_err (placed t s lock path)) ∷ rest
+    → s.died ≡ false → placed_at t s lock path ≡ Err error → refusal t s packet ≡ Some error
+place_refused t s packet lock path error rest row alive e =
+    ap (λ (d : Bool). first_refusal (refuse DeviceNotMounted d ∷ refusals t s packet)) alive ∙ ap first_refusal row ∙ go (is_lock s lock) (placed t s lock path) e
+  where
+    go : (b : Bool) (r : Result (ℕ × List ℕ) PlaceFault) → cond b (place_result r) (Err InvalidLock) ≡ Err error
+        → first_refusal (refuse InvalidLock (not b) ∷ option_map place_error (result_err r) ∷ rest) ≡ Some error
+    go true (Ok p) e = absurd (cc e)
+    go true (Err fault) e = let is : place_error fault ≡ error = cc e in ap Some is
+    go false r e = let is : InvalidLock ≡ error = cc e in ap Some is
+
 -- a refusal that does not hold is passed over
-pub passed : (code : ℕ) (test : Bool) (more : List (Option ℕ)) → test ≡ false → first_refusal (refuse code test ∷ more) ≡ first_refusal more
+pub passed : (code : DosError) (test : Bool) (more : List (Option DosError)) → test ≡ false → first_refusal (refuse code test ∷ more) ≡ first_refusal more
 passed code test more e = ap (λ (b : Bool). first_refusal (refuse code b ∷ more)) e
 
 -- a packet that a refusal stands against is refused
-pub refused_means : (t : Tree) (s new : Session) (packet : Packet) (now : Date3) (answer : Answer) (code : ℕ) → refusal t s packet ≡ Some code → IsRefused t s packet code t new answer → Meaning t s packet now t new answer
+pub refused_means : (t : Tree) (s new : Session) (packet : Packet) (now : Date3) (answer : Answer) (code : DosError) → refusal t s packet ≡ Some code → IsRefused t s packet code t new answer → Meaning t s packet now t new answer
 refused_means t s new packet now answer code some refused =
-    subst (λ (o : Option ℕ). MatchOption o (ServedOrNoMemory t s packet now t new answer) (λ code. IsRefused t s packet code t new answer)) (sym some) refused
+    subst (λ (o : Option DosError). MatchOption o (ServedOrNoMemory t s packet now t new answer) (λ code. IsRefused t s packet code t new answer)) (sym some) refused

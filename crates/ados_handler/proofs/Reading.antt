@@ -10,6 +10,8 @@ use Rattle.ados_name.specs.declared.Date3.{Date3}
 use Rattle.ados_tree.specs.Tree.{Content, Tree, Proper, root, bytes_in, bytes_of, content_at, parent_of, size_in, size_of}
 use Rattle.ados_tree.specs.Tree.Content.{Directory, File}
 use Rattle.ados_tree.specs.Walk.{is_file}
+use Rattle.ados_packet.specs.declared.dos_error.DosError.{DosError}
+use Rattle.ados_packet.specs.declared.dos_error.DosError.TheVariants.{DeviceNotMounted, InvalidLock, NoFreeStore, ObjectInUse, ObjectWrongType, SeekError}
 use Rattle.ados_packet.specs.declared.packet.Packet.{Packet}
 use Rattle.ados_packet.specs.declared.packet.Packet.TheVariants.{Die, LocateObject, FreeLock, CopyDir, Parent, Read, FindInput, End, Seek}
 use Rattle.ados_packet.specs.declared.answer.Body.{Body}
@@ -34,17 +36,17 @@ size_is (Some (Directory keys)) = refl
 size_is (Some (File bytes)) = refl
 
 -- none of these refuses
-abbrev pub NoneRefuses : List (Option ℕ) → Type 0
+abbrev pub NoneRefuses : List (Option DosError) → Type 0
 NoneRefuses [] = Unit {0}
 NoneRefuses (o ∷ more) = (o ≡ None) × NoneRefuses more
 
 -- a list of refusals gives none where none of them does
-pub none_refuses : (list : List (Option ℕ)) → first_refusal list ≡ None → NoneRefuses list
+pub none_refuses : (list : List (Option DosError)) → first_refusal list ≡ None → NoneRefuses list
 none_refuses [] h = tt
 none_refuses (None ∷ more) h = (refl, none_refuses more h)
 none_refuses (Some c ∷ more) h = absurd (none-some c (sym h))
 
-pub not_refused : (code : ℕ) (b : Bool) → refuse code b ≡ None → b ≡ false
+pub not_refused : (code : DosError) (b : Bool) → refuse code b ≡ None → b ≡ false
 not_refused code true h = absurd (none-some code (sym h))
 not_refused code false h = refl
 
@@ -69,13 +71,13 @@ pub by_success : (packet : Packet)
     → KeepsProper packet
 by_success packet keeps t new_tree s new_session now answer proper session meaning = go (refusal t s packet) refl meaning
   where
-    unchanged : (code : ℕ) → IsRefused t s packet code new_tree new_session answer → Proper new_tree × IsProperSession new_tree new_session
+    unchanged : (code : DosError) → IsRefused t s packet code new_tree new_session answer → Proper new_tree × IsProperSession new_tree new_session
     unchanged code w = (subst Proper (sym w.tree) proper, subst (λ u. IsProperSession u new_session) (sym w.tree) (subst (λ u. IsProperSession t u) (sym w.session) session))
 
-    go : (o : Option ℕ) → refusal t s packet ≡ o → MatchOption o (ServedOrNoMemory t s packet now new_tree new_session answer) (λ code. IsRefused t s packet code new_tree new_session answer) → Proper new_tree × IsProperSession new_tree new_session
+    go : (o : Option DosError) → refusal t s packet ≡ o → MatchOption o (ServedOrNoMemory t s packet now new_tree new_session answer) (λ code. IsRefused t s packet code new_tree new_session answer) → Proper new_tree × IsProperSession new_tree new_session
     go (Some code) e w = unchanged code w
     go None e (inl w) = keeps t s now (after new_tree new_session answer.res1 answer.body) proper session e w.success
-    go None e (inr w) = unchanged 103 w.1
+    go None e (inr w) = unchanged NoFreeStore w.1
 
 module _ (t : Tree) (s : Session) (now : Date3) (result : After) (proper : Proper t) (session : IsProperSession t s) where
   -- a packet that changed nothing, and one that died
@@ -112,8 +114,8 @@ module _ (t : Tree) (s : Session) (now : Date3) (result : After) (proper : Prope
   -- the object of a shared lock can be locked again
   pub copy : (lock : ℕ) → refusal t s (CopyDir lock) ≡ None → Success t s (CopyDir lock) now result → IsProperAfter result
   copy lock none w =
-      let no = none_refuses (refuse 218 s.died ∷ refusals t s (CopyDir lock)) none
-      in go (nat_eq lock 0) (get s.locks lock) refl (from_not (is_lock s lock) (not_refused 211 _ no.1.0)) (not_refused 202 _ no.1.1.0) w
+      let no = none_refuses (refuse DeviceNotMounted s.died ∷ refusals t s (CopyDir lock)) none
+      in go (nat_eq lock 0) (get s.locks lock) refl (from_not (is_lock s lock) (not_refused InvalidLock _ no.1.0)) (not_refused ObjectInUse _ no.1.1.0) w
     where
       go : (b : Bool) (o : Option LockHold) → get s.locks lock ≡ o → b || is_some o ≡ true → cond b false (option_map_or (λ l. l.exclusive) o false) ≡ false
           → MatchBool b (result ≡ after t s (pos 0) Empty) (GivesLock t s (cond b (root t) (option_map_or (λ l. l.key) o 0)) false result) → IsProperAfter result
@@ -123,20 +125,20 @@ module _ (t : Tree) (s : Session) (now : Date3) (result : After) (proper : Prope
 
   pub locate : (lock : ℕ) (path : List ℕ) (mode : ℤ) → refusal t s (LocateObject lock path mode) ≡ None → Success t s (LocateObject lock path mode) now result → IsProperAfter result
   locate lock path mode none w =
-      let no = none_refuses (refuse 218 s.died ∷ refusals t s (LocateObject lock path mode)) none
-      in let held = from_not (is_lock s lock) (not_refused 211 _ no.1.0)
-      in gives_lock (object t s lock path) (is_exclusive_mode mode) (found_is_key t proper s session lock path _ held (no_error walk_error (found t s lock path) 0 no.1.1.0)) (not_in_use s _ _ (not_refused 202 _ no.1.1.1.0)) w
+      let no = none_refuses (refuse DeviceNotMounted s.died ∷ refusals t s (LocateObject lock path mode)) none
+      in let held = from_not (is_lock s lock) (not_refused InvalidLock _ no.1.0)
+      in gives_lock (object t s lock path) (is_exclusive_mode mode) (found_is_key t proper s session lock path _ held (no_error walk_error (found t s lock path) 0 no.1.1.0)) (not_in_use s _ _ (not_refused ObjectInUse _ no.1.1.1.0)) w
 
   pub find_input : (lock : ℕ) (path : List ℕ) → refusal t s (FindInput lock path) ≡ None → Success t s (FindInput lock path) now result → IsProperAfter result
   find_input lock path none w =
-      let no = none_refuses (refuse 218 s.died ∷ refusals t s (FindInput lock path)) none
-      in let held = from_not (is_lock s lock) (not_refused 211 _ no.1.0)
-      in gives_handle (object t s lock path) false (found_is_key t proper s session lock path _ held (no_error walk_error (found t s lock path) 0 no.1.1.0)) (from_not _ (not_refused 212 _ no.1.1.1.0)) (not_in_use s _ _ (not_refused 202 _ no.1.1.1.1.0)) w
+      let no = none_refuses (refuse DeviceNotMounted s.died ∷ refusals t s (FindInput lock path)) none
+      in let held = from_not (is_lock s lock) (not_refused InvalidLock _ no.1.0)
+      in gives_handle (object t s lock path) false (found_is_key t proper s session lock path _ held (no_error walk_error (found t s lock path) 0 no.1.1.0)) (from_not _ (not_refused ObjectWrongType _ no.1.1.1.0)) (not_in_use s _ _ (not_refused ObjectInUse _ no.1.1.1.1.0)) w
 
   pub parent : (lock : ℕ) → refusal t s (Parent lock) ≡ None → Success t s (Parent lock) now result → IsProperAfter result
   parent lock none w =
-      let no = none_refuses (refuse 218 s.died ∷ refusals t s (Parent lock)) none
-      in go (parent_of t (lock_key t s lock)) refl (not_refused 202 _ no.1.1.0) w
+      let no = none_refuses (refuse DeviceNotMounted s.died ∷ refusals t s (Parent lock)) none
+      in go (parent_of t (lock_key t s lock)) refl (not_refused ObjectInUse _ no.1.1.0) w
     where
       go : (o : Option ℕ) → parent_of t (lock_key t s lock) ≡ o → is_some_and (λ directory. is_held_exclusively s directory) o ≡ false
           → MatchOption o (result ≡ after t s (pos 0) Empty) (λ directory. GivesLock t s directory false result) → IsProperAfter result
@@ -173,8 +175,8 @@ module _ (t : Tree) (s : Session) (now : Date3) (result : After) (proper : Prope
 
   pub seek : (handle : ℕ) (offset mode : ℤ) → refusal t s (Seek handle offset mode) ≡ None → Success t s (Seek handle offset mode) now result → IsProperAfter result
   seek handle offset mode none e =
-      let no = none_refuses (refuse 218 s.died ∷ refusals t s (Seek handle offset mode)) none
-      in same_after result _ e (proper, moved handle _ (in_range (size_of t (handle_key s handle)) (seek_target (handle_position s handle) (size_of t (handle_key s handle)) offset mode) (not_refused 219 _ no.1.1.0)))
+      let no = none_refuses (refuse DeviceNotMounted s.died ∷ refusals t s (Seek handle offset mode)) none
+      in same_after result _ e (proper, moved handle _ (in_range (size_of t (handle_key s handle)) (seek_target (handle_position s handle) (size_of t (handle_key s handle)) offset mode) (not_refused SeekError _ no.1.1.0)))
     where
       in_range : (size : ℕ) (target : Option ℤ) → is_bad_target size target ≡ false → target_number target ≤ size
       in_range size None h = omega arith

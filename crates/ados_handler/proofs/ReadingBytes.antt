@@ -7,6 +7,7 @@ use Rattle.ados_name.specs.declared.Date3.{Date3}
 use Rattle.ados_name.specs.Protection.{denies_read}
 use Rattle.ados_tree.specs.Tree.{Tree, bytes_of, content_at, size_of}
 use Rattle.ados_tree.specs.Stands.{Stands}
+use Rattle.ados_packet.specs.declared.dos_error.DosError.TheVariants.{ReadProtected}
 use Rattle.ados_packet.specs.declared.packet.Packet.TheVariants.{Read}
 use Rattle.ados_packet.specs.declared.answer.Answer.{Answer}
 use Rattle.ados_packet.specs.declared.answer.Body.TheVariants.{Buffer}
@@ -40,8 +41,8 @@ module _ (t : Tree) (s : Session) (handle : ℕ) (buffer : List ℕ) (hold : Han
   read_means new now filled alive readable bytes moved =
       let denied = ap (λ (key : ℕ). denies_read (protection_of t key)) (key_is s handle hold at) ∙ readable in
       let none : refusal t s (Read handle buffer) ≡ None =
-      opened_on s handle hold at alive (refuse 224 (denies_read (protection_of t (handle_key s handle))) ∷ [])
-      ∙ ap (λ (b : Bool). first_refusal (refuse 224 b ∷ [])) denied in
+      opened_on s handle hold at alive (refuse ReadProtected (denies_read (protection_of t (handle_key s handle))) ∷ [])
+      ∙ ap (λ (b : Bool). first_refusal (refuse ReadProtected b ∷ [])) denied in
       let moves = moved ∙ ap₂ (λ (p n : ℕ). at_position handle (p + n) s) (sym (position_is s handle hold at)) (sym count_is) in
       let given = bytes ∙ ap₂ (λ (xs : List ℕ) (n : ℕ). xs ++ drop n buffer) (sym read_is) (sym count_is) in
       served_means t t s new (Read handle buffer) now _ none

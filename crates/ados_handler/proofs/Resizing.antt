@@ -5,7 +5,7 @@ use Rattle.std.specs.Ordering.{nat_cmp}
 use Rattle.std.specs.Cmp.{nat_cmp_total}
 use Rattle.std.specs.FinMap as numbered
 use Rattle.std.specs.FinMap.{get, find, nat_cmp-IsAntisymmetric, get-from_sorted, get-from_entries, entries-from_sorted, same_map}
-use Rattle.std.proofs.lemmas.Bool.{eqb-true, false_from_ne_true, le-ltb, lt-ltb, ltb-true, ne_eqb, not-false}
+use Rattle.std.proofs.lemmas.Bool.{eqb-true, false_from_ne_true, le-ltb, lt-ltb, ne_eqb, not-false}
 use Rattle.slab.specs.Slab.{Slab, RetainsFrom, entries_from}
 use Rattle.adf_block.specs.declared.Format.{Format}
 use Rattle.adf_block.specs.declared.Format.TheVariants.{Ofs, Ffs}
@@ -16,7 +16,10 @@ use Rattle.ados_tree.specs.Tree.{Tree, free, size_of}
 use Rattle.ados_tree.specs.Stands.{Stands}
 use Rattle.ados_tree.specs.Kept.{Kept}
 use Rattle.ados_tree.specs.Change.{grown, shortened}
-use Rattle.ados_contents.specs.Renewed.{NeedsMore}
+use Rattle.change_bytes.specs.Renewed.{NeedsMore}
+use Rattle.ados_packet.specs.declared.dos_error.DosError.{DosError}
+use Rattle.ados_packet.specs.declared.dos_error.DosError.TheVariants.{DiskFull, SeekError, WriteProtected}
+use Rattle.ados_packet.specs.Numbers.{error_number}
 use Rattle.ados_packet.specs.Packet.{dos_true}
 use Rattle.ados_packet.specs.declared.packet.Packet.{Packet}
 use Rattle.ados_packet.specs.declared.packet.Packet.TheVariants.{SetFileSize}
@@ -24,7 +27,7 @@ use Rattle.ados_packet.specs.declared.answer.Answer.{Answer}
 use Rattle.ados_packet.specs.declared.answer.Body.TheVariants.{Empty}
 use Rattle.ados_handler.specs.declared.holds.HandleHold.{HandleHold}
 use Rattle.ados_handler.specs.Session.{handle_key, positions_within}
-use Rattle.ados_handler.specs.Table.{numbered_from_one}
+use Rattle.ados_handler.specs.steps.Table.{numbered_from_one}
 use Rattle.ados_handler.specs.Objects.{handle_target, is_bad_target, needs_more, protection_of, seek_target, target_number}
 use Rattle.ados_handler.specs.Refusals.{first_refusal, refusal, refuse}
 use Rattle.ados_handler.specs.Success.{after, resized}
@@ -66,11 +69,11 @@ pub full_or_grown : {A E : Type 0} (now : Date3) (key size : ℕ) (old new : Lis
     → MatchResult r (λ _. (t : Tree) → Stands old t → (needs_more t key size ≡ false) × Stands new (resized now key size t)) (λ _. Same × ((t : Tree) → Stands old t → needs_more t key size ≡ true))
 full_or_grown now key size old new (Ok x) Same longer done = λ t stands.
     let d = done t stands in (
-      false_from_ne_true (needs_more t key size) (λ e. d.0 (ltb-true (free t + block_cost t.format (size_of t key)) (block_cost t.format size) e)),
+      false_from_ne_true (needs_more t key size) d.0,
       subst (Stands new) (sym (resized_longer now key size t (longer t stands))) d.1,
     )
 full_or_grown now key size old new (Err x) Same longer done =
-    (done.0, λ t stands. lt-ltb (free t + block_cost t.format (size_of t key)) (block_cost t.format size) (done.1 t stands))
+    done
 
 -- SET_FILE_SIZE by a handle that is held, on a file that may be written, of a handler that has not died
 module _ (old given : HandlerState) (same : old ≡ given) (t : Tree) (stood : Stands old.image t) (handle : ℕ) (offset mode : ℤ) (now : Date3) (hold : HandleHold) (at : get given.session.handles handle ≡ Some hold)
@@ -90,39 +93,39 @@ module _ (old given : HandlerState) (same : old ≡ given) (t : Tree) (stood : S
   target_is : handle_target t old.session handle offset mode ≡ target
   target_is = ap₂ (λ (p z : ℕ). seek_target p z offset mode) (position_is old.session handle hold by_handle) (ap (size_of t) file_is ∙ sym is)
 
-  row : (bad more : Bool) → is_bad_target 2147483647 target ≡ bad → needs_more t hold.key (target_number target) ≡ more → refusal t old.session packet ≡ first_refusal (refuse 219 bad ∷ refuse 221 more ∷ [])
+  row : (bad more : Bool) → is_bad_target 2147483647 target ≡ bad → needs_more t hold.key (target_number target) ≡ more → refusal t old.session packet ≡ first_refusal (refuse SeekError bad ∷ refuse DiskFull more ∷ [])
   row bad more b m =
       let denied = ap (λ (k : ℕ). denies_write (protection_of t k)) file_is ∙ free in
       let is_bad = ap (is_bad_target 2147483647) target_is ∙ b in
       let needs = ap₂ (needs_more t) file_is (ap target_number target_is) ∙ m in
       opened_on old.session handle hold by_handle alive
-      (refuse 223 (denies_write (protection_of t (handle_key old.session handle))) ∷ refuse 219 (is_bad_target 2147483647 (handle_target t old.session handle offset mode))
-      ∷ refuse 221 (needs_more t (handle_key old.session handle) (target_number (handle_target t old.session handle offset mode))) ∷ [])
-      ∙ (λ i. first_refusal (refuse 223 (denied i) ∷ refuse 219 (is_bad i) ∷ refuse 221 (needs i) ∷ []))
+      (refuse WriteProtected (denies_write (protection_of t (handle_key old.session handle))) ∷ refuse SeekError (is_bad_target 2147483647 (handle_target t old.session handle offset mode))
+      ∷ refuse DiskFull (needs_more t (handle_key old.session handle) (target_number (handle_target t old.session handle offset mode))) ∷ [])
+      ∙ (λ i. first_refusal (refuse WriteProtected (denied i) ∷ refuse SeekError (is_bad i) ∷ refuse DiskFull (needs i) ∷ []))
 
-  refused : (new : HandlerState) (answer : Answer) (code : ℕ) → refusal t old.session packet ≡ Some code → new ≡ old → answer ≡ record { action = pos 1022; res1 = pos 0; res2 = pos code; body = Empty } → HandlerGives given packet now new answer
+  refused : (new : HandlerState) (answer : Answer) (code : DosError) → refusal t old.session packet ≡ Some code → new ≡ old → answer ≡ record { action = pos 1022; res1 = pos 0; res2 = pos (error_number code); body = Empty } → HandlerGives given packet now new answer
   refused new answer code first stays answered = subst (λ (h : HandlerState). HandlerGives h packet now new answer) same (record {
     old_tree = t;
     new_tree = t;
     stood = stood;
     stands = subst (λ (h : HandlerState). Stands h.image t) (sym stays) stood;
-    means = subst (λ (o : Option ℕ). MatchOption o (ServedOrNoMemory t old.session packet now t new.session answer) (λ c. IsRefused t old.session packet c t new.session answer)) (sym first)
+    means = subst (λ (o : Option DosError). MatchOption o (ServedOrNoMemory t old.session packet now t new.session answer) (λ c. IsRefused t old.session packet c t new.session answer)) (sym first)
         (record { tree = refl; session = ap (λ (h : HandlerState). h.session) stays; answered = answered });
     leaves = leaves_all t old packet new answer (ap (λ (h : HandlerState). h.image) stays);
     validated = ap (λ (h : HandlerState). h.was_validated) stays;
   })
 
   -- the target is no size
-  pub bad_gives : (answer : Answer) → is_bad_target 2147483647 target ≡ true → answer ≡ record { action = pos 1022; res1 = pos 0; res2 = pos 219; body = Empty } → HandlerGives given packet now given answer
-  bad_gives answer bad answered = subst (λ (h : HandlerState). HandlerGives given packet now h answer) same (refused old answer 219 (row true _ bad refl) refl answered)
+  pub bad_gives : (answer : Answer) → is_bad_target 2147483647 target ≡ true → answer ≡ record { action = pos 1022; res1 = pos 0; res2 = pos (error_number SeekError); body = Empty } → HandlerGives given packet now given answer
+  bad_gives answer bad answered = subst (λ (h : HandlerState). HandlerGives given packet now h answer) same (refused old answer SeekError (row true _ bad refl) refl answered)
 
   module _ (size : ℕ) (good : is_bad_target 2147483647 target ≡ false) (there : size ≡ target_number target) (new : HandlerState) (answer : Answer) where
     size_is : target_number (handle_target t old.session handle offset mode) ≡ size
     size_is = ap target_number target_is ∙ sym there
 
     -- there is no room for it
-    pub full_gives : needs_more t hold.key size ≡ true → new ≡ old → answer ≡ record { action = pos 1022; res1 = pos 0; res2 = pos 221; body = Empty } → HandlerGives given packet now new answer
-    full_gives more stays answered = refused new answer 221 (row false true good (ap (needs_more t hold.key) (sym there) ∙ more)) stays answered
+    pub full_gives : needs_more t hold.key size ≡ true → new ≡ old → answer ≡ record { action = pos 1022; res1 = pos 0; res2 = pos (error_number DiskFull); body = Empty } → HandlerGives given packet now new answer
+    full_gives more stays answered = refused new answer DiskFull (row false true good (ap (needs_more t hold.key) (sym there) ∙ more)) stays answered
 
     -- the file has it now
     pub sized_gives : needs_more t hold.key size ≡ false → Stands new.image (resized now hold.key size t) → Kept old.image new.image

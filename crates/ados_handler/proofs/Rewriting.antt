@@ -12,11 +12,12 @@ use Rattle.ados_tree.specs.Tree.{Content, Node, Tree, Proper, root, bytes_in, by
 use Rattle.ados_tree.specs.Tree.Content.{Directory, File}
 use Rattle.ados_tree.specs.Walk.{is_file, holds_file}
 use Rattle.ados_tree.specs.Change.{grown, overlaid, rewritten, shortened, without_archive, written}
-use Rattle.ados_fields.proofs.Cases.{changed_node}
-use Rattle.ados_contents.specs.Stamps.{touched}
-use Rattle.ados_contents.proofs.Content.{file_not_root, proper_after as refilled_proper}
-use Rattle.ados_contents.proofs.Renewed.{is_rewritten}
-use Rattle.ados_entries.proofs.Changed.{nodes_other}
+use Rattle.change_fields.proofs.Cases.{changed_node}
+use Rattle.change_bytes.specs.Stamps.{touched}
+use Rattle.change_bytes.proofs.Content.{file_not_root, proper_after as refilled_proper}
+use Rattle.change_bytes.proofs.Renewed.{is_rewritten}
+use Rattle.change_entries.proofs.Changed.{nodes_other}
+use Rattle.ados_packet.specs.declared.dos_error.DosError.TheVariants.{DeviceNotMounted, InvalidLock}
 use Rattle.ados_packet.specs.declared.packet.Packet.TheVariants.{Write, SetFileSize}
 use Rattle.ados_handler.specs.Session.{Session, at_position, handle_key, handle_position, is_handle, positions_within, within}
 use Rattle.ados_handler.specs.declared.holds.HandleHold.{HandleHold}
@@ -135,9 +136,9 @@ bytes_are t key f = ap (λ (o : Option Node). bytes_in (option_map (λ node. nod
 
 -- ---- WRITE
 
-length-overlaid : (pos : ℕ) (new old : List ℕ) → pos ≤ length old → (length old ≤ length (overlaid pos new old)) × (pos + length new ≤ length (overlaid pos new old))
+length-overlaid : (pos : ℕ) (new old : List ℕ) → pos ≤ length old → (length old ≤ length (overlaid old pos new)) × (pos + length new ≤ length (overlaid old pos new))
 length-overlaid pos new old fits =
-    let outer : length (overlaid pos new old) ≡ length (take pos old ++ new) + length (drop (pos + length new) old) = length-append (take pos old ++ new) (drop (pos + length new) old) in
+    let outer : length (overlaid old pos new) ≡ length (take pos old ++ new) + length (drop (pos + length new) old) = length-append (take pos old ++ new) (drop (pos + length new) old) in
     let inner = length-append (take pos old) new in
     let front = length-take pos old in
     let back = length-drop (pos + length new) old in
@@ -145,8 +146,8 @@ length-overlaid pos new old fits =
 
 pub write_keeps : (handle : ℕ) (bytes : List ℕ) → KeepsProper (Write handle bytes)
 write_keeps handle bytes = by_success (Write handle bytes) (λ t s now result proper session none w.
-    let no = none_refuses (refuse 218 s.died ∷ refusals t s (Write handle bytes)) none in
-    let on = on_file t s session handle (from_not (is_handle s handle) (not_refused 211 _ no.1.0)) in
+    let no = none_refuses (refuse DeviceNotMounted s.died ∷ refusals t s (Write handle bytes)) none in
+    let on = on_file t s session handle (from_not (is_handle s handle) (not_refused InvalidLock _ no.1.0)) in
     same_after result _ w (go t s now result proper session on bytes))
   where
     go : (t : Tree) (s : Session) (now : Date3) (result : After) → Proper t → IsProperSession t s → IsOnFile t s handle → (new : List ℕ)
@@ -155,7 +156,7 @@ write_keeps handle bytes = by_success (Write handle bytes) (λ t s now result pr
     go t s now result proper session on (c ∷ cs) =
         let key = handle_key s handle in
         let pos = handle_position s handle in
-        let new : List ℕ = overlaid pos (c ∷ cs) (bytes_of t key) in
+        let new : List ℕ = overlaid (bytes_of t key) pos (c ∷ cs) in
         let u = rewrite t proper key on.file new now in
         let good = rewritten_proper t proper key on.file new now in
         let size = size_is (option_map (λ (node : Node). node.content) (t.nodes key)) in
@@ -241,8 +242,8 @@ drawn_session t u s session key size there file is carried = record {
 
 pub set_file_size_keeps : (handle : ℕ) (offset mode : ℤ) → KeepsProper (SetFileSize handle offset mode)
 set_file_size_keeps handle offset mode = by_success (SetFileSize handle offset mode) (λ t s now result proper session none w.
-    let no = none_refuses (refuse 218 s.died ∷ refusals t s (SetFileSize handle offset mode)) none in
-    let on = on_file t s session handle (from_not (is_handle s handle) (not_refused 211 _ no.1.0)) in
+    let no = none_refuses (refuse DeviceNotMounted s.died ∷ refusals t s (SetFileSize handle offset mode)) none in
+    let on = on_file t s session handle (from_not (is_handle s handle) (not_refused InvalidLock _ no.1.0)) in
     let key = handle_key s handle in
     same_after result _ w (resized_keeps t s now proper session key (target_number (handle_target t s handle offset mode)) on.file))
   where

@@ -5,6 +5,7 @@ use Rattle.std.specs.FinMap.{FinMap, get}
 use Rattle.ados_name.specs.declared.Date3.{Date3}
 use Rattle.ados_tree.specs.Tree.{Tree, size_of}
 use Rattle.ados_tree.specs.Stands.{Stands}
+use Rattle.ados_packet.specs.declared.dos_error.DosError.TheVariants.{SeekError}
 use Rattle.ados_packet.specs.declared.packet.Packet.{Packet}
 use Rattle.ados_packet.specs.declared.packet.Packet.TheVariants.{Seek}
 use Rattle.ados_packet.specs.declared.answer.Answer.{Answer}
@@ -36,8 +37,8 @@ module _ (old given : HandlerState) (same : old ≡ given) (t : Tree) (stood : S
       let sized : size_of t (handle_key s handle) ≡ size = ap (size_of t) (key_is s handle hold held) ∙ sym (is t (subst (λ (h : HandlerState). Stands h.image t) same stood)) in
       let leads : handle_target t s handle offset mode ≡ target = ap₂ (λ (p z : ℕ). seek_target p z offset mode) stands sized in
       let none : refusal t s packet ≡ None =
-      opened_on s handle hold held alive (refuse 219 (is_bad_target (size_of t (handle_key s handle)) (handle_target t s handle offset mode)) ∷ [])
-      ∙ ap (λ (b : Bool). first_refusal (refuse 219 b ∷ [])) (ap₂ is_bad_target sized leads ∙ good) in
+      opened_on s handle hold held alive (refuse SeekError (is_bad_target (size_of t (handle_key s handle)) (handle_target t s handle offset mode)) ∷ [])
+      ∙ ap (λ (b : Bool). first_refusal (refuse SeekError b ∷ [])) (ap₂ is_bad_target sized leads ∙ good) in
       let arrives : position ≡ target_number (handle_target t s handle offset mode) = there ∙ sym (ap target_number leads) in
       let moves : new ≡ at_position handle position s = λ i. record s { handles = moved i } in
       let reached = moves ∙ ap (λ (p : ℕ). at_position handle p s) arrives in

@@ -8,6 +8,8 @@ use Rattle.ados_tree.specs.Stands.{Stands}
 use Rattle.ados_tree.specs.Change.{rewritten}
 use Rattle.ados_tree.specs.Walk.{child_of}
 use Rattle.ados_name.specs.Protection.{denies_delete, denies_write}
+use Rattle.ados_packet.specs.declared.dos_error.DosError.{DosError}
+use Rattle.ados_packet.specs.declared.dos_error.DosError.TheVariants.{DeleteProtected, DeviceNotMounted, DiskFull, InvalidLock, ObjectInUse, ObjectWrongType, WriteProtected}
 use Rattle.ados_packet.specs.declared.packet.Packet.TheVariants.{FindOutput, FindUpdate}
 use Rattle.ados_packet.specs.declared.answer.Answer.{Answer}
 use Rattle.ados_handler.specs.Session.{Session, is_in_use, is_lock}
@@ -15,33 +17,33 @@ use Rattle.ados_handler.specs.Objects.{place_error, placed, placed_at, protectio
 use Rattle.ados_handler.specs.Refusals.{first_refusal, has_no_room, is_directory_there, is_some_and, refuse}
 use Rattle.ados_handler.specs.Success.{After, GivesHandle, MakesFile}
 use Rattle.ados_handler.specs.Handler.{HandlerGives, HandlerState}
-use Rattle.ados_handler.specs.Opening.{Opens, empty_refusals, make_refusals, open_refusals}
+use Rattle.ados_handler.specs.steps.Opening.{Opens, empty_refusals, make_refusals, open_refusals}
 use Rattle.ados_handler.proofs.Holding.{true_false}
 use Rattle.ados_volume.specs.Shown.{Shown}
 use Rattle.ados_handler.proofs.Opening.{opening_gives}
 use Rattle.ados_handler.proofs.Placed.{placed_on}
 
 -- a refusal behind all others that does not refuse
-behind_none : (rows : List (Option ℕ)) → first_refusal (rows ++ (None ∷ [])) ≡ first_refusal rows
+behind_none : (rows : List (Option DosError)) → first_refusal (rows ++ (None ∷ [])) ≡ first_refusal rows
 behind_none [] = refl
 behind_none (None ∷ rows) = behind_none rows
 behind_none (Some code ∷ rows) = refl
 
 -- the refusals that look at what stands there
-update_rows : Tree → Session → Option ℕ → List (Option ℕ)
+update_rows : Tree → Session → Option ℕ → List (Option DosError)
 update_rows t s o =
-    refuse 212 (is_directory_there t o)
-    ∷ refuse 202 (is_some_and (λ key. is_in_use s key false) o)
-    ∷ refuse 221 (has_no_room t o)
+    refuse ObjectWrongType (is_directory_there t o)
+    ∷ refuse ObjectInUse (is_some_and (λ key. is_in_use s key false) o)
+    ∷ refuse DiskFull (has_no_room t o)
     ∷ []
 
-output_rows : Tree → Session → Option ℕ → List (Option ℕ)
+output_rows : Tree → Session → Option ℕ → List (Option DosError)
 output_rows t s o =
-    refuse 212 (is_directory_there t o)
-    ∷ refuse 202 (is_some_and (λ key. is_in_use s key true) o)
-    ∷ refuse 222 (is_some_and (λ key. denies_delete (protection_of t key)) o)
-    ∷ refuse 223 (is_some_and (λ key. denies_write (protection_of t key)) o)
-    ∷ refuse 221 (has_no_room t o)
+    refuse ObjectWrongType (is_directory_there t o)
+    ∷ refuse ObjectInUse (is_some_and (λ key. is_in_use s key true) o)
+    ∷ refuse DeleteProtected (is_some_and (λ key. denies_delete (protection_of t key)) o)
+    ∷ refuse WriteProtected (is_some_and (λ key. denies_write (protection_of t key)) o)
+    ∷ refuse DiskFull (has_no_room t o)
     ∷ []
 
 module _ (old : HandlerState) (lock : ℕ) (path : List ℕ) (now : Date3) (there : ℕ × List ℕ) (alive : old.session.died ≡ false) (place : (t : Tree) → Stands old.image t → placed_at t old.session lock path ≡ Ok there) where
@@ -52,18 +54,18 @@ module _ (old : HandlerState) (lock : ℕ) (path : List ℕ) (now : Date3) (ther
   record IsSpotWith (t : Tree) (o : Option ℕ) : Type 0 where
     spot_is : spot t s lock path ≡ there
     standing_is : standing t s lock path ≡ o
-    row : (rest : Option ℕ → List (Option ℕ)) → first_refusal (refuse 218 s.died ∷ refuse 211 (not (is_lock s lock)) ∷ option_map place_error (result_err (placed t s lock path)) ∷ rest (standing t s lock path)) ≡ first_refusal (rest o)
+    row : (rest : Option ℕ → List (Option DosError)) → first_refusal (refuse DeviceNotMounted s.died ∷ refuse InvalidLock (not (is_lock s lock)) ∷ option_map place_error (result_err (placed t s lock path)) ∷ rest (standing t s lock path)) ≡ first_refusal (rest o)
 
   spot_with : (t : Tree) (o : Option ℕ) → Stands old.image t → child_of t there.0 there.1 ≡ o → IsSpotWith t o
   spot_with t o stood child =
-      let no_rows : List (Option ℕ) = [] in
+      let no_rows : List (Option DosError) = [] in
       let led = (placed_on t s lock path there no_rows (place t stood)).1 in
       let at : standing t s lock path ≡ o = ap (λ (p : ℕ × List ℕ). child_of t p.0 p.1) led ∙ child in
       record {
         spot_is = led;
         standing_is = at;
         row = λ rest.
-            ap (λ (b : Bool). first_refusal (refuse 218 b ∷ refuse 211 (not (is_lock s lock)) ∷ option_map place_error (result_err (placed t s lock path)) ∷ rest (standing t s lock path))) alive
+            ap (λ (b : Bool). first_refusal (refuse DeviceNotMounted b ∷ refuse InvalidLock (not (is_lock s lock)) ∷ option_map place_error (result_err (placed t s lock path)) ∷ rest (standing t s lock path))) alive
             ∙ (placed_on t s lock path there (rest (standing t s lock path)) (place t stood)).0 ∙ ap (λ (k : Option ℕ). first_refusal (rest k)) at;
       }
 

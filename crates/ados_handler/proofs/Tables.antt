@@ -10,7 +10,7 @@ use Rattle.std.proofs.lemmas.Bool.Decides.{nat_tests, eqb_tells}
 use Rattle.std.specs.Prelude.{length, filter, is_some}
 use Rattle.std.proofs.lemmas.List.Sums.{length-filter}
 use Rattle.slab.specs.Slab.{Slab, get, entries_from, slab_len, Updates}
-use Rattle.ados_handler.specs.Table.{numbered_from_one}
+use Rattle.ados_handler.specs.steps.Table.{numbered_from_one}
 use Rattle.ados_handler.proofs.Holding.{number_tells, true_false}
 
 is_below : (i j : ℕ) → i < j → T (is_lt (nat_cmp i j))

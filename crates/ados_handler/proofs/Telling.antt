@@ -8,9 +8,10 @@ use Rattle.ados_name.specs.Path.{IsPathText}
 use Rattle.ados_tree.specs.Tree.{Node, Tree, Proper, root}
 use Rattle.ados_tree.specs.Change.{changed, stamped, with_node}
 use Rattle.ados_tree.proofs.Nodes.{some_in}
-use Rattle.ados_fields.proofs.Retells.{Retells, proper_after}
-use Rattle.ados_fields.proofs.Cases.{bits_case, comment_case, date_case, name_case}
-use Rattle.ados_entries.proofs.Loose.{stamped_is_proper}
+use Rattle.change_fields.proofs.Retells.{Retells, proper_after}
+use Rattle.change_fields.proofs.Cases.{bits_case, comment_case, date_case, name_case}
+use Rattle.change_entries.proofs.Loose.{stamped_is_proper}
+use Rattle.ados_packet.specs.declared.dos_error.DosError.TheVariants.{CommentTooBig, DeviceNotMounted, InvalidComponentName, InvalidLock, ObjectWrongType}
 use Rattle.ados_packet.specs.declared.packet.Packet.TheVariants.{SetProtect, SetComment, SetDate, RenameDisk}
 use Rattle.ados_handler.specs.Session.{Session, is_lock}
 use Rattle.ados_handler.specs.Objects.{walk_error, object, found}
@@ -51,31 +52,31 @@ module _ (t : Tree) (s : Session) (proper : Proper t) (session : IsProperSession
 
 pub set_protect_keeps : (lock : ℕ) (path : List ℕ) (bits : ℕ) → KeepsProper (SetProtect lock path bits)
 set_protect_keeps lock path bits = by_success (SetProtect lock path bits) (λ t s now result proper session none w.
-    let no = none_refuses (refuse 218 s.died ∷ refusals t s (SetProtect lock path bits)) none in
+    let no = none_refuses (refuse DeviceNotMounted s.died ∷ refusals t s (SetProtect lock path bits)) none in
     let key = object t s lock path in
-    let n = walked_node t s proper session lock path (from_not (is_lock s lock) (not_refused 211 _ no.1.0)) no.1.1.0 in
-    let other = not_root key (root t) (not_refused 212 _ no.1.1.1.0) in
+    let n = walked_node t s proper session lock path (from_not (is_lock s lock) (not_refused InvalidLock _ no.1.0)) no.1.1.0 in
+    let other = not_root key (root t) (not_refused ObjectWrongType _ no.1.1.1.0) in
     tells t now result proper key (λ node. record node { protection = bits }) (λ node. refl) n.0 n.1 (bits_case t proper key n.0 n.1 bits other).retells s session (ap (λ (r : After). r.tree) w) (ap (λ (r : After). r.session) w))
 
 pub set_comment_keeps : (lock : ℕ) (path comment : List ℕ) → IsPathText comment → KeepsProper (SetComment lock path comment)
 set_comment_keeps lock path comment valid = by_success (SetComment lock path comment) (λ t s now result proper session none w.
-    let no = none_refuses (refuse 218 s.died ∷ refusals t s (SetComment lock path comment)) none in
+    let no = none_refuses (refuse DeviceNotMounted s.died ∷ refusals t s (SetComment lock path comment)) none in
     let key = object t s lock path in
-    let n = walked_node t s proper session lock path (from_not (is_lock s lock) (not_refused 211 _ no.1.0)) no.1.1.0 in
-    let short = text_is_comment comment valid (from_not (is_comment comment) (not_refused 220 _ no.1.1.1.0)) in
-    let other = not_root key (root t) (not_refused 212 _ no.1.1.1.1.0) in
+    let n = walked_node t s proper session lock path (from_not (is_lock s lock) (not_refused InvalidLock _ no.1.0)) no.1.1.0 in
+    let short = text_is_comment comment valid (from_not (is_comment comment) (not_refused CommentTooBig _ no.1.1.1.0)) in
+    let other = not_root key (root t) (not_refused ObjectWrongType _ no.1.1.1.1.0) in
     tells t now result proper key (λ node. record node { comment = comment }) (λ node. refl) n.0 n.1 (comment_case t proper key n.0 n.1 comment short other).retells s session (ap (λ (r : After). r.tree) w) (ap (λ (r : After). r.session) w))
 
 pub set_date_keeps : (lock : ℕ) (path : List ℕ) (date : Date3) → KeepsProper (SetDate lock path date)
 set_date_keeps lock path date = by_success (SetDate lock path date) (λ t s now result proper session none w.
-    let no = none_refuses (refuse 218 s.died ∷ refusals t s (SetDate lock path date)) none in
+    let no = none_refuses (refuse DeviceNotMounted s.died ∷ refusals t s (SetDate lock path date)) none in
     let key = object t s lock path in
-    let n = walked_node t s proper session lock path (from_not (is_lock s lock) (not_refused 211 _ no.1.0)) no.1.1.0 in
+    let n = walked_node t s proper session lock path (from_not (is_lock s lock) (not_refused InvalidLock _ no.1.0)) no.1.1.0 in
     tells t now result proper key (λ node. record node { date = date }) (λ node. refl) n.0 n.1 (date_case t proper key n.0 n.1 date).retells s session (ap (λ (r : After). r.tree) w) (ap (λ (r : After). r.session) w))
 
 pub rename_disk_keeps : (name : List ℕ) → IsPathText name → KeepsProper (RenameDisk name)
 rename_disk_keeps name valid = by_success (RenameDisk name) (λ t s now result proper session none w.
-    let no = none_refuses (refuse 218 s.died ∷ refusals t s (RenameDisk name)) none in
+    let no = none_refuses (refuse DeviceNotMounted s.died ∷ refusals t s (RenameDisk name)) none in
     let n = some_in (t.nodes (root t)) (root_is_key t proper) in
-    let is = text_is_name name valid (from_not (is_name name) (not_refused 210 _ no.1.0)) in
+    let is = text_is_name name valid (from_not (is_name name) (not_refused InvalidComponentName _ no.1.0)) in
     tells t now result proper (root t) (λ node. record node { name = name }) (λ node. refl) n.0 n.1 (name_case t proper (root t) n.0 n.1 name is refl).retells s session (ap (λ (r : After). r.tree) w) (ap (λ (r : After). r.session) w))

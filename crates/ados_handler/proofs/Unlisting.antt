@@ -8,9 +8,10 @@ use Rattle.ados_tree.specs.Tree.{Node, Tree, Proper, entries, name_of, parent_of
 use Rattle.ados_tree.specs.Walk.{child_of}
 use Rattle.ados_tree.specs.Change.{changed, left, removed, renamed, with_node}
 use Rattle.ados_tree.proofs.Nodes.{directory_node, root_or_parent}
-use Rattle.ados_entries.specs.Conditions.{CanRename, IsDirectory}
-use Rattle.ados_entries.proofs.Loose.{left_is}
-use Rattle.ados_entries.proofs.ProperChanges.{into_directory, removed_is_proper, renamed_is_proper}
+use Rattle.change_entries.specs.Conditions.{CanRename, IsDirectoryKey}
+use Rattle.change_entries.proofs.Loose.{left_is}
+use Rattle.change_entries.proofs.ProperChanges.{into_directory, removed_is_proper, renamed_is_proper}
+use Rattle.ados_packet.specs.declared.dos_error.DosError.TheVariants.{DeviceNotMounted, DirectoryNotEmpty, InvalidLock, ObjectExists, ObjectInUse, ObjectWrongType}
 use Rattle.ados_packet.specs.declared.packet.Packet.TheVariants.{DeleteObject, RenameObject}
 use Rattle.ados_handler.specs.Session.{is_lock}
 use Rattle.ados_handler.specs.Objects.{is_under, object, spot_directory, spot_name, standing}
@@ -33,7 +34,7 @@ parent_there t proper key node at other = elim (root_or_parent t proper key node
 ]
 
 module _ (t : Tree) (proper : Proper t) (key dir : ℕ) (below : parent_of t key ≡ Some dir) (moment : Date3) where
-  holder : IsDirectory t dir
+  holder : IsDirectoryKey t dir
   holder =
       let d = directory_node t proper dir key ((proper.listed dir key).1 below) in
       (d.1, ap (λ (o : Option Node). option_map (λ node. node.content) o) d.2 ∙ ap Some d.3)
@@ -52,12 +53,12 @@ is_nil (x ∷ xs) h = absurd (false≢true h)
 
 pub delete_keeps : (lock : ℕ) (path : List ℕ) → KeepsProper (DeleteObject lock path)
 delete_keeps lock path = by_success (DeleteObject lock path) (λ t s now result proper session none w.
-    let no = none_refuses (refuse 218 s.died ∷ refusals t s (DeleteObject lock path)) none in
+    let no = none_refuses (refuse DeviceNotMounted s.died ∷ refusals t s (DeleteObject lock path)) none in
     let key = object t s lock path in
-    let n = walked_node t s proper session lock path (from_not (is_lock s lock) (not_refused 211 _ no.1.0)) no.1.1.0 in
-    let p = parent_there t proper key n.0 n.1 (not_root key (root t) (not_refused 212 _ no.1.1.1.0)) in
-    let free = not_held s key (not_refused 202 _ no.1.1.1.1.0) in
-    let empty = is_nil (entries t key) (from_not (is_empty (entries t key)) (not_refused 216 _ no.1.1.1.1.1.0)) in
+    let n = walked_node t s proper session lock path (from_not (is_lock s lock) (not_refused InvalidLock _ no.1.0)) no.1.1.0 in
+    let p = parent_there t proper key n.0 n.1 (not_root key (root t) (not_refused ObjectWrongType _ no.1.1.1.0)) in
+    let free = not_held s key (not_refused ObjectInUse _ no.1.1.1.1.0) in
+    let empty = is_nil (entries t key) (from_not (is_empty (entries t key)) (not_refused DirectoryNotEmpty _ no.1.1.1.1.1.0)) in
     let others : (hold : HoldNumber) (k : ℕ) (e : Bool) → hold_at s hold ≡ Some (k, e) → k ≢ key = λ hold k e h same. free hold e (subst (λ (i : ℕ). hold_at s hold ≡ Some (i, e)) same h) in
     let gone = left now key t in
     same_after result _ w (
@@ -75,10 +76,10 @@ module _ (t : Tree) (proper : Proper t) (moment : Date3) (key dir : ℕ) (name :
   abbrev loose : Tree
   loose = changed key (λ node. record node { name = name; parent = Some dir }) (left moment key t)
 
-  target : IsDirectory loose dir
+  target : IsDirectoryKey loose dir
   target =
       let d = into_directory t moment key dir name proper can in
-      subst (λ (u : Tree). IsDirectory (changed key (λ node. record node { name = name; parent = Some dir }) u) dir) (sym (left_is t proper key can.from can.listed moment))
+      subst (λ (u : Tree). IsDirectoryKey (changed key (λ node. record node { name = name; parent = Some dir }) u) dir) (sym (left_is t proper key can.from can.listed moment))
       (d.1, ap (λ (o : Option Node). option_map (λ node. node.content) o) d.2 ∙ ap Some d.3)
 
   renamed_carried : (k : ℕ) → Carried (t.nodes k) ((renamed moment key dir name t).nodes k)
@@ -99,21 +100,21 @@ only_itself t proper dir key name (Some other) e h k c n = λ same.
 
 pub rename_keeps : (from_lock : ℕ) (from : List ℕ) (to_lock : ℕ) (to : List ℕ) → IsPathText to → KeepsProper (RenameObject from_lock from to_lock to)
 rename_keeps from_lock from to_lock to valid = by_success (RenameObject from_lock from to_lock to) (λ t s now result proper session none w.
-    let no = none_refuses (refuse 218 s.died ∷ refusals t s (RenameObject from_lock from to_lock to)) none in
+    let no = none_refuses (refuse DeviceNotMounted s.died ∷ refusals t s (RenameObject from_lock from to_lock to)) none in
     let key = object t s from_lock from in
     let dir = spot_directory t s to_lock to in
     let name = spot_name t s to_lock to in
-    let n = walked_node t s proper session from_lock from (from_not (is_lock s from_lock) (not_refused 211 _ no.1.0)) no.1.1.1.0 in
-    let is = spot_is t proper s session to_lock to valid (from_not (is_lock s to_lock) (not_refused 211 _ no.1.1.0)) no.1.1.1.1.0 in
-    let p = parent_there t proper key n.0 n.1 (not_root key (root t) (not_refused 212 _ no.1.1.1.1.1.0)) in
-    let apart : is_under t key dir ≡ false = not_refused 202 _ no.1.1.1.1.1.1.1.1.0 in
+    let n = walked_node t s proper session from_lock from (from_not (is_lock s from_lock) (not_refused InvalidLock _ no.1.0)) no.1.1.1.0 in
+    let is = spot_is t proper s session to_lock to valid (from_not (is_lock s to_lock) (not_refused InvalidLock _ no.1.1.0)) no.1.1.1.1.0 in
+    let p = parent_there t proper key n.0 n.1 (not_root key (root t) (not_refused ObjectWrongType _ no.1.1.1.1.1.0)) in
+    let apart : is_under t key dir ≡ false = not_refused ObjectInUse _ no.1.1.1.1.1.1.1.1.0 in
     let can : CanRename t key dir name = record {
       from = p.0;
       listed = p.1;
       directory = is_directory t dir is.node is.no_file;
       not_under = λ u. true≢false (sym ((under_is_told t proper key dir is.node).1 u) ∙ apart);
       valid = is.name;
-      new_name = only_itself t proper dir key name (standing t s to_lock to) refl (not_refused 203 _ no.1.1.1.1.1.1.0);
+      new_name = only_itself t proper dir key name (standing t s to_lock to) refl (not_refused ObjectExists _ no.1.1.1.1.1.1.0);
     } in
     same_after result _ w (
       renamed_is_proper t now key dir name proper can,

@@ -19,7 +19,7 @@ use Rattle.ados_handler.specs.ProperSession.{IsProperSession}
 use Rattle.ados_handler.specs.ProperSession.HoldNumber.{ByLock}
 
 -- a result that has no error has its value
-pub no_error : {A E : Type 0} (number : E → ℕ) (r : Result A E) (d : A) → option_map number (result_err r) ≡ None → r ≡ Ok (result_unwrap_or r d)
+pub no_error : {A E D : Type 0} (number : E → D) (r : Result A E) (d : A) → option_map number (result_err r) ≡ None → r ≡ Ok (result_unwrap_or r d)
 no_error number (Ok x) d e = refl
 no_error number (Err c) d e = absurd (cc e)
 

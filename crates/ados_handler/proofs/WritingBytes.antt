@@ -3,7 +3,7 @@ use Rattle.std.proofs.Common.{◌≡◌, ℕ, ◌+◌, ◌-◌, ◌≤◌, pos, 
 use Rattle.std.specs.Prelude.{max}
 use Rattle.std.specs.Ordering.{nat_cmp}
 use Rattle.std.specs.FinMap.{FinMap, get}
-use Rattle.std.proofs.lemmas.Bool.{le-ltb}
+use Rattle.std.proofs.lemmas.Bool.{false_from_ne_true, ltb-true}
 use Rattle.std.proofs.lemmas.List.{nil_from_length}
 use Rattle.adf_block.specs.Image.{bytes_at}
 use Rattle.ados_data.specs.Cost.{block_cost}
@@ -14,7 +14,8 @@ use Rattle.ados_tree.specs.Stands.{Stands}
 use Rattle.ados_tree.specs.Keys.{HasFileKey, HasTree}
 use Rattle.ados_tree.specs.Walk.{holds_file, is_file}
 use Rattle.ados_tree.specs.Change.{overlaid, written}
-use Rattle.ados_contents.specs.Renewed.{NeedsMore}
+use Rattle.change_bytes.specs.Renewed.{NeedsMore}
+use Rattle.ados_packet.specs.declared.dos_error.DosError.TheVariants.{DiskFull, WriteProtected}
 use Rattle.ados_packet.specs.declared.packet.Packet.TheVariants.{Write}
 use Rattle.ados_packet.specs.declared.answer.Answer.{Answer}
 use Rattle.ados_packet.specs.declared.answer.Body.TheVariants.{Buffer}
@@ -39,10 +40,10 @@ module _ (t : Tree) (s : Session) (handle : ℕ) (bytes : List ℕ) (hold : Hand
       let key = key_is s handle hold at in
       let position = position_is s handle hold at in
       let denied = ap (λ (k : ℕ). denies_write (protection_of t k)) key ∙ writable in
-      let more = ap₂ (λ (k p : ℕ). needs_more t k (max (size_of t k) (p + length bytes))) key position ∙ le-ltb _ _ (omega (arith, room)) in
+      let more = ap₂ (λ (k p : ℕ). needs_more t k (max (size_of t k) (p + length bytes))) key position ∙ false_from_ne_true _ room in
       let none : refusal t s (Write handle bytes) ≡ None =
-      opened_on s handle hold at alive (refuse 223 (denies_write (protection_of t (handle_key s handle))) ∷ refuse 221 (needs_more t (handle_key s handle) (max (size_of t (handle_key s handle)) (handle_position s handle + length bytes))) ∷ [])
-      ∙ ap₂ (λ (b c : Bool). first_refusal (refuse 223 b ∷ refuse 221 c ∷ [])) denied more in
+      opened_on s handle hold at alive (refuse WriteProtected (denies_write (protection_of t (handle_key s handle))) ∷ refuse DiskFull (needs_more t (handle_key s handle) (max (size_of t (handle_key s handle)) (handle_position s handle + length bytes))) ∷ [])
+      ∙ ap₂ (λ (b c : Bool). first_refusal (refuse WriteProtected b ∷ refuse DiskFull c ∷ [])) denied more in
       let moves = moved ∙ ap (λ (p : ℕ). at_position handle (p + length bytes) s) (sym position) in
       served_means t (written now hold.key hold.position bytes t) s new (Write handle bytes) now _ none
       (record { success = λ i. after (written now (sym key i) (sym position i) bytes t) (moves i) (pos (counted i)) (Buffer bytes); action = refl; res2 = refl })
@@ -91,7 +92,7 @@ written_reaches t proper now key start file within [] = omega (arith, within)
 written_reaches t proper now key start file within (c ∷ cs) =
     let new : List ℕ = c ∷ cs in
     let old : List ℕ = bytes_of t key in
-    let size = rewritten_size t proper key (file_node t key file) (overlaid start new old) now in
+    let size = rewritten_size t proper key (file_node t key file) (overlaid old start new) now in
     let whole = length-append (take start old ++ new) (drop (start + length new) old) in
     let front = length-append (take start old) new in
     omega (arith, size, whole, front, length-take start old, size_is (content_at t key), within)
@@ -113,6 +114,6 @@ written_none image (u, stood) now key start within [] none = (
   omega (arith, within u stood, size_small image u stood key),
   λ t stands.
       let same : max (size_of t key) (start + 0) ≡ size_of t key = omega (arith, within t stands) in
-      (λ more. omega (arith, more, ap (block_cost t.format) same), stands),
+      (λ more. omega (arith, ltb-true _ _ more, ap (block_cost t.format) same), stands),
 )
 written_none image tree now key start within (c ∷ cs) none = absurd (omega (arith, none))

@@ -2,6 +2,9 @@
 use Rattle.std.specs.Prelude.{◌≡◌, ◌⊎◌, ℕ, ℤ, pos, negsuc, Bool, true, false, not, ◌&&◌, ◌||◌, ◌==◌, nat_lt, length, is_some, is_none, IsTrue, MatchOption}
 use Rattle.ados_name.specs.declared.Date3.{Date3}
 use Rattle.ados_tree.specs.Tree.{Tree, parent_of, size_of}
+use Rattle.ados_packet.specs.declared.dos_error.DosError.{DosError}
+use Rattle.ados_packet.specs.declared.dos_error.DosError.TheVariants.{DeviceNotMounted, NoFreeStore}
+use Rattle.ados_packet.specs.Numbers.{error_number}
 use Rattle.ados_packet.specs.Packet.{action_of, failure_of, handed_back}
 use Rattle.ados_packet.specs.declared.packet.Packet.{Packet}
 use Rattle.ados_packet.specs.declared.packet.Packet.TheVariants.{LocateObject, RenameDisk, DeleteObject, RenameObject, CopyDir, SetProtect, CreateDir, SetComment, Parent, SetDate, Write, FindUpdate, FindInput, FindOutput, SetFileSize}
@@ -37,11 +40,11 @@ sets_disk_date t s (Write handle bytes) = nat_lt 0 (length bytes)
 sets_disk_date t s (SetFileSize handle offset mode) = not (target_number (handle_target t s handle offset mode) == size_of t (handle_key s handle))
 sets_disk_date t s _ = false
 
--- the packet is refused with this code, and nothing changes
-pub record IsRefused (t : Tree) (s : Session) (packet : Packet) (code : ℕ) (new_tree : Tree) (new_session : Session) (answer : Answer) : Type 0 where
+-- the packet is refused with this error, and nothing changes
+pub record IsRefused (t : Tree) (s : Session) (packet : Packet) (error : DosError) (new_tree : Tree) (new_session : Session) (answer : Answer) : Type 0 where
   pub tree : new_tree ≡ t
   pub session : new_session ≡ s
-  pub answered : answer ≡ record { action = action_of packet; res1 = failure_of packet; res2 = pos code; body = handed_back packet }
+  pub answered : answer ≡ record { action = action_of packet; res1 = failure_of packet; res2 = pos (error_number error); body = handed_back packet }
 
 -- the packet is served
 pub record IsServed (t : Tree) (s : Session) (packet : Packet) (now : Date3) (new_tree : Tree) (new_session : Session) (answer : Answer) : Type 0 where
@@ -49,18 +52,18 @@ pub record IsServed (t : Tree) (s : Session) (packet : Packet) (now : Date3) (ne
   pub action : answer.action ≡ action_of packet
   pub res2 : answer.res2 ≡ pos 0
 
--- a packet that no refusal stands against is served; one that would make a lock or a handle may instead be answered 103
+-- a packet that no refusal stands against is served; one that would make a lock or a handle may instead be answered `NoFreeStore`
 abbrev pub ServedOrNoMemory : Tree → Session → Packet → Date3 → Tree → Session → Answer → Type 0
 ServedOrNoMemory t s packet now new_tree new_session answer =
     IsServed t s packet now new_tree new_session answer
-    ⊎ (IsTrue (makes_hold t s packet) × IsRefused t s packet 103 new_tree new_session answer)
+    ⊎ (IsTrue (makes_hold t s packet) × IsRefused t s packet NoFreeStore new_tree new_session answer)
 
 -- at a moment a packet takes a tree and a session to new ones, with this answer
 abbrev pub Meaning : Tree → Session → Packet → Date3 → Tree → Session → Answer → Type 0
 Meaning t s packet now new_tree new_session answer =
     MatchOption (refusal t s packet)
     (ServedOrNoMemory t s packet now new_tree new_session answer)
-    (λ code. IsRefused t s packet code new_tree new_session answer)
+    (λ error. IsRefused t s packet error new_tree new_session answer)
 
 -- what `died` says of a session
 abbrev pub has_died : Session → Bool
@@ -75,6 +78,6 @@ abbrev pub is_dos_true : ℤ → Bool
 is_dos_true (pos n) = false
 is_dos_true (negsuc n) = n == 0
 
--- what `closes` says of a reply: it is 218, or that of a DIE, whose action is 5, which succeeded
+-- what `closes` says of a reply: it is `DeviceNotMounted`, or that of a DIE, whose action is 5, which succeeded
 abbrev pub is_closing : Answer → Bool
-is_closing answer = is_number 218 answer.res2 || (is_number 5 answer.action && is_dos_true answer.res1)
+is_closing answer = is_number (error_number DeviceNotMounted) answer.res2 || (is_number 5 answer.action && is_dos_true answer.res1)

@@ -4,26 +4,28 @@ use Rattle.std.specs.List.{list_any}
 use Rattle.std.specs.Option.{option_map_or}
 use Rattle.std.specs.Result.{result_unwrap_or}
 use Rattle.std.specs.FinMap as numbered
-use Rattle.ados_data.specs.Cost.{block_cost}
 use Rattle.ados_tree.specs.Tree.{Node, Tree, root, bytes_of, free, parent_of, size_of}
 use Rattle.ados_tree.specs.Walk.{child_of, place, walk}
+pub use Rattle.change_bytes.specs.Renewed.{needs_more}
 use Rattle.ados_tree.specs.declared.path_fault.WalkFault.{WalkFault}
-use Rattle.ados_tree.specs.declared.path_fault.WalkFault.TheVariants.{DirectoryNotFound, ObjectNotFound, WrongType}
+use Rattle.ados_tree.specs.declared.path_fault.WalkFault.TheVariants as walks
 use Rattle.ados_tree.specs.declared.path_fault.PlaceFault.{PlaceFault}
-use Rattle.ados_tree.specs.declared.path_fault.PlaceFault.TheVariants as faults
+use Rattle.ados_tree.specs.declared.path_fault.PlaceFault.TheVariants as places
+use Rattle.ados_packet.specs.declared.dos_error.DosError.{DosError}
+use Rattle.ados_packet.specs.declared.dos_error.DosError.TheVariants.{DirectoryNotFound, InvalidComponentName, InvalidLock, ObjectNotFound, ObjectWrongType}
 use Rattle.ados_handler.specs.Session.{Session, handle_key, handle_position, is_lock}
 
--- the DOS error numbers of a walk and of a place
-abbrev pub walk_error : WalkFault → ℕ
-walk_error DirectoryNotFound = 204
-walk_error ObjectNotFound = 205
-walk_error WrongType = 212
+-- the errors of a walk and of a place
+abbrev pub walk_error : WalkFault → DosError
+walk_error walks.DirectoryNotFound = DirectoryNotFound
+walk_error walks.ObjectNotFound = ObjectNotFound
+walk_error walks.WrongType = ObjectWrongType
 
-abbrev pub place_error : PlaceFault → ℕ
-place_error faults.DirectoryNotFound = 204
-place_error faults.ObjectNotFound = 205
-place_error faults.WrongType = 212
-place_error faults.InvalidName = 210
+abbrev pub place_error : PlaceFault → DosError
+place_error places.DirectoryNotFound = DirectoryNotFound
+place_error places.ObjectNotFound = ObjectNotFound
+place_error places.WrongType = ObjectWrongType
+place_error places.InvalidName = InvalidComponentName
 
 -- the object of a lock; lock 0 stands for the root
 abbrev pub lock_key : Tree → Session → ℕ → ℕ
@@ -40,13 +42,13 @@ found t s lock path = walk t (lock_key t s lock) path
 abbrev pub object : Tree → Session → ℕ → List ℕ → ℕ
 object t s lock path = result_unwrap_or (found t s lock path) 0
 
--- where a path leads, or the error number: of a lock that is not held, or of the walk
-abbrev pub walk_result : Result ℕ WalkFault → Result ℕ ℤ
+-- where a path leads, or the error: of a lock that is not held, or of the walk
+abbrev pub walk_result : Result ℕ WalkFault → Result ℕ DosError
 walk_result (Ok key) = Ok key
-walk_result (Err fault) = Err (pos (walk_error fault))
+walk_result (Err fault) = Err (walk_error fault)
 
-abbrev pub walked : Tree → Session → ℕ → List ℕ → Result ℕ ℤ
-walked t s lock path = if is_lock s lock then walk_result (found t s lock path) else Err (pos 211)
+abbrev pub walked : Tree → Session → ℕ → List ℕ → Result ℕ DosError
+walked t s lock path = if is_lock s lock then walk_result (found t s lock path) else Err InvalidLock
 
 -- the place that a path from a lock names, and where it names one the directory and the name there
 abbrev pub placed : Tree → Session → ℕ → List ℕ → Result (ℕ × List ℕ) PlaceFault
@@ -61,13 +63,13 @@ spot_directory t s lock path = (spot t s lock path).0
 abbrev pub spot_name : Tree → Session → ℕ → List ℕ → List ℕ
 spot_name t s lock path = (spot t s lock path).1
 
--- the same, or the error number: of a lock that is not held, or of the place
-abbrev pub place_result : Result (ℕ × List ℕ) PlaceFault → Result (ℕ × List ℕ) ℤ
+-- the same, or the error: of a lock that is not held, or of the place
+abbrev pub place_result : Result (ℕ × List ℕ) PlaceFault → Result (ℕ × List ℕ) DosError
 place_result (Ok found) = Ok found
-place_result (Err fault) = Err (pos (place_error fault))
+place_result (Err fault) = Err (place_error fault)
 
-abbrev pub placed_at : Tree → Session → ℕ → List ℕ → Result (ℕ × List ℕ) ℤ
-placed_at t s lock path = if is_lock s lock then place_result (placed t s lock path) else Err (pos 211)
+abbrev pub placed_at : Tree → Session → ℕ → List ℕ → Result (ℕ × List ℕ) DosError
+placed_at t s lock path = if is_lock s lock then place_result (placed t s lock path) else Err InvalidLock
 
 -- what has that name there already
 abbrev pub standing : Tree → Session → ℕ → List ℕ → Option ℕ
@@ -92,10 +94,6 @@ is_under t above key = list_any (λ k. k == above) (upward t t.blocks key)
 -- so many blocks are not free
 abbrev pub lacks : Tree → ℕ → Bool
 lacks t blocks = nat_lt (free t) blocks
-
--- with this size the file needs more blocks than it has and are free
-abbrev pub needs_more : Tree → ℕ → ℕ → Bool
-needs_more t key size = nat_lt (free t + block_cost t.format (size_of t key)) (block_cost t.format size)
 
 -- mode -1 asks for an exclusive lock, and any other for a shared one
 abbrev pub is_exclusive_mode : ℤ → Bool

@@ -1,10 +1,10 @@
 -- The refusals of each packet. Each row has them in the one order of all packets:
 --
---   218 died, 209 action not known, 211 lock or handle not held, the walk (204, 205, 212), the name (210, 220), 212 type,
---   205 and then 232 of EXAMINE_NEXT, 203 exists, 202 in use, 216 not empty, 222, 223, 224 protection, 219 position,
---   221 room, 103 memory.
+--   the handler died, the action is not known, a lock or handle is not held, the walk or the place, the name or the
+--   comment, the type, the two of EXAMINE_NEXT, what exists, what is in use, what is not empty, the protection, the
+--   position, the room, the memory.
 --
--- 218 stands before every row (`refusal`), and 103 behind it (`Meaning`).
+-- `DeviceNotMounted` stands before every row (`refusal`), and `NoFreeStore` behind it (`Meaning`).
 use Rattle.std.specs.Prelude.{ℕ, ◌+◌, Bool, true, false, not, ◌&&◌, ◌==◌, nat_le, max, if◌then◌else◌, List, [], ◌∷◌, length, Option, None, Some, is_some, is_none, option_map}
 use Rattle.std.specs.Option.{option_map_or}
 use Rattle.std.specs.Result.{result_err}
@@ -13,19 +13,21 @@ use Rattle.ados_name.specs.Protection.{denies_delete, denies_write, denies_read}
 use Rattle.ados_tree.specs.Tree.{Tree, root, entries, parent_of, size_of}
 use Rattle.ados_tree.specs.Walk.{is_file}
 use Rattle.ados_tree.specs.Change.{entries_after}
+use Rattle.ados_packet.specs.declared.dos_error.DosError.{DosError}
+use Rattle.ados_packet.specs.declared.dos_error.DosError.TheVariants.{ActionNotKnown, CommentTooBig, DeleteProtected, DeviceNotMounted, DirectoryNotEmpty, DiskFull, InvalidComponentName, InvalidLock, NoMoreEntries, ObjectExists, ObjectInUse, ObjectNotFound, ObjectWrongType, ReadProtected, SeekError, WriteProtected}
 use Rattle.ados_packet.specs.declared.packet.Packet.{Packet}
 use Rattle.ados_packet.specs.declared.packet.Packet.TheVariants.{Die, LocateObject, RenameDisk, FreeLock, DeleteObject, RenameObject, CopyDir, SetProtect, CreateDir, ExamineObject, ExamineNext, DiskInfo, Info, SetComment, Parent, SetDate, SameLock, Read, Write, FindUpdate, FindInput, FindOutput, End, Seek, SetFileSize, Other}
 use Rattle.ados_handler.specs.Session.{Session, has_holds, is_held, is_held_exclusively, is_in_use, is_lock, is_exclusive_lock, is_handle, handle_key, handle_position}
 use Rattle.ados_handler.specs.Objects.{walk_error, place_error, lock_key, found, object, placed, spot_directory, standing, protection_of, is_under, lacks, needs_more, is_exclusive_mode, handle_target, is_bad_target, target_number}
 
--- this code where the condition holds
-abbrev pub refuse : ℕ → Bool → Option ℕ
-refuse code condition = if condition then Some code else None
+-- this error where the condition holds
+abbrev pub refuse : DosError → Bool → Option DosError
+refuse error condition = if condition then Some error else None
 
--- the first code of a list of refusals
-abbrev pub first_refusal : List (Option ℕ) → Option ℕ
+-- the first error of a list of refusals
+abbrev pub first_refusal : List (Option DosError) → Option DosError
 first_refusal [] = None
-first_refusal (Some code ∷ more) = Some code
+first_refusal (Some error ∷ more) = Some error
 first_refusal (None ∷ more) = first_refusal more
 
 -- there is something, and the test passes of it
@@ -54,149 +56,164 @@ has_no_room t there = is_none there && lacks t 1
 
 module _ (t : Tree) (s : Session) where
   -- the number is that of no lock, or of no handle
-  abbrev unknown_lock : ℕ → Option ℕ
-  unknown_lock lock = refuse 211 (not (is_lock s lock))
+  abbrev unknown_lock : ℕ → Option DosError
+  unknown_lock lock = refuse InvalidLock (not (is_lock s lock))
 
-  abbrev unknown_handle : ℕ → Option ℕ
-  unknown_handle handle = refuse 211 (not (is_handle s handle))
+  abbrev unknown_handle : ℕ → Option DosError
+  unknown_handle handle = refuse InvalidLock (not (is_handle s handle))
 
-  -- what the walk of a path from a lock is refused with: 204, 205 or 212
-  abbrev walk_refusal : ℕ → List ℕ → Option ℕ
+  -- what the walk of a path from a lock is refused with
+  abbrev walk_refusal : ℕ → List ℕ → Option DosError
   walk_refusal lock path = option_map walk_error (result_err (found t s lock path))
 
-  -- what the place of a path from a lock is refused with: 204, 205, 212 or 210
-  abbrev place_refusal : ℕ → List ℕ → Option ℕ
+  -- what the place of a path from a lock is refused with
+  abbrev place_refusal : ℕ → List ℕ → Option DosError
   place_refusal lock path = option_map place_error (result_err (placed t s lock path))
 
   -- one row for each packet
-  abbrev pub refusals : Packet → List (Option ℕ)
+  abbrev pub refusals : Packet → List (Option DosError)
   refusals Die =
-      refuse 202 (has_holds s)
+      refuse ObjectInUse (has_holds s)
       ∷ []
   refusals (LocateObject lock path mode) =
+      let key = object t s lock path in
       unknown_lock lock
       ∷ walk_refusal lock path
-      ∷ refuse 202 (is_in_use s (object t s lock path) (is_exclusive_mode mode))
+      ∷ refuse ObjectInUse (is_in_use s key (is_exclusive_mode mode))
       ∷ []
   refusals (RenameDisk name) =
-      refuse 210 (not (is_name name))
+      refuse InvalidComponentName (not (is_name name))
       ∷ []
   refusals (FreeLock lock) =
       unknown_lock lock
       ∷ []
   refusals (DeleteObject lock path) =
+      let key = object t s lock path in
       unknown_lock lock
       ∷ walk_refusal lock path
-      ∷ refuse 212 (object t s lock path == root t)
-      ∷ refuse 202 (is_held s (object t s lock path))
-      ∷ refuse 216 (not (is_empty (entries t (object t s lock path))))
-      ∷ refuse 222 (denies_delete (protection_of t (object t s lock path)))
+      ∷ refuse ObjectWrongType (key == root t)
+      ∷ refuse ObjectInUse (is_held s key)
+      ∷ refuse DirectoryNotEmpty (not (is_empty (entries t key)))
+      ∷ refuse DeleteProtected (denies_delete (protection_of t key))
       ∷ []
   refusals (RenameObject from_lock from to_lock to) =
+      let key = object t s from_lock from in
       unknown_lock from_lock
       ∷ unknown_lock to_lock
       ∷ walk_refusal from_lock from
       ∷ place_refusal to_lock to
-      ∷ refuse 212 (object t s from_lock from == root t)
-      ∷ refuse 203 (is_some_and (λ other. not (other == object t s from_lock from)) (standing t s to_lock to))
-      ∷ refuse 202 (is_held_exclusively s (object t s from_lock from))
-      ∷ refuse 202 (is_under t (object t s from_lock from) (spot_directory t s to_lock to))
+      ∷ refuse ObjectWrongType (key == root t)
+      ∷ refuse ObjectExists (is_some_and (λ other. not (other == key)) (standing t s to_lock to))
+      ∷ refuse ObjectInUse (is_held_exclusively s key)
+      ∷ refuse ObjectInUse (is_under t key (spot_directory t s to_lock to))
       ∷ []
   refusals (CopyDir lock) =
       unknown_lock lock
-      ∷ refuse 202 (is_exclusive_lock s lock)
+      ∷ refuse ObjectInUse (is_exclusive_lock s lock)
       ∷ []
   refusals (SetProtect lock path bits) =
+      let key = object t s lock path in
       unknown_lock lock
       ∷ walk_refusal lock path
-      ∷ refuse 212 (object t s lock path == root t)
+      ∷ refuse ObjectWrongType (key == root t)
       ∷ []
   refusals (CreateDir lock path) =
       unknown_lock lock
       ∷ place_refusal lock path
-      ∷ refuse 203 (is_some (standing t s lock path))
-      ∷ refuse 221 (lacks t 1)
+      ∷ refuse ObjectExists (is_some (standing t s lock path))
+      ∷ refuse DiskFull (lacks t 1)
       ∷ []
   refusals (ExamineObject lock) =
       unknown_lock lock
       ∷ []
   refusals (ExamineNext lock key) =
+      let dir = lock_key t s lock in
+      let behind = entries_after t dir key in
       unknown_lock lock
-      ∷ refuse 212 (is_file t (lock_key t s lock))
-      ∷ refuse 205 (is_none (entries_after t (lock_key t s lock) key))
-      ∷ refuse 232 (is_some_and is_empty (entries_after t (lock_key t s lock) key))
+      ∷ refuse ObjectWrongType (is_file t dir)
+      ∷ refuse ObjectNotFound (is_none behind)
+      ∷ refuse NoMoreEntries (is_some_and is_empty behind)
       ∷ []
   refusals DiskInfo = []
   refusals (Info lock) =
       unknown_lock lock
       ∷ []
   refusals (SetComment lock path comment) =
+      let key = object t s lock path in
       unknown_lock lock
       ∷ walk_refusal lock path
-      ∷ refuse 220 (not (is_comment comment))
-      ∷ refuse 212 (object t s lock path == root t)
+      ∷ refuse CommentTooBig (not (is_comment comment))
+      ∷ refuse ObjectWrongType (key == root t)
       ∷ []
   refusals (Parent lock) =
       unknown_lock lock
-      ∷ refuse 202 (is_some_and (λ dir. is_held_exclusively s dir) (parent_of t (lock_key t s lock)))
+      ∷ refuse ObjectInUse (is_some_and (λ dir. is_held_exclusively s dir) (parent_of t (lock_key t s lock)))
       ∷ []
   refusals (SetDate lock path date) =
+      let key = object t s lock path in
       unknown_lock lock
       ∷ walk_refusal lock path
-      ∷ refuse 212 (object t s lock path == root t)
+      ∷ refuse ObjectWrongType (key == root t)
       ∷ []
   refusals (SameLock first second) =
       unknown_lock first
       ∷ unknown_lock second
       ∷ []
   refusals (Read handle buffer) =
+      let key = handle_key s handle in
       unknown_handle handle
-      ∷ refuse 224 (denies_read (protection_of t (handle_key s handle)))
+      ∷ refuse ReadProtected (denies_read (protection_of t key))
       ∷ []
   refusals (Write handle bytes) =
+      let key = handle_key s handle in
       unknown_handle handle
-      ∷ refuse 223 (denies_write (protection_of t (handle_key s handle)))
-      ∷ refuse 221 (needs_more t (handle_key s handle) (max (size_of t (handle_key s handle)) (handle_position s handle + length bytes)))
+      ∷ refuse WriteProtected (denies_write (protection_of t key))
+      ∷ refuse DiskFull (needs_more t key (max (size_of t key) (handle_position s handle + length bytes)))
       ∷ []
   refusals (FindUpdate lock path) =
+      let there = standing t s lock path in
       unknown_lock lock
       ∷ place_refusal lock path
-      ∷ refuse 212 (is_directory_there t (standing t s lock path))
-      ∷ refuse 202 (is_some_and (λ key. is_in_use s key false) (standing t s lock path))
-      ∷ refuse 221 (has_no_room t (standing t s lock path))
+      ∷ refuse ObjectWrongType (is_directory_there t there)
+      ∷ refuse ObjectInUse (is_some_and (λ key. is_in_use s key false) there)
+      ∷ refuse DiskFull (has_no_room t there)
       ∷ []
   refusals (FindInput lock path) =
+      let key = object t s lock path in
       unknown_lock lock
       ∷ walk_refusal lock path
-      ∷ refuse 212 (not (is_file t (object t s lock path)))
-      ∷ refuse 202 (is_in_use s (object t s lock path) false)
+      ∷ refuse ObjectWrongType (not (is_file t key))
+      ∷ refuse ObjectInUse (is_in_use s key false)
       ∷ []
   refusals (FindOutput lock path) =
+      let there = standing t s lock path in
       unknown_lock lock
       ∷ place_refusal lock path
-      ∷ refuse 212 (is_directory_there t (standing t s lock path))
-      ∷ refuse 202 (is_some_and (λ key. is_in_use s key true) (standing t s lock path))
-      ∷ refuse 222 (is_some_and (λ key. denies_delete (protection_of t key)) (standing t s lock path))
-      ∷ refuse 223 (is_some_and (λ key. denies_write (protection_of t key)) (standing t s lock path))
-      ∷ refuse 221 (has_no_room t (standing t s lock path))
+      ∷ refuse ObjectWrongType (is_directory_there t there)
+      ∷ refuse ObjectInUse (is_some_and (λ key. is_in_use s key true) there)
+      ∷ refuse DeleteProtected (is_some_and (λ key. denies_delete (protection_of t key)) there)
+      ∷ refuse WriteProtected (is_some_and (λ key. denies_write (protection_of t key)) there)
+      ∷ refuse DiskFull (has_no_room t there)
       ∷ []
   refusals (End handle) =
       unknown_handle handle
       ∷ []
   refusals (Seek handle offset mode) =
       unknown_handle handle
-      ∷ refuse 219 (is_bad_target (size_of t (handle_key s handle)) (handle_target t s handle offset mode))
+      ∷ refuse SeekError (is_bad_target (size_of t (handle_key s handle)) (handle_target t s handle offset mode))
       ∷ []
   refusals (SetFileSize handle offset mode) =
+      let key = handle_key s handle in
+      let target = handle_target t s handle offset mode in
       unknown_handle handle
-      ∷ refuse 223 (denies_write (protection_of t (handle_key s handle)))
-      ∷ refuse 219 (is_bad_target 2147483647 (handle_target t s handle offset mode))
-      ∷ refuse 221 (needs_more t (handle_key s handle) (target_number (handle_target t s handle offset mode)))
+      ∷ refuse WriteProtected (denies_write (protection_of t key))
+      ∷ refuse SeekError (is_bad_target 2147483647 target)
+      ∷ refuse DiskFull (needs_more t key (target_number target))
       ∷ []
   refusals (Other action) =
-      Some 209
+      Some ActionNotKnown
       ∷ []
 
   -- what a packet is refused with, if it is: after death each is
-  abbrev pub refusal : Packet → Option ℕ
-  refusal packet = first_refusal (refuse 218 s.died ∷ refusals packet)
+  abbrev pub refusal : Packet → Option DosError
+  refusal packet = first_refusal (refuse DeviceNotMounted s.died ∷ refusals packet)

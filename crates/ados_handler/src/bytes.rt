@@ -1,20 +1,20 @@
 //! Packets that read, write and seek in the file of a handle.
 
-ghost use Rattle.std.specs.Prelude.{◌≡◌, ◌+◌, ◌-◌, ◌≤◌, [], ◌++◌, length, take, drop, min, max, negsuc, pos, MatchResult};
+ghost use Rattle.std.specs.Prelude.{◌≡◌, ◌+◌, ◌-◌, ◌≤◌, [], ◌++◌, length, take, drop, min, negsuc, pos, MatchResult};
 ghost use Rattle.adf_block.specs.Image.{bytes_at};
 ghost use Rattle.ados_name.specs.declared.Date3.{Date3 as Moment};
-ghost use Rattle.ados_tree.specs.Change.{written};
 ghost use Rattle.ados_tree.specs.Keys.{HasFileKey, HasTree};
 ghost use Rattle.ados_tree.specs.Tree.{Tree, bytes_of, size_of};
 ghost use Rattle.ados_tree.specs.Stands.{Stands};
-ghost use Rattle.ados_contents.specs.Renewed.{NeedsMore};
+ghost use Rattle.ados_packet.specs.Numbers.{action_number, error_number};
 ghost use Rattle.ados_packet.specs.declared.packet.Packet.TheVariants.{Read, Seek, Write};
 ghost use Rattle.ados_handler.specs.Handler.{HandlerGives};
+ghost use Rattle.ados_handler.specs.steps.Files.{IsUnwritten, IsWritten};
 
 use crate::handler::Handler;
 use crate::target::{number_within, target_of};
 use ados_name::Date3;
-use ados_packet::{Answer, Body, Buffer};
+use ados_packet::{Action, Answer, Body, Buffer, DosError};
 use ados_volume::{Full, Volume};
 
 impl Handler {
@@ -23,18 +23,18 @@ impl Handler {
         ensures gives { (now : Moment) → HandlerGives self.old (Seek handle offset mode) now self.new result }
     {
         if self.died {
-            return failed(1008, 218, Body::Empty);
+            return failed(Action::Seek, DosError::DeviceNotMounted, Body::Empty);
         }
         let Some(hold) = self.hold_of(handle) else {
-            return failed(1008, 211, Body::Empty);
+            return failed(Action::Seek, DosError::InvalidLock, Body::Empty);
         };
         let size = self.file_size(hold.key);
         let target = target_of(hold.position, size, offset, mode);
         let Some(position) = number_within(target, size) else {
-            return failed(1008, 219, Body::Empty);
+            return failed(Action::Seek, DosError::SeekError, Body::Empty);
         };
         self.handles.set_position(handle, position);
-        counted(1008, hold.position, Body::Empty)
+        counted(Action::Seek, hold.position, Body::Empty)
     }
 
     /// READ.
@@ -42,18 +42,22 @@ impl Handler {
         ensures gives { (now : Moment) → HandlerGives self.old (Read handle buffer) now self.new result }
     {
         if self.died {
-            return failed(82, 218, Body::Buffer(buffer));
+            return failed(
+                Action::Read,
+                DosError::DeviceNotMounted,
+                Body::Buffer(buffer),
+            );
         }
         let Some(hold) = self.hold_of(handle) else {
-            return failed(82, 211, Body::Buffer(buffer));
+            return failed(Action::Read, DosError::InvalidLock, Body::Buffer(buffer));
         };
         if self.file_protection(hold.key).denies_read() {
-            return failed(82, 224, Body::Buffer(buffer));
+            return failed(Action::Read, DosError::ReadProtected, Body::Buffer(buffer));
         }
         let mut bytes = buffer.into_vec();
         let count = read_some(&self.volume, hold.key, hold.position, &mut bytes);
         self.handles.set_position(handle, hold.position + count);
-        counted(82, count, Body::Buffer(Buffer::from_vec(bytes)))
+        counted(Action::Read, count, Body::Buffer(Buffer::from_vec(bytes)))
     }
 
     /// WRITE, of all the bytes or of none.
@@ -61,13 +65,17 @@ impl Handler {
         ensures { HandlerGives self.old (Write handle bytes) now self.new result }
     {
         if self.died {
-            return failed(87, 218, Body::Buffer(bytes));
+            return failed(
+                Action::Write,
+                DosError::DeviceNotMounted,
+                Body::Buffer(bytes),
+            );
         }
         let Some(hold) = self.hold_of(handle) else {
-            return failed(87, 211, Body::Buffer(bytes));
+            return failed(Action::Write, DosError::InvalidLock, Body::Buffer(bytes));
         };
         if self.file_protection(hold.key).denies_write() {
-            return failed(87, 223, Body::Buffer(bytes));
+            return failed(Action::Write, DosError::WriteProtected, Body::Buffer(bytes));
         }
         let written = write_some(
             &mut self.volume,
@@ -77,10 +85,10 @@ impl Handler {
             now,
         );
         let Ok(end) = written else {
-            return failed(87, 221, Body::Buffer(bytes));
+            return failed(Action::Write, DosError::DiskFull, Body::Buffer(bytes));
         };
         self.handles.set_position(handle, end);
-        counted(87, end - hold.position, Body::Buffer(bytes))
+        counted(Action::Write, end - hold.position, Body::Buffer(bytes))
     }
 }
 
@@ -107,7 +115,7 @@ fn write_some(
     requires tree { HasTree volume.old.image }
     requires file { HasFileKey volume.old.image key }
     requires start { (t : Tree) → Stands volume.old.image t → position ≤ size_of t key }
-    ensures done { MatchResult result (λ end. (end ≡ position + length bytes.now) × (end ≤ 52020224) × ((t : Tree) → Stands volume.old.image t → (¬ NeedsMore t key (max (size_of t key) (position + length bytes.now))) × Stands volume.new.image (written now key position bytes.now t))) (λ _. (volume.new ≡ volume.old) × ((t : Tree) → Stands volume.old.image t → NeedsMore t key (max (size_of t key) (position + length bytes.now)))) }
+    ensures done { MatchResult result (IsWritten volume.old volume.new key position bytes.now now) (λ _. IsUnwritten volume.old volume.new key position bytes.now) }
     ensures boot { bytes_at volume.new.image 0 0 1024 ≡ bytes_at volume.old.image 0 0 1024 }
     ensures none { bytes.now ≡ [] → volume.new ≡ volume.old }
     ensures validated { volume.new.was_validated ≡ volume.old.was_validated }
@@ -120,24 +128,24 @@ fn write_some(
 }
 
 /// A refusal of a packet that else answers a count or a position: its first result is -1.
-fn failed(action: i32, error: i32, body: Body) -> Answer
-    ensures { result ≡ record { action = action; res1 = negsuc 0; res2 = error; body = body } }
+fn failed(action: Action, error: DosError, body: Body) -> Answer
+    ensures { result ≡ record { action = action_number action; res1 = negsuc 0; res2 = pos (error_number error); body = body } }
 {
     Answer {
-        action,
+        action: action.number(),
         res1: -1,
-        res2: error,
+        res2: error.number(),
         body,
     }
 }
 
 /// A success with a count or a position.
-fn counted(action: i32, count: u32, body: Body) -> Answer
+fn counted(action: Action, count: u32, body: Body) -> Answer
     requires { count ≤ 52020224 }
-    ensures { result ≡ record { action = action; res1 = pos count; res2 = pos 0; body = body } }
+    ensures { result ≡ record { action = action_number action; res1 = pos count; res2 = pos 0; body = body } }
 {
     Answer {
-        action,
+        action: action.number(),
         res1: count as i32,
         res2: 0,
         body,

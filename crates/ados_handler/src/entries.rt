@@ -11,7 +11,7 @@ ghost use Rattle.ados_handler.specs.Handler.{HandlerGives};
 use crate::handler::Handler;
 use crate::holds::LockHold;
 use ados_name::{Date3, PathText};
-use ados_packet::{Answer, Body};
+use ados_packet::{Action, Answer, Body, DosError};
 use ados_volume::{Next, NodeKind};
 
 impl Handler {
@@ -20,26 +20,26 @@ impl Handler {
         ensures { HandlerGives self.old (DeleteObject lock path) now self.new result }
     {
         if self.died {
-            return Answer::refused(16, 218);
+            return Answer::refused(Action::DeleteObject, DosError::DeviceNotMounted);
         }
         let key = match self.walked(lock, &path) {
             Ok(key) => key,
-            Err(error) => return Answer::refused(16, error),
+            Err(error) => return Answer::refused(Action::DeleteObject, error),
         };
         if key == self.volume.root() {
-            return Answer::refused(16, 212);
+            return Answer::refused(Action::DeleteObject, DosError::ObjectWrongType);
         }
         if self.is_held(key) {
-            return Answer::refused(16, 202);
+            return Answer::refused(Action::DeleteObject, DosError::ObjectInUse);
         }
         if self.has_entries(key) {
-            return Answer::refused(16, 216);
+            return Answer::refused(Action::DeleteObject, DosError::DirectoryNotEmpty);
         }
         if self.volume.examine(key).protection.denies_delete() {
-            return Answer::refused(16, 222);
+            return Answer::refused(Action::DeleteObject, DosError::DeleteProtected);
         }
         self.volume.remove(key, now);
-        Answer::done(16, Body::Empty)
+        Answer::done(Action::DeleteObject, Body::Empty)
     }
 
     /// CREATE_DIR. The new lock is exclusive.
@@ -47,20 +47,20 @@ impl Handler {
         ensures { HandlerGives self.old (CreateDir lock path) now self.new result }
     {
         if self.died {
-            return Answer::refused(22, 218);
+            return Answer::refused(Action::CreateDir, DosError::DeviceNotMounted);
         }
         let (dir, name) = match self.placed(lock, &path) {
             Ok(found) => found,
-            Err(error) => return Answer::refused(22, error),
+            Err(error) => return Answer::refused(Action::CreateDir, error),
         };
         if self.volume.child(dir, &name).is_some() {
-            return Answer::refused(22, 203);
+            return Answer::refused(Action::CreateDir, DosError::ObjectExists);
         }
         if !self.has_room() {
-            return Answer::refused(22, 221);
+            return Answer::refused(Action::CreateDir, DosError::DiskFull);
         }
         if self.locks.reserve().is_err() {
-            return Answer::refused(22, 103);
+            return Answer::refused(Action::CreateDir, DosError::NoFreeStore);
         }
         let Ok(key) = self.volume.create(dir, name, NodeKind::Directory, now) else {
             unreachable!()
@@ -70,7 +70,7 @@ impl Handler {
             exclusive: true,
         });
         Answer {
-            action: 22,
+            action: Action::CreateDir.number(),
             res1: number as i32,
             res2: 0,
             body: Body::Empty,

@@ -1,24 +1,24 @@
 //! What an AmigaDOS handler does with its packets: locks and handles, refusals, and what each packet means.
 #![tactic(auto)]
 
+mod attributes;
 mod below;
 mod bytes;
 mod entries;
 mod files;
+mod free_block;
 mod handle_file;
 pub mod handler;
 mod held;
 pub mod holds;
 pub mod laws;
 mod locks;
-mod marks;
 mod moves;
 mod objects;
 mod outputs;
 mod positions;
-mod room;
 mod serve;
-mod size;
+mod set_size;
 mod table;
 mod target;
 mod told;

@@ -3,16 +3,17 @@
 ghost use Rattle.std.specs.Prelude.{◌≡◌, false};
 ghost use Rattle.ados_name.specs.declared.Date3.{Date3 as Moment};
 ghost use Rattle.ados_tree.specs.Keys.{HasKey};
+ghost use Rattle.ados_packet.specs.Numbers.{action_number};
 ghost use Rattle.ados_packet.specs.declared.packet.Packet.TheVariants.{CopyDir, FreeLock, LocateObject, Parent, SameLock};
 ghost use Rattle.ados_handler.specs.Session.{is_in_use};
 ghost use Rattle.ados_handler.specs.Objects.{is_exclusive_mode};
-ghost use Rattle.ados_handler.specs.NewLock.{BringsLock};
+ghost use Rattle.ados_handler.specs.steps.NewLock.{BringsLock};
 ghost use Rattle.ados_handler.specs.Handler.{HandlerGives};
 
 use crate::handler::Handler;
 use crate::holds::LockHold;
 use ados_name::PathText;
-use ados_packet::{Answer, Body};
+use ados_packet::{Action, Answer, Body, DosError};
 
 impl Handler {
     /// LOCATE_OBJECT.
@@ -20,17 +21,17 @@ impl Handler {
         ensures gives { (now : Moment) → HandlerGives self.old (LocateObject lock path mode) now self.new result }
     {
         if self.died {
-            return Answer::refused(8, 218);
+            return Answer::refused(Action::LocateObject, DosError::DeviceNotMounted);
         }
         let key = match self.walked(lock, &path) {
             Ok(key) => key,
-            Err(error) => return Answer::refused(8, error),
+            Err(error) => return Answer::refused(Action::LocateObject, error),
         };
         let exclusive = is_exclusive(mode);
         if self.is_in_use(key, exclusive) {
-            return Answer::refused(8, 202);
+            return Answer::refused(Action::LocateObject, DosError::ObjectInUse);
         }
-        self.bring_lock(8, key, exclusive)
+        self.bring_lock(Action::LocateObject, key, exclusive)
     }
 
     /// FREE_LOCK. Lock 0 is no hold, and stays.
@@ -38,15 +39,15 @@ impl Handler {
         ensures gives { (now : Moment) → HandlerGives self.old (FreeLock lock) now self.new result }
     {
         if self.died {
-            return Answer::refused(15, 218);
+            return Answer::refused(Action::FreeLock, DosError::DeviceNotMounted);
         }
         if lock != 0 {
             if self.locks.get(lock).is_none() {
-                return Answer::refused(15, 211);
+                return Answer::refused(Action::FreeLock, DosError::InvalidLock);
             }
             let _ = self.locks.remove(lock);
         }
-        Answer::done(15, Body::Empty)
+        Answer::done(Action::FreeLock, Body::Empty)
     }
 
     /// COPY_DIR. Lock 0 is no hold, and its copy is lock 0.
@@ -54,11 +55,11 @@ impl Handler {
         ensures gives { (now : Moment) → HandlerGives self.old (CopyDir lock) now self.new result }
     {
         if self.died {
-            return Answer::refused(19, 218);
+            return Answer::refused(Action::CopyDir, DosError::DeviceNotMounted);
         }
         if lock == 0 {
             return Answer {
-                action: 19,
+                action: Action::CopyDir.number(),
                 res1: 0,
                 res2: 0,
                 body: Body::Empty,
@@ -66,17 +67,17 @@ impl Handler {
         }
         let hold = match self.locks.get(lock) {
             Some(hold) => *hold,
-            None => return Answer::refused(19, 211),
+            None => return Answer::refused(Action::CopyDir, DosError::InvalidLock),
         };
         if hold.exclusive {
-            return Answer::refused(19, 202);
+            return Answer::refused(Action::CopyDir, DosError::ObjectInUse);
         }
         if self.locks.reserve().is_err() {
-            return Answer::refused(19, 103);
+            return Answer::refused(Action::CopyDir, DosError::NoFreeStore);
         }
         let number = self.locks.insert_reserved(hold);
         Answer {
-            action: 19,
+            action: Action::CopyDir.number(),
             res1: number as i32,
             res2: 0,
             body: Body::Empty,
@@ -88,16 +89,16 @@ impl Handler {
         ensures { (now : Moment) → HandlerGives self.now (SameLock first second) now self.now result }
     {
         if self.died {
-            return Answer::refused(40, 218);
+            return Answer::refused(Action::SameLock, DosError::DeviceNotMounted);
         }
         let Some(one) = self.object_of(first) else {
-            return Answer::refused(40, 211);
+            return Answer::refused(Action::SameLock, DosError::InvalidLock);
         };
         let Some(other) = self.object_of(second) else {
-            return Answer::refused(40, 211);
+            return Answer::refused(Action::SameLock, DosError::InvalidLock);
         };
         Answer {
-            action: 40,
+            action: Action::SameLock.number(),
             res1: if one == other { -1 } else { 0 },
             res2: 0,
             body: Body::Empty,
@@ -109,39 +110,39 @@ impl Handler {
         ensures gives { (now : Moment) → HandlerGives self.old (Parent lock) now self.new result }
     {
         if self.died {
-            return Answer::refused(29, 218);
+            return Answer::refused(Action::Parent, DosError::DeviceNotMounted);
         }
         let Some(key) = self.object_of(lock) else {
-            return Answer::refused(29, 211);
+            return Answer::refused(Action::Parent, DosError::InvalidLock);
         };
         let Some(dir) = self.volume.parent(key) else {
             return Answer {
-                action: 29,
+                action: Action::Parent.number(),
                 res1: 0,
                 res2: 0,
                 body: Body::Empty,
             };
         };
         if self.is_held_exclusively(dir) {
-            return Answer::refused(29, 202);
+            return Answer::refused(Action::Parent, DosError::ObjectInUse);
         }
-        self.bring_lock(29, dir, false)
+        self.bring_lock(Action::Parent, dir, false)
     }
 
-    /// The answer of an action that brings a new lock on an object, or 103 where there is no memory or number for it.
-    fn bring_lock(&mut self, action: i32, key: u32, exclusive: bool) -> Answer
+    /// The answer of an action that brings a new lock on an object, where there is memory and a number for it.
+    fn bring_lock(&mut self, action: Action, key: u32, exclusive: bool) -> Answer
         requires key { HasKey self.old.image key }
         requires free { is_in_use self.old.session key exclusive ≡ false }
-        ensures brings { BringsLock self.old.session action key exclusive self.new.session result }
+        ensures brings { BringsLock self.old.session (action_number action) key exclusive self.new.session result }
         ensures image { self.new.image ≡ self.old.image }
         ensures validated { self.new.was_validated ≡ self.old.was_validated }
     {
         if self.locks.reserve().is_err() {
-            return Answer::refused(action, 103);
+            return Answer::refused(action, DosError::NoFreeStore);
         }
         let number = self.locks.insert_reserved(LockHold { key, exclusive });
         Answer {
-            action,
+            action: action.number(),
             res1: number as i32,
             res2: 0,
             body: Body::Empty,

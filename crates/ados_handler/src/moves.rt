@@ -1,16 +1,16 @@
 //! The packet that moves entries.
 
-ghost use Rattle.std.specs.Prelude.{◌≡◌, IfOk, option_map, pos};
+ghost use Rattle.std.specs.Prelude.{◌≡◌, IfOk};
 ghost use Rattle.ados_packet.specs.declared.packet.Packet.TheVariants.{RenameObject};
 ghost use Rattle.ados_tree.specs.Tree.{Tree};
 ghost use Rattle.ados_tree.specs.Stands.{Stands};
 ghost use Rattle.ados_tree.specs.Keys.{HasDirectory, HasKey};
-ghost use Rattle.ados_handler.specs.Moves.{move_refusal, source_and_place};
+ghost use Rattle.ados_handler.specs.steps.Moves.{move_refusal, source_and_place};
 ghost use Rattle.ados_handler.specs.Handler.{HandlerGives};
 
 use crate::handler::Handler;
 use ados_name::{Date3, Name, PathText};
-use ados_packet::{Answer, Body};
+use ados_packet::{Action, Answer, Body, DosError};
 
 impl Handler {
     /// RENAME_OBJECT. Protection isn't looked at.
@@ -25,58 +25,58 @@ impl Handler {
         ensures { HandlerGives self.old (RenameObject from_lock from to_lock to) now self.new result }
     {
         if self.died {
-            return Answer::refused(17, 218);
+            return Answer::refused(Action::RenameObject, DosError::DeviceNotMounted);
         }
         let (key, (dir, name)) = match self.source_and_place(from_lock, &from, to_lock, &to) {
             Ok(found) => found,
-            Err(error) => return Answer::refused(17, error),
+            Err(error) => return Answer::refused(Action::RenameObject, error),
         };
         if let Some(error) = self.move_refusal(key, dir, &name) {
-            return Answer::refused(17, error);
+            return Answer::refused(Action::RenameObject, error);
         }
         prove!(to.bytes().len() <= PathText::MAX_LEN);
         self.volume.rename(key, dir, name, now);
-        Answer::done(17, Body::Empty)
+        Answer::done(Action::RenameObject, Body::Empty)
     }
 
-    /// The object that is to move, with the directory and the name that it is to get, or the DOS error number.
+    /// The object that is to move, with the directory and the name that it is to get, or the DOS error.
     fn source_and_place(
         &mut self,
         from_lock: u32,
         from: &PathText,
         to_lock: u32,
         to: &PathText,
-    ) -> Result<(u32, (u32, Name)), i32>
+    ) -> Result<(u32, (u32, Name)), DosError>
         ensures found { (t : Tree) → Stands self.old.image t → result ≡ source_and_place t self.old.session from_lock from.now to_lock to.now }
         ensures key { IfOk result (λ found. HasKey self.old.image found.0) }
         ensures directory { IfOk result (λ found. HasDirectory self.old.image found.1.0) }
         ensures same { self.new ≡ self.old }
     {
         if self.object_of(from_lock).is_none() || self.object_of(to_lock).is_none() {
-            return Err(211);
+            return Err(DosError::InvalidLock);
         }
         let key = self.walked(from_lock, from)?;
         let place = self.placed(to_lock, to)?;
         Ok((key, place))
     }
 
-    /// The DOS error number that stands against a move of an object into a directory under a name.
-    fn move_refusal(&mut self, key: u32, dir: u32, name: &Name) -> Option<i32>
+    /// The DOS error that stands against a move of an object into a directory under a name.
+    fn move_refusal(&mut self, key: u32, dir: u32, name: &Name) -> Option<DosError>
         requires key { HasKey self.old.image key }
         requires directory { HasDirectory self.old.image dir }
-        ensures refusal { (t : Tree) → Stands self.old.image t → result ≡ option_map pos (move_refusal t self.old.session key dir name.now) }
+        ensures refusal { (t : Tree) → Stands self.old.image t → result ≡ move_refusal t self.old.session key dir name.now }
         ensures same { self.new ≡ self.old }
     {
         if key == self.volume.root() {
-            return Some(212);
+            return Some(DosError::ObjectWrongType);
         }
         if let Some(other) = self.volume.child(dir, name)
             && other != key
         {
-            return Some(203);
+            return Some(DosError::ObjectExists);
         }
         if self.is_held_exclusively(key) || self.is_under(key, dir) {
-            return Some(202);
+            return Some(DosError::ObjectInUse);
         }
         None
     }

@@ -1,6 +1,6 @@
 //! What locks and paths lead to.
 
-ghost use Rattle.std.specs.Prelude.{◌≡◌, IfOk, IfSome, pos};
+ghost use Rattle.std.specs.Prelude.{◌≡◌, IfOk, IfSome};
 ghost use Rattle.ados_tree.specs.Keys.{HasDirectory, HasKey};
 ghost use Rattle.ados_tree.specs.Tree.{Tree};
 ghost use Rattle.ados_tree.specs.Stands.{Stands};
@@ -8,6 +8,7 @@ ghost use Rattle.ados_handler.specs.Objects.{lock_object, place_error, placed_at
 
 use crate::handler::Handler;
 use ados_name::{Name, PathText};
+use ados_packet::DosError;
 use ados_tree::{PlaceFault, WalkFault};
 
 impl Handler {
@@ -25,14 +26,14 @@ impl Handler {
         }
     }
 
-    /// The object of a path from a lock, or the DOS error number.
-    pub(crate) fn walked(&mut self, lock: u32, path: &PathText) -> Result<u32, i32>
+    /// The object of a path from a lock, or the DOS error.
+    pub(crate) fn walked(&mut self, lock: u32, path: &PathText) -> Result<u32, DosError>
         ensures walk { (t : Tree) → Stands self.old.image t → result ≡ walked t self.old.session lock path.now }
         ensures key { IfOk result (λ key. HasKey self.old.image key) }
         ensures same { self.new ≡ self.old }
     {
         let Some(start) = self.object_of(lock) else {
-            return Err(211);
+            return Err(DosError::InvalidLock);
         };
         match self.volume.walk(start, path) {
             Ok(key) => Ok(key),
@@ -40,14 +41,14 @@ impl Handler {
         }
     }
 
-    /// The directory and the name that a path from a lock names as a place, or the DOS error number.
-    pub(crate) fn placed(&mut self, lock: u32, path: &PathText) -> Result<(u32, Name), i32>
+    /// The directory and the name that a path from a lock names as a place, or the DOS error.
+    pub(crate) fn placed(&mut self, lock: u32, path: &PathText) -> Result<(u32, Name), DosError>
         ensures place { (t : Tree) → Stands self.old.image t → result ≡ placed_at t self.old.session lock path.now }
         ensures directory { IfOk result (λ found. HasDirectory self.old.image found.0) }
         ensures same { self.new ≡ self.old }
     {
         let Some(start) = self.object_of(lock) else {
-            return Err(211);
+            return Err(DosError::InvalidLock);
         };
         match self.volume.place(start, path) {
             Ok(found) => Ok(found),
@@ -56,25 +57,25 @@ impl Handler {
     }
 }
 
-/// The DOS error number of a walk that ends at no object.
-fn walk_error(fault: WalkFault) -> i32
-    ensures { result ≡ pos (walk_error fault) }
+/// The DOS error of a walk that ends at no object.
+fn walk_error(fault: WalkFault) -> DosError
+    ensures { result ≡ walk_error fault }
 {
     match fault {
-        WalkFault::DirectoryNotFound => 204,
-        WalkFault::ObjectNotFound => 205,
-        WalkFault::WrongType => 212,
+        WalkFault::DirectoryNotFound => DosError::DirectoryNotFound,
+        WalkFault::ObjectNotFound => DosError::ObjectNotFound,
+        WalkFault::WrongType => DosError::ObjectWrongType,
     }
 }
 
-/// The DOS error number of a path that names no place.
-fn place_error(fault: PlaceFault) -> i32
-    ensures { result ≡ pos (place_error fault) }
+/// The DOS error of a path that names no place.
+fn place_error(fault: PlaceFault) -> DosError
+    ensures { result ≡ place_error fault }
 {
     match fault {
-        PlaceFault::DirectoryNotFound => 204,
-        PlaceFault::ObjectNotFound => 205,
-        PlaceFault::WrongType => 212,
-        PlaceFault::InvalidName => 210,
+        PlaceFault::DirectoryNotFound => DosError::DirectoryNotFound,
+        PlaceFault::ObjectNotFound => DosError::ObjectNotFound,
+        PlaceFault::WrongType => DosError::ObjectWrongType,
+        PlaceFault::InvalidName => DosError::InvalidComponentName,
     }
 }

@@ -1,20 +1,20 @@
 //! Packets that open files to be written.
 
-ghost use Rattle.std.specs.Prelude.{◌≡◌, [], None, pos, true};
+ghost use Rattle.std.specs.Prelude.{◌≡◌, None};
 ghost use Rattle.ados_tree.specs.Tree.{Tree};
 ghost use Rattle.ados_tree.specs.Keys.{HasDirectory, HasKey};
 ghost use Rattle.ados_tree.specs.Stands.{Stands};
 ghost use Rattle.ados_tree.specs.Walk.{child_of};
-ghost use Rattle.ados_tree.specs.Change.{rewritten};
+ghost use Rattle.ados_packet.specs.Numbers.{action_number};
 ghost use Rattle.ados_packet.specs.declared.packet.Packet.TheVariants.{FindOutput, FindUpdate};
 ghost use Rattle.ados_handler.specs.Handler.{HandlerGives};
-ghost use Rattle.ados_handler.specs.Opening.{Opens, empty_refusals, make_refusals};
-ghost use Rattle.ados_handler.specs.Success.{GivesHandle, MakesFile};
+ghost use Rattle.ados_handler.specs.steps.Opening.{Opens, OpensEmptied, make_refusals};
+ghost use Rattle.ados_handler.specs.Success.{MakesFile};
 
 use crate::files::opened;
 use crate::handler::Handler;
 use ados_name::{Date3, Name, PathText};
-use ados_packet::Answer;
+use ados_packet::{Action, Answer, DosError};
 use ados_volume::NodeKind;
 
 impl Handler {
@@ -23,15 +23,15 @@ impl Handler {
         ensures { HandlerGives self.old (FindUpdate lock path) now self.new result }
     {
         if self.died {
-            return Answer::refused(1004, 218);
+            return Answer::refused(Action::FindUpdate, DosError::DeviceNotMounted);
         }
         let (dir, name) = match self.placed(lock, &path) {
             Ok(found) => found,
-            Err(error) => return Answer::refused(1004, error),
+            Err(error) => return Answer::refused(Action::FindUpdate, error),
         };
         match self.volume.child(dir, &name) {
-            Some(key) => self.open_file(1004, key),
-            None => self.make_file(1004, dir, name, false, now),
+            Some(key) => self.open_file(Action::FindUpdate, key),
+            None => self.make_file(Action::FindUpdate, dir, name, false, now),
         }
     }
 
@@ -40,47 +40,47 @@ impl Handler {
         ensures { HandlerGives self.old (FindOutput lock path) now self.new result }
     {
         if self.died {
-            return Answer::refused(1006, 218);
+            return Answer::refused(Action::FindOutput, DosError::DeviceNotMounted);
         }
         let (dir, name) = match self.placed(lock, &path) {
             Ok(found) => found,
-            Err(error) => return Answer::refused(1006, error),
+            Err(error) => return Answer::refused(Action::FindOutput, error),
         };
         match self.volume.child(dir, &name) {
             Some(key) => self.empty_file(key, now),
-            None => self.make_file(1006, dir, name, true, now),
+            None => self.make_file(Action::FindOutput, dir, name, true, now),
         }
     }
 
     /// The answer of FINDOUTPUT with an exclusive handle on a file, which is emptied.
     fn empty_file(&mut self, key: u32, now: Date3) -> Answer
         requires { HasKey self.old.image key }
-        ensures { Opens (pos 1006) (empty_refusals self.old.session key) (λ t left. GivesHandle (rewritten now key [] t) self.old.session key true left) self.old self.new result }
+        ensures { OpensEmptied key now self.old self.new result }
     {
         if !self.volume.is_file(key) {
-            return Answer::refused(1006, 212);
+            return Answer::refused(Action::FindOutput, DosError::ObjectWrongType);
         }
         if self.is_in_use(key, true) {
-            return Answer::refused(1006, 202);
+            return Answer::refused(Action::FindOutput, DosError::ObjectInUse);
         }
         let protection = self.file_protection(key);
         if protection.denies_delete() {
-            return Answer::refused(1006, 222);
+            return Answer::refused(Action::FindOutput, DosError::DeleteProtected);
         }
         if protection.denies_write() {
-            return Answer::refused(1006, 223);
+            return Answer::refused(Action::FindOutput, DosError::WriteProtected);
         }
         if self.handles.reserve().is_err() {
-            return Answer::refused(1006, 103);
+            return Answer::refused(Action::FindOutput, DosError::NoFreeStore);
         }
         self.volume.cut(key, 0, now);
-        opened(&mut self.handles, 1006, key, true)
+        opened(&mut self.handles, Action::FindOutput, key, true)
     }
 
     /// The answer with a handle on a new file, under a name that its directory does not have.
     fn make_file(
         &mut self,
-        action: i32,
+        action: Action,
         dir: u32,
         name: Name,
         exclusive: bool,
@@ -88,13 +88,13 @@ impl Handler {
     ) -> Answer
         requires directory { HasDirectory self.old.image dir }
         requires new_name { (t : Tree) → Stands self.old.image t → child_of t dir name ≡ None }
-        ensures { Opens action make_refusals (λ t left. MakesFile t self.old.session dir name exclusive now left) self.old self.new result }
+        ensures { Opens (action_number action) make_refusals (λ t left. MakesFile t self.old.session dir name exclusive now left) self.old self.new result }
     {
         if !self.has_room() {
-            return Answer::refused(action, 221);
+            return Answer::refused(action, DosError::DiskFull);
         }
         if self.handles.reserve().is_err() {
-            return Answer::refused(action, 103);
+            return Answer::refused(action, DosError::NoFreeStore);
         }
         let Ok(key) = self.volume.create(dir, name, NodeKind::File, now) else {
             unreachable!()

@@ -6,8 +6,8 @@ ghost use Rattle.ados_handler.specs.Handler.{HandlerGives};
 
 use crate::handler::Handler;
 use ados_name::Date3;
-use ados_packet::{Answer, Body, Packet};
-use ados_server::Server;
+use ados_packet::{Action, Answer, Body, DosError, Packet};
+use port_history::Server;
 
 impl Handler {
     /// DIE, which waits until nothing is held.
@@ -15,13 +15,13 @@ impl Handler {
         ensures gives { (now : Moment) → HandlerGives self.old Die now self.new result }
     {
         if self.died {
-            return Answer::refused(5, 218);
+            return Answer::refused(Action::Die, DosError::DeviceNotMounted);
         }
         if !self.locks.is_empty() || !self.handles.is_empty() {
-            return Answer::refused(5, 202);
+            return Answer::refused(Action::Die, DosError::ObjectInUse);
         }
         self.died = true;
-        Answer::done(5, Body::Empty)
+        Answer::done(Action::Die, Body::Empty)
     }
 
     /// A packet whose action is not known.
@@ -29,15 +29,15 @@ impl Handler {
         ensures { (now : Moment) → HandlerGives self.now (Other action) now self.now result }
     {
         if self.died {
-            return Answer::refused(action, 218);
+            return Answer::refused(Action::Other(action), DosError::DeviceNotMounted);
         }
-        Answer::refused(action, 209)
+        Answer::refused(Action::Other(action), DosError::ActionNotKnown)
     }
 }
 
 impl Server for Handler {
     ghost use Rattle.ados_handler.specs.Meaning.{is_closing};
-    ghost use Rattle.ados_handler.specs.Closes.{serves_dead, serves_closing};
+    ghost use Rattle.ados_handler.specs.steps.Closes.{serves_dead, serves_closing};
 
     type Request = Packet;
 
@@ -104,7 +104,8 @@ impl Server for Handler {
     }
 
     fn closes(reply: &Answer) -> bool {
-        reply.res2 == 218 || (reply.action == 5 && reply.res1 == -1)
+        reply.res2 == DosError::DeviceNotMounted.number()
+            || (reply.action == Action::Die.number() && reply.res1 == -1)
     }
 
     ghost stays_dead = { λ old new packet now answer given dead. serves_dead old new packet now answer given dead };

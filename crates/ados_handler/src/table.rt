@@ -18,7 +18,7 @@ pub struct Table<T> {
 }
 
 impl<T> Model for Table<T> {
-    ghost use Rattle.ados_handler.specs.Table.{TableState, table_code, table_view};
+    ghost use Rattle.ados_handler.specs.steps.Table.{TableState, table_code, table_view};
 
     ghost Value = { TableState T };
 
@@ -33,7 +33,7 @@ pub struct NoPlace;
 
 impl<T> Table<T> {
     ghost use Rattle.ados_handler.specs.Session.{IsFreeNumber};
-    ghost use Rattle.ados_handler.specs.Table.{IsTestBy};
+    ghost use Rattle.ados_handler.specs.steps.Table.{IsTestBy};
 
     pub fn new(alloc: Global) -> Self
         ensures { result.held ≡ numbered.empty }

@@ -5,7 +5,7 @@ ghost use Rattle.ados_packet.specs.declared.packet.Packet.TheVariants.{DiskInfo,
 ghost use Rattle.ados_handler.specs.Handler.{HandlerGives};
 
 use crate::handler::Handler;
-use ados_packet::{Answer, Body};
+use ados_packet::{Action, Answer, Body, DosError};
 use ados_volume::Next;
 
 impl Handler {
@@ -14,9 +14,9 @@ impl Handler {
         ensures { (now : Moment) → HandlerGives self.now DiskInfo now self.now result }
     {
         if self.died {
-            return Answer::refused(25, 218);
+            return Answer::refused(Action::DiskInfo, DosError::DeviceNotMounted);
         }
-        Answer::done(25, Body::Disk(self.volume.info()))
+        Answer::done(Action::DiskInfo, Body::Disk(self.volume.info()))
     }
 
     /// INFO.
@@ -24,12 +24,12 @@ impl Handler {
         ensures { (now : Moment) → HandlerGives self.now (Info lock) now self.now result }
     {
         if self.died {
-            return Answer::refused(26, 218);
+            return Answer::refused(Action::Info, DosError::DeviceNotMounted);
         }
         if self.object_of(lock).is_none() {
-            return Answer::refused(26, 211);
+            return Answer::refused(Action::Info, DosError::InvalidLock);
         }
-        Answer::done(26, Body::Disk(self.volume.info()))
+        Answer::done(Action::Info, Body::Disk(self.volume.info()))
     }
 
     /// EXAMINE_OBJECT.
@@ -37,12 +37,12 @@ impl Handler {
         ensures { (now : Moment) → HandlerGives self.now (ExamineObject lock) now self.now result }
     {
         if self.died {
-            return Answer::refused(23, 218);
+            return Answer::refused(Action::ExamineObject, DosError::DeviceNotMounted);
         }
         let Some(key) = self.object_of(lock) else {
-            return Answer::refused(23, 211);
+            return Answer::refused(Action::ExamineObject, DosError::InvalidLock);
         };
-        Answer::done(23, Body::Entry(self.volume.examine(key)))
+        Answer::done(Action::ExamineObject, Body::Entry(self.volume.examine(key)))
     }
 
     /// EXAMINE_NEXT.
@@ -50,18 +50,21 @@ impl Handler {
         ensures { (now : Moment) → HandlerGives self.now (ExamineNext lock key) now self.now result }
     {
         if self.died {
-            return Answer::refused(24, 218);
+            return Answer::refused(Action::ExamineNext, DosError::DeviceNotMounted);
         }
         let Some(dir) = self.object_of(lock) else {
-            return Answer::refused(24, 211);
+            return Answer::refused(Action::ExamineNext, DosError::InvalidLock);
         };
         if self.volume.is_file(dir) {
-            return Answer::refused(24, 212);
+            return Answer::refused(Action::ExamineNext, DosError::ObjectWrongType);
         }
         match self.volume.next(dir, key) {
-            Next::NotAnEntry => Answer::refused(24, 205),
-            Next::End => Answer::refused(24, 232),
-            Next::Entry(next) => Answer::done(24, Body::Entry(self.volume.examine(next))),
+            Next::NotAnEntry => Answer::refused(Action::ExamineNext, DosError::ObjectNotFound),
+            Next::End => Answer::refused(Action::ExamineNext, DosError::NoMoreEntries),
+            Next::Entry(next) => Answer::done(
+                Action::ExamineNext,
+                Body::Entry(self.volume.examine(next)),
+            ),
         }
     }
 }

@@ -5,7 +5,7 @@ use Rattle.std.specs.Int.{bit_at}
 use Rattle.std.proofs.lemmas.Bool.{cases_lt, ne_eqb, lt-ltb, le-ltb}
 use Rattle.std.proofs.lemmas.Nat.Bits.{and_pow, bit_at-lt, bit_at_and, bit_at_ones, bit_at_ones_above}
 use Rattle.std.proofs.lemmas.Nat.{pow_pos, pow_below}
-use Rattle.adf_block.specs.Image.{long, block_count, is_marked_free}
+use Rattle.adf_block.specs.Image.{long, block_count, has_free_bit}
 use Rattle.ados_map.specs.Pages.{page_block, page_of, map_long}
 use Rattle.ados_map.specs.Bits.{free_bit}
 
@@ -14,8 +14,8 @@ abbrev pub mark : ℕ → ℕ → Bool
 mark v i = not (bit_and v (2 ^ i) == 0)
 
 -- a block is marked free by one bit of one long
-pub marked-is : (image : List ℕ) (k : ℕ) → is_marked_free image k ≡ mark (long image (page_block image (page_of k)) (map_long k)) ((k - 2) % 32)
-unfolding is_marked_free
+pub marked-is : (image : List ℕ) (k : ℕ) → has_free_bit image k ≡ mark (long image (page_block image (page_of k)) (map_long k)) ((k - 2) % 32)
+unfolding has_free_bit
 marked-is image k = refl
 
 clear_mark : (v i : ℕ) → bit_at v i ≡ 0 → mark v i ≡ false
@@ -55,21 +55,21 @@ pub bit_of_bit : (w i : ℕ) → i < 32 → (2 + 32 * w + i - 2) % 32 ≡ i
 bit_of_bit w i lt = omega arith
 
 -- bit i of map long w marks its block
-pub marked-at : (image : List ℕ) (w i : ℕ) → i < 32 → is_marked_free image (2 + 32 * w + i) ≡ mark (long image (page_block image (w / 127)) (1 + w % 127)) i
+pub marked-at : (image : List ℕ) (w i : ℕ) → i < 32 → has_free_bit image (2 + 32 * w + i) ≡ mark (long image (page_block image (w / 127)) (1 + w % 127)) i
 marked-at image w i lt =
     marked-is image (2 + 32 * w + i)
     ∙ ap₂ (λ (p l : ℕ). mark (long image (page_block image p) l) ((2 + 32 * w + i - 2) % 32)) (page_of_bit w i lt) (long_of_bit w i lt)
     ∙ ap (mark (long image (page_block image (w / 127)) (1 + w % 127))) (bit_of_bit w i lt)
 
 -- the bit of a block of the volume
-pub free_bit-inside : (image : List ℕ) (k : ℕ) → k < block_count image → free_bit image k ≡ cond (is_marked_free image k) 1 0
+pub free_bit-inside : (image : List ℕ) (k : ℕ) → k < block_count image → free_bit image k ≡ cond (has_free_bit image k) 1 0
 unfolding free_bit
-free_bit-inside image k lt = ap (λ (b : Bool). cond (b && is_marked_free image k) 1 0) (lt-ltb k (block_count image) lt)
+free_bit-inside image k lt = ap (λ (b : Bool). cond (b && has_free_bit image k) 1 0) (lt-ltb k (block_count image) lt)
 
 -- past the end no bit counts
 pub free_bit-past : (image : List ℕ) (k : ℕ) → block_count image ≤ k → free_bit image k ≡ 0
 unfolding free_bit
-free_bit-past image k le = ap (λ (b : Bool). cond (b && is_marked_free image k) 1 0) (le-ltb k (block_count image) le)
+free_bit-past image k le = ap (λ (b : Bool). cond (b && has_free_bit image k) 1 0) (le-ltb k (block_count image) le)
 
 -- a bit below a mask of ones
 pub masked_below : (v n i : ℕ) → i < n → n < 32 → bit_at (bit_and v (1 * 2 ^ n % 4294967296 - 1)) i ≡ bit_at v i
@@ -98,8 +98,8 @@ marked true e = refl
 marked false e = absurd (omega arith)
 
 -- a free bit that is 0
-pub free_bit-none : (image : List ℕ) (k : ℕ) → k < block_count image → free_bit image k ≡ 0 → is_marked_free image k ≡ false
-free_bit-none image k lt e = unmarked (is_marked_free image k) (sym (free_bit-inside image k lt) ∙ e)
+pub free_bit-none : (image : List ℕ) (k : ℕ) → k < block_count image → free_bit image k ≡ 0 → has_free_bit image k ≡ false
+free_bit-none image k lt e = unmarked (has_free_bit image k) (sym (free_bit-inside image k lt) ∙ e)
 
 -- a free bit that is 1 is that of a block of the volume
 pub free_bit-within : (image : List ℕ) (k : ℕ) → free_bit image k ≡ 1 → k < block_count image
@@ -108,5 +108,5 @@ free_bit-within image k e = elim (cases_lt k (block_count image)) [
   | inr past ↦ absurd (omega (arith, free_bit-past image k past, e))
 ]
 
-pub free_bit-some : (image : List ℕ) (k : ℕ) → free_bit image k ≡ 1 → is_marked_free image k ≡ true
-free_bit-some image k e = marked (is_marked_free image k) (sym (free_bit-inside image k (free_bit-within image k e)) ∙ e)
+pub free_bit-some : (image : List ℕ) (k : ℕ) → free_bit image k ≡ 1 → has_free_bit image k ≡ true
+free_bit-some image k e = marked (has_free_bit image k) (sym (free_bit-inside image k (free_bit-within image k e)) ∙ e)

@@ -5,7 +5,7 @@ use Rattle.std.specs.Int.Count.{ones, ones_in, ones_step}
 use Rattle.std.proofs.Math.Nat.{pow-suc}
 use Rattle.std.proofs.lemmas.Bool.{cases_lt}
 use Rattle.std.proofs.lemmas.Nat.Bits.{bit_at-suc, bit_at_lowest}
-use Rattle.adf_block.specs.Image.{total, block_count, is_marked_free, marked_count}
+use Rattle.adf_block.specs.Image.{total, block_count, has_free_bit, free_bit_count}
 use Rattle.ados_map.specs.Bits.{free_bit, IsFreeBits}
 use Rattle.ados_map.proofs.BitLemmas.{free_bit-inside, free_bit-past}
 use Rattle.adf_block.proofs.Totals.{total-same}
@@ -66,9 +66,9 @@ free_before-more image w bits is fits =
     (λ i lt. let e : 2 + 32 * w + i ≡ 2 + (32 * w + i) = omega arith in is i lt ∙ ap (free_bit image) e)
 
 -- all map longs
-pub free_before-all : (image : List ℕ) (w : ℕ) → block_count image - 2 ≤ 32 * w → free_before image w ≡ marked_count image
+pub free_before-all : (image : List ℕ) (w : ℕ) → block_count image - 2 ≤ 32 * w → free_before image w ≡ free_bit_count image
 unfolding free_before
 free_before-all image w le =
-    total-cut (λ (k : ℕ). cond (is_marked_free image (k + 2)) 1 0) (λ (k : ℕ). free_bit image (2 + k)) (block_count image - 2) (32 * w) le
-    (λ k lt. free_bit-inside image (2 + k) (omega arith) ∙ ap (λ (j : ℕ). cond (is_marked_free image j) 1 0) (omega arith))
+    total-cut (λ (k : ℕ). cond (has_free_bit image (k + 2)) 1 0) (λ (k : ℕ). free_bit image (2 + k)) (block_count image - 2) (32 * w) le
+    (λ k lt. free_bit-inside image (2 + k) (omega arith) ∙ ap (λ (j : ℕ). cond (has_free_bit image j) 1 0) (omega arith))
     (λ k past. free_bit-past image (2 + k) (omega arith))

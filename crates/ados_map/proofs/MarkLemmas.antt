@@ -1,12 +1,12 @@
 -- What changes leave of the marks, and of their number.
 use Rattle.std.proofs.Common.{◌≡◌, ℕ, zero, suc, ◌+◌, ◌-◌, ◌%◌, ◌<◌, ◌≤◌, Bool, true, false, cond, inl, inr, List, arith, ap, sym, ◌∙◌, refl}
 use Rattle.std.proofs.lemmas.Bool.{cases_lt}
-use Rattle.adf_block.specs.Image.{long, total, block_count, IsInside, is_marked_free, marked_count}
+use Rattle.adf_block.specs.Image.{long, total, block_count, IsInside, has_free_bit, free_bit_count}
 use Rattle.adf_block.specs.Frame.{SameBut, InBlock, OnlyBlock}
 use Rattle.adf_block.proofs.Frames.{same_count, same_long, same_weaken}
 use Rattle.adf_block.proofs.Totals.{total-same, total-one}
 use Rattle.ados_map.specs.Pages.{NoneFree, page_block, pages_of, page_of, map_long, HasBit}
-use Rattle.ados_map.specs.Changes.{MapPlace, Marked}
+use Rattle.ados_map.specs.Changes.{MapPlace, BitChanged}
 use Rattle.ados_map.proofs.BitLemmas.{mark, marked-is}
 
 -- ---- where no page was changed
@@ -14,7 +14,7 @@ use Rattle.ados_map.proofs.BitLemmas.{mark, marked-is}
 -- where the pages are named as before and were not changed, the marks are as before
 pub mark_kept : (changed : ℕ → ℕ → Type 0) (old new : List ℕ) → SameBut changed old new
     → ((p : ℕ) → p < pages_of old → page_block new p ≡ page_block old p) → ((p k : ℕ) → p < pages_of old → k < 512 → ¬ changed (page_block old p) k)
-    → (k : ℕ) → HasBit old k → is_marked_free new k ≡ is_marked_free old k
+    → (k : ℕ) → HasBit old k → has_free_bit new k ≡ has_free_bit old k
 mark_kept changed old new h named un k has =
     let page : page_of k < pages_of old = omega (arith, has.0, has.1) in
     marked-is new k
@@ -27,37 +27,37 @@ pub bit_of_inside : (image : List ℕ) (k : ℕ) → IsInside (block_count image
 bit_of_inside image k inside = (inside.0, omega (arith, inside.0, inside.1))
 
 -- where the marks of the volume are as before, so is their number
-pub marked_count_kept : (old new : List ℕ) → block_count new ≡ block_count old → ((k : ℕ) → IsInside (block_count old) k → is_marked_free new k ≡ is_marked_free old k) → marked_count new ≡ marked_count old
+pub marked_count_kept : (old new : List ℕ) → block_count new ≡ block_count old → ((k : ℕ) → IsInside (block_count old) k → has_free_bit new k ≡ has_free_bit old k) → free_bit_count new ≡ free_bit_count old
 marked_count_kept old new count same =
-    ap (λ (n : ℕ). total (λ (k : ℕ). cond (is_marked_free new (k + 2)) 1 0) (n - 2)) count
-    ∙ total-same (λ (k : ℕ). cond (is_marked_free old (k + 2)) 1 0) (λ (k : ℕ). cond (is_marked_free new (k + 2)) 1 0) (block_count old - 2)
+    ap (λ (n : ℕ). total (λ (k : ℕ). cond (has_free_bit new (k + 2)) 1 0) (n - 2)) count
+    ∙ total-same (λ (k : ℕ). cond (has_free_bit old (k + 2)) 1 0) (λ (k : ℕ). cond (has_free_bit new (k + 2)) 1 0) (block_count old - 2)
     (λ k lt. ap (λ (b : Bool). cond b 1 0) (same (k + 2) (omega arith, omega arith)))
 
 -- ---- where one bit was put
 
 -- nothing but the page was changed
-pub marked_page_only : (old : List ℕ) (k : ℕ) (free : Bool) (new : List ℕ) → Marked old k free new → OnlyBlock (page_block old (page_of k)) old new
+pub marked_page_only : (old : List ℕ) (k : ℕ) (free : Bool) (new : List ℕ) → BitChanged old k free new → OnlyBlock (page_block old (page_of k)) old new
 marked_page_only old k free new h = same_weaken (MapPlace old k) (InBlock (page_block old (page_of k))) old new (λ c i at. at.0) h.rest
 
 -- the number of marks moves with the bit
-pub marked_count_moved : (old : List ℕ) (k : ℕ) (free : Bool) (new : List ℕ) → Marked old k free new → IsInside (block_count old) k
-    → marked_count new + cond (is_marked_free old k) 1 0 ≡ marked_count old + cond free 1 0
+pub marked_count_moved : (old : List ℕ) (k : ℕ) (free : Bool) (new : List ℕ) → BitChanged old k free new → IsInside (block_count old) k
+    → free_bit_count new + cond (has_free_bit old k) 1 0 ≡ free_bit_count old + cond free 1 0
 marked_count_moved old k free new h inside =
     let back : k - 2 + 2 ≡ k = omega (arith, inside.0) in
-    let bit : List ℕ → ℕ → ℕ = λ image j. cond (is_marked_free image (j + 2)) 1 0 in
+    let bit : List ℕ → ℕ → ℕ = λ image j. cond (has_free_bit image (j + 2)) 1 0 in
     let count : block_count new ≡ block_count old = same_count (MapPlace old k) old new h.rest in
-    let here : bit new (k - 2) ≡ cond free 1 0 = ap (λ (j : ℕ). cond (is_marked_free new j) 1 0) back ∙ ap (λ (b : Bool). cond b 1 0) h.bit in
-    let was : bit old (k - 2) ≡ cond (is_marked_free old k) 1 0 = ap (λ (j : ℕ). cond (is_marked_free old j) 1 0) back in
+    let here : bit new (k - 2) ≡ cond free 1 0 = ap (λ (j : ℕ). cond (has_free_bit new j) 1 0) back ∙ ap (λ (b : Bool). cond b 1 0) h.bit in
+    let was : bit old (k - 2) ≡ cond (has_free_bit old k) 1 0 = ap (λ (j : ℕ). cond (has_free_bit old j) 1 0) back in
     let moved = total-one (bit old) (bit new) (k - 2) (block_count old - 2) (omega (arith, inside.0, inside.1))
     (λ j lt ne. ap (λ (b : Bool). cond b 1 0) (h.others (j + 2) (bit_of_inside old (j + 2) (omega arith, omega arith)) (omega (arith, inside.0)))) in
     omega (arith, moved, here, was, ap (λ (n : ℕ). total (bit new) (n - 2)) count)
 
 -- a block was taken: one mark less
-pub marked_count_taken : (old : List ℕ) (k : ℕ) (new : List ℕ) → Marked old k false new → IsInside (block_count old) k → is_marked_free old k ≡ true → marked_count new + 1 ≡ marked_count old
+pub marked_count_taken : (old : List ℕ) (k : ℕ) (new : List ℕ) → BitChanged old k false new → IsInside (block_count old) k → has_free_bit old k ≡ true → free_bit_count new + 1 ≡ free_bit_count old
 marked_count_taken old k new h inside was = omega (arith, marked_count_moved old k false new h inside, ap {B = ℕ} (λ (b : Bool). cond b 1 0) was)
 
 -- a used block was given back: one mark more
-pub marked_count_given : (old : List ℕ) (k : ℕ) (new : List ℕ) → Marked old k true new → IsInside (block_count old) k → is_marked_free old k ≡ false → marked_count new ≡ marked_count old + 1
+pub marked_count_given : (old : List ℕ) (k : ℕ) (new : List ℕ) → BitChanged old k true new → IsInside (block_count old) k → has_free_bit old k ≡ false → free_bit_count new ≡ free_bit_count old + 1
 marked_count_given old k new h inside was = omega (arith, marked_count_moved old k true new h inside, ap {B = ℕ} (λ (b : Bool). cond b 1 0) was)
 
 -- ---- none and some
@@ -74,15 +74,15 @@ part f (suc n) k lt = elim (cases_lt k n) [
 ]
 
 -- where no block is marked their number is 0
-pub marked_count-none : (image : List ℕ) → NoneFree image → marked_count image ≡ 0
-marked_count-none image none =
-    zeros (λ (k : ℕ). cond (is_marked_free image (k + 2)) 1 0) (block_count image - 2)
+pub free_bit_count-none : (image : List ℕ) → NoneFree image → free_bit_count image ≡ 0
+free_bit_count-none image none =
+    zeros (λ (k : ℕ). cond (has_free_bit image (k + 2)) 1 0) (block_count image - 2)
     (λ k lt. ap (λ (b : Bool). cond b 1 0) (none (k + 2) (omega arith, omega arith)))
 
 -- where a block is marked their number isn't 0
-pub marked_count-some : (image : List ℕ) (k : ℕ) → IsInside (block_count image) k → is_marked_free image k ≡ true → 0 < marked_count image
-marked_count-some image k inside marked =
+pub free_bit_count-some : (image : List ℕ) (k : ℕ) → IsInside (block_count image) k → has_free_bit image k ≡ true → 0 < free_bit_count image
+free_bit_count-some image k inside marked =
     let back : k - 2 + 2 ≡ k = omega (arith, inside.0) in
-    let bit : ℕ → ℕ = λ j. cond (is_marked_free image (j + 2)) 1 0 in
-    let here : bit (k - 2) ≡ 1 = ap (λ (j : ℕ). cond (is_marked_free image j) 1 0) back ∙ ap (λ (b : Bool). cond b 1 0) marked in
+    let bit : ℕ → ℕ = λ j. cond (has_free_bit image (j + 2)) 1 0 in
+    let here : bit (k - 2) ≡ 1 = ap (λ (j : ℕ). cond (has_free_bit image j) 1 0) back ∙ ap (λ (b : Bool). cond b 1 0) marked in
     omega (arith, here, part bit (block_count image - 2) (k - 2) (omega (arith, inside.0, inside.1)))

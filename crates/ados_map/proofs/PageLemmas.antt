@@ -2,25 +2,26 @@
 use Rattle.std.proofs.Common.{◌≡◌, ◌≢◌, ℕ, ◌+◌, ◌-◌, ◌/◌, ◌%◌, ◌<◌, ◌≤◌, ◌⊎◌, inl, inr, Bool, List, arith, ap, ap₂, sym, ◌∙◌}
 use Rattle.std.proofs.lemmas.Bool.{cases_eq}
 use Rattle.std.specs.Int.{bit_at}
-use Rattle.adf_block.specs.Image.{long, block_count, block_sum, root_key, IsInside}
+use Rattle.adf_block.specs.Fields.{first_page, page_longs, bitmap_extension}
+use Rattle.adf_block.specs.Image.{long, block_count, block_sum, root_key, page_count, IsInside}
 use Rattle.adf_block.specs.Frame.{SameBut, AtLong, InBlock, OnlyLong, OnlyBlock}
 use Rattle.adf_block.proofs.Frames.{same_count, same_long, same_trans, same_weaken, other_long}
 use Rattle.ados_map.specs.Pages.{LawfulPages, page_block, pages_of, page_of, map_long, HasBit}
-use Rattle.ados_map.specs.Changes.{InPages, MapPlace, Marked}
+use Rattle.ados_map.specs.Changes.{InPages, MapPlace, BitChanged}
 use Rattle.ados_map.specs.Bits.{IsBitPut}
 use Rattle.ados_map.proofs.BitLemmas.{mark, marked-is, mark-bit, mark-same}
 
--- where longs 79 to 103 of the root were not changed it names the pages as before
-pub same_page : (changed : ℕ → ℕ → Type 0) (old new : List ℕ) → SameBut changed old new → ((k : ℕ) → 79 ≤ k / 4 → k / 4 < 104 → ¬ changed (root_key (block_count old)) k)
-    → (p : ℕ) → p < 25 → page_block new p ≡ page_block old p
+-- where the longs of the root that name pages were not changed it names the pages as before
+pub same_page : (changed : ℕ → ℕ → Type 0) (old new : List ℕ) → SameBut changed old new → ((k : ℕ) → first_page ≤ k / 4 → k / 4 < bitmap_extension → ¬ changed (root_key (block_count old)) k)
+    → (p : ℕ) → p < page_longs → page_block new p ≡ page_block old p
 same_page changed old new h un p lt =
-    ap (λ (n : ℕ). long new (root_key n) (79 + p)) (same_count changed old new h)
-    ∙ same_long changed old new h (root_key (block_count old)) (79 + p) (omega arith) (λ k e. un k (omega arith) (omega arith))
+    ap (λ (n : ℕ). long new (root_key n) (first_page + p)) (same_count changed old new h)
+    ∙ same_long changed old new h (root_key (block_count old)) (first_page + p) (omega arith) (λ k e. un k (omega arith) (omega arith))
 
 -- pages that are named as before are lawful still
 pub lawful_kept : (old new : List ℕ) → LawfulPages old → block_count new ≡ block_count old → ((p : ℕ) → p < pages_of old → page_block new p ≡ page_block old p) → LawfulPages new
 lawful_kept old new h count same =
-    let pages : pages_of new ≡ pages_of old = ap (λ (n : ℕ). (n - 2 + 4063) / 4064) count in
+    let pages : pages_of new ≡ pages_of old = ap page_count count in
     record {
       inside = λ p lt.
           let below : p < pages_of old = omega (arith, pages) in
@@ -36,8 +37,8 @@ lawful_kept old new h count same =
           h.beside_root p below (sym (same p below) ∙ e ∙ ap root_key count);
     }
 
--- a change of other places than longs 79 to 103 of the root leaves the pages lawful
-pub lawful_beside_root : (changed : ℕ → ℕ → Type 0) (old new : List ℕ) → SameBut changed old new → ((k : ℕ) → 79 ≤ k / 4 → k / 4 < 104 → ¬ changed (root_key (block_count old)) k)
+-- a change of other places than those longs leaves the pages lawful
+pub lawful_beside_root : (changed : ℕ → ℕ → Type 0) (old new : List ℕ) → SameBut changed old new → ((k : ℕ) → first_page ≤ k / 4 → k / 4 < bitmap_extension → ¬ changed (root_key (block_count old)) k)
     → block_count old ≤ 101602 → LawfulPages old → LawfulPages new
 lawful_beside_root changed old new h un size lawful =
     lawful_kept old new lawful (same_count changed old new h) (λ p lt. same_page changed old new h un p (omega arith))
@@ -96,7 +97,7 @@ other_mark old mid new k free lawful size inside first second put j has ne =
 pub marked_by : (old mid new : List ℕ) (k : ℕ) (free : Bool) → LawfulPages old → block_count old ≤ 101602 → IsInside (block_count old) k
     → OnlyLong (page_block old (page_of k)) (map_long k) old mid → OnlyLong (page_block old (page_of k)) 0 mid new
     → IsBitPut (long old (page_block old (page_of k)) (map_long k)) ((k - 2) % 32) free (long mid (page_block old (page_of k)) (map_long k))
-    → block_sum new (page_block old (page_of k)) ≡ 0 → Marked old k free new
+    → block_sum new (page_block old (page_of k)) ≡ 0 → BitChanged old k free new
 marked_by old mid new k free lawful size inside first second put sum =
     let b = page_block old (page_of k) in
     let k_page : page_of k < pages_of old = omega (arith, inside.0, inside.1) in
@@ -106,7 +107,7 @@ marked_by old mid new k free lawful size inside first second put sum =
     same_trans (MapPlace old k) old mid new
     (same_weaken (AtLong b (map_long k)) (MapPlace old k) old mid (λ c i at. (at.0, inr at.1)) first)
     (same_weaken (AtLong b 0) (MapPlace old k) mid new (λ c i at. (at.0, inl at.1)) second) in
-    let page : (p : ℕ) → p < 25 → page_block new p ≡ page_block old p = same_page (MapPlace old k) old new rest (λ i low high at. lawful.beside_root (page_of k) k_page (sym at.0)) in
+    let page : (p : ℕ) → p < page_longs → page_block new p ≡ page_block old p = same_page (MapPlace old k) old new rest (λ i low high at. lawful.beside_root (page_of k) k_page (sym at.0)) in
     record {
       bit =
           marked-is new k
@@ -114,7 +115,7 @@ marked_by old mid new k free lawful size inside first second put sum =
           ∙ ap (λ (v : ℕ). mark v ((k - 2) % 32)) (other_long b 0 mid new second b (map_long k) k_place (inr k_behind))
           ∙ mark-bit (long mid b (map_long k)) ((k - 2) % 32) free put.bit;
       others = λ j has ne.
-          let j_page : page_of j < 25 = omega (arith, has.0, has.1) in
+          let j_page : page_of j < page_longs = omega (arith, has.0, has.1) in
           marked-is new j
           ∙ ap (λ (c : ℕ). mark (long new c (map_long j)) ((j - 2) % 32)) (page (page_of j) j_page)
           ∙ other_mark old mid new k free lawful size inside first second put j has ne

@@ -1,6 +1,7 @@
 -- The bitmap pages of an image, and what their bits say.
 use Rattle.std.specs.Prelude.{◌≡◌, ◌≢◌, ℕ, ◌+◌, ◌-◌, ◌*◌, ◌/◌, ◌%◌, ◌<◌, ◌≤◌, List, false, true}
-use Rattle.adf_block.specs.Image.{long, block_count, root_key, page_count, IsInside, is_marked_free}
+use Rattle.adf_block.specs.Fields.{boot_blocks, first_page, first_map_long, long_bits, page_bits}
+use Rattle.adf_block.specs.Image.{long, block_count, root_key, page_count, IsInside, has_free_bit}
 
 -- how many bitmap pages the image has
 abbrev pub pages_of : List ℕ → ℕ
@@ -8,7 +9,7 @@ pages_of image = page_count (block_count image)
 
 -- the block of page p, as the root names it
 abbrev pub page_block : List ℕ → ℕ → ℕ
-page_block image p = long image (root_key (block_count image)) (79 + p)
+page_block image p = long image (root_key (block_count image)) (first_page + p)
 
 -- the pages stand in blocks behind the boot blocks, no two in one block, and none in the root
 pub record LawfulPages (image : List ℕ) : Type 0 where
@@ -18,22 +19,22 @@ pub record LawfulPages (image : List ℕ) : Type 0 where
 
 -- the page that has the bit of block k
 abbrev pub page_of : ℕ → ℕ
-page_of k = (k - 2) / 4064
+page_of k = (k - boot_blocks) / page_bits
 
 -- the long of that page in which the bit stands
 abbrev pub map_long : ℕ → ℕ
-map_long k = 1 + (k - 2) % 4064 / 32
+map_long k = first_map_long + (k - boot_blocks) % page_bits / long_bits
 
 -- the pages have a bit for k: a block of the volume, or a bit past its end
 abbrev pub HasBit : List ℕ → ℕ → Type 0
-HasBit image k = (2 ≤ k) × (k < 2 + 4064 * pages_of image)
+HasBit image k = (boot_blocks ≤ k) × (k < boot_blocks + page_bits * pages_of image)
 
 -- no block of the volume is marked free
 abbrev pub NoneFree : List ℕ → Type 0
-NoneFree image = (k : ℕ) → IsInside (block_count image) k → is_marked_free image k ≡ false
+NoneFree image = (k : ℕ) → IsInside (block_count image) k → has_free_bit image k ≡ false
 
 -- of the blocks of the volume that are marked free, the lowest
 pub record IsLowestFree (image : List ℕ) (k : ℕ) : Type 0 where
   pub inside : IsInside (block_count image) k
-  pub free : is_marked_free image k ≡ true
-  pub lowest : (j : ℕ) → 2 ≤ j → j < k → is_marked_free image j ≡ false
+  pub free : has_free_bit image k ≡ true
+  pub lowest : (j : ℕ) → boot_blocks ≤ j → j < k → has_free_bit image j ≡ false

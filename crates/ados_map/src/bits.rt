@@ -1,23 +1,15 @@
 //! One page, and one map long of it.
 
 ghost use Rattle.std.specs.Prelude.{◌≡◌, ◌<◌, ◌≤◌, ◌+◌, ◌*◌, length};
+ghost use Rattle.adf_block.specs.Fields.{boot_blocks, long_bits, map_longs, page_longs};
 ghost use Rattle.adf_block.specs.Image.{IsInside, IsSize, block_count};
 ghost use Rattle.ados_map.specs.Pages.{LawfulPages, page_block, pages_of};
 ghost use Rattle.ados_map.specs.Bits.{IsBitPut, IsFreeBits, IsUnnamedBits, is_unnamed};
 
 use adf_block::Image;
-
-/// The bits of a map long.
-pub const BITS: u32 = 32;
-
-/// The map longs of a page, behind its sum.
-pub const MAP_LONGS: u32 = 127;
-
-/// The bits of a page.
-pub const PAGE_BITS: u32 = BITS * MAP_LONGS;
-
-/// The long of the root that names the first page.
-const FIRST_PAGE: u32 = 79;
+use adf_block::layout::{
+    BOOT_BLOCKS, FIRST_MAP_LONG, FIRST_PAGE, LONG_BITS, MAP_LONGS, MOST_BLOCKS,
+};
 
 /// The block of page `p`.
 pub fn page_at(image: &Image, p: u32) -> u32
@@ -27,19 +19,22 @@ pub fn page_at(image: &Image, p: u32) -> u32
     ensures inside { IsInside (block_count image.now) result }
     ensures size { IsSize (block_count image.now) }
 {
-    prove!(image.blocks() <= 101_602);
+    prove!(image.blocks() <= MOST_BLOCKS);
     image.long(image.root(), FIRST_PAGE + p)
 }
 
 /// Map long `w` of the volume, with no bit past the volume's end.
 pub fn free_bits(image: &Image, w: u32) -> u32
     requires pages { LawfulPages image.now }
-    requires within { 2 + 32 * w < block_count image.now }
+    requires within { boot_blocks + long_bits * w < block_count image.now }
     ensures { IsFreeBits image.now w result }
 {
-    let bits = image.long(page_at(image, w / MAP_LONGS), 1 + w % MAP_LONGS);
-    let left = image.blocks() - 2 - BITS * w;
-    if left < BITS {
+    let bits = image.long(
+        page_at(image, w / MAP_LONGS),
+        FIRST_MAP_LONG + w % MAP_LONGS,
+    );
+    let left = image.blocks() - BOOT_BLOCKS - LONG_BITS * w;
+    if left < LONG_BITS {
         bits & ((1 << left) - 1)
     } else {
         bits
@@ -48,7 +43,7 @@ pub fn free_bits(image: &Image, w: u32) -> u32
 
 /// The bits with bit `i` set or cleared.
 pub fn with_bit(bits: u32, i: u32, free: bool) -> u32
-    requires { i < 32 }
+    requires { i < long_bits }
     ensures { IsBitPut bits i free result }
 {
     if free {
@@ -60,12 +55,12 @@ pub fn with_bit(bits: u32, i: u32, free: bool) -> u32
 
 /// Map long `w` where all blocks but the named ones are free, and no bit past the end is set.
 pub fn unnamed_bits(named: &[bool], w: u32) -> u32
-    requires { w < 3175 }
+    requires { w < page_longs * map_longs }
     ensures { IsUnnamedBits named.now w result }
 {
     let mut bits = 0;
-    for i in 0..BITS {
-        let free = is_unnamed_block(named, (2 + BITS * w + i) as usize);
+    for i in 0..LONG_BITS {
+        let free = is_unnamed_block(named, (BOOT_BLOCKS + LONG_BITS * w + i) as usize);
         bits = with_bit(bits, i, free);
     }
     bits

@@ -1,16 +1,13 @@
 //! The bitmap pages of a floppy image: which blocks are free.
 //!
 //! Bit `i`, lowest first, of map long `j` of a page stands for a block; a set bit means free. The
-//! root names the pages in long 79 and on, and a page's long 0 is its sum (AmigaDOS Technical
-//! Reference). Bits past the volume's end are not looked at (this project's choice).
+//! root names the pages (AmigaDOS Technical Reference). Bits past the volume's end are not looked at (this project's choice).
 #![tactic(auto)]
 
 mod bits;
 mod changes;
 mod reading;
 mod rebuilding;
-#[cfg(test)]
-mod tests;
 
 pub use changes::{give_back, take_first};
 pub use reading::{count_free, is_free};

@@ -1,26 +1,32 @@
 //! What the pages say.
 
 ghost use Rattle.std.specs.Prelude.{◌≡◌, ◌+◌, ◌-◌, ◌/◌, MatchOption};
-ghost use Rattle.adf_block.specs.Image.{IsImage, IsInside, IsSize, block_count, is_marked_free, marked_count};
+ghost use Rattle.adf_block.specs.Fields.{boot_blocks, long_bits};
+ghost use Rattle.adf_block.specs.Image.{IsImage, IsInside, IsSize, block_count, has_free_bit, free_bit_count};
 ghost use Rattle.ados_map.specs.Pages.{IsLowestFree, LawfulPages, NoneFree};
 
-use crate::bits::{BITS, PAGE_BITS, free_bits, page_at};
+use crate::bits::{free_bits, page_at};
 use adf_block::Image;
+use adf_block::layout::{BOOT_BLOCKS, FIRST_MAP_LONG, LONG_BITS, PAGE_BITS};
 
 /// Whether block `b`, which is neither a boot block nor past the end, is marked free.
 pub fn is_free(image: &Image, b: u32) -> bool
     requires pages { LawfulPages image.now }
     requires inside { IsInside (block_count image.now) b }
-    ensures { result ≡ is_marked_free image.now b }
+    ensures { result ≡ has_free_bit image.now b }
 {
-    let page = page_at(image, (b - 2) / PAGE_BITS);
-    image.long(page, 1 + (b - 2) % PAGE_BITS / BITS) & (1 << ((b - 2) % BITS)) != 0
+    let page = page_at(image, (b - BOOT_BLOCKS) / PAGE_BITS);
+    image.long(
+        page,
+        FIRST_MAP_LONG + (b - BOOT_BLOCKS) % PAGE_BITS / LONG_BITS,
+    ) & (1 << ((b - BOOT_BLOCKS) % LONG_BITS))
+        != 0
 }
 
 /// How many blocks are marked free.
 pub fn count_free(image: &Image) -> u32
     requires { LawfulPages image.now }
-    ensures { result ≡ marked_count image.now }
+    ensures { result ≡ free_bit_count image.now }
 {
     let mut count = 0;
     for w in 0..map_longs(image) {
@@ -38,7 +44,7 @@ pub fn first_free(image: &Image) -> Option<u32>
     for w in 0..map_longs(image) {
         let bits = free_bits(image, w);
         if bits != 0 {
-            return Some(2 + BITS * w + bits.trailing_zeros());
+            return Some(BOOT_BLOCKS + LONG_BITS * w + bits.trailing_zeros());
         }
     }
     None
@@ -46,9 +52,9 @@ pub fn first_free(image: &Image) -> Option<u32>
 
 /// How many map longs have bits of the volume.
 fn map_longs(image: &Image) -> u32
-    ensures count { result ≡ (block_count image.now - 2 + 31) / 32 }
+    ensures count { result ≡ (block_count image.now - boot_blocks + (long_bits - 1)) / long_bits }
     ensures size { IsSize (block_count image.now) }
     ensures image { IsImage image.now }
 {
-    (image.blocks() - 2).div_ceil(BITS)
+    (image.blocks() - BOOT_BLOCKS).div_ceil(LONG_BITS)
 }

@@ -1,6 +1,7 @@
-mod DateLemmas
+-- Lemmas for the functions of each module, in the order of the definitions.
 mod NameLemmas
 mod PathLemmas
-mod ProtectionLemmas
 mod SeparatorLemmas
+mod ProtectionLemmas
+mod DateLemmas
 mod ShortTextLemmas

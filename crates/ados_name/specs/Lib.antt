@@ -1,7 +1,8 @@
-pub mod CivilDay
-pub mod Date
+-- What names, comments, paths, protection bits and dates are; then how a step and a text in an array are seen.
 pub mod Name
 pub mod Path
 pub mod Protection
-pub mod ShortText
+pub mod CivilDay
+pub mod Date
 pub mod StepView
+pub mod ShortText

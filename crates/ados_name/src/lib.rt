@@ -22,6 +22,3 @@ pub struct Date3 {
     pub minutes: u32,
     pub ticks: u32,
 }
-
-#[cfg(test)]
-mod tests;

@@ -2,37 +2,44 @@
 use Rattle.std.specs.Prelude.{ℤ, pos, negsuc}
 use Rattle.ados_packet.specs.declared.packet.Packet.{Packet}
 use Rattle.ados_packet.specs.declared.packet.Packet.TheVariants.{Die, LocateObject, RenameDisk, FreeLock, DeleteObject, RenameObject, CopyDir, SetProtect, CreateDir, ExamineObject, ExamineNext, DiskInfo, Info, SetComment, Parent, SetDate, SameLock, Read, Write, FindUpdate, FindInput, FindOutput, End, Seek, SetFileSize, Other}
+use Rattle.ados_packet.specs.declared.action.Action.{Action}
+use Rattle.ados_packet.specs.declared.action.Action.TheVariants as action
 use Rattle.ados_packet.specs.declared.answer.Body.{Body}
 use Rattle.ados_packet.specs.declared.answer.Body.TheVariants as body
+use Rattle.ados_packet.specs.Numbers.{action_number}
 
 -- the action that a packet asks for
+abbrev pub kind_of : Packet → Action
+kind_of Die = action.Die
+kind_of (LocateObject lock path mode) = action.LocateObject
+kind_of (RenameDisk name) = action.RenameDisk
+kind_of (FreeLock lock) = action.FreeLock
+kind_of (DeleteObject lock path) = action.DeleteObject
+kind_of (RenameObject from_lock from to_lock to) = action.RenameObject
+kind_of (CopyDir lock) = action.CopyDir
+kind_of (SetProtect lock path bits) = action.SetProtect
+kind_of (CreateDir lock path) = action.CreateDir
+kind_of (ExamineObject lock) = action.ExamineObject
+kind_of (ExamineNext lock key) = action.ExamineNext
+kind_of DiskInfo = action.DiskInfo
+kind_of (Info lock) = action.Info
+kind_of (SetComment lock path comment) = action.SetComment
+kind_of (Parent lock) = action.Parent
+kind_of (SetDate lock path date) = action.SetDate
+kind_of (SameLock first second) = action.SameLock
+kind_of (Read handle buffer) = action.Read
+kind_of (Write handle bytes) = action.Write
+kind_of (FindUpdate lock path) = action.FindUpdate
+kind_of (FindInput lock path) = action.FindInput
+kind_of (FindOutput lock path) = action.FindOutput
+kind_of (End handle) = action.End
+kind_of (Seek handle offset mode) = action.Seek
+kind_of (SetFileSize handle offset mode) = action.SetFileSize
+kind_of (Other number) = action.Other number
+
+-- its number
 abbrev pub action_of : Packet → ℤ
-action_of Die = pos 5
-action_of (LocateObject lock path mode) = pos 8
-action_of (RenameDisk name) = pos 9
-action_of (FreeLock lock) = pos 15
-action_of (DeleteObject lock path) = pos 16
-action_of (RenameObject from_lock from to_lock to) = pos 17
-action_of (CopyDir lock) = pos 19
-action_of (SetProtect lock path bits) = pos 21
-action_of (CreateDir lock path) = pos 22
-action_of (ExamineObject lock) = pos 23
-action_of (ExamineNext lock key) = pos 24
-action_of DiskInfo = pos 25
-action_of (Info lock) = pos 26
-action_of (SetComment lock path comment) = pos 28
-action_of (Parent lock) = pos 29
-action_of (SetDate lock path date) = pos 34
-action_of (SameLock first second) = pos 40
-action_of (Read handle buffer) = pos 82
-action_of (Write handle bytes) = pos 87
-action_of (FindUpdate lock path) = pos 1004
-action_of (FindInput lock path) = pos 1005
-action_of (FindOutput lock path) = pos 1006
-action_of (End handle) = pos 1007
-action_of (Seek handle offset mode) = pos 1008
-action_of (SetFileSize handle offset mode) = pos 1022
-action_of (Other action) = action
+action_of packet = action_number (kind_of packet)
 
 -- DOSTRUE and DOSFALSE
 abbrev pub dos_true : ℤ

@@ -1,12 +1,18 @@
 //! What a client sends to an AmigaDOS handler, and what comes back: packets and answers.
 #![tactic(auto)]
 
+pub mod action;
 pub mod answer;
 pub mod buffer;
+pub mod dos_error;
+pub mod info;
 pub mod packet;
 
-pub use answer::{Answer, Body, DiskInfo, FileInfo};
+pub use action::Action;
+pub use answer::{Answer, Body};
 pub use buffer::Buffer;
+pub use dos_error::DosError;
+pub use info::{DiskInfo, FileInfo};
 pub use packet::Packet;
 
 #[cfg(test)]

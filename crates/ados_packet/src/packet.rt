@@ -1,7 +1,8 @@
 //! The packets.
 ghost use Rattle.std.specs.Prelude.{◌≡◌};
-ghost use Rattle.ados_packet.specs.Packet.{action_of};
+ghost use Rattle.ados_packet.specs.Packet.{action_of, kind_of};
 
+use crate::action::Action;
 use crate::buffer::Buffer;
 use ados_name::{Date3, PathText};
 
@@ -137,37 +138,44 @@ pub enum Packet {
 }
 
 impl Packet {
+    /// The action that the packet asks for.
+    pub fn kind(&self) -> Action
+        ensures { result ≡ kind_of self.now }
+    {
+        match self {
+            Packet::Die => Action::Die,
+            Packet::LocateObject { .. } => Action::LocateObject,
+            Packet::RenameDisk { .. } => Action::RenameDisk,
+            Packet::FreeLock { .. } => Action::FreeLock,
+            Packet::DeleteObject { .. } => Action::DeleteObject,
+            Packet::RenameObject { .. } => Action::RenameObject,
+            Packet::CopyDir { .. } => Action::CopyDir,
+            Packet::SetProtect { .. } => Action::SetProtect,
+            Packet::CreateDir { .. } => Action::CreateDir,
+            Packet::ExamineObject { .. } => Action::ExamineObject,
+            Packet::ExamineNext { .. } => Action::ExamineNext,
+            Packet::DiskInfo => Action::DiskInfo,
+            Packet::Info { .. } => Action::Info,
+            Packet::SetComment { .. } => Action::SetComment,
+            Packet::Parent { .. } => Action::Parent,
+            Packet::SetDate { .. } => Action::SetDate,
+            Packet::SameLock { .. } => Action::SameLock,
+            Packet::Read { .. } => Action::Read,
+            Packet::Write { .. } => Action::Write,
+            Packet::FindUpdate { .. } => Action::FindUpdate,
+            Packet::FindInput { .. } => Action::FindInput,
+            Packet::FindOutput { .. } => Action::FindOutput,
+            Packet::End { .. } => Action::End,
+            Packet::Seek { .. } => Action::Seek,
+            Packet::SetFileSize { .. } => Action::SetFileSize,
+            Packet::Other { action } => Action::Other(*action),
+        }
+    }
+
     /// The number of the packet's action, as the AmigaDOS Technical Reference gives it.
     pub fn action(&self) -> i32
         ensures { result ≡ action_of self.now }
     {
-        match self {
-            Packet::Die => 5,
-            Packet::LocateObject { .. } => 8,
-            Packet::RenameDisk { .. } => 9,
-            Packet::FreeLock { .. } => 15,
-            Packet::DeleteObject { .. } => 16,
-            Packet::RenameObject { .. } => 17,
-            Packet::CopyDir { .. } => 19,
-            Packet::SetProtect { .. } => 21,
-            Packet::CreateDir { .. } => 22,
-            Packet::ExamineObject { .. } => 23,
-            Packet::ExamineNext { .. } => 24,
-            Packet::DiskInfo => 25,
-            Packet::Info { .. } => 26,
-            Packet::SetComment { .. } => 28,
-            Packet::Parent { .. } => 29,
-            Packet::SetDate { .. } => 34,
-            Packet::SameLock { .. } => 40,
-            Packet::Read { .. } => 82,
-            Packet::Write { .. } => 87,
-            Packet::FindUpdate { .. } => 1004,
-            Packet::FindInput { .. } => 1005,
-            Packet::FindOutput { .. } => 1006,
-            Packet::End { .. } => 1007,
-            Packet::Seek { .. } => 1008,
-            Packet::SetFileSize { .. } => 1022,
-            Packet::Other { action } => *action,
-        }
+        self.kind().number()
     }
 }

@@ -1,5 +1,8 @@
 //! Rows of packets and answers.
-use crate::answer::{Answer, Body, DiskInfo};
+use crate::action::Action;
+use crate::answer::{Answer, Body};
+use crate::dos_error::DosError;
+use crate::info::DiskInfo;
 use crate::packet::Packet;
 use ados_name::PathText;
 
@@ -19,10 +22,10 @@ fn a_success_and_a_refusal(rt: HostRuntime) {
         bytes_per_block: 512,
         disk_type: 0x444F_5301,
     };
-    let done = Answer::done(25, Body::Disk(info));
+    let done = Answer::done(Action::DiskInfo, Body::Disk(info));
     assert_eq!(rt; (done.action, done.res1, done.res2), (25, -1, 0));
     assert!(rt; matches!(done.body, Body::Disk(found) if found == info));
-    let refused = Answer::refused(999, 209);
+    let refused = Answer::refused(Action::Other(999), DosError::ActionNotKnown);
     assert_eq!(rt; (refused.action, refused.res1, refused.res2), (999, 0, 209));
     assert!(rt; matches!(refused.body, Body::Empty));
 }

@@ -3,10 +3,10 @@
 //! end [`gather`] brings all ends together.
 #![tactic(auto)]
 
-pub use ados_ends::{
+pub use port_ends::{
     ClientEnd, GatherRefused, Gathered, HandlerEnd, OpenRefused, ServeEnd, ServeFault, gather,
     open_port,
 };
-pub use ados_exchange::{Exchange, NewRefused, RunDone, RunRefused, run};
-pub use ados_server::{Outcome, PutRefused, Reply, Server, Step};
-pub use ados_threads::{Client, ServeClientsFault, Served, serve_clients};
+pub use port_exchange::{Exchange, NewRefused, RunDone, RunRefused, run};
+pub use port_history::{Outcome, PutRefused, Reply, Server, Step};
+pub use port_threads::{Client, ServeClientsFault, Served, serve_clients};

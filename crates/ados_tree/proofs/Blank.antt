@@ -3,12 +3,12 @@ use Rattle.std.proofs.Common.{◌≡◌, ◌≢◌, ℕ, zero, suc, ◌+◌, ◌
 use Rattle.std.proofs.lemmas.Bool.{cases_order, false≢true}
 use Rattle.std.proofs.lemmas.List.{get_or_default}
 use Rattle.adf_block.specs.declared.Format.{Format}
-use Rattle.adf_block.specs.Image.{IsSize, IsInside, IsMarkedFree, root_key, page_count, long, block_sum}
+use Rattle.adf_block.specs.Image.{IsSize, IsInside, HasFreeBit, root_key, page_count, long, block_sum}
 use Rattle.ados_name.specs.declared.Date3.{Date3}
 use Rattle.ados_name.specs.Name.{slot, IsName, IsComment}
 use Rattle.ados_tree.specs.Tree.{Node, Tree, Proper, LeadsToRoot, name_of, entries, entries_in, parent_of, size_of, size_in}
 use Rattle.ados_tree.specs.Tree.Content.{Directory}
-use Rattle.ados_tree.specs.Layout.{Layout, Fits, Duty, Serves, Named}
+use Rattle.ados_tree.specs.Layout.{Layout, Fits, Duty, HasDuty, Named}
 use Rattle.ados_tree.specs.Stands.{Stands, HasNode, HasRoot, in_slot}
 use Rattle.ados_tree.specs.Blank.{blank_root, blank_tree, IsBlank}
 use Rattle.ados_data.specs.Cost.{data_count}
@@ -114,7 +114,7 @@ module _ (format : Format) (n : ℕ) (name : List ℕ) (moment : Date3) where
     a_page : {i b : ℕ} → i < page_count n → b ≡ root_key n + 1 + i → OnlyDuty b (Duty.Page i)
     a_root : {b : ℕ} → b ≡ root_key n → OnlyDuty b Duty.Key
 
-  only_duty : (b : ℕ) (duty : Duty) → Serves t layout b duty → OnlyDuty b duty
+  only_duty : (b : ℕ) (duty : Duty) → HasDuty t layout b duty → OnlyDuty b duty
   only_duty b (Duty.Page i) h = let m = from-get (root_key n + 1) (page_count n) i b h in a_page m.0 m.1
   only_duty b Duty.Key h = go (b == root_key n) refl h
     where
@@ -162,11 +162,11 @@ module _ (format : Format) (n : ℕ) (name : List ℕ) (moment : Date3) where
     root_node_fields : HasNode image (root_key n) (blank_root name moment)
     root_node_fields = record { primary = h.primary; sum = h.root_sum; name = h.root_name; date = h.root_date }
 
-    not_used_and_free : (b : ℕ) (duty : Duty) → IsInside n b → IsMarkedFree image b → OnlyDuty b duty → ⊥
+    not_used_and_free : (b : ℕ) (duty : Duty) → IsInside n b → HasFreeBit image b → OnlyDuty b duty → ⊥
     not_used_and_free b duty i m (a_page l e) = h.used b i (omega (arith, e)) (omega (arith, e, l)) m
     not_used_and_free b duty i m (a_root e) = h.used b i (omega (arith, e)) (omega (arith, e)) m
 
-    is_named : (b : ℕ) → IsInside n b → (IsMarkedFree image b → ⊥) → (b ≡ root_key n) ⊎ ((b < root_key n) ⊎ (root_key n < b)) → (b ≤ root_key n + page_count n) ⊎ (root_key n + page_count n < b) → Named t layout b
+    is_named : (b : ℕ) → IsInside n b → (HasFreeBit image b → ⊥) → (b ≡ root_key n) ⊎ ((b < root_key n) ⊎ (root_key n < b)) → (b ≤ root_key n + page_count n) ⊎ (root_key n + page_count n < b) → Named t layout b
     is_named b i m (inl e) k = (Duty.Key, rw (eq-eqb b (root_key n) e) refl)
     is_named b i m (inr (inl l)) k = absurd (m (h.free_below b i l))
     is_named b i m (inr (inr g)) (inr l) = absurd (m (h.free_above b i l))

@@ -3,7 +3,7 @@ use Rattle.std.proofs.Common.{◌≡◌, ◌≢◌, ℕ, suc, ◌+◌, ◌-◌, 
 use Rattle.std.specs.List.{AllByRecursion, list_all}
 use Rattle.std.proofs.lemmas.Bool.{cases_lt, agree_below_at, and_parts, or_cases, false≢true, le-ltb, lt-leb, leb-true}
 use Rattle.std.proofs.lemmas.List.{get_or-replicate}
-use Rattle.adf_block.specs.Image.{IsInside, IsMarkedFree, is_marked_free, block_count, root_key, page_count, byte_at, bytes_at, long, block_sum}
+use Rattle.adf_block.specs.Image.{IsInside, HasFreeBit, has_free_bit, block_count, root_key, page_count, byte_at, bytes_at, long, block_sum}
 use Rattle.adf_block.specs.Fields.{HasText, name_byte}
 use Rattle.ados_tree.specs.declared.role.Role.TheVariants.{Root}
 use Rattle.ados_tree.specs.Kept.{IsField}
@@ -99,12 +99,12 @@ bit_is b l m =
     ap₂ (λ (p i : ℕ). long image p (1 + i / 32)) page same ∙ long_page (1 + (b - 2) / 32) (omega arith) in
     ap (λ (n : ℕ). bit_and n (2 ^ ((b - 2) % 32))) value
 
-marked : (b : ℕ) → 2 ≤ b → b < 4066 → is_free (b - 2) ≡ true → IsMarkedFree image b
-unfolding is_marked_free
+marked : (b : ℕ) → 2 ≤ b → b < 4066 → is_free (b - 2) ≡ true → HasFreeBit image b
+unfolding has_free_bit
 marked b l m free = ap (λ (n : ℕ). not (n == 0)) (bit_is b l m) ∙ ap not (bits (b - 2) (omega arith)) ∙ ap (λ (c : Bool). not (not c)) free
 
-not_marked : (b : ℕ) → 2 ≤ b → b < 4066 → is_free (b - 2) ≡ false → IsMarkedFree image b → ⊥
-unfolding is_marked_free
+not_marked : (b : ℕ) → 2 ≤ b → b < 4066 → is_free (b - 2) ≡ false → HasFreeBit image b → ⊥
+unfolding has_free_bit
 not_marked b l m used set =
     false≢true (sym (ap (λ (n : ℕ). not (n == 0)) (bit_is b l m) ∙ ap not (bits (b - 2) (omega arith)) ∙ ap (λ (c : Bool). not (not c)) used) ∙ set)
 

@@ -3,12 +3,12 @@ use Rattle.std.proofs.Common.{◌≡◌, ◌≢◌, ℕ, zero, suc, ◌+◌, ◌
 use Rattle.std.proofs.lemmas.Bool.{false≢true}
 use Rattle.adf_block.specs.declared.Format.{Format}
 use Rattle.adf_block.specs.declared.Format.TheVariants.{Ofs, Ffs}
-use Rattle.adf_block.specs.Image.{IsInside, is_marked_free, block_count, total}
+use Rattle.adf_block.specs.Image.{IsInside, has_free_bit, block_count, total}
 use Rattle.ados_tree.specs.Tree.{Content, Node, Tree, content_at, size_in, size_of, cost_in, used, free}
 use Rattle.ados_tree.specs.Tree.Content.{Directory, File}
-use Rattle.ados_tree.specs.Layout.{Duty, Serves, Named}
+use Rattle.ados_tree.specs.Layout.{Duty, HasDuty, Named}
 use Rattle.ados_tree.specs.Stands.{Stands}
-use Rattle.ados_tree.specs.Laws.{FreeIsMarked}
+use Rattle.ados_tree.specs.Laws.{FreeBitsCount}
 use Rattle.ados_tree.proofs.Standing.{slice_get-index}
 use Rattle.ados_tree.proofs.Blocks.{total-same}
 use Rattle.ados_data.specs.Cost.{data_count, extension_count}
@@ -43,27 +43,27 @@ module _ (image : List ℕ) (t : Tree) (s : Stands image t) where
   abbrev times_named : ℕ → ℕ
   times_named b = as_key b + (as_page b + (as_data b + (as_extension b + as_lost b)))
 
-  key_none : (b : ℕ) → ¬ Serves t s.layout b Duty.Key → as_key b ≡ 0
+  key_none : (b : ℕ) → ¬ HasDuty t s.layout b Duty.Key → as_key b ≡ 0
   key_none b n = go (is_some (t.nodes b)) refl
     where
       go : (c : Bool) → is_some (t.nodes b) ≡ c → ◌≡◌ {A = ℕ} (cond c 1 0) 0
       go true e = absurd (n e)
       go false e = refl
 
-  lost_none : (b : ℕ) → ¬ Serves t s.layout b Duty.Lost → as_lost b ≡ 0
+  lost_none : (b : ℕ) → ¬ HasDuty t s.layout b Duty.Lost → as_lost b ≡ 0
   lost_none b n = go (is_some (t.lost b)) refl
     where
       go : (c : Bool) → is_some (t.lost b) ≡ c → ◌≡◌ {A = ℕ} (cond c 1 0) 0
       go true e = absurd (n e)
       go false e = refl
 
-  page_none : (b : ℕ) → ((i : ℕ) → ¬ Serves t s.layout b (Duty.Page i)) → as_page b ≡ 0
+  page_none : (b : ℕ) → ((i : ℕ) → ¬ HasDuty t s.layout b (Duty.Page i)) → as_page b ≡ 0
   page_none b n = occurrences-none b s.layout.pages (λ i l e. n i (slice_get-index s.layout.pages i l ∙ ap Some e))
 
-  data_none : (b file : ℕ) → ((i : ℕ) → ¬ Serves t s.layout b (Duty.Data file i)) → occurrences b (s.layout.file_data file) ≡ 0
+  data_none : (b file : ℕ) → ((i : ℕ) → ¬ HasDuty t s.layout b (Duty.Data file i)) → occurrences b (s.layout.file_data file) ≡ 0
   data_none b file n = occurrences-none b (s.layout.file_data file) (λ i l e. n i (slice_get-index (s.layout.file_data file) i l ∙ ap Some e))
 
-  extension_none : (b file : ℕ) → ((i : ℕ) → ¬ Serves t s.layout b (Duty.Extension file i)) → occurrences b (s.layout.extensions file) ≡ 0
+  extension_none : (b file : ℕ) → ((i : ℕ) → ¬ HasDuty t s.layout b (Duty.Extension file i)) → occurrences b (s.layout.extensions file) ≡ 0
   extension_none b file n = occurrences-none b (s.layout.extensions file) (λ i l e. n i (slice_get-index (s.layout.extensions file) i l ∙ ap Some e))
 
   -- a file with a data block has a key in the volume
@@ -78,10 +78,10 @@ module _ (image : List ℕ) (t : Tree) (s : Stands image t) where
 
   module _ (b : ℕ) where
     -- a block with one duty has no other
-    others : (duty other : Duty) → Serves t s.layout b duty → duty ≢ other → ¬ Serves t s.layout b other
+    others : (duty other : Duty) → HasDuty t s.layout b duty → duty ≢ other → ¬ HasDuty t s.layout b other
     others duty other m n k = n (s.fits.one_duty b duty other m k)
 
-    once : (duty : Duty) → Serves t s.layout b duty → times_named b ≡ 1
+    once : (duty : Duty) → HasDuty t s.layout b duty → times_named b ≡ 1
     once (Duty.Page i) m =
         let here = slice_get-back s.layout.pages i b m in
         let one : as_page b ≡ 1 = occurrences-one b s.layout.pages i here.0 here.1 (λ j l e.
@@ -138,10 +138,10 @@ module _ (image : List ℕ) (t : Tree) (s : Stands image t) where
         omega (arith, k, p, d, x, g)
 
     -- a block of the volume is marked free, or named once
-    free_or_named : IsInside t.blocks b → cond (is_marked_free image b) 1 0 + times_named b ≡ 1
-    free_or_named i = go (is_marked_free image b) refl
+    free_or_named : IsInside t.blocks b → cond (has_free_bit image b) 1 0 + times_named b ≡ 1
+    free_or_named i = go (has_free_bit image b) refl
       where
-        go : (c : Bool) → is_marked_free image b ≡ c → cond c 1 0 + times_named b ≡ 1
+        go : (c : Bool) → has_free_bit image b ≡ c → cond c 1 0 + times_named b ≡ 1
         go true e = omega (arith, never (s.marked_free b i e))
         go false e = let n = s.marked_used b i (λ m. false≢true (sym e ∙ m)) in omega (arith, once n.0 n.1)
 
@@ -184,15 +184,15 @@ module _ (image : List ℕ) (t : Tree) (s : Stands image t) where
   boot_unnamed : (b : ℕ) → b < 2 → times_named b ≡ 0
   boot_unnamed b l = never b (λ n. let i = s.fits.inside b n.0 n.1 in omega (arith, i.0, l))
 
-  free_count : total (λ k. cond (is_marked_free image (k + 2)) 1 0) (t.blocks - 2) ≡ free t
+  free_count : total (λ k. cond (has_free_bit image (k + 2)) 1 0) (t.blocks - 2) ≡ free t
   free_count =
       let two : t.blocks ≡ suc (suc (t.blocks - 2)) = omega (arith, s.proper.size.0) in
       let named_total = ap (total times_named) two ∙ total-from_two times_named (t.blocks - 2) in
-      let each = total-ones (λ k. cond (is_marked_free image (k + 2)) 1 0 + times_named (k + 2)) (t.blocks - 2) (λ k l. free_or_named (k + 2) (omega arith, omega (arith, l))) in
-      let split = total-add (λ k. cond (is_marked_free image (k + 2)) 1 0) (λ k. times_named (k + 2)) (t.blocks - 2) in
+      let each = total-ones (λ k. cond (has_free_bit image (k + 2)) 1 0 + times_named (k + 2)) (t.blocks - 2) (λ k l. free_or_named (k + 2) (omega arith, omega (arith, l))) in
+      let split = total-add (λ k. cond (has_free_bit image (k + 2)) 1 0) (λ k. times_named (k + 2)) (t.blocks - 2) in
       omega (arith, named_total, each, split, total_named, boot_unnamed 0 (omega arith), boot_unnamed 1 (omega arith))
 
-pub free_is_marked : FreeIsMarked
-free_is_marked image t s =
+pub free_bits_count : FreeBitsCount
+free_bits_count image t s =
     let count : block_count image - 2 ≡ t.blocks - 2 = omega (arith, s.whole) in
-    ap (total (λ k. cond (is_marked_free image (k + 2)) 1 0)) count ∙ free_count image t s
+    ap (total (λ k. cond (has_free_bit image (k + 2)) 1 0)) count ∙ free_count image t s

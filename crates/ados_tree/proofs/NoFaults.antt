@@ -15,7 +15,7 @@ use Rattle.ados_tree.specs.Stands.{Stands, HasNode, HasEntry, format_byte, type_
 use Rattle.ados_tree.specs.Faults
 use Rattle.ados_tree.specs.declared.role.Role.{Role}
 use Rattle.ados_tree.specs.declared.role.Role.TheVariants as roles
-use Rattle.ados_tree.specs.Faults.{InImage, IsOfs, IsEntry, IsExtension, IsData, IsFile, IsDirectory, IsLinkType, Reached, IsPlace, Names, AreDataBlocks, IsDataAt, HasPointers, HasName, Shows, root_of, first_pointers, pointers_of}
+use Rattle.ados_tree.specs.Faults.{InImage, IsOfs, IsEntry, IsExtension, IsData, IsFile, IsDirectory, IsLinkType, Reached, IsPlace, PlaceNames, AreDataBlocks, IsDataAt, HasPointers, HasName, Shows, root_of, first_pointers, pointers_of}
 use Rattle.ados_tree.specs.Laws.{FaultsHaveNoTree}
 use Rattle.ados_tree.proofs.Standing.{StandsAt, IsFileNode, IsEntryNode, entry_at, reached_stands, same_place, inside_at, serves_at, duty_of, leads, LeadsTo, root_at, root_is, holder_of, long_of, Chained-more}
 use Rattle.ados_data.specs.File.{format_of, HasExtension, HasOfsData}
@@ -232,13 +232,13 @@ module _ (image : List ℕ) (t : Tree) (s : Stands image t) where
     to : LeadsTo image t s holder i next
     stands : StandsAt image t s next to.place block
 
-  target : (holder i block : ℕ) → Names image holder i block → Target holder i block
+  target : (holder i block : ℕ) → PlaceNames image holder i block → Target holder i block
   target holder i block n =
       let at = reached_stands image t s n.reached in
       let to = leads image t s at.0 at.1 n.place in
       record { next = n.next; to = to; stands = subst (StandsAt image t s n.next to.place) n.names to.stands }
 
-  one_holder : (block holder other i j : ℕ) → Names image holder i block → Names image other j block → (holder ≡ other) × (i ≡ j)
+  one_holder : (block holder other i j : ℕ) → PlaceNames image holder i block → PlaceNames image other j block → (holder ≡ other) × (i ≡ j)
   one_holder block holder other i j m n =
       let a = target holder i block m in
       let b = target other j block n in

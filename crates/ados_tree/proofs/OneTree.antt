@@ -10,7 +10,7 @@ use Rattle.adf_block.specs.Image.{root_key, page_count, IsInside, long, bytes_at
 use Rattle.ados_tree.specs.Tree.{Content, Node, Tree, LeadsToRoot, root, content_at, entries_in, entries, size_in, size_of}
 use Rattle.ados_tree.specs.Tree.Content.{Directory, File}
 use Rattle.ados_tree.specs.Tree.LeadsToRoot.{at_root, by_parent}
-use Rattle.ados_tree.specs.Layout.{Layout, Fits, Duty, Serves}
+use Rattle.ados_tree.specs.Layout.{Layout, Fits, Duty, HasDuty}
 use Rattle.adf_block.specs.Fields.{HasText, table_entry, next_in_chain, pointer, next_extension, name_byte, comment_byte}
 use Rattle.ados_tree.specs.Stands.{Stands, in_slot, format_byte, type_of}
 use Rattle.ados_tree.specs.Laws.{OneTree}
@@ -215,7 +215,7 @@ module _ (image : List ℕ) (t u : Tree) (s : Stands image t) (r : Stands image 
       (λ i l. sym (s.root_fields.pages i l) ∙ ap (λ (block : ℕ). long image block (79 + i)) same ∙ r.root_fields.pages i (omega (arith, l, lengths)))
 
   -- a duty in one layout, but for that of a lost block, is one in the other
-  duty_follows : (block : ℕ) (duty : Duty) → Serves u r.layout block duty → (duty ≡ Duty.Lost) ⊎ Serves t s.layout block duty
+  duty_follows : (block : ℕ) (duty : Duty) → HasDuty u r.layout block duty → (duty ≡ Duty.Lost) ⊎ HasDuty t s.layout block duty
   duty_follows block (Duty.Page i) h = inr (ap (λ (pages : List ℕ). slice_get pages i) pages_same ∙ h)
   duty_follows block Duty.Key h = inr (subst IsSome (sym (nodes_same image t u s r block)) h)
   duty_follows block (Duty.Data file i) h = inr (ap (λ (blocks : List ℕ). slice_get blocks i) (all_data_same file) ∙ h)
@@ -225,20 +225,20 @@ module _ (image : List ℕ) (t u : Tree) (s : Stands image t) (r : Stands image 
   -- no block is lost in one tree alone
   not_lost_alone : (block : ℕ) (bytes : List ℕ) → t.lost block ≡ Some bytes → u.lost block ≡ None → ⊥
   not_lost_alone block bytes e f =
-      let serves : Serves t s.layout block Duty.Lost = rw e refl in
+      let serves : HasDuty t s.layout block Duty.Lost = rw e refl in
       let inside = s.fits.inside block Duty.Lost serves in
       let inside_u : IsInside u.blocks block = omega (arith, inside.0, inside.1, blocks_same image t u s r) in
       let used = r.marked_used block inside_u (λ m. s.marked_free block inside m (Duty.Lost, serves)) in
       go serves used.0 used.1 (duty_follows block used.0 used.1)
     where
-      gone : Serves u r.layout block Duty.Lost → ⊥
+      gone : HasDuty u r.layout block Duty.Lost → ⊥
       gone h = false≢true (sym (ap is_some f) ∙ h)
 
-      go : Serves t s.layout block Duty.Lost → (duty : Duty) → Serves u r.layout block duty → (duty ≡ Duty.Lost) ⊎ Serves t s.layout block duty → ⊥
+      go : HasDuty t s.layout block Duty.Lost → (duty : Duty) → HasDuty u r.layout block duty → (duty ≡ Duty.Lost) ⊎ HasDuty t s.layout block duty → ⊥
       go serves duty h (inr k) =
           let same = s.fits.one_duty block duty Duty.Lost k serves in
-          gone (subst (λ (d : Duty). Serves u r.layout block d) same h)
-      go serves duty h (inl z) = gone (subst (λ (d : Duty). Serves u r.layout block d) z h)
+          gone (subst (λ (d : Duty). HasDuty u r.layout block d) same h)
+      go serves duty h (inl z) = gone (subst (λ (d : Duty). HasDuty u r.layout block d) z h)
 
 lost_same : (image : List ℕ) (t u : Tree) (s : Stands image t) (r : Stands image u) (block : ℕ) → t.lost block ≡ u.lost block
 lost_same image t u s r block = go (t.lost block) (u.lost block) refl refl

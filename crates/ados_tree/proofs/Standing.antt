@@ -8,7 +8,7 @@ use Rattle.adf_block.specs.Image.{block_count, root_key, page_count, long}
 use Rattle.ados_name.specs.Name.{slot}
 use Rattle.ados_tree.specs.Tree.{Content, Node, Tree, root, entries, name_of}
 use Rattle.ados_tree.specs.Tree.Content.{Directory, File}
-use Rattle.ados_tree.specs.Layout.{Duty, Serves}
+use Rattle.ados_tree.specs.Layout.{Duty, HasDuty}
 use Rattle.adf_block.specs.Fields.{table_entry, pointer, pointer_count, next_in_chain, next_extension, secondary_type, file_type}
 use Rattle.ados_tree.specs.Stands.{Stands, in_slot, type_of}
 use Rattle.ados_tree.specs.declared.role.Role.{Role}
@@ -143,7 +143,7 @@ module _ (image : List ℕ) (t : Tree) (s : Stands image t) where
   duty_of (roles.Data file) k = Duty.Data file k
   duty_of (roles.Extension file) k = Duty.Extension file k
 
-  pub serves_at : (role : Role) (k block : ℕ) → StandsAt role k block → Serves t s.layout block (duty_of role k)
+  pub serves_at : (role : Role) (k block : ℕ) → StandsAt role k block → HasDuty t s.layout block (duty_of role k)
   serves_at roles.Root k block h =
       let at : t.nodes block ≡ Some s.proper.root_node.0 = ap t.nodes (root_at k block h) ∙ s.proper.root_node.1 in
       rw at refl

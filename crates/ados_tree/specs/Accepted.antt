@@ -19,3 +19,7 @@ Accepts old true new = Rebuilt old new × ((t : Tree) × Stands new t × HasNoLo
 -- why the image is refused: it shows the fault, or there was no memory, which has block 0
 abbrev pub IsRefusal : List ℕ → VolumeFault → Type 0
 IsRefusal image fault = Shows image fault.kind fault.block ⊎ ((fault.kind ≡ NoMemory) × (fault.block ≡ 0))
+
+-- the image is handed back as it was, with why it is refused
+abbrev pub HandsBack : List ℕ → List ℕ → VolumeFault → Type 0
+HandsBack old image fault = (image ≡ old) × IsRefusal old fault

@@ -1,9 +1,11 @@
 -- The operations on a tree. The moment comes first, and the tree last.
-use Rattle.std.specs.Prelude.{ℕ, ◌+◌, ◌-◌, ◌*◌, ◌/◌, ◌%◌, ◌==◌, not, nat_le, if◌then◌else◌, List, [], ◌∷◌, ◌++◌, length, take, drop, replicate, filter, Option, Some, None, option_map}
+use Rattle.std.specs.Prelude.{ℕ, ◌-◌, ◌==◌, not, nat_le, if◌then◌else◌, List, [], ◌∷◌, ◌++◌, length, take, replicate, filter, Option, Some, None, option_map}
 use Rattle.std.specs.List.{list_any}
 use Rattle.std.specs.Option.{option_map_or}
 use Rattle.ados_name.specs.declared.Date3.{Date3}
 use Rattle.ados_name.specs.Name.{slot}
+pub use Rattle.ados_name.specs.Protection.{without_archive}
+pub use Rattle.ados_data.specs.File.{overlaid}
 use Rattle.ados_tree.specs.Tree.{Content, Node, Tree, root, bytes_of, entries, name_of, parent_of}
 use Rattle.ados_tree.specs.Tree.Content.{Directory, File}
 
@@ -53,23 +55,15 @@ abbrev pub renamed : Date3 → ℕ → ℕ → List ℕ → Tree → Tree
 renamed moment key dir name t =
     stamped moment (entered moment dir key (changed key (λ node. record node { name = name; parent = Some dir }) (left moment key t)))
 
--- protection bits with bit 4 clear
-abbrev pub without_archive : ℕ → ℕ
-without_archive bits = bits - 16 * (bits / 16 % 2)
-
 -- a file gets these bytes, the moment as its date, and its archive bit is cleared
 abbrev pub rewritten : Date3 → ℕ → List ℕ → Tree → Tree
 rewritten moment key bytes t =
     stamped moment (changed key (λ node. record node { content = File bytes; date = moment; protection = without_archive node.protection }) t)
 
--- bytes with others written over them from a position on, which may reach past their end
-abbrev pub overlaid : ℕ → List ℕ → List ℕ → List ℕ
-overlaid pos written bytes = take pos bytes ++ written ++ drop (pos + length written) bytes
-
--- bytes are written into a file; with no bytes nothing changes
+-- bytes are written into a file from a position on, which may reach past its end; with no bytes nothing changes
 abbrev pub written : Date3 → ℕ → ℕ → List ℕ → Tree → Tree
 written moment key pos [] t = t
-written moment key pos (c ∷ cs) t = rewritten moment key (overlaid pos (c ∷ cs) (bytes_of t key)) t
+written moment key pos (c ∷ cs) t = rewritten moment key (overlaid (bytes_of t key) pos (c ∷ cs)) t
 
 -- a file keeps its first bytes
 abbrev pub shortened : Date3 → ℕ → ℕ → Tree → Tree

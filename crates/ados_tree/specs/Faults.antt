@@ -1,14 +1,16 @@
 -- Which faults an image shows, without any tree.
-use Rattle.std.specs.Prelude.{◌≡◌, ◌≢◌, nat_le, if◌then◌else◌, ℕ, zero, suc, ◌+◌, ◌-◌, ◌/◌, ◌^◌, ◌<◌, ◌≤◌, ◌⊎◌, ⊤, List, [], ◌∷◌, ◌++◌, length, flat_map, slice_index, sum_by, All, AllPairs, Contains, Option, Some, None, ℤ, pos}
-use Rattle.adf_block.specs.Image.{block_count, root_key, page_count, byte_at, bytes_at, long, block_sum, IsInside, IsMarkedFree}
+use Rattle.std.specs.Prelude.{◌≡◌, ◌≢◌, nat_le, if◌then◌else◌, ℕ, zero, suc, ◌+◌, ◌-◌, ◌/◌, ◌<◌, ◌≤◌, ◌⊎◌, ⊤, List, [], ◌∷◌, ◌++◌, length, flat_map, slice_index, sum_by, All, AllPairs, Contains, Option, Some, None, ℤ, pos}
+use Rattle.adf_block.specs.Image.{block_count, root_key, page_count, byte_at, bytes_at, long, block_sum, IsInside, HasFreeBit}
 use Rattle.ados_name.specs.Name.{Same, slot}
 use Rattle.ados_tree.specs.declared.role.Role.{Role}
 use Rattle.ados_tree.specs.declared.role.Role.TheVariants.{Root, Page, Entry, Data, Extension}
 use Rattle.ados_tree.specs.declared.fault.FaultKind.{FaultKind}
 use Rattle.ados_tree.specs.declared.fault.FaultKind.TheVariants.{NotADosDisk, UnsupportedKind, BadSum, BadType, BadOwnKey, BadParent, BadPointer, BlockUsedTwice, WrongChain, BadName, DuplicateName, BadComment, BadCount, BadSequence, LinkEntry, MarkedFree, NoMemory}
+use Rattle.ados_packet.specs.Numbers.{error_number}
+use Rattle.ados_packet.specs.declared.dos_error.DosError.TheVariants as errors
 use Rattle.ados_data.specs.Cost.{data_count}
 use Rattle.ados_data.specs.File.{format_of}
-use Rattle.adf_block.specs.Fields.{primary_type, own_key, pointer_count, sequence_number, held_count, next_data, table_entry, pointer, file_size, next_in_chain, parent_key, next_extension, secondary_type, file_type, text_at, comment_byte, name_byte}
+use Rattle.adf_block.specs.Fields.{primary_type, own_key, pointer_count, sequence_number, held_count, next_data, table_entry, pointer, file_size, next_in_chain, parent_key, next_extension, secondary_type, file_type, text_at, comment_byte, name_byte, boot_blocks, kind_byte, header_type, data_type, list_type, root_type, directory_type, soft_link_type, directory_link_type, file_link_type, table_size_long, table_longs, first_slot, first_pointer, bitmap_flag, bitmap_valid, first_page, page_bits, ofs_room}
 
 -- the root block of the image
 abbrev pub root_of : List ℕ → ℕ
@@ -20,17 +22,17 @@ InImage image block = IsInside (block_count image) block
 
 -- a pointer stands within a count of at most 72
 abbrev pub IsPointer : List ℕ → ℕ → ℕ → Type 0
-IsPointer image block i = (i < pointer_count image block) × (pointer_count image block ≤ 72)
+IsPointer image block i = (i < pointer_count image block) × (pointer_count image block ≤ table_longs)
 
 -- long i of a block in a role is a place: it names a block, and gives that block its role
 pub data IsPlace (image : List ℕ) : ℕ → Role → ℕ → Role → Type 0 where
-  root_page : {block i : ℕ} → i < page_count (block_count image) → IsPlace image block Root (79 + i) Page
-  root_slot : {block s : ℕ} → s < 72 → table_entry image block s ≢ 0 → IsPlace image block Root (6 + s) (Entry block s)
-  directory_slot : {block dir r s : ℕ} → secondary_type image block ≡ 2 → s < 72 → table_entry image block s ≢ 0 → IsPlace image block (Entry dir r) (6 + s) (Entry block s)
+  root_page : {block i : ℕ} → i < page_count (block_count image) → IsPlace image block Root (first_page + i) Page
+  root_slot : {block s : ℕ} → s < table_longs → table_entry image block s ≢ 0 → IsPlace image block Root (first_slot + s) (Entry block s)
+  directory_slot : {block dir r s : ℕ} → secondary_type image block ≡ directory_type → s < table_longs → table_entry image block s ≢ 0 → IsPlace image block (Entry dir r) (first_slot + s) (Entry block s)
   next_entry : {block dir s : ℕ} → long image block next_in_chain ≢ 0 → IsPlace image block (Entry dir s) next_in_chain (Entry dir s)
-  header_pointer : {block dir s i : ℕ} → secondary_type image block ≡ file_type → IsPointer image block i → IsPlace image block (Entry dir s) (77 - i) (Data block)
+  header_pointer : {block dir s i : ℕ} → secondary_type image block ≡ file_type → IsPointer image block i → IsPlace image block (Entry dir s) (first_pointer - i) (Data block)
   first_extension : {block dir s : ℕ} → secondary_type image block ≡ file_type → long image block next_extension ≢ 0 → IsPlace image block (Entry dir s) next_extension (Extension block)
-  extension_pointer : {block file i : ℕ} → IsPointer image block i → IsPlace image block (Extension file) (77 - i) (Data file)
+  extension_pointer : {block file i : ℕ} → IsPointer image block i → IsPlace image block (Extension file) (first_pointer - i) (Data file)
   further_extension : {block file : ℕ} → long image block next_extension ≢ 0 → IsPlace image block (Extension file) next_extension (Extension file)
 
 -- the blocks that are reached, each in a role: the root, and what a place of a reached block names
@@ -43,7 +45,7 @@ pub record IsDirectory (image : List ℕ) (block : ℕ) : Type 0 where
   pub dir : ℕ
   pub slot_of_chain : ℕ
   pub reached : Reached image block (Entry dir slot_of_chain)
-  pub secondary : secondary_type image block ≡ 2
+  pub secondary : secondary_type image block ≡ directory_type
 
 -- an entry that is a file
 pub record IsFile (image : List ℕ) (block : ℕ) : Type 0 where
@@ -66,26 +68,45 @@ IsData image block = (file : ℕ) × Reached image block (Data file)
 
 -- the data blocks are read as in OFS: only there have they sums and fields
 abbrev pub IsOfs : List ℕ → Type 0
-IsOfs image = byte_at image 0 3 ≡ 0
+IsOfs image = byte_at image 0 kind_byte ≡ 0
+
+-- the link of each block but the last names the next one
+abbrev pub LeadOn : List ℕ → ℕ → List ℕ → Type 0
+LeadOn image link blocks = (i : ℕ) → i + 1 < length blocks → long image (slice_index blocks i) link ≡ slice_index blocks (i + 1)
+
+-- each block but the first is in the image
+abbrev pub FurtherAreInside : List ℕ → List ℕ → Type 0
+FurtherAreInside image blocks = (i : ℕ) → i + 1 < length blocks → InImage image (slice_index blocks (i + 1))
+
+-- no block stands twice
+abbrev pub AreDistinct : List ℕ → Type 0
+AreDistinct blocks = AllPairs (λ a b. a ≢ b) blocks
+
+-- what the link of the last block names
+abbrev pub last_link : List ℕ → ℕ → List ℕ → ℕ
+last_link image link blocks = long image (slice_index blocks (length blocks - 1)) link
+
+-- it lies outside the image, or is one of the blocks
+abbrev pub LeadsOutOrBack : List ℕ → ℕ → List ℕ → Type 0
+LeadsOutOrBack image link blocks = InImage image (last_link image link blocks) → Contains blocks (last_link image link blocks)
 
 -- the blocks that the links from a first block reach, in order, each once
 pub record LinkedOnce (image : List ℕ) (link first : ℕ) (blocks : List ℕ) : Type 0 where
   pub not_empty : 0 < length blocks
   pub head : slice_index blocks 0 ≡ first
-  pub linked : (i : ℕ) → i + 1 < length blocks → long image (slice_index blocks i) link ≡ slice_index blocks (i + 1)
-  pub inside : (i : ℕ) → i + 1 < length blocks → InImage image (slice_index blocks (i + 1))
-  pub once : AllPairs (λ a b. a ≢ b) blocks
-  -- the last link leads out of the image, or back
-  pub whole : InImage image (long image (slice_index blocks (length blocks - 1)) link) → Contains blocks (long image (slice_index blocks (length blocks - 1)) link)
+  pub linked : LeadOn image link blocks
+  pub inside : FurtherAreInside image blocks
+  pub once : AreDistinct blocks
+  pub whole : LeadsOutOrBack image link blocks
 
 -- the first n pointers of a block
 abbrev pub first_pointers : List ℕ → ℕ → ℕ → List ℕ
 first_pointers image block zero = []
 first_pointers image block (suc n) = first_pointers image block n ++ pointer image block n ∷ []
 
--- the pointers of a block; where its count is over 72, it has none
+-- the pointers of a block; where its count is more than a table has, it has none
 abbrev pub pointers_of : List ℕ → ℕ → List ℕ
-pointers_of image block = if nat_le (pointer_count image block) 72 then first_pointers image block (pointer_count image block) else []
+pointers_of image block = if nat_le (pointer_count image block) table_longs then first_pointers image block (pointer_count image block) else []
 
 -- the data blocks of a file: the pointers of its header and its extension blocks, in order
 pub record AreDataBlocks (image : List ℕ) (file : ℕ) (blocks : List ℕ) : Type 0 where
@@ -106,9 +127,9 @@ abbrev pub HasSum : List ℕ → Role → Type 0
 HasSum image (Data file) = IsOfs image
 HasSum image _ = ⊤
 
--- the secondary types of links: a hard link to a directory, one to a file, a soft link
+-- the secondary types of links: a soft link, a hard link to a directory, one to a file
 abbrev pub IsLinkType : ℕ → Type 0
-IsLinkType n = (n ≡ 3) ⊎ (n ≡ 4) ⊎ (n ≡ 2 ^ 32 - 4)
+IsLinkType n = (n ≡ soft_link_type) ⊎ (n ≡ directory_link_type) ⊎ (n ≡ file_link_type)
 
 -- a reached block with a sum field does not sum to 0
 pub record HasBadSum (image : List ℕ) (block : ℕ) : Type 0 where
@@ -119,14 +140,14 @@ pub record HasBadSum (image : List ℕ) (block : ℕ) : Type 0 where
 
 -- a wrong type, or a wrong table size
 pub data HasBadType (image : List ℕ) (block : ℕ) : Type 0 where
-  root_primary : block ≡ root_of image → primary_type image block ≢ 2 → HasBadType image block
-  root_table : block ≡ root_of image → long image block 3 ≢ 72 → HasBadType image block
-  root_secondary : block ≡ root_of image → secondary_type image block ≢ 1 → HasBadType image block
-  entry_primary : IsEntry image block → primary_type image block ≢ 2 → HasBadType image block
-  entry_secondary : IsEntry image block → secondary_type image block ≢ 2 → secondary_type image block ≢ file_type → ¬ IsLinkType (secondary_type image block) → HasBadType image block
-  extension_primary : IsExtension image block → primary_type image block ≢ 16 → HasBadType image block
+  root_primary : block ≡ root_of image → primary_type image block ≢ header_type → HasBadType image block
+  root_table : block ≡ root_of image → long image block table_size_long ≢ table_longs → HasBadType image block
+  root_secondary : block ≡ root_of image → secondary_type image block ≢ root_type → HasBadType image block
+  entry_primary : IsEntry image block → primary_type image block ≢ header_type → HasBadType image block
+  entry_secondary : IsEntry image block → secondary_type image block ≢ directory_type → secondary_type image block ≢ file_type → ¬ IsLinkType (secondary_type image block) → HasBadType image block
+  extension_primary : IsExtension image block → primary_type image block ≢ list_type → HasBadType image block
   extension_secondary : IsExtension image block → secondary_type image block ≢ file_type → HasBadType image block
-  data_primary : IsOfs image → IsData image block → primary_type image block ≢ 8 → HasBadType image block
+  data_primary : IsOfs image → IsData image block → primary_type image block ≢ data_type → HasBadType image block
 
 -- an entry's or extension block's own number is wrong
 pub data HasBadOwnKey (image : List ℕ) (block : ℕ) : Type 0 where
@@ -147,7 +168,7 @@ pub data HasBadPointer (image : List ℕ) (block : ℕ) : Type 0 where
   further_data : {file i : ℕ} {blocks : List ℕ} → IsOfs image → IsDataAt image file blocks i block → long image block next_data ≢ slice_index blocks (i + 1) → HasBadPointer image block
 
 -- long i of a reached block is a place, and names the block
-pub record Names (image : List ℕ) (holder i block : ℕ) : Type 0 where
+pub record PlaceNames (image : List ℕ) (holder i block : ℕ) : Type 0 where
   pub role : Role
   pub next : Role
   pub reached : Reached image holder role
@@ -156,9 +177,9 @@ pub record Names (image : List ℕ) (holder i block : ℕ) : Type 0 where
 
 -- two places name the block, or one names the root
 pub data IsUsedTwice (image : List ℕ) (block : ℕ) : Type 0 where
-  two_holders : {holder other i j : ℕ} → InImage image block → Names image holder i block → Names image other j block → holder ≢ other → IsUsedTwice image block
-  two_longs : {holder i j : ℕ} → InImage image block → Names image holder i block → Names image holder j block → i ≢ j → IsUsedTwice image block
-  root_named : {holder i : ℕ} → block ≡ root_of image → Names image holder i block → IsUsedTwice image block
+  two_holders : {holder other i j : ℕ} → InImage image block → PlaceNames image holder i block → PlaceNames image other j block → holder ≢ other → IsUsedTwice image block
+  two_longs : {holder i j : ℕ} → InImage image block → PlaceNames image holder i block → PlaceNames image holder j block → i ≢ j → IsUsedTwice image block
+  root_named : {holder i : ℕ} → block ≡ root_of image → PlaceNames image holder i block → IsUsedTwice image block
 
 -- the length of an entry's name is one that a name can have; where it is not, the name is bad and stands for nothing else
 abbrev pub HasShortName : List ℕ → ℕ → Type 0
@@ -209,13 +230,13 @@ pub data HasPointers (image : List ℕ) (block : ℕ) : Type 0 where
 
 -- a count or size that the blocks of the file do not bear out
 pub data HasBadCount (image : List ℕ) (block : ℕ) : Type 0 where
-  over : HasPointers image block → 72 < pointer_count image block → HasBadCount image block
-  not_full : HasPointers image block → pointer_count image block < 72 → long image block next_extension ≢ 0 → HasBadCount image block
+  over : HasPointers image block → table_longs < pointer_count image block → HasBadCount image block
+  not_full : HasPointers image block → pointer_count image block < table_longs → long image block next_extension ≢ 0 → HasBadCount image block
   no_pointer : IsExtension image block → pointer_count image block ≡ 0 → HasBadCount image block
   wrong_size : {blocks : List ℕ} → AreDataBlocks image block blocks → length blocks ≢ data_count (format_of image) (file_size image block) → HasBadCount image block
-  held_not_full : {file i : ℕ} {blocks : List ℕ} → IsOfs image → IsDataAt image file blocks i block → i + 1 < length blocks → held_count image block ≢ 488 → HasBadCount image block
+  held_not_full : {file i : ℕ} {blocks : List ℕ} → IsOfs image → IsDataAt image file blocks i block → i + 1 < length blocks → held_count image block ≢ ofs_room → HasBadCount image block
   held_none : {file i : ℕ} {blocks : List ℕ} → IsOfs image → IsDataAt image file blocks i block → held_count image block ≡ 0 → HasBadCount image block
-  held_over : {file i : ℕ} {blocks : List ℕ} → IsOfs image → IsDataAt image file blocks i block → 488 < held_count image block → HasBadCount image block
+  held_over : {file i : ℕ} {blocks : List ℕ} → IsOfs image → IsDataAt image file blocks i block → ofs_room < held_count image block → HasBadCount image block
   wrong_sum : {blocks : List ℕ} → IsOfs image → AreDataBlocks image block blocks → All (InImage image) blocks → sum_by (held_count image) blocks ≢ file_size image block → HasBadCount image block
 
 -- an OFS data block whose number is not its place in the file, from 1
@@ -229,16 +250,16 @@ pub record HasBadSequence (image : List ℕ) (block : ℕ) : Type 0 where
 
 -- a reached block whose bit is set, in a bitmap that is valid and a page that is in the image
 pub record IsReachedAndFree (image : List ℕ) (block : ℕ) : Type 0 where
-  pub valid : long image (root_of image) 78 ≡ 2 ^ 32 - 1
+  pub valid : long image (root_of image) bitmap_flag ≡ bitmap_valid
   pub role : Role
   pub reached : Reached image block role
-  pub page : InImage image (long image (root_of image) (79 + (block - 2) / 4064))
-  pub free : IsMarkedFree image block
+  pub page : InImage image (long image (root_of image) (first_page + (block - boot_blocks) / page_bits))
+  pub free : HasFreeBit image block
 
 -- the image shows the fault at the block
 abbrev pub Shows : List ℕ → FaultKind → ℕ → Type 0
 Shows image NotADosDisk block = (bytes_at image 0 0 3 ≢ 68 ∷ 79 ∷ 83 ∷ []) × (block ≡ 0)
-Shows image UnsupportedKind block = (bytes_at image 0 0 3 ≡ 68 ∷ 79 ∷ 83 ∷ []) × (1 < byte_at image 0 3) × (block ≡ 0)
+Shows image UnsupportedKind block = (bytes_at image 0 0 3 ≡ 68 ∷ 79 ∷ 83 ∷ []) × (1 < byte_at image 0 kind_byte) × (block ≡ 0)
 Shows image BadSum block = HasBadSum image block
 Shows image BadType block = HasBadType image block
 Shows image BadOwnKey block = HasBadOwnKey image block
@@ -258,6 +279,6 @@ Shows image NoMemory block = ⊥
 
 -- the AmigaDOS error number of a fault
 abbrev pub dos_number : FaultKind → Option ℤ
-dos_number NotADosDisk = Some (pos 225)
-dos_number NoMemory = Some (pos 103)
+dos_number NotADosDisk = Some (pos (error_number errors.NotADosDisk))
+dos_number NoMemory = Some (pos (error_number errors.NoFreeStore))
 dos_number _ = None

@@ -1,7 +1,7 @@
 -- What a change of an image keeps.
 use Rattle.std.specs.Prelude.{◌≡◌, ℕ, ◌+◌, ◌-◌, ◌*◌, ◌<◌, ◌≤◌, ⊤, List, [], ◌∷◌, length, Any}
 use Rattle.adf_block.specs.Image.{block_count, page_count, byte_at, bytes_at}
-use Rattle.adf_block.specs.Fields.{pointer_count, held_count, secondary_type, file_type, comment_byte, name_byte}
+use Rattle.adf_block.specs.Fields.{pointer_count, held_count, secondary_type, file_type, comment_byte, name_byte, primary_type_long, own_key_long, pointer_count_long, sum_long, next_data, secondary_type_long, directory_type, table_longs, table_size_long, first_slot, first_pointer, bitmap_flag, first_page, disk_date_long, creation_date_long, protection_long, size_long, date_long, next_in_chain, parent_long, ofs_data_byte, page_sum_long, first_map_long, map_longs}
 use Rattle.ados_tree.specs.declared.role.Role.{Role}
 use Rattle.ados_tree.specs.Faults.{Reached, IsOfs}
 use Rattle.ados_tree.specs.declared.role.Role.TheVariants.{Root, Page, Entry, Data, Extension}
@@ -14,18 +14,52 @@ InLongs runs i = Any (λ run. (4 * run.0 ≤ i) × (i < 4 * (run.1 + 1))) runs
 abbrev pub InText : List ℕ → ℕ → ℕ → ℕ → Type 0
 InText image block start i = (start ≤ i) × (i ≤ start + byte_at image block start)
 
+-- a run of one long
+abbrev pub one_long : ℕ → ℕ × ℕ
+one_long i = (i, i)
+
+-- the three longs of a date, whose days stand in long i
+abbrev pub date_longs : ℕ → ℕ × ℕ
+date_longs i = (i, i + 2)
+
+-- the longs of a root: the sum, the table and the bitmap flag stand together; right behind the flag stand the page longs, as many as there are pages; and the disk date in front of the date of creation
+abbrev pub root_runs : ℕ → List (ℕ × ℕ)
+root_runs pages =
+    one_long primary_type_long ∷ one_long table_size_long ∷ (sum_long, bitmap_flag) ∷ (first_page, bitmap_flag + pages)
+    ∷ date_longs date_long ∷ (disk_date_long, creation_date_long + 2) ∷ one_long parent_long ∷ one_long secondary_type_long ∷ []
+
+-- those of a directory, with the slots of its table right behind the sum
+abbrev pub directory_runs : List (ℕ × ℕ)
+directory_runs =
+    (primary_type_long, own_key_long) ∷ (sum_long, first_slot + (table_longs - 1)) ∷ one_long protection_long
+    ∷ date_longs date_long ∷ (next_in_chain, parent_long) ∷ one_long secondary_type_long ∷ []
+
+-- so many data pointers, from the last long of the table downwards
+abbrev pub pointer_run : ℕ → ℕ × ℕ
+pointer_run count = (first_pointer + 1 - count, first_pointer)
+
+-- those of a file header with so many data pointers
+abbrev pub file_runs : ℕ → List (ℕ × ℕ)
+file_runs count =
+    (primary_type_long, pointer_count_long) ∷ (next_data, sum_long) ∷ pointer_run count ∷ (protection_long, size_long)
+    ∷ date_longs date_long ∷ (next_in_chain, secondary_type_long) ∷ []
+
+-- those of an extension block with so many data pointers
+abbrev pub extension_runs : ℕ → List (ℕ × ℕ)
+extension_runs count = (primary_type_long, pointer_count_long) ∷ one_long sum_long ∷ pointer_run count ∷ (parent_long, secondary_type_long) ∷ []
+
 -- byte i of a block in a role is a part of a field
 pub data IsField (image : List ℕ) (block : ℕ) : Role → ℕ → Type 0 where
-  root_longs : {i : ℕ} → InLongs ((0, 0) ∷ (3, 3) ∷ (5, 78) ∷ (79, 78 + page_count (block_count image)) ∷ (105, 107) ∷ (118, 123) ∷ (125, 125) ∷ (127, 127) ∷ []) i → IsField image block Root i
+  root_longs : {i : ℕ} → InLongs (root_runs (page_count (block_count image))) i → IsField image block Root i
   root_name : {i : ℕ} → InText image block name_byte i → IsField image block Root i
-  page_longs : {i : ℕ} → InLongs ((0, 127) ∷ []) i → IsField image block Page i
-  directory_longs : {dir s i : ℕ} → secondary_type image block ≡ 2 → InLongs ((0, 1) ∷ (5, 77) ∷ (80, 80) ∷ (105, 107) ∷ (124, 125) ∷ (127, 127) ∷ []) i → IsField image block (Entry dir s) i
-  file_longs : {dir s i : ℕ} → secondary_type image block ≡ file_type → InLongs ((0, 2) ∷ (4, 5) ∷ (78 - pointer_count image block, 77) ∷ (80, 81) ∷ (105, 107) ∷ (124, 127) ∷ []) i → IsField image block (Entry dir s) i
+  page_longs : {i : ℕ} → InLongs ((page_sum_long, first_map_long + (map_longs - 1)) ∷ []) i → IsField image block Page i
+  directory_longs : {dir s i : ℕ} → secondary_type image block ≡ directory_type → InLongs directory_runs i → IsField image block (Entry dir s) i
+  file_longs : {dir s i : ℕ} → secondary_type image block ≡ file_type → InLongs (file_runs (pointer_count image block)) i → IsField image block (Entry dir s) i
   entry_name : {dir s i : ℕ} → InText image block name_byte i → IsField image block (Entry dir s) i
   entry_comment : {dir s i : ℕ} → InText image block comment_byte i → IsField image block (Entry dir s) i
-  extension_longs : {file i : ℕ} → InLongs ((0, 2) ∷ (5, 5) ∷ (78 - pointer_count image block, 77) ∷ (125, 127) ∷ []) i → IsField image block (Extension file) i
-  ofs_data_longs : {file i : ℕ} → IsOfs image → InLongs ((0, 5) ∷ []) i → IsField image block (Data file) i
-  ofs_data : {file i : ℕ} → IsOfs image → 24 ≤ i → i < 24 + held_count image block → IsField image block (Data file) i
+  extension_longs : {file i : ℕ} → InLongs (extension_runs (pointer_count image block)) i → IsField image block (Extension file) i
+  ofs_data_longs : {file i : ℕ} → IsOfs image → InLongs ((primary_type_long, sum_long) ∷ []) i → IsField image block (Data file) i
+  ofs_data : {file i : ℕ} → IsOfs image → ofs_data_byte ≤ i → i < ofs_data_byte + held_count image block → IsField image block (Data file) i
   ffs_data : {file i : ℕ} → ¬ IsOfs image → IsField image block (Data file) i
 
 -- the same role, whatever directory, slot or file it is in
@@ -37,8 +71,14 @@ Alike (Data file) (Data file') = ⊤
 Alike (Extension file) (Extension file') = ⊤
 Alike _ _ = ⊥
 
+-- a byte of a block that keeps its role stays, if it is part of no field before and after
+abbrev pub StaysUnnamed : List ℕ → List ℕ → ℕ → ℕ → Role → Role → Type 0
+StaysUnnamed old new block i role role' =
+    Reached old block role → Reached new block role' → Alike role role'
+    → ¬ IsField old block role i → ¬ IsField new block role' i → byte_at new block i ≡ byte_at old block i
+
 -- the boot blocks stay, and so does each byte that is part of no field, of a block that keeps its role
 pub record Kept (old new : List ℕ) : Type 0 where
   pub size : length new ≡ length old
   pub boot : bytes_at new 0 0 1024 ≡ bytes_at old 0 0 1024
-  pub others : (block i : ℕ) (role role' : Role) → i < 512 → Reached old block role → Reached new block role' → Alike role role' → ¬ IsField old block role i → ¬ IsField new block role' i → byte_at new block i ≡ byte_at old block i
+  pub others : (block i : ℕ) (role role' : Role) → i < 512 → StaysUnnamed old new block i role role'

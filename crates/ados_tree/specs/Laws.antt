@@ -3,7 +3,7 @@ use Rattle.std.specs.Prelude.{◌≡◌, ℕ, List, codes}
 use Rattle.adf_block.specs.declared.Format.{Format}
 use Rattle.adf_block.specs.declared.Format.TheVariants.{Ffs}
 use Rattle.ados_name.specs.declared.Date3.{Date3}
-use Rattle.adf_block.specs.Image.{marked_count}
+use Rattle.adf_block.specs.Image.{free_bit_count}
 use Rattle.ados_name.specs.Name.{IsName}
 use Rattle.ados_tree.specs.declared.fault.FaultKind.{FaultKind}
 use Rattle.ados_tree.specs.Tree.{Tree, free}
@@ -28,5 +28,5 @@ abbrev pub HasBlankImage : Type 0
 HasBlankImage = (image : List ℕ) × IsBlank Ffs 1760 (codes "Work") (record { days = 0; minutes = 0; ticks = 0 }) image
 
 -- the blocks that an image marks free are as many as its tree leaves
-abbrev pub FreeIsMarked : Type 0
-FreeIsMarked = (image : List ℕ) (t : Tree) → Stands image t → marked_count image ≡ free t
+abbrev pub FreeBitsCount : Type 0
+FreeBitsCount = (image : List ℕ) (t : Tree) → Stands image t → free_bit_count image ≡ free t

@@ -19,22 +19,22 @@ pub data Duty : Type 0 where
   Lost : Duty
 
 -- the block has this duty
-abbrev pub Serves : Tree → Layout → ℕ → Duty → Type 0
-Serves t l block (Page i) = slice_get l.pages i ≡ Some block
-Serves t l block Key = IsSome (t.nodes block)
-Serves t l block (Data file i) = slice_get (l.file_data file) i ≡ Some block
-Serves t l block (Extension file i) = slice_get (l.extensions file) i ≡ Some block
-Serves t l block Lost = IsSome (t.lost block)
+abbrev pub HasDuty : Tree → Layout → ℕ → Duty → Type 0
+HasDuty t l block (Page i) = slice_get l.pages i ≡ Some block
+HasDuty t l block Key = IsSome (t.nodes block)
+HasDuty t l block (Data file i) = slice_get (l.file_data file) i ≡ Some block
+HasDuty t l block (Extension file i) = slice_get (l.extensions file) i ≡ Some block
+HasDuty t l block Lost = IsSome (t.lost block)
 
 -- the tree and the layout name the block
 abbrev pub Named : Tree → Layout → ℕ → Type 0
-Named t l block = (duty : Duty) × Serves t l block duty
+Named t l block = (duty : Duty) × HasDuty t l block duty
 
 -- the lists have the lengths that the tree asks for, a lost block has 512 bytes, and each block has at most one duty
 pub record Fits (t : Tree) (l : Layout) : Type 0 where
   pub pages : length l.pages ≡ page_count t.blocks
   pub file_data : (file : ℕ) → length (l.file_data file) ≡ data_count t.format (size_of t file)
   pub extensions : (file : ℕ) → length (l.extensions file) ≡ extension_count (length (l.file_data file))
-  pub inside : (block : ℕ) (duty : Duty) → Serves t l block duty → IsInside t.blocks block
+  pub inside : (block : ℕ) (duty : Duty) → HasDuty t l block duty → IsInside t.blocks block
   pub lost : (block : ℕ) (bytes : List ℕ) → t.lost block ≡ Some bytes → length bytes ≡ 512
-  pub one_duty : (block : ℕ) (duty other : Duty) → Serves t l block duty → Serves t l block other → duty ≡ other
+  pub one_duty : (block : ℕ) (duty other : Duty) → HasDuty t l block duty → HasDuty t l block other → duty ≡ other

@@ -1,14 +1,15 @@
-pub mod Dates
+-- A volume as a tree: the tree and its changes first, then when an image stands for one, the faults of an image that stands for none, and what a change of an image keeps.
 pub mod Tree
+pub mod Walk
+pub mod Change
+pub mod Dates
 pub mod Layout
 pub mod Stands
 pub mod Keys
-pub mod Faults
 pub mod Kept
-pub mod Walk
-pub mod Change
+pub mod NewBlocks
+pub mod Faults
 pub mod Rebuilt
 pub mod Accepted
-pub mod NewBlocks
 pub mod Blank
 pub mod Laws

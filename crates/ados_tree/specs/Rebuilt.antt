@@ -1,6 +1,7 @@
 -- What becomes of an image whose bitmap is not valid.
-use Rattle.std.specs.Prelude.{◌≡◌, ℕ, ◌+◌, ◌-◌, ◌*◌, ◌/◌, ◌^◌, ◌<◌, ◌≤◌, ◌⊎◌, List}
-use Rattle.adf_block.specs.Image.{block_count, page_count, long, block_sum, IsMarkedFree}
+use Rattle.std.specs.Prelude.{◌≡◌, ℕ, ◌+◌, ◌*◌, ◌/◌, ◌<◌, ◌≤◌, ◌⊎◌, List}
+use Rattle.adf_block.specs.Image.{block_count, page_count, long, block_sum, HasFreeBit}
+use Rattle.adf_block.specs.Fields.{boot_blocks, sum_long, bitmap_flag, bitmap_valid, page_bits}
 use Rattle.adf_block.specs.Frame.{SameBut}
 use Rattle.ados_tree.specs.declared.role.Role.{Role}
 use Rattle.ados_tree.specs.declared.role.Role.TheVariants as roles
@@ -8,13 +9,13 @@ use Rattle.ados_tree.specs.Faults.{Reached, InImage, root_of}
 
 -- the root says that the bitmap is valid
 abbrev pub HasValidBitmap : List ℕ → Type 0
-HasValidBitmap image = long image (root_of image) 78 ≡ 2 ^ 32 - 1
+HasValidBitmap image = long image (root_of image) bitmap_flag ≡ bitmap_valid
 
--- byte i of a block is part of the bitmap: it lies in a page, or in the root's long 5, the sum, or 78, which says that the bitmap is valid
+-- byte i of a block is part of the bitmap: it lies in a page, or in the root's sum or bitmap flag
 abbrev pub IsOfBitmap : List ℕ → ℕ → ℕ → Type 0
 IsOfBitmap image block i =
     Reached image block roles.Page
-    ⊎ ((block ≡ root_of image) × ((i / 4 ≡ 5) ⊎ (i / 4 ≡ 78)))
+    ⊎ ((block ≡ root_of image) × ((i / 4 ≡ sum_long) ⊎ (i / 4 ≡ bitmap_flag)))
 
 -- the new image is the old one, whose bitmap was not valid, with a bitmap in which exactly the blocks that are reached are in use
 pub record Rebuilt (old new : List ℕ) : Type 0 where
@@ -23,7 +24,7 @@ pub record Rebuilt (old new : List ℕ) : Type 0 where
   pub rest : SameBut (IsOfBitmap old) old new
   pub root_sum : block_sum new (root_of new) ≡ 0
   pub page_sums : (page : ℕ) → Reached old page roles.Page → block_sum new page ≡ 0
-  pub free : (block : ℕ) → InImage old block → IsMarkedFree new block → (role : Role) → ¬ Reached old block role
-  pub in_use : (block : ℕ) → InImage old block → ¬ IsMarkedFree new block → (role : Role) × Reached old block role
+  pub free : (block : ℕ) → InImage old block → HasFreeBit new block → (role : Role) → ¬ Reached old block role
+  pub in_use : (block : ℕ) → InImage old block → ¬ HasFreeBit new block → (role : Role) × Reached old block role
   -- the bits past the end are clear
-  pub past_end : (block : ℕ) → block_count old ≤ block → block < 2 + 4064 * page_count (block_count old) → ¬ IsMarkedFree new block
+  pub past_end : (block : ℕ) → block_count old ≤ block → block < boot_blocks + page_bits * page_count (block_count old) → ¬ HasFreeBit new block

@@ -2,6 +2,8 @@
 ghost use Rattle.std.specs.Prelude.{◌≡◌};
 ghost use Rattle.ados_tree.specs.Faults.{dos_number};
 
+use ados_packet::DosError;
+
 /// What is wrong with an image.
 #[derive(Clone, Copy, Debug, PartialEq, Eq)]
 pub enum FaultKind {
@@ -44,13 +46,13 @@ pub struct VolumeFault {
 }
 
 impl VolumeFault {
-    /// The AmigaDOS error that a handler gives for it: 225 (not a DOS disk) and 103 (no memory) alone have one.
+    /// The number of the AmigaDOS error that a handler gives for it: a disk of no file system and want of memory alone have one.
     pub fn dos_error(&self) -> Option<i32>
         ensures { result ≡ dos_number self.now.kind }
     {
         match self.kind {
-            FaultKind::NotADosDisk => Some(225),
-            FaultKind::NoMemory => Some(103),
+            FaultKind::NotADosDisk => Some(DosError::NotADosDisk.number()),
+            FaultKind::NoMemory => Some(DosError::NoFreeStore.number()),
             _ => None,
         }
     }

@@ -1,5 +1,5 @@
 //! Laws over the definitions, each as the contract of a function that does nothing.
-ghost use Rattle.ados_tree.specs.Laws.{OneTree, FaultsHaveNoTree, BlankStands, HasBlankImage, FreeIsMarked};
+ghost use Rattle.ados_tree.specs.Laws.{OneTree, FaultsHaveNoTree, BlankStands, HasBlankImage, FreeBitsCount};
 
 /// An image stands for at most one tree.
 pub fn one_tree()
@@ -22,6 +22,6 @@ pub fn has_blank_image()
 {}
 
 /// The blocks that an image marks free are as many as its tree leaves.
-pub fn free_is_marked()
-    ensures { FreeIsMarked }
+pub fn free_bits_count()
+    ensures { FreeBitsCount }
 {}

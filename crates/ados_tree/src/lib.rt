@@ -9,6 +9,6 @@ mod role;
 
 pub use fault::{FaultKind, VolumeFault};
 pub use full::Full;
-pub use laws::{blank_stands, faults_have_no_tree, free_is_marked, has_blank_image, one_tree};
+pub use laws::{blank_stands, faults_have_no_tree, free_bits_count, has_blank_image, one_tree};
 pub use path_fault::{PlaceFault, WalkFault};
 pub use role::Role;

@@ -3,22 +3,21 @@ use Rattle.std.proofs.Common.{◌≡◌, ℕ, ◌+◌, ◌-◌, ◌*◌, ◌<◌
 use Rattle.std.proofs.lemmas.Bool.{cases_lt, false≢true}
 use Rattle.std.proofs.lemmas.List.{get_or-replicate}
 use Rattle.adf_block.specs.declared.Format.{Format}
-use Rattle.adf_block.specs.Image.{IsSize, IsInside, block_count, byte_at, bytes_at, long, block_sum, root_key, page_count, is_marked_free}
+use Rattle.adf_block.specs.Image.{IsSize, IsInside, block_count, byte_at, bytes_at, long, block_sum, root_key, page_count, has_free_bit}
 use Rattle.adf_block.specs.Fields.{HasText}
-use Rattle.adf_block.specs.Frame.{SameBut, InBlock, OnlyBlock}
+use Rattle.adf_block.specs.Frame.{SameBut, InBlock, OnlyBlock, Within}
 use Rattle.adf_block.proofs.Frames.{same_count, same_long, same_bytes_at, same_sum}
 use Rattle.ados_name.specs.declared.Date3.{Date3}
 use Rattle.ados_map.specs.Pages.{LawfulPages, page_block, pages_of, HasBit}
 use Rattle.ados_map.specs.Bits.{is_unnamed}
-use Rattle.ados_map.specs.Changes.{InPages, Rebuilt}
+use Rattle.ados_map.specs.Changes.{InPages, PagesRebuilt}
 use Rattle.ados_tree.specs.declared.role.Role.TheVariants.{Root}
 use Rattle.ados_tree.specs.Dates.{date_at}
 use Rattle.ados_tree.specs.Kept.{IsField}
 use Rattle.ados_tree.specs.Stands.{format_byte}
 use Rattle.ados_tree.specs.Blank.{IsBlank}
-use Rattle.ados_fields.specs.Places.{Within}
-use Rattle.ados_volume.specs.BlankParts.{IsBlankRoot, IsBetweenFields, NamesBlank}
-use Rattle.ados_fields.proofs.Texts.{bytes_put}
+use Rattle.ados_volume.specs.steps.BlankParts.{IsBlankRoot, IsBetweenFields, NamesBlank}
+use Rattle.change_fields.proofs.Texts.{bytes_put}
 
 -- the pages behind a blank root are lawful
 module _ (n : ℕ) (name : List ℕ) (moment : Date3) (image : List ℕ) (size : IsSize n) (count : block_count image ≡ n) (root : IsBlankRoot n name moment image) where
@@ -44,7 +43,7 @@ module _ (format : Format) (n : ℕ) (name : List ℕ) (moment : Date3) (named :
     (size : IsSize n) (whole : length z0 ≡ 512 * n) (zero : (b i : ℕ) → byte_at z0 b i ≡ 0)
     (kind : bytes_at z1 0 0 4 ≡ 68 ∷ 79 ∷ 83 ∷ format_byte format ∷ []) (f1 : SameBut (Within 0 0 4) z0 z1)
     (root : IsBlankRoot n name moment z2) (f2 : OnlyBlock (root_key n) z1 z2)
-    (short : length name ≤ 30) (marks : NamesBlank n named) (rebuilt : Rebuilt z2 named z3) where
+    (short : length name ≤ 30) (marks : NamesBlank n named) (rebuilt : PagesRebuilt z2 named z3) where
   f3 : SameBut (InPages z2) z2 z3
   f3 = rebuilt.rest
 
@@ -119,10 +118,10 @@ module _ (format : Format) (n : ℕ) (name : List ℕ) (moment : Date3) (named :
   has_bit : (b : ℕ) → 2 ≤ b → b < 2 + 4064 * page_count n → HasBit z2 b
   has_bit b l m = (l, omega (arith, m, pages))
 
-  free : (b : ℕ) → IsInside n b → (b < root_key n) ⊎ (root_key n + page_count n < b) → is_marked_free z3 b ≡ true
+  free : (b : ℕ) → IsInside n b → (b < root_key n) ⊎ (root_key n + page_count n < b) → has_free_bit z3 b ≡ true
   free b inside side = rebuilt.marks b (has_bit b inside.0 (omega (arith, inside.1))) ∙ marks.free b inside.1 side
 
-  taken : (b : ℕ) → HasBit z2 b → is_unnamed named b ≡ false → ¬ (is_marked_free z3 b ≡ true)
+  taken : (b : ℕ) → HasBit z2 b → is_unnamed named b ≡ false → ¬ (has_free_bit z3 b ≡ true)
   taken b has used set = false≢true (sym used ∙ sym (rebuilt.marks b has) ∙ set)
 
   pub blank_is : IsBlank format n name moment z3

@@ -2,14 +2,13 @@
 use Rattle.std.proofs.Common.{◌≡◌, ◌≢◌, ℕ, ◌+◌, ◌-◌, ◌*◌, ◌/◌, ◌^◌, ◌<◌, ◌≤◌, ◌⊎◌, inl, inr, List, length, refl, sym, ap, ◌∙◌, subst, arith}
 use Rattle.adf_block.specs.Image.{byte_at, long, block_sum, root_key, page_count}
 use Rattle.adf_block.specs.Fields.{HasText}
-use Rattle.adf_block.specs.Frame.{SameBut, AtLong, InBlock, OnlyLong, OnlyBlock}
+use Rattle.adf_block.specs.Frame.{SameBut, AtLong, InBlock, OnlyLong, OnlyBlock, Within}
 use Rattle.std.proofs.lemmas.Bool.{cases_lt, cases_eq}
 use Rattle.adf_block.proofs.Frames.{same_trans, same_weaken, same_long, same_bytes_at}
 use Rattle.adf_block.proofs.Longs.{long-bytes}
 use Rattle.ados_name.specs.declared.Date3.{Date3}
 use Rattle.ados_tree.specs.Dates.{date_at}
-use Rattle.ados_fields.specs.Places.{Within}
-use Rattle.ados_volume.specs.BlankParts.{IsBlankRoot, HasBlankFields, IsBetweenFields}
+use Rattle.ados_volume.specs.steps.BlankParts.{IsBlankRoot, HasBlankFields, IsBetweenFields}
 
 -- a long is four bytes
 pub within_long : (b i : ℕ) (old new : List ℕ) → OnlyLong b i old new → SameBut (Within b (4 * i) (4 * i + 4)) old new

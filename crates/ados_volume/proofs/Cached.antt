@@ -15,7 +15,7 @@ use Rattle.ados_tree.specs.Tree.{Tree, entries, name_of}
 use Rattle.ados_tree.specs.Stands.{Stands}
 use Rattle.ados_tree.specs.Walk.{child_of}
 use Rattle.ados_volume.specs.declared.cache.Sought.{Sought}
-use Rattle.ados_volume.specs.Cache.{Seeks, HasPair, Adds, AddsNone, TakesOut, AreChildren}
+use Rattle.ados_volume.specs.steps.Cache.{Seeks, HasPair, Adds, AddsNone, TakesOut, AreChildren}
 
 -- how what is sought is compared
 abbrev pub same_sought : Sought → Sought → Bool

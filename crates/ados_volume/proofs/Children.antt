@@ -9,7 +9,7 @@ use Rattle.ados_tree.specs.Walk.{child_of}
 use Rattle.ados_tree.specs.Change.{changed}
 use Rattle.ados_tree.proofs.OneTree.{one_tree}
 use Rattle.ados_volume.specs.declared.cache.Sought.{Sought}
-use Rattle.ados_volume.specs.Cache.{HasPair, AreChildren}
+use Rattle.ados_volume.specs.steps.Cache.{HasPair, AreChildren}
 use Rattle.ados_volume.proofs.Looking.{is_child}
 use Rattle.ados_volume.proofs.Walking.{find-is}
 

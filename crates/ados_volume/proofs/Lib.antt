@@ -1,3 +1,4 @@
+-- Blank images first, then what the image says of its tree, then what the cache keeps through each change.
 pub mod BlankRoot
 pub mod BlankMarks
 pub mod BlankImage

@@ -12,13 +12,13 @@ use Rattle.ados_tree.specs.Stands.{Stands}
 use Rattle.ados_tree.specs.Walk.{child_of}
 use Rattle.ados_tree.specs.Change.{with_node, changed, listed, enter, entered, left, new_node, made, removed, renamed}
 use Rattle.ados_tree.proofs.Nodes.{content_in, directory_in, entry_node, parent_in}
-use Rattle.ados_entries.proofs.Changed.{nodes_other, changed_keeps, listed_names, listed_here, listed_other}
-use Rattle.ados_entries.proofs.Entering.{Contains-enter_kept, Contains-stays}
+use Rattle.change_entries.proofs.Changed.{nodes_other, changed_keeps, listed_names, listed_here, listed_other}
+use Rattle.change_entries.proofs.Entering.{Contains-enter_kept, Contains-stays}
 use Rattle.ados_volume.specs.declared.cache.Sought.{Sought}
-use Rattle.ados_volume.specs.Cache.{AreChildren, Forgets}
+use Rattle.ados_volume.specs.steps.Cache.{AreChildren, Forgets}
 use Rattle.ados_volume.specs.Shown.{Shown}
 use Rattle.ados_volume.proofs.Walking.{has_node}
-use Rattle.ados_entries.proofs.Making.{unused}
+use Rattle.change_entries.proofs.Making.{unused}
 use Rattle.ados_volume.proofs.Children.{Stays, AllStay, child_there, carried, all_carried}
 
 stays_on : (t u v : Tree) (dir k : ℕ) → Stays t u dir k → Stays u v dir k → Stays t v dir k

@@ -6,7 +6,7 @@ use Rattle.ados_tree.specs.Tree.Content.{File}
 use Rattle.ados_tree.specs.Stands.{Stands}
 use Rattle.ados_tree.specs.Change.{rewritten, written, overlaid, without_archive}
 use Rattle.ados_volume.specs.declared.cache.Sought.{Sought}
-use Rattle.ados_volume.specs.Cache.{AreChildren}
+use Rattle.ados_volume.specs.steps.Cache.{AreChildren}
 use Rattle.ados_volume.specs.Shown.{Shown}
 use Rattle.ados_volume.proofs.Children.{AllStay, all_carried, changed_stay}
 
@@ -19,7 +19,7 @@ module _ (t : Tree) (key : ℕ) (file : (bytes : List ℕ) × (content_at t key 
 
   pub written_stay : (pos : ℕ) (bytes : List ℕ) → AllStay t (written moment key pos bytes t)
   written_stay pos [] dir k c = (c, refl)
-  written_stay pos (b ∷ bs) dir k c = rewritten_stay (overlaid pos (b ∷ bs) (bytes_of t key)) dir k c
+  written_stay pos (b ∷ bs) dir k c = rewritten_stay (overlaid (bytes_of t key) pos (b ∷ bs)) dir k c
 
 -- a change that is made where there is room for it
 module _ {T E : Type 0} (old new : List ℕ) (Needs : Tree → Type 0) (change : Tree → Tree) where

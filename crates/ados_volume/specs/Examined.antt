@@ -3,7 +3,7 @@ use Rattle.std.specs.Prelude.{ℕ, ℤ, pos, negsuc, Option, Some, None}
 use Rattle.adf_block.specs.declared.Format.{Format}
 use Rattle.ados_tree.specs.Tree.{Content, Node, cost_in, size_in}
 use Rattle.ados_tree.specs.Tree.Content.{Directory, File}
-use Rattle.ados_volume.specs.declared.examine.FileInfo.{FileInfo}
+use Rattle.ados_packet.specs.declared.info.FileInfo.{FileInfo}
 
 -- 1 of the root, 2 of another directory, -3 of a file
 abbrev pub entry_type : Option ℕ → Content → ℤ

@@ -3,7 +3,7 @@ use Rattle.std.specs.Prelude.{◌+◌, ◌-◌}
 use Rattle.ados_data.specs.Cost.{data_size}
 use Rattle.ados_tree.specs.Tree.{Tree, free}
 use Rattle.ados_tree.specs.Stands.{format_byte}
-use Rattle.ados_volume.specs.declared.info.DiskInfo.{DiskInfo}
+use Rattle.ados_packet.specs.declared.info.DiskInfo.{DiskInfo}
 
 -- a valid volume: the blocks behind the boot blocks, those of them that are not free, the data of a block, and `DOS` with the kind
 abbrev pub disk_info : Tree → DiskInfo

@@ -1,7 +1,6 @@
+-- What a volume shows and tells; what only the calls inside speak of stands in steps.
 pub mod Shown
-pub mod BlankParts
+pub mod Examined
 pub mod Info
 pub mod Listing
-pub mod Steps
-pub mod Examined
-pub mod Cache
+pub mod steps

@@ -1,27 +1,25 @@
 //! A blank volume: an empty root in the middle, and the bitmap pages right behind it.
 
-ghost use Rattle.std.specs.Prelude.{◌≡◌, ◌<◌, ◌≤◌, ◌+◌, ◌*◌, ℕ, [], ◌∷◌, length, IfOk, false};
+ghost use Rattle.std.specs.Prelude.{◌≡◌, ◌<◌, ◌+◌, ◌*◌, ℕ, length, IfOk, false};
 ghost use Rattle.adf_block.specs.Image.{IsImage, IsSize, block_count, byte_at, bytes_at, long, page_count, root_key};
-ghost use Rattle.adf_block.specs.Frame.{OnlyBlock, SameBut};
+ghost use Rattle.adf_block.specs.Fields.{long_byte, kind_byte, first_page};
+ghost use Rattle.adf_block.specs.Frame.{OnlyBlock, SameBut, Within};
 ghost use Rattle.ados_name.specs.Name.{IsName};
-ghost use Rattle.ados_tree.specs.Stands.{format_byte};
+ghost use Rattle.ados_tree.specs.Stands.{kind_bytes};
 ghost use Rattle.ados_tree.specs.Blank.{IsBlank};
-ghost use Rattle.ados_fields.specs.Places.{Within};
-ghost use Rattle.ados_volume.specs.BlankParts.{IsBlankRoot, NamesBlank};
+ghost use Rattle.ados_volume.specs.steps.BlankParts.{IsBlankRoot, NamesBlank};
 
 use crate::cache::NameCache;
 use crate::volume::Volume;
-use adf_block::{Format, Image};
-use ados_fields::{put_bytes, put_date, put_text};
+use adf_block::layout::{
+    BITMAP_FLAG, BITMAP_VALID, CREATION_DATE, DATE, DISK_DATE, FIRST_PAGE, HEADER_TYPE, NAME_BYTE,
+    PRIMARY_TYPE, ROOT_TYPE, SECONDARY_TYPE, SUM, TABLE_LONGS, TABLE_SIZE,
+};
+use adf_block::{Format, Image, page_count};
 use ados_map::rebuild;
 use ados_name::{Date3, Name};
+use change_fields::{put_date, put_text};
 use std::alloc::{AllocError, Global};
-
-/// The blocks that a bitmap page covers.
-const PAGE_BITS: u32 = 4064;
-
-/// The byte of a name's length, in front of the name.
-const NAME: usize = 432;
 
 /// A volume with no directories and files, whose three dates are the moment. Its boot blocks hold the four bytes of the
 /// kind and zeros, so it cannot be booted from.
@@ -80,7 +78,7 @@ fn named_blocks(alloc: Global, blocks: u32) -> Result<Vec<bool>, AllocError>
     ensures { IfOk result (λ named. NamesBlank blocks named.items) }
 {
     let root = ((blocks + 1) / 2) as usize;
-    let pages = pages_of(blocks) as usize;
+    let pages = page_count(blocks) as usize;
     let mut named = vec![in alloc; false; blocks as usize]?;
     for block in root..root + 1 + pages {
         named[block] = true;
@@ -88,25 +86,17 @@ fn named_blocks(alloc: Global, blocks: u32) -> Result<Vec<bool>, AllocError>
     Ok(named)
 }
 
-/// How many bitmap pages a volume has.
-fn pages_of(blocks: u32) -> u32
-    requires { IsSize blocks }
-    ensures { result ≡ page_count blocks }
-{
-    (blocks - 2).div_ceil(PAGE_BITS)
-}
-
 /// Puts the four bytes of the kind.
 fn put_kind(image: &mut Image, format: Format)
-    ensures kind { bytes_at image.new 0 0 4 ≡ 68 ∷ 79 ∷ 83 ∷ format_byte format ∷ [] }
-    ensures rest { SameBut (Within 0 0 4) image.old image.new }
+    ensures kind { bytes_at image.new 0 0 4 ≡ kind_bytes format }
+    ensures rest { SameBut (Within 0 0 (kind_byte + 1)) image.old image.new }
 {
     prove!(image.blocks() >= 16);
     let kind = match format {
         Format::Ofs => 0,
         Format::Ffs => 1,
     };
-    put_bytes(image, 0, 0, &[b'D', b'O', b'S', kind]);
+    image.put_bytes(0, 0, &[b'D', b'O', b'S', kind]);
 }
 
 /// Makes the root block, which is empty, the root of a blank volume.
@@ -118,25 +108,25 @@ fn put_root(image: &mut Image, name: &Name, moment: Date3)
 {
     prove!(image.blocks() >= 16);
     let root = image.root();
-    image.set_long(root, 0, 2);
-    image.set_long(root, 3, 72);
-    image.set_long(root, 78, u32::MAX);
+    image.set_long(root, PRIMARY_TYPE, HEADER_TYPE);
+    image.set_long(root, TABLE_SIZE, TABLE_LONGS);
+    image.set_long(root, BITMAP_FLAG, BITMAP_VALID);
     name_pages(image, root);
-    put_date(image, root, 105, moment);
-    put_text(image, root, NAME, name.bytes());
-    put_date(image, root, 118, moment);
-    put_date(image, root, 121, moment);
-    image.set_long(root, 127, 1);
-    image.settle(root, 5);
+    put_date(image, root, DATE, moment);
+    put_text(image, root, NAME_BYTE as usize, name.bytes());
+    put_date(image, root, DISK_DATE, moment);
+    put_date(image, root, CREATION_DATE, moment);
+    image.set_long(root, SECONDARY_TYPE, ROOT_TYPE);
+    image.settle(root, SUM);
 }
 
 /// Names the blocks behind the root as the bitmap pages.
 fn name_pages(image: &mut Image, root: u32)
     requires { root ≡ root_key (block_count image.old) }
-    ensures named { (p : ℕ) → p < page_count (block_count image.old) → long image.new root (79 + p) ≡ root + 1 + p }
-    ensures rest { SameBut (Within root 316 (316 + 4 * page_count (block_count image.old))) image.old image.new }
+    ensures named { (p : ℕ) → p < page_count (block_count image.old) → long image.new root (first_page + p) ≡ root + 1 + p }
+    ensures rest { SameBut (Within root (long_byte first_page) (long_byte first_page + 4 * page_count (block_count image.old))) image.old image.new }
 {
-    for p in 0..pages_of(image.blocks()) {
-        image.set_long(root, 79 + p, root + 1 + p);
+    for p in 0..page_count(image.blocks()) {
+        image.set_long(root, FIRST_PAGE + p, root + 1 + p);
     }
 }

@@ -1,7 +1,7 @@
 //! The children that were looked up last, so that the same name is not searched again.
 
 ghost use Rattle.std.specs.Prelude.{◌≡◌, IfOk, IfSome, []};
-ghost use Rattle.ados_volume.specs.Cache.{Adds, AddsNone, HasPair, Seeks, TakesOut};
+ghost use Rattle.ados_volume.specs.steps.Cache.{Adds, AddsNone, HasPair, Seeks, TakesOut};
 
 use ados_name::Name;
 use lru::LruCache;

@@ -1,13 +1,13 @@
 //! The volume of an image that was checked.
 
-ghost use Rattle.std.specs.Prelude.{◌≡◌, MatchResult};
-ghost use Rattle.ados_tree.specs.Accepted.{Accepts, IsRefusal};
+ghost use Rattle.std.specs.Prelude.{MatchResult};
+ghost use Rattle.ados_tree.specs.Accepted.{Accepts, HandsBack};
 
 use crate::cache::NameCache;
 use crate::volume::Volume;
 use adf_block::Image;
-use ados_check::{Rejected, check_image};
 use ados_tree::{FaultKind, VolumeFault};
+use check_image::{Rejected, check_image};
 use std::alloc::Global;
 
 /// The volume of an image that shows no fault. Every other image is handed back as it was, with a fault that it shows.
@@ -15,7 +15,7 @@ use std::alloc::Global;
 /// Where the root says that the bitmap is valid, the volume's image is the one that was handed in; else the bitmap was
 /// written anew. `NoMemory` says that memory was refused before any change.
 pub fn check(alloc: Global, image: Image) -> Result<Volume, Rejected>
-    ensures { MatchResult result (λ volume. Accepts image volume.was_validated volume.image) (λ rejected. (rejected.image ≡ image) × IsRefusal image rejected.fault) }
+    ensures { MatchResult result (λ volume. Accepts image volume.was_validated volume.image) (λ rejected. HandsBack image rejected.image rejected.fault) }
 {
     let Ok(names) = NameCache::new(alloc) else {
         return Err(Rejected {

@@ -1,16 +1,16 @@
 //! Changes of what a file holds.
 
-ghost use Rattle.std.specs.Prelude.{◌≡◌, ◌+◌, ◌<◌, ◌≤◌, length, max, MatchResult};
+ghost use Rattle.std.specs.Prelude.{◌≡◌, ◌<◌, ◌≤◌, MatchResult};
 ghost use Rattle.ados_tree.specs.Tree.{Tree, size_of};
 ghost use Rattle.ados_tree.specs.Stands.{Stands};
 ghost use Rattle.ados_tree.specs.Keys.{HasFileKey};
-ghost use Rattle.ados_tree.specs.Change.{grown, shortened, written};
-ghost use Rattle.ados_contents.specs.Renewed.{KeepsRest, NeedsMore};
+ghost use Rattle.ados_tree.specs.Change.{shortened};
+ghost use Rattle.change_bytes.specs.Renewed.{CannotGrow, CannotWrite, Grows, KeepsRest, Writes};
 
 use crate::volume::Volume;
-use ados_contents::{cut, grow, write};
 use ados_name::Date3;
 use ados_tree::Full;
+use change_bytes::{cut, grow, write};
 
 impl Volume {
     /// Writes bytes over those of a file from byte `pos` on, which may reach past its end. The moment becomes the file's date
@@ -18,7 +18,7 @@ impl Volume {
     pub fn write(&mut self, key: u32, pos: u64, bytes: &[u8], moment: Date3) -> Result<(), Full>
         requires file { HasFileKey self.old.image key }
         requires start { (t : Tree) → Stands self.old.image t → pos ≤ size_of t key }
-        ensures done { MatchResult result (λ _. (t : Tree) → Stands self.old.image t → (¬ NeedsMore t key (max (size_of t key) (pos + length bytes.now))) × Stands self.new.image (written moment key pos bytes.now t)) (λ _. (self.new ≡ self.old) × ((t : Tree) → Stands self.old.image t → NeedsMore t key (max (size_of t key) (pos + length bytes.now)))) }
+        ensures done { MatchResult result (λ _. Writes moment key pos bytes.now self.old.image self.new.image) (λ _. (self.new ≡ self.old) × CannotWrite key pos bytes.now self.old.image) }
         ensures rest { KeepsRest self.old.image key self.new.image }
         ensures validated { self.new.was_validated ≡ self.old.was_validated }
     {
@@ -42,7 +42,7 @@ impl Volume {
     pub fn grow(&mut self, key: u32, size: u32, moment: Date3) -> Result<(), Full>
         requires file { HasFileKey self.old.image key }
         requires longer { (t : Tree) → Stands self.old.image t → size_of t key < size }
-        ensures done { MatchResult result (λ _. (t : Tree) → Stands self.old.image t → (¬ NeedsMore t key size) × Stands self.new.image (grown moment key size t)) (λ _. (self.new ≡ self.old) × ((t : Tree) → Stands self.old.image t → NeedsMore t key size)) }
+        ensures done { MatchResult result (λ _. Grows moment key size self.old.image self.new.image) (λ _. (self.new ≡ self.old) × CannotGrow key size self.old.image) }
         ensures rest { KeepsRest self.old.image key self.new.image }
         ensures validated { self.new.was_validated ≡ self.old.was_validated }
     {

@@ -1,25 +1,25 @@
 //! Changes of a directory's entries.
 
 ghost use Rattle.std.specs.Prelude.{◌≡◌, MatchResult};
-ghost use Rattle.ados_map.specs.Pages.{IsLowestFree, NoneFree};
+ghost use Rattle.ados_map.specs.Pages.{NoneFree};
 ghost use Rattle.ados_tree.specs.Tree.{Tree};
 ghost use Rattle.ados_tree.specs.Stands.{Stands};
 ghost use Rattle.ados_tree.specs.Keys.{HasKey, HasTree};
 ghost use Rattle.ados_tree.specs.Kept.{Kept};
 ghost use Rattle.ados_tree.specs.NewBlocks.{TakesLowest};
-ghost use Rattle.ados_tree.specs.Change.{made, removed, renamed};
-ghost use Rattle.ados_entries.specs.Conditions.{CanMake, CanRemove, CanRename};
-ghost use Rattle.ados_entries.specs.Kinds.{content_of};
-ghost use Rattle.ados_volume.specs.Cache.{Forgets};
+ghost use Rattle.ados_tree.specs.Change.{removed, renamed};
+ghost use Rattle.change_entries.specs.Conditions.{CanMake, CanRemove, CanRename};
+ghost use Rattle.change_entries.specs.Kinds.{Makes};
+ghost use Rattle.ados_volume.specs.steps.Cache.{Forgets};
 
 use crate::cache::NameCache;
 use crate::examine::name_in;
 use crate::volume::Volume;
 use crate::walk::parent_in;
 use adf_block::Image;
-use ados_entries::{NodeKind, create, remove, rename};
 use ados_name::{Date3, Name};
 use ados_tree::Full;
+use change_entries::{NodeKind, create, remove, rename};
 
 impl Volume {
     /// Makes an entry with nothing in it, whose name no other entry of the directory has, and answers its key, the lowest free
@@ -32,7 +32,7 @@ impl Volume {
         moment: Date3,
     ) -> Result<u32, Full>
         requires { (t : Tree) → Stands self.old.image t → CanMake t dir name }
-        ensures done { MatchResult result (λ key. IsLowestFree self.old.image key × ((t : Tree) → Stands self.old.image t → Stands self.new.image (made moment dir key name (content_of kind) t))) (λ full. NoneFree self.old.image × (self.new ≡ self.old)) }
+        ensures done { MatchResult result (λ key. Makes moment dir name kind key self.old.image self.new.image) (λ full. NoneFree self.old.image × (self.new ≡ self.old)) }
         ensures kept { Kept self.old.image self.new.image }
         ensures lowest { TakesLowest self.old.image self.new.image }
         ensures validated { self.new.was_validated ≡ self.old.was_validated }

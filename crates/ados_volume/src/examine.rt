@@ -8,42 +8,13 @@ ghost use Rattle.ados_tree.specs.Stands.{Stands};
 ghost use Rattle.ados_tree.specs.Keys.{HasKey, HasTree};
 ghost use Rattle.ados_volume.specs.Examined.{entry_type, file_info};
 
-use crate::info::format_of;
 use crate::look::is_file_in;
 use crate::volume::Volume;
 use adf_block::Image;
+use adf_block::layout::{COMMENT_BYTE, DATE, NAME_BYTE, PROTECTION, SIZE};
 use ados_data::blocks_of;
 use ados_name::{Comment, Date3, Name, Protect};
-
-/// The bytes of a comment's and of a name's length.
-const COMMENT: u32 = 328;
-
-const NAME: u32 = 432;
-
-/// The longs of a file's size, of the protection bits, and of the first long of the date.
-const PROTECTION: u32 = 80;
-
-const SIZE: u32 = 81;
-
-const DATE: u32 = 105;
-
-/// What EXAMINE_OBJECT and EXAMINE_NEXT tell of an object.
-#[derive(Clone, Copy, Debug, PartialEq, Eq)]
-pub struct FileInfo {
-    pub key: u32,
-    /// 1 of the root, 2 of a directory, -3 of a file.
-    pub entry_type: i32,
-    pub name: Name,
-    /// 0 of the root.
-    pub protection: Protect,
-    /// The bytes of a file; 0 of a directory.
-    pub size: u32,
-    /// The object's own block, and the data and extension blocks of a file.
-    pub blocks: u32,
-    pub date: Date3,
-    /// Empty of the root.
-    pub comment: Comment,
-}
+use ados_packet::FileInfo;
 
 impl Volume {
     /// What is told of the object of a key.
@@ -110,7 +81,7 @@ fn cost_in(image: &Image, key: u32, size: u32) -> u32
     ensures { (t : Tree) (node : Node) → Stands image.now t → t.nodes key ≡ Some node → result ≡ cost_in t.format (Some node.content) }
 {
     if is_file_in(image, key) {
-        1 + blocks_of(format_of(image), size as u64) as u32
+        1 + blocks_of(image.format(), size as u64) as u32
     } else {
         1
     }
@@ -148,7 +119,7 @@ pub fn name_in(image: &Image, key: u32) -> Name
     requires key { HasKey image.now key }
     ensures { (t : Tree) (node : Node) → Stands image.now t → t.nodes key ≡ Some node → result ≡ node.name }
 {
-    match Name::new(text_in(image, key, NAME)) {
+    match Name::new(text_in(image, key, NAME_BYTE)) {
         Ok(name) => name,
         Err(_) => unreachable!(),
     }
@@ -163,7 +134,7 @@ fn comment_in(image: &Image, key: u32) -> Comment
     if key == image.root() {
         comment_of(&[])
     } else {
-        comment_of(text_in(image, key, COMMENT))
+        comment_of(text_in(image, key, COMMENT_BYTE))
     }
 }
 

@@ -5,26 +5,19 @@ mod blank_volume;
 mod cache;
 mod checking;
 mod contents;
-#[cfg(test)]
-mod contents_tests;
 mod entries;
 mod examine;
 mod info;
 mod look;
 mod stamp;
-#[cfg(test)]
-mod stamp_tests;
-#[cfg(test)]
-mod tests;
 mod volume;
 mod walk;
 
 pub use ados_chain::Next;
-pub use ados_check::Rejected;
-pub use ados_entries::NodeKind;
+pub use ados_packet::{DiskInfo, FileInfo};
 pub use ados_tree::{FaultKind, Full, VolumeFault};
 pub use blank_volume::blank;
+pub use change_entries::NodeKind;
+pub use check_image::Rejected;
 pub use checking::check;
-pub use examine::FileInfo;
-pub use info::DiskInfo;
 pub use volume::Volume;

@@ -11,14 +11,10 @@ ghost use Rattle.ados_volume.specs.Listing.{first_left};
 
 use crate::volume::Volume;
 use adf_block::Image;
+use adf_block::layout::{FILE_TYPE, SECONDARY_TYPE};
 use ados_chain::{Next, after, find};
 use ados_data::read_at;
 use ados_name::{Name, same_name_same_slot};
-
-/// The long that says what a block of a key holds, and its value for a file, -3.
-const SECONDARY_TYPE: u32 = 127;
-
-const FILE: u32 = 0xffff_fffd;
 
 impl Volume {
     /// The key of the root.
@@ -27,7 +23,7 @@ impl Volume {
         ensures directory { HasDirectory self.now.image result }
         ensures key { HasKey self.now.image result }
     {
-        root_of(self.image())
+        self.image().root()
     }
 
     /// The entry of a directory whose name is the same, in upper case. The entries that were found last are kept in a cache.
@@ -63,7 +59,7 @@ impl Volume {
         requires { HasDirectory self.now.image dir }
         ensures { (t : Tree) → Stands self.now.image t → result ≡ first_left (entries_after t dir key) }
     {
-        next_in(self.image(), dir, key)
+        after(self.image(), dir, key)
     }
 
     /// Copies the bytes of a file from byte `pos` on into the buffer, as many as are there and fit, and answers how many
@@ -73,18 +69,8 @@ impl Volume {
         ensures count { (t : Tree) → Stands self.now.image t → result ≡ min (length buffer.old) (length (bytes_of t key) - pos) }
         ensures bytes { (t : Tree) → Stands self.now.image t → buffer.new ≡ take result (drop pos (bytes_of t key)) ++ drop result buffer.old }
     {
-        read_in(self.image(), key, pos, buffer)
+        read_at(self.image(), key, pos, buffer)
     }
-}
-
-/// The key of the root.
-fn root_of(image: &Image) -> u32
-    requires { HasTree image.now }
-    ensures root { (t : Tree) → Stands image.now t → result ≡ root t }
-    ensures directory { HasDirectory image.now result }
-    ensures key { HasKey image.now result }
-{
-    image.root()
 }
 
 /// The entry of a directory whose name is the same.
@@ -97,30 +83,11 @@ fn child_in(image: &Image, dir: u32, name: &Name) -> Option<u32>
     find(image, dir, name)
 }
 
-/// What comes after a key in the order of a directory.
-fn next_in(image: &Image, dir: u32, key: u32) -> Next
-    requires tree { HasTree image.now }
-    requires dir { HasDirectory image.now dir }
-    ensures { (t : Tree) → Stands image.now t → result ≡ first_left (entries_after t dir key) }
-{
-    after(image, dir, key)
-}
-
-/// Copies bytes of a file into the buffer.
-fn read_in(image: &Image, key: u32, pos: u64, buffer: &mut [u8]) -> usize
-    requires tree { HasTree image.now }
-    requires file { HasFileKey image.now key }
-    ensures count { (t : Tree) → Stands image.now t → result ≡ min (length buffer.old) (length (bytes_of t key) - pos) }
-    ensures bytes { (t : Tree) → Stands image.now t → buffer.new ≡ take result (drop pos (bytes_of t key)) ++ drop result buffer.old }
-{
-    read_at(image, key, pos, buffer)
-}
-
 /// Whether the key is that of a file.
 pub fn is_file_in(image: &Image, key: u32) -> bool
     requires tree { HasTree image.now }
     requires key { HasKey image.now key }
     ensures { (t : Tree) → Stands image.now t → result ≡ is_file t key }
 {
-    image.long(key, SECONDARY_TYPE) == FILE
+    image.long(key, SECONDARY_TYPE) == FILE_TYPE
 }

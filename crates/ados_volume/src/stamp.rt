@@ -8,8 +8,8 @@ ghost use Rattle.ados_tree.specs.Kept.{Kept};
 ghost use Rattle.ados_tree.specs.Change.{disk_renamed, with_comment, with_date, with_protection};
 
 use crate::volume::Volume;
-use ados_fields::{rename_disk, set_comment, set_date, set_protection};
 use ados_name::{Comment, Date3, Name, Protect};
+use change_fields::{rename_disk, set_comment, set_date, set_protection};
 
 impl Volume {
     /// Sets the protection bits of a directory or file. The disk date becomes the moment.

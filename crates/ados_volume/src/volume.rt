@@ -20,7 +20,7 @@ pub struct Volume {
 impl Model for Volume {
     ghost use Rattle.ados_tree.specs.Tree.{Tree};
     ghost use Rattle.ados_tree.specs.Stands.{Stands};
-    ghost use Rattle.ados_volume.specs.Cache.{AreChildren};
+    ghost use Rattle.ados_volume.specs.steps.Cache.{AreChildren};
     ghost use Rattle.ados_volume.specs.Shown.{Shown};
 
     ghost Value = { Shown };

@@ -7,16 +7,14 @@ ghost use Rattle.ados_tree.specs.Stands.{Stands};
 ghost use Rattle.ados_tree.specs.Walk.{child_of, fault_of_walk, missing_before, place, start_of, step_from, walk, walk_steps};
 ghost use Rattle.ados_tree.specs.declared.path_fault.WalkFault.{WalkFault};
 ghost use Rattle.ados_tree.specs.Keys.{HasDirectory, HasKey, HasTree};
-ghost use Rattle.ados_volume.specs.Steps.{found_or};
+ghost use Rattle.ados_volume.specs.steps.PathStep.{found_or};
 
 use crate::look::is_file_in;
 use crate::volume::Volume;
 use adf_block::Image;
+use adf_block::layout::PARENT;
 use ados_name::{Name, PathSteps, PathText, Step};
 use ados_tree::{PlaceFault, WalkFault};
-
-/// The long of the directory that holds an entry.
-const PARENT: u32 = 125;
 
 impl Volume {
     /// The object of a path, walked from the object of a key; a path with a `:` is walked from the root.

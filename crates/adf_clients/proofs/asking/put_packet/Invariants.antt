@@ -1,5 +1,5 @@
 use Rattle.std.proofs.Common.{◌≡◌}
-use Rattle.ados_threads.specs.Grown.{Grown}
+use Rattle.ados_port.specs.Grown.{Grown}
 use Rattle.adf_clients.specs.Asking.{Rests}
 use Rattle.adf_clients.proofs.asking.put_packet.Given as goal
 

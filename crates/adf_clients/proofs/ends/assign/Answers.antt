@@ -1,5 +1,5 @@
 use Rattle.std.proofs.Common.{refl, ◌∙◌, arith}
-use Rattle.ados_threads.proofs.Joins.{jobs_started, none_left}
+use Rattle.ados_port.proofs.Joins.{jobs_started, none_left}
 use Rattle.adf_clients.proofs.Parting.{gone_over, made_more, used_more}
 use Rattle.adf_clients.proofs.ends.assign.Goals as goal
 

@@ -1,5 +1,5 @@
 use Rattle.std.proofs.Common.{arith}
-use Rattle.ados_threads.proofs.Joins.{jobs_started}
+use Rattle.ados_port.proofs.Joins.{jobs_started}
 use Rattle.adf_clients.proofs.ends.join.Goals as goal
 
 pub returns-clause-reports : goal.returns-clause-reports

@@ -1,5 +1,5 @@
 use Rattle.std.proofs.Common.{ℕ, Vec, Global, IfOk, sym, subst}
-use Rattle.ados_ends.specs.Ends.{AreEnds}
+use Rattle.ados_port.specs.Ends.{AreEnds}
 use Rattle.adf_clients.specs.Scripts.{IsUnused, Tells}
 use Rattle.adf_clients.proofs.Joining.{as_many_jobs, each_tells}
 use Rattle.adf_clients.proofs.scripts.serve_scripts.Goals as goal

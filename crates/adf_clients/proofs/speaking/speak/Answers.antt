@@ -1,8 +1,8 @@
 use Rattle.std.proofs.Common.{◌≡◌, ◌+◌, ◌++◌, length, refl, sym, ap, ◌∙◌, arith, rules}
 use Rattle.std.proofs.lemmas.List.{nil_from_length}
 use Rattle.std.proofs.lemmas.Result.{IfOk-weaker}
-use Rattle.ados_ends.specs.Gathering.{answers}
-use Rattle.ados_threads.proofs.Growth.{grown_refl, grown_more}
+use Rattle.ados_port.specs.Gathering.{answers}
+use Rattle.ados_port.proofs.Growth.{grown_refl, grown_more}
 use Rattle.adf_script.specs.declared.ending.ClientEnding.TheVariants.{Done, Script}
 use Rattle.adf_script.specs.Text.{fault_line, reply_line}
 use Rattle.adf_clients.specs.Asking.{stop_line, stop_ending}

@@ -1,5 +1,5 @@
 use Rattle.std.proofs.Common.{◌+◌, ◌≤◌, length}
-use Rattle.ados_threads.specs.Grown.{Grown}
+use Rattle.ados_port.specs.Grown.{Grown}
 use Rattle.adf_clients.specs.Scripts.{IsUnused}
 use Rattle.adf_clients.proofs.Said.{SaidBy}
 use Rattle.adf_clients.proofs.speaking.speak.Given as goal

@@ -1,5 +1,5 @@
 use Rattle.std.proofs.Common.{sym, ap, ◌∙◌}
-use Rattle.ados_volume.specs.declared.examine.FileInfo.{FileInfo}
+use Rattle.ados_packet.specs.declared.info.FileInfo.{FileInfo}
 use Rattle.ados_tree.proofs.Nodes.{some_in}
 use Rattle.adf_listing.proofs.Listed.{told_directory}
 use Rattle.adf_listing.proofs.keys.describe.Goals as goal

@@ -1,6 +1,7 @@
 use Rattle.std.proofs.Common.{◌≡◌, ◌↔◌, ◌-◌, ◌+◌, ℕ, List, take, drop, slice_index, Option, Result, Ok, Err, refl, sym, ◌∙◌, subst, arith}
 use Rattle.std.specs.Prelude.{MatchOption, IfOk, IsOk}
 use Rattle.std.specs.Result.{result_ok}
+use Rattle.adf_block.specs.Fields.{name_byte}
 use Rattle.ados_name.specs.declared.name.Name.{Name}
 use Rattle.ados_name.specs.declared.name.NameFault.{NameFault}
 use Rattle.ados_name.specs.Name.{IsName}
@@ -22,7 +23,7 @@ returns-then-length-gt-MAX_LEN c =
 
 pub returns : goal.returns
 returns c =
-    let n = slice_index c.block-block.result.now 432 in
+    let n = slice_index c.block-block.result.now name_byte in
     let counted = name_byte-read c.args.image.now c.block-block.result.now c.args.key c.block-block.ensures.bytes in
     made c.new.result c.ok.result (take (433 + n - 433) (drop 433 c.block-block.result.now)) _ c.ok.ensures.value
     (name-read c.args.image.now c.block-block.result.now c.args.key n c.block-block.ensures.bytes counted c.if-length-gt-MAX_LEN.false)

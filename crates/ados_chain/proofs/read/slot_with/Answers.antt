@@ -4,15 +4,15 @@ use Rattle.ados_chain.specs.Chains.{slot_at}
 use Rattle.ados_chain.specs.Look.{FindsSlot}
 use Rattle.ados_chain.proofs.Found.{IsLink-small, block_inside, long_is, held_listed, listed_held, in_own_slot}
 use Rattle.ados_chain.proofs.read.slot_with.Goals as goal
-use Rattle.ados_chain.proofs.read.slot_with.Goals.{then-key-lt2-via-then-key-lt2, then-key-lt2-via-else-key-lt2+then-key-blocks}
+use Rattle.ados_chain.proofs.read.slot_with.Goals.{then-key-lt-BOOT_BLOCKS-via-then-key-lt-BOOT_BLOCKS, then-key-lt-BOOT_BLOCKS-via-else-key-lt-BOOT_BLOCKS+then-key-blocks}
 
-pub returns-then-key-lt2 : goal.returns-then-key-lt2
-returns-then-key-lt2 c =
+pub returns-then-key-lt-BOOT_BLOCKS : goal.returns-then-key-lt-BOOT_BLOCKS
+returns-then-key-lt-BOOT_BLOCKS c =
     λ chains h m.
     let inside = (h.entry m.0 c.args.key m.1 m.2).inside in
-    elim c.then-key-lt2.branch [
-      | then-key-lt2-via-then-key-lt2 w ↦ absurd (omega (arith, w.if-key-lt2.true, inside.0))
-      | then-key-lt2-via-else-key-lt2+then-key-blocks w ↦ absurd (omega (arith, w.if-key-blocks.true, w.blocks-else-key-lt2.ensures.count, inside.1))
+    elim c.then-key-lt-BOOT_BLOCKS.branch [
+      | then-key-lt-BOOT_BLOCKS-via-then-key-lt-BOOT_BLOCKS w ↦ absurd (omega (arith, w.if-key-lt-BOOT_BLOCKS.true, inside.0))
+      | then-key-lt-BOOT_BLOCKS-via-else-key-lt-BOOT_BLOCKS+then-key-blocks w ↦ absurd (omega (arith, w.if-key-blocks.true, w.blocks-else-key-lt-BOOT_BLOCKS.ensures.count, inside.1))
     ]
 
 pub returns-in_err-name_of : goal.returns-in_err-name_of
@@ -31,7 +31,7 @@ long-requires-clause-place c =
 pub returns-then-long-key : goal.returns-then-long-key
 returns-then-long-key c =
     λ chains h.
-    let not_zero : c.args.key ≢ 0 = omega (arith, c.if-key-lt2.false) in
+    let not_zero : c.args.key ≢ 0 = omega (arith, c.if-key-lt-BOOT_BLOCKS.false) in
     (c.slot-slot.ensures.small, held_listed c.args.image.now c.args.dir chains h c.slot-slot.result c.slot-slot.ensures.small c.args.key c.link_to-link.result.block c.link_to-link.result.long (c.link_to-link.ensures chains h) (sym c.long.ensures ∙ c.if-long-key.true) not_zero)
 
 pub returns-else-long-key : goal.returns-else-long-key

@@ -1,9 +1,10 @@
 use Rattle.std.proofs.Common.{◌<◌, ◌-◌, ◌%◌, inl, inr, ℕ, sym, ap, ◌∙◌, arith}
 use Rattle.std.proofs.lemmas.Bool.{cases_eq}
+use Rattle.adf_block.specs.Fields.{first_pointer}
 use Rattle.adf_block.specs.Image.{block_sum}
 use Rattle.adf_block.proofs.Frames.{same_long, same_sum}
-use Rattle.ados_data.specs.Edits.{AtDataFields}
-use Rattle.ados_data.specs.Changing.{AtLink}
+use Rattle.ados_data.specs.steps.Edits.{AtDataFields}
+use Rattle.ados_data.specs.steps.Blocks.{AtLink}
 use Rattle.ados_data.proofs.Beside.{beside_field, beside_fields, sum_beside_field, sum_beside_fields, empty_long}
 use Rattle.ados_data.proofs.attach.attach_data.Goals as goal
 use Rattle.ados_data.proofs.attach.attach_data.Goals.{then-count-eq0, else-count-eq0}
@@ -14,10 +15,10 @@ returns c =
     let link_free = λ (n : ℕ) (l : n < 128). same_long (AtLink c.args.format c.args.count c.args.last) c.make_data.new.image c.link_data.new.image c.link_data.ensures.rest c.args.b n l (λ k e at. (c.requires.last_apart at.1).2 (sym at.2.0)) in
     let other = λ (n : ℕ) (l : n < 128).
     beside_field c.args.file 4 c.set_fields.new.image c.set_field.new.image c.set_field.ensures.rest c.args.b n l (λ z. absurd (c.requires.apart.1 z))
-    ∙ beside_fields c.args.holder (77 - c.args.count % 72) 2 c.link_data.new.image c.set_fields.new.image c.set_fields.ensures.rest c.args.b n l (λ z. absurd (c.requires.apart.0 z))
+    ∙ beside_fields c.args.holder (first_pointer - c.args.count % 72) 2 c.link_data.new.image c.set_fields.new.image c.set_fields.ensures.rest c.args.b n l (λ z. absurd (c.requires.apart.0 z))
     ∙ link_free n l in
     record {
-      pointer = beside_field c.args.file 4 c.set_fields.new.image c.set_field.new.image c.set_field.ensures.rest c.args.holder (77 - c.args.count % 72) (omega arith) (λ z. (omega arith, omega arith)) ∙ c.set_fields.ensures.set;
+      pointer = beside_field c.args.file 4 c.set_fields.new.image c.set_field.new.image c.set_field.ensures.rest c.args.holder (first_pointer - c.args.count % 72) (omega arith) (λ z. (omega arith, omega arith)) ∙ c.set_fields.ensures.set;
       counted = beside_field c.args.file 4 c.set_fields.new.image c.set_field.new.image c.set_field.ensures.rest c.args.holder 2 (omega arith) (λ z. (omega arith, omega arith)) ∙ c.set_fields.ensures.other_set;
       holder_sum = elim (cases_eq c.args.holder c.args.file) [
         | inl e ↦ ap (block_sum c.set_field.new.image) e ∙ c.set_field.ensures.sum
@@ -30,18 +31,18 @@ returns c =
       first = λ l. elim c.if-count-eq0.branch [
         | then-count-eq0 w ↦ absurd (omega (arith, l, w.if-count-eq0.true))
         | else-count-eq0 w ↦ c.set_field.ensures.set ∙ w.first-is ∙ w.long-first.ensures
-            ∙ beside_fields c.args.holder (77 - c.args.count % 72) 2 c.link_data.new.image c.set_fields.new.image c.set_fields.ensures.rest c.args.file 4 (omega arith) (λ e. (omega arith, omega arith, omega arith))
+            ∙ beside_fields c.args.holder (first_pointer - c.args.count % 72) 2 c.link_data.new.image c.set_fields.new.image c.set_fields.ensures.rest c.args.file 4 (omega arith) (λ e. (omega arith, omega arith, omega arith))
             ∙ same_long (AtLink c.args.format c.args.count c.args.last) c.make_data.new.image c.link_data.new.image c.link_data.ensures.rest c.args.file 4 (omega arith) (λ k e at. (c.requires.last_apart l).1 (sym at.2.0))
             ∙ same_long (AtDataFields c.args.format c.args.b) c.args.image.now c.make_data.new.image c.make_data.ensures.rest c.args.file 4 (omega arith) (λ k e at. c.requires.apart.1 (sym at.1))
       ];
       file_sum = c.set_field.ensures.sum;
       link = λ f l.
           beside_field c.args.file 4 c.set_fields.new.image c.set_field.new.image c.set_field.ensures.rest c.args.last 4 (omega arith) (λ e. absurd ((c.requires.last_apart l).1 e))
-          ∙ beside_fields c.args.holder (77 - c.args.count % 72) 2 c.link_data.new.image c.set_fields.new.image c.set_fields.ensures.rest c.args.last 4 (omega arith) (λ e. absurd ((c.requires.last_apart l).0 e))
+          ∙ beside_fields c.args.holder (first_pointer - c.args.count % 72) 2 c.link_data.new.image c.set_fields.new.image c.set_fields.ensures.rest c.args.last 4 (omega arith) (λ e. absurd ((c.requires.last_apart l).0 e))
           ∙ c.link_data.ensures.link f l;
       last_sum = λ f l.
           sum_beside_field c.args.file 4 c.set_fields.new.image c.set_field.new.image c.set_field.ensures.rest c.args.last (c.requires.last_apart l).1
-          ∙ sum_beside_fields c.args.holder (77 - c.args.count % 72) 2 c.link_data.new.image c.set_fields.new.image c.set_fields.ensures.rest c.args.last (c.requires.last_apart l).0
+          ∙ sum_beside_fields c.args.holder (first_pointer - c.args.count % 72) 2 c.link_data.new.image c.set_fields.new.image c.set_fields.ensures.rest c.args.last (c.requires.last_apart l).0
           ∙ c.link_data.ensures.sum f l;
       primary = λ f. other 0 (omega arith) ∙ c.make_data.ensures.primary f;
       header = λ f. other 1 (omega arith) ∙ c.make_data.ensures.header f;
@@ -50,7 +51,7 @@ returns c =
       next = other 4 (omega arith) ∙ c.make_data.ensures.next ∙ empty_long c.args.image.now c.args.b c.requires.empty 4 (omega arith);
       sum = λ f.
           sum_beside_field c.args.file 4 c.set_fields.new.image c.set_field.new.image c.set_field.ensures.rest c.args.b c.requires.apart.1
-          ∙ sum_beside_fields c.args.holder (77 - c.args.count % 72) 2 c.link_data.new.image c.set_fields.new.image c.set_fields.ensures.rest c.args.b c.requires.apart.0
+          ∙ sum_beside_fields c.args.holder (first_pointer - c.args.count % 72) 2 c.link_data.new.image c.set_fields.new.image c.set_fields.ensures.rest c.args.b c.requires.apart.0
           ∙ same_sum (AtLink c.args.format c.args.count c.args.last) c.make_data.new.image c.link_data.new.image c.link_data.ensures.rest c.args.b (λ k l at. (c.requires.last_apart at.1).2 (sym at.2.0))
           ∙ c.make_data.ensures.sum f;
       rest = record {

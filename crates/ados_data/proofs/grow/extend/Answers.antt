@@ -16,18 +16,18 @@ pub loop-reached-preserved : goal.loop-reached-preserved
 loop-reached-preserved c =
     let inv = c.loop-reached.invariant in
     let first = contents c.args.image.now c.args.file in
-    let here : c.loop-reached.reached ≡ data_size c.format_of-format.result * c.loop-reached.end.count = c.loop-reached.invariant.full c.loop-reached-test.true in
-    let room : c.data_size-room.result ≡ data_size c.format_of-format.result = c.data_size-room.ensures in
-    let some = few_bytes c.format_of-format.result in
-    let next_over : data_size c.format_of-format.result * c.loop-reached.end.count < c.min-next.result = omega (arith, c.min-next.ensures, c.loop-reached-test.true, here, room, some) in
-    let next_within : c.min-next.result ≤ data_size c.format_of-format.result * (c.loop-reached.end.count + 1) = omega (arith, c.min-next.ensures, c.loop-reached-test.true, here, room) in
+    let here : c.loop-reached.reached ≡ data_size c.format-format.result * c.loop-reached.end.count = c.loop-reached.invariant.full c.loop-reached-test.true in
+    let room : c.data_size-room.result ≡ data_size c.format-format.result = c.data_size-room.ensures in
+    let some = few_bytes c.format-format.result in
+    let next_over : data_size c.format-format.result * c.loop-reached.end.count < c.min-next.result = omega (arith, c.min-next.ensures, c.loop-reached-test.true, here, room, some) in
+    let next_within : c.min-next.result ≤ data_size c.format-format.result * (c.loop-reached.end.count + 1) = omega (arith, c.min-next.ensures, c.loop-reached-test.true, here, room) in
     let now_long : length (contents c.loop-reached.image c.args.file) ≡ c.loop-reached.reached =
     ap length c.loop-reached.invariant.bytes ∙ length-append (contents c.args.image.now c.args.file) (replicate (c.loop-reached.reached - length (contents c.args.image.now c.args.file)) 0)
     ∙ omega (arith, length-replicate {A = ℕ} (c.loop-reached.reached - length (contents c.args.image.now c.args.file)) 0, c.loop-reached.invariant.over) in
     let next_long : length (contents c.append-end.new.image c.args.file) ≡ length (contents c.loop-reached.image c.args.file) + (c.min-next.result - length (contents c.loop-reached.image c.args.file)) =
     ap length c.append-end.ensures.bytes ∙ length-append (contents c.loop-reached.image c.args.file) (replicate (c.min-next.result - length (contents c.loop-reached.image c.args.file)) 0)
     ∙ ap (λ (n : ℕ). length (contents c.loop-reached.image c.args.file) + n) (length-replicate {A = ℕ} (c.min-next.result - length (contents c.loop-reached.image c.args.file)) 0) in
-    let before : HasGrown c.args.image.now c.args.file c.loop-reached.image = record { before = c.requires.writable.lawful; after = c.loop-reached.invariant.writable.lawful; leaves = c.loop-reached.invariant.leaves; same_format = c.loop-reached.invariant.same_format ∙ c.format_of-format.ensures; size = omega (arith, now_long, c.loop-reached.invariant.over); blocks = c.loop-reached.invariant.blocks; extensions = c.loop-reached.invariant.extensions } in
+    let before : HasGrown c.args.image.now c.args.file c.loop-reached.image = record { before = c.requires.writable.lawful; after = c.loop-reached.invariant.writable.lawful; leaves = c.loop-reached.invariant.leaves; same_format = c.loop-reached.invariant.same_format ∙ c.format-format.ensures; size = omega (arith, now_long, c.loop-reached.invariant.over); blocks = c.loop-reached.invariant.blocks; extensions = c.loop-reached.invariant.extensions } in
     let behind : HasGrown c.loop-reached.image c.args.file c.append-end.new.image = record { before = c.loop-reached.invariant.writable.lawful; after = c.append-end.ensures.writable.lawful; leaves = c.append-end.ensures.leaves; same_format = c.append-end.ensures.format ∙ sym c.loop-reached.invariant.same_format; size = omega (arith, next_long); blocks = c.append-end.ensures.blocks; extensions = c.append-end.ensures.extensions } in
     let counts : block_count c.append-end.new.image ≡ block_count c.args.image.now = ap (λ (n : ℕ). n / 512) (c.append-end.ensures.leaves.same_length ∙ c.loop-reached.invariant.leaves.same_length) in
     record {
@@ -44,10 +44,10 @@ loop-reached-preserved c =
       blocks = front_both (data_blocks c.args.image.now c.args.file) (data_blocks c.loop-reached.image c.args.file) (data_blocks c.append-end.new.image c.args.file) c.loop-reached.invariant.blocks c.append-end.ensures.blocks;
       extensions = front_both (extension_blocks c.args.image.now c.args.file) (extension_blocks c.loop-reached.image c.args.file) (extension_blocks c.append-end.new.image c.args.file) c.loop-reached.invariant.extensions c.append-end.ensures.extensions;
       keeps = keeps_calls c.args.image.now c.loop-reached.image c.append-end.new.image c.args.file before behind c.loop-reached.invariant.keeps c.append-end.ensures.keeps;
-      full = λ l. omega (arith, l, c.min-next.ensures, here, room, c.append-end.ensures.count, ap (λ (n : ℕ). data_size c.format_of-format.result * n) c.append-end.ensures.count);
+      full = λ l. omega (arith, l, c.min-next.ensures, here, room, c.append-end.ensures.count, ap (λ (n : ℕ). data_size c.format-format.result * n) c.append-end.ensures.count);
       bytes = more_zeros (contents c.args.image.now c.args.file) (contents c.loop-reached.image c.args.file) (contents c.append-end.new.image c.args.file) (length (contents c.args.image.now c.args.file)) c.loop-reached.reached c.min-next.result
           c.loop-reached.invariant.over (omega (arith, next_over, here)) now_long c.loop-reached.invariant.bytes c.append-end.ensures.bytes;
-      free = omega (arith, c.loop-reached.invariant.free, c.append-end.ensures.free, one_more_cost c.format_of-format.result c.loop-reached.end.count c.min-next.result next_over next_within, ap (block_cost c.format_of-format.result) here);
+      free = omega (arith, c.loop-reached.invariant.free, c.append-end.ensures.free, one_more_cost c.format-format.result c.loop-reached.end.count c.min-next.result next_over next_within, ap (block_cost c.format-format.result) here);
     }
 
 pub append-end-requires-clause-full : goal.append-end-requires-clause-full
@@ -62,13 +62,13 @@ loop-reached-init c =
     let now_long : length (contents c.fill_last-reached.new.image c.args.file) ≡ c.fill_last-reached.result =
     ap length c.fill_last-reached.ensures.bytes ∙ length-append (contents c.args.image.now c.args.file) (replicate (c.fill_last-reached.result - length (contents c.args.image.now c.args.file)) 0)
     ∙ omega (arith, length-replicate {A = ℕ} (c.fill_last-reached.result - length (contents c.args.image.now c.args.file)) 0, c.fill_last-reached.ensures.over) in
-    let count : data_count c.format_of-format.result c.fill_last-reached.result ≡ data_count c.format_of-format.result (length (contents c.args.image.now c.args.file)) =
-    ap (data_count c.format_of-format.result) (sym now_long)
+    let count : data_count c.format-format.result c.fill_last-reached.result ≡ data_count c.format-format.result (length (contents c.args.image.now c.args.file)) =
+    ap (data_count c.format-format.result) (sym now_long)
     ∙ ap (λ (f : Format). data_count f (length (contents c.fill_last-reached.new.image c.args.file))) (sym c.fill_last-reached.ensures.format)
     ∙ sym c.fill_last-reached.ensures.writable.lawful.data_fits
     ∙ sym c.fill_last-reached.ensures.end.counted ∙ c.end_of-end.ensures.counted
     ∙ c.requires.writable.lawful.data_fits
-    ∙ ap (λ (f : Format). data_count f (length (contents c.args.image.now c.args.file))) (sym c.format_of-format.ensures) in
+    ∙ ap (λ (f : Format). data_count f (length (contents c.args.image.now c.args.file))) (sym c.format-format.ensures) in
     record {
       below = c.fill_last-reached.ensures.reached;
       over = c.fill_last-reached.ensures.over;

@@ -1,11 +1,11 @@
 use Rattle.std.proofs.Common.{◌-◌, ◌≡◌, ◌≤◌, ◌<◌, ◌+◌, ◌*◌, ◌++◌, length, replicate, take}
-use Rattle.adf_block.specs.Image.{marked_count}
+use Rattle.adf_block.specs.Image.{free_bit_count}
 use Rattle.ados_data.specs.Cost.{block_cost, data_size}
 use Rattle.ados_data.specs.File.{contents, data_blocks, extension_blocks, format_of}
 use Rattle.ados_data.specs.Changing.{WritableFile}
 use Rattle.ados_data.specs.Others.{Gains, LeavesOthers}
-use Rattle.ados_data.specs.Keeping.{KeepsUnnamed}
-use Rattle.ados_data.specs.Ends.{IsEnd}
+use Rattle.ados_data.specs.Unnamed.{KeepsUnnamed}
+use Rattle.ados_data.specs.steps.FileEnd.{IsEnd}
 use Rattle.ados_data.proofs.grow.extend.Given as goal
 
 abbrev pub invariant-loop-reached : goal.invariant-loop-reached
@@ -22,7 +22,7 @@ invariant-loop-reached l = record {
   end_is : IsEnd l.image l.file l.end;
   full : l.reached < l.size → l.reached ≡ data_size l.format * l.end.count;
   bytes : contents l.image l.file ≡ contents l.fn.image l.file ++ replicate (l.reached - length (contents l.fn.image l.file)) 0;
-  free : marked_count l.image + block_cost l.format l.reached ≡ marked_count l.fn.image + block_cost l.format (length (contents l.fn.image l.file));
+  free : free_bit_count l.image + block_cost l.format l.reached ≡ free_bit_count l.fn.image + block_cost l.format (length (contents l.fn.image l.file));
 }
 
 abbrev pub decreases-loop-reached : goal.decreases-loop-reached

@@ -1,8 +1,8 @@
 use Rattle.std.proofs.Common.{ℕ, ◌-◌, ◌≡◌, ◌≤◌, ◌<◌, ◌+◌, ◌/◌, take, length}
-use Rattle.adf_block.specs.Image.{is_marked_free, block_count, marked_count, IsSize}
+use Rattle.adf_block.specs.Image.{has_free_bit, block_count, free_bit_count, IsSize}
 use Rattle.ados_map.specs.Pages.{HasBit}
 use Rattle.ados_data.specs.Others.{LeavesOthers}
-use Rattle.ados_data.specs.Keeping.{KeepsUnnamed}
+use Rattle.ados_data.specs.Unnamed.{KeepsUnnamed}
 use Rattle.ados_data.specs.File.{contents, data_blocks, extension_blocks, format_of, overlaid, pointer_block}
 use Rattle.ados_data.specs.Changing.{WritableFile}
 use Rattle.ados_data.proofs.write.overlay.Given as goal
@@ -16,9 +16,9 @@ invariant-loop-done l = record {
   blocks : data_blocks l.image l.file ≡ data_blocks l.initial.image l.file;
   extensions : extension_blocks l.image l.file ≡ extension_blocks l.initial.image l.file;
   written : contents l.image l.file ≡ overlaid (contents l.initial.image l.file) l.pos (take l.done l.bytes);
-  free : marked_count l.image ≡ marked_count l.initial.image;
+  free : free_bit_count l.image ≡ free_bit_count l.initial.image;
   leaves : LeavesOthers l.initial.image l.file l.image;
-  marks : (c : ℕ) → HasBit l.initial.image c → is_marked_free l.image c ≡ is_marked_free l.initial.image c;
+  marks : (c : ℕ) → HasBit l.initial.image c → has_free_bit l.image c ≡ has_free_bit l.initial.image c;
   keeps : KeepsUnnamed l.initial.image l.file (data_blocks l.initial.image l.file) (extension_blocks l.initial.image l.file) l.image (data_blocks l.image l.file) (extension_blocks l.image l.file);
   holder : l.done < length l.bytes → l.holder ≡ pointer_block l.image l.file ((l.pos + l.done) / l.room / 72);
 }

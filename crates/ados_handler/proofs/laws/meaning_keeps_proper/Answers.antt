@@ -1,4 +1,4 @@
-use Rattle.ados_handler.proofs.Keeping.{meaning_keeps_proper}
+use Rattle.ados_handler.proofs.ImageKept.{meaning_keeps_proper}
 use Rattle.ados_handler.proofs.laws.meaning_keeps_proper.Goals as goal
 
 pub returns : goal.returns

@@ -15,12 +15,12 @@ inside image w i v is lt within =
     ∙ ap (λ (b : Bool). cond b 1 0) (sym (marked-at image w i lt))
     ∙ sym (free_bit-inside image (2 + 32 * w + i) within)
 
-pub returns-then-left-lt-BITS : goal.returns-then-left-lt-BITS
-returns-then-left-lt-BITS c = λ i lt.
+pub returns-then-left-lt-LONG_BITS : goal.returns-then-left-lt-LONG_BITS
+returns-then-left-lt-LONG_BITS c = λ i lt.
     let w = c.args.w in
     let left = c.blocks-2.result - 2 - 32 * w in
     let count : c.blocks-2.result ≡ block_count c.args.image.now = c.blocks-2.ensures.count in
-    let fits : left < 32 = c.if-left-lt-BITS.true in
+    let fits : left < 32 = c.if-left-lt-LONG_BITS.true in
     let is : c.long-bits.result ≡ long c.args.image.now (page_block c.args.image.now (w / 127)) (1 + w % 127) =
     c.long-bits.ensures ∙ ap (λ (b : ℕ). long c.args.image.now b (1 + w % 127)) c.page_at.ensures.page in
     elim (cases_lt i left) [
@@ -28,11 +28,11 @@ returns-then-left-lt-BITS c = λ i lt.
       | inr above ↦ masked_above c.long-bits.result left i above fits ∙ sym (free_bit-past c.args.image.now (2 + 32 * w + i) (omega (arith, count)))
     ]
 
-pub returns-else-left-lt-BITS : goal.returns-else-left-lt-BITS
-returns-else-left-lt-BITS c = λ i lt.
+pub returns-else-left-lt-LONG_BITS : goal.returns-else-left-lt-LONG_BITS
+returns-else-left-lt-LONG_BITS c = λ i lt.
     let w = c.args.w in
     let count : c.blocks-2.result ≡ block_count c.args.image.now = c.blocks-2.ensures.count in
     let is : c.long-bits.result ≡ long c.args.image.now (page_block c.args.image.now (w / 127)) (1 + w % 127) =
     c.long-bits.ensures ∙ ap (λ (b : ℕ). long c.args.image.now b (1 + w % 127)) c.page_at.ensures.page in
-    let all : 32 ≤ c.blocks-2.result - 2 - 32 * w = c.if-left-lt-BITS.false in
+    let all : 32 ≤ c.blocks-2.result - 2 - 32 * w = c.if-left-lt-LONG_BITS.false in
     inside c.args.image.now w i c.long-bits.result is lt (omega (arith, count))

@@ -2,14 +2,14 @@ use Rattle.std.proofs.Common.{◌≡◌, ◌≢◌, ◌<◌, ◌+◌, ◌*◌, �
 use Rattle.std.specs.Int.{bit_at, w32, trailing_zeros}
 use Rattle.std.proofs.lemmas.Bool.{cases_lt}
 use Rattle.std.proofs.lemmas.Nat.Bits.{bit_at-trailing_zeros, bit_at-zero}
-use Rattle.adf_block.specs.Image.{IsInside, block_count, is_marked_free}
+use Rattle.adf_block.specs.Image.{IsInside, block_count, has_free_bit}
 use Rattle.ados_map.specs.Pages.{IsLowestFree}
 use Rattle.ados_map.specs.Bits.{free_bit, IsFreeBits}
 use Rattle.ados_map.proofs.BitLemmas.{free_bit-none, free_bit-some, free_bit-within}
 use Rattle.ados_map.proofs.reading.first_free.Goals as goal
 
 -- the place of the lowest bit, where no lower map long has one
-lowest : (image : List ℕ) (w bits : ℕ) → ((k : ℕ) → IsInside (block_count image) k → k < 2 + 32 * w → is_marked_free image k ≡ false)
+lowest : (image : List ℕ) (w bits : ℕ) → ((k : ℕ) → IsInside (block_count image) k → k < 2 + 32 * w → has_free_bit image k ≡ false)
     → IsFreeBits image w bits → bits ≢ 0 → bits < 2 ^ 32 → IsLowestFree image (2 + 32 * w + trailing_zeros w32 bits)
 lowest image w bits before is some fits =
     let low = bit_at-trailing_zeros w32 bits (omega arith) fits in
@@ -29,8 +29,8 @@ lowest image w bits before is some fits =
     }
 
 -- no bit of one more map long
-none_more : (image : List ℕ) (w bits : ℕ) → ((k : ℕ) → IsInside (block_count image) k → k < 2 + 32 * w → is_marked_free image k ≡ false)
-    → IsFreeBits image w bits → bits ≡ 0 → (k : ℕ) → IsInside (block_count image) k → k < 2 + 32 * (w + 1) → is_marked_free image k ≡ false
+none_more : (image : List ℕ) (w bits : ℕ) → ((k : ℕ) → IsInside (block_count image) k → k < 2 + 32 * w → has_free_bit image k ≡ false)
+    → IsFreeBits image w bits → bits ≡ 0 → (k : ℕ) → IsInside (block_count image) k → k < 2 + 32 * (w + 1) → has_free_bit image k ≡ false
 none_more image w bits before is none k inside lt = elim (cases_lt k (2 + 32 * w)) [
   | inl lower ↦ before k inside lower
   | inr here ↦

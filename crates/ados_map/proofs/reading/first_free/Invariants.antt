@@ -1,6 +1,6 @@
 use Rattle.std.proofs.Common.{◌≡◌, ◌<◌, ◌+◌, ◌*◌, ℕ, false}
-use Rattle.adf_block.specs.Image.{IsInside, block_count, is_marked_free}
+use Rattle.adf_block.specs.Image.{IsInside, block_count, has_free_bit}
 use Rattle.ados_map.proofs.reading.first_free.Given as goal
 
 abbrev pub invariant-loop-w : goal.invariant-loop-w
-invariant-loop-w l = (k : ℕ) → IsInside (block_count l.image) k → k < 2 + 32 * l.w → is_marked_free l.image k ≡ false
+invariant-loop-w l = (k : ℕ) → IsInside (block_count l.image) k → k < 2 + 32 * l.w → has_free_bit l.image k ≡ false

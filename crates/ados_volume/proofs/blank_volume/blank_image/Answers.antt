@@ -2,7 +2,7 @@ use Rattle.std.proofs.Common.{◌≡◌, ℕ, List, Bool, sym, ◌∙◌, subst,
 use Rattle.adf_block.specs.Image.{block_count, root_key}
 use Rattle.adf_block.specs.Frame.{OnlyBlock}
 use Rattle.adf_block.proofs.Frames.{same_count}
-use Rattle.ados_volume.specs.BlankParts.{IsBlankRoot, NamesBlank}
+use Rattle.ados_volume.specs.steps.BlankParts.{IsBlankRoot, NamesBlank}
 use Rattle.ados_volume.proofs.BlankImage.{blank_is}
 use Rattle.ados_volume.proofs.blank_volume.blank_image.Goals as goal
 

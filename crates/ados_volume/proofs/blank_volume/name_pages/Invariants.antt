@@ -1,7 +1,6 @@
 use Rattle.std.proofs.Common.{◌≡◌, ◌<◌, ◌+◌, ◌*◌, ℕ}
 use Rattle.adf_block.specs.Image.{long}
-use Rattle.adf_block.specs.Frame.{SameBut}
-use Rattle.ados_fields.specs.Places.{Within}
+use Rattle.adf_block.specs.Frame.{SameBut, Within}
 use Rattle.ados_volume.proofs.blank_volume.name_pages.Given as goal
 
 abbrev pub invariant-loop-p : goal.invariant-loop-p

@@ -1,12 +1,12 @@
 use Rattle.std.proofs.Common.{◌≡◌, ℕ, ◌+◌, ◌-◌, ◌≤◌, Bool, true, false, cond, sym, ap, ap₂, ◌∙◌, arith}
-use Rattle.adf_block.specs.Image.{block_count, is_marked_free}
+use Rattle.adf_block.specs.Image.{block_count, has_free_bit}
 use Rattle.adf_block.proofs.Totals.{total-bound}
 use Rattle.ados_data.specs.Cost.{data_size}
 use Rattle.ados_tree.specs.Tree.{free}
 use Rattle.ados_tree.specs.Stands.{format_byte}
 use Rattle.ados_tree.proofs.Standing.{count_same}
-use Rattle.ados_tree.proofs.Counting.{free_is_marked}
-use Rattle.ados_contents.proofs.Writable.{lawful_pages, format_is}
+use Rattle.ados_tree.proofs.Counting.{free_bits_count}
+use Rattle.change_bytes.proofs.Writable.{lawful_pages, format_is}
 use Rattle.ados_volume.proofs.info.info_of.Goals as goal
 
 pub count_free-requires : goal.count_free-requires
@@ -18,13 +18,13 @@ at_most_one false = omega arith
 
 pub overflow_sub-used : goal.overflow_sub-used
 overflow_sub-used c =
-    omega (arith, c.count_free.ensures, c.blocks-blocks.ensures.count, total-bound (λ k. cond (is_marked_free c.args.image.now (k + 2)) 1 0) 1 (block_count c.args.image.now - 2) (λ k. at_most_one (is_marked_free c.args.image.now (k + 2))))
+    omega (arith, c.count_free.ensures, c.blocks-blocks.ensures.count, total-bound (λ k. cond (has_free_bit c.args.image.now (k + 2)) 1 0) 1 (block_count c.args.image.now - 2) (λ k. at_most_one (has_free_bit c.args.image.now (k + 2))))
 
 pub returns-in-Ofs : goal.returns-in-Ofs
 returns-in-Ofs c = λ t s.
     let blocks : c.blocks-blocks.result - 2 ≡ t.blocks - 2 = ap (λ (n : ℕ). n - 2) (c.blocks-blocks.ensures.count ∙ count_same c.args.image.now t s) in
-    let free_is : c.count_free.result ≡ free t = c.count_free.ensures ∙ free_is_marked c.args.image.now t s in
-    let format = sym c.in-Ofs.is ∙ c.format_of.ensures ∙ format_is c.args.image.now t s in
+    let free_is : c.count_free.result ≡ free t = c.count_free.ensures ∙ free_bits_count c.args.image.now t s in
+    let format = sym c.in-Ofs.is ∙ c.format.ensures ∙ format_is c.args.image.now t s in
     λ i. record {
       state = 82;
       blocks = blocks i;
@@ -36,8 +36,8 @@ returns-in-Ofs c = λ t s.
 pub returns-in-Ffs : goal.returns-in-Ffs
 returns-in-Ffs c = λ t s.
     let blocks : c.blocks-blocks.result - 2 ≡ t.blocks - 2 = ap (λ (n : ℕ). n - 2) (c.blocks-blocks.ensures.count ∙ count_same c.args.image.now t s) in
-    let free_is : c.count_free.result ≡ free t = c.count_free.ensures ∙ free_is_marked c.args.image.now t s in
-    let format = sym c.in-Ffs.is ∙ c.format_of.ensures ∙ format_is c.args.image.now t s in
+    let free_is : c.count_free.result ≡ free t = c.count_free.ensures ∙ free_bits_count c.args.image.now t s in
+    let format = sym c.in-Ffs.is ∙ c.format.ensures ∙ format_is c.args.image.now t s in
     λ i. record {
       state = 82;
       blocks = blocks i;

@@ -3,7 +3,7 @@ use Rattle.std.proofs.lemmas.Bool.Decides.{nat_tests}
 use Rattle.adf_block.specs.Image.{total, long}
 use Rattle.adf_block.specs.Boot.{boot_long}
 use Rattle.adf_block.proofs.Totals.{total-more}
-use Rattle.adf_block.proofs.floppy.Image.boot_total.Goals.{then-k-ne1, else-k-ne1}
+use Rattle.adf_block.proofs.floppy.Image.boot_total.Goals.{then-k-ne-BOOT_SUM, else-k-ne-BOOT_SUM}
 use Rattle.adf_block.proofs.floppy.Image.boot_total.Goals as goal
 
 -- the boot sum's own long counts for nothing
@@ -20,12 +20,12 @@ pub loop-k-preserved : goal.loop-k-preserved
 loop-k-preserved c =
     let image = c.args.self.now in
     let more = total-more (boot_long image) c.loop-k.k in
-    elim c.if-k-ne1.branch [
-      | then-k-ne1 w ↦
-          let here = other image c.loop-k.k w.if-k-ne1.true in
+    elim c.if-k-ne-BOOT_SUM.branch [
+      | then-k-ne-BOOT_SUM w ↦
+          let here = other image c.loop-k.k w.if-k-ne-BOOT_SUM.true in
           record { sum = omega (arith, more, here); bound = omega arith }
-      | else-k-ne1 w ↦
-          let here = own image c.loop-k.k w.if-k-ne1.false in
+      | else-k-ne-BOOT_SUM w ↦
+          let here = own image c.loop-k.k w.if-k-ne-BOOT_SUM.false in
           record { sum = omega (arith, more, here); bound = omega arith }
     ]
 

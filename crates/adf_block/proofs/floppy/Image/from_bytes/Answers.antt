@@ -6,7 +6,7 @@ invariant_of-result c =
     let same : length c.deref.result.now ≡ length c.args.bytes.items = ap length c.deref.ensures.value in
     record {
       blocks = c.whole_blocks-blocks.result;
-      size = (c.if-blocks-lt16.false, c.if-blocks-gt101602.false);
+      size = (c.if-blocks.false, c.if-blocks-2.false);
       whole = omega (arith, same, c.deref.ensures.len, c.len.ensures, c.whole_blocks-blocks.ensures.count);
     }
 

@@ -1,4 +1,4 @@
-use Rattle.std.proofs.Common.{◌≡◌, ◌<◌, ◌^◌, ℤ, [], pos, w32, not, true, sym, ap, ◌∙◌, subst, refl, arith, rules, to_z}
+use Rattle.std.proofs.Common.{◌≡◌, ◌<◌, ◌^◌, [], pos, w32, not, true, sym, ap, ◌∙◌, subst, refl, arith, rules, of_z, to_z}
 use Rattle.std.specs.Prelude.{is_some}
 use Rattle.std.specs.FinMap.{FinMap, insert}
 use Rattle.std.specs.Ordering.{nat_cmp}
@@ -20,7 +20,9 @@ use Rattle.ados_handler.specs.Objects.{lacks}
 use Rattle.ados_handler.specs.Handler.{HandlerState}
 use Rattle.ados_handler.proofs.Leaving.{leaves_boot}
 use Rattle.ados_handler.proofs.FreeBlock.{can_make_new, new_key, none_free_lacks, not_lacking}
-use Rattle.ados_handler.proofs.MakingDirectory.{create_dir_means, create_dir_sound}
+use Rattle.ados_handler.proofs.MakingDirectory.{create_dir_means, create_dir_passes, create_dir_sound}
+use Rattle.ados_handler.proofs.Moving.{no_memory_gives, refused_gives}
+use Rattle.ados_handler.proofs.Placed.{place_refused}
 use Rattle.ados_handler.proofs.handler.Handler.create_dir.Goals as goal
 
 pub create-requires : goal.create-requires
@@ -37,6 +39,31 @@ unreachable-requires c =
     let stands = subst (λ (v : Shown). Stands v.image t) (sym c.child.ensures.same) c.self-2.invariant.stands in
     let lack = none_free_lacks c.child.new.self.image t stands c.in_default.ensures.done.0 in
     true≢false (sym c.if-not-has_room.false ∙ c.has_room.ensures t stands ∙ ap not lack)
+
+pub returns-in-Err : goal.returns-in-Err
+returns-in-Err c =
+    let t = c.self.invariant.tree in
+    let old = c.args.self.now in
+    let stood = subst (λ (h : HandlerState). Stands h.image t) c.self.view_is c.self.invariant.stands in
+    let alive = sym (ap (λ (h : HandlerState). h.session.died) c.self.view_is) ∙ c.if-self.false in
+    let none = sym (c.placed.ensures.place t stood) ∙ c.in-Err.is in
+    refused_gives old c.placed.new.self (CreateDir c.args.lock c.args.path) c.args.now c.refused-in-Err.result t c.in-Err.error stood c.placed.ensures.same
+    (place_refused t old.session (CreateDir c.args.lock c.args.path) c.args.lock c.args.path c.in-Err.error _ refl alive none) c.refused-in-Err.ensures
+
+pub returns-then-is_err : goal.returns-then-is_err
+returns-then-is_err c =
+    let same = c.self-2.view_is ∙ c.placed.ensures.same in
+    let t = c.self-2.invariant.tree in
+    let opened = c.self-2.invariant.stands in
+    let stood = subst (λ (h : HandlerState). Stands h.image t) same opened in
+    let stands = subst (λ (v : Shown). Stands v.image t) (sym c.child.ensures.same) opened in
+    let alive = sym (ap (λ (h : HandlerState). h.session.died) c.self.view_is) ∙ c.if-self.false in
+    let place = sym (c.placed.ensures.place t stood) ∙ c.in-Ok.is in
+    let none = ap is_some (sym (c.child.ensures.child t opened)) ∙ sym c.is_some.ensures ∙ c.if-is_some.false in
+    let room = not_lacking (lacks t 1) (sym (c.has_room.ensures t stands) ∙ c.if-not-has_room.false) in
+    let held : ◌≡◌ {A = HandlerState} (record { image = c.child.new.self.image; was_validated = c.child.new.self.was_validated; session = record { locks = c.reserve.new.self.held; handles = c.self-2.inside.handles.held; died = c.self-2.inside.died } }) (record { image = c.self-2.inside.volume.image; was_validated = c.self-2.inside.volume.was_validated; session = record { locks = c.self-2.inside.locks.held; handles = c.self-2.inside.handles.held; died = c.self-2.inside.died } }) = λ i. record { image = (c.child.ensures.same i).image; was_validated = (c.child.ensures.same i).was_validated; session = record { locks = c.reserve.ensures.held i; handles = c.self-2.inside.handles.held; died = c.self-2.inside.died } } in
+    no_memory_gives c.args.self.now _ (CreateDir c.args.lock c.args.path) c.args.now c.refused-then-is_err.result t stood (held ∙ same)
+    (create_dir_passes t c.args.self.now.session c.in-Ok.found c.args.lock c.args.path alive place none room) refl c.refused-then-is_err.ensures
 
 pub returns : goal.returns
 returns c =
@@ -63,14 +90,15 @@ returns c =
     let is : new ≡ with_lock number key true s = λ i. record { locks = more i; handles = (kept i).handles; died = (kept i).died } in
     let small : number < 2 ^ 31 = omega (arith, free.1) in
     let u = made c.args.now there.0 key there.1 (Directory []) t in
-    let answer : Answer = record { action = pos 22; res1 = to_z w32 number; res2 = pos 0; body = Empty } in
+    let answer : Answer = record { action = to_z w32 (of_z w32 c.number.result); res1 = to_z w32 number; res2 = pos 0; body = Empty } in
+    let told : ◌≡◌ {A = Answer} (record { action = pos 22; res1 = pos number; res2 = pos 0; body = Empty }) answer = λ i. record { action = to_z w32 (of_z w32 (sym c.number.ensures i)); res1 = sym (to_z_pos w32 number small) i; res2 = pos 0; body = Empty } in
     let kept_image = subst (λ (v : Shown). Kept v.image c.create.new.self.image) c.child.ensures.same c.create.ensures.kept in
     record {
       old_tree = t;
       new_tree = u;
       stood = stood;
       stands = c.in-Ok-create.ensures.done.1 t stands;
-      means = subst (λ (z : ℤ). Meaning t s (CreateDir c.args.lock c.args.path) c.args.now u new (record { action = pos 22; res1 = z; res2 = pos 0; body = Empty })) (sym (to_z_pos w32 number small))
+      means = subst (λ (a : Answer). Meaning t s (CreateDir c.args.lock c.args.path) c.args.now u new a) told
           (create_dir_means t s new c.args.now there key number fresh free is c.args.lock c.args.path alive place none room);
       leaves = leaves_boot t c.args.self.now (CreateDir c.args.lock c.args.path) _ answer (subst (λ (h : HandlerState). Kept h.image c.create.new.self.image) same kept_image) refl refl;
       validated = c.create.ensures.validated ∙ ap (λ (v : Shown). v.was_validated) c.child.ensures.same ∙ ap (λ (h : HandlerState). h.was_validated) same;

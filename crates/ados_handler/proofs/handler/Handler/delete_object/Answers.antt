@@ -4,6 +4,7 @@ use Rattle.ados_tree.specs.Stands.{Stands}
 use Rattle.ados_tree.specs.Kept.{Kept}
 use Rattle.ados_tree.specs.Change.{removed}
 use Rattle.ados_tree.proofs.Nodes.{some_in}
+use Rattle.ados_packet.specs.declared.dos_error.DosError.TheVariants.{DeleteProtected}
 use Rattle.ados_packet.specs.declared.packet.Packet.TheVariants.{DeleteObject}
 use Rattle.ados_packet.specs.declared.answer.Answer.{Answer}
 use Rattle.ados_handler.specs.Session.{Session, is_held}
@@ -41,13 +42,13 @@ returns-then-denies_delete c =
     let empty = sym (c.has_entries.ensures t stands) ∙ c.if-has_entries.false in
     let n = some_in (t.nodes key) (c.in-Ok.ensures.key t stood) in
     let denied = denial_told t key n.0 c.examine.result c.denies_delete.result n.1 (c.examine.ensures t n.0 opened n.1) c.denies_delete.ensures ∙ c.if-denies_delete.true in
-    let some = delete_refusal t c.args.self.now.session c.args.lock c.args.path key alive walk other free empty ∙ ap (λ b. first_refusal (refuse 222 b ∷ [])) denied in
+    let some = delete_refusal t c.args.self.now.session c.args.lock c.args.path key alive walk other free empty ∙ ap (λ b. first_refusal (refuse DeleteProtected b ∷ [])) denied in
     record {
       old_tree = t;
       new_tree = t;
       stood = stood;
       stands = stands;
-      means = refused_means t c.args.self.now.session c.walked.new.self.session (DeleteObject c.args.lock c.args.path) c.args.now c.refused-then-denies_delete.result 222 some
+      means = refused_means t c.args.self.now.session c.walked.new.self.session (DeleteObject c.args.lock c.args.path) c.args.now c.refused-then-denies_delete.result DeleteProtected some
           (record { tree = refl; session = ap (λ (h : HandlerState). h.session) c.walked.ensures.same; answered = c.refused-then-denies_delete.ensures });
       leaves = leaves_all t c.args.self.now (DeleteObject c.args.lock c.args.path) c.walked.new.self c.refused-then-denies_delete.result (ap (λ (h : HandlerState). h.image) c.walked.ensures.same);
       validated = ap (λ (h : HandlerState). h.was_validated) c.walked.ensures.same;

@@ -1,8 +1,11 @@
-use Rattle.std.proofs.Common.{sym, ap, ◌∙◌, subst}
+use Rattle.std.proofs.Common.{refl, sym, ap, ◌∙◌, subst}
 use Rattle.ados_tree.specs.Stands.{Stands}
 use Rattle.ados_volume.specs.Shown.{Shown}
+use Rattle.ados_packet.specs.declared.packet.Packet.TheVariants.{FindOutput}
 use Rattle.ados_handler.specs.Session.{Session}
 use Rattle.ados_handler.specs.Handler.{HandlerState}
+use Rattle.ados_handler.proofs.Moving.{refused_gives}
+use Rattle.ados_handler.proofs.Placed.{place_refused}
 use Rattle.ados_handler.proofs.Spotted.{output_empties, output_makes}
 use Rattle.ados_handler.proofs.Walked.{child_is_key}
 use Rattle.ados_handler.proofs.handler.Handler.find_output.Goals as goal
@@ -11,6 +14,16 @@ pub empty_file-requires : goal.empty_file-requires
 empty_file-requires c t stands =
     let stood = subst (λ (v : Shown). Stands v.image t) c.child.ensures.same stands in
     child_is_key t stood.proper c.in-Ok.found.0 c.in-Ok.found.1 c.in-Some.key (sym (c.child.ensures.child t stood) ∙ c.in-Some.is)
+
+pub returns-in-Err : goal.returns-in-Err
+returns-in-Err c =
+    let t = c.self.invariant.tree in
+    let old = c.args.self.now in
+    let stood = subst (λ (h : HandlerState). Stands h.image t) c.self.view_is c.self.invariant.stands in
+    let alive = sym (ap (λ (h : HandlerState). h.session.died) c.self.view_is) ∙ c.if-self.false in
+    let none = sym (c.placed.ensures.place t stood) ∙ c.in-Err.is in
+    refused_gives old c.placed.new.self (FindOutput c.args.lock c.args.path) c.args.now c.refused-in-Err.result t c.in-Err.error stood c.placed.ensures.same
+    (place_refused t old.session (FindOutput c.args.lock c.args.path) c.args.lock c.args.path c.in-Err.error _ refl alive none) c.refused-in-Err.ensures
 
 pub returns-in-Some : goal.returns-in-Some
 returns-in-Some c =

@@ -1,11 +1,24 @@
-use Rattle.std.proofs.Common.{sym, ap, ◌∙◌, subst}
+use Rattle.std.proofs.Common.{refl, sym, ap, ◌∙◌, subst}
 use Rattle.ados_tree.specs.Stands.{Stands}
 use Rattle.ados_volume.specs.Shown.{Shown}
 use Rattle.ados_handler.specs.Session.{Session}
 use Rattle.ados_handler.specs.Handler.{HandlerState}
+use Rattle.ados_packet.specs.declared.packet.Packet.TheVariants.{FindUpdate}
+use Rattle.ados_handler.proofs.Moving.{refused_gives}
+use Rattle.ados_handler.proofs.Placed.{place_refused}
 use Rattle.ados_handler.proofs.Spotted.{update_opens, update_makes}
 use Rattle.ados_handler.proofs.Walked.{child_is_key}
 use Rattle.ados_handler.proofs.handler.Handler.find_update.Goals as goal
+
+pub returns-in-Err : goal.returns-in-Err
+returns-in-Err c =
+    let t = c.self.invariant.tree in
+    let old = c.args.self.now in
+    let stood = subst (λ (h : HandlerState). Stands h.image t) c.self.view_is c.self.invariant.stands in
+    let alive = sym (ap (λ (h : HandlerState). h.session.died) c.self.view_is) ∙ c.if-self.false in
+    let none = sym (c.placed.ensures.place t stood) ∙ c.in-Err.is in
+    refused_gives old c.placed.new.self (FindUpdate c.args.lock c.args.path) c.args.now c.refused-in-Err.result t c.in-Err.error stood c.placed.ensures.same
+    (place_refused t old.session (FindUpdate c.args.lock c.args.path) c.args.lock c.args.path c.in-Err.error _ refl alive none) c.refused-in-Err.ensures
 
 pub open_file-requires : goal.open_file-requires
 open_file-requires c t stands =

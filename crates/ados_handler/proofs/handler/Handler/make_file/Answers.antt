@@ -1,10 +1,10 @@
-use Rattle.std.proofs.Common.{rules, ◌≡◌, false, arith, sym, ap, ◌∙◌, subst, to_z, of_z, w32}
-use Rattle.std.proofs.lemmas.Int.{ints}
+use Rattle.std.proofs.Common.{rules, ◌≡◌, false, sym, ap, ◌∙◌, subst}
 use Rattle.ados_name.specs.Name.{IsName}
 use Rattle.ados_tree.specs.Stands.{Stands}
+use Rattle.ados_packet.specs.Numbers.{action_number}
 use Rattle.ados_handler.specs.Objects.{lacks}
 use Rattle.ados_handler.specs.Handler.{HandlerState}
-use Rattle.ados_handler.specs.Opening.{AnswersHandle}
+use Rattle.ados_handler.specs.steps.Opening.{AnswersHandle}
 use Rattle.ados_handler.proofs.FreeBlock.{none_free_lacks, not_lacking}
 use Rattle.ados_handler.proofs.Holding.{true_false}
 use Rattle.ados_handler.proofs.MakingFile.{can_make_in, made_opens, made_sound}
@@ -31,7 +31,6 @@ pub returns : goal.returns
 returns c =
     let sound = c.self.invariant in
     let room : lacks sound.tree 1 ≡ false = not_lacking _ (sym (c.has_room.ensures sound.tree (subst (λ (h : HandlerState). Stands h.image sound.tree) c.self.view_is sound.stands)) ∙ c.if-not-has_room.false) in
-    let same : to_z w32 (of_z w32 c.args.action) ≡ c.args.action = omega (arith, ints) in
-    let answers = subst (λ z. AnswersHandle z c.in-Ok.key c.args.exclusive c.reserve.new.self.held c.opened.new.handles.held c.opened.result) same c.opened.ensures in
-    made_opens _ _ c.args.dir c.args.name c.args.now c.in-Ok.key c.in-Ok.ensures.done.0 _ c.in-Ok.ensures.done.1 c.args.action c.args.exclusive _ _ _ answers c.reserve.ensures.held c.args.self.now _ c.self.view_is
+    let answers : AnswersHandle (action_number c.args.action) c.in-Ok.key c.args.exclusive c.reserve.new.self.held c.opened.new.handles.held c.opened.result = search rules in
+    made_opens _ _ c.args.dir c.args.name c.args.now c.in-Ok.key c.in-Ok.ensures.done.0 _ c.in-Ok.ensures.done.1 (action_number c.args.action) c.args.exclusive _ _ _ answers c.reserve.ensures.held c.args.self.now _ c.self.view_is
     sound.tree sound.stands room c.create.ensures.kept _ c.create.ensures.validated

@@ -1,8 +1,9 @@
-use Rattle.std.proofs.Common.{◌≡◌, ℕ, pos, List, Some, sym, ap, ◌∙◌, subst, refl}
+use Rattle.std.proofs.Common.{◌≡◌, ℕ, List, Some, sym, ap, ◌∙◌, subst, refl}
 use Rattle.ados_name.specs.Name.{IsName, first_fault}
 use Rattle.ados_tree.specs.Stands.{Stands}
 use Rattle.ados_tree.specs.Kept.{Kept}
 use Rattle.ados_tree.specs.Change.{disk_renamed}
+use Rattle.ados_packet.specs.declared.dos_error.DosError.TheVariants.{InvalidComponentName}
 use Rattle.ados_packet.specs.declared.packet.Packet.TheVariants.{RenameDisk}
 use Rattle.ados_packet.specs.declared.answer.Answer.{Answer}
 use Rattle.ados_handler.specs.Session.{Session}
@@ -21,7 +22,7 @@ returns-in-Err c =
     let stood = subst (λ (h : HandlerState). Stands h.image t) c.self.view_is c.self.invariant.stands in
     let alive = sym (ap (λ (h : HandlerState). h.session.died) c.self.view_is) ∙ c.if-self.false in
     let fault : first_fault c.args.name ≡ Some c.in-Err.field-0 = ap first_fault (sym c.bytes.ensures.value) ∙ c.in-Err.ensures.fault in
-    refused_gives c.args.self.now c.args.self.now (RenameDisk c.args.name) c.args.now c.refused-in-Err.result t (pos 210) stood refl
+    refused_gives c.args.self.now c.args.self.now (RenameDisk c.args.name) c.args.now c.refused-in-Err.result t InvalidComponentName stood refl
     (no_name_refused t c.args.self.now.session c.args.name c.in-Err.field-0 alive fault) c.refused-in-Err.ensures
 
 pub returns : goal.returns

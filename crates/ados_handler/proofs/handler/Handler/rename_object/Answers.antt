@@ -1,10 +1,11 @@
-use Rattle.std.proofs.Common.{◌≡◌, pos, None, option_map, rules, sym, ap, ◌∙◌, subst, refl}
+use Rattle.std.proofs.Common.{◌≡◌, pos, None, rules, sym, ap, ◌∙◌, subst, refl}
 use Rattle.ados_name.specs.Name.{IsName}
 use Rattle.ados_tree.specs.Tree.{Tree}
 use Rattle.ados_tree.specs.Stands.{Stands}
 use Rattle.ados_tree.specs.Keys.{HasDirectory, HasKey}
 use Rattle.ados_tree.specs.Kept.{Kept}
 use Rattle.ados_tree.specs.Change.{renamed}
+use Rattle.ados_packet.specs.Numbers.{error_number}
 use Rattle.ados_packet.specs.declared.packet.Packet.{Packet}
 use Rattle.ados_packet.specs.declared.packet.Packet.TheVariants.{RenameObject}
 use Rattle.ados_packet.specs.declared.answer.Answer.{Answer}
@@ -12,11 +13,11 @@ use Rattle.ados_packet.specs.declared.answer.Body.TheVariants.{Empty}
 use Rattle.ados_handler.specs.Session.{Session}
 use Rattle.ados_handler.specs.Meaning.{Meaning}
 use Rattle.ados_handler.specs.Handler.{HandlerState, IsSoundHandler}
-use Rattle.ados_handler.specs.Moves.{move_refusal}
+use Rattle.ados_handler.specs.steps.Moves.{move_refusal}
 use Rattle.ados_handler.proofs.Unlisting.{rename_keeps}
 use Rattle.ados_handler.proofs.Leaving.{leaves_boot}
 use Rattle.ados_handler.proofs.Meant.{sound_after}
-use Rattle.ados_handler.proofs.Moving.{can_rename, move_refused, no_refusal, refused_gives, rename_object_means, source_refused}
+use Rattle.ados_handler.proofs.Moving.{can_rename, move_refused, refused_gives, rename_object_means, source_refused}
 use Rattle.ados_handler.proofs.handler.Handler.rename_object.Goals as goal
 
 pub returns-in-Err : goal.returns-in-Err
@@ -26,7 +27,7 @@ returns-in-Err c =
     let stood : Stands old.image t = subst (λ (h : HandlerState). Stands h.image t) c.self.view_is c.self.invariant.stands in
     let alive = sym (ap (λ (h : HandlerState). h.session.died) c.self.view_is) ∙ c.if-self.false in
     let none = sym (c.source_and_place.ensures.found t stood) ∙ c.in-Err.is in
-    let told : ◌≡◌ {A = Answer} c.refused-in-Err.result (record { action = pos 17; res1 = pos 0; res2 = c.in-Err.error; body = Empty }) = search rules in
+    let told : ◌≡◌ {A = Answer} c.refused-in-Err.result (record { action = pos 17; res1 = pos 0; res2 = pos (error_number c.in-Err.error); body = Empty }) = search rules in
     refused_gives old c.source_and_place.new.self (RenameObject c.args.from_lock c.args.from c.args.to_lock c.args.to) c.args.now c.refused-in-Err.result t c.in-Err.error stood c.source_and_place.ensures.same
     (source_refused t old.session c.args.from_lock c.args.from c.args.to_lock c.args.to alive c.in-Err.error none) told
 
@@ -39,8 +40,8 @@ returns-in-Some c =
     let first = c.source_and_place.ensures.same in
     let found = sym (c.source_and_place.ensures.found t stood) ∙ c.in-Ok.is in
     let between : Stands c.source_and_place.new.self.image t = subst (λ (h : HandlerState). Stands h.image t) (sym first) stood in
-    let against = ap (λ (h : HandlerState). option_map pos (move_refusal t h.session c.in-Ok.found.0 c.in-Ok.found.1.0 c.in-Ok.found.1.1)) (sym first) ∙ sym (c.move_refusal.ensures.refusal t between) ∙ c.in-Some.is in
-    let told : ◌≡◌ {A = Answer} c.refused-in-Some.result (record { action = pos 17; res1 = pos 0; res2 = c.in-Some.error; body = Empty }) = search rules in
+    let against = ap (λ (h : HandlerState). move_refusal t h.session c.in-Ok.found.0 c.in-Ok.found.1.0 c.in-Ok.found.1.1) (sym first) ∙ sym (c.move_refusal.ensures.refusal t between) ∙ c.in-Some.is in
+    let told : ◌≡◌ {A = Answer} c.refused-in-Some.result (record { action = pos 17; res1 = pos 0; res2 = pos (error_number c.in-Some.error); body = Empty }) = search rules in
     refused_gives old c.move_refusal.new.self (RenameObject c.args.from_lock c.args.from c.args.to_lock c.args.to) c.args.now c.refused-in-Some.result t c.in-Some.error stood (c.move_refusal.ensures.same ∙ first)
     (move_refused t old.session c.args.from_lock c.args.from c.args.to_lock c.args.to alive c.in-Ok.found.0 c.in-Ok.found.1 found c.in-Some.error against) told
 
@@ -53,7 +54,7 @@ rename-requires c = λ t stands.
     can_rename c.self-2.inside.volume.image t stands c.source_and_place.new.self.session c.in-Ok.found.0 c.in-Ok.found.1.0 c.in-Ok.found.1.1
     (subst (λ (h : HandlerState). HasKey h.image c.in-Ok.found.0) (sym same) c.in-Ok.ensures.key)
     (subst (λ (h : HandlerState). HasDirectory h.image c.in-Ok.found.1.0) (sym same) c.in-Ok.ensures.directory) valid
-    (no_refusal _ (sym (c.move_refusal.ensures.refusal t between) ∙ none))
+    (sym (c.move_refusal.ensures.refusal t between) ∙ none)
 
 pub returns : goal.returns
 returns c =
@@ -68,7 +69,7 @@ returns c =
     let found = sym (c.source_and_place.ensures.found t stood) ∙ c.in-Ok.is in
     let between : Stands c.source_and_place.new.self.image t = subst (λ (h : HandlerState). Stands h.image t) (sym first) stood in
     let none : c.move_refusal.result ≡ None = c.in_default.is in
-    let free = no_refusal _ (ap (λ (h : HandlerState). option_map pos (move_refusal t h.session c.in-Ok.found.0 c.in-Ok.found.1.0 c.in-Ok.found.1.1)) (sym first) ∙ sym (c.move_refusal.ensures.refusal t between) ∙ none) in
+    let free = ap (λ (h : HandlerState). move_refusal t h.session c.in-Ok.found.0 c.in-Ok.found.1.0 c.in-Ok.found.1.1) (sym first) ∙ sym (c.move_refusal.ensures.refusal t between) ∙ none in
     let held : Session = record { locks = c.self-2.inside.locks.held; handles = c.self-2.inside.handles.held; died = c.self-2.inside.died } in
     let kept : held ≡ old.session = ap (λ (h : HandlerState). h.session) same in
     record {

@@ -2,7 +2,7 @@ use Rattle.std.proofs.Common.{◌≡◌, Bool, map}
 use Rattle.std.specs.Fn.{FnReturnsAt}
 use Rattle.std.specs.FinMap as numbered
 use Rattle.std.specs.List.{list_any}
-use Rattle.ados_handler.specs.Table.{IsTestBy}
+use Rattle.ados_handler.specs.steps.Table.{IsTestBy}
 use Rattle.ados_handler.proofs.table.Table.any.Given as goal
 
 -- what a test finds among the values that are left is what it finds among all

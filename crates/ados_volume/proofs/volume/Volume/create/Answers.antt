@@ -1,6 +1,6 @@
 use Rattle.std.proofs.Common.{subst}
 use Rattle.ados_tree.specs.Stands.{Stands}
-use Rattle.ados_entries.specs.Kinds.{content_of}
+use Rattle.change_entries.specs.Kinds.{content_of}
 use Rattle.ados_volume.specs.Shown.{Shown}
 use Rattle.ados_volume.proofs.Moved.{made_carried, shown_made}
 use Rattle.ados_volume.proofs.volume.Volume.create.Goals as goal

@@ -1,7 +1,7 @@
 use Rattle.std.proofs.Common.{subst}
 use Rattle.ados_tree.specs.Stands.{Stands}
 use Rattle.ados_tree.specs.Change.{grown}
-use Rattle.ados_contents.specs.Renewed.{NeedsMore}
+use Rattle.change_bytes.specs.Renewed.{NeedsMore}
 use Rattle.ados_volume.specs.Shown.{Shown}
 use Rattle.ados_volume.proofs.Refilled.{rewritten_stay, done_carried, shown_done}
 use Rattle.ados_volume.proofs.volume.Volume.grow.Goals as goal

@@ -3,7 +3,7 @@ use Rattle.ados_tree.specs.Tree.{root}
 use Rattle.ados_tree.specs.Stands.{Stands}
 use Rattle.ados_tree.specs.Change.{disk_renamed}
 use Rattle.ados_volume.specs.Shown.{Shown}
-use Rattle.ados_fields.proofs.Retells.{entry_not_root}
+use Rattle.change_fields.proofs.Retells.{entry_not_root}
 use Rattle.ados_volume.proofs.Children.{all_carried, changed_stay}
 use Rattle.ados_volume.proofs.volume.Volume.rename_disk.Goals as goal
 

@@ -2,7 +2,7 @@ use Rattle.std.proofs.Common.{◌+◌, length, max, subst}
 use Rattle.ados_tree.specs.Tree.{size_of}
 use Rattle.ados_tree.specs.Stands.{Stands}
 use Rattle.ados_tree.specs.Change.{written}
-use Rattle.ados_contents.specs.Renewed.{NeedsMore}
+use Rattle.change_bytes.specs.Renewed.{NeedsMore}
 use Rattle.ados_volume.specs.Shown.{Shown}
 use Rattle.ados_volume.proofs.Refilled.{written_stay, done_carried, shown_done}
 use Rattle.ados_volume.proofs.volume.Volume.write.Goals as goal

@@ -1,0 +1,25 @@
+# What the benchmarks share; they read it in. It gives them `here`, their own directory, and `room`, one for files that goes
+# when they end.
+set -e
+here=$(cd "$(dirname "$0")" && pwd)
+room=$(mktemp -d)
+trap 'rm -rf "$room"' EXIT
+
+# The program of a crate.
+program() { echo "$here/../crates/$1/out/$1"; }
+
+# Builds the program of a crate, and runs it once with these words and no input. Where BUILT is set, the program that an
+# earlier build or the gate has left is taken as it is.
+build() {
+    crate=$1
+    shift
+    if [ -n "$BUILT" ] && [ -x "$(program "$crate")" ]; then return; fi
+    (cd "$here/../crates/$crate" && rt run -- "$@" < /dev/null > "$room/log" 2>&1) || { cat "$room/log" >&2; exit 1; }
+}
+
+# Builds tools of this directory into the room.
+tools() {
+    for tool; do
+        rustc --edition 2021 -O -o "$room/$tool" "$here/$tool.rs"
+    done
+}

@@ -1,0 +1,40 @@
+//! The sizes of a volume.
+
+ghost use Rattle.std.specs.Prelude.{◌≡◌, ◌↔◌, IsTrue};
+ghost use Rattle.adf_block.specs.Image.{IsSize, page_count};
+
+use crate::layout::{BOOT_BLOCKS, FEWEST_BLOCKS, MOST_BLOCKS, PAGE_BITS};
+
+/// Whether a volume may have this many blocks: 16 to 101,602 (this project's own bounds: a root
+/// among the blocks, and pages that its 25 page longs can name).
+pub fn size_ok(blocks: u32) -> bool
+    ensures { IsTrue result ↔ IsSize blocks }
+{
+    FEWEST_BLOCKS <= blocks && blocks <= MOST_BLOCKS
+}
+
+/// How many bitmap pages a volume of this many blocks has. The boot blocks have no bit.
+pub fn page_count(blocks: u32) -> u32
+    requires { IsSize blocks }
+    ensures { result ≡ page_count blocks }
+{
+    (blocks - BOOT_BLOCKS).div_ceil(PAGE_BITS)
+}
+
+/// Why bytes are no image. The faults are tested in this order.
+#[derive(Clone, Copy, Debug, PartialEq, Eq)]
+pub enum SizeFault {
+    /// The length is no multiple of 512 bytes.
+    NotWholeBlocks,
+    /// There are under 16 blocks.
+    TooFewBlocks,
+    /// There are over 101,602 blocks.
+    TooManyBlocks,
+}
+
+/// The first fault of a size, with the bytes handed back.
+#[derive(Debug, Drop)]
+pub struct SizeRefused {
+    pub fault: SizeFault,
+    pub bytes: Vec<u8>,
+}

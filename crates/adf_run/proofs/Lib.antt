@@ -1,3 +1,0 @@
-pub mod Following
-pub mod Resting
-pub mod Runs

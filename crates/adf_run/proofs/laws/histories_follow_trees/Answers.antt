@@ -1,5 +1,0 @@
-use Rattle.adf_run.proofs.Following.{histories_follow_trees}
-use Rattle.adf_run.proofs.laws.histories_follow_trees.Goals as goal
-
-pub returns : goal.returns
-returns c = histories_follow_trees

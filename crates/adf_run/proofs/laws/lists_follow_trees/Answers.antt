@@ -1,5 +1,0 @@
-use Rattle.adf_run.proofs.Following.{lists_follow_trees}
-use Rattle.adf_run.proofs.laws.lists_follow_trees.Goals as goal
-
-pub returns : goal.returns
-returns c = lists_follow_trees

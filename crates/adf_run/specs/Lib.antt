@@ -1,5 +1,0 @@
-pub mod TreePort
-pub mod TreeLists
-pub mod Rests
-pub mod Runs
-pub mod Laws

@@ -1,0 +1,52 @@
+-- What it is to read fields off the front of bytes.
+use Rattle.std.specs.Prelude.{ℕ, ℤ, List, [], ◌∷◌, ◌++◌, Option, MatchOption}
+use Rattle.ados_name.specs.declared.Date3.{Date3}
+use Rattle.adf_script.specs.Grammar.{Field, Value, Number, Signed, Text, LongText, Zeros, SpellsFields}
+
+-- kinds of fields
+abbrev pub a_value : ℕ → List Field
+a_value n = Value n ∷ []
+
+abbrev pub a_number : ℕ → List Field
+a_number n = Number n ∷ []
+
+abbrev pub a_signed : ℤ → List Field
+a_signed z = Signed z ∷ []
+
+abbrev pub a_text : List ℕ → List Field
+a_text text = Text text ∷ []
+
+abbrev pub a_long_text : List ℕ → List Field
+a_long_text text = LongText text ∷ []
+
+abbrev pub a_buffer : List ℕ → List Field
+a_buffer buffer = Zeros buffer ∷ []
+
+-- a lock and a path
+abbrev pub an_object : ℕ × List ℕ → List Field
+an_object object = Value object.0 ∷ Text object.1 ∷ []
+
+abbrev pub a_date : Date3 → List Field
+a_date date = Number date.days ∷ Number date.minutes ∷ Number date.ticks ∷ []
+
+-- two locks, or a lock and a key
+abbrev pub a_pair : ℕ × ℕ → List Field
+a_pair pair = Value pair.0 ∷ Value pair.1 ∷ []
+
+-- a handle, and an offset with its mode
+abbrev pub a_target : ℕ × ℤ × ℤ → List Field
+a_target target = Value target.0 ∷ Signed target.1 ∷ Signed target.2 ∷ []
+
+module _ {A : Type 0} (values : List (Option ℕ)) (kind : A → List Field) (bytes : List ℕ) where
+  -- whatever fields follow, none of this kind are spelled in front of them
+  abbrev pub ReadsNone : Type 0
+  ReadsNone = (x : A) (fields : List Field) → SpellsFields values (kind x ++ fields) bytes → ⊥
+
+  -- these are, and what stands behind fields of this kind stands behind these
+  pub record Reads (x : A) (behind : List ℕ) : Type 0 where
+    pub spells : (fields : List Field) → SpellsFields values fields behind → SpellsFields values (kind x ++ fields) bytes
+    pub goes_on : (y : A) (fields : List Field) → SpellsFields values (kind y ++ fields) bytes → SpellsFields values fields behind
+
+  -- the fields to the end, where they are of this kind
+  abbrev pub ReadsToEnd : Option A → Type 0
+  ReadsToEnd found = MatchOption found ((x : A) → SpellsFields values (kind x) bytes → ⊥) (λ x. SpellsFields values (kind x) bytes)

@@ -1,9 +1,0 @@
-pub mod Rule
-pub mod Views
-pub mod Desks
-pub mod Entries
-pub mod Rings
-pub mod RingEnds
-pub mod Marks
-pub mod Ends
-pub mod Gathering

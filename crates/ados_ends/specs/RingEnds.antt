@@ -1,6 +1,0 @@
-use Rattle.rtrb.specs.declared.end.End.{End}
-use Rattle.std.specs.declared.alloc.Global.{Global}
-use Rattle.ados_ends.specs.Rings.{RingId}
-
-abbrev pub ring_of : {T P : Type 0} → End T Global P → RingId
-ring_of e = record { words = e.words; slots = e.slots; names = e.names; heap = e.heap }

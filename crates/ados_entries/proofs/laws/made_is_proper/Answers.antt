@@ -1,5 +1,0 @@
-use Rattle.ados_entries.proofs.ProperChanges.{made_is_proper}
-use Rattle.ados_entries.proofs.laws.made_is_proper.Goals as goal
-
-pub returns : goal.returns
-returns c = made_is_proper

@@ -1,5 +1,0 @@
-use Rattle.ados_entries.proofs.ProperChanges.{renamed_is_proper}
-use Rattle.ados_entries.proofs.laws.renamed_is_proper.Goals as goal
-
-pub returns : goal.returns
-returns c = renamed_is_proper

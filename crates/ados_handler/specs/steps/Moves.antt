@@ -1,0 +1,33 @@
+-- What a move of an object is refused with, behind its locks.
+use Rattle.std.specs.Prelude.{ℕ, not, ◌==◌, ◌&&◌, if◌then◌else◌, List, [], ◌∷◌, Option, Result, Ok, Err}
+use Rattle.ados_tree.specs.Tree.{Tree, root}
+use Rattle.ados_tree.specs.Walk.{child_of}
+use Rattle.ados_packet.specs.declared.dos_error.DosError.{DosError}
+use Rattle.ados_packet.specs.declared.dos_error.DosError.TheVariants.{InvalidLock, ObjectExists, ObjectInUse, ObjectWrongType}
+use Rattle.ados_handler.specs.Session.{Session, is_held_exclusively, is_lock}
+use Rattle.ados_handler.specs.Objects.{found, is_under, place_result, placed, walk_result}
+use Rattle.ados_handler.specs.Refusals.{first_refusal, is_some_and, refuse}
+
+-- two answers, or the error of the first that has one
+abbrev pub both : {A B E : Type 0} → Result A E → Result B E → Result (A × B) E
+both (Ok a) (Ok b) = Ok (a, b)
+both (Ok a) (Err e) = Err e
+both (Err e) b = Err e
+
+-- the object and the place of a move, or the error: of a lock that is not held, of the walk, or of the place
+abbrev pub source_and_place : Tree → Session → ℕ → List ℕ → ℕ → List ℕ → Result (ℕ × (ℕ × List ℕ)) DosError
+source_and_place t s from_lock from to_lock to =
+    if is_lock s from_lock && is_lock s to_lock then both (walk_result (found t s from_lock from)) (place_result (placed t s to_lock to))
+    else Err InvalidLock
+
+-- the refusals of a move, of an object into a directory under a name, and the first of them
+abbrev pub move_refusals : Tree → Session → ℕ → ℕ → List ℕ → List (Option DosError)
+move_refusals t s key dir name =
+    refuse ObjectWrongType (key == root t)
+    ∷ refuse ObjectExists (is_some_and (λ other. not (other == key)) (child_of t dir name))
+    ∷ refuse ObjectInUse (is_held_exclusively s key)
+    ∷ refuse ObjectInUse (is_under t key dir)
+    ∷ []
+
+abbrev pub move_refusal : Tree → Session → ℕ → ℕ → List ℕ → Option DosError
+move_refusal t s key dir name = first_refusal (move_refusals t s key dir name)

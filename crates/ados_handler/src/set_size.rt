@@ -1,0 +1,73 @@
+//! SET_FILE_SIZE.
+
+ghost use Rattle.std.specs.Prelude.{◌≡◌, MatchResult};
+ghost use Rattle.ados_tree.specs.Tree.{Tree, size_of};
+ghost use Rattle.ados_tree.specs.Stands.{Stands};
+ghost use Rattle.ados_tree.specs.Keys.{HasFileKey};
+ghost use Rattle.ados_tree.specs.Kept.{Kept};
+ghost use Rattle.ados_packet.specs.declared.packet.Packet.TheVariants.{SetFileSize};
+ghost use Rattle.ados_handler.specs.Handler.{HandlerGives};
+ghost use Rattle.ados_handler.specs.steps.Files.{IsResized, IsUnresized};
+
+use crate::handler::Handler;
+use crate::target::{number_within, target_of};
+use ados_name::Date3;
+use ados_packet::{Action, Answer, Body, DosError};
+use ados_tree::Full;
+use ados_volume::Volume;
+
+/// The largest size that a SET_FILE_SIZE may ask for.
+const LARGEST: u32 = 2_147_483_647;
+
+impl Handler {
+    /// SET_FILE_SIZE.
+    pub(crate) fn set_file_size(
+        &mut self,
+        handle: u32,
+        offset: i32,
+        mode: i32,
+        now: Date3,
+    ) -> Answer
+        ensures { HandlerGives self.old (SetFileSize handle offset mode) now self.new result }
+    {
+        if self.died {
+            return Answer::refused(Action::SetFileSize, DosError::DeviceNotMounted);
+        }
+        let Some(hold) = self.hold_of(handle) else {
+            return Answer::refused(Action::SetFileSize, DosError::InvalidLock);
+        };
+        if self.file_protection(hold.key).denies_write() {
+            return Answer::refused(Action::SetFileSize, DosError::WriteProtected);
+        }
+        let held = self.file_size(hold.key);
+        let target = target_of(hold.position, held, offset, mode);
+        let Some(size) = number_within(target, LARGEST) else {
+            return Answer::refused(Action::SetFileSize, DosError::SeekError);
+        };
+        match resize(&mut self.volume, hold.key, held, size, now) {
+            Ok(()) => {}
+            Err(Full) => return Answer::refused(Action::SetFileSize, DosError::DiskFull),
+        }
+        self.handles.keep_within(hold.key, size);
+        Answer::done(Action::SetFileSize, Body::Empty)
+    }
+}
+
+/// Cuts a file that holds so many bytes, or puts zeros behind them. With the same size nothing changes.
+fn resize(volume: &mut Volume, key: u32, held: u32, size: u32, moment: Date3) -> Result<(), Full>
+    requires file { HasFileKey volume.old.image key }
+    requires held { (t : Tree) → Stands volume.old.image t → held ≡ size_of t key }
+    ensures done { MatchResult result (λ _. IsResized volume.old volume.new key size moment) (λ _. IsUnresized volume.old volume.new key size) }
+    ensures kept { Kept volume.old.image volume.new.image }
+    ensures same { (t : Tree) → Stands volume.old.image t → size ≡ size_of t key → volume.new.image ≡ volume.old.image }
+    ensures validated { volume.new.was_validated ≡ volume.old.was_validated }
+{
+    if size == held {
+        return Ok(());
+    }
+    if size < held {
+        volume.cut(key, size, moment);
+        return Ok(());
+    }
+    volume.grow(key, size, moment)
+}

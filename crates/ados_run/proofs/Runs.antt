@@ -1,0 +1,50 @@
+-- A run over the volume that `check` answered.
+use Rattle.std.proofs.Common.{◌≡◌, ℕ, Bool, true, false, List, ap, ◌∙◌, subst}
+use Rattle.ados_name.specs.declared.Date3.{Date3}
+use Rattle.ados_tree.specs.Tree.{Tree}
+use Rattle.ados_tree.specs.Stands.{Stands}
+use Rattle.ados_tree.specs.Accepted.{Accepts}
+use Rattle.ados_tree.proofs.OneTree.{one_tree}
+use Rattle.ados_port.specs.Port.{PortState, opening_port}
+use Rattle.ados_port.specs.History.{PortHistory}
+use Rattle.ados_port.specs.Step.{Step}
+use Rattle.ados_port.specs.Outcome.{Outcome}
+use Rattle.ados_packet.specs.declared.packet.Packet.{Packet}
+use Rattle.ados_packet.specs.declared.answer.Answer.{Answer}
+use Rattle.ados_handler.specs.Session.{opening_session}
+use Rattle.ados_handler.specs.Handler.{HandlerState, HandlerGives}
+use Rattle.ados_run.specs.TreePort.{handler_died}
+use Rattle.ados_run.specs.Runs.{RunsVolume, port_over}
+use Rattle.ados_run.proofs.Following.{histories_follow_trees}
+use Rattle.ados_run.proofs.Resting.{dead_handlers_rest}
+
+-- an accepted image stands for a tree
+accepted_tree : (image checked : List ℕ) (was_validated : Bool) → Accepts image was_validated checked → (t : Tree) × Stands checked t
+accepted_tree image checked false a = a.2
+accepted_tree image checked true a = (a.1.0, a.1.1)
+
+-- the opening handler, of which the image, the validation and the holds are told apart
+pub opening_handler : (handler : HandlerState) (image : List ℕ) (was_validated : Bool) → handler.image ≡ image → handler.was_validated ≡ was_validated → handler.session ≡ opening_session
+    → handler ≡ record { image = image; was_validated = was_validated; session = opening_session }
+opening_handler handler image was_validated i v s j = record { image = i j; was_validated = v j; session = s j }
+
+pub runs_volume : (image : List ℕ) (clients : ℕ) (steps : List (Step Packet Date3)) (outcomes : List (Outcome Packet Answer)) (closing : PortState HandlerState Packet Answer)
+    (checked : List ℕ) (was_validated : Bool) → Accepts image was_validated checked
+    → (handler : HandlerState) → handler ≡ record { image = checked; was_validated = was_validated; session = opening_session }
+    → (opening : PortState HandlerState Packet Answer) → opening ≡ opening_port handler clients
+    → PortHistory HandlerGives handler_died opening steps outcomes closing → RunsVolume image clients steps outcomes closing
+runs_volume image clients steps outcomes closing checked was_validated accepted handler is opening opened h =
+    let first : PortState HandlerState Packet Answer = port_over checked was_validated clients in
+    let from_first : PortHistory HandlerGives handler_died first steps outcomes closing =
+    subst (λ (p : PortState HandlerState Packet Answer). PortHistory HandlerGives handler_died p steps outcomes closing) (opened ∙ ap (λ (s : HandlerState). opening_port s clients) is) h in
+    let (t, stood) = accepted_tree image checked was_validated accepted in
+    record {
+      checked = checked;
+      was_validated = was_validated;
+      accepted = accepted;
+      tree = t;
+      stands = stood;
+      only = λ other stands. one_tree checked other t stands stood;
+      follows = histories_follow_trees t first steps outcomes closing stood from_first;
+      dies = dead_handlers_rest first steps outcomes closing from_first;
+    }

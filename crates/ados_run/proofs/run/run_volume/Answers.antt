@@ -1,0 +1,16 @@
+use Rattle.std.proofs.Common.{ap, ◌∙◌}
+use Rattle.ados_handler.specs.Handler.{HandlerState}
+use Rattle.ados_run.proofs.Runs.{opening_handler, runs_volume}
+use Rattle.ados_run.proofs.run.run_volume.Goals as goal
+
+pub returns-in-Ok-run : goal.returns-in-Ok-run
+returns-in-Ok-run c =
+    runs_volume c.args.image c.args.clients c.args.steps.items c.in-Ok-run.done.outcomes.items c.in-Ok-run.done.exchange
+    c.in_ok-volume.volume.image c.in_ok-volume.volume.was_validated c.in_ok-volume.ensures
+    c.new-handler.result (opening_handler c.new-handler.result c.in_ok-volume.volume.image c.in_ok-volume.volume.was_validated c.new-handler.ensures.image c.new-handler.ensures.validated c.new-handler.ensures.session)
+    c.in-Ok.exchange c.in-Ok.ensures c.in-Ok-run.ensures.history
+
+pub returns-in-Err-run : goal.returns-in-Err-run
+returns-in-Err-run c =
+    let same = ap (λ (s : HandlerState). s.image) (c.into_server.ensures ∙ ap (λ p. p.server) (c.in-Err-run.ensures.history.0 ∙ c.in-Ok.ensures)) ∙ c.new-handler.ensures.image in
+    rw (c.no_memory-in-Err-run.ensures, same) (c.in_ok-volume.volume.was_validated, c.in_ok-volume.ensures)

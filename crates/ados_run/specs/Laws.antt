@@ -1,0 +1,42 @@
+-- Laws over the definitions.
+use Rattle.std.specs.Prelude.{◌≡◌, ℕ, List}
+use Rattle.ados_name.specs.declared.Date3.{Date3}
+use Rattle.ados_tree.specs.Tree.{Tree}
+use Rattle.ados_tree.specs.Stands.{Stands}
+use Rattle.ados_tree.specs.Accepted.{IsRefusal}
+use Rattle.ados_tree.specs.declared.fault.FaultKind.TheVariants.{NoMemory}
+use Rattle.ados_tree.specs.declared.fault.VolumeFault.{VolumeFault}
+use Rattle.ados_port.specs.Port.{PortState}
+use Rattle.ados_port.specs.History.{PortHistory}
+use Rattle.ados_port.specs.Lawful.{ClientLists, Lawful}
+use Rattle.ados_port.specs.Serving.{Serving}
+use Rattle.ados_port.specs.Step.{Step}
+use Rattle.ados_port.specs.Outcome.{Outcome}
+use Rattle.ados_packet.specs.declared.packet.Packet.{Packet}
+use Rattle.ados_packet.specs.declared.answer.Answer.{Answer}
+use Rattle.ados_handler.specs.Handler.{HandlerState, HandlerGives}
+use Rattle.ados_run.specs.TreePort.{FollowsTree, handler_died}
+use Rattle.ados_run.specs.TreeLists.{ListsFollowTree}
+use Rattle.ados_run.specs.Rests.{RestsOnceDead}
+
+-- a history of a handler's port, also of one in use, follows the tree that the handler's image stood for
+abbrev pub HistoriesFollowTrees : Type 0
+HistoriesFollowTrees =
+    (t : Tree) (opening : PortState HandlerState Packet Answer) (steps : List (Step Packet Date3)) (outcomes : List (Outcome Packet Answer)) (closing : PortState HandlerState Packet Answer)
+    → Stands opening.server.image t → PortHistory HandlerGives handler_died opening steps outcomes closing → FollowsTree t opening steps outcomes closing
+
+-- where the lists of a running handler's port are lawful, they follow the tree that its opening image stood for
+abbrev pub ListsFollowTrees : Type 0
+ListsFollowTrees =
+    (t : Tree) (opening : HandlerState) (clients : List (ClientLists Packet Answer)) (served : List (Serving Packet Date3 Answer)) (unanswered : List (ℕ × Packet)) (closing : HandlerState)
+    → Stands opening.image t → Lawful HandlerGives opening clients served unanswered closing → ListsFollowTree t opening clients served unanswered closing
+
+-- in a history of a handler's port nothing is accepted or changed once the handler has died
+abbrev pub DeadHandlersRest : Type 0
+DeadHandlersRest =
+    (opening : PortState HandlerState Packet Answer) (steps : List (Step Packet Date3)) (outcomes : List (Outcome Packet Answer)) (closing : PortState HandlerState Packet Answer)
+    → PortHistory HandlerGives handler_died opening steps outcomes closing → RestsOnceDead opening steps outcomes closing
+
+-- an image that stands for a tree is refused only for want of memory
+abbrev pub TreesReadBack : Type 0
+TreesReadBack = (image : List ℕ) (t : Tree) (fault : VolumeFault) → Stands image t → IsRefusal image fault → fault.kind ≡ NoMemory

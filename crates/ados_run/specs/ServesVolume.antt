@@ -1,0 +1,37 @@
+-- What it comes to when scripts are run as clients of a handler over a volume.
+use Rattle.std.specs.Prelude.{◌≡◌, ℕ, ◌+◌, Bool, List, length, Some, slice_get}
+use Rattle.ados_name.specs.declared.Date3.{Date3}
+use Rattle.ados_tree.specs.Tree.{Tree}
+use Rattle.ados_tree.specs.Stands.{Stands}
+use Rattle.ados_port.specs.Lawful.{ClientLists}
+use Rattle.ados_port.specs.Serving.{Serving}
+use Rattle.ados_port.specs.Ends.{AllAt}
+use Rattle.ados_packet.specs.declared.packet.Packet.{Packet}
+use Rattle.ados_packet.specs.declared.answer.Answer.{Answer}
+use Rattle.ados_handler.specs.Session.{opening_session}
+use Rattle.ados_handler.specs.Handler.{HandlerState}
+use Rattle.adf_script.specs.declared.ending.ClientEnding.{ClientEnding}
+use Rattle.adf_script.specs.Spoken.{Spoken}
+use Rattle.ados_run.specs.TreeLists.{ListsFollowTree}
+
+-- there is a client for each script, and its text tells of that script by what the client put and took
+abbrev pub EachSpeaks : List (List ℕ) → List (ClientLists Packet Answer) → List (List ℕ × ClientEnding) → Type 0
+EachSpeaks scripts clients told =
+    (length clients ≡ length scripts) × (length told ≡ length scripts)
+    × ((place : ℕ) (script : List ℕ) → slice_get scripts place ≡ Some script
+    → (lists : ClientLists Packet Answer) × (end : List ℕ × ClientEnding) × (knows : Bool) × (slice_get clients place ≡ Some lists) × (slice_get told place ≡ Some end)
+    × Spoken (place + 1) script lists.put lists.taken knows end.0 end.1)
+
+-- The volume's image stands for exactly one tree. Each client's text tells of its script, and what all of them put and took is
+-- one history from that tree on, in which each packet was served at this moment and answered as it is meant. At its end the
+-- image stands for the tree that it led to
+pub record ServesVolume (image : List ℕ) (was_validated : Bool) (scripts : List (List ℕ)) (moment : Date3) (told : List (List ℕ × ClientEnding)) (closing : HandlerState) : Type 0 where
+  pub tree : Tree
+  pub stands : Stands image tree
+  pub only : (other : Tree) → Stands image other → other ≡ tree
+  pub clients : List (ClientLists Packet Answer)
+  pub served : List (Serving Packet Date3 Answer)
+  pub unanswered : List (ℕ × Packet)
+  pub speaks : EachSpeaks scripts clients told
+  pub moments : AllAt moment served
+  pub follows : ListsFollowTree tree (record { image = image; was_validated = was_validated; session = opening_session }) clients served unanswered closing

@@ -1,0 +1,15 @@
+//! The whole handler in one call: an image is checked and port steps are run at a handler over its volume, or clients'
+//! scripts are run over a volume, each on a thread of its own.
+#![tactic(auto)]
+
+mod laws;
+mod run;
+mod serve;
+#[cfg(test)]
+mod serve_tests;
+#[cfg(test)]
+mod tests;
+
+pub use laws::{dead_handlers_rest, histories_follow_trees, lists_follow_trees, trees_read_back};
+pub use run::{RunFault, run_volume};
+pub use serve::{VolumeServed, serve_volume};

@@ -1,9 +1,0 @@
-pub mod Shown
-pub mod Reached
-pub mod Headers
-pub mod Pointed
-pub mod SoundFile
-pub mod Linked
-pub mod UpperNames
-pub mod Marked
-pub mod Entered

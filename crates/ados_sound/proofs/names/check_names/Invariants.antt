@@ -1,5 +1,0 @@
-use Rattle.ados_sound.proofs.Entered.{AreEntered}
-use Rattle.ados_sound.proofs.names.check_names.Given as goal
-
-abbrev pub invariant-loop-block : goal.invariant-loop-block
-invariant-loop-block l = AreEntered l.image l.marks l.block l.names

@@ -1,7 +1,0 @@
-use Rattle.std.proofs.Common.{List}
-use Rattle.ados_server.specs.History.{Serving}
-use Rattle.ados_ends.specs.Ends.{Serves}
-use Rattle.ados_threads.proofs.serve.serve_until_ended.Given as goal
-
-abbrev pub invariant-loop : goal.invariant-loop
-invariant-loop g l = (xs : List (Serving g.row.S-Request.Denot g.row.S-Moment.Denot g.row.S-Reply.Denot)) × Serves g.S.Server.gives l.moment l.fn.handler xs l.handler

@@ -1,9 +1,0 @@
-use Rattle.std.proofs.Common.{◌≡◌, ◌++◌, map}
-use Rattle.ados_threads.proofs.serve.start_clients.Given as goal
-
-abbrev pub invariant-loop-end : goal.invariant-loop-end
-invariant-loop-end g l = record {
-  all : l.yielded ++ l.end-iterator.rest.items ≡ l.fn.ends.items;
-  ends : map (λ h. h.promise.end.value) l.handles.items ≡ l.yielded;
-  jobs : map (λ h. h.promise.job.value) l.handles.items ++ l.jobs.items ≡ l.fn.jobs.items;
-}

@@ -1,0 +1,16 @@
+use Rattle.std.proofs.Common.{sym, ap, ◌∙◌}
+use Rattle.ados_packet.specs.declared.info.FileInfo.{FileInfo}
+use Rattle.ados_tree.proofs.Nodes.{some_in}
+use Rattle.adf_listing.proofs.Listed.{told_directory}
+use Rattle.bench.proofs.Objects.{told_file}
+use Rattle.bench.proofs.told.describe.Goals as goal
+
+pub returns-clause-directory : goal.returns-clause-directory
+returns-clause-directory c = λ h t s.
+    let n = some_in (t.nodes c.args.key) (c.requires t s) in
+    told_directory t c.args.key n.0 n.1 (sym (ap (λ (info : FileInfo). info.entry_type) (c.examine.ensures t n.0 s n.1)) ∙ h)
+
+pub returns-clause-file : goal.returns-clause-file
+returns-clause-file c = λ h t s.
+    let n = some_in (t.nodes c.args.key) (c.requires t s) in
+    told_file t c.args.key n.0 n.1 (sym (ap (λ (info : FileInfo). info.entry_type) (c.examine.ensures t n.0 s n.1)) ∙ h)

@@ -1,0 +1,59 @@
+//! Times what its first word names: round trips through a port, the check and the reading of a volume, changes of a volume,
+//! or packets. The scripts in `bench/`, at the top of the repository, run it and say what it tells.
+#![tactic(auto)]
+
+mod blank;
+mod by_path;
+mod changes;
+mod packets;
+mod port;
+mod told;
+mod volume;
+
+use anyhow::{Result, bail};
+use std::env;
+
+/// What the words may be. `all` times each thing, with the counts that are taken where no word gives another.
+const USAGE: &str =
+    "usage: bench port [TRIPS] | volume [FILE] | changes [FILES [DIRS]] | packets [ROUNDS [LOCKS [ENTRIES]]] | all";
+
+/// A number from a word, or another where there is no word.
+fn number(word: Option<String>, otherwise: u32) -> Result<u32> {
+    match word {
+        Some(word) => Ok(word.as_str().parse::<u32>()?),
+        None => Ok(otherwise),
+    }
+}
+
+fn main(rt: HostRuntime) -> Result<()> {
+    let alloc = rt.alloc();
+    let mut words = env::args(&rt)?.skip(1);
+    match words.next().as_deref() {
+        Some("port") => port::time(&rt, alloc, number(words.next(), port::TRIPS)?),
+        Some("volume") => volume::time(&rt, alloc, words.next().as_deref()),
+        Some("changes") => {
+            let files = number(words.next(), changes::FILES)?;
+            let dirs = number(words.next(), changes::DIRS)?;
+            changes::time(&rt, alloc, files, dirs)
+        }
+        Some("packets") => {
+            let rounds = number(words.next(), packets::ROUNDS)?;
+            let locks = number(words.next(), packets::LOCKS)?;
+            let entries = number(words.next(), packets::ENTRIES)?;
+            packets::time(&rt, alloc, rounds, locks, entries)
+        }
+        Some("all") => {
+            port::time(&rt, alloc, port::TRIPS)?;
+            volume::time(&rt, alloc, None)?;
+            changes::time(&rt, alloc, changes::FILES, changes::DIRS)?;
+            packets::time(
+                &rt,
+                alloc,
+                packets::ROUNDS,
+                packets::LOCKS,
+                packets::ENTRIES,
+            )
+        }
+        _ => bail!("{USAGE}"),
+    }
+}

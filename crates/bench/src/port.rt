@@ -1,0 +1,152 @@
+//! Times round trips through a port: each client puts a number and takes its reply before the next.
+ghost use Rattle.std.specs.Prelude.{◌≡◌, ◌==◌, ◌||◌, ◌<◌, false, IfOk, length};
+ghost use Rattle.ados_port.specs.Grown.{Grown};
+
+use ados_port::{Client, ClientEnd, Server, open_port, serve_clients};
+use anyhow::{Result, bail};
+use std::alloc::{AllocError, Global};
+use std::rt::Clock;
+use std::sync::Wait;
+use std::thread;
+use std::thread::Threads;
+use std::time::Instant;
+
+/// How many round trips each client makes where no word says.
+pub(crate) const TRIPS: u32 = 1_000;
+
+/// Answers each number with itself, and dies at 0.
+#[derive(Drop)]
+struct Echo {
+    died: bool,
+}
+
+impl Server for Echo {
+    type Request = u64;
+
+    type Reply = u64;
+
+    type Moment = u64;
+
+    ghost use Rattle.std.specs.Prelude.{◌≡◌, ◌==◌, ◌||◌};
+    ghost use Rattle.bench.specs.Echoes.{stays, closes};
+
+    ghost gives = { λ old request moment new reply. (reply ≡ request) × (new.died ≡ (old.died || (request == 0))) };
+
+    ghost has_died = { λ s. s.died };
+
+    ghost is_closing = { λ r. r == 0 };
+
+    fn serve(&mut self, request: u64, moment: u64) -> u64 {
+        let _ = moment;
+        self.died = self.died || request == 0;
+        request
+    }
+
+    fn died(&self) -> bool {
+        self.died
+    }
+
+    fn closes(reply: &u64) -> bool {
+        *reply == 0
+    }
+
+    ghost stays_dead = { λ old new request moment reply given dead. stays old.died new.died request given.1 dead };
+
+    ghost closes_dead = { λ old new request moment reply given closing. closes old.died new.died request reply given.0 given.1 closing };
+}
+
+/// Makes round trips.
+#[derive(Drop)]
+struct RoundTrips {
+    count: u64,
+}
+
+impl Client<Echo> for RoundTrips {
+    type Report = u64;
+
+    ghost does = { λ job old new report. Unit {0} };
+
+    /// Answers how many replies were right.
+    fn run<R: Wait>(self, rt: &R, end: &mut ClientEnd<Echo>) -> u64 {
+        let mut right = 0u64;
+        for number in 0..self.count {
+            if trip(rt, end, number.wrapping_add(1)) {
+                right = right.wrapping_add(1);
+            }
+        }
+        right
+    }
+}
+
+/// Puts a number, and waits for its reply.
+fn trip<R: Wait>(rt: &R, end: &mut ClientEnd<Echo>, number: u64) -> bool
+    ensures { Grown end.old end.new }
+{
+    match end.put(rt, number) {
+        Ok(_) => take_one(rt, end, number),
+        Err(_) => false,
+    }
+}
+
+/// Takes the next reply, and answers whether it is this number.
+fn take_one<R: Wait>(rt: &R, end: &mut ClientEnd<Echo>, number: u64) -> bool
+    ensures { Grown end.old end.new }
+{
+    for _ in rt.forever() {
+        if let Some(reply) = end.take() {
+            return reply.answer == number;
+        }
+        thread::yield_now();
+    }
+    unreachable!()
+}
+
+/// The jobs of so many clients.
+fn jobs(alloc: Global, clients: usize, trips: u64) -> Result<Vec<RoundTrips>, AllocError>
+    ensures { IfOk result (λ v. length v.items ≡ clients) }
+{
+    let mut jobs = Vec::new(alloc);
+    for _ in 0..clients {
+        jobs.push(RoundTrips { count: trips })?;
+    }
+    Ok(jobs)
+}
+
+/// The round trips a second of so many clients.
+fn trips_a_second<R: Threads + Wait + Clock + Copy + Send + Drop + 'static>(
+    rt: &R,
+    alloc: Global,
+    clients: usize,
+    trips: u64,
+) -> Result<u128>
+    requires { 0 < clients }
+{
+    let jobs = jobs(alloc, clients, trips)?;
+    let Ok((handler, ends)) = open_port(alloc, Echo { died: false }, clients, 8) else {
+        bail!("no port");
+    };
+    let start = Instant::now(rt)?;
+    let Ok(served) = serve_clients(rt, alloc, handler, ends, jobs, 0) else {
+        bail!("a fault");
+    };
+    let micros = start.elapsed(rt)?.as_micros();
+    let mut trips = 0u128;
+    for report in served.reports.iter() {
+        trips = trips.wrapping_add(*report as u128);
+    }
+    Ok(trips.wrapping_mul(1_000_000) / micros.max(1))
+}
+
+/// Tells nothing on standard output. The figures go to standard error, since they are others each time: the round trips a
+/// second of 1, 2 and 4 clients, each of so many round trips.
+pub(crate) fn time<R: Threads + Wait + Clock + Eprint + Copy + Send + Drop + 'static>(
+    rt: &R,
+    alloc: Global,
+    trips: u32,
+) -> Result<()> {
+    for clients in [1usize, 2, 4] {
+        let trips = trips_a_second(rt, alloc, clients, trips as u64)?;
+        eprintln!(rt; "port {clients} {trips}")?;
+    }
+    Ok(())
+}

@@ -1,0 +1,102 @@
+-- What a volume tells of a tree decides whether a change may be made.
+use Rattle.std.proofs.Common.{◌≡◌, ◌≢◌, ℕ, ℤ, nat_eq, Bool, true, false, inl, inr, List, [], ◌∷◌, Contains, Option, Some, None, IsSome, is_some, option_map, ok_or, not, refl, sym, ap, ◌∙◌, subst}
+use Rattle.std.proofs.lemmas.Bool.{false≢true, true≢false}
+use Rattle.ados_name.specs.Name.{Same}
+use Rattle.ados_tree.specs.Tree.{Content, Node, Tree, root, entries, name_of, parent_of, size_of}
+use Rattle.ados_tree.specs.Tree.Content.{Directory, File}
+use Rattle.ados_tree.specs.Stands.{Stands}
+use Rattle.std.specs.Result.{result_ok}
+use Rattle.ados_name.specs.Path.{steps, steps_along}
+use Rattle.ados_tree.specs.declared.path_fault.WalkFault.TheVariants.{ObjectNotFound}
+use Rattle.ados_tree.specs.Walk.{and_then, child_of, walk, walk_steps}
+use Rattle.ados_tree.specs.Keys.{HasDirectory, HasFileKey, HasKey}
+use Rattle.ados_tree.proofs.Nodes.{some_in, root_or_parent}
+use Rattle.change_bytes.proofs.Renewed.{file_node}
+use Rattle.change_entries.specs.Conditions.{IsNewName, IsUnder}
+use Rattle.change_entries.specs.Conditions.IsUnder.{itself, by_parent}
+use Rattle.ados_packet.specs.declared.info.FileInfo.{FileInfo}
+use Rattle.ados_volume.specs.Examined.{entry_type, file_info}
+use Rattle.ados_volume.proofs.Looking.{is_child, root_directory}
+use mir.Val.{of_z}
+use mir.Syntax.{w32}
+
+-- ---- files and directories
+
+-- whether this is the type of a file, by the bits of -3
+abbrev pub tells_file : ℤ → Bool
+tells_file told = nat_eq (of_z w32 told) 4294967293
+
+file_content : (parent : Option ℕ) (content : Content) → tells_file (entry_type parent content) ≡ true → (bytes : List ℕ) × (content ≡ File bytes)
+file_content None content e = absurd (false≢true e)
+file_content (Some dir) (Directory keys) e = absurd (false≢true e)
+file_content (Some dir) (File bytes) e = (bytes, refl)
+
+directory_content : (parent : Option ℕ) (dir : ℕ) (content : Content) → parent ≡ Some dir → tells_file (entry_type parent content) ≡ false → (keys : List ℕ) × (content ≡ Directory keys)
+directory_content None dir content p e = absurd (cc p)
+directory_content (Some above) dir (Directory keys) p e = (keys, refl)
+directory_content (Some above) dir (File bytes) p e = absurd (true≢false e)
+
+held : (o : Option Node) (node : Node) (content : Content) → o ≡ Some node → node.content ≡ content → option_map (λ n. n.content) o ≡ Some content
+held o node content at e = rw at (ap Some e)
+
+module _ (image : List ℕ) (key : ℕ) (info : FileInfo) (here : (t : Tree) (node : Node) → Stands image t → t.nodes key ≡ Some node → info ≡ file_info t.format key node) where
+  type_here : (b : Bool) → tells_file info.entry_type ≡ b → (t : Tree) (node : Node) → Stands image t → t.nodes key ≡ Some node → tells_file (entry_type node.parent node.content) ≡ b
+  type_here b e t node s at = subst (λ (i : FileInfo). tells_file i.entry_type ≡ b) (here t node s at) e
+
+  pub file_key : HasKey image key → tells_file info.entry_type ≡ true → HasFileKey image key
+  file_key has e t s =
+      let n = some_in (t.nodes key) (has t s) in
+      let f = file_content n.0.parent n.0.content (type_here true e t n.0 s n.1) in
+      (f.0, held (t.nodes key) n.0 (File f.0) n.1 f.1)
+
+  pub directory_key : HasKey image key → tells_file info.entry_type ≡ false → HasDirectory image key
+  directory_key has e t s =
+      let n = some_in (t.nodes key) (has t s) in
+      elim (root_or_parent t s.proper key n.0 n.1) [
+        | inl r ↦ root_directory image t s key r
+        | inr p ↦ let d = directory_content n.0.parent p.0 n.0.content p.1 (type_here false e t n.0 s n.1) in (d.0, held (t.nodes key) n.0 (Directory d.0) n.1 d.1)
+      ]
+
+  -- the size that is told of a file
+  pub size_told : HasFileKey image key → (t : Tree) → Stands image t → info.size ≡ size_of t key
+  size_told file t s = let f = file_node image t s key file in ap (λ (i : FileInfo). i.size) (here t f.node s f.at) ∙ rw f.at refl
+
+pub file_is_key : (image : List ℕ) (key : ℕ) → HasFileKey image key → HasKey image key
+file_is_key image key file t s = let f = file_node image t s key file in rw f.at refl
+
+-- ---- entries
+
+pub not_some : (o : Option ℕ) (b : Bool) → is_some o ≡ not b → b ≡ true → None ≡ o
+not_some None b e h = refl
+not_some (Some k) b e h = absurd (true≢false (e ∙ ap not h))
+
+module _ (image : List ℕ) (t : Tree) (s : Stands image t) (dir : ℕ) (name : List ℕ) where
+  -- where there is no child of the name, no entry has it
+  pub none_is_new : None ≡ child_of t dir name → IsNewName t dir name
+  none_is_new e k c same = let both : None ≡ Some k = e ∙ is_child image t s dir k name c same in absurd (cc both)
+
+  -- where the child of the name is this one, no other entry has it
+  pub other_is_free : (key : ℕ) → Some key ≡ child_of t dir name → (k : ℕ) → Contains (entries t dir) k → k ≢ key → ¬ Same (name_of t k) name
+  other_is_free key e k c other same = let both : Some key ≡ Some k = e ∙ is_child image t s dir k name c same in other (sym (cc both))
+
+-- ---- parents
+
+-- an object that is not the root has one
+pub has_parent : (image : List ℕ) (t : Tree) (s : Stands image t) (key : ℕ) → IsSome (t.nodes key) → key ≢ root t → (dir : ℕ) × (parent_of t key ≡ Some dir)
+has_parent image t s key has other =
+    let n = some_in (t.nodes key) has in
+    elim (root_or_parent t s.proper key n.0 n.1) [ inl r ↦ absurd (other r) | inr p ↦ (p.0, rw n.1 p.1) ]
+
+-- the path `/` leads to the parent
+pub walked_up : (t : Tree) (key : ℕ) (path : List ℕ) → path ≡ 47 ∷ [] → result_ok (walk t key path) ≡ parent_of t key
+unfolding steps steps_along
+walked_up t key path e = ap (λ (p : List ℕ). result_ok (walk t key p)) e ∙ go (parent_of t key)
+  where
+    go : (o : Option ℕ) → result_ok (and_then (ok_or o ObjectNotFound) (λ next. walk_steps t next [] ObjectNotFound)) ≡ o
+    go None = refl
+    go (Some dir) = refl
+
+-- what is under an object is that object, or its parent is under it
+pub parent_under : (t : Tree) (above key dir : ℕ) → parent_of t key ≡ Some dir → key ≢ above → IsUnder t above key → IsUnder t above dir
+parent_under t above key dir p other (itself e) = absurd (other e)
+parent_under t above key dir p other (by_parent {dir = d} q under) = let same : Some d ≡ Some dir = sym q ∙ p in subst (IsUnder t above) (cc same) under

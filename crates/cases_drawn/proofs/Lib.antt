@@ -1,0 +1,4 @@
+pub mod Deciding
+pub mod Making
+pub mod Listed
+mod HandDrawn

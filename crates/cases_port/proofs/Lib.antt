@@ -1,0 +1,2 @@
+-- Lemmas on the ends of a port in one hand.
+pub mod CaseEnds

@@ -1,0 +1,172 @@
+-- How a file that is rewritten takes new blocks.
+use Rattle.std.proofs.Common.{◌≡◌, ◌≢◌, ℕ, ◌-◌, ◌*◌, ◌/◌, ◌<◌, ◌≤◌, ◌⊎◌, inl, inr, min, Bool, true, false, List, length, take, drop, slice_index, Some, refl, sym, ap, ◌∙◌, subst, arith}
+use Rattle.std.proofs.lemmas.Bool.{cases_eq, cases_order, false≢true}
+use Rattle.std.proofs.lemmas.List.{get_or-take, get_or_past}
+use Rattle.adf_block.specs.declared.Format.{Format}
+use Rattle.adf_block.specs.declared.Format.TheVariants.{Ofs, Ffs}
+use Rattle.adf_block.specs.Image.{IsInside, block_count, byte_at, has_free_bit, HasFreeBit}
+use Rattle.adf_block.specs.Fields.{pointer_count, held_count, file_size}
+use Rattle.ados_data.specs.File.{format_of}
+use Rattle.ados_data.specs.Unnamed.{KeepsUnnamed, IsExtensionField, data_end}
+use Rattle.ados_tree.specs.Tree.{Node, Tree}
+use Rattle.ados_tree.specs.Tree.Content.{File}
+use Rattle.ados_tree.specs.Layout.{Layout, Duty, HasDuty}
+use Rattle.ados_tree.specs.Stands.{Stands}
+use Rattle.ados_tree.specs.declared.role.Role.{Role}
+use Rattle.ados_tree.specs.declared.role.Role.TheVariants as roles
+use Rattle.ados_tree.specs.Faults.{InImage, pointers_of}
+use Rattle.ados_tree.specs.Kept.{IsField}
+use Rattle.ados_tree.specs.Kept.IsField.{extension_longs, ffs_data}
+use Rattle.ados_tree.specs.NewBlocks.{IsTaken, TakesLowest, NamesFirstData}
+use Rattle.ados_tree.proofs.Standing.{StandsAt, IsFileNode, slice_get-index, reached_stands, serves_at, duty_of}
+use Rattle.ados_tree.proofs.FileBlocks.{pointers_are}
+use Rattle.change_bytes.proofs.Writable.{named_used}
+use Rattle.change_bytes.proofs.Content.{refilled, holding, here}
+use Rattle.change_bytes.proofs.Relaid.{IsIn, IsRewritten, relaid, data_here, serves_data, serves_extension}
+use Rattle.change_bytes.proofs.Refilled.{stands_after, layout_after}
+use Rattle.change_bytes.proofs.BytesKept.{data_field, is_ofs, is_ffs}
+
+-- the first data block of a file is the first pointer of its header
+first_pointer : (image : List ℕ) (t : Tree) (s : Stands image t) (file : ℕ) → IsFileNode image t s file → slice_index (pointers_of image file) 0 ≡ slice_index (s.layout.file_data file) 0
+first_pointer image t s file f =
+    let all : drop (72 * 0) (s.layout.file_data file) ≡ s.layout.file_data file = refl in
+    ap (λ (xs : List ℕ). slice_index xs 0) (pointers_are image t s file f 0 (omega arith) ∙ ap (take 72) all) ∙ get_or-take 72 (s.layout.file_data file) 0 0 (omega arith)
+
+module _ (old new : List ℕ) (t : Tree) (s : Stands old t) (file : ℕ) (node : Node) (bytes : List ℕ) (found : t.nodes file ≡ Some node) (is_file : node.content ≡ File bytes)
+    (blocks' extensions' bytes' : List ℕ) (h : IsRewritten old file (s.layout.file_data file) (s.layout.extensions file) new blocks' extensions' bytes')
+    (keeps : KeepsUnnamed old file (s.layout.file_data file) (s.layout.extensions file) new blocks' extensions') where
+  abbrev v : Tree
+  v = refilled file bytes' t
+
+  abbrev after : Stands new v
+  after = stands_after old new t s file node bytes found is_file blocks' extensions' bytes' h
+
+  -- ---- the lowest
+
+  unmarked : (image : List ℕ) (b : ℕ) → ¬ HasFreeBit image b → has_free_bit image b ≡ false
+  unmarked image b n = go (has_free_bit image b) refl
+    where
+      go : (v : Bool) → has_free_bit image b ≡ v → v ≡ false
+      go true e = absurd (n e)
+      go false e = refl
+
+  lowest_of : ((c d : ℕ) → IsInside (block_count old) d → 2 ≤ c → c < d → has_free_bit old d ≡ true → has_free_bit new d ≡ false → has_free_bit new c ≡ false)
+      → (block other : ℕ) → IsTaken old new block → InImage old other → HasFreeBit old other → HasFreeBit new other → block < other
+  lowest_of lowest block other m i was is = elim (cases_order block other) [
+    | inl same ↦ absurd (m.in_use (subst (HasFreeBit new) (sym same) is))
+    | inr (inl below) ↦ below
+    | inr (inr above) ↦ absurd (false≢true (sym (lowest other block m.inside i.0 above m.was_free (unmarked new block m.in_use)) ∙ is))
+  ]
+
+  -- ---- what stands in new blocks
+
+  -- a block that was taken is one of those that the file got
+  is_new : (b : ℕ) → IsTaken old new b → IsIn blocks' b ⊎ IsIn extensions' b
+  is_new b m = h.taken b m.inside m.was_free (unmarked new b m.in_use)
+
+  new_data : (i b : ℕ) → IsTaken old new b → (l : i < length blocks') → slice_index blocks' i ≡ b → length (s.layout.file_data file) ≤ i
+  new_data i b m l e = elim (h.data_from i l) [
+    | inr free ↦ free.0
+    | inl was ↦
+        let serves : HasDuty t s.layout b (Duty.Data file i) = slice_get-index (s.layout.file_data file) i was.0 ∙ ap Some (sym was.1 ∙ e) in
+        absurd (false≢true (sym (named_used old t s b (Duty.Data file i) serves) ∙ m.was_free))
+  ]
+
+  new_extension : (q b : ℕ) → IsTaken old new b → (l : q < length extensions') → slice_index extensions' q ≡ b → length (s.layout.extensions file) ≤ q
+  new_extension q b m l e = elim (h.extensions_from q l) [
+    | inr free ↦ free.0
+    | inl was ↦
+        let serves : HasDuty t s.layout b (Duty.Extension file q) = slice_get-index (s.layout.extensions file) q was.0 ∙ ap Some (sym was.1 ∙ e) in
+        absurd (false≢true (sym (named_used old t s b (Duty.Extension file q) serves) ∙ m.was_free))
+  ]
+
+  -- a block's role is that of its duty
+  same_duty : (role : Role) (k b : ℕ) (duty : Duty) → StandsAt new v after role k b → HasDuty v (relaid s.layout file blocks' extensions') b duty → duty_of new v after role k ≡ duty
+  same_duty role k b duty m n =
+      let also : HasDuty v after.layout b duty = subst (λ (l : Layout). HasDuty v l b duty) (sym (layout_after old new t s file node bytes found is_file blocks' extensions' bytes' h)) n in
+      after.fits.one_duty b (duty_of new v after role k) duty (serves_at new v after role k b m) also
+
+  zero_data : (role : Role) (k b i j : ℕ) → StandsAt new v after role k b → IsTaken old new b → (l : j < length blocks') → slice_index blocks' j ≡ b → i < 512 → ¬ IsField new b role i → byte_at new b i ≡ 0
+  zero_data role k b i j m taken l e small n = go role m n (same_duty role k b (Duty.Data file j) m (serves_data old new t s file node bytes found is_file blocks' extensions' bytes' h j l ∙ ap Some e))
+    where
+      behind : (f : ℕ) → ¬ IsField new b (roles.Data f) i → data_end (format_of old) (file_size new file) j ≤ i
+      behind f n = by_format (format_of old) refl
+        where
+          by_format : (g : Format) → format_of old ≡ g → data_end g (file_size new file) j ≤ i
+          by_format Ffs is = absurd (n (ffs_data (is_ffs new (h.format ∙ is))))
+          by_format Ofs is =
+              let a = data_field new b f i (is_ofs new (h.format ∙ is)) n in
+              let holds = h.writable.lawful.holds in
+              let held : held_count new b ≡ min 488 (length bytes' - 488 * j) = ap (held_count new) (sym e) ∙ (holds.ofs_data (h.format ∙ is) j l).held in
+              omega (arith, a, held, holds.size)
+
+      go : (role : Role) → StandsAt new v after role k b → ¬ IsField new b role i → duty_of new v after role k ≡ Duty.Data file j → byte_at new b i ≡ 0
+      go (roles.Data f) m n d = ap (λ (c : ℕ). byte_at new c i) (sym e) ∙ keeps.new_data j i (new_data j b taken l e) l small (behind f n)
+      go roles.Root m n d = absurd (cc d)
+      go roles.Page m n d = absurd (cc d)
+      go (roles.Entry dir r) m n d = absurd (cc d)
+      go (roles.Extension f) m n d = absurd (cc d)
+
+  -- the longs of an extension block that have a meaning are fields
+  extension_field : (b f i : ℕ) → IsExtensionField (pointer_count new b) (i / 4) → IsField new b (roles.Extension f) i
+  extension_field b f i (inl (inl z)) = extension_longs (0, (0, 2), omega arith, refl, (omega (arith, z), omega (arith, z)))
+  extension_field b f i (inl (inr (inl z))) = extension_longs (1, (5, 5), omega arith, refl, (omega (arith, z), omega (arith, z)))
+  extension_field b f i (inl (inr (inr (inl z)))) = extension_longs (2, (78 - pointer_count new b, 77), omega arith, refl, (omega (arith, z.0), omega (arith, z.1)))
+  extension_field b f i (inl (inr (inr (inr z)))) = extension_longs (3, (125, 127), omega arith, refl, (omega (arith, z), omega (arith, z)))
+  extension_field b f i (inr (inl z)) = extension_longs (0, (0, 2), omega arith, refl, (omega (arith, z), omega (arith, z)))
+  extension_field b f i (inr (inr (inl z))) = extension_longs (0, (0, 2), omega arith, refl, (omega (arith, z), omega (arith, z)))
+  extension_field b f i (inr (inr (inr (inl z)))) = extension_longs (3, (125, 127), omega arith, refl, (omega (arith, z), omega (arith, z)))
+  extension_field b f i (inr (inr (inr (inr z)))) = extension_longs (3, (125, 127), omega arith, refl, (omega (arith, z), omega (arith, z)))
+
+  zero_extension : (role : Role) (k b i q : ℕ) → StandsAt new v after role k b → IsTaken old new b → (l : q < length extensions') → slice_index extensions' q ≡ b → i < 512 → ¬ IsField new b role i → byte_at new b i ≡ 0
+  zero_extension role k b i q m taken l e small n = go role m n (same_duty role k b (Duty.Extension file q) m (serves_extension old new t s file node bytes found is_file blocks' extensions' bytes' h q l ∙ ap Some e))
+    where
+      go : (role : Role) → StandsAt new v after role k b → ¬ IsField new b role i → duty_of new v after role k ≡ Duty.Extension file q → byte_at new b i ≡ 0
+      go (roles.Extension f) m n d =
+          let none : ¬ IsExtensionField (pointer_count new (slice_index extensions' q)) (i / 4) = λ w. n (extension_field b f i (subst (λ (c : ℕ). IsExtensionField (pointer_count new c) (i / 4)) e w)) in
+          ap (λ (c : ℕ). byte_at new c i) (sym e) ∙ keeps.new_extension q i (new_extension q b taken l e) l small none
+      go roles.Root m n d = absurd (cc d)
+      go roles.Page m n d = absurd (cc d)
+      go (roles.Entry dir r) m n d = absurd (cc d)
+      go (roles.Data f) m n d = absurd (cc d)
+
+  pub takes_lowest : ((c d : ℕ) → IsInside (block_count old) d → 2 ≤ c → c < d → has_free_bit old d ≡ true → has_free_bit new d ≡ false → has_free_bit new c ≡ false) → TakesLowest old new
+  takes_lowest lowest = record {
+    lowest = lowest_of lowest;
+    zero_else = λ b i role taken r small n.
+        let at = reached_stands new v after r in
+        elim (is_new b taken) [
+          | inl m ↦ zero_data role at.0 b i m.0 at.1 taken m.1 m.2 small n
+          | inr m ↦ zero_extension role at.0 b i m.0 at.1 taken m.1 m.2 small n
+        ];
+  }
+
+  -- ---- the first data block
+
+  first_old : slice_index (pointers_of old file) 0 ≡ slice_index (s.layout.file_data file) 0
+  first_old = first_pointer old t s file (record { node = node; bytes = bytes; at = found; content = is_file })
+
+  first_new : slice_index (pointers_of new file) 0 ≡ slice_index blocks' 0
+  first_new =
+      first_pointer new v after file (record { node = holding bytes' node; bytes = bytes'; at = here t file node bytes bytes' found is_file; content = refl })
+      ∙ ap (λ (l : Layout). slice_index (l.file_data file) 0) (layout_after old new t s file node bytes found is_file blocks' extensions' bytes' h)
+      ∙ ap (λ (xs : List ℕ). slice_index xs 0) (data_here s.layout file blocks' extensions')
+
+  -- the header names the first data block, where that one is another, or where it did before
+  pub names_first : (slice_index (pointers_of new file) 0 ≢ slice_index (pointers_of old file) 0) ⊎ NamesFirstData old file → NamesFirstData new file
+  names_first w = elim (cases_eq (length (s.layout.file_data file)) 0) [
+    | inl none ↦ elim (cases_eq (length blocks') 0) [
+      | inl still ↦ unchanged (inl (none, still)) (get_or_past blocks' 0 0 (omega (arith, still)) ∙ sym (get_or_past (s.layout.file_data file) 0 0 (omega (arith, none))))
+      | inr some ↦ keeps.first_taken none (omega (arith, some)) ∙ sym first_new
+    ]
+    | inr some ↦ elim (cases_eq (length blocks') 0) [
+      | inl gone ↦ keeps.first_given (omega (arith, some)) gone ∙ sym (get_or_past blocks' 0 0 (omega (arith, gone))) ∙ sym first_new
+      | inr still ↦ unchanged (inr (omega (arith, some), omega (arith, still))) (elim (h.data_from 0 (omega (arith, still))) [ inl same ↦ same.1 | inr free ↦ absurd (omega (arith, some, free.0)) ])
+    ]
+  ]
+    where
+      unchanged : ((length (s.layout.file_data file) ≡ 0) × (length blocks' ≡ 0)) ⊎ ((0 < length (s.layout.file_data file)) × (0 < length blocks')) → slice_index blocks' 0 ≡ slice_index (s.layout.file_data file) 0 → NamesFirstData new file
+      unchanged c same = elim w [
+        | inl other ↦ absurd (other (first_new ∙ same ∙ sym first_old))
+        | inr named ↦ keeps.first_kept c ∙ named ∙ first_old ∙ sym same ∙ sym first_new
+      ]

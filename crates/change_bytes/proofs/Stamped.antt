@@ -1,0 +1,223 @@
+-- An image in which the moment of a change was put: all but that is as before.
+use Rattle.std.proofs.Common.{◌≡◌, ◌≢◌, ℕ, zero, suc, ◌+◌, ◌-◌, ◌/◌, ◌%◌, ◌^◌, ◌<◌, ◌≤◌, inl, inr, ◌==◌, not, bit_and, nat_le, Bool, true, false, cond, List, [], ◌∷◌, ◌++◌, slice_index, Some, refl, sym, ap, ap₂, ◌∙◌, subst, arith}
+use Rattle.std.proofs.lemmas.Bool.{leb-true}
+use Rattle.adf_block.specs.Image.{block_count, root_key, page_count, IsInside, byte_at, long, has_free_bit, free_bit_count, total}
+use Rattle.adf_block.specs.Fields.{pointer_count, name_byte, comment_byte}
+use Rattle.adf_block.specs.Frame.{SameBut}
+use Rattle.adf_block.proofs.Frames.{same_long, same_count}
+use Rattle.adf_block.proofs.Totals.{total-same}
+use Rattle.ados_map.specs.Pages.{page_block, pages_of}
+use Rattle.ados_data.specs.File.{format_of}
+use Rattle.ados_tree.specs.Tree.{Node, Tree, root}
+use Rattle.ados_tree.specs.Layout.{Duty, HasDuty}
+use Rattle.ados_tree.specs.Stands.{Stands}
+use Rattle.ados_tree.specs.declared.role.Role.{Role}
+use Rattle.ados_tree.specs.declared.role.Role.TheVariants as roles
+use Rattle.ados_tree.specs.Faults.{IsPlace, IsPointer, Reached, first_pointers, pointers_of}
+use Rattle.ados_tree.specs.Faults.IsPlace.{root_page, root_slot, directory_slot, next_entry, header_pointer, first_extension, extension_pointer, further_extension}
+use Rattle.ados_tree.specs.Faults.Reached.{start, named}
+use Rattle.ados_tree.specs.Kept.{Kept, IsField, Alike, InLongs, InText}
+use Rattle.ados_tree.specs.Kept.IsField.{root_longs, root_name, page_longs, directory_longs, file_longs, entry_name, entry_comment, extension_longs, ofs_data_longs, ofs_data, ffs_data}
+use Rattle.ados_tree.specs.NewBlocks.{IsTaken, TakesLowest, NamesFirstData}
+use Rattle.ados_tree.proofs.Standing.{count_same, root_is, reached_stands, root_at}
+use Rattle.change_bytes.specs.Stamps.{IsFileStamp, IsDiskStamp, AtStamps}
+use Rattle.change_bytes.proofs.Writable.{key_serves, page_serves}
+
+-- a long that is no stamp, neither of a file nor of the root
+data IsPlain (j : ℕ) : Type 0 where
+  front : j < 5 → IsPlain j
+  table : 6 ≤ j → j < 80 → IsPlain j
+  texts : 80 < j → j < 105 → IsPlain j
+  names : 107 < j → j < 118 → IsPlain j
+  back : 120 < j → IsPlain j
+
+plain_file : (j : ℕ) → IsPlain j → ¬ IsFileStamp j
+plain_file j (front l) (inl e) = omega (arith, l, e)
+plain_file j (front l) (inr (inl e)) = omega (arith, l, e)
+plain_file j (front l) (inr (inr e)) = omega (arith, l, e.0)
+plain_file j (table l m) (inl e) = omega (arith, l, e)
+plain_file j (table l m) (inr (inl e)) = omega (arith, m, e)
+plain_file j (table l m) (inr (inr e)) = omega (arith, m, e.0)
+plain_file j (texts l m) (inl e) = omega (arith, l, e)
+plain_file j (texts l m) (inr (inl e)) = omega (arith, l, e)
+plain_file j (texts l m) (inr (inr e)) = omega (arith, m, e.0)
+plain_file j (names l m) (inl e) = omega (arith, l, e)
+plain_file j (names l m) (inr (inl e)) = omega (arith, l, e)
+plain_file j (names l m) (inr (inr e)) = omega (arith, l, e.1)
+plain_file j (back l) (inl e) = omega (arith, l, e)
+plain_file j (back l) (inr (inl e)) = omega (arith, l, e)
+plain_file j (back l) (inr (inr e)) = omega (arith, l, e.1)
+
+plain_disk : (j : ℕ) → IsPlain j → ¬ IsDiskStamp j
+plain_disk j (front l) (inl e) = omega (arith, l, e)
+plain_disk j (front l) (inr e) = omega (arith, l, e.0)
+plain_disk j (table l m) (inl e) = omega (arith, l, e)
+plain_disk j (table l m) (inr e) = omega (arith, m, e.0)
+plain_disk j (texts l m) (inl e) = omega (arith, l, e)
+plain_disk j (texts l m) (inr e) = omega (arith, m, e.0)
+plain_disk j (names l m) (inl e) = omega (arith, l, e)
+plain_disk j (names l m) (inr e) = omega (arith, m, e.0)
+plain_disk j (back l) (inl e) = omega (arith, l, e)
+plain_disk j (back l) (inr e) = omega (arith, l, e.1)
+
+module _ (old new : List ℕ) (t : Tree) (s : Stands old t) (file : ℕ) (node : Node) (found : t.nodes file ≡ Some node) (not_root : file ≢ root t) (h : SameBut (AtStamps (root t) file) old new) where
+  count : block_count new ≡ block_count old
+  count = same_count (AtStamps (root t) file) old new h
+
+  unchanged : (b i k : ℕ) → IsPlain i → k / 4 ≡ i → ¬ AtStamps (root t) file b k
+  unchanged b i k p e (inl w) = plain_file i p (subst IsFileStamp e w.1)
+  unchanged b i k p e (inr w) = plain_disk i p (subst IsDiskStamp e w.1)
+
+  plain_long : (b i : ℕ) → i < 128 → IsPlain i → long new b i ≡ long old b i
+  plain_long b i l p = same_long (AtStamps (root t) file) old new h b i l (λ k e. unchanged b i k p e)
+
+  plain_byte : (b k : ℕ) → k < 512 → IsPlain (k / 4) → byte_at new b k ≡ byte_at old b k
+  plain_byte b k l p = h.same_byte b k l (unchanged b (k / 4) k p refl)
+
+  -- the page longs of the root stay
+  page_long : (i : ℕ) → i < page_count (block_count old) → long new (root t) (79 + i) ≡ long old (root t) (79 + i)
+  page_long i l =
+      let few : 79 + i < 105 = omega (arith, l, count_same old t s, s.proper.size.1) in
+      same_long (AtStamps (root t) file) old new h (root t) (79 + i) (omega (arith, few)) (λ k e w.
+      elim w [
+        | inl z ↦ not_root (sym z.0)
+        | inr z ↦ elim (z.1) [ inl f ↦ omega (arith, e, f) | inr f ↦ omega (arith, e, f.0, few) ]
+      ])
+
+  -- a block with another duty than that of a key stays
+  block_stays : (b : ℕ) (duty : Duty) → HasDuty t s.layout b duty → duty ≢ Duty.Key → (k : ℕ) → ¬ AtStamps (root t) file b k
+  block_stays b duty m n k (inl w) = n (s.fits.one_duty b duty Duty.Key m (key_serves old t s b node (ap t.nodes w.0 ∙ found)))
+  block_stays b duty m n k (inr w) = n (s.fits.one_duty b duty Duty.Key m (key_serves old t s b s.proper.root_node.0 (ap t.nodes w.0 ∙ s.proper.root_node.1)))
+
+  -- ---- what is reached, and its fields
+
+  pointer_moves : (b i : ℕ) → IsPointer old b i → IsPointer new b i
+  pointer_moves b i p = let same = plain_long b 2 (omega arith) (front (omega arith)) in (omega (arith, p.0, same), omega (arith, p.1, same))
+
+  pub record Moves (b i : ℕ) (role next : Role) : Type 0 where
+    pub place : IsPlace new b role i next
+    pub link : long new b i ≡ long old b i
+
+  place_moves : {b i : ℕ} {role next : Role} → Reached old b role → IsPlace old b role i next → Moves b i role next
+  place_moves {b = b} r (root_page {i = i} l) =
+      let at = reached_stands old t s r in
+      let is = root_at old t s at.0 b at.1 in
+      record { place = root_page (omega (arith, l, ap page_count count)); link = ap (λ (c : ℕ). long new c (79 + i)) is ∙ page_long i l ∙ ap (λ (c : ℕ). long old c (79 + i)) (sym is) }
+  place_moves {b = b} r (root_slot {s = q} l n) =
+      let link = plain_long b (6 + q) (omega (arith, l)) (table (omega arith) (omega (arith, l))) in
+      record { place = root_slot l (λ z. n (sym link ∙ z)); link = link }
+  place_moves {b = b} r (directory_slot {s = q} e l n) =
+      let link = plain_long b (6 + q) (omega (arith, l)) (table (omega arith) (omega (arith, l))) in
+      record { place = directory_slot (plain_long b 127 (omega arith) (back (omega arith)) ∙ e) l (λ z. n (sym link ∙ z)); link = link }
+  place_moves {b = b} r (next_entry n) =
+      let link = plain_long b 124 (omega arith) (back (omega arith)) in
+      record { place = next_entry (λ z. n (sym link ∙ z)); link = link }
+  place_moves {b = b} r (header_pointer {i = i} e p) =
+      record { place = header_pointer (plain_long b 127 (omega arith) (back (omega arith)) ∙ e) (pointer_moves b i p); link = plain_long b (77 - i) (omega arith) (table (omega (arith, p.0, p.1)) (omega arith)) }
+  place_moves {b = b} r (first_extension e n) =
+      let link = plain_long b 126 (omega arith) (back (omega arith)) in
+      record { place = first_extension (plain_long b 127 (omega arith) (back (omega arith)) ∙ e) (λ z. n (sym link ∙ z)); link = link }
+  place_moves {b = b} r (extension_pointer {i = i} p) =
+      record { place = extension_pointer (pointer_moves b i p); link = plain_long b (77 - i) (omega arith) (table (omega (arith, p.0, p.1)) (omega arith)) }
+  place_moves {b = b} r (further_extension n) =
+      let link = plain_long b 126 (omega arith) (back (omega arith)) in
+      record { place = further_extension (λ z. n (sym link ∙ z)); link = link }
+
+  pub reached_moves : {b : ℕ} {role : Role} → Reached old b role → Reached new b role
+  reached_moves start = subst (λ (b : ℕ). Reached new b roles.Root) (ap root_key count) start
+  reached_moves (named {block = b} {i = i} {role = role} {next = next} r p inside) =
+      let m = place_moves r p in
+      let inside' : IsInside (block_count new) (long new b i) = (omega (arith, inside.0, m.link), omega (arith, inside.1, m.link, count)) in
+      subst (λ (c : ℕ). Reached new c next) m.link (named (reached_moves r) m.place inside')
+
+  text_back : (b at i : ℕ) → at < 512 → IsPlain (at / 4) → InText new b at i → InText old b at i
+  text_back b at i l p f = let same = plain_byte b at l p in (f.0, omega (arith, f.1, same))
+
+  ofs_back : byte_at new 0 3 ≡ byte_at old 0 3
+  ofs_back = plain_byte 0 3 (omega arith) (front (omega arith))
+
+  -- a field is one as before
+  pub field_back : (b i : ℕ) (role : Role) → IsField new b role i → IsField old b role i
+  field_back b i _ (root_longs f) = root_longs (subst (λ (n : ℕ). InLongs ((0, 0) ∷ (3, 3) ∷ (5, 78) ∷ (79, 78 + page_count n) ∷ (105, 107) ∷ (118, 123) ∷ (125, 125) ∷ (127, 127) ∷ []) i) count f)
+  field_back b i _ (root_name f) = root_name (text_back b name_byte i (omega arith) (names (omega arith) (omega arith)) f)
+  field_back b i _ (page_longs f) = page_longs f
+  field_back b i _ (directory_longs e f) = directory_longs (sym (plain_long b 127 (omega arith) (back (omega arith))) ∙ e) f
+  field_back b i _ (file_longs e f) =
+      file_longs (sym (plain_long b 127 (omega arith) (back (omega arith))) ∙ e)
+      (subst (λ (n : ℕ). InLongs ((0, 2) ∷ (4, 5) ∷ (78 - n, 77) ∷ (80, 81) ∷ (105, 107) ∷ (124, 127) ∷ []) i) (plain_long b 2 (omega arith) (front (omega arith))) f)
+  field_back b i _ (entry_name f) = entry_name (text_back b name_byte i (omega arith) (names (omega arith) (omega arith)) f)
+  field_back b i _ (entry_comment f) = entry_comment (text_back b comment_byte i (omega arith) (texts (omega arith) (omega arith)) f)
+  field_back b i _ (extension_longs f) = extension_longs (subst (λ (n : ℕ). InLongs ((0, 2) ∷ (5, 5) ∷ (78 - n, 77) ∷ (125, 127) ∷ []) i) (plain_long b 2 (omega arith) (front (omega arith))) f)
+  field_back b i _ (ofs_data_longs o f) = ofs_data_longs (sym ofs_back ∙ o) f
+  field_back b i _ (ofs_data o l m) = ofs_data (sym ofs_back ∙ o) l (let same = plain_long b 3 (omega arith) (front (omega arith)) in omega (arith, m, same))
+  field_back b i _ (ffs_data n) = ffs_data (λ z. n (ofs_back ∙ z))
+
+  alike_self : (role : Role) → Alike role role
+  alike_self roles.Root = tt
+  alike_self roles.Page = tt
+  alike_self (roles.Entry dir r) = tt
+  alike_self (roles.Data f) = tt
+  alike_self (roles.Extension f) = tt
+
+  -- what is kept then is kept from before
+  pub kept_before : (last : List ℕ) → Kept old new → Kept new last → Kept old last
+  kept_before last k g = record {
+    size = g.size ∙ k.size;
+    boot = g.boot ∙ k.boot;
+    others = λ b i role role' l r r' alike n n'.
+        let moved = reached_moves r in
+        let none : ¬ IsField new b role i = λ f. n (field_back b i role f) in
+        g.others b i role role' l moved r' alike none n' ∙ k.others b i role role l r moved (alike_self role) n none;
+  }
+
+  -- ---- marks
+
+  pub marks_same : (b : ℕ) → IsInside (block_count old) b → has_free_bit new b ≡ has_free_bit old b
+  unfolding has_free_bit
+  marks_same b i =
+      let within : (b - 2) / 4064 < pages_of old = omega (arith, i.0, i.1) in
+      let root_new : root_key (block_count new) ≡ root t = ap root_key count ∙ root_is old t s in
+      let page : page_block new ((b - 2) / 4064) ≡ page_block old ((b - 2) / 4064) =
+      ap (λ (r : ℕ). long new r (79 + (b - 2) / 4064)) root_new ∙ page_long ((b - 2) / 4064) within ∙ ap (λ (r : ℕ). long old r (79 + (b - 2) / 4064)) (sym (root_is old t s)) in
+      let serves = page_serves old t s ((b - 2) / 4064) within in
+      let value = ap (λ (x : ℕ). long new x (1 + (b - 2) % 4064 / 32)) page
+      ∙ same_long (AtStamps (root t) file) old new h (page_block old ((b - 2) / 4064)) (1 + (b - 2) % 4064 / 32) (omega arith) (λ k e. block_stays (page_block old ((b - 2) / 4064)) (Duty.Page ((b - 2) / 4064)) serves (λ z. cc z) k) in
+      ap (λ (x : ℕ). not (bit_and x (2 ^ ((b - 2) % 32)) == 0)) value
+
+  pub count_marked : free_bit_count new ≡ free_bit_count old
+  count_marked =
+      ap (λ (n : ℕ). total (λ k. cond (has_free_bit new (k + 2)) 1 0) (n - 2)) count
+      ∙ total-same (λ k. cond (has_free_bit old (k + 2)) 1 0) (λ k. cond (has_free_bit new (k + 2)) 1 0) (block_count old - 2)
+      (λ k l. ap (λ (v : Bool). cond v 1 0) (marks_same (k + 2) (omega arith, omega (arith, l))))
+
+  -- ---- new blocks taken afterwards
+
+  pub lowest_before : (last : List ℕ) → TakesLowest new last → TakesLowest old last
+  lowest_before last g = record {
+    lowest = λ b other m i was is. g.lowest b other (moved b m) (i.0, omega (arith, i.1, count)) (marks_same other i ∙ was) is;
+    zero_else = λ b i role m r l n. g.zero_else b i role (moved b m) r l n;
+  }
+    where
+      moved : (b : ℕ) → IsTaken old last b → IsTaken new last b
+      moved b m = record { inside = (m.inside.0, omega (arith, m.inside.1, count)); was_free = marks_same b m.inside ∙ m.was_free; in_use = m.in_use }
+
+  -- ---- the first data block
+
+  first_pointers_same : (b n : ℕ) → n ≤ 72 → first_pointers new b n ≡ first_pointers old b n
+  first_pointers_same b zero l = refl
+  first_pointers_same b (suc n) l =
+      ap₂ (λ (xs : List ℕ) (x : ℕ). xs ++ x ∷ []) (first_pointers_same b n (omega arith)) (plain_long b (77 - n) (omega arith) (table (omega arith) (omega arith)))
+
+  pub pointers_same : (b : ℕ) → pointers_of new b ≡ pointers_of old b
+  pointers_same b =
+      ap (λ (n : ℕ). cond (nat_le n 72) (first_pointers new b n) []) (plain_long b 2 (omega arith) (front (omega arith))) ∙ go (nat_le (pointer_count old b) 72) refl
+    where
+      go : (v : Bool) → nat_le (pointer_count old b) 72 ≡ v → cond v (first_pointers new b (pointer_count old b)) [] ≡ cond v (first_pointers old b (pointer_count old b)) []
+      go true e = first_pointers_same b (pointer_count old b) (leb-true (pointer_count old b) 72 e)
+      go false e = refl
+
+  pub first_same : NamesFirstData old file → NamesFirstData new file
+  first_same e = plain_long file 4 (omega arith) (front (omega arith)) ∙ e ∙ ap (λ (xs : List ℕ). slice_index xs 0) (sym (pointers_same file))
+
+  pub format_same : format_of new ≡ format_of old
+  format_same = rw ofs_back refl

@@ -1,0 +1,40 @@
+use Rattle.std.proofs.Common.{◌≡◌, ℕ, List, length, take, ap, ◌∙◌, sym, subst, arith}
+use Rattle.std.proofs.lemmas.Bool.{false≢true}
+use Rattle.ados_data.specs.Cost.{data_count, extension_count}
+use Rattle.ados_data.specs.File.{format_of, data_blocks, extension_blocks, contents}
+use Rattle.ados_tree.specs.Tree.{bytes_of}
+use Rattle.ados_tree.specs.Stands.{Stands}
+use Rattle.ados_tree.specs.Change.{rewritten}
+use Rattle.change_bytes.proofs.Calls.{of_cut}
+use Rattle.change_bytes.proofs.Relaid.{IsRewritten}
+use Rattle.change_bytes.proofs.Renewed.{bytes_in, size_in, mid_writable, same_contents, stands_rewritten, keeps_rest}
+use Rattle.change_bytes.proofs.change.cut.Goals as goal
+
+pub cut-requires-clause-writable : goal.cut-requires-clause-writable
+cut-requires-clause-writable c =
+    mid_writable c.args.moment c.args.image.now c.stamp.new.image c.args.file c.requires.tree c.requires.file c.stamp.ensures
+
+pub cut-requires-clause-shorter : goal.cut-requires-clause-shorter
+cut-requires-clause-shorter c =
+    let same = ap length (same_contents c.args.moment c.args.image.now c.stamp.new.image c.args.file c.requires.tree c.requires.file c.stamp.ensures) in
+    let size = size_in c.args.image.now c.requires.tree.0 c.requires.tree.1 c.args.file c.requires.file in
+    omega (arith, same, size, c.requires.shorter c.requires.tree.0 c.requires.tree.1)
+
+-- the file is rewritten, in its first blocks
+cut_short : (c : goal.After-cut) → IsRewritten c.stamp.new.image c.args.file (data_blocks c.stamp.new.image c.args.file) (extension_blocks c.stamp.new.image c.args.file) c.cut.new.image (data_blocks c.cut.new.image c.args.file) (extension_blocks c.cut.new.image c.args.file) (contents c.cut.new.image c.args.file)
+cut_short c =
+    let e = c.cut.ensures in
+    let count = data_count (format_of c.stamp.new.image) c.args.size in
+    of_cut c.stamp.new.image c.cut.new.image c.args.file count (extension_count count) e.writable e.format e.leaves e.free_stays e.blocks e.extensions e.freed e.freed_extensions
+
+pub returns-clause-stands : goal.returns-clause-stands
+returns-clause-stands c = λ t s.
+    let same = same_contents c.args.moment c.args.image.now c.stamp.new.image c.args.file c.requires.tree c.requires.file c.stamp.ensures in
+    let bytes : contents c.cut.new.image c.args.file ≡ take c.args.size (bytes_of t c.args.file) = c.cut.ensures.bytes ∙ ap (take c.args.size) (same ∙ bytes_in c.args.image.now t s c.args.file c.requires.file) in
+    subst (λ (xs : List ℕ). Stands c.cut.new.image (rewritten c.args.moment c.args.file xs t)) bytes
+    (stands_rewritten c.args.moment c.args.image.now c.stamp.new.image c.args.file c.requires.tree c.requires.file c.stamp.ensures c.cut.new.image (cut_short c) t s)
+
+pub returns-clause-rest : goal.returns-clause-rest
+returns-clause-rest c =
+    keeps_rest c.args.moment c.args.image.now c.stamp.new.image c.args.file c.requires.tree c.requires.file c.stamp.ensures c.cut.new.image (cut_short c) c.cut.ensures.keeps
+    (λ a b i two below was is. absurd (false≢true (sym is ∙ c.cut.ensures.free_stays b i was)))

@@ -1,0 +1,70 @@
+//! The changes.
+
+ghost use Rattle.std.specs.Prelude.{◌≡◌, ◌<◌, ◌≤◌, MatchResult};
+ghost use Rattle.ados_tree.specs.Tree.{Tree, size_of};
+ghost use Rattle.ados_tree.specs.Stands.{Stands};
+ghost use Rattle.ados_tree.specs.Keys.{HasFileKey, HasTree};
+ghost use Rattle.ados_tree.specs.Change.{shortened};
+ghost use Rattle.change_bytes.specs.Renewed.{CannotGrow, CannotWrite, Grows, KeepsRest, Writes};
+
+use crate::space::{has_room, size_of};
+use crate::stamp::stamp;
+use adf_block::Image;
+use ados_data::{extend, write_at};
+use ados_name::Date3;
+use ados_tree::Full;
+
+/// Writes bytes over those of a file from byte `pos` on, which may reach past its end. With no bytes nothing changes.
+/// The image stays as it was where the blocks do not suffice.
+pub fn write(
+    image: &mut Image,
+    file: u32,
+    pos: u64,
+    bytes: &[u8],
+    moment: Date3,
+) -> Result<(), Full>
+    requires tree { HasTree image.old }
+    requires file { HasFileKey image.old file }
+    requires start { (t : Tree) → Stands image.old t → pos ≤ size_of t file }
+    ensures done { MatchResult result (λ _. Writes moment file pos bytes.now image.old image.new) (λ _. (image.new ≡ image.old) × CannotWrite file pos bytes.now image.old) }
+    ensures rest { KeepsRest image.old file image.new }
+{
+    if bytes.is_empty() {
+        return Ok(());
+    }
+    let size = (size_of(image, file) as u64).max(pos + bytes.len() as u64);
+    if !has_room(image, file, size) {
+        return Err(Full);
+    }
+    stamp(image, file, moment);
+    write_at(image, file, pos, bytes);
+    Ok(())
+}
+
+/// Keeps the front of a file, of this size. What stands in the blocks that are given back stays there.
+pub fn cut(image: &mut Image, file: u32, size: u32, moment: Date3)
+    requires tree { HasTree image.old }
+    requires file { HasFileKey image.old file }
+    requires shorter { (t : Tree) → Stands image.old t → size ≤ size_of t file }
+    ensures stands { (t : Tree) → Stands image.old t → Stands image.new (shortened moment file size t) }
+    ensures rest { KeepsRest image.old file image.new }
+{
+    stamp(image, file, moment);
+    ados_data::cut(image, file, size);
+}
+
+/// Puts zeros behind the bytes of a file, up to this size. The image stays as it was where the blocks do not suffice.
+pub fn grow(image: &mut Image, file: u32, size: u32, moment: Date3) -> Result<(), Full>
+    requires tree { HasTree image.old }
+    requires file { HasFileKey image.old file }
+    requires longer { (t : Tree) → Stands image.old t → size_of t file < size }
+    ensures done { MatchResult result (λ _. Grows moment file size image.old image.new) (λ _. (image.new ≡ image.old) × CannotGrow file size image.old) }
+    ensures rest { KeepsRest image.old file image.new }
+{
+    if !has_room(image, file, size as u64) {
+        return Err(Full);
+    }
+    stamp(image, file, moment);
+    extend(image, file, size);
+    Ok(())
+}

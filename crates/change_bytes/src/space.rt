@@ -1,0 +1,32 @@
+//! Room for a file's bytes.
+
+ghost use Rattle.std.specs.Prelude.{◌≡◌, MatchBool};
+ghost use Rattle.ados_data.specs.Changing.{HasFree};
+ghost use Rattle.ados_tree.specs.Keys.{HasFileKey, HasTree};
+ghost use Rattle.ados_tree.specs.Stands.{Stands};
+ghost use Rattle.ados_tree.specs.Tree.{Tree, size_of};
+
+use adf_block::Image;
+use adf_block::layout::SIZE;
+use ados_data::blocks_of;
+use ados_map::count_free;
+
+/// The size of a file in bytes.
+pub fn size_of(image: &Image, file: u32) -> u32
+    requires tree { HasTree image.now }
+    requires file { HasFileKey image.now file }
+    ensures { (t : Tree) → Stands image.now t → result ≡ size_of t file }
+{
+    image.long(file, SIZE)
+}
+
+/// Whether there are as many free blocks as a file of this size needs more than it has.
+pub fn has_room(image: &Image, file: u32, size: u64) -> bool
+    requires tree { HasTree image.now }
+    requires file { HasFileKey image.now file }
+    ensures { MatchBool result (HasFree image.now file size) (¬ HasFree image.now file size) }
+{
+    let format = image.format();
+    let held = blocks_of(format, size_of(image, file) as u64);
+    blocks_of(format, size) <= count_free(image) as u64 + held
+}

@@ -1,0 +1,76 @@
+-- A file is emptied before it is taken away; a directory has nothing in it.
+use Rattle.std.proofs.Common.{◌≡◌, ◌≢◌, ℕ, ◌<◌, List, take, Option, Some, option_map, option_and_then, refl, sym, ap, ◌∙◌, subst, arith}
+use Rattle.adf_block.specs.Fields.{secondary_type, file_type}
+use Rattle.adf_block.specs.Image.{block_count}
+use Rattle.ados_name.specs.declared.Date3.{Date3}
+use Rattle.ados_tree.specs.Change.{changed, removed, shortened, without_archive}
+use Rattle.ados_tree.specs.Stands.{Stands, type_of}
+use Rattle.ados_tree.specs.Tree.{Content, Node, Tree, bytes_of, content_at, entries_in, size_in, size_of}
+use Rattle.ados_tree.specs.Tree.Content.{Directory, File}
+use Rattle.ados_tree.proofs.Nodes.{parent_in}
+use Rattle.ados_tree.proofs.OneTree.{one_tree}
+use Rattle.change_entries.specs.Conditions.{CanRemove}
+use Rattle.change_entries.specs.steps.Emptied.{Empties, IsEmptied}
+use Rattle.change_entries.proofs.Changed.{nodes_here}
+use Rattle.change_entries.proofs.Emptying.{removed_same}
+use Rattle.change_entries.proofs.Loose.{not_own_parent}
+
+module _ (old : List ℕ) (t : Tree) (st : Stands old t) (key : ℕ) (can : CanRemove t key) where
+  abbrev entry : (a : Node) × (t.nodes key ≡ Some a) × (a.parent ≡ Some can.dir)
+  entry = parent_in (t.nodes key) can.dir can.listed
+
+  pub key_inside : key < block_count old
+  key_inside = let i = st.proper.inside key entry.0 entry.1 in omega (arith, i.1, st.whole)
+
+  typed : secondary_type old key ≡ type_of entry.0.content
+  typed = (st.entries key can.dir entry.0 entry.1 entry.2).secondary
+
+  -- what is no file has no bytes
+  pub not_file : secondary_type old key ≢ file_type → size_of t key ≡ 0
+  not_file n = let at = entry.1 in rw at (go entry.0.content typed)
+    where
+      go : (c : Content) → secondary_type old key ≡ type_of c → size_in (Some c) ≡ 0
+      go (Directory keys) e = refl
+      go (File bytes) e = absurd (n e)
+
+  pub is_file : secondary_type old key ≡ file_type → (bytes : List ℕ) × (content_at t key ≡ Some (File bytes))
+  is_file e = go entry.0.content (sym typed ∙ e) (ap (option_map (λ node. node.content)) entry.1)
+    where
+      go : (c : Content) → type_of c ≡ file_type → content_at t key ≡ Some c → (bytes : List ℕ) × (content_at t key ≡ Some (File bytes))
+      go (Directory keys) d at = absurd (omega (arith, d))
+      go (File bytes) d at = (bytes, at)
+
+  module _ (moment : Date3) where
+    pub kept_as_is : secondary_type old key ≢ file_type → IsEmptied moment key t t
+    kept_as_is n = record { can = can; no_bytes = not_file n; same = refl }
+
+    abbrev shorter : Node → Node
+    shorter node = record node { content = File (take 0 (bytes_of t key)); date = moment; protection = without_archive node.protection }
+
+    cut_node : (changed key shorter t).nodes key ≡ Some (shorter entry.0)
+    cut_node = nodes_here key (option_map shorter (t.nodes key)) t ∙ ap (option_map shorter) entry.1
+
+    pub cut_to_nothing : IsEmptied moment key t (shortened moment key 0 t)
+    cut_to_nothing = record {
+      can = record {
+        dir = can.dir;
+        listed = ap (option_and_then (λ node. node.parent)) cut_node ∙ entry.2;
+        empty = ap (λ (o : Option Node). entries_in (option_map (λ node. node.content) o)) cut_node;
+      };
+      no_bytes = ap (λ (o : Option Node). size_in (option_map (λ node. node.content) o)) cut_node;
+      same = removed_same t key can.dir moment shorter (λ a. refl) can.listed (not_own_parent t st.proper key can.dir can.listed moment);
+    }
+
+-- the image stands for no other tree, so that what is known of one is known of each
+module _ (moment : Date3) (key : ℕ) (old mid : List ℕ) (t : Tree) (st : Stands old t) (empties : Empties moment key old mid) where
+  abbrev emptied : (u : Tree) × Stands mid u × IsEmptied moment key t u
+  emptied = empties t st
+
+  pub each_can : (v : Tree) → Stands mid v → CanRemove v key
+  each_can v sv = subst (λ (x : Tree). CanRemove x key) (one_tree mid emptied.0 v emptied.1 sv) emptied.2.can
+
+  pub each_empty : (v : Tree) → Stands mid v → size_of v key ≡ 0
+  each_empty v sv = subst (λ (x : Tree). size_of x key ≡ 0) (one_tree mid emptied.0 v emptied.1 sv) emptied.2.no_bytes
+
+  pub taken_away : (new : List ℕ) → ((v : Tree) → Stands mid v → Stands new (removed moment key v)) → Stands new (removed moment key t)
+  taken_away new gone = subst (Stands new) emptied.2.same (gone emptied.0 emptied.1)

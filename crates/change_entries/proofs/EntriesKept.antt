@@ -1,0 +1,131 @@
+-- A change of entries keeps all that is no field.
+use Rattle.std.proofs.Common.{◌≡◌, ◌≢◌, ℕ, ◌+◌, ◌*◌, ◌/◌, ◌%◌, ◌<◌, ◌≤◌, ◌⊎◌, inl, inr, List, take, drop, length, slice_index, Some, None, refl, sym, ap, ◌∙◌, subst, arith, length-take, length-drop}
+use Rattle.std.proofs.lemmas.List.{ext_get_or, get_or-take, get_or-drop}
+use Rattle.adf_block.specs.Image.{byte_at, bytes_at}
+use Rattle.adf_block.specs.Fields.{secondary_type, name_byte}
+use Rattle.adf_block.specs.Frame.{SameBut}
+use Rattle.ados_tree.specs.Tree.{Content, Node, Tree, root}
+use Rattle.ados_tree.specs.Tree.Content.{Directory, File}
+use Rattle.ados_tree.specs.Layout.{Duty, HasDuty}
+use Rattle.ados_tree.specs.Stands.{Stands, type_of}
+use Rattle.ados_tree.specs.declared.role.Role.{Role}
+use Rattle.ados_tree.specs.declared.role.Role.TheVariants as roles
+use Rattle.ados_tree.specs.Kept.{Kept, IsField, Alike, InText}
+use Rattle.ados_tree.specs.Kept.IsField.{root_longs, page_longs, directory_longs, file_longs, entry_name}
+use Rattle.ados_tree.proofs.Standing.{StandsAt, reached_stands, serves_at, duty_of, root_at, entry_at, slice_get-index}
+
+-- a long of the block of a node that is a field in each role: the sum, a directory's table, the date, in the root the disk date, and in an entry the link and the directory
+pub data IsPlain (t : Tree) (b : ℕ) (node : Node) (j : ℕ) : Type 0 where
+  sum : j ≡ 5 → IsPlain t b node j
+  table : (keys : List ℕ) → node.content ≡ Directory keys → 6 ≤ j → j < 78 → IsPlain t b node j
+  date : 105 ≤ j → j < 108 → IsPlain t b node j
+  disk : b ≡ root t → 118 ≤ j → j < 121 → IsPlain t b node j
+  link : b ≢ root t → 124 ≤ j → j < 126 → IsPlain t b node j
+
+-- byte i of block b may be written: it is of a page, of a block with no duty, of such a long, or of the name that an entry gets
+pub data IsWritten (old : List ℕ) (t : Tree) (st : Stands old t) (new : List ℕ) (b i : ℕ) : Type 0 where
+  of_page : (p : ℕ) → p < length st.layout.pages → slice_index st.layout.pages p ≡ b → IsWritten old t st new b i
+  of_none : 2 ≤ b → ((duty : Duty) → ¬ HasDuty t st.layout b duty) → IsWritten old t st new b i
+  of_node : (node : Node) → t.nodes b ≡ Some node → IsPlain t b node (i / 4) → IsWritten old t st new b i
+  of_name : (node : Node) → t.nodes b ≡ Some node → b ≢ root t → InText new b name_byte i → IsWritten old t st new b i
+
+module _ (old new : List ℕ) (t : Tree) (st : Stands old t) (h : SameBut (IsWritten old t st new) old new) where
+  page_serves : (b p : ℕ) → p < length st.layout.pages → slice_index st.layout.pages p ≡ b → HasDuty t st.layout b (Duty.Page p)
+  page_serves b p l e = slice_get-index st.layout.pages p l ∙ ap Some e
+
+  not_boot : (b i : ℕ) → b < 2 → ¬ IsWritten old t st new b i
+  not_boot b i l (of_page p m e) = let inside = st.fits.inside b (Duty.Page p) (page_serves b p m e) in omega (arith, l, inside.0)
+  not_boot b i l (of_none m n) = omega (arith, l, m)
+  not_boot b i l (of_node a e p) = let inside = st.proper.inside b a e in omega (arith, l, inside.0)
+  not_boot b i l (of_name a e n p) = let inside = st.proper.inside b a e in omega (arith, l, inside.0)
+
+  boot_byte : (k : ℕ) → k < 1024 → slice_index new k ≡ slice_index old k
+  unfolding byte_at
+  boot_byte k l =
+      let here : 512 * (k / 512) + k % 512 ≡ k = omega arith in
+      ap (slice_index new) (sym here) ∙ h.same_byte (k / 512) (k % 512) (omega arith) (not_boot (k / 512) (k % 512) (omega (arith, l))) ∙ ap (slice_index old) here
+
+  boot_kept : bytes_at new 0 0 1024 ≡ bytes_at old 0 0 1024
+  unfolding bytes_at
+  boot_kept =
+      ext_get_or 0 (take 1024 (drop (512 * 0 + 0) new)) (take 1024 (drop (512 * 0 + 0) old))
+      (omega (arith, length-take 1024 (drop (512 * 0 + 0) new), length-take 1024 (drop (512 * 0 + 0) old), length-drop (512 * 0 + 0) new, length-drop (512 * 0 + 0) old, h.same_length))
+      (λ k l.
+      let below : k < 1024 = omega (arith, l, length-take 1024 (drop (512 * 0 + 0) new)) in
+      get_or-take 1024 (drop (512 * 0 + 0) new) k 0 below ∙ get_or-drop (512 * 0 + 0) new k 0
+      ∙ boot_byte (512 * 0 + 0 + k) (omega (arith, below))
+      ∙ sym (get_or-take 1024 (drop (512 * 0 + 0) old) k 0 below ∙ get_or-drop (512 * 0 + 0) old k 0))
+
+  root_field : (i : ℕ) (a : Node) → IsPlain t (root t) a (i / 4) → IsField old (root t) roles.Root i
+  root_field i a (sum e) = root_longs (2, (5, 78), omega arith, refl, (omega (arith, e), omega (arith, e)))
+  root_field i a (table keys c m n) = root_longs (2, (5, 78), omega arith, refl, (omega (arith, m), omega (arith, n)))
+  root_field i a (date m n) = root_longs (4, (105, 107), omega arith, refl, (omega (arith, m), omega (arith, n)))
+  root_field i a (disk e m n) = root_longs (5, (118, 123), omega arith, refl, (omega (arith, m), omega (arith, n)))
+  root_field i a (link n m o) = absurd (n refl)
+
+  entry_field : (b i dir q : ℕ) (a : Node) → b ≢ root t → secondary_type old b ≡ type_of a.content → IsPlain t b a (i / 4) → IsField old b (roles.Entry dir q) i
+  entry_field b i dir q a n e p = go a.content refl e p
+    where
+      go : (c : Content) → a.content ≡ c → secondary_type old b ≡ type_of c → IsPlain t b a (i / 4) → IsField old b (roles.Entry dir q) i
+      go (Directory keys) d e (sum f) = directory_longs e (1, (5, 77), omega arith, refl, (omega (arith, f), omega (arith, f)))
+      go (Directory keys) d e (table ks c m o) = directory_longs e (1, (5, 77), omega arith, refl, (omega (arith, m), omega (arith, o)))
+      go (Directory keys) d e (date m o) = directory_longs e (3, (105, 107), omega arith, refl, (omega (arith, m), omega (arith, o)))
+      go (Directory keys) d e (disk f m o) = absurd (n f)
+      go (Directory keys) d e (link f m o) = directory_longs e (4, (124, 125), omega arith, refl, (omega (arith, m), omega (arith, o)))
+      go (File bytes) d e (sum f) = file_longs e (1, (4, 5), omega arith, refl, (omega (arith, f), omega (arith, f)))
+      go (File bytes) d e (table ks c m o) = absurd (let there : Directory ks ≡ File bytes = sym c ∙ d in cc there)
+      go (File bytes) d e (date m o) = file_longs e (4, (105, 107), omega arith, refl, (omega (arith, m), omega (arith, o)))
+      go (File bytes) d e (disk f m o) = absurd (n f)
+      go (File bytes) d e (link f m o) = file_longs e (5, (124, 127), omega arith, refl, (omega (arith, m), omega (arith, o)))
+
+  -- a reached block that is a node's is the root, or an entry
+  node_field : (b i k : ℕ) (role role' : Role) (a : Node) → t.nodes b ≡ Some a → IsPlain t b a (i / 4) → StandsAt old t st role k b → duty_of old t st role k ≡ Duty.Key → IsField old b role i
+  node_field b i k roles.Root role' a e p at d = let here = root_at old t st k b at in by_root here
+    where
+      by_root : b ≡ root t → IsField old b roles.Root i
+      by_root r = subst (λ (x : ℕ). IsField old x roles.Root i) (sym r) (root_field i a (subst (λ (x : ℕ). IsPlain t x a (i / 4)) r p))
+  node_field b i k (roles.Entry dir q) role' a e p at d =
+      let n = entry_at old t st dir q k b at in
+      let same : n.node ≡ a = cc (n.at, e) in
+      let no_root : b ≢ root t = λ r.
+      let at_root : t.nodes b ≡ Some st.proper.root_node.0 = ap t.nodes r ∙ st.proper.root_node.1 in
+      let one : n.node ≡ st.proper.root_node.0 = cc (n.at, at_root) in
+      let none : n.node.parent ≡ None = ap (λ (x : Node). x.parent) one ∙ st.proper.root_node.2.no_parent in
+      cc (none, n.parent) in
+      entry_field b i dir q a no_root ((st.entries b dir n.node n.at n.parent).secondary ∙ ap (λ (x : Node). type_of x.content) same) p
+  node_field b i k roles.Page role' a e p at d = absurd (cc d)
+  node_field b i k (roles.Data file) role' a e p at d = absurd (cc d)
+  node_field b i k (roles.Extension file) role' a e p at d = absurd (cc d)
+
+  page_field : (b i k p : ℕ) (role : Role) → i < 512 → duty_of old t st role k ≡ Duty.Page p → IsField old b role i
+  page_field b i k p roles.Root m d = absurd (cc d)
+  page_field b i k p roles.Page m d = page_longs (0, (0, 127), omega arith, refl, (omega arith, omega (arith, m)))
+  page_field b i k p (roles.Entry dir q) m d = absurd (cc d)
+  page_field b i k p (roles.Data file) m d = absurd (cc d)
+  page_field b i k p (roles.Extension file) m d = absurd (cc d)
+
+  name_field : (b i k : ℕ) (role role' : Role) → Alike role role' → b ≢ root t → InText new b name_byte i → StandsAt old t st role k b → duty_of old t st role k ≡ Duty.Key → IsField new b role' i
+  name_field b i k (roles.Entry dir q) (roles.Entry dir' q') alike n text at d = entry_name text
+  name_field b i k roles.Root role' alike n text at d = absurd (n (root_at old t st k b at))
+  name_field b i k roles.Page role' alike n text at d = absurd (cc d)
+  name_field b i k (roles.Data file) role' alike n text at d = absurd (cc d)
+  name_field b i k (roles.Extension file) role' alike n text at d = absurd (cc d)
+  name_field b i k (roles.Entry dir q) roles.Root alike n text at d = absurd alike
+  name_field b i k (roles.Entry dir q) roles.Page alike n text at d = absurd alike
+  name_field b i k (roles.Entry dir q) (roles.Data file) alike n text at d = absurd alike
+  name_field b i k (roles.Entry dir q) (roles.Extension file) alike n text at d = absurd alike
+
+  written_field : (b i k : ℕ) (role role' : Role) → i < 512 → StandsAt old t st role k b → Alike role role' → IsWritten old t st new b i → IsField old b role i ⊎ IsField new b role' i
+  written_field b i k role role' m at alike (of_page p l e) = inl (page_field b i k p role m (st.fits.one_duty b (duty_of old t st role k) (Duty.Page p) (serves_at old t st role k b at) (page_serves b p l e)))
+  written_field b i k role role' m at alike (of_none l n) = absurd (n (duty_of old t st role k) (serves_at old t st role k b at))
+  written_field b i k role role' m at alike (of_node a e p) = inl (node_field b i k role role' a e p at (st.fits.one_duty b (duty_of old t st role k) Duty.Key (serves_at old t st role k b at) (rw e refl)))
+  written_field b i k role role' m at alike (of_name a e n text) = inr (name_field b i k role role' alike n text at (st.fits.one_duty b (duty_of old t st role k) Duty.Key (serves_at old t st role k b at) (rw e refl)))
+
+  pub written_kept : Kept old new
+  written_kept = record {
+    size = h.same_length;
+    boot = boot_kept;
+    others = λ b i role role' m a a' alike n o. h.same_byte b i m (λ w.
+        let at = reached_stands old t st a in
+        elim (written_field b i at.0 role role' m at.1 alike w) [ inl f ↦ n f | inr f ↦ o f ]);
+  }

@@ -1,0 +1,26 @@
+-- Why an image whose chains changed stands for the tree with the changed lists: lists and chains first, then each change by its steps.
+pub mod Entering
+pub mod Changed
+pub mod Loose
+pub mod ProperChanges
+pub mod Frame
+pub mod Spells
+pub mod Reframed
+pub mod Remarked
+pub mod Slots
+pub mod Lawful
+pub mod Relisted
+pub mod Listing
+pub mod Making
+pub mod Removing
+pub mod Renaming
+pub mod Filled
+pub mod FirstFree
+pub mod Created
+pub mod Renamed
+pub mod Removed
+pub mod EntriesKept
+pub mod KeptSteps
+pub mod Reaching
+pub mod Emptying
+pub mod Emptier

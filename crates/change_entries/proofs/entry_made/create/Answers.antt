@@ -1,0 +1,36 @@
+use Rattle.std.proofs.Common.{subst, sym}
+use Rattle.ados_tree.specs.NewBlocks.{TakesLowest}
+use Rattle.change_entries.proofs.Created.{created, created_kept, created_lowest, insertable, pages_of_standing, room}
+use Rattle.change_entries.proofs.FirstFree.{takes_none}
+use Rattle.change_entries.proofs.entry_made.create.Goals as goal
+
+pub take_first-requires : goal.take_first-requires
+take_first-requires c = pages_of_standing c.args.image.now c.requires.tree.0 c.requires.tree.1
+
+pub insert_last-requires : goal.insert_last-requires
+insert_last-requires c =
+    insertable c.args.image.now c.take_first.new.image c.make_entry.new.image c.requires.tree.0 c.requires.tree.1 c.args.moment c.args.dir c.in-Some.key c.args.name.now c.args.kind (c.requires.can c.requires.tree.0 c.requires.tree.1)
+    c.in-Some.ensures.none.0 c.in-Some.ensures.none.1 c.make_entry.ensures.rest c.make_entry.ensures.entry
+
+pub touch-requires : goal.touch-requires
+touch-requires c =
+    room c.args.image.now c.take_first.new.image c.make_entry.new.image c.requires.tree.0 c.requires.tree.1 c.args.moment c.args.dir c.in-Some.key c.args.name.now c.args.kind (c.requires.can c.requires.tree.0 c.requires.tree.1)
+    c.in-Some.ensures.none.0 c.in-Some.ensures.none.1 c.make_entry.ensures.rest c.make_entry.ensures.entry c.insert_last.new.image c.insert_last.ensures.inserts
+
+pub returns-clause-stands : goal.returns-clause-stands
+returns-clause-stands c = λ t s.
+    created c.args.image.now c.take_first.new.image c.make_entry.new.image t s c.args.moment c.args.dir c.in-Some.key c.args.name.now c.args.kind (c.requires.can t s)
+    c.in-Some.ensures.none.0 c.in-Some.ensures.none.1 c.make_entry.ensures.rest c.make_entry.ensures.entry c.insert_last.new.image c.insert_last.ensures.inserts c.touch.new.image c.stamp.new.image c.touch.ensures.dated c.stamp.ensures.dated
+
+pub returns-clause-kept : goal.returns-clause-kept
+returns-clause-kept c =
+    created_kept c.args.image.now c.take_first.new.image c.make_entry.new.image c.requires.tree.0 c.requires.tree.1 c.args.moment c.args.dir c.in-Some.key c.args.name.now c.args.kind (c.requires.can c.requires.tree.0 c.requires.tree.1)
+    c.in-Some.ensures.none.0 c.in-Some.ensures.none.1 c.make_entry.ensures.rest c.make_entry.ensures.entry c.insert_last.new.image c.insert_last.ensures.inserts c.touch.new.image c.stamp.new.image c.touch.ensures.dated c.stamp.ensures.dated
+
+pub returns-clause-lowest : goal.returns-clause-lowest
+returns-clause-lowest c =
+    created_lowest c.args.image.now c.take_first.new.image c.make_entry.new.image c.requires.tree.0 c.requires.tree.1 c.args.moment c.args.dir c.in-Some.key c.args.name.now c.args.kind (c.requires.can c.requires.tree.0 c.requires.tree.1)
+    c.in-Some.ensures.none.0 c.in-Some.ensures.none.1 c.make_entry.ensures.rest c.make_entry.ensures.entry c.insert_last.new.image c.insert_last.ensures.inserts c.touch.new.image c.stamp.new.image c.touch.ensures.dated c.stamp.ensures.dated
+
+pub returns-in_default-clause-lowest : goal.returns-in_default-clause-lowest
+returns-in_default-clause-lowest c = subst (TakesLowest c.args.image.now) (sym c.in_default.ensures.none.1) (takes_none c.args.image.now)

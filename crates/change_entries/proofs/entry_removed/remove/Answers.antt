@@ -1,0 +1,17 @@
+use Rattle.change_entries.proofs.Emptier.{each_can, each_empty, taken_away}
+use Rattle.change_entries.proofs.entry_removed.remove.Goals as goal
+
+pub remove_empty-requires-clause-tree : goal.remove_empty-requires-clause-tree
+remove_empty-requires-clause-tree c = let e = c.empty.ensures.empties c.requires.tree.0 c.requires.tree.1 in (e.0, e.1)
+
+pub remove_empty-requires-clause-can : goal.remove_empty-requires-clause-can
+remove_empty-requires-clause-can c = each_can c.args.moment c.args.key c.args.image.now c.empty.new.image c.requires.tree.0 c.requires.tree.1 c.empty.ensures.empties
+
+pub remove_empty-requires-clause-empty : goal.remove_empty-requires-clause-empty
+remove_empty-requires-clause-empty c = each_empty c.args.moment c.args.key c.args.image.now c.empty.new.image c.requires.tree.0 c.requires.tree.1 c.empty.ensures.empties
+
+pub returns-clause-stands : goal.returns-clause-stands
+returns-clause-stands c = λ t s. taken_away c.args.moment c.args.key c.args.image.now c.empty.new.image t s c.empty.ensures.empties c.remove_empty.new.image c.remove_empty.ensures.stands
+
+pub returns-clause-kept : goal.returns-clause-kept
+returns-clause-kept c = c.remove_empty.ensures.kept c.args.image.now c.empty.ensures.kept

@@ -1,0 +1,39 @@
+-- The block of an entry as it is made.
+use Rattle.std.specs.Prelude.{◌≡◌, ◌⊎◌, ℕ, ◌+◌, ◌/◌, ◌<◌, ◌≤◌, List, length}
+use Rattle.adf_block.specs.Image.{byte_at, block_sum}
+use Rattle.adf_block.specs.Fields.{primary_type, own_key, HasText, name_byte, parent_key, secondary_type, header_type, long_byte, own_key_long, sum_long, date_long, parent_long, secondary_type_long}
+use Rattle.ados_name.specs.declared.Date3.{Date3}
+use Rattle.ados_tree.specs.Dates.{date_at}
+use Rattle.ados_tree.specs.Tree.{Content}
+use Rattle.ados_tree.specs.Stands.{type_of}
+
+-- the bytes of the fields that a new entry has, for a name of n bytes: type, own number, sum, date, name, directory and secondary type
+abbrev pub IsNewField : ℕ → ℕ → Type 0
+IsNewField n i =
+    (i / 4 < own_key_long + 1)
+    ⊎ ((i / 4 ≡ sum_long)
+    ⊎ (((long_byte date_long ≤ i) × (i < name_byte + 1 + n))
+    ⊎ ((i / 4 ≡ parent_long) ⊎ (i / 4 ≡ secondary_type_long))))
+
+-- the bytes of the types, the own number and the date
+abbrev pub IsHeadField : ℕ → Type 0
+IsHeadField i = (i / 4 < own_key_long + 1) ⊎ (((long_byte date_long ≤ i) × (i < long_byte (date_long + 3))) ⊎ (i / 4 ≡ secondary_type_long))
+
+-- a block with these fields; each further byte is 0
+pub record IsHead (image : List ℕ) (key : ℕ) (content : Content) (moment : Date3) : Type 0 where
+  pub primary : primary_type image key ≡ header_type
+  pub key_field : own_key image key ≡ key
+  pub date : date_at image key date_long ≡ moment
+  pub secondary : secondary_type image key ≡ type_of content
+  pub zeros : (i : ℕ) → i < 512 → ¬ IsHeadField i → byte_at image key i ≡ 0
+
+-- the block is that of an entry with this name, date and directory; each further byte is 0
+pub record IsNewEntry (image : List ℕ) (key dir : ℕ) (name : List ℕ) (content : Content) (moment : Date3) : Type 0 where
+  pub primary : primary_type image key ≡ header_type
+  pub key_field : own_key image key ≡ key
+  pub summed : block_sum image key ≡ 0
+  pub date : date_at image key date_long ≡ moment
+  pub named : HasText image key name_byte name
+  pub parent : parent_key image key ≡ dir
+  pub secondary : secondary_type image key ≡ type_of content
+  pub zeros : (i : ℕ) → i < 512 → ¬ IsNewField (length name) i → byte_at image key i ≡ 0

@@ -1,0 +1,126 @@
+-- A change of fields in the blocks of keys keeps all that is no field.
+use Rattle.std.proofs.Common.{◌≡◌, ◌≢◌, ℕ, ◌+◌, ◌*◌, ◌/◌, ◌%◌, ◌<◌, ◌≤◌, ◌⊎◌, inl, inr, List, take, drop, slice_index, Some, IsSome, refl, sym, ap, ◌∙◌, arith, length-take, length-drop}
+use Rattle.std.proofs.lemmas.Bool.{cases_eq}
+use Rattle.std.proofs.lemmas.List.{ext_get_or, get_or-take, get_or-drop}
+use Rattle.adf_block.specs.Image.{byte_at, bytes_at}
+use Rattle.adf_block.specs.Fields.{HasText, secondary_type, name_byte, comment_byte}
+use Rattle.adf_block.specs.Frame.{SameBut}
+use Rattle.ados_tree.specs.Tree.{Content, Node, Tree, root}
+use Rattle.ados_tree.specs.Tree.Content.{Directory, File}
+use Rattle.ados_tree.specs.Layout.{Duty}
+use Rattle.ados_tree.specs.Stands.{Stands, type_of}
+use Rattle.ados_tree.specs.declared.role.Role.{Role}
+use Rattle.ados_tree.specs.declared.role.Role.TheVariants as roles
+use Rattle.ados_tree.specs.Kept.{Kept, IsField, Alike}
+use Rattle.ados_tree.specs.Kept.IsField.{root_longs, root_name, directory_longs, file_longs, entry_comment}
+use Rattle.ados_tree.proofs.Nodes.{root_or_parent}
+use Rattle.ados_tree.proofs.Standing.{StandsAt, reached_stands, same_place, serves_at, duty_of, root_at}
+use Rattle.change_fields.proofs.Retold.{Telling}
+
+-- byte i of a key's block is part of a field in its role, in the old or in the new image
+pub data IsKeyField (old new : List ℕ) (t : Tree) (b i : ℕ) : Type 0 where
+  root_field : b ≡ root t → (IsField old b roles.Root i ⊎ IsField new b roles.Root i) → IsKeyField old new t b i
+  entry_field : b ≢ root t → IsSome (t.nodes b) → ((dir s : ℕ) → IsField old b (roles.Entry dir s) i) ⊎ ((dir s : ℕ) → IsField new b (roles.Entry dir s) i) → IsKeyField old new t b i
+
+module _ (old new : List ℕ) (t : Tree) (s : Stands old t) where
+  is_key : (b i : ℕ) → IsKeyField old new t b i → IsSome (t.nodes b)
+  is_key b i (root_field e f) = rw (ap t.nodes e ∙ s.proper.root_node.1) refl
+  is_key b i (entry_field n k f) = k
+
+  -- a key's block has no other role
+  no_field : (b i k : ℕ) (role role' : Role) → StandsAt old t s role k b → Alike role role' → ¬ IsField old b role i → ¬ IsField new b role' i → IsKeyField old new t b i → ⊥
+  no_field b i k role role' at alike n m f = go role role' at alike n m f (s.fits.one_duty b (duty_of old t s role k) Duty.Key (serves_at old t s role k b at) (is_key b i f))
+    where
+      go : (role role' : Role) → StandsAt old t s role k b → Alike role role' → ¬ IsField old b role i → ¬ IsField new b role' i → IsKeyField old new t b i → duty_of old t s role k ≡ Duty.Key → ⊥
+      go roles.Root roles.Root at alike n m (root_field e (inl f)) d = n f
+      go roles.Root roles.Root at alike n m (root_field e (inr f)) d = m f
+      go roles.Root roles.Root at alike n m (entry_field o key f) d = o (root_at old t s k b at)
+      go (roles.Entry dir q) (roles.Entry dir' q') at alike n m (entry_field o key (inl f)) d = n (f dir q)
+      go (roles.Entry dir q) (roles.Entry dir' q') at alike n m (entry_field o key (inr f)) d = m (f dir' q')
+      go (roles.Entry dir q) role' at alike n m (root_field e f) d =
+          let root_stands : StandsAt old t s roles.Root 0 b = record { within = omega arith; here = sym e; holder = tt } in
+          cc (same_place old t s (roles.Entry dir q) roles.Root k 0 b at root_stands).0
+      go roles.Page role' at alike n m f d = cc d
+      go (roles.Data file) role' at alike n m f d = cc d
+      go (roles.Extension file) role' at alike n m f d = cc d
+      go roles.Root roles.Page at alike n m f d = absurd alike
+      go roles.Root (roles.Entry dir q) at alike n m f d = absurd alike
+      go roles.Root (roles.Data file) at alike n m f d = absurd alike
+      go roles.Root (roles.Extension file) at alike n m f d = absurd alike
+      go (roles.Entry dir q) roles.Root at alike n m f d = absurd alike
+      go (roles.Entry dir q) roles.Page at alike n m f d = absurd alike
+      go (roles.Entry dir q) (roles.Data file) at alike n m f d = absurd alike
+      go (roles.Entry dir q) (roles.Extension file) at alike n m f d = absurd alike
+
+  module _ (changed : ℕ → ℕ → Type 0) (h : SameBut changed old new) (fields : (b i : ℕ) → i < 512 → changed b i → IsKeyField old new t b i) where
+    boot_byte : (k : ℕ) → k < 1024 → slice_index new k ≡ slice_index old k
+    unfolding byte_at
+    boot_byte k l =
+        let here : 512 * (k / 512) + k % 512 ≡ k = omega arith in
+        let unchanged : ¬ changed (k / 512) (k % 512) = λ w.
+        let inside = s.fits.inside (k / 512) Duty.Key (is_key (k / 512) (k % 512) (fields (k / 512) (k % 512) (omega arith) w)) in
+        omega (arith, l, inside.0) in
+        ap (slice_index new) (sym here) ∙ h.same_byte (k / 512) (k % 512) (omega arith) unchanged ∙ ap (slice_index old) here
+
+    boot_kept : bytes_at new 0 0 1024 ≡ bytes_at old 0 0 1024
+    unfolding bytes_at
+    boot_kept =
+        ext_get_or 0 (take 1024 (drop (512 * 0 + 0) new)) (take 1024 (drop (512 * 0 + 0) old))
+        (omega (arith, length-take 1024 (drop (512 * 0 + 0) new), length-take 1024 (drop (512 * 0 + 0) old), length-drop (512 * 0 + 0) new, length-drop (512 * 0 + 0) old, h.same_length))
+        (λ k l.
+        let below : k < 1024 = omega (arith, l, length-take 1024 (drop (512 * 0 + 0) new)) in
+        get_or-take 1024 (drop (512 * 0 + 0) new) k 0 below ∙ get_or-drop (512 * 0 + 0) new k 0
+        ∙ boot_byte (512 * 0 + 0 + k) (omega (arith, below))
+        ∙ sym (get_or-take 1024 (drop (512 * 0 + 0) old) k 0 below ∙ get_or-drop (512 * 0 + 0) old k 0))
+
+    -- all else is kept
+    pub kept_fields : Kept old new
+    kept_fields = record {
+      size = h.same_length;
+      boot = boot_kept;
+      others = λ b i role role' l a a' alike n m. h.same_byte b i l (λ w. let at = reached_stands old t s a in no_field b i at.0 role role' at.1 alike n m (fields b i l w));
+    }
+
+  -- ---- what tells of a node is part of a field
+
+  -- the sum or the disk date of the root
+  pub disk_date_field : (b : ℕ) → b ≡ root t → (i : ℕ) → (i / 4 ≡ 5) ⊎ ((472 ≤ i) × (i < 484)) → IsKeyField old new t b i
+  disk_date_field b e i (inl f) = root_field e (inl (root_longs (2, (5, 78), omega arith, refl, (omega (arith, f), omega (arith, f)))))
+  disk_date_field b e i (inr f) = root_field e (inl (root_longs (5, (118, 123), omega arith, refl, (omega (arith, f.0), omega (arith, f.1)))))
+
+  module _ (key : ℕ) (node after : Node) (at : t.nodes key ≡ Some node) where
+    -- the sum, the protection and the date of an entry
+    entry_longs : key ≢ root t → (i : ℕ) → (i / 4 ≡ 5) ⊎ ((i / 4 ≡ 80) ⊎ ((420 ≤ i) × (i < 432))) → (dir q : ℕ) → IsField old key (roles.Entry dir q) i
+    entry_longs n i place dir q = elim (root_or_parent t s.proper key node at) [
+      | inl e ↦ absurd (n e)
+      | inr p ↦ by_content node.content (s.entries key p.0 node at p.1).secondary place
+    ]
+      where
+        by_content : (c : Content) → secondary_type old key ≡ type_of c → (i / 4 ≡ 5) ⊎ ((i / 4 ≡ 80) ⊎ ((420 ≤ i) × (i < 432))) → IsField old key (roles.Entry dir q) i
+        by_content (Directory keys) e (inl f) = directory_longs e (1, (5, 77), omega arith, refl, (omega (arith, f), omega (arith, f)))
+        by_content (Directory keys) e (inr (inl f)) = directory_longs e (2, (80, 80), omega arith, refl, (omega (arith, f), omega (arith, f)))
+        by_content (Directory keys) e (inr (inr f)) = directory_longs e (3, (105, 107), omega arith, refl, (omega (arith, f.0), omega (arith, f.1)))
+        by_content (File bytes) e (inl f) = file_longs e (1, (4, 5), omega arith, refl, (omega (arith, f), omega (arith, f)))
+        by_content (File bytes) e (inr (inl f)) = file_longs e (3, (80, 81), omega arith, refl, (omega (arith, f), omega (arith, f)))
+        by_content (File bytes) e (inr (inr f)) = file_longs e (4, (105, 107), omega arith, refl, (omega (arith, f.0), omega (arith, f.1)))
+
+    key_serves : IsSome (t.nodes key)
+    key_serves = rw at refl
+
+    -- the sum or the date, of the root or of an entry
+    summed_or_dated : (i : ℕ) → (i / 4 ≡ 5) ⊎ ((420 ≤ i) × (i < 432)) → IsKeyField old new t key i
+    summed_or_dated i place = elim (cases_eq key (root t)) [
+      | inl e ↦ root_field e (inl (elim place [
+        | inl f ↦ root_longs (2, (5, 78), omega arith, refl, (omega (arith, f), omega (arith, f)))
+        | inr f ↦ root_longs (4, (105, 107), omega arith, refl, (omega (arith, f.0), omega (arith, f.1)))
+      ]))
+      | inr n ↦ entry_field n key_serves (inl (entry_longs n i (elim place [ inl f ↦ inl f | inr f ↦ inr (inr f) ])))
+    ]
+
+    pub telling_field : (key ≡ root t → HasText new key name_byte after.name) → (key ≢ root t → HasText new key comment_byte after.comment) → (i : ℕ) → Telling t key after i → IsKeyField old new t key i
+    telling_field name comment i (Telling.sum e) = summed_or_dated i (inl e)
+    telling_field name comment i (Telling.date l m) = summed_or_dated i (inr (l, m))
+    telling_field name comment i (Telling.root_name e l m) = root_field e (inr (root_name (l, omega (arith, m, (name e).counted))))
+    telling_field name comment i (Telling.disk_date e l m) = disk_date_field key e i (inr (l, m))
+    telling_field name comment i (Telling.bits n l m) = entry_field n key_serves (inl (entry_longs n i (inr (inl (omega (arith, l, m))))))
+    telling_field name comment i (Telling.comment n l m) = entry_field n key_serves (inr (λ dir q. entry_comment (l, omega (arith, m, (comment n).counted))))

@@ -1,0 +1,186 @@
+-- A tree in which one node is told of anew: what its list and its directory rest on stays.
+use Rattle.std.proofs.Common.{◌≡◌, ◌≢◌, ℕ, suc, ◌≤◌, inl, inr, Bool, cond, ◌==◌, List, [], ◌∷◌, map, filter, slice_index_or, AllPairs, Contains, Option, Some, None, is_some, option_map, option_and_then, refl, sym, ap, ap₂, ◌∙◌, subst, arith, eq-eqb}
+use Rattle.std.proofs.lemmas.Bool.{ne_eqb, cases_eq}
+use Rattle.std.proofs.lemmas.List.Elements.{Contains-get_or}
+use Rattle.ados_name.specs.declared.Date3.{Date3}
+use Rattle.ados_name.specs.Name.{upper, slot, IsName, IsComment}
+use Rattle.ados_data.specs.Cost.{data_count}
+use Rattle.ados_tree.specs.Tree.{Node, Tree, Proper, IsRoot, LeadsToRoot, root, content_at, entries_in, entries, size_in, name_in, name_of, parent_of}
+use Rattle.ados_tree.specs.Tree.LeadsToRoot.{at_root, by_parent}
+use Rattle.ados_tree.specs.Layout.{Layout, Fits, Duty, HasDuty}
+use Rattle.ados_tree.specs.Stands.{in_slot}
+use Rattle.ados_tree.specs.Change.{stamped, with_node}
+use Rattle.ados_tree.proofs.Nodes.{entry_node}
+
+-- the tree with this node at a key, and this disk date
+abbrev pub retold : ℕ → Node → Date3 → Tree → Tree
+retold key after d t = stamped d (with_node key (Some after) t)
+
+-- the node of the key may give way to another one, and the disk date to this one: parent and content stay, the name too but the root's, and only with the root the disk date may change
+pub record Retells (t : Tree) (key : ℕ) (node after : Node) (d : Date3) : Type 0 where
+  pub at : t.nodes key ≡ Some node
+  pub parent : after.parent ≡ node.parent
+  pub content : after.content ≡ node.content
+  pub name : IsName after.name
+  pub comment : IsComment after.comment
+  pub same_name : key ≢ root t → after.name ≡ node.name
+  pub same_disk : key ≢ root t → d ≡ t.disk_date
+  pub no_protection : key ≡ root t → after.protection ≡ 0
+  pub no_comment : key ≡ root t → after.comment ≡ []
+
+-- tests that agree on a list keep the same of it
+filter_same : (p q : ℕ → Bool) (xs : List ℕ) → ((x : ℕ) → Contains xs x → p x ≡ q x) → filter p xs ≡ filter q xs
+filter_same p q [] same = refl
+filter_same p q (x ∷ xs) same =
+    ap₂ (λ (b : Bool) (ys : List ℕ). cond b (x ∷ ys) ys) (same x (0, omega arith, refl))
+    (filter_same p q xs (λ y m. same y (suc m.0, omega (arith, m.1), m.2)))
+
+-- the root is no entry
+pub entry_not_root : (t : Tree) → Proper t → (dir k : ℕ) → Contains (entries t dir) k → k ≢ root t
+entry_not_root t p dir k c e =
+    let n = entry_node t p dir k c in
+    let same : n.0 ≡ p.root_node.0 = cc (n.1, ap t.nodes e ∙ p.root_node.1) in
+    let none : n.0.parent ≡ None = ap (λ (a : Node). a.parent) same ∙ p.root_node.2.no_parent in
+    cc (none, n.2)
+
+module _ (t : Tree) (key : ℕ) (node after : Node) (d : Date3) (r : Retells t key node after d) where
+  abbrev u : Tree
+  u = retold key after d t
+
+  pub at_key : (k : ℕ) → k ≡ key → u.nodes k ≡ Some after
+  at_key k e = rw (eq-eqb k key e) refl
+
+  pub at_other : (k : ℕ) → k ≢ key → u.nodes k ≡ t.nodes k
+  at_other k n = rw (ne_eqb k key n) refl
+
+  was_key : (k : ℕ) → k ≡ key → t.nodes k ≡ Some node
+  was_key k e = ap t.nodes e ∙ r.at
+
+  -- what is the same of the node before and after is the same at each key
+  same_of : {A : Type 0} (f : Option Node → A) (k : ℕ) → (k ≡ key → f (Some after) ≡ f (Some node)) → f (u.nodes k) ≡ f (t.nodes k)
+  same_of f k same = elim (cases_eq k key) [
+    | inl e ↦ ap f (at_key k e) ∙ same e ∙ sym (ap f (was_key k e))
+    | inr n ↦ ap f (at_other k n)
+  ]
+
+  pub contents : (k : ℕ) → content_at u k ≡ content_at t k
+  contents k = same_of (option_map (λ (a : Node). a.content)) k (λ e. ap Some r.content)
+
+  parents : (k : ℕ) → parent_of u k ≡ parent_of t k
+  parents k = same_of (option_and_then (λ (a : Node). a.parent)) k (λ e. r.parent)
+
+  names : (k : ℕ) → k ≢ root t → name_of u k ≡ name_of t k
+  names k n = same_of name_in k (λ e. r.same_name (λ z. n (e ∙ z)))
+
+  some_same : (k : ℕ) → is_some (u.nodes k) ≡ is_some (t.nodes k)
+  some_same k = same_of is_some k (λ e. refl)
+
+  entries_same : (dir : ℕ) → entries u dir ≡ entries t dir
+  entries_same dir = ap entries_in (contents dir)
+
+  -- the node of a key before
+  pub record Was (k : ℕ) (a : Node) : Type 0 where
+    pub old : Node
+    pub at : t.nodes k ≡ Some old
+    pub parent : a.parent ≡ old.parent
+    pub content : a.content ≡ old.content
+
+  pub was : (k : ℕ) (a : Node) → u.nodes k ≡ Some a → Was k a
+  was k a e = elim (cases_eq k key) [
+    | inl q ↦
+        let same : after ≡ a = cc (at_key k q, e) in
+        record { old = node; at = was_key k q; parent = ap (λ (b : Node). b.parent) (sym same) ∙ r.parent; content = ap (λ (b : Node). b.content) (sym same) ∙ r.content }
+    | inr n ↦ record { old = a; at = sym (at_other k n) ∙ e; parent = refl; content = refl }
+  ]
+
+  leads_on : (k : ℕ) → LeadsToRoot t k → LeadsToRoot u k
+  leads_on k (at_root e) = at_root e
+  leads_on k (by_parent {dir = dir} p q) = by_parent (parents k ∙ p) (leads_on dir q)
+
+  module _ (p : Proper t) where
+    listed_names : (dir k : ℕ) → Contains (entries t dir) k → name_of u k ≡ name_of t k
+    listed_names dir k c = names k (entry_not_root t p dir k c)
+
+    pub slots_same : (dir s : ℕ) → in_slot u dir s ≡ in_slot t dir s
+    slots_same dir s =
+        ap (filter (λ k. slot (name_of u k) == s)) (entries_same dir)
+        ∙ filter_same (λ k. slot (name_of u k) == s) (λ k. slot (name_of t k) == s) (entries t dir) (λ k c. ap (λ (name : List ℕ). slot name == s) (listed_names dir k c))
+
+    was_listed : (dir k : ℕ) → Contains (entries u dir) k → Contains (entries t dir) k
+    was_listed dir k c = subst (λ (keys : List ℕ). Contains keys k) (entries_same dir) c
+
+    root_after : (a : Node) × (u.nodes (root t) ≡ Some a) × IsRoot a
+    root_after = elim (cases_eq (root t) key) [
+      | inl q ↦
+          let m = p.root_node in
+          let same : node ≡ p.root_node.0 = cc (was_key (root t) q, p.root_node.1) in (
+            after,
+            at_key (root t) q,
+            record {
+              no_parent = r.parent ∙ ap (λ (a : Node). a.parent) same ∙ p.root_node.2.no_parent;
+              no_protection = r.no_protection (sym q);
+              no_comment = r.no_comment (sym q);
+              keys = p.root_node.2.keys;
+              directory = r.content ∙ ap (λ (a : Node). a.content) same ∙ p.root_node.2.directory;
+            },
+          )
+      | inr n ↦ (p.root_node.0, at_other (root t) n ∙ p.root_node.1, p.root_node.2)
+    ]
+
+    -- a fact of the nodes' names or comments
+    of_each : (P : Node → Type 0) → P after → ((k : ℕ) (a : Node) → t.nodes k ≡ Some a → P a) → (k : ℕ) (a : Node) → u.nodes k ≡ Some a → P a
+    of_each P here there k a e = elim (cases_eq k key) [
+      | inl q ↦ let same : after ≡ a = cc (at_key k q, e) in subst P same here
+      | inr n ↦ there k a (sym (at_other k n) ∙ e)
+    ]
+
+    pub proper_after : Proper u
+    proper_after = record {
+      size = p.size;
+      inside = λ k a e. let w = was k a e in p.inside k w.old w.at;
+      root_node = root_after;
+      listed = λ dir k. (
+        λ c. parents k ∙ (p.listed dir k).0 (was_listed dir k c),
+        λ e. subst (λ (keys : List ℕ). Contains keys k) (sym (entries_same dir)) ((p.listed dir k).1 (sym (parents k) ∙ e)),
+      );
+      once = λ dir. subst (AllPairs (λ j k. j ≢ k)) (sym (entries_same dir)) (p.once dir);
+      unlike = λ dir j k c m same.
+          let b = was_listed dir j c in
+          let n = was_listed dir k m in
+          p.unlike dir j k b n (ap (map upper) (sym (listed_names dir j b)) ∙ same ∙ ap (map upper) (listed_names dir k n));
+      rising = λ dir. subst (AllPairs (λ j k. slot (name_of u j) ≤ slot (name_of u k))) (sym (entries_same dir)) (rises dir);
+      rooted = λ k a e. let w = was k a e in leads_on k (p.rooted k w.old w.at);
+      name = of_each (λ (a : Node). IsName a.name) r.name p.name;
+      comment = of_each (λ (a : Node). IsComment a.comment) r.comment p.comment;
+    }
+      where
+        rises : (dir : ℕ) → AllPairs (λ j k. slot (name_of u j) ≤ slot (name_of u k)) (entries t dir)
+        rises dir i j e l m =
+            let first = ap slot (listed_names dir (slice_index_or (entries t dir) i e) (Contains-get_or (entries t dir) i e (omega arith))) in
+            let second = ap slot (listed_names dir (slice_index_or (entries t dir) j e) (Contains-get_or (entries t dir) j e m)) in
+            omega (arith, first, second, p.rising dir i j e l m)
+
+  -- the blocks have the duties that they had
+  pub serves_back : (l : Layout) (b : ℕ) (duty : Duty) → HasDuty u l b duty → HasDuty t l b duty
+  serves_back l b (Duty.Page i) m = m
+  serves_back l b Duty.Key m = sym (some_same b) ∙ m
+  serves_back l b (Duty.Data file i) m = m
+  serves_back l b (Duty.Extension file i) m = m
+  serves_back l b Duty.Lost m = m
+
+  pub serves_on : (l : Layout) (b : ℕ) (duty : Duty) → HasDuty t l b duty → HasDuty u l b duty
+  serves_on l b (Duty.Page i) m = m
+  serves_on l b Duty.Key m = some_same b ∙ m
+  serves_on l b (Duty.Data file i) m = m
+  serves_on l b (Duty.Extension file i) m = m
+  serves_on l b Duty.Lost m = m
+
+  pub fits_after : (l : Layout) → Fits t l → Fits u l
+  fits_after l f = record {
+    pages = f.pages;
+    file_data = λ file. f.file_data file ∙ ap (data_count t.format) (ap size_in (sym (contents file)));
+    extensions = f.extensions;
+    inside = λ b duty m. f.inside b duty (serves_back l b duty m);
+    lost = f.lost;
+    one_duty = λ b duty other m n. f.one_duty b duty other (serves_back l b duty m) (serves_back l b other n);
+  }

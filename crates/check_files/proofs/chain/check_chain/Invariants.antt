@@ -1,0 +1,17 @@
+use Rattle.std.proofs.Common.{◌≡◌, ℕ, ◌*◌, ◌/◌, ◌<◌, ◌≤◌, ◌∷◌, take, slice_index}
+use Rattle.std.specs.List.{sum_by}
+use Rattle.adf_block.specs.Fields.{held_count}
+use Rattle.ados_data.specs.File.{pointer_block}
+use Rattle.check_files.proofs.Pointed.{blocks_upto}
+use Rattle.check_files.proofs.Linked.{IsLinkedAt, IsPlacedAt}
+use Rattle.check_files.proofs.chain.check_chain.Given as goal
+
+abbrev pub invariant-loop-place : goal.invariant-loop-place
+invariant-loop-place l = record {
+  holder : l.holder ≡ pointer_block l.image l.file (l.place / 72);
+  before : l.before ≡ slice_index (l.file ∷ blocks_upto l.image l.file l.count) l.place;
+  linked : (k : ℕ) → k < l.place → IsLinkedAt l.image l.file l.count k;
+  placed : (k : ℕ) → k < l.place → IsPlacedAt l.image l.file l.count k;
+  sum : l.sum ≡ sum_by (held_count l.image) (take l.place (blocks_upto l.image l.file l.count));
+  few : l.sum ≤ 488 * l.place;
+}

@@ -1,0 +1,18 @@
+use Rattle.std.proofs.Common.{◌⊎◌, ℕ, ◌==◌, IsTrue, sym, subst, arith}
+use Rattle.ados_tree.specs.Faults.{HasPointers, IsExtension}
+use Rattle.check_files.proofs.Headers.{within, has_pointers, first_or_extension, few_extensions}
+use Rattle.check_files.proofs.counts.count_blocks.Goals as goal
+
+pub count_in-requires-clause-held : goal.count_in-requires-clause-held
+count_in-requires-clause-held c =
+    subst (HasPointers c.args.image.now) (sym c.loop-passed.invariant.holder)
+    (has_pointers c.args.image.now c.args.file c.requires c.loop-passed.passed (within c.args.image.now c.args.file c.requires c.loop-passed.passed c.loop-passed.invariant.goes_on))
+
+pub count_in-requires-clause-extension : goal.count_in-requires-clause-extension
+count_in-requires-clause-extension c =
+    subst (λ (b : ℕ). IsTrue (c.loop-passed.passed == 0) ⊎ IsExtension c.args.image.now b) (sym c.loop-passed.invariant.holder)
+    (first_or_extension c.args.image.now c.args.file c.requires c.loop-passed.passed (within c.args.image.now c.args.file c.requires c.loop-passed.passed c.loop-passed.invariant.goes_on))
+
+pub unreachable-requires : goal.unreachable-requires
+unreachable-requires c =
+    omega (arith, c.loop-passed-test.false, c.blocks-passed-end.ensures.count, few_extensions c.args.image.now c.args.file c.requires, within c.args.image.now c.args.file c.requires c.loop-passed.passed c.loop-passed.invariant.goes_on)

@@ -1,0 +1,2 @@
+-- What the check knows of one file, step by step.
+pub mod Files

@@ -1,0 +1,2 @@
+-- The reached blocks that are marked free.
+mod Free

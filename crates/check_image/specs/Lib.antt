@@ -1,0 +1,1 @@
+-- Nothing of its own: the contracts stand on ados_tree and check_marks.

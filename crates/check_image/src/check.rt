@@ -1,0 +1,38 @@
+//! The whole check.
+ghost use Rattle.std.specs.Prelude.{IfOk, MatchResult};
+ghost use Rattle.ados_tree.specs.Tree.{Tree};
+ghost use Rattle.ados_tree.specs.Stands.{Stands};
+ghost use Rattle.ados_tree.specs.Accepted.{Accepts, HandsBack, IsRefusal};
+ghost use Rattle.check_marks.specs.Marks.{IsChecked};
+
+use crate::accept::{Accepted, Rejected, accept_checked};
+use adf_block::Image;
+use ados_tree::VolumeFault;
+use check_files::check_sound;
+use check_marks::Mark;
+use check_reach::{check_kind, reach};
+use std::alloc::Global;
+
+/// Accepts an image that shows no fault, and hands every other one back with a fault that it shows.
+///
+/// An accepted image stands for a tree. Where its root says that the bitmap is valid it is the one that was handed in; else
+/// the bitmap was written anew. `NoMemory` says that a list of the check could not be made, before any change.
+pub fn check_image(alloc: Global, image: Image) -> Result<Accepted, Rejected>
+    ensures answer { MatchResult result (λ accepted. Accepts image accepted.was_validated accepted.image) (λ rejected. HandsBack image rejected.image rejected.fault) }
+    ensures stands { IfOk result (λ accepted. (t : Tree) × Stands accepted.image t) }
+{
+    match checked_marks(alloc, &image) {
+        Ok(marks) => accept_checked(alloc, image, &marks),
+        Err(fault) => Err(Rejected { image, fault }),
+    }
+}
+
+/// The marks of the blocks that are reached, where nothing but the bitmap may still show a fault.
+fn checked_marks(alloc: Global, image: &Image) -> Result<Vec<Option<Mark>>, VolumeFault>
+    ensures { MatchResult result (λ marks. IsChecked image.now marks.items) (λ fault. IsRefusal image.now fault) }
+{
+    check_kind(image)?;
+    let marks = reach(alloc, image)?;
+    check_sound(alloc, image, &marks)?;
+    Ok(marks)
+}

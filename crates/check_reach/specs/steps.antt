@@ -1,0 +1,2 @@
+-- The walk over the reached blocks, step by step.
+pub mod Reaching

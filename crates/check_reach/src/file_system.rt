@@ -1,0 +1,27 @@
+//! What the boot block says of the file system.
+ghost use Rattle.std.specs.Prelude.{◌≡◌, MatchResult};
+ghost use Rattle.adf_block.specs.Image.{bytes_at};
+ghost use Rattle.ados_data.specs.File.{format_of};
+ghost use Rattle.ados_tree.specs.Stands.{kind_bytes};
+ghost use Rattle.ados_tree.specs.Faults.{Shows};
+
+use adf_block::{BootKind, Image};
+use ados_tree::{FaultKind, VolumeFault};
+
+/// Tests that the first four bytes name OFS or FFS, without further marks.
+pub fn check_kind(image: &Image) -> Result<(), VolumeFault>
+    ensures { MatchResult result (λ _. bytes_at image.now 0 0 4 ≡ kind_bytes (format_of image.now)) (λ fault. Shows image.now fault.kind fault.block) }
+{
+    prove!(image.blocks() >= 16);
+    match image.boot_kind() {
+        BootKind::Ofs | BootKind::Ffs => Ok(()),
+        BootKind::OtherDos(_) => Err(VolumeFault {
+            kind: FaultKind::UnsupportedKind,
+            block: 0,
+        }),
+        BootKind::NotDos => Err(VolumeFault {
+            kind: FaultKind::NotADosDisk,
+            block: 0,
+        }),
+    }
+}

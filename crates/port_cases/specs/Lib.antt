@@ -1,2 +1,0 @@
-pub mod Stub
-pub mod Deaths

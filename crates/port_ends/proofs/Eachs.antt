@@ -1,0 +1,155 @@
+-- Lists of outlets that change one at a time.
+use Rattle.std.proofs.Common.{◌≡◌, ◌≢◌, ℕ, zero, suc, ◌+◌, ◌<◌, ◌≤◌, ◌==◌, true, false, List, [], ◌∷◌, ◌++◌, length, set, take, length-append, Some, slice_get, sym, refl, ap, ◌∙◌, subst, arith, ⊎_elim, ◌⊎◌, inl, inr, append_assoc, append-nil}
+use Rattle.std.proofs.lemmas.List.{length-set, take_more_set}
+use Rattle.std.proofs.lemmas.Option.{slice_get_within, slice_get-get_or, get_or_from_slice_get}
+use Rattle.std.proofs.Math.ListN.{get_or}
+use native.Mathlib.Decide.{ℕ_discrete}
+use mathlib.Core.Logic.{dite}
+use Rattle.std.proofs.lemmas.List.Sums.{sum_by-set, sum_by_push, sum_by-cons, sum_by-take-le}
+use Rattle.port_history.specs.History.{packets_by}
+use Rattle.port_ends.specs.steps.Rule.{total}
+use Rattle.port_ends.specs.Rings.{OutView, Each, EachPosts, EachStaysPosted, Posts, StaysPosted, all_of, waiting_count}
+use Rattle.port_ends.specs.steps.Sending.{EachHasRoom, UsesOne, SendsTo}
+use Rattle.port_ends.proofs.Packets.{put_lists, same_number, other_number}
+
+same_or_not : (k i : ℕ) → (k ≡ i) ⊎ (k ≢ i)
+same_or_not k i = dite (ℕ_discrete k i) (λ e. inl e) (λ n. inr n)
+
+module _ {A : Type 0} where
+  pub get_set_same : (xs : List A) (i : ℕ) (y : A) → i < length xs → slice_get (set xs i y) i ≡ Some y
+  get_set_same [] i y h = absurd (omega arith)
+  get_set_same (x ∷ xs) zero y h = refl
+  get_set_same (x ∷ xs) (suc i) y h = get_set_same xs i y (omega arith)
+
+  pub get_set_other : (xs : List A) (i j : ℕ) (y : A) → j ≢ i → slice_get (set xs i y) j ≡ slice_get xs j
+  get_set_other [] i j y n = refl
+  get_set_other (x ∷ xs) zero zero y n = absurd (n refl)
+  get_set_other (x ∷ xs) zero (suc j) y n = refl
+  get_set_other (x ∷ xs) (suc i) zero y n = refl
+  get_set_other (x ∷ xs) (suc i) (suc j) y n = get_set_other xs i j y (λ e. n (ap suc e))
+
+module _ {T : Type 0} where
+  pub each_refl : (R : ℕ → OutView T → OutView T → Type 0) → ((k : ℕ) (o : OutView T) → R k o o) → (xs : List (OutView T)) → Each R xs xs
+  each_refl R r xs = (refl, λ k o e. (o, e, r k o))
+
+  pub each_then : (R P Z : ℕ → OutView T → OutView T → Type 0) → ((k : ℕ) (a b c : OutView T) → R k a b → P k b c → Z k a c) → (xs ys zs : List (OutView T)) → Each R xs ys → Each P ys zs → Each Z xs zs
+  each_then R P Z t xs ys zs h g = (g.0 ∙ h.0, λ k o e. let a = h.1 k o e in let b = g.1 k a.0 a.1 in (b.0, b.1, t k o a.0 b.0 a.2 b.2))
+
+  -- one more change, at i
+  pub each_set : (R P : ℕ → OutView T → OutView T → Type 0) → ((k : ℕ) (a b c : OutView T) → R k a b → P k b c → R k a c) → (xs ys : List (OutView T)) (i : ℕ) (o p : OutView T)
+      → Each R xs ys → i < length ys → o ≡ get_or ys i o → P i o p → Each R xs (set ys i p)
+  each_set R P t xs ys i o p h within at step = (
+    length-set ys i p ∙ h.0,
+    λ k a e. let b = h.1 k a e in ⊎_elim
+        (λ (here : k ≡ i).
+        let same : b.0 ≡ o = sym (get_or_from_slice_get ys i b.0 o (subst (λ (j : ℕ). slice_get ys j ≡ Some b.0) here b.1)) ∙ sym at in
+        let ra : R i a o = subst (λ (z : ℕ × OutView T). R z.0 a z.1) (λ l. (here l, same l)) b.2 in
+        (p, subst (λ (j : ℕ). slice_get (set ys i p) j ≡ Some p) (sym here) (get_set_same ys i p within), subst (λ (j : ℕ). R j a p) (sym here) (t i a o p ra step)))
+        (λ (other : k ≢ i). (b.0, get_set_other ys i k p other ∙ b.1, b.2))
+        (same_or_not k i),
+  )
+
+  pub posts_refl : (o : OutView T) → Posts o o
+  posts_refl o = (refl, ([], refl, sym (append-nil o.posted)), omega arith)
+
+  pub posts_posts : (a b c : OutView T) → Posts a b → Posts b c → Posts a c
+  posts_posts a b c h g = let x = h.2 in let y = g.2 in
+      (g.0 ∙ h.0, (h.1.0 ++ g.1.0, h.1.1 ∙ (ap (λ l. h.1.0 ++ l) g.1.1 ∙ sym (append_assoc h.1.0 g.1.0 c.waiting)), g.1.2 ∙ (ap (λ l. l ++ g.1.0) h.1.2 ∙ append_assoc a.posted h.1.0 g.1.0)), omega arith)
+
+  posts_all : (a b : OutView T) → Posts a b → all_of b ≡ all_of a
+  posts_all a b h = rw h.1.2 (append_assoc a.posted h.1.0 b.waiting) ∙ ap (λ l. a.posted ++ l) (sym h.1.1)
+
+  posts_fewer : (a b : OutView T) → Posts a b → length b.waiting ≤ length a.waiting
+  posts_fewer a b h = let e = ap (λ l. length l) h.1.1 in let l = length-append h.1.0 b.waiting in omega arith
+
+  pub stays_refl : (o : OutView T) → StaysPosted o o
+  stays_refl o = (refl, ([], sym (append-nil o.posted)))
+
+  pub stays_stays : (a b c : OutView T) → StaysPosted a b → StaysPosted b c → StaysPosted a c
+  stays_stays a b c h g = (g.0 ∙ h.0, (h.1.0 ++ g.1.0, g.1.1 ∙ (ap (λ l. l ++ g.1.0) h.1.1 ∙ append_assoc a.posted h.1.0 g.1.0)))
+
+  pub each_posts : (xs ys zs : List (OutView T)) → EachPosts xs ys → EachPosts ys zs → EachPosts xs zs
+  each_posts xs ys zs h g = each_then (λ _ o p. Posts o p) (λ _ o p. Posts o p) (λ _ o p. Posts o p) (λ _ a b c. posts_posts a b c) xs ys zs h g
+
+  pub each_posts_stays : (xs ys : List (OutView T)) → EachPosts xs ys → EachStaysPosted xs ys
+  each_posts_stays xs ys h = (h.0, λ k o e. let a = h.1 k o e in (a.0, a.1, (a.2.0, (a.2.1.0, a.2.1.2))))
+
+  pub each_stays_refl : (xs : List (OutView T)) → EachStaysPosted xs xs
+  each_stays_refl xs = each_refl (λ _ o p. StaysPosted o p) (λ _ o. stays_refl o) xs
+
+  pub each_stays : (xs ys zs : List (OutView T)) → EachStaysPosted xs ys → EachStaysPosted ys zs → EachStaysPosted xs zs
+  each_stays xs ys zs h g = each_then (λ _ o p. StaysPosted o p) (λ _ o p. StaysPosted o p) (λ _ o p. StaysPosted o p) (λ _ a b c. stays_stays a b c) xs ys zs h g
+
+  -- what was at this place before
+  pub before : (xs ys : List (OutView T)) (k : ℕ) (p : OutView T) → length ys ≡ length xs → slice_get ys k ≡ Some p → (o : OutView T) × (slice_get xs k ≡ Some o)
+  before xs ys k p len at = let within = slice_get_within ys k p at in (get_or xs k p, slice_get-get_or xs k p (omega arith))
+
+  -- what is said of all that was sent to each client is said where that is posted
+  pub posts_said : (f : ℕ → List T) (xs ys : List (OutView T)) → EachPosts xs ys
+      → ((k : ℕ) (o : OutView T) → slice_get xs k ≡ Some o → all_of o ≡ f k) → (k : ℕ) (p : OutView T) → slice_get ys k ≡ Some p → all_of p ≡ f k
+  posts_said f xs ys h was k p at =
+      let o = before xs ys k p h.0 at in
+      let g = h.1 k o.0 o.1 in
+      let same : g.0 ≡ p = let e = g.1 in cc in
+      posts_all o.0 p (subst (λ (q : OutView T). Posts o.0 q) same g.2) ∙ was k o.0 o.1
+
+  -- a reply was sent to one client
+  pub each_send : (xs : List (OutView T)) (client i : ℕ) (x : T) (o p : OutView T) → client ≡ i + 1 → i < length xs → o ≡ get_or xs i o
+      → StaysPosted o p → all_of p ≡ all_of o ++ x ∷ [] → o.room ≤ p.room + 1 → Each (SendsTo client x) xs (set xs i p)
+  each_send xs client i x o p is within at stays sent room = (
+    length-set xs i p,
+    λ k a e. ⊎_elim
+        (λ (here : k ≡ i).
+        let same : o ≡ a = at ∙ get_or_from_slice_get xs i a o (subst (λ (j : ℕ). slice_get xs j ≡ Some a) here e) in
+        let test : (client == k + 1) ≡ true = same_number client (k + 1) (is ∙ ap (λ (j : ℕ). j + 1) (sym here)) in
+        (p, subst (λ (j : ℕ). slice_get (set xs i p) j ≡ Some p) (sym here) (get_set_same xs i p within), rw test (subst (λ (b : OutView T). StaysPosted b p × (all_of p ≡ all_of b ++ x ∷ []) × (b.room ≤ p.room + 1)) same (stays, sent, room))))
+        (λ (other : k ≢ i).
+        let test : (client == k + 1) ≡ false = other_number client (k + 1) (λ same. other (omega arith)) in
+        (a, get_set_other xs i k p other ∙ e, rw test (stays_refl a, refl, omega arith)))
+        (same_or_not k i),
+  )
+
+  pub sends_stays : (client : ℕ) (x : T) (xs ys : List (OutView T)) → Each (SendsTo client x) xs ys → EachStaysPosted xs ys
+  sends_stays client x xs ys h = (h.0, λ k o e. let a = h.1 k o e in (a.0, a.1, a.2.0))
+
+  pub sends_one : (client : ℕ) (x : T) (xs ys : List (OutView T)) → Each (SendsTo client x) xs ys → UsesOne xs ys
+  sends_one client x xs ys h = (h.0, λ k o e. let a = h.1 k o e in (a.0, a.1, a.2.2))
+
+  pub room_step : (n m : ℕ) (xs ys : List (OutView T)) → m + 1 ≤ n → UsesOne xs ys → EachHasRoom n xs → EachHasRoom m ys
+  room_step n m xs ys less h room k p at =
+      let o = before xs ys k p h.0 at in
+      let g = h.1 k o.0 o.1 in
+      let same : g.0 ≡ p = let e = g.1 in cc in
+      let s = subst (λ (q : OutView T). o.0.room ≤ q.room + 1) same g.2 in
+      let r = room k o.0 o.1 in
+      omega arith
+
+  pub has_room_less : (n m : ℕ) (xs : List (OutView T)) → m ≤ n → EachHasRoom n xs → EachHasRoom m xs
+  has_room_less n m xs less room k o at = let r = room k o at in omega arith
+
+  -- one outlet more posted what fits: the count of those that wait so far, and in all
+  pub waiting_step : (xs : List (OutView T)) (i n most : ℕ) (o p : OutView T) → n ≡ waiting_count (take i xs) → waiting_count xs ≤ most → i < length xs → o ≡ get_or xs i o → Posts o p
+      → (n + length p.waiting ≡ waiting_count (take (i + 1) (set xs i p))) × (waiting_count (set xs i p) ≤ most)
+  waiting_step xs i n most o p was few within at h =
+      let f : OutView T → ℕ = λ x. length x.waiting in
+      let s = sum_by-set f xs i p o within in
+      let fewer = posts_fewer o p h in
+      let same = ap f at in (
+        ap (λ (k : ℕ). k + length p.waiting) was ∙ (sym (sum_by_push f (take i xs) p) ∙ ap (λ l. waiting_count l) (sym (take_more_set xs i p within))),
+        omega arith,
+      )
+
+  pub waiting_take : (xs : List (OutView T)) (i : ℕ) → waiting_count (take i xs) ≤ waiting_count xs
+  waiting_take xs i = sum_by-take-le (λ (x : OutView T). length x.waiting) xs i
+
+  -- the replies that wait are no more than those that were sent
+  pub waiting_few : (m : ℕ) (os : List (OutView T)) (sent : List (ℕ × T)) → ((k : ℕ) (o : OutView T) → slice_get os k ≡ Some o → all_of o ≡ packets_by (m + k + 1) sent)
+      → waiting_count os ≤ total (put_lists (length os) m sent)
+  waiting_few m [] sent each = omega arith
+  waiting_few m (o ∷ os) sent each =
+      let first = ap (λ l. length l) (each 0 o refl) in
+      let l = length-append o.posted o.waiting in
+      let rest = waiting_few (m + 1) os sent (λ k p e. subst (λ (j : ℕ). all_of p ≡ packets_by (j + 1) sent) (let z : m + suc k ≡ m + 1 + k = omega arith in z) (each (suc k) p e)) in
+      let c = sum_by-cons (λ (x : OutView T). length x.waiting) o os in
+      let z = ap (λ (j : ℕ). length (packets_by (j + 1) sent)) (let z : m + 0 ≡ m = omega arith in z) in
+      omega arith

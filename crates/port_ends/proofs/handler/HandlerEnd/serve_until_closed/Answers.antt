@@ -1,0 +1,38 @@
+use Rattle.std.proofs.Common.{◌∙◌, ◌++◌, [], arith, ap, sym, refl, inl, inr}
+use Rattle.port_ends.proofs.Handling.{serves_none, serves_more, serves_posts}
+use Rattle.port_ends.proofs.handler.HandlerEnd.serve_until_closed.Goals as goal
+
+pub loop-init : goal.loop-init
+loop-init g c = record { served = ([], serves_none g.S.Server.gives _ _); idle = c.requires }
+
+pub returns-in_err-serve_batch-clause-served : goal.returns-in_err-serve_batch-clause-served
+returns-in_err-serve_batch-clause-served g c =
+    let h = c.loop.invariant.served in
+    let e = c.in_err-serve_batch.ensures.err in
+    (h.0 ++ [], serves_more g.S.Server.gives _ _ _ _ _ _ h.1 (serves_posts g.S.Server.gives _ _ _ _ e.0 e.1))
+
+pub loop-preserved-then-branch-gt0 : goal.loop-preserved-then-branch-gt0
+loop-preserved-then-branch-gt0 g c =
+    let h = c.loop.invariant.served in
+    let b = c.in_ok-serve_batch.ensures.ok.1 in
+    record { served = (h.0 ++ b.0, serves_more g.S.Server.gives _ _ _ _ _ _ h.1 b.2); idle = c.requires }
+
+pub returns-then-died-clause-served : goal.returns-then-died-clause-served
+returns-then-died-clause-served g c =
+    let h = c.loop.invariant.served in let b = c.in_ok-serve_batch.ensures.ok.1 in (h.0 ++ b.0, serves_more g.S.Server.gives _ _ _ _ _ _ h.1 b.2)
+
+pub returns-then-died-clause-end : goal.returns-then-died-clause-end
+returns-then-died-clause-end g c = inl (refl, sym (ap g.S.Server.has_died c.server.ensures) ∙ (sym c.died.ensures ∙ c.if-died.true))
+
+pub returns-then-idle-idle_limit-clause-end : goal.returns-then-idle-idle_limit-clause-end
+returns-then-idle-idle_limit-clause-end g c = inr (refl, sym (ap g.S.Server.has_died c.server.ensures) ∙ (sym c.died.ensures ∙ c.if-died.false))
+
+pub returns-then-idle-idle_limit-clause-served : goal.returns-then-idle-idle_limit-clause-served
+returns-then-idle-idle_limit-clause-served g c =
+    let h = c.loop.invariant.served in let b = c.in_ok-serve_batch.ensures.ok.1 in (h.0 ++ b.0, serves_more g.S.Server.gives _ _ _ _ _ _ h.1 b.2)
+
+pub loop-preserved : goal.loop-preserved
+loop-preserved g c =
+    let h = c.loop.invariant.served in
+    let b = c.in_ok-serve_batch.ensures.ok.1 in
+    record { served = (h.0 ++ b.0, serves_more g.S.Server.gives _ _ _ _ _ _ h.1 b.2); idle = omega (arith, c.if-idle-idle_limit.false) }

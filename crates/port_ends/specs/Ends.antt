@@ -1,0 +1,107 @@
+-- What contracts see of a port's ends.
+use Rattle.std.specs.Prelude.{◌≡◌, ◌⊎◌, ◌||◌, ℕ, ◌+◌, ◌≤◌, Bool, true, false, List, [], ◌∷◌, ◌++◌, length, map, Some, slice_get}
+use Rattle.std.specs.declared.alloc.Global.{Global}
+use Rattle.crossbeam_queue.specs.SegTies.{SegId}
+use Rattle.port_history.specs.declared.step.Reply.{Reply}
+use Rattle.port_history.specs.declared.step.PutRefused.{PutRefused}
+use Rattle.port_history.specs.declared.step.PutRefused.TheVariants.{Closed, NoRoom}
+use Rattle.port_history.specs.History.{Serving, MeaningRun, packets_by, packets_of}
+use Rattle.port_ends.specs.Rings.{RingId, OutView, all_of, AreEmpty, EachStaysPosted}
+
+-- a client's end: its port, mark and ring, its number, its put list, its taken list with the moments, and whether it knows of the close
+pub record ClientView (Q M A : Type 0) : Type 0 where
+  pub port : SegId Global
+  pub mark : ℕ
+  pub ring : RingId
+  pub number : ℕ
+  pub put : List Q
+  pub taken : List (M × A)
+  pub knows : Bool
+
+-- the handler's end: its port and mark, the opening server, what was served, the server now, for each client what was posted and what waits, and whether the mark is known to be set
+pub record HandlerView (S Q M A : Type 0) : Type 0 where
+  pub port : SegId Global
+  pub mark : ℕ
+  pub opening : S
+  pub served : List (Serving Q M A)
+  pub server : S
+  pub outlets : List (OutView (M × A))
+  pub knows : Bool
+
+-- each packet is one of the clients 1 to n
+abbrev pub OfClients : {Q : Type 0} → ℕ → List (ℕ × Q) → Type 0
+OfClients n [] = Unit {0}
+OfClients n (packet ∷ packets) = (1 ≤ packet.0) × (packet.0 ≤ n) × OfClients n packets
+
+-- all were served at this moment
+abbrev pub AllAt : {Q M A : Type 0} → M → List (Serving Q M A) → Type 0
+AllAt moment [] = Unit {0}
+AllAt moment (s ∷ served) = (s.moment ≡ moment) × AllAt moment served
+
+module _ {Q M A : Type 0} where
+  -- the replies to this client, in order, each with its moment
+  abbrev pub replies_to : ℕ → List (Serving Q M A) → List (M × A)
+  replies_to client served = packets_by client (map (λ s. (s.client, (s.moment, s.answer))) served)
+
+  -- a put was accepted: the packet is the last that was put, its number says how many were put, and this end knows of no close
+  abbrev pub PutAccepted : ClientView Q M A → Q → ClientView Q M A → ℕ → Type 0
+  PutAccepted old packet new number = (new ≡ record old { put = old.put ++ packet ∷ []; knows = false }) × (number ≡ length new.put)
+
+  -- a put was refused: the packet is handed back, as closed where this end knows of the close, and else for want of room
+  abbrev pub PutIsRefused : ClientView Q M A → Q → ClientView Q M A → PutRefused Q → Type 0
+  PutIsRefused old packet new refused =
+      ((refused ≡ Closed packet) × (new ≡ record old { knows = true }))
+      ⊎ ((refused ≡ NoRoom packet) × (new ≡ record old { knows = false }))
+
+  -- a reply was taken: its answer is the last that was taken, its number says how many were taken, and one that closes tells of the close
+  abbrev pub TookReply : (A → Bool) → ClientView Q M A → ClientView Q M A → Reply A → Type 0
+  TookReply is_closing old new reply =
+      (moment : M)
+      × (new ≡ record old { taken = old.taken ++ (moment, reply.answer) ∷ []; knows = is_closing reply.answer || old.knows })
+      × (reply.number ≡ length new.taken)
+
+  -- nothing was put or taken, and this end does not know of a close
+  abbrev pub IsFresh : ClientView Q M A → Type 0
+  IsFresh c = (c.put ≡ []) × (c.taken ≡ []) × (c.knows ≡ false)
+
+  -- of all clients
+  abbrev pub AreFresh : List (ClientView Q M A) → Type 0
+  AreFresh cs = (k : ℕ) (c : ClientView Q M A) → slice_get cs k ≡ Some c → IsFresh c
+
+module _ {S Q M A : Type 0} where
+  -- this is the end of client k + 1
+  abbrev pub IsEndOf : HandlerView S Q M A → ℕ → ClientView Q M A → Type 0
+  IsEndOf h k c = (c.port ≡ h.port) × (c.mark ≡ h.mark) × (c.number ≡ k + 1) × ((o : OutView (M × A)) → slice_get h.outlets k ≡ Some o → o.ring ≡ c.ring)
+
+  -- these are all clients' ends, in order
+  abbrev pub AreEnds : HandlerView S Q M A → List (ClientView Q M A) → Type 0
+  AreEnds h cs = (length cs ≡ length h.outlets) × ((k : ℕ) (c : ClientView Q M A) → slice_get cs k ≡ Some c → IsEndOf h k c)
+
+  -- a port over this server, with nothing served
+  abbrev pub IsNew : S → HandlerView S Q M A → Type 0
+  IsNew server h = (h.opening ≡ server) × (h.server ≡ server) × (h.served ≡ []) × (h.knows ≡ false)
+
+  -- a port over this server with so many clients, where nothing was put, served or taken
+  abbrev pub IsOpened : S → ℕ → HandlerView S Q M A → List (ClientView Q M A) → Type 0
+  IsOpened server clients h cs = IsNew server h × AreEmpty h.outlets × AreEnds h cs × AreFresh cs × (length cs ≡ clients)
+
+  -- what holds of a handler's end at every moment
+  pub record IsSound (gives : S → Q → M → S → A → Type 0) (has_died : S → Bool) (h : HandlerView S Q M A) : Type 0 where
+    -- what was served is a run from the opening server, and the server stands where it ends
+    pub run : MeaningRun gives h.opening h.served h.server
+    -- the mark is known to be set exactly where the server has died
+    pub mark : h.knows ≡ has_died h.server
+    -- each client's replies, those posted and then those that wait, are the replies to its served packets
+    pub replies : (k : ℕ) (o : OutView (M × A)) → slice_get h.outlets k ≡ Some o → all_of o ≡ replies_to (k + 1) h.served
+    -- each served packet is one of these clients'
+    pub clients : OfClients (length h.outlets) (packets_of h.served)
+
+  -- these packets were served at this moment, by the server as it was and then is; what was posted stays posted
+  pub record Serves (gives : S → Q → M → S → A → Type 0) (moment : M) (old : HandlerView S Q M A) (served : List (Serving Q M A)) (new : HandlerView S Q M A) : Type 0 where
+    pub port : new.port ≡ old.port
+    pub mark : new.mark ≡ old.mark
+    pub opening : new.opening ≡ old.opening
+    pub served_more : new.served ≡ old.served ++ served
+    pub moments : AllAt moment served
+    pub run : MeaningRun gives old.server served new.server
+    pub rings : EachStaysPosted old.outlets new.outlets

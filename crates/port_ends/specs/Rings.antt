@@ -1,0 +1,51 @@
+-- What contracts see of the sending ends of the reply rings.
+use Rattle.std.specs.Prelude.{◌≡◌, ℕ, ◌≤◌, List, ◌++◌, [], length, Some, slice_get}
+use Rattle.std.specs.List.{sum_by}
+use Rattle.std.specs.declared.alloc.Global.{Global}
+use denote.RawPtr.{Ptr}
+
+-- which ring
+pub record RingId : Type 0 where
+  pub words : Ptr
+  pub slots : Ptr
+  pub names : ℕ × (ℕ × ℕ)
+  pub heap : Global
+
+-- what was posted to the ring, what waits beside it, and how many more the list beside it has room for
+pub record OutView (T : Type 0) : Type 0 where
+  pub ring : RingId
+  pub posted : List T
+  pub waiting : List T
+  pub room : ℕ
+
+-- all that was sent: what was posted, and then what waits
+abbrev pub all_of : {T : Type 0} → OutView T → List T
+all_of o = o.posted ++ o.waiting
+
+-- the first of what waited was posted, in order, and no room is lost
+abbrev pub Posts : {T : Type 0} → OutView T → OutView T → Type 0
+Posts {T} old new = (new.ring ≡ old.ring) × ((xs : List T) × (old.waiting ≡ xs ++ new.waiting) × (new.posted ≡ old.posted ++ xs)) × (old.room ≤ new.room)
+
+-- the same ring, where all that was posted stays posted
+abbrev pub StaysPosted : {T : Type 0} → OutView T → OutView T → Type 0
+StaysPosted {T} old new = (new.ring ≡ old.ring) × ((xs : List T) × (new.posted ≡ old.posted ++ xs))
+
+-- the same outlets in the same order, the k-th as R says
+abbrev pub Each : {T : Type 0} → (ℕ → OutView T → OutView T → Type 0) → List (OutView T) → List (OutView T) → Type 0
+Each {T} R old new = (length new ≡ length old) × ((k : ℕ) (o : OutView T) → slice_get old k ≡ Some o → (p : OutView T) × (slice_get new k ≡ Some p) × R k o p)
+
+-- of each, the first of what waited was posted, in order
+abbrev pub EachPosts : {T : Type 0} → List (OutView T) → List (OutView T) → Type 0
+EachPosts old new = Each (λ _ o p. Posts o p) old new
+
+-- of each, what was posted stays posted
+abbrev pub EachStaysPosted : {T : Type 0} → List (OutView T) → List (OutView T) → Type 0
+EachStaysPosted old new = Each (λ _ o p. StaysPosted o p) old new
+
+-- how many replies wait at all outlets together
+abbrev pub waiting_count : {T : Type 0} → List (OutView T) → ℕ
+waiting_count os = sum_by (λ o. length o.waiting) os
+
+-- no reply was posted or waits
+abbrev pub AreEmpty : {T : Type 0} → List (OutView T) → Type 0
+AreEmpty {T} os = (k : ℕ) (o : OutView T) → slice_get os k ≡ Some o → (o.posted ≡ []) × (o.waiting ≡ [])

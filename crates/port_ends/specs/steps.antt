@@ -1,0 +1,10 @@
+-- What only the calls inside speak of: the queue and its rule, the rings, the closing mark, the history of what was served, and the room for a gathering.
+pub mod Trails
+pub mod ClosingMark
+pub mod QueueEnds
+pub mod Rule
+pub mod Sending
+pub mod RingEnds
+pub mod Desks
+pub mod Entries
+pub mod Rooms

@@ -1,0 +1,32 @@
+-- The port's rule: for each client, its packets in the handler's taken list followed by its packets in the queue are its put list.
+use Rattle.std.specs.Prelude.{◌≡◌, ℕ, ◌+◌, ◌<◌, ◌≤◌, true, false, List, [], ◌∷◌, ◌++◌, length, Some, slice_get}
+use mathlib.Core.Option.{some}
+use lib.ListN.{get_elem?}
+use Rattle.port_ends.specs.declared.seat.Seat.{Seat}
+use Rattle.port_history.specs.History.{packets_by}
+use Rattle.port_ends.specs.Ends.{OfClients}
+
+module _ {Q : Type 0} where
+  -- how many packets these lists have together
+  abbrev pub total : List (List Q) → ℕ
+  total [] = 0
+  total (put ∷ puts) = length put + total puts
+
+  -- the handler's pass: how many clients there are, what was taken, and the put lists of the clients that were gathered
+  abbrev pub handler : ℕ → List (ℕ × Q) → List (List Q) → Seat Q
+  handler n taken known = record { handles = true; number = n; put = []; taken = taken; known = known }
+
+  -- a client's pass: its number, and what it put
+  abbrev pub client : ℕ → List Q → Seat Q
+  client k put = record { handles = false; number = k; put = put; taken = []; known = [] }
+
+  -- the pass of client k. A spent one has number 0, and its client was gathered
+  abbrev pub FitsClient : List (ℕ × Q) → ℕ → ℕ → Seat Q → Type 0
+  FitsClient all gathered k v = (v.handles ≡ false) × (0 < v.number → (v.number ≡ k) × (gathered < k) × (v.put ≡ packets_by k all)) × (v.number ≡ 0 → k ≤ gathered)
+
+  -- the first pass is the handler's, and client k has pass k
+  abbrev pub PortRule : List (ℕ × Q) → List (Seat Q) → Type 0
+  PortRule items [] = ⊥
+  PortRule items (h ∷ cs) = (h.handles ≡ true) × (length cs ≡ h.number) × (length h.known ≤ h.number) × OfClients h.number (h.taken ++ items)
+      × ((k : ℕ) (v : Seat Q) → get_elem? cs k ≡ some v → FitsClient (h.taken ++ items) (length h.known) (k + 1) v)
+      × ((k : ℕ) (put : List Q) → slice_get h.known k ≡ Some put → put ≡ packets_by (k + 1) (h.taken ++ items))

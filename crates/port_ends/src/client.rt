@@ -1,0 +1,152 @@
+//! A client's end of a port.
+ghost use Rattle.std.specs.Prelude.{◌≡◌, ◌++◌, [], length, true, IfSome, IfNone, MatchResult, ◌<◌, ◌^◌, List};
+ghost use Rattle.port_ends.specs.Rings.{all_of};
+ghost use Rattle.port_ends.specs.steps.Rooms.{RoomFits, Left};
+ghost use Rattle.port_ends.specs.Ends.{ClientView, PutAccepted, PutIsRefused, TookReply};
+
+use crate::closing_mark::CloseReader;
+use crate::queue::PutEnd;
+use crate::ring::{Inlet, Outlet};
+use port_history::{PutRefused, Reply, Server};
+use std::marker::Model;
+use std::sync::Wait;
+
+/// A client's end of a port. It may move to a thread of its own.
+///
+/// It knows of the close once it has read the closing mark as set, or has taken a reply that closes; both are for good.
+#[derive(Drop)]
+pub struct ClientEnd<S: Server> {
+    queue: PutEnd<S::Request>,
+    inlet: Inlet<(S::Moment, S::Reply)>,
+    mark: CloseReader,
+    count: u64,
+    shut: bool,
+}
+
+impl<S: Server> Model for ClientEnd<S> {
+    ghost use Rattle.std.specs.Prelude.{◌≡◌, ◌||◌, length};
+    ghost use Rattle.std.specs.List.{list_any};
+    ghost use Rattle.port_ends.specs.Ends.{ClientView};
+
+    ghost Value = { ClientView S.Request S.Moment S.Reply };
+
+    ghost view = { λ e. record { port = e.queue.port; mark = e.mark.cell; ring = e.inlet.ring; number = e.queue.number; put = e.queue.put; taken = e.inlet.taken; knows = e.shut || e.mark.knows } };
+
+    ghost invariant = { λ e. (e.count ≡ length e.inlet.taken) × (e.shut ≡ list_any (λ x. S.is_closing x.1) e.inlet.taken) };
+}
+
+impl<S: Server> ClientEnd<S> {
+    pub(crate) fn new(
+        queue: PutEnd<S::Request>,
+        inlet: Inlet<(S::Moment, S::Reply)>,
+        mark: CloseReader,
+    ) -> ClientEnd<S>
+        requires { inlet.taken ≡ [] }
+        ensures { result ≡ record { port = queue.port; mark = mark.cell; ring = inlet.ring; number = queue.number; put = queue.put; taken = []; knows = mark.knows } }
+    {
+        ClientEnd {
+            queue,
+            inlet,
+            mark,
+            count: 0,
+            shut: false,
+        }
+    }
+
+    /// The client's number, from 1.
+    pub fn number(&self) -> usize
+        ensures { result ≡ self.now.number }
+    {
+        self.queue.number()
+    }
+
+    /// Whether this end knows of the close, after a look at the closing mark.
+    pub fn is_shut(&mut self) -> bool
+        ensures knows { result ≡ self.new.knows }
+        ensures stays { self.old.knows ≡ true → self.new.knows ≡ true }
+        ensures same { self.new ≡ record self.old { knows = result } }
+    {
+        let marked = self.mark.look();
+        self.shut || marked
+    }
+
+    /// Puts a packet, and answers its number, from 1.
+    ///
+    /// A refusal hands the packet back, and changes no list. It is `Closed` exactly where this end knows of the close as the call ends, and `NoRoom` only where memory was refused or the count of puts stands at its last value.
+    pub fn put<R: Wait>(
+        &mut self,
+        rt: &R,
+        packet: S::Request,
+    ) -> Result<u64, PutRefused<S::Request>>
+        ensures put { MatchResult result (λ number. PutAccepted self.old packet self.new number) (λ refused. PutIsRefused self.old packet self.new refused) }
+        ensures stays { self.old.knows ≡ true → self.new.knows ≡ true }
+        ensures same { self.new ≡ record self.old { put = self.new.put; knows = self.new.knows } }
+    {
+        if self.is_shut() {
+            return Err(PutRefused::Closed(packet));
+        }
+        match self.queue.put(rt, packet) {
+            Ok(number) => Ok(number),
+            Err(back) => Err(PutRefused::NoRoom(back)),
+        }
+    }
+
+    /// Takes the next reply, if one was posted. Replies are numbered from 1, in the order of the puts.
+    pub fn take(&mut self) -> Option<Reply<S::Reply>>
+        ensures some { IfSome result (λ reply. TookReply S.is_closing self.old self.new reply) }
+        ensures none { IfNone result (self.new ≡ self.old) }
+        ensures same { self.new ≡ record self.old { taken = self.new.taken; knows = self.new.knows } }
+    {
+        // No reply is there: so many packets were never put.
+        if self.count == u64::MAX {
+            return None;
+        }
+        let (_, answer) = self.inlet.take()?;
+        self.count += 1;
+        if S::closes(&answer) {
+            self.shut = true;
+        }
+        Some(Reply {
+            number: self.count,
+            answer,
+        })
+    }
+
+    // How many packets were put.
+    pub(crate) fn put_count(&self) -> u64
+        ensures { result ≡ length self.now.put }
+    {
+        self.queue.count()
+    }
+
+    // How many replies were posted and not taken, with both ends in one hand.
+    pub(crate) fn count_beside(&mut self, outlet: &mut Outlet<(S::Moment, S::Reply)>) -> usize
+        requires { outlet.old.ring ≡ self.old.ring }
+        ensures same { (self.new ≡ self.old) × (outlet.new ≡ outlet.old) }
+        ensures fifo { (rest : List (S.Moment × S.Reply)) × (outlet.old.posted ≡ self.old.taken ++ rest) × (length rest ≡ result) }
+    {
+        self.inlet.count_beside(outlet)
+    }
+
+    // Gives the end up: the untaken replies go to `room`, and the queue's end is left.
+    pub(crate) fn leave(
+        self,
+        outlet: &mut Outlet<(S::Moment, S::Reply)>,
+        room: &mut Vec<Reply<S::Reply>>,
+    ) -> PutEnd<S::Request>
+        requires ring { outlet.old.ring ≡ self.ring }
+        requires room { RoomFits self outlet.old room.old }
+        requires numbers { length (all_of outlet.old) < 2 ^ 64 }
+        ensures put { result ≡ record { port = self.port; number = self.number; put = self.put } }
+        ensures replies { Left self (all_of outlet.old) room.new.items }
+    {
+        let ClientEnd {
+            queue,
+            inlet,
+            count,
+            ..
+        } = self;
+        inlet.drain(outlet, count, room);
+        queue
+    }
+}

@@ -1,0 +1,203 @@
+//! How a port's ends are gathered.
+ghost use Rattle.std.specs.Prelude.{◌≡◌, ℕ, ◌+◌, ◌<◌, ◌≤◌, ◌^◌, ◌++◌, ◌∷◌, [], List, map, length, vec_len, vec_capacity, Some, slice_get, IfOk, IfErr, IfSome};
+ghost use Rattle.port_history.specs.History.{Lawful, packets_by};
+ghost use Rattle.port_ends.specs.Rings.{all_of};
+ghost use Rattle.port_ends.specs.Ends.{OfClients};
+ghost use Rattle.port_ends.specs.steps.Rule.{total};
+ghost use Rattle.port_ends.specs.steps.Rooms.{OnlyElement, RoomFits, RoomsFit, Left};
+ghost use Rattle.port_ends.specs.Gathering.{all_lists};
+ghost use Rattle.port_ends.specs.Ends.{AreEnds};
+
+use crate::client::ClientEnd;
+use crate::handler::HandlerEnd;
+use crate::queue::TakeEnd;
+use crate::ring::Outlet;
+use port_history::{Reply, Server};
+use std::alloc::Global;
+use std::sync::Wait;
+
+type Replies<S> = Vec<Reply<<S as Server>::Reply>>;
+
+type OutletOf<S> = Outlet<(<S as Server>::Moment, <S as Server>::Reply)>;
+
+// Takes in the end of client k + 1.
+fn take_in_one<S: Server>(
+    queue: &mut TakeEnd<S::Request>,
+    outlets: &mut Vec<OutletOf<S>>,
+    untaken: &mut Vec<Replies<S>>,
+    k: usize,
+    client: ClientEnd<S>,
+)
+    requires places { (k < length outlets.old.items) × (k < length untaken.old.items) }
+    requires port { (client.port ≡ queue.old.port) × (client.number ≡ length queue.old.known + 1) }
+    requires room { (o : _) (r : _) → slice_get outlets.old.items k ≡ Some o → slice_get untaken.old.items k ≡ Some r → RoomFits client o r × (o.ring ≡ client.ring) × (length (all_of o) < 2 ^ 64) }
+    ensures queue { queue.new ≡ record queue.old { known = queue.old.known ++ client.put ∷ [] } }
+    ensures outlets { OnlyElement k outlets.old.items outlets.new.items }
+    ensures untaken { OnlyElement k untaken.old.items untaken.new.items }
+    ensures replies { (o : _) → slice_get outlets.old.items k ≡ Some o → (r : _) × (slice_get untaken.new.items k ≡ Some r) × Left client (all_of o) r.items }
+{
+    let outlet = &mut outlets[k];
+    let room = &mut untaken[k];
+    let end = client.leave(outlet, room);
+    queue.gather_one(end);
+}
+
+// Takes the packets that are left.
+fn take_rest<Q: Drop, R: Wait>(
+    rt: &R,
+    queue: TakeEnd<Q>,
+    unanswered: Vec<(usize, Q)>,
+) -> Vec<(usize, Q)>
+    requires gathered { length queue.known ≡ queue.clients }
+    requires empty { unanswered.items ≡ [] }
+    requires room { total queue.known ≤ length queue.taken + vec_capacity unanswered }
+    ensures clients { OfClients queue.clients (queue.taken ++ result.items) }
+    ensures puts { (k : ℕ) (put : List Q) → slice_get queue.known k ≡ Some put → put ≡ packets_by (k + 1) (queue.taken ++ result.items) }
+{
+    let mut queue = queue;
+    let mut unanswered = unanswered;
+    for _ in rt.forever() {
+        match queue.take(rt) {
+            Some(packet) => unanswered.push_reserved(packet),
+            None => return unanswered,
+        }
+    }
+    unreachable!()
+}
+
+// Takes in all clients' ends, in order.
+fn take_in<S: Server>(
+    queue: TakeEnd<S::Request>,
+    outlets: Vec<OutletOf<S>>,
+    clients: Vec<ClientEnd<S>>,
+    untaken: Vec<Replies<S>>,
+) -> (TakeEnd<S::Request>, Vec<Replies<S>>)
+    requires lengths { (length outlets.items ≡ length clients.items) × (length untaken.items ≡ length clients.items) }
+    requires known { queue.known ≡ [] }
+    requires ends { (k : ℕ) (c : _) → slice_get clients.items k ≡ Some c → (c.port ≡ queue.port) × (c.number ≡ k + 1) }
+    requires rings { (k : ℕ) (c : _) (o : _) → slice_get clients.items k ≡ Some c → slice_get outlets.items k ≡ Some o → (o.ring ≡ c.ring) × (length (all_of o) < 2 ^ 64) }
+    requires rooms { RoomsFit clients.items outlets.items untaken.items }
+    ensures queue { result.0 ≡ record queue { known = map (λ c. c.put) clients.items } }
+    ensures clients { length result.1.items ≡ length clients.items }
+    ensures replies { (k : ℕ) (c : _) (o : _) → slice_get clients.items k ≡ Some c → slice_get outlets.items k ≡ Some o → (r : _) × (slice_get result.1.items k ≡ Some r) × Left c (all_of o) r.items }
+{
+    let mut queue = queue;
+    let mut outlets = outlets;
+    let mut untaken = untaken;
+    let mut k = 0;
+    for client in clients {
+        take_in_one(&mut queue, &mut outlets, &mut untaken, k, client);
+        k += 1;
+    }
+    (queue, untaken)
+}
+
+/// What is left of a port: the server, the packets that were put and not served, each with its client's number and in the order of the port, and each client's untaken replies.
+#[derive(Drop)]
+pub struct Gathered<S: Server> {
+    pub server: S,
+    pub unanswered: Vec<(usize, S::Request)>,
+    pub untaken: Vec<Replies<S>>,
+}
+
+/// Ends that were not gathered, as they were.
+#[derive(Drop)]
+pub struct GatherRefused<S: Server> {
+    pub handler: HandlerEnd<S>,
+    pub clients: Vec<ClientEnd<S>>,
+}
+
+// An empty list with room for this many replies.
+fn room_for<A: Drop>(alloc: Global, count: usize) -> Option<Vec<Reply<A>>>
+    ensures { IfSome result (λ v. (v.items ≡ []) × (vec_capacity v ≡ count)) }
+{
+    Vec::with_capacity(alloc, count).ok()
+}
+
+// Room for each client's untaken replies. No end changes.
+fn room_for_replies<S: Server>(
+    alloc: Global,
+    handler: &mut HandlerEnd<S>,
+    clients: &mut Vec<ClientEnd<S>>,
+) -> Option<Vec<Replies<S>>>
+    requires { AreEnds handler.old clients.old.items }
+    ensures same { (handler.new ≡ handler.old) × (clients.new.items ≡ clients.old.items) }
+    ensures rooms { IfSome result (λ rs. RoomsFit clients.old.items handler.old.outlets rs.items) }
+{
+    let mut rooms = Vec::new(alloc);
+    for k in 0..clients.len() {
+        rooms.reserve(1).ok()?;
+        let client = &mut clients[k];
+        let count = handler.untaken(k, client);
+        let room = room_for(alloc, count)?;
+        rooms.push_reserved(room);
+    }
+    Some(rooms)
+}
+
+// Room for the packets that were put and not served.
+fn room_for_packets<S: Server>(
+    alloc: Global,
+    served: u64,
+    clients: &Vec<ClientEnd<S>>,
+) -> Option<Vec<(usize, S::Request)>>
+    ensures { IfSome result (λ v. (v.items ≡ []) × (total (map (λ c. c.put) clients.now.items) ≤ served + vec_capacity v)) }
+{
+    let mut puts = 0u64;
+    for k in 0..clients.len() {
+        let client = &clients[k];
+        puts = puts.checked_add(client.put_count())?;
+    }
+    Vec::with_capacity(alloc, puts.saturating_sub(served) as usize).ok()
+}
+
+// Takes all ends in, once there is room.
+fn finish<S: Server, R: Wait>(
+    rt: &R,
+    handler: HandlerEnd<S>,
+    clients: Vec<ClientEnd<S>>,
+    untaken: Vec<Replies<S>>,
+    unanswered: Vec<(usize, S::Request)>,
+) -> Gathered<S>
+    requires ends { AreEnds handler clients.items }
+    requires rooms { RoomsFit clients.items handler.outlets untaken.items }
+    requires empty { unanswered.items ≡ [] }
+    requires room { total (map (λ c. c.put) clients.items) ≤ length handler.served + vec_capacity unanswered }
+    ensures lawful { Lawful S.gives handler.opening (all_lists clients.items result.untaken.items) handler.served result.unanswered.items result.server }
+    ensures clients { length result.untaken.items ≡ length clients.items }
+{
+    handler.witness();
+    let (queue, outlets, server) = handler.into_parts();
+    let (queue, untaken) = take_in(queue, outlets, clients, untaken);
+    let unanswered = take_rest(rt, queue, unanswered);
+    Gathered {
+        server,
+        unanswered,
+        untaken,
+    }
+}
+
+/// Gathers all ends of one port, in order of client, once their threads have handed them back.
+///
+/// All memory is got before the first change. A refusal is for want of it, and hands all ends back as they were, so that the call can be made again.
+pub fn gather<S: Server, R: Wait>(
+    rt: &R,
+    alloc: Global,
+    handler: HandlerEnd<S>,
+    clients: Vec<ClientEnd<S>>,
+) -> Result<Gathered<S>, GatherRefused<S>>
+    requires { AreEnds handler clients.items }
+    ensures lawful { IfOk result (λ r. Lawful S.gives handler.opening (all_lists clients.items r.untaken.items) handler.served r.unanswered.items r.server) }
+    ensures clients { IfOk result (λ r. length r.untaken.items ≡ length clients.items) }
+    ensures refused { IfErr result (λ e. (e.handler ≡ handler) × (e.clients.items ≡ clients.items)) }
+{
+    let mut handler = handler;
+    let mut clients = clients;
+    let Some(untaken) = room_for_replies(alloc, &mut handler, &mut clients) else {
+        return Err(GatherRefused { handler, clients });
+    };
+    let Some(unanswered) = room_for_packets(alloc, handler.served_count(), &clients) else {
+        return Err(GatherRefused { handler, clients });
+    };
+    Ok(finish(rt, handler, clients, untaken, unanswered))
+}

@@ -1,0 +1,262 @@
+//! The handler's end of a port.
+ghost use Rattle.std.specs.Prelude.{◌≡◌, ◌⊎◌, ℕ, ◌+◌, ◌<◌, ◌≤◌, ◌∷◌, [], ◌++◌, List, length, true, false, IfOk, OnOk, OnErr, IsTrue, IsFalse, MatchResult, IfSome, ◌^◌, Some, slice_get};
+ghost use Rattle.port_history.specs.History.{Serving, packets_of};
+ghost use Rattle.port_ends.specs.Rings.{EachPosts, waiting_count};
+ghost use Rattle.port_ends.specs.steps.Sending.{EachHasRoom, UsesOne};
+ghost use Rattle.port_ends.specs.declared.handler.ServeEnd.TheVariants.{Closed, Idle};
+ghost use Rattle.port_ends.specs.Ends.{HandlerView, IsNew, IsFresh, IsEndOf, IsSound, Serves};
+
+use crate::client::ClientEnd;
+use crate::closing_mark::CloseSetter;
+use crate::desk::Desk;
+use crate::open::OpenRefused;
+use crate::outlets::{post_all, reserve_all, send_to};
+use crate::queue::{TakeEnd, open_queue};
+use crate::ring::{Outlet, open_ring};
+use port_history::Server;
+use std::alloc::{AllocError, Global};
+use std::marker::Model;
+use std::sync::Wait;
+
+/// How many packets `serve_until_closed` takes in a batch.
+const BATCH: usize = 64;
+
+/// Why the batches ended: the server has died, or there was nothing to serve.
+#[derive(Drop)]
+pub enum ServeEnd {
+    Closed,
+    Idle,
+}
+
+/// Why a batch served nothing.
+#[derive(Drop)]
+pub enum ServeFault {
+    NoMemory,
+}
+
+/// The handler's end of a port: it takes the packets, serves them one after another, and posts the replies.
+#[derive(Drop)]
+pub struct HandlerEnd<S: Server> {
+    queue: TakeEnd<S::Request>,
+    desk: Desk<S>,
+    outlets: Vec<Outlet<(S::Moment, S::Reply)>>,
+}
+
+impl<S: Server> Model for HandlerEnd<S> {
+    ghost use Rattle.std.specs.Prelude.{◌≡◌, ◌+◌, [], ℕ, length, Some, slice_get};
+    ghost use Rattle.port_history.specs.History.{packets_of};
+    ghost use Rattle.port_ends.specs.Rings.{all_of};
+    ghost use Rattle.port_ends.specs.Ends.{OfClients};
+    ghost use Rattle.port_ends.specs.Ends.{HandlerView, replies_to};
+
+    ghost Value = { HandlerView S S.Request S.Moment S.Reply };
+
+    ghost view = { λ h. record { port = h.queue.port; mark = h.desk.mark; opening = h.desk.opening; served = h.desk.served; server = h.desk.server; outlets = h.outlets.items; knows = h.desk.knows } };
+
+    ghost invariant = { λ h. (packets_of h.desk.served ≡ h.queue.taken) × (h.queue.known ≡ []) × (length h.outlets.items ≡ h.queue.clients)
+        × ((k : ℕ) (o : _) → slice_get h.outlets.items k ≡ Some o → all_of o ≡ replies_to (k + 1) h.desk.served)
+        × OfClients h.queue.clients h.queue.taken };
+}
+
+impl<S: Server> HandlerEnd<S> {
+    /// What holds of every handler's end.
+    pub fn witness(&self)
+        ensures { IsSound S.gives S.has_died self.now }
+    {
+        self.desk.witness();
+    }
+
+    /// The server as it is.
+    pub fn server(&self) -> &S
+        ensures { result.now ≡ self.now.server }
+    {
+        self.desk.server()
+    }
+
+    /// Posts of each client's waiting replies what its ring has places for, in order, and answers how many replies still wait, of all clients.
+    pub fn post_waiting(&mut self) -> usize
+        ensures same { self.new ≡ record self.old { outlets = self.new.outlets } }
+        ensures posts { EachPosts self.old.outlets self.new.outlets }
+        ensures count { result ≡ waiting_count self.new.outlets }
+    {
+        let _served = self.desk.count();
+        post_all(&mut self.outlets)
+    }
+
+    /// Posts what waits, takes at most `limit` packets, or fewer where a take finds nothing, and serves each at this moment. It answers how many.
+    ///
+    /// Where its ring is full, or other replies of its client still wait, a reply waits in the list beside that ring. `NoMemory` serves nothing; what was posted stays posted.
+    pub fn serve_batch<R: Wait>(
+        &mut self,
+        rt: &R,
+        moment: S::Moment,
+        limit: usize,
+    ) -> Result<usize, ServeFault>
+        ensures ok { IfOk result (λ m. (m ≤ limit) × ((xs : List (Serving S.Request S.Moment S.Reply)) × (length xs ≡ m) × Serves S.gives moment self.old xs self.new)) }
+        ensures err { OnErr result ((self.new ≡ record self.old { outlets = self.new.outlets }) × EachPosts self.old.outlets self.new.outlets) }
+        ensures sound { IsSound S.gives S.has_died self.new }
+    {
+        self.post_waiting();
+        let room = self.reserve(limit);
+        self.witness();
+        if room.is_err() {
+            return Err(ServeFault::NoMemory);
+        }
+        let served = self.serve_up_to(rt, moment, limit);
+        self.witness();
+        Ok(served)
+    }
+
+    /// Serves batches of 64 until the server has died and a batch found nothing, or until `idle_limit` batches in a row found nothing.
+    ///
+    /// What earlier batches served stays served where a later one finds no memory.
+    pub fn serve_until_closed<R: Wait>(
+        &mut self,
+        rt: &R,
+        moment: S::Moment,
+        idle_limit: u64,
+    ) -> Result<ServeEnd, ServeFault>
+        requires { 0 < idle_limit }
+        ensures served { (xs : List (Serving S.Request S.Moment S.Reply)) × Serves S.gives moment self.old xs self.new }
+        ensures end { IfOk result (λ e. ((e ≡ Closed) × (S.has_died self.new.server ≡ true)) ⊎ ((e ≡ Idle) × (S.has_died self.new.server ≡ false))) }
+        ensures sound { IsSound S.gives S.has_died self.new }
+    {
+        let mut idle = 0u64;
+        for _ in rt.forever() {
+            if self.serve_batch(rt, moment, BATCH)? > 0 {
+                idle = 0;
+                continue;
+            }
+            if self.server().died() {
+                return Ok(ServeEnd::Closed);
+            }
+            idle += 1;
+            if idle >= idle_limit {
+                return Ok(ServeEnd::Idle);
+            }
+        }
+        unreachable!()
+    }
+
+    // Takes one packet, serves it and sends its reply.
+    fn serve_one<R: Wait>(&mut self, rt: &R, moment: S::Moment) -> bool
+        requires { EachHasRoom 1 self.old.outlets }
+        ensures served { IsTrue result → (x : Serving S.Request S.Moment S.Reply) × Serves S.gives moment self.old (x ∷ []) self.new }
+        ensures idle { IsFalse result → self.new ≡ self.old }
+        ensures room { UsesOne self.old.outlets self.new.outlets }
+    {
+        if self.desk.count() == u64::MAX {
+            return false;
+        }
+        let Some((client, packet)) = self.queue.take(rt) else {
+            return false;
+        };
+        let answer = self.desk.serve(client, packet, moment);
+        send_to(&mut self.outlets, client, (moment, answer));
+        true
+    }
+
+    // Gets room for this many more replies to each client.
+    fn reserve(&mut self, more: usize) -> Result<(), AllocError>
+        ensures same { self.new ≡ record self.old { outlets = self.new.outlets } }
+        ensures posts { EachPosts self.old.outlets self.new.outlets }
+        ensures room { OnOk result (EachHasRoom more self.new.outlets) }
+    {
+        reserve_all(&mut self.outlets, more)
+    }
+
+    // Serves at most `limit` packets.
+    fn serve_up_to<R: Wait>(&mut self, rt: &R, moment: S::Moment, limit: usize) -> usize
+        requires { EachHasRoom limit self.old.outlets }
+        ensures few { result ≤ limit }
+        ensures served { (xs : List (Serving S.Request S.Moment S.Reply)) × (length xs ≡ result) × Serves S.gives moment self.old xs self.new }
+    {
+        let mut served = 0;
+        for _ in 0..limit {
+            if !self.serve_one(rt, moment) {
+                break;
+            }
+            served += 1;
+        }
+        served
+    }
+
+    // The handler's end of a port with no client yet. A refusal hands the server back.
+    pub(crate) fn new(alloc: Global, server: S) -> Result<HandlerEnd<S>, OpenRefused<S>>
+        requires { S.has_died server ≡ false }
+        ensures { MatchResult result (λ h. IsNew server h × (h.outlets ≡ [])) (λ e. e.server ≡ server) }
+    {
+        let Ok(queue) = open_queue(alloc) else {
+            return Err(OpenRefused { server });
+        };
+        let Ok(mark) = CloseSetter::new(alloc) else {
+            return Err(OpenRefused { server });
+        };
+        Ok(HandlerEnd {
+            queue,
+            desk: Desk::new(server, mark),
+            outlets: Vec::new(alloc),
+        })
+    }
+
+    // The end of one more client.
+    pub(crate) fn add_client(
+        &mut self,
+        alloc: Global,
+        ring: usize,
+    ) -> Result<ClientEnd<S>, AllocError>
+        requires served { self.old.served ≡ [] }
+        requires count { length self.old.outlets < 18446744073709551615 }
+        ensures ok { IfOk result (λ e. IsFresh e × ((o : _) × (self.new ≡ record self.old { outlets = self.old.outlets ++ o ∷ [] }) × (o.posted ≡ []) × (o.waiting ≡ []) × IsEndOf self.new (length self.old.outlets) e)) }
+        ensures err { OnErr result (self.new ≡ self.old) }
+    {
+        self.outlets.reserve(1)?;
+        let (outlet, inlet) = open_ring(alloc, ring)?;
+        let mark = self.desk.reader()?;
+        let queue = self.queue.add_client()?;
+        self.outlets.push_reserved(outlet);
+        Ok(ClientEnd::new(queue, inlet, mark))
+    }
+
+    pub(crate) fn into_server(self) -> S
+        ensures { result ≡ self.server }
+    {
+        self.desk.into_server()
+    }
+
+    // How many replies the client k + 1 has not taken.
+    pub(crate) fn untaken(&mut self, k: usize, client: &mut ClientEnd<S>) -> usize
+        requires place { k < length self.old.outlets }
+        requires ring { (o : _) → slice_get self.old.outlets k ≡ Some o → o.ring ≡ client.old.ring }
+        ensures same { (self.new ≡ self.old) × (client.new ≡ client.old) }
+        ensures count { (o : _) → slice_get self.old.outlets k ≡ Some o → (rest : List (S.Moment × S.Reply)) × (o.posted ≡ client.old.taken ++ rest) × (length rest + length o.waiting ≡ result) }
+    {
+        let _served = self.desk.count();
+        let outlet = &mut self.outlets[k];
+        let posted = client.count_beside(outlet);
+        posted + outlet.waiting()
+    }
+
+    // How many packets were served.
+    pub(crate) fn served_count(&self) -> u64
+        ensures { result ≡ length self.now.served }
+    {
+        self.desk.count()
+    }
+
+    // The parts, once the room for what is left is there.
+    pub(crate) fn into_parts(self) -> (TakeEnd<S::Request>, Vec<Outlet<(S::Moment, S::Reply)>>, S)
+        ensures queue { (result.0.port ≡ self.port) × (result.0.taken ≡ packets_of self.served) × (result.0.known ≡ []) × (result.0.clients ≡ length self.outlets) }
+        ensures outlets { result.1.items ≡ self.outlets }
+        ensures server { result.2 ≡ self.server }
+        ensures few { length self.served < 2 ^ 64 }
+    {
+        let HandlerEnd {
+            queue,
+            desk,
+            outlets,
+        } = self;
+        let _served = desk.count();
+        (queue, outlets, desk.into_server())
+    }
+}

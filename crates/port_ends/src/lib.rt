@@ -1,0 +1,19 @@
+//! The running port: each client puts packets to one queue and takes its replies from a ring of its own, and the handler serves what it finds in the queue.
+#![tactic(auto)]
+
+mod client;
+mod closing_mark;
+mod desk;
+mod gathering;
+mod handler;
+mod open;
+mod outlets;
+mod queue;
+mod ring;
+mod seat;
+mod trail;
+
+pub use client::ClientEnd;
+pub use gathering::{GatherRefused, Gathered, gather};
+pub use handler::{HandlerEnd, ServeEnd, ServeFault};
+pub use open::{OpenRefused, open_port};

@@ -1,0 +1,43 @@
+//! All clients' outlets.
+ghost use Rattle.std.specs.Prelude.{◌≡◌, ◌+◌, ◌<◌, ◌≤◌, ◌^◌, length, OnOk};
+ghost use Rattle.port_ends.specs.Rings.{Each, EachPosts, waiting_count};
+ghost use Rattle.port_ends.specs.steps.Sending.{EachHasRoom, SendsTo};
+
+use crate::ring::Outlet;
+use std::alloc::AllocError;
+
+/// Sends a reply to the client of this number.
+pub fn send_to<T: Drop>(outlets: &mut Vec<Outlet<T>>, client: usize, reply: T)
+    requires client { (1 ≤ client) × (client ≤ length outlets.old.items) }
+    requires room { EachHasRoom 1 outlets.old.items }
+    ensures { Each (SendsTo client reply) outlets.old.items outlets.new.items }
+{
+    let outlet = &mut outlets[client - 1];
+    outlet.send(reply);
+}
+
+/// Posts of each what fits, in order, and answers how many replies still wait.
+pub fn post_all<T: Drop>(outlets: &mut Vec<Outlet<T>>) -> usize
+    requires few { waiting_count outlets.old.items < 2 ^ 64 }
+    ensures posts { EachPosts outlets.old.items outlets.new.items }
+    ensures count { result ≡ waiting_count outlets.new.items }
+{
+    let mut waiting = 0;
+    for i in 0..outlets.len() {
+        let outlet = &mut outlets[i];
+        waiting += outlet.post_waiting();
+    }
+    waiting
+}
+
+/// Gets room in each for this many more to wait.
+pub fn reserve_all<T: Drop>(outlets: &mut Vec<Outlet<T>>, more: usize) -> Result<(), AllocError>
+    ensures same { EachPosts outlets.old.items outlets.new.items }
+    ensures room { OnOk result (EachHasRoom more outlets.new.items) }
+{
+    for i in 0..outlets.len() {
+        let outlet = &mut outlets[i];
+        outlet.reserve(more)?;
+    }
+    Ok(())
+}

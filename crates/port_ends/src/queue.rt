@@ -1,0 +1,156 @@
+//! The two kinds of end of the port's queue.
+ghost use Rattle.std.specs.Prelude.{◌≡◌, ℕ, ◌+◌, ◌<◌, ◌≤◌, [], ◌∷◌, ◌++◌, length, Some, slice_get, IfOk, MatchResult, MatchOption, IfSome, IfNone, OnErr};
+ghost use Rattle.std.specs.Arc.{arc_value};
+ghost use Rattle.crossbeam_queue.specs.SegTies.{IsSegPassOf};
+ghost use Rattle.port_history.specs.History.{packets_by};
+ghost use Rattle.port_ends.specs.steps.Rule.{client, handler, total};
+ghost use Rattle.port_ends.specs.Ends.{OfClients};
+
+use crate::seat::{Gathers, Opens, Port, PortPass, Puts, Takes};
+use std::alloc::{AllocError, Global};
+use std::marker::Model;
+use std::sync::{Arc, Wait};
+
+// The queue that all ends share.
+pub struct PortBox<Q: Drop> {
+    queue: Port<Q>,
+}
+
+impl<Q: Drop> Drop for PortBox<Q> {
+    fn drop(self) {
+        let Self { queue } = self;
+        queue.destroy();
+    }
+}
+
+/// A client's end of the queue.
+#[derive(Drop)]
+pub struct PutEnd<Q: Drop> {
+    port: Arc<PortBox<Q>, Global>,
+    pass: PortPass<Q>,
+    number: usize,
+    count: u64,
+}
+
+impl<Q: Drop> Model for PutEnd<Q> {
+    ghost use Rattle.std.specs.Prelude.{◌≡◌, ◌<◌, length};
+    ghost use Rattle.std.specs.Arc.{arc_value};
+    ghost use Rattle.crossbeam_queue.specs.SegTies.{IsSegPassOf};
+    ghost use Rattle.port_ends.specs.steps.QueueEnds.{PutView};
+
+    ghost Value = { PutView Q };
+
+    ghost use Rattle.port_ends.specs.steps.Rule.{client};
+
+    ghost view = { λ e. record { port = (arc_value e.port).queue; number = e.number; put = e.pass.me.view.client.put } };
+
+    ghost invariant = { λ e. IsSegPassOf (arc_value e.port).queue e.pass × (e.pass.me.view.client ≡ client e.number e.pass.me.view.client.put) × (0 < e.number) × (e.count ≡ length e.pass.me.view.client.put) };
+}
+
+impl<Q: Drop> PutEnd<Q> {
+    pub fn number(&self) -> usize
+        ensures { result ≡ self.now.number }
+    {
+        self.number
+    }
+
+    /// How many packets were put.
+    pub fn count(&self) -> u64
+        ensures { result ≡ length self.now.put }
+    {
+        self.count
+    }
+
+    /// Puts a packet, and answers its number. A refusal hands it back, and changes nothing.
+    pub fn put<R: Wait>(&mut self, rt: &R, packet: Q) -> Result<u64, Q>
+        ensures put { MatchResult result (λ n. (self.new ≡ record self.old { put = self.old.put ++ packet ∷ [] }) × (n ≡ length self.new.put)) (λ back. (back ≡ packet) × (self.new ≡ self.old)) }
+    {
+        if self.count == u64::MAX {
+            return Err(packet);
+        }
+        match self
+            .port
+            .queue
+            .push_as::<Puts, R>(rt, &mut self.pass, (self.number, packet))
+        {
+            Ok(()) => {
+                self.count += 1;
+                Ok(self.count)
+            }
+            Err((_, back)) => Err(back),
+        }
+    }
+}
+
+/// The handler's end of the queue.
+#[derive(Drop)]
+pub struct TakeEnd<Q: Drop> {
+    port: Arc<PortBox<Q>, Global>,
+    pass: PortPass<Q>,
+    clients: usize,
+}
+
+impl<Q: Drop> Model for TakeEnd<Q> {
+    ghost use Rattle.std.specs.Prelude.{◌≡◌};
+    ghost use Rattle.std.specs.Arc.{arc_value};
+    ghost use Rattle.crossbeam_queue.specs.SegTies.{IsSegPassOf};
+    ghost use Rattle.port_ends.specs.steps.QueueEnds.{TakeView};
+
+    ghost Value = { TakeView Q };
+
+    ghost use Rattle.port_ends.specs.steps.Rule.{handler};
+
+    ghost view = { λ e. record { port = (arc_value e.port).queue; clients = e.clients; taken = e.pass.me.view.client.taken; known = e.pass.me.view.client.known } };
+
+    ghost invariant = { λ e. IsSegPassOf (arc_value e.port).queue e.pass × (e.pass.me.view.client ≡ handler e.clients e.pass.me.view.client.taken e.pass.me.view.client.known) };
+}
+
+/// A queue with no client yet.
+pub fn open_queue<Q: Drop>(alloc: Global) -> Result<TakeEnd<Q>, AllocError>
+    ensures { IfOk result (λ e. (e.clients ≡ 0) × (e.taken ≡ []) × (e.known ≡ [])) }
+{
+    let (queue, pass) = Port::with_rule(alloc)?;
+    let port = Arc::new(alloc, PortBox { queue })?;
+    Ok(TakeEnd {
+        port,
+        pass,
+        clients: 0,
+    })
+}
+
+impl<Q: Drop> TakeEnd<Q> {
+    /// The end of one more client.
+    pub fn add_client(&mut self) -> Result<PutEnd<Q>, AllocError>
+        requires { self.old.clients < 18446744073709551615 }
+        ensures ok { IfOk result (λ e. (e ≡ record { port = self.old.port; number = self.old.clients + 1; put = [] }) × (self.new ≡ record self.old { clients = self.old.clients + 1 })) }
+        ensures err { OnErr result (self.new ≡ self.old) }
+    {
+        let port = Arc::try_clone(&self.port)?;
+        let pass = self.port.queue.another::<Opens>(&mut self.pass);
+        self.clients += 1;
+        Ok(PutEnd {
+            port,
+            pass,
+            number: self.clients,
+            count: 0,
+        })
+    }
+
+    /// Takes the packet at the front. Where nothing waits, all that the gathered clients put was taken.
+    pub fn take<R: Wait>(&mut self, rt: &R) -> Option<(usize, Q)>
+        ensures took { IfSome result (λ x. (self.new ≡ record self.old { taken = self.old.taken ++ x ∷ [] }) × (1 ≤ x.0) × (x.0 ≤ self.old.clients) × (length self.old.known ≡ self.old.clients → length self.new.taken ≤ total self.old.known)) }
+        ensures none { IfNone result ((self.new ≡ self.old) × OfClients self.old.clients self.old.taken × ((k : ℕ) (put : _) → slice_get self.old.known k ≡ Some put → put ≡ packets_by (k + 1) self.old.taken)) }
+    {
+        self.port.queue.pop_as::<Takes, R>(rt, &mut self.pass)
+    }
+
+    /// Takes in the end of the next client.
+    pub fn gather_one(&mut self, end: PutEnd<Q>)
+        requires same { end.port ≡ self.old.port }
+        requires next { end.number ≡ length self.old.known + 1 }
+        ensures { self.new ≡ record self.old { known = self.old.known ++ end.put ∷ [] } }
+    {
+        let PutEnd { pass, .. } = end;
+        self.port.queue.absorb::<Gathers>(&mut self.pass, pass);
+    }
+}

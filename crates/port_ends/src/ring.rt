@@ -1,0 +1,187 @@
+//! The two ends of a reply ring, with a list beside the sending end.
+ghost use Rattle.std.specs.Prelude.{◌≡◌, ℕ, ◌+◌, ◌-◌, ◌<◌, ◌≤◌, [], ◌∷◌, ◌++◌, length, IfOk, OnOk, IfSome, OnErr, IfNone, ◌^◌, List, vec_len, vec_capacity};
+ghost use Rattle.rtrb.specs.Ring.{known_items};
+ghost use Rattle.port_history.specs.History.{numbered};
+ghost use Rattle.port_ends.specs.Gathering.{answers};
+ghost use Rattle.port_ends.specs.Rings.{OutView, Posts, StaysPosted, all_of};
+ghost use Rattle.port_ends.specs.steps.Sending.{InView};
+
+use port_history::Reply;
+use rtrb::{Consumer, Producer, PushError, RingBuffer};
+use std::alloc::{AllocError, Global};
+use std::collections::VecDeque;
+use std::marker::Model;
+
+/// The sending end. What finds the ring full waits beside it.
+#[derive(Drop)]
+pub struct Outlet<T: Drop> {
+    producer: Producer<T>,
+    waiting: VecDeque<T>,
+}
+
+impl<T: Drop> Model for Outlet<T> {
+    ghost use Rattle.std.specs.Prelude.{◌-◌};
+    ghost use Rattle.std.specs.VecDeque.{deque_len, deque_capacity};
+    ghost use Rattle.rtrb.specs.Ring.{sent};
+    ghost use Rattle.port_ends.specs.Rings.{OutView};
+
+    ghost Value = { OutView T };
+
+    ghost use Rattle.port_ends.specs.steps.RingEnds.{ring_of};
+
+    ghost view = { λ o. record { ring = ring_of o.producer.end; posted = sent o.producer; waiting = o.waiting.items; room = deque_capacity o.waiting - deque_len o.waiting } };
+}
+
+/// The receiving end.
+#[derive(Drop)]
+pub struct Inlet<T: Drop> {
+    consumer: Consumer<T>,
+}
+
+impl<T: Drop> Model for Inlet<T> {
+    ghost use Rattle.rtrb.specs.Ring.{received};
+    ghost use Rattle.port_ends.specs.steps.Sending.{InView};
+
+    ghost Value = { InView T };
+
+    ghost use Rattle.port_ends.specs.steps.RingEnds.{ring_of};
+
+    ghost view = { λ i. record { ring = ring_of i.consumer.end; taken = received i.consumer } };
+}
+
+/// A ring with this many places.
+pub fn open_ring<T: Drop>(alloc: Global, places: usize) -> Result<(Outlet<T>, Inlet<T>), AllocError>
+    ensures { IfOk result (λ r. (r.0.ring ≡ r.1.ring) × (r.0.posted ≡ []) × (r.0.waiting ≡ []) × (r.1.taken ≡ [])) }
+{
+    let (producer, consumer) = RingBuffer::new(alloc, places)?;
+    let waiting = VecDeque::new(alloc);
+    Ok((Outlet { producer, waiting }, Inlet { consumer }))
+}
+
+impl<T: Drop> Outlet<T> {
+    /// Gets room for `more` to wait.
+    pub fn reserve(&mut self, more: usize) -> Result<(), AllocError>
+        ensures same { (self.new.ring ≡ self.old.ring) × (self.new.posted ≡ self.old.posted) × (self.new.waiting ≡ self.old.waiting) }
+        ensures room { self.old.room ≤ self.new.room }
+        ensures ok { OnOk result (more ≤ self.new.room) }
+    {
+        self.waiting.reserve(more)
+    }
+
+    /// Posts what fits, in order, and answers how many still wait.
+    pub fn post_waiting(&mut self) -> usize
+        ensures posts { Posts self.old self.new }
+        ensures count { result ≡ length self.new.waiting }
+    {
+        let free = self.producer.slots();
+        for _ in 0..free {
+            let Some(reply) = self.waiting.pop_front() else {
+                break;
+            };
+            self.producer.push_reserved(reply);
+        }
+        self.waiting.len()
+    }
+
+    /// Posts a reply, or lets it wait behind those that wait.
+    pub fn send(&mut self, reply: T)
+        requires { 0 < self.old.room }
+        ensures posted { StaysPosted self.old self.new }
+        ensures sent { all_of self.new ≡ all_of self.old ++ reply ∷ [] }
+        ensures room { self.old.room ≤ self.new.room + 1 }
+    {
+        let mut reply = reply;
+        if self.waiting.is_empty() {
+            match self.producer.push(reply) {
+                Ok(()) => return,
+                Err(PushError::Full(back)) => reply = back,
+            }
+        }
+        let Ok(()) = self.waiting.push_back(reply) else {
+            unreachable!()
+        };
+    }
+}
+
+impl<T: Drop> Inlet<T> {
+    pub fn take(&mut self) -> Option<T>
+        ensures ring { self.new.ring ≡ self.old.ring }
+        ensures some { IfSome result (λ x. self.new.taken ≡ self.old.taken ++ x ∷ []) }
+        ensures none { IfNone result (self.new.taken ≡ self.old.taken) }
+    {
+        self.consumer.pop().ok()
+    }
+
+    /// How many were posted and not taken, with both ends in one hand.
+    pub fn count_beside(&mut self, outlet: &mut Outlet<T>) -> usize
+        requires { outlet.old.ring ≡ self.old.ring }
+        ensures same { (self.new ≡ self.old) × (outlet.new ≡ outlet.old) }
+        ensures fifo { (rest : _) × (outlet.old.posted ≡ self.old.taken ++ rest) × (length rest ≡ result) }
+    {
+        self.consumer.slots_beside(&mut outlet.producer)
+    }
+}
+
+impl<T: Drop> Outlet<T> {
+    pub fn waiting(&self) -> usize
+        ensures { result ≡ length self.now.waiting }
+    {
+        self.waiting.len()
+    }
+}
+
+// Takes the items that are known to be in the ring, and numbers them.
+fn drain_ring<M: Drop, A: Drop>(
+    consumer: &mut Consumer<(M, A)>,
+    count: usize,
+    number: u64,
+    into: &mut Vec<Reply<A>>,
+)
+    requires known { count ≡ length (known_items consumer.old) }
+    requires numbers { number + count < 2 ^ 64 }
+    requires room { vec_len into.old + count ≤ vec_capacity into.old }
+    ensures items { into.new.items ≡ into.old.items ++ numbered (number + 1) (answers (known_items consumer.old)) }
+    ensures room { vec_capacity into.new ≡ vec_capacity into.old }
+{
+    let mut number = number;
+    for _ in 0..count {
+        let (_, answer) = consumer.pop_known();
+        number += 1;
+        into.push_reserved(Reply { number, answer });
+    }
+}
+
+// Takes the items that wait, and numbers them.
+fn drain_list<M: Drop, A: Drop>(
+    waiting: &mut VecDeque<(M, A)>,
+    number: u64,
+    into: &mut Vec<Reply<A>>,
+)
+    requires numbers { number + length waiting.old.items < 2 ^ 64 }
+    requires room { vec_len into.old + length waiting.old.items ≤ vec_capacity into.old }
+    ensures items { into.new.items ≡ into.old.items ++ numbered (number + 1) (answers waiting.old.items) }
+{
+    let mut number = number;
+    for _ in 0..waiting.len() {
+        let Some((_, answer)) = waiting.pop_front() else {
+            break;
+        };
+        number += 1;
+        into.push_reserved(Reply { number, answer });
+    }
+}
+
+impl<M: Drop, A: Drop> Inlet<(M, A)> {
+    /// Takes all that was sent and not taken, with both ends in one hand. `count` replies were taken before.
+    pub fn drain(mut self, outlet: &mut Outlet<(M, A)>, count: u64, into: &mut Vec<Reply<A>>)
+        requires ring { outlet.old.ring ≡ self.ring }
+        requires empty { into.old.items ≡ [] }
+        requires room { (rest : List (M × A)) × (outlet.old.posted ≡ self.taken ++ rest) × (length rest + length outlet.old.waiting ≤ vec_capacity into.old) }
+        requires numbers { (count ≡ length self.taken) × (length (all_of outlet.old) < 2 ^ 64) }
+        ensures { (rest : List (M × A)) × (all_of outlet.old ≡ self.taken ++ rest) × (into.new.items ≡ numbered (count + 1) (answers rest)) }
+    {
+        let posted = self.consumer.slots_beside(&mut outlet.producer);
+        drain_ring(&mut self.consumer, posted, count, into);
+        drain_list(&mut outlet.waiting, count + posted as u64, into);
+    }
+}

@@ -1,0 +1,2 @@
+-- How an exchange shows its port.
+pub mod View

@@ -1,0 +1,13 @@
+use Rattle.port_threads.proofs.Growth.{ends_after}
+use Rattle.port_threads.proofs.Joins.{did_alike}
+use Rattle.port_threads.proofs.serve.serve_clients.Goals as goal
+
+pub returns-clause-clients : goal.returns-clause-clients
+returns-clause-clients g c =
+    did_alike g.C.Client.does _ _ _ _ _ _ c.in_ok-started.ensures.jobs c.in_ok-started.ensures.ends c.join_clients-ends.ensures
+
+pub returns-clause-all : goal.returns-clause-all
+returns-clause-all g c =
+    let d = returns-clause-clients g c in
+    let s = c.serve_until_ended-served.ensures in
+    ends_after g.S.Server.gives _ _ _ s.0 _ _ c.requires.all s.1 d.0 (λ k o at. let e = d.2 k o at in (e.1, e.4, e.6.0))
