@@ -1,7 +1,12 @@
 //! The cases over the running handler.
 use crate::cases::*;
 use crate::floppy::{START, blank_handler};
-use crate::{Case, DIE, Raced, Voice, is_parted, left_text, play, race_of_four};
+use crate::case::{Case, play};
+use crate::left::left_text;
+use crate::racing::{Raced, race_of_four};
+use crate::share::is_parted;
+use crate::turns::DIE;
+use crate::voice::Voice;
 use ados_handler::Handler;
 use ados_packet::{Answer, Packet};
 use std::alloc::Global;

@@ -1,30 +1,33 @@
 //! Cases of the port: step by step on one thread, with all its ends in one hand, with its clients on threads of their own, and with scripts that wait for each other. They run over small servers and over the handler of a blank floppy.
 #![tactic(auto)]
 
-mod case;
-pub mod cases;
-mod gates;
-mod hand;
-mod left;
-mod putter;
-mod racing;
-mod share;
-mod staging;
+// How the cases speak of packets, and the server of action numbers, whose law is a file of `specs/`.
 mod stub;
-mod turns;
 mod voice;
 
-pub use case::{Case, play};
-pub use gates::{Progress, Side, TurnGate};
-pub use hand::Port;
-pub use left::left_text;
-pub use putter::Putter;
-pub use racing::{Raced, race_of_four};
-pub use share::is_parted;
-pub use staging::{Staged, stage};
-pub use stub::{Answer, Numbers, Results, Stub};
-pub use turns::{DIE, STRANGE, Turn};
-pub use voice::Voice;
+// What a case is, and how a port goes through it.
+#[cfg(test)]
+mod case;
+#[cfg(test)]
+mod cases;
+#[cfg(test)]
+mod hand;
+#[cfg(test)]
+mod left;
+#[cfg(test)]
+mod turns;
+
+// Clients on threads of their own.
+#[cfg(test)]
+mod gates;
+#[cfg(test)]
+mod putter;
+#[cfg(test)]
+mod racing;
+#[cfg(test)]
+mod share;
+#[cfg(test)]
+mod staging;
 
 #[cfg(test)]
 mod exchange_tests;

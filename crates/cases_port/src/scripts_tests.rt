@@ -1,6 +1,7 @@
 //! Scripts at the running handler, each client on a thread of its own.
 use crate::floppy::{blank_handler, handler_with};
-use crate::{Progress, Side, Staged, TurnGate, stage};
+use crate::gates::{Progress, Side, TurnGate};
+use crate::staging::{Staged, stage};
 use adf_clients::{ClientEnding, OpenGate};
 use std::sync::Arc;
 use std::test::Fail;

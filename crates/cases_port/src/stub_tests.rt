@@ -2,7 +2,10 @@
 ghost use Rattle.std.specs.Prelude.{◌≡◌};
 
 use crate::cases::{BATCH_REFUSED, GATHER_REFUSED, PORT_REFUSED};
-use crate::{Case, Numbers, Results, Stub, is_parted, play, race_of_four};
+use crate::case::{Case, play};
+use crate::racing::race_of_four;
+use crate::share::is_parted;
+use crate::stub::{Numbers, Results, Stub};
 use std::alloc::Global;
 use std::process::Abort;
 use std::sync::Wait;
