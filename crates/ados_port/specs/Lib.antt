@@ -11,5 +11,6 @@ pub use Rattle.port_history.specs.Closing
 pub use Rattle.port_history.specs.Lawful
 pub use Rattle.port_history.specs.Lists
 pub use Rattle.port_ends.specs.Ends
+pub use Rattle.port_ends.specs.Batches
 pub use Rattle.port_ends.specs.Gathering
 pub use Rattle.port_threads.specs.Grown

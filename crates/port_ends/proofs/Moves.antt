@@ -8,7 +8,7 @@ use Rattle.crossbeam_queue.specs.Fifo.{Pushes, Pops, Forks, Merges, Learns}
 use Rattle.crossbeam_queue.proofs.Lists.{at_set}
 use Rattle.port_ends.specs.declared.seat.Seat.{Seat}
 use Rattle.port_history.specs.History.{packets_by}
-use Rattle.port_ends.specs.steps.Rule.{total, handler, client, FitsClient, PortRule}
+use Rattle.port_ends.specs.steps.Rule.{ArePutLists, total, handler, client, FitsClient, PortRule}
 use Rattle.port_ends.specs.Ends.{OfClients}
 use Rattle.port_ends.proofs.Packets.{packets_by_same, packets_by_other, packets_by_beyond, of_clients_snoc, of_clients_more, of_clients_at, total_all}
 
@@ -56,11 +56,11 @@ module _ {Q : Type 0} where
         refl,
       )
 
-  pub learns : (port : ℕ) (v : Seat Q) → v.handles ≡ true → Learns PortRule port v (λ items. OfClients v.number (v.taken ++ items) × ((k : ℕ) (put : List Q) → slice_get v.known k ≡ Some put → put ≡ packets_by (k + 1) (v.taken ++ items)))
+  pub learns : (port : ℕ) (v : Seat Q) → v.handles ≡ true → Learns PortRule port v (λ items. OfClients v.number (v.taken ++ items) × ArePutLists v.known (v.taken ++ items))
   learns port v is items [] h at = absurd h
   learns (suc p) v is items (b ∷ cs) h at = absurd (true≢false (sym is ∙ (h.4 p v at).0))
   learns zero v is items (b ∷ cs) h at = let e : b ≡ v = some-injective b v at in
-      subst (λ (u : Seat Q). OfClients u.number (u.taken ++ items) × ((k : ℕ) (put : List Q) → slice_get u.known k ≡ Some put → put ≡ packets_by (k + 1) (u.taken ++ items))) e (h.3, h.5)
+      subst (λ (u : Seat Q). OfClients u.number (u.taken ++ items) × ArePutLists u.known (u.taken ++ items)) e (h.3, h.5)
 
   pub pops : (port : ℕ) (v : Seat Q) → v.handles ≡ true → Pops PortRule port v (λ x w. (w ≡ handler v.number (v.taken ++ x ∷ []) v.known) × (1 ≤ x.0) × (x.0 ≤ v.number) × (length v.known ≡ v.number → length w.taken ≤ total v.known))
   pops port v is x items [] h at = absurd h

@@ -4,7 +4,7 @@ use Rattle.std.proofs.lemmas.Bool.Decides.{nat_tests}
 use Rattle.std.proofs.lemmas.List.{map-append}
 use Rattle.std.proofs.lemmas.List.Elements.{filter-append}
 use Rattle.port_history.specs.History.{packets_by}
-use Rattle.port_ends.specs.steps.Rule.{total}
+use Rattle.port_ends.specs.steps.Rule.{ArePutLists, total}
 use Rattle.port_ends.specs.Ends.{OfClients}
 use native.Mathlib.Decide.{ℕ_discrete}
 use mathlib.Core.Logic.{dite}
@@ -94,7 +94,7 @@ module _ {Q : Type 0} where
   lists_total n (x ∷ xs) h = let ih = lists_total n xs h.2 in let a = h.0 in let b = h.1 in let add = lists_add n 0 x xs a (omega arith) in omega arith
 
   -- all put lists together are as long as the list of all packets
-  pub total_all : (n : ℕ) (xs : List (ℕ × Q)) (known : List (List Q)) → OfClients n xs → length known ≡ n → ((k : ℕ) (put : List Q) → slice_get known k ≡ Some put → put ≡ packets_by (k + 1) xs) → length xs ≡ total known
+  pub total_all : (n : ℕ) (xs : List (ℕ × Q)) (known : List (List Q)) → OfClients n xs → length known ≡ n → ArePutLists known xs → length xs ≡ total known
   total_all n xs known h len each =
       let same : known ≡ put_lists n 0 xs = is_put_lists n 0 xs known len (λ k put e. subst (λ (j : ℕ). put ≡ packets_by (j + 1) xs) (let z : k ≡ 0 + k = omega arith in z) (each k put e)) in
       sym (lists_total n xs h) ∙ ap (λ (l : List (List Q)). total l) (sym same)

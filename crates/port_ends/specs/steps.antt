@@ -3,8 +3,10 @@ pub mod Trails
 pub mod ClosingMark
 pub mod QueueEnds
 pub mod Rule
+pub mod QueueCalls
 pub mod Sending
 pub mod RingEnds
 pub mod Desks
 pub mod Entries
+pub mod HandlerEnds
 pub mod Rooms

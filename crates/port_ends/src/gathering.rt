@@ -1,10 +1,9 @@
 //! How a port's ends are gathered.
-ghost use Rattle.std.specs.Prelude.{◌≡◌, ℕ, ◌+◌, ◌<◌, ◌≤◌, ◌^◌, ◌++◌, ◌∷◌, [], List, map, length, vec_len, vec_capacity, Some, slice_get, IfOk, IfErr, IfSome};
-ghost use Rattle.port_history.specs.History.{Lawful, packets_by};
-ghost use Rattle.port_ends.specs.Rings.{all_of};
+ghost use Rattle.std.specs.Prelude.{◌≡◌, ℕ, ◌+◌, ◌<◌, ◌≤◌, ◌++◌, ◌∷◌, [], map, length, vec_capacity, Some, slice_get, IfOk, IfErr, IfSome};
+ghost use Rattle.port_history.specs.History.{Lawful};
 ghost use Rattle.port_ends.specs.Ends.{OfClients};
-ghost use Rattle.port_ends.specs.steps.Rule.{total};
-ghost use Rattle.port_ends.specs.steps.Rooms.{OnlyElement, RoomFits, RoomsFit, Left};
+ghost use Rattle.port_ends.specs.steps.Rule.{ArePutLists, total};
+ghost use Rattle.port_ends.specs.steps.Rooms.{OnlyElement, RoomsFit, HasRoomAt, AreOutletsOf, LeftAt, AllLeft};
 ghost use Rattle.port_ends.specs.Gathering.{all_lists};
 ghost use Rattle.port_ends.specs.Ends.{AreEnds};
 
@@ -30,11 +29,11 @@ fn take_in_one<S: Server>(
 )
     requires places { (k < length outlets.old.items) × (k < length untaken.old.items) }
     requires port { (client.port ≡ queue.old.port) × (client.number ≡ length queue.old.known + 1) }
-    requires room { (o : _) (r : _) → slice_get outlets.old.items k ≡ Some o → slice_get untaken.old.items k ≡ Some r → RoomFits client o r × (o.ring ≡ client.ring) × (length (all_of o) < 2 ^ 64) }
+    requires room { HasRoomAt k client outlets.old.items untaken.old.items }
     ensures queue { queue.new ≡ record queue.old { known = queue.old.known ++ client.put ∷ [] } }
     ensures outlets { OnlyElement k outlets.old.items outlets.new.items }
     ensures untaken { OnlyElement k untaken.old.items untaken.new.items }
-    ensures replies { (o : _) → slice_get outlets.old.items k ≡ Some o → (r : _) × (slice_get untaken.new.items k ≡ Some r) × Left client (all_of o) r.items }
+    ensures replies { (o : _) → slice_get outlets.old.items k ≡ Some o → LeftAt k client o untaken.new.items }
 {
     let outlet = &mut outlets[k];
     let room = &mut untaken[k];
@@ -52,7 +51,7 @@ fn take_rest<Q: Drop, R: Wait>(
     requires empty { unanswered.items ≡ [] }
     requires room { total queue.known ≤ length queue.taken + vec_capacity unanswered }
     ensures clients { OfClients queue.clients (queue.taken ++ result.items) }
-    ensures puts { (k : ℕ) (put : List Q) → slice_get queue.known k ≡ Some put → put ≡ packets_by (k + 1) (queue.taken ++ result.items) }
+    ensures puts { ArePutLists queue.known (queue.taken ++ result.items) }
 {
     let mut queue = queue;
     let mut unanswered = unanswered;
@@ -75,11 +74,11 @@ fn take_in<S: Server>(
     requires lengths { (length outlets.items ≡ length clients.items) × (length untaken.items ≡ length clients.items) }
     requires known { queue.known ≡ [] }
     requires ends { (k : ℕ) (c : _) → slice_get clients.items k ≡ Some c → (c.port ≡ queue.port) × (c.number ≡ k + 1) }
-    requires rings { (k : ℕ) (c : _) (o : _) → slice_get clients.items k ≡ Some c → slice_get outlets.items k ≡ Some o → (o.ring ≡ c.ring) × (length (all_of o) < 2 ^ 64) }
+    requires rings { AreOutletsOf clients.items outlets.items }
     requires rooms { RoomsFit clients.items outlets.items untaken.items }
     ensures queue { result.0 ≡ record queue { known = map (λ c. c.put) clients.items } }
     ensures clients { length result.1.items ≡ length clients.items }
-    ensures replies { (k : ℕ) (c : _) (o : _) → slice_get clients.items k ≡ Some c → slice_get outlets.items k ≡ Some o → (r : _) × (slice_get result.1.items k ≡ Some r) × Left c (all_of o) r.items }
+    ensures replies { AllLeft clients.items outlets.items result.1.items }
 {
     let mut queue = queue;
     let mut outlets = outlets;
@@ -163,7 +162,8 @@ fn finish<S: Server, R: Wait>(
     requires rooms { RoomsFit clients.items handler.outlets untaken.items }
     requires empty { unanswered.items ≡ [] }
     requires room { total (map (λ c. c.put) clients.items) ≤ length handler.served + vec_capacity unanswered }
-    ensures lawful { Lawful S.gives handler.opening (all_lists clients.items result.untaken.items) handler.served result.unanswered.items result.server }
+    ensures lawful { Lawful S.gives handler.opening (all_lists clients.items result.untaken.items) handler.served
+        result.unanswered.items result.server }
     ensures clients { length result.untaken.items ≡ length clients.items }
 {
     handler.witness();
@@ -187,7 +187,8 @@ pub fn gather<S: Server, R: Wait>(
     clients: Vec<ClientEnd<S>>,
 ) -> Result<Gathered<S>, GatherRefused<S>>
     requires { AreEnds handler clients.items }
-    ensures lawful { IfOk result (λ r. Lawful S.gives handler.opening (all_lists clients.items r.untaken.items) handler.served r.unanswered.items r.server) }
+    ensures lawful { IfOk result (λ r. Lawful S.gives handler.opening (all_lists clients.items r.untaken.items) handler.served
+        r.unanswered.items r.server) }
     ensures clients { IfOk result (λ r. length r.untaken.items ≡ length clients.items) }
     ensures refused { IfErr result (λ e. (e.handler ≡ handler) × (e.clients.items ≡ clients.items)) }
 {

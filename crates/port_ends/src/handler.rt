@@ -1,10 +1,12 @@
 //! The handler's end of a port.
-ghost use Rattle.std.specs.Prelude.{◌≡◌, ◌⊎◌, ℕ, ◌+◌, ◌<◌, ◌≤◌, ◌∷◌, [], ◌++◌, List, length, true, false, IfOk, OnOk, OnErr, IsTrue, IsFalse, MatchResult, IfSome, ◌^◌, Some, slice_get};
-ghost use Rattle.port_history.specs.History.{Serving, packets_of};
+ghost use Rattle.std.specs.Prelude.{◌≡◌, ◌<◌, ◌≤◌, ◌^◌, ◌∷◌, [], length, false, IfOk, OnOk, OnErr, IsTrue, IsFalse, MatchResult, Some, slice_get};
+ghost use Rattle.port_history.specs.History.{Serving};
 ghost use Rattle.port_ends.specs.Rings.{EachPosts, waiting_count};
 ghost use Rattle.port_ends.specs.steps.Sending.{EachHasRoom, UsesOne};
-ghost use Rattle.port_ends.specs.declared.handler.ServeEnd.TheVariants.{Closed, Idle};
-ghost use Rattle.port_ends.specs.Ends.{HandlerView, IsNew, IsFresh, IsEndOf, IsSound, Serves};
+ghost use Rattle.port_ends.specs.steps.HandlerEnds.{AddsClientEnd, IsQueueOf};
+ghost use Rattle.port_ends.specs.steps.Rooms.{HasUntaken};
+ghost use Rattle.port_ends.specs.Ends.{HandlerView, IsNew, IsSound, Serves};
+ghost use Rattle.port_ends.specs.Batches.{ServesSome, ServesSoMany, OnlyPosts, EndsAs};
 
 use crate::client::ClientEnd;
 use crate::closing_mark::CloseSetter;
@@ -92,8 +94,8 @@ impl<S: Server> HandlerEnd<S> {
         moment: S::Moment,
         limit: usize,
     ) -> Result<usize, ServeFault>
-        ensures ok { IfOk result (λ m. (m ≤ limit) × ((xs : List (Serving S.Request S.Moment S.Reply)) × (length xs ≡ m) × Serves S.gives moment self.old xs self.new)) }
-        ensures err { OnErr result ((self.new ≡ record self.old { outlets = self.new.outlets }) × EachPosts self.old.outlets self.new.outlets) }
+        ensures ok { IfOk result (λ m. (m ≤ limit) × ServesSoMany S.gives moment self.old m self.new) }
+        ensures err { OnErr result (OnlyPosts self.old self.new) }
         ensures sound { IsSound S.gives S.has_died self.new }
     {
         self.post_waiting();
@@ -117,8 +119,8 @@ impl<S: Server> HandlerEnd<S> {
         idle_limit: u64,
     ) -> Result<ServeEnd, ServeFault>
         requires { 0 < idle_limit }
-        ensures served { (xs : List (Serving S.Request S.Moment S.Reply)) × Serves S.gives moment self.old xs self.new }
-        ensures end { IfOk result (λ e. ((e ≡ Closed) × (S.has_died self.new.server ≡ true)) ⊎ ((e ≡ Idle) × (S.has_died self.new.server ≡ false))) }
+        ensures served { ServesSome S.gives moment self.old self.new }
+        ensures end { IfOk result (λ end. EndsAs end (S.has_died self.new.server)) }
         ensures sound { IsSound S.gives S.has_died self.new }
     {
         let mut idle = 0u64;
@@ -169,7 +171,7 @@ impl<S: Server> HandlerEnd<S> {
     fn serve_up_to<R: Wait>(&mut self, rt: &R, moment: S::Moment, limit: usize) -> usize
         requires { EachHasRoom limit self.old.outlets }
         ensures few { result ≤ limit }
-        ensures served { (xs : List (Serving S.Request S.Moment S.Reply)) × (length xs ≡ result) × Serves S.gives moment self.old xs self.new }
+        ensures served { ServesSoMany S.gives moment self.old result self.new }
     {
         let mut served = 0;
         for _ in 0..limit {
@@ -207,7 +209,7 @@ impl<S: Server> HandlerEnd<S> {
     ) -> Result<ClientEnd<S>, AllocError>
         requires served { self.old.served ≡ [] }
         requires count { length self.old.outlets < 18446744073709551615 }
-        ensures ok { IfOk result (λ e. IsFresh e × ((o : _) × (self.new ≡ record self.old { outlets = self.old.outlets ++ o ∷ [] }) × (o.posted ≡ []) × (o.waiting ≡ []) × IsEndOf self.new (length self.old.outlets) e)) }
+        ensures ok { IfOk result (λ end. AddsClientEnd self.old self.new end) }
         ensures err { OnErr result (self.new ≡ self.old) }
     {
         self.outlets.reserve(1)?;
@@ -229,7 +231,7 @@ impl<S: Server> HandlerEnd<S> {
         requires place { k < length self.old.outlets }
         requires ring { (o : _) → slice_get self.old.outlets k ≡ Some o → o.ring ≡ client.old.ring }
         ensures same { (self.new ≡ self.old) × (client.new ≡ client.old) }
-        ensures count { (o : _) → slice_get self.old.outlets k ≡ Some o → (rest : List (S.Moment × S.Reply)) × (o.posted ≡ client.old.taken ++ rest) × (length rest + length o.waiting ≡ result) }
+        ensures count { (o : _) → slice_get self.old.outlets k ≡ Some o → HasUntaken client.old o result }
     {
         let _served = self.desk.count();
         let outlet = &mut self.outlets[k];
@@ -246,7 +248,7 @@ impl<S: Server> HandlerEnd<S> {
 
     // The parts, once the room for what is left is there.
     pub(crate) fn into_parts(self) -> (TakeEnd<S::Request>, Vec<Outlet<(S::Moment, S::Reply)>>, S)
-        ensures queue { (result.0.port ≡ self.port) × (result.0.taken ≡ packets_of self.served) × (result.0.known ≡ []) × (result.0.clients ≡ length self.outlets) }
+        ensures queue { IsQueueOf self result.0 }
         ensures outlets { result.1.items ≡ self.outlets }
         ensures server { result.2 ≡ self.server }
         ensures few { length self.served < 2 ^ 64 }

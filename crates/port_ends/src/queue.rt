@@ -1,10 +1,6 @@
 //! The two kinds of end of the port's queue.
-ghost use Rattle.std.specs.Prelude.{◌≡◌, ℕ, ◌+◌, ◌<◌, ◌≤◌, [], ◌∷◌, ◌++◌, length, Some, slice_get, IfOk, MatchResult, MatchOption, IfSome, IfNone, OnErr};
-ghost use Rattle.std.specs.Arc.{arc_value};
-ghost use Rattle.crossbeam_queue.specs.SegTies.{IsSegPassOf};
-ghost use Rattle.port_history.specs.History.{packets_by};
-ghost use Rattle.port_ends.specs.steps.Rule.{client, handler, total};
-ghost use Rattle.port_ends.specs.Ends.{OfClients};
+ghost use Rattle.std.specs.Prelude.{◌≡◌, ◌+◌, ◌<◌, [], ◌∷◌, ◌++◌, length, IfOk, MatchResult, IfSome, IfNone, OnErr};
+ghost use Rattle.port_ends.specs.steps.QueueCalls.{AddsPacket, HandsBack, AddsPutEnd, TakesPacket, FindsNothing};
 
 use crate::seat::{Gathers, Opens, Port, PortPass, Puts, Takes};
 use std::alloc::{AllocError, Global};
@@ -63,7 +59,7 @@ impl<Q: Drop> PutEnd<Q> {
 
     /// Puts a packet, and answers its number. A refusal hands it back, and changes nothing.
     pub fn put<R: Wait>(&mut self, rt: &R, packet: Q) -> Result<u64, Q>
-        ensures put { MatchResult result (λ n. (self.new ≡ record self.old { put = self.old.put ++ packet ∷ [] }) × (n ≡ length self.new.put)) (λ back. (back ≡ packet) × (self.new ≡ self.old)) }
+        ensures put { MatchResult result (λ number. AddsPacket self.old packet self.new number) (λ back. HandsBack self.old packet self.new back) }
     {
         if self.count == u64::MAX {
             return Err(packet);
@@ -122,7 +118,7 @@ impl<Q: Drop> TakeEnd<Q> {
     /// The end of one more client.
     pub fn add_client(&mut self) -> Result<PutEnd<Q>, AllocError>
         requires { self.old.clients < 18446744073709551615 }
-        ensures ok { IfOk result (λ e. (e ≡ record { port = self.old.port; number = self.old.clients + 1; put = [] }) × (self.new ≡ record self.old { clients = self.old.clients + 1 })) }
+        ensures ok { IfOk result (λ end. AddsPutEnd self.old self.new end) }
         ensures err { OnErr result (self.new ≡ self.old) }
     {
         let port = Arc::try_clone(&self.port)?;
@@ -138,8 +134,8 @@ impl<Q: Drop> TakeEnd<Q> {
 
     /// Takes the packet at the front. Where nothing waits, all that the gathered clients put was taken.
     pub fn take<R: Wait>(&mut self, rt: &R) -> Option<(usize, Q)>
-        ensures took { IfSome result (λ x. (self.new ≡ record self.old { taken = self.old.taken ++ x ∷ [] }) × (1 ≤ x.0) × (x.0 ≤ self.old.clients) × (length self.old.known ≡ self.old.clients → length self.new.taken ≤ total self.old.known)) }
-        ensures none { IfNone result ((self.new ≡ self.old) × OfClients self.old.clients self.old.taken × ((k : ℕ) (put : _) → slice_get self.old.known k ≡ Some put → put ≡ packets_by (k + 1) self.old.taken)) }
+        ensures took { IfSome result (λ packet. TakesPacket self.old self.new packet) }
+        ensures none { IfNone result (FindsNothing self.old self.new) }
     {
         self.port.queue.pop_as::<Takes, R>(rt, &mut self.pass)
     }

@@ -1,10 +1,10 @@
 //! The two ends of a reply ring, with a list beside the sending end.
-ghost use Rattle.std.specs.Prelude.{◌≡◌, ℕ, ◌+◌, ◌-◌, ◌<◌, ◌≤◌, [], ◌∷◌, ◌++◌, length, IfOk, OnOk, IfSome, OnErr, IfNone, ◌^◌, List, vec_len, vec_capacity};
+ghost use Rattle.std.specs.Prelude.{◌≡◌, ◌+◌, ◌-◌, ◌<◌, ◌≤◌, [], ◌∷◌, ◌++◌, length, IfOk, OnOk, IfSome, IfNone, ◌^◌, List, vec_len, vec_capacity};
 ghost use Rattle.rtrb.specs.Ring.{known_items};
 ghost use Rattle.port_history.specs.History.{numbered};
 ghost use Rattle.port_ends.specs.Gathering.{answers};
 ghost use Rattle.port_ends.specs.Rings.{OutView, Posts, StaysPosted, all_of};
-ghost use Rattle.port_ends.specs.steps.Sending.{InView};
+ghost use Rattle.port_ends.specs.steps.Rooms.{FitIn};
 
 use port_history::Reply;
 use rtrb::{Consumer, Producer, PushError, RingBuffer};
@@ -176,7 +176,7 @@ impl<M: Drop, A: Drop> Inlet<(M, A)> {
     pub fn drain(mut self, outlet: &mut Outlet<(M, A)>, count: u64, into: &mut Vec<Reply<A>>)
         requires ring { outlet.old.ring ≡ self.ring }
         requires empty { into.old.items ≡ [] }
-        requires room { (rest : List (M × A)) × (outlet.old.posted ≡ self.taken ++ rest) × (length rest + length outlet.old.waiting ≤ vec_capacity into.old) }
+        requires room { FitIn self.taken outlet.old into.old }
         requires numbers { (count ≡ length self.taken) × (length (all_of outlet.old) < 2 ^ 64) }
         ensures { (rest : List (M × A)) × (all_of outlet.old ≡ self.taken ++ rest) × (into.new.items ≡ numbered (count + 1) (answers rest)) }
     {

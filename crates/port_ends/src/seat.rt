@@ -1,7 +1,6 @@
 //! The rule of the port's queue, and the moves that keep it.
-ghost use Rattle.std.specs.Prelude.{◌≡◌, ℕ, ◌+◌, ◌<◌, ◌≤◌, List, [], ◌∷◌, ◌++◌, length, Some, slice_get};
-ghost use Rattle.port_history.specs.History.{packets_by};
-ghost use Rattle.port_ends.specs.steps.Rule.{client, handler, total};
+ghost use Rattle.std.specs.Prelude.{◌≡◌, ◌+◌, ◌<◌, ◌≤◌, [], ◌∷◌, ◌++◌, length};
+ghost use Rattle.port_ends.specs.steps.Rule.{ArePutLists, client, handler, total};
 ghost use Rattle.port_ends.specs.Ends.{OfClients};
 
 use crossbeam_queue::protocol::{Join, Lesson, Outcome, Protocol, Split};
@@ -68,7 +67,7 @@ impl<Q> Outcome<(usize, Q), Seat<Q>> for Takes {
 }
 
 impl<Q> Lesson<(usize, Q), Seat<Q>> for Takes {
-    ghost fact = { λ v items. OfClients v.number (v.taken ++ items) × ((k : ℕ) (put : _) → slice_get v.known k ≡ Some put → put ≡ packets_by (k + 1) (v.taken ++ items)) };
+    ghost fact = { λ v items. OfClients v.number (v.taken ++ items) × ArePutLists v.known (v.taken ++ items) };
 }
 
 /// The port's queue.

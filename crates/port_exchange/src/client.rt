@@ -18,6 +18,8 @@ pub(crate) struct Client<A> {
 }
 
 impl<A: Drop> Client<A> {
+    ghost use Rattle.port_exchange.specs.steps.Taking.{HasNoReply, HandsOut};
+
     pub(crate) fn new(alloc: Global) -> Self
         ensures accepted { result.accepted ≡ 0 }
         ensures taken { result.taken ≡ 0 }
@@ -66,8 +68,7 @@ impl<A: Drop> Client<A> {
     pub(crate) fn take(&mut self) -> Option<Reply<A>>
         ensures accepted { self.new.accepted ≡ self.old.accepted }
         ensures waiting { self.new.waiting ≡ self.old.waiting }
-        ensures cases { MatchOption result ((self.old.replies.items ≡ []) × (self.new.replies.items ≡ []) × (self.new.taken ≡ self.old.taken))
-            (λ reply. (self.old.replies.items ≡ reply.answer ∷ self.new.replies.items) × (self.new.taken ≡ self.old.taken + 1) × (reply.number ≡ self.old.taken + 1)) }
+        ensures cases { MatchOption result (HasNoReply self.old self.new) (λ reply. HandsOut self.old self.new reply) }
     {
         let answer = self.replies.pop_front()?;
         self.taken += 1;

@@ -2,6 +2,7 @@
 ghost use Rattle.std.specs.Prelude.{◌≡◌, true, IfOk, MatchResult};
 ghost use Rattle.port_history.specs.History.{PortHistory, FirstAreServed, events_of};
 ghost use Rattle.port_history.specs.Closing.{PutsAreClosed};
+ghost use Rattle.port_exchange.specs.Refused.{HandsBack};
 
 use crate::exchange::Exchange;
 use port_history::{Outcome, Server, Step};
@@ -30,7 +31,7 @@ pub fn run<S: Server>(
 ) -> Result<RunDone<S>, RunRefused<S>>
     ensures history { MatchResult result
         (λ done. PortHistory S.gives S.has_died exchange steps.items done.outcomes.items done.exchange)
-        (λ refused. (refused.exchange ≡ exchange) × (refused.steps.items ≡ steps.items)) }
+        (HandsBack exchange steps.items) }
     ensures first_served { IfOk result (λ done. FirstAreServed exchange (events_of steps.items done.outcomes.items) done.exchange) }
 
     // After a death nothing more is accepted, in this run and in those after it.

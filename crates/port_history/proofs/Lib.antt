@@ -1,3 +1,4 @@
+-- Lemmas on runs and on what events count, and then why a dead port stays closed, replies come in order, and a history is lawful.
 pub mod Numbers
 pub mod Serving
 pub mod Events

@@ -1,7 +1,7 @@
 //! The clients' threads, and the batches beside them.
-ghost use Rattle.std.specs.Prelude.{◌≡◌, ◌≤◌, List, [], IfOk, OnOk, length, map, vec_capacity};
-ghost use Rattle.port_history.specs.History.{Serving};
-ghost use Rattle.port_ends.specs.Ends.{AreEnds, Serves};
+ghost use Rattle.std.specs.Prelude.{◌≡◌, ◌≤◌, [], IfOk, OnOk, length, map, vec_capacity};
+ghost use Rattle.port_ends.specs.Ends.{AreEnds};
+ghost use Rattle.port_ends.specs.Batches.{ServesSome};
 ghost use Rattle.port_threads.specs.Grown.{Did, EachDid};
 
 use crate::client::Client;
@@ -97,7 +97,7 @@ fn serve_until_ended<S: Server, R: Wait>(
     ended: &AtomicUsize,
     threads: usize,
 ) -> Result<(), ServeClientsFault>
-    ensures { (xs : List (Serving S.Request S.Moment S.Reply)) × Serves S.gives moment handler.old xs handler.new }
+    ensures { ServesSome S.gives moment handler.old handler.new }
 {
     for _ in rt.forever() {
         let all = ended.load(Ordering::SeqCst) == threads;
@@ -205,7 +205,7 @@ where
     R: Threads + Wait + Copy + Send + Drop + 'static,
     requires all { AreEnds handler ends.items }
     requires jobs { length jobs.items ≡ length ends.items }
-    ensures handler { IfOk result (λ r. (xs : List (Serving S.Request S.Moment S.Reply)) × Serves S.gives moment handler xs r.handler) }
+    ensures handler { IfOk result (λ r. ServesSome S.gives moment handler r.handler) }
     ensures clients { IfOk result (λ r. EachDid C.does jobs.items ends.items r.ends.items r.reports.items) }
     ensures all { IfOk result (λ r. AreEnds r.handler r.ends.items) }
 {

@@ -1,3 +1,4 @@
+-- The ring that an end of a reply ring has.
 use Rattle.rtrb.specs.declared.end.End.{End}
 use Rattle.std.specs.declared.alloc.Global.{Global}
 use Rattle.port_ends.specs.Rings.{RingId}

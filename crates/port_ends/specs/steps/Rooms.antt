@@ -1,9 +1,9 @@
 -- The room that is got before the ends of a port are taken in, and what each end leaves in it.
-use Rattle.std.specs.Prelude.{◌≡◌, ◌≢◌, ℕ, ◌+◌, ◌≤◌, List, [], ◌++◌, length, Some, slice_get, vec_capacity, Vec}
+use Rattle.std.specs.Prelude.{◌≡◌, ◌≢◌, ℕ, ◌+◌, ◌<◌, ◌≤◌, ◌^◌, List, [], ◌++◌, length, Some, slice_get, vec_capacity, Vec}
 use Rattle.std.specs.declared.alloc.Global.{Global}
 use Rattle.port_history.specs.declared.step.Reply.{Reply}
 use Rattle.port_history.specs.History.{numbered}
-use Rattle.port_ends.specs.Rings.{OutView}
+use Rattle.port_ends.specs.Rings.{OutView, all_of}
 use Rattle.port_ends.specs.Ends.{ClientView}
 use Rattle.port_ends.specs.Gathering.{answers}
 
@@ -15,10 +15,18 @@ OnlyElement k old new = (length new ≡ length old) × ((j : ℕ) → j ≢ k �
 abbrev pub SameFrom : {X : Type 0} → ℕ → List X → List X → Type 0
 SameFrom k old new = (length new ≡ length old) × ((j : ℕ) → k ≤ j → slice_get new j ≡ slice_get old j)
 
+-- all replies behind these, which were taken, fit in this list
+abbrev pub FitIn : {M A : Type 0} → List (M × A) → OutView (M × A) → Vec (Reply A) Global → Type 0
+FitIn {M} {A} taken o r = (rest : List (M × A)) × (o.posted ≡ taken ++ rest) × (length rest + length o.waiting ≤ vec_capacity r)
+
 module _ {Q M A : Type 0} where
+  -- so many of the replies that were sent to this client it has not taken
+  abbrev pub HasUntaken : ClientView Q M A → OutView (M × A) → ℕ → Type 0
+  HasUntaken c o count = (rest : List (M × A)) × (o.posted ≡ c.taken ++ rest) × (length rest + length o.waiting ≡ count)
+
   -- an empty list with room for all replies of this client that it has not taken
   abbrev pub RoomFits : ClientView Q M A → OutView (M × A) → Vec (Reply A) Global → Type 0
-  RoomFits c o r = (r.items ≡ []) × ((rest : List (M × A)) × (o.posted ≡ c.taken ++ rest) × (length rest + length o.waiting ≤ vec_capacity r))
+  RoomFits c o r = (r.items ≡ []) × FitIn c.taken o r
 
   -- for each client
   abbrev pub RoomsFit : List (ClientView Q M A) → List (OutView (M × A)) → List (Vec (Reply A) Global) → Type 0
@@ -28,3 +36,23 @@ module _ {Q M A : Type 0} where
   -- what a client took, and then the untaken replies, are all that was sent to it, numbered in order
   abbrev pub Left : ClientView Q M A → List (M × A) → List (Reply A) → Type 0
   Left c sent untaken = (rest : List (M × A)) × (sent ≡ c.taken ++ rest) × (untaken ≡ numbered (length c.taken + 1) (answers rest))
+
+  -- this is the client's outlet, and all that was sent to it can be numbered
+  abbrev pub IsOutletOf : ClientView Q M A → OutView (M × A) → Type 0
+  IsOutletOf c o = (o.ring ≡ c.ring) × (length (all_of o) < 2 ^ 64)
+
+  -- for each client
+  abbrev pub AreOutletsOf : List (ClientView Q M A) → List (OutView (M × A)) → Type 0
+  AreOutletsOf cs os = (k : ℕ) (c : ClientView Q M A) (o : OutView (M × A)) → slice_get cs k ≡ Some c → slice_get os k ≡ Some o → IsOutletOf c o
+
+  -- the k-th outlet is this client's, and the k-th list has room for the replies that it has not taken
+  abbrev pub HasRoomAt : ℕ → ClientView Q M A → List (OutView (M × A)) → List (Vec (Reply A) Global) → Type 0
+  HasRoomAt k c os rs = (o : OutView (M × A)) (r : Vec (Reply A) Global) → slice_get os k ≡ Some o → slice_get rs k ≡ Some r → RoomFits c o r × IsOutletOf c o
+
+  -- the k-th list has the replies that were sent to this client and that it has not taken
+  abbrev pub LeftAt : ℕ → ClientView Q M A → OutView (M × A) → List (Vec (Reply A) Global) → Type 0
+  LeftAt k c o rs = (r : Vec (Reply A) Global) × (slice_get rs k ≡ Some r) × Left c (all_of o) r.items
+
+  -- for each client
+  abbrev pub AllLeft : List (ClientView Q M A) → List (OutView (M × A)) → List (Vec (Reply A) Global) → Type 0
+  AllLeft cs os rs = (k : ℕ) (c : ClientView Q M A) (o : OutView (M × A)) → slice_get cs k ≡ Some c → slice_get os k ≡ Some o → LeftAt k c o rs

@@ -12,6 +12,10 @@ module _ {Q : Type 0} where
   total [] = 0
   total (put ∷ puts) = length put + total puts
 
+  -- these lists are the first clients', each what it has of these packets
+  abbrev pub ArePutLists : List (List Q) → List (ℕ × Q) → Type 0
+  ArePutLists puts packets = (k : ℕ) (put : List Q) → slice_get puts k ≡ Some put → put ≡ packets_by (k + 1) packets
+
   -- the handler's pass: how many clients there are, what was taken, and the put lists of the clients that were gathered
   abbrev pub handler : ℕ → List (ℕ × Q) → List (List Q) → Seat Q
   handler n taken known = record { handles = true; number = n; put = []; taken = taken; known = known }
@@ -29,4 +33,4 @@ module _ {Q : Type 0} where
   PortRule items [] = ⊥
   PortRule items (h ∷ cs) = (h.handles ≡ true) × (length cs ≡ h.number) × (length h.known ≤ h.number) × OfClients h.number (h.taken ++ items)
       × ((k : ℕ) (v : Seat Q) → get_elem? cs k ≡ some v → FitsClient (h.taken ++ items) (length h.known) (k + 1) v)
-      × ((k : ℕ) (put : List Q) → slice_get h.known k ≡ Some put → put ≡ packets_by (k + 1) (h.taken ++ items))
+      × ArePutLists h.known (h.taken ++ items)

@@ -22,8 +22,7 @@ take_in_one-requires-clause-room g c =
     let here : c.loop-client.k ≤ c.loop-client.k = omega arith in
     let o' = sym (h.outlets.1 _ here) ∙ ato in
     let r' = sym (h.untaken.1 _ here) ∙ atr in
-    let ring = c.requires.rings _ _ _ at o' in
-    (c.requires.rooms.1 _ _ _ _ at o' r', ring.0, ring.1)
+    (c.requires.rooms.1 _ _ _ _ at o' r', c.requires.rings _ _ _ at o')
 
 pub loop-client-preserved : goal.loop-client-preserved
 loop-client-preserved g c =

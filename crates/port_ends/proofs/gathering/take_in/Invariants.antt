@@ -1,6 +1,5 @@
 use Rattle.std.proofs.Common.{◌≡◌, ◌<◌, ◌++◌, ℕ, map, length, Some, slice_get}
-use Rattle.port_ends.specs.steps.Rooms.{SameFrom, Left}
-use Rattle.port_ends.specs.Rings.{all_of}
+use Rattle.port_ends.specs.steps.Rooms.{SameFrom, LeftAt}
 use Rattle.port_ends.proofs.gathering.take_in.Given as goal
 
 abbrev pub invariant-loop-client : goal.invariant-loop-client
@@ -10,5 +9,5 @@ invariant-loop-client g l = record {
   queue : l.queue ≡ record l.fn.queue { known = map (λ c. c.put) l.yielded };
   outlets : SameFrom l.k l.fn.outlets.items l.outlets.items;
   untaken : SameFrom l.k l.fn.untaken.items l.untaken.items;
-  done : (j : ℕ) (c : _) (o : _) → j < l.k → slice_get l.fn.clients.items j ≡ Some c → slice_get l.fn.outlets.items j ≡ Some o → (r : _) × (slice_get l.untaken.items j ≡ Some r) × Left c (all_of o) r.items;
+  done : (j : ℕ) (c : _) (o : _) → j < l.k → slice_get l.fn.clients.items j ≡ Some c → slice_get l.fn.outlets.items j ≡ Some o → LeftAt j c o l.untaken.items;
 }

@@ -7,7 +7,7 @@ use Rattle.port_ends.proofs.gathering.take_in_one.Goals as goal
 
 pub leave-end-requires-clause-ring : goal.leave-end-requires-clause-ring
 leave-end-requires-clause-ring g c =
-    (c.requires.room _ _ (at_place _ _ _ c.requires.places.0 c.index_mut-outlet.ensures.value) (at_place _ _ _ c.requires.places.1 c.index_mut-room.ensures.value)).1
+    (c.requires.room _ _ (at_place _ _ _ c.requires.places.0 c.index_mut-outlet.ensures.value) (at_place _ _ _ c.requires.places.1 c.index_mut-room.ensures.value)).1.0
 
 pub leave-end-requires-clause-room : goal.leave-end-requires-clause-room
 leave-end-requires-clause-room g c =
@@ -15,7 +15,7 @@ leave-end-requires-clause-room g c =
 
 pub leave-end-requires-clause-numbers : goal.leave-end-requires-clause-numbers
 leave-end-requires-clause-numbers g c =
-    (c.requires.room _ _ (at_place _ _ _ c.requires.places.0 c.index_mut-outlet.ensures.value) (at_place _ _ _ c.requires.places.1 c.index_mut-room.ensures.value)).2
+    (c.requires.room _ _ (at_place _ _ _ c.requires.places.0 c.index_mut-outlet.ensures.value) (at_place _ _ _ c.requires.places.1 c.index_mut-room.ensures.value)).1.1
 
 pub returns-clause-outlets : goal.returns-clause-outlets
 returns-clause-outlets g c = same_but_set _ _ _

@@ -1,0 +1,2 @@
+-- What only the calls inside speak of: a client's replies.
+pub mod Taking

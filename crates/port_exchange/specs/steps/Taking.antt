@@ -1,0 +1,12 @@
+-- What a take does to a client.
+use Rattle.std.specs.Prelude.{◌≡◌, ◌+◌, [], ◌∷◌}
+use Rattle.port_history.specs.declared.step.Reply.{Reply}
+use Rattle.port_exchange.specs.declared.client.Client.{Client}
+
+-- no reply is there, and none was taken
+abbrev pub HasNoReply : {A : Type 0} → Client A → Client A → Type 0
+HasNoReply old new = (old.replies.items ≡ []) × (new.replies.items ≡ []) × (new.taken ≡ old.taken)
+
+-- the first reply was handed out, and its number says how many were taken
+abbrev pub HandsOut : {A : Type 0} → Client A → Client A → Reply A → Type 0
+HandsOut old new reply = (old.replies.items ≡ reply.answer ∷ new.replies.items) × (new.taken ≡ old.taken + 1) × (reply.number ≡ old.taken + 1)
