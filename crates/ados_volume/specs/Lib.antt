@@ -3,4 +3,5 @@ pub mod Shown
 pub mod Examined
 pub mod Info
 pub mod Listing
+pub mod Refused
 pub mod steps

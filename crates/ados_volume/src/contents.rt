@@ -5,7 +5,8 @@ ghost use Rattle.ados_tree.specs.Tree.{Tree, size_of};
 ghost use Rattle.ados_tree.specs.Stands.{Stands};
 ghost use Rattle.ados_tree.specs.Keys.{HasFileKey};
 ghost use Rattle.ados_tree.specs.Change.{shortened};
-ghost use Rattle.change_bytes.specs.Renewed.{CannotGrow, CannotWrite, Grows, KeepsRest, Writes};
+ghost use Rattle.change_bytes.specs.Renewed.{Grows, KeepsRest, Writes};
+ghost use Rattle.ados_volume.specs.Refused.{RefusesGrowth, RefusesWrite};
 
 use crate::volume::Volume;
 use ados_name::Date3;
@@ -18,7 +19,7 @@ impl Volume {
     pub fn write(&mut self, key: u32, pos: u64, bytes: &[u8], moment: Date3) -> Result<(), Full>
         requires file { HasFileKey self.old.image key }
         requires start { (t : Tree) → Stands self.old.image t → pos ≤ size_of t key }
-        ensures done { MatchResult result (λ _. Writes moment key pos bytes.now self.old.image self.new.image) (λ _. (self.new ≡ self.old) × CannotWrite key pos bytes.now self.old.image) }
+        ensures done { MatchResult result (λ _. Writes moment key pos bytes.now self.old.image self.new.image) (λ _. RefusesWrite key pos bytes.now self.old self.new) }
         ensures rest { KeepsRest self.old.image key self.new.image }
         ensures validated { self.new.was_validated ≡ self.old.was_validated }
     {
@@ -42,7 +43,7 @@ impl Volume {
     pub fn grow(&mut self, key: u32, size: u32, moment: Date3) -> Result<(), Full>
         requires file { HasFileKey self.old.image key }
         requires longer { (t : Tree) → Stands self.old.image t → size_of t key < size }
-        ensures done { MatchResult result (λ _. Grows moment key size self.old.image self.new.image) (λ _. (self.new ≡ self.old) × CannotGrow key size self.old.image) }
+        ensures done { MatchResult result (λ _. Grows moment key size self.old.image self.new.image) (λ _. RefusesGrowth key size self.old self.new) }
         ensures rest { KeepsRest self.old.image key self.new.image }
         ensures validated { self.new.was_validated ≡ self.old.was_validated }
     {

@@ -1,7 +1,6 @@
 //! Changes of a directory's entries.
 
 ghost use Rattle.std.specs.Prelude.{◌≡◌, MatchResult};
-ghost use Rattle.ados_map.specs.Pages.{NoneFree};
 ghost use Rattle.ados_tree.specs.Tree.{Tree};
 ghost use Rattle.ados_tree.specs.Stands.{Stands};
 ghost use Rattle.ados_tree.specs.Keys.{HasKey, HasTree};
@@ -10,6 +9,7 @@ ghost use Rattle.ados_tree.specs.NewBlocks.{TakesLowest};
 ghost use Rattle.ados_tree.specs.Change.{removed, renamed};
 ghost use Rattle.change_entries.specs.Conditions.{CanMake, CanRemove, CanRename};
 ghost use Rattle.change_entries.specs.Kinds.{Makes};
+ghost use Rattle.ados_volume.specs.Refused.{RefusesEntry};
 ghost use Rattle.ados_volume.specs.steps.Cache.{Forgets};
 
 use crate::cache::NameCache;
@@ -32,7 +32,7 @@ impl Volume {
         moment: Date3,
     ) -> Result<u32, Full>
         requires { (t : Tree) → Stands self.old.image t → CanMake t dir name }
-        ensures done { MatchResult result (λ key. Makes moment dir name kind key self.old.image self.new.image) (λ full. NoneFree self.old.image × (self.new ≡ self.old)) }
+        ensures done { MatchResult result (λ key. Makes moment dir name kind key self.old.image self.new.image) (λ _. RefusesEntry self.old self.new) }
         ensures kept { Kept self.old.image self.new.image }
         ensures lowest { TakesLowest self.old.image self.new.image }
         ensures validated { self.new.was_validated ≡ self.old.was_validated }

@@ -14,8 +14,20 @@ pub record IsPointerBlock (image all : List ℕ) (extensions q : ℕ) : Type 0 w
 abbrev pub IsPointer : List ℕ → List ℕ → ℕ → ℕ → Type 0
 IsPointer image all extensions i = long image (slice_index all (i / 72)) (77 - i % 72) ≡ slice_index all (extensions + 1 + i)
 
+-- the header names the first data block
+abbrev pub NamesFirst : List ℕ → List ℕ → ℕ → Type 0
+NamesFirst image all extensions = extensions + 1 < length all → long image (slice_index all 0) 4 ≡ slice_index all (extensions + 1)
+
+-- where there is no data block, the header names none
+abbrev pub NamesNone : List ℕ → List ℕ → ℕ → Type 0
+NamesNone image all extensions = extensions + 1 ≡ length all → long image (slice_index all 0) 4 ≡ 0
+
 -- data block i has the fields of OFS, and names the next one
 pub record IsOfsBlock (image all : List ℕ) (extensions size i : ℕ) : Type 0 where
   pub next : extensions + 2 + i < length all → long image (slice_index all (extensions + 1 + i)) 4 ≡ slice_index all (extensions + 2 + i)
   pub last : extensions + 2 + i ≡ length all → long image (slice_index all (extensions + 1 + i)) 4 ≡ 0
   pub fields : HasOfsData image (slice_index all 0) size i (slice_index all (extensions + 1 + i))
+
+-- for each data block
+abbrev pub AreOfsBlocks : List ℕ → List ℕ → ℕ → ℕ → Type 0
+AreOfsBlocks image all extensions size = (k : ℕ) → k < length all - 1 - extensions → IsOfsBlock image all extensions size k

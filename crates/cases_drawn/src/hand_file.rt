@@ -6,7 +6,7 @@ ghost use Rattle.ados_data.specs.Cost.{data_count};
 ghost use Rattle.ados_map.specs.Pages.{LawfulPages};
 ghost use Rattle.ados_data.specs.File.{HasExtension, HasOfsData, format_of};
 ghost use Rattle.ados_data.specs.Changing.{IsInUse, LawfulMap, WritableFile};
-ghost use Rattle.cases_drawn.specs.HandFile.{IsOfsBlock, IsPointer, IsPointerBlock};
+ghost use Rattle.cases_drawn.specs.HandFile.{AreOfsBlocks, IsOfsBlock, IsPointer, IsPointerBlock, NamesFirst, NamesNone};
 
 use adf_block::layout::*;
 use adf_block::{Format, Image};
@@ -188,7 +188,7 @@ fn are_ofs_blocks(image: &Image, all: &[u32], extensions: usize, size: u32) -> b
     requires inside { (k : ℕ) → k < length all.now → IsInside (block_count image.now) (slice_index all.now k) }
     requires within { extensions < length all.now }
     requires few { length all.now ≤ 1000 }
-    ensures { IsTrue result → (k : ℕ) → k < length all.now - 1 - extensions → IsOfsBlock image.now all.now extensions size k }
+    ensures { IsTrue result → AreOfsBlocks image.now all.now extensions size }
 {
     for i in 0..all.len() - 1 - extensions {
         if !is_ofs_block(image, all, extensions, size, i) {
@@ -204,9 +204,9 @@ fn has_data(image: &Image, all: &[u32], extensions: usize, size: u32) -> bool
     requires within { extensions < length all.now }
     requires few { length all.now ≤ 1000 }
     ensures count { IsTrue result → length all.now - 1 - extensions ≡ data_count (format_of image.now) size }
-    ensures first { IsTrue result → format_of image.now ≡ Format.Ofs → extensions + 1 < length all.now → long image.now (slice_index all.now 0) 4 ≡ slice_index all.now (extensions + 1) }
-    ensures no_first { IsTrue result → format_of image.now ≡ Format.Ofs → extensions + 1 ≡ length all.now → long image.now (slice_index all.now 0) 4 ≡ 0 }
-    ensures blocks { IsTrue result → format_of image.now ≡ Format.Ofs → (k : ℕ) → k < length all.now - 1 - extensions → IsOfsBlock image.now all.now extensions size k }
+    ensures first { IsTrue result → format_of image.now ≡ Format.Ofs → NamesFirst image.now all.now extensions }
+    ensures no_first { IsTrue result → format_of image.now ≡ Format.Ofs → NamesNone image.now all.now extensions }
+    ensures blocks { IsTrue result → format_of image.now ≡ Format.Ofs → AreOfsBlocks image.now all.now extensions size }
 {
     let count = all.len() - 1 - extensions;
     if format_of(image) == Format::Ffs {

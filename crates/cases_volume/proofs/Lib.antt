@@ -1,0 +1,1 @@
+-- None that cases share: each case's lemmas stand beside its proof.
