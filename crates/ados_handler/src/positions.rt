@@ -1,8 +1,7 @@
 //! The positions of file handles.
 
 ghost use Rattle.std.specs.Prelude.{◌≡◌};
-ghost use Rattle.std.specs.Option.{option_map_or};
-ghost use Rattle.std.specs.FinMap as numbered;
+ghost use Rattle.ados_handler.specs.steps.Positions.{positioned};
 
 use crate::holds::HandleHold;
 use crate::table::Table;
@@ -10,7 +9,7 @@ use crate::table::Table;
 impl Table<HandleHold> {
     /// Moves the handle under a number to a position in bytes. With no handle there nothing changes.
     pub fn set_position(&mut self, number: u32, position: u32)
-        ensures held { self.new.held ≡ option_map_or (λ hold. numbered.insert self.old.held number (record hold { position = position })) (numbered.get self.old.held number) self.old.held }
+        ensures held { self.new.held ≡ positioned self.old.held number position }
         ensures ready { self.new.ready ≡ self.old.ready }
     {
         let slab = &mut self.slab;
