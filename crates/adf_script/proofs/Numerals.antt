@@ -1,6 +1,5 @@
 -- What numbers are made of.
-use Rattle.std.proofs.Common.{◌≡◌, ◌≢◌, inl, inr, ℕ, zero, suc, ◌<◌, ℤ, false, List, [], ◌∷◌, get_or, sym, ap, ◌∙◌, subst, arith}
-use Rattle.std.specs.Prelude.{codes, Option, Some, None, MatchOption}
+use Rattle.std.proofs.Common.{inl, inr, ℕ, zero, suc, ◌<◌, ℤ, List, [], ◌∷◌, get_or, sym, subst, arith}
 use Rattle.std.specs.Str.{IsUtf8}
 use Rattle.std.specs.Str.Parse.{AllDigits}
 use Rattle.std.proofs.lemmas.Str.{IsUtf8-from_ascii}

@@ -1,13 +1,12 @@
 -- What a script has told so far, line after line.
-use Rattle.std.proofs.Common.{◌≡◌, ℕ, zero, suc, ◌+◌, inl, inr, Bool, true, false, List, [], ◌∷◌, ◌++◌, length, take, slice_get, refl, sym, ap, subst, ◌∙◌, arith, append_assoc, length-append}
-use Rattle.std.specs.Prelude.{Option, Some, not, cond, filter, flat_map}
+use Rattle.std.proofs.Common.{◌≡◌, ℕ, ◌+◌, inl, inr, Bool, true, false, List, [], ◌∷◌, ◌++◌, length, take, refl, sym, ap, subst, ◌∙◌, arith, append_assoc, length-append}
+use Rattle.std.specs.Prelude.{Option, flat_map}
 use Rattle.std.specs.Bool.{MatchBool}
 use Rattle.std.specs.Io.KnownBytes.{Appends, Consumes, IsAtEnd, Keeps}
-use Rattle.std.specs.List.{enumerate_from}
 use Rattle.std.proofs.lemmas.List.{append-nil, map-append, take-append-le, take_all, length-take}
 use Rattle.std.proofs.lemmas.Bool.{cases_lt, lt-ltb}
 use Rattle.std.proofs.lemmas.Grind.{flat_map-append}
-use Rattle.std.proofs.lemmas.Option.{none-some, slice_get_past}
+use Rattle.std.proofs.lemmas.Option.{none-some, slice_get_within}
 use Rattle.ados_packet.specs.declared.packet.Packet.{Packet}
 use Rattle.ados_packet.specs.declared.answer.Answer.{Answer}
 use Rattle.ados_port.specs.Port.{PortState}
@@ -20,27 +19,14 @@ use Rattle.ados_port.specs.Reply.{Reply}
 use Rattle.ados_port.specs.Outcome.TheVariants.{Accepted, Refused, Served, Taken}
 use Rattle.ados_port.proofs.Histories.{slice_get-push_at}
 use Rattle.ados_port.proofs.Grows.{Grown, grown_nil, grow}
-use Rattle.adf_script.specs.Lines.{lines_of, is_skipped, kept_from, kept_lines, is_too_long}
+use Rattle.adf_script.specs.Lines.{kept_lines, is_too_long}
 use Rattle.adf_script.specs.Values.{answer_value, answer_values}
-use Rattle.adf_script.specs.Grammar.{IsPacketLine, IsFaulty}
 use Rattle.adf_script.specs.Text.{reply_line, reply_lines, closed_line, fault_line}
-use Rattle.adf_script.specs.Told.{ArePackets, NoneIsLeft, steps_of, outcomes_of, Ending, AtEnd, AtClosed, AtFault, is_whole, last_line, Ran, Told}
+use Rattle.adf_script.specs.Told.{ArePackets, NextPuts, NextIsFaulty, NoneIsLeft, steps_of, outcomes_of, Ending, AtEnd, AtClosed, AtFault, is_whole, last_line, Ran, Told}
 use Rattle.adf_script.specs.steps.Calls.{IsQuiet, Calls}
 use Rattle.adf_script.specs.Streams.{Writes, ReadsAndWrites}
 use Rattle.adf_script.proofs.Quiet.{put_closed}
 use Rattle.std.proofs.KnownBytes.{Appends-nil as appends_nothing, Appends-trans as appends_more, Appends-kept as appends_kept}
-
--- a line that is skipped, and one that is not
-pub kept_from-skipped : (number : ℕ) (rest line behind : List ℕ) → lines_of rest ≡ line ∷ lines_of behind → is_skipped line ≡ true → kept_from number rest ≡ kept_from (number + 1) behind
-kept_from-skipped number rest line behind split skipped =
-    ap (λ l. filter (λ (p : ℕ × List ℕ). not (is_skipped p.1)) (enumerate_from number l)) split
-    ∙ ap (λ b. cond (not b) ((number, line) ∷ kept_from (number + 1) behind) (kept_from (number + 1) behind)) skipped
-
-pub kept_from-kept : (number : ℕ) (rest line behind : List ℕ) → lines_of rest ≡ line ∷ lines_of behind → is_skipped line ≡ false
-    → kept_from number rest ≡ (number, line) ∷ kept_from (number + 1) behind
-kept_from-kept number rest line behind split kept =
-    ap (λ l. filter (λ (p : ℕ × List ℕ). not (is_skipped p.1)) (enumerate_from number l)) split
-    ∙ ap (λ b. cond (not b) ((number, line) ∷ kept_from (number + 1) behind) (kept_from (number + 1) behind)) kept
 
 -- one more at the end
 pub numbered-push : {A : Type 0} (number : ℕ) (xs : List A) (y : A) → numbered number (xs ++ y ∷ []) ≡ numbered number xs ++ (record { number = number + length xs; answer = y }) ∷ []
@@ -61,47 +47,34 @@ reply_lines-push client number (x ∷ xs) y =
     in ap (λ l. reply_line client number x ++ l) (reply_lines-push client (number + 1) xs y ∙ ap (λ n. reply_lines client (number + 1) xs ++ reply_line client n y) same)
     ∙ sym (append_assoc (reply_line client number x) (reply_lines client (number + 1) xs) (reply_line client (number + length (x ∷ xs)) y))
 
-pub slice_get-front : {A : Type 0} (xs ys : List A) (i : ℕ) (x : A) → slice_get xs i ≡ Some x → slice_get (xs ++ ys) i ≡ Some x
-slice_get-front [] ys i x h = absurd (none-some x h)
-slice_get-front (z ∷ zs) ys zero x h = h
-slice_get-front (z ∷ zs) ys (suc i) x h = slice_get-front zs ys i x h
-
-pub slice_get-seam : {A : Type 0} (xs : List A) (y : A) (ys : List A) (n : ℕ) → n ≡ length xs → slice_get (xs ++ y ∷ ys) n ≡ Some y
-slice_get-seam xs y ys n e = ap (slice_get (xs ++ y ∷ ys)) e ∙ at xs
-  where
-    at : (zs : List _) → slice_get (zs ++ y ∷ ys) (length zs) ≡ Some y
-    at [] = refl
-    at (z ∷ zs) = at zs
-
--- one more packet line
-pub packets-push : (lines : List (ℕ × List ℕ)) (answers : List Answer) (packets : List Packet) (line : ℕ × List ℕ) (answer : Answer) (packet : Packet)
-    → length packets ≡ length lines → length packets ≡ length answers → IsPacketLine (answer_values answers) packet line.1 → ArePackets lines answers packets
-    → ArePackets (lines ++ line ∷ []) (answers ++ answer ∷ []) (packets ++ packet ∷ [])
-packets-push lines answers packets line answer packet as_lines as_answers puts each i p at_i = elim (slice_get-push_at packets packet i p at_i) [
-  | inl w ↦
-      let old = each i p w.1
-      in (
-        old.0,
-        slice_get-front lines (line ∷ []) i old.0 old.1,
-        subst (λ l. IsPacketLine (answer_values l) p old.0.1) (sym (take-append-le i answers (answer ∷ []) (omega (arith, w.0, as_answers)))) old.2,
-      )
+-- one more packet
+pub packets-push : (lines : List (ℕ × List ℕ)) (answers : List Answer) (packets : List Packet) (packet : Packet) → length packets ≡ length answers
+    → ArePackets lines answers packets → NextPuts lines (answer_values answers) (length packets) packet → ArePackets lines answers (packets ++ packet ∷ [])
+packets-push lines answers packets packet as_many each puts i p at_i = elim (slice_get-push_at packets packet i p at_i) [
+  | inl w ↦ each i p w.1
   | inr w ↦
-      let all : take i (answers ++ answer ∷ []) ≡ answers = take-append-le i answers (answer ∷ []) (omega (arith, w.0, as_answers)) ∙ take_all i answers (omega (arith, w.0, as_answers))
-      in (line, slice_get-seam lines line [] i (w.0 ∙ as_lines), subst (λ l. IsPacketLine (answer_values l) p line.1) (sym all) (subst (λ q. IsPacketLine (answer_values answers) q line.1) (sym w.1) puts))
+      let all : take i answers ≡ answers = take_all i answers (omega (arith, w.0, as_many))
+      in subst (λ l. NextPuts lines (answer_values l) i p) (sym all)
+      (subst (λ n. NextPuts lines (answer_values answers) n p) (sym w.0) (subst (NextPuts lines (answer_values answers) (length packets)) (sym w.1) puts))
 ]
 
+-- and its answer
+pub packets-answered : (lines : List (ℕ × List ℕ)) (answers : List Answer) (packets : List Packet) (packet : Packet) (answer : Answer) → length packets ≡ length answers
+    → ArePackets lines answers packets → NextPuts lines (answer_values answers) (length packets) packet → ArePackets lines (answers ++ answer ∷ []) (packets ++ packet ∷ [])
+packets-answered lines answers packets packet answer as_many each puts i p at_i =
+    let within = slice_get_within (packets ++ packet ∷ []) i p at_i
+    in subst (λ l. NextPuts lines (answer_values l) i p) (sym (take-append-le i answers (answer ∷ []) (omega (arith, within, length-append packets (packet ∷ []), as_many))))
+    (packets-push lines answers packets packet as_many each puts i p at_i)
+
 module _ {S M : Type 0} (gives : S → Packet → M → S → Answer → Type 0) (has_died : S → Bool) (opening : PortState S Packet Answer) (moment : M) (script : List ℕ) (contents : Option (List ℕ)) where
-  -- with these bytes of the script left, behind these many lines and with these values of replies: what has come to pass and what is written
-  pub record SoFar (rest : List ℕ) (number : ℕ) (values : List (Option ℕ)) (port : PortState S Packet Answer) (now : Option (List ℕ)) : Type 0 where
-    pub lines : List (ℕ × List ℕ)
+  -- after replies of these values: what has come to pass and what is written
+  pub record SoFar (values : List (Option ℕ)) (port : PortState S Packet Answer) (now : Option (List ℕ)) : Type 0 where
     pub packets : List Packet
     pub answers : List Answer
-    pub split : kept_lines script ≡ lines ++ kept_from (number + 1) rest
-    pub many_lines : length lines ≡ length values
     pub many_packets : length packets ≡ length values
     pub many_answers : length answers ≡ length values
     pub values_are : values ≡ answer_values answers
-    pub each : ArePackets lines answers packets
+    pub each : ArePackets (kept_lines script) answers packets
     pub grown : Grown gives has_died opening (flat_map (steps_of moment) packets) (flat_map outcomes_of (numbered 1 answers)) port
     pub quiet : IsQuiet port (length values)
     pub written : Appends contents now (reply_lines 1 1 answers)
@@ -115,13 +88,10 @@ module _ {S M : Type 0} (gives : S → Packet → M → S → Answer → Type 0)
       in subst (λ b. MatchBool b ((whole ≡ false) × (written ≡ fault_line 1 0)) Runs) (sym short) runs
 
   -- before the first line
-  pub nothing_told : IsQuiet opening 0 → SoFar script 0 [] opening contents
+  pub nothing_told : IsQuiet opening 0 → SoFar [] opening contents
   nothing_told quiet = record {
-    lines = [];
     packets = [];
     answers = [];
-    split = refl;
-    many_lines = refl;
     many_packets = refl;
     many_answers = refl;
     values_are = refl;
@@ -131,131 +101,99 @@ module _ {S M : Type 0} (gives : S → Packet → M → S → Answer → Type 0)
     written = appends_nothing contents;
   }
 
-  module _ (rest : List ℕ) (number : ℕ) (values : List (Option ℕ)) (port : PortState S Packet Answer) (now : Option (List ℕ)) (sofar : SoFar rest number values port now) where
+  module _ (values : List (Option ℕ)) (port : PortState S Packet Answer) (now : Option (List ℕ)) (sofar : SoFar values port now) where
+    -- the history so far, with nothing behind it
+    history_here : PortHistory gives has_died opening (flat_map (steps_of moment) sofar.packets ++ []) (flat_map outcomes_of (numbered 1 sofar.answers) ++ []) port
+    history_here = subst (λ l. PortHistory gives has_died opening l (flat_map outcomes_of (numbered 1 sofar.answers) ++ []) port) (sym (append-nil (flat_map (steps_of moment) sofar.packets)))
+        (subst (λ l. PortHistory gives has_died opening (flat_map (steps_of moment) sofar.packets) l port) (sym (append-nil (flat_map outcomes_of (numbered 1 sofar.answers)))) sofar.grown.history)
+
     -- no line is left
-    pub told_end : is_too_long script ≡ false → rest ≡ [] → Writes contents now (λ written. Told gives has_died opening moment script written true)
-    told_end short empty =
-        let left : kept_lines script ≡ sofar.lines = sofar.split ∙ ap (λ l. sofar.lines ++ kept_from (number + 1) l) empty ∙ append-nil sofar.lines
-        in let ran : Ran gives has_died opening moment (kept_lines script) sofar.answers AtEnd = record {
+    pub told_end : is_too_long script ≡ false → NoneIsLeft (kept_lines script) (length values) → Writes contents now (λ written. Told gives has_died opening moment script written true)
+    told_end short none =
+        let ran : Ran gives has_died opening moment (kept_lines script) sofar.answers AtEnd = record {
           packets = sofar.packets;
-          each = subst (λ l. ArePackets l sofar.answers sofar.packets) (sym left) sofar.each;
-          ends = subst (λ l. NoneIsLeft l (length sofar.packets)) (sym left) (slice_get_past sofar.lines (length sofar.packets) (omega (arith, sofar.many_lines, sofar.many_packets)));
+          each = sofar.each;
+          ends = subst (NoneIsLeft (kept_lines script)) (sym sofar.many_packets) none;
           closing = port;
-          history = subst (λ l. PortHistory gives has_died opening l (flat_map outcomes_of (numbered 1 sofar.answers) ++ []) port) (sym (append-nil (flat_map (steps_of moment) sofar.packets)))
-              (subst (λ l. PortHistory gives has_died opening (flat_map (steps_of moment) sofar.packets) l port) (sym (append-nil (flat_map outcomes_of (numbered 1 sofar.answers)))) sofar.grown.history);
+          history = history_here;
         }
         in (reply_lines 1 1 sofar.answers, sofar.written, told_by (reply_lines 1 1 sofar.answers) true short sofar.answers AtEnd ran refl (sym (append-nil (reply_lines 1 1 sofar.answers))))
 
-    module _ (line behind : List ℕ) (first : lines_of rest ≡ line ∷ lines_of behind) where
-      -- a line that is skipped
-      pub told_skipped : is_skipped line ≡ true → SoFar behind (number + 1) values port now
-      told_skipped skipped = record {
-        lines = sofar.lines;
-        packets = sofar.packets;
-        answers = sofar.answers;
-        split = sofar.split ∙ ap (λ l. sofar.lines ++ l) (kept_from-skipped (number + 1) rest line behind first skipped);
-        many_lines = sofar.many_lines;
-        many_packets = sofar.many_packets;
-        many_answers = sofar.many_answers;
-        values_are = sofar.values_are;
-        each = sofar.each;
-        grown = sofar.grown;
-        quiet = sofar.quiet;
-        written = sofar.written;
-      }
+    -- a faulty line
+    pub told_fault : (number : ℕ) (after : Option (List ℕ)) → is_too_long script ≡ false → NextIsFaulty (kept_lines script) values (length values) number → Appends now after (fault_line 1 number)
+        → Writes contents after (λ written. Told gives has_died opening moment script written false)
+    told_fault number after short faulty more =
+        let ran : Ran gives has_died opening moment (kept_lines script) sofar.answers (AtFault number) = record {
+          packets = sofar.packets;
+          each = sofar.each;
+          ends = subst (λ v. NextIsFaulty (kept_lines script) v (length sofar.packets) number) sofar.values_are (subst (λ n. NextIsFaulty (kept_lines script) values n number) (sym sofar.many_packets) faulty);
+          closing = port;
+          history = history_here;
+        }
+        in (
+          reply_lines 1 1 sofar.answers ++ fault_line 1 number,
+          appends_more contents now after (reply_lines 1 1 sofar.answers) (fault_line 1 number) sofar.written more,
+          told_by (reply_lines 1 1 sofar.answers ++ fault_line 1 number) false short sofar.answers (AtFault number) ran refl refl,
+        )
 
-      module _ (kept : is_skipped line ≡ false) where
-        split_here : kept_lines script ≡ sofar.lines ++ (number + 1, line) ∷ kept_from (number + 1 + 1) behind
-        split_here = sofar.split ∙ ap (λ l. sofar.lines ++ l) (kept_from-kept (number + 1) rest line behind first kept)
+    module _ (packet : Packet) (next : NextPuts (kept_lines script) values (length values) packet) where
+      next_here : NextPuts (kept_lines script) (answer_values sofar.answers) (length sofar.packets) packet
+      next_here = subst (λ v. NextPuts (kept_lines script) v (length sofar.packets) packet) sofar.values_are (subst (λ n. NextPuts (kept_lines script) values n packet) (sym sofar.many_packets) next)
 
-        line_here : slice_get (kept_lines script) (length sofar.packets) ≡ Some (number + 1, line)
-        line_here = ap (λ l. slice_get l (length sofar.packets)) split_here
-            ∙ slice_get-seam sofar.lines (number + 1, line) (kept_from (number + 1 + 1) behind) (length sofar.packets) (sofar.many_packets ∙ sym sofar.many_lines)
+      -- a put that is refused as closed
+      pub told_closed : (other : Packet) (new : PortState S Packet Answer) (after : Option (List ℕ)) → is_too_long script ≡ false
+          → StepGives gives has_died port (Put 1 packet) (Refused (Closed other)) new → Appends now after (closed_line 1 (length values + 1))
+          → Writes contents after (λ written. Told gives has_died opening moment script written true)
+      told_closed other new after short step more =
+          let same : other ≡ packet = put_closed gives has_died port.server (length values) packet other new (subst (λ o. StepGives gives has_died o (Put 1 packet) (Refused (Closed other)) new) sofar.quiet step)
+          in let history = grow gives has_died opening (flat_map (steps_of moment) sofar.packets) (flat_map outcomes_of (numbered 1 sofar.answers)) port sofar.grown
+          (Put 1 packet) (Refused (Closed packet)) new (subst (λ o. StepGives gives has_died port (Put 1 packet) (Refused (Closed o)) new) same step)
+          in let ran : Ran gives has_died opening moment (kept_lines script) sofar.answers (AtClosed packet) = record {
+            packets = sofar.packets;
+            each = sofar.each;
+            ends = next_here;
+            closing = new;
+            history = history.history;
+          }
+          in (
+            reply_lines 1 1 sofar.answers ++ closed_line 1 (length values + 1),
+            appends_more contents now after (reply_lines 1 1 sofar.answers) (closed_line 1 (length values + 1)) sofar.written more,
+            told_by (reply_lines 1 1 sofar.answers ++ closed_line 1 (length values + 1)) true short sofar.answers (AtClosed packet) ran refl
+                (ap (λ n. reply_lines 1 1 sofar.answers ++ closed_line 1 (n + 1)) (sym sofar.many_answers)),
+          )
 
-        each_here : ArePackets (kept_lines script) sofar.answers sofar.packets
-        each_here = λ i packet e.
-            let old = sofar.each i packet e
-            in (old.0, ap (λ l. slice_get l i) split_here ∙ slice_get-front sofar.lines _ i old.0 old.1, old.2)
-
-        -- a faulty line
-        pub told_fault : (after : Option (List ℕ)) → is_too_long script ≡ false → IsFaulty values line → Appends now after (fault_line 1 (number + 1))
-            → Writes contents after (λ written. Told gives has_died opening moment script written false)
-        told_fault after short faulty more =
-            let ran : Ran gives has_died opening moment (kept_lines script) sofar.answers (AtFault (number + 1)) = record {
-              packets = sofar.packets;
-              each = each_here;
-              ends = (line, line_here, subst (λ v. IsFaulty v line) sofar.values_are faulty);
-              closing = port;
-              history = subst (λ l. PortHistory gives has_died opening l (flat_map outcomes_of (numbered 1 sofar.answers) ++ []) port) (sym (append-nil (flat_map (steps_of moment) sofar.packets)))
-                  (subst (λ l. PortHistory gives has_died opening (flat_map (steps_of moment) sofar.packets) l port) (sym (append-nil (flat_map outcomes_of (numbered 1 sofar.answers)))) sofar.grown.history);
-            }
-            in (
-              reply_lines 1 1 sofar.answers ++ fault_line 1 (number + 1),
-              appends_more contents now after (reply_lines 1 1 sofar.answers) (fault_line 1 (number + 1)) sofar.written more,
-              told_by (reply_lines 1 1 sofar.answers ++ fault_line 1 (number + 1)) false short sofar.answers (AtFault (number + 1)) ran refl refl,
-            )
-
-        module _ (packet : Packet) (spelled : IsPacketLine values packet line) where
-          puts : IsPacketLine (answer_values sofar.answers) packet line
-          puts = subst (λ v. IsPacketLine v packet line) sofar.values_are spelled
-
-          -- a put that is refused as closed
-          pub told_closed : (other : Packet) (new : PortState S Packet Answer) (after : Option (List ℕ)) → is_too_long script ≡ false
-              → StepGives gives has_died port (Put 1 packet) (Refused (Closed other)) new → Appends now after (closed_line 1 (length values + 1))
-              → Writes contents after (λ written. Told gives has_died opening moment script written true)
-          told_closed other new after short step more =
-              let same : other ≡ packet = put_closed gives has_died port.server (length values) packet other new (subst (λ o. StepGives gives has_died o (Put 1 packet) (Refused (Closed other)) new) sofar.quiet step)
-              in let history = grow gives has_died opening (flat_map (steps_of moment) sofar.packets) (flat_map outcomes_of (numbered 1 sofar.answers)) port sofar.grown
-              (Put 1 packet) (Refused (Closed packet)) new (subst (λ o. StepGives gives has_died port (Put 1 packet) (Refused (Closed o)) new) same step)
-              in let ran : Ran gives has_died opening moment (kept_lines script) sofar.answers (AtClosed packet) = record {
-                packets = sofar.packets;
-                each = each_here;
-                ends = ((number + 1, line), line_here, puts);
-                closing = new;
-                history = history.history;
-              }
-              in (
-                reply_lines 1 1 sofar.answers ++ closed_line 1 (length values + 1),
-                appends_more contents now after (reply_lines 1 1 sofar.answers) (closed_line 1 (length values + 1)) sofar.written more,
-                told_by (reply_lines 1 1 sofar.answers ++ closed_line 1 (length values + 1)) true short sofar.answers (AtClosed packet) ran refl
-                    (ap (λ n. reply_lines 1 1 sofar.answers ++ closed_line 1 (n + 1)) (sym sofar.many_answers)),
-              )
-
-          -- a reply
-          pub told_reply : (reply : Reply Answer) (new : PortState S Packet Answer) (after : Option (List ℕ)) → reply.number ≡ length values + 1 → IsQuiet new (length values + 1)
-              → Calls gives has_died moment port packet reply new → Appends now after (reply_line 1 reply.number reply.answer)
-              → SoFar behind (number + 1) (values ++ answer_value reply.answer ∷ []) new after
-          told_reply reply new after is_next quiet calls more =
-              let one_more : length (values ++ answer_value reply.answer ∷ []) ≡ length values + 1 = length-append values (answer_value reply.answer ∷ [])
-              in let steps = flat_map (steps_of moment) sofar.packets
-              in let outcomes = flat_map outcomes_of (numbered 1 sofar.answers)
-              in let one = grow gives has_died opening steps outcomes port sofar.grown (Put 1 packet) (Accepted reply.number) calls.put calls.puts
-              in let two = grow gives has_died opening _ _ calls.put one (Serve moment) Served calls.served calls.serves
-              in let three = grow gives has_died opening _ _ calls.served two (Take 1) (Taken reply) new calls.takes
-              in let all_steps : ((steps ++ Put 1 packet ∷ []) ++ Serve moment ∷ []) ++ Take 1 ∷ [] ≡ flat_map (steps_of moment) (sofar.packets ++ packet ∷ []) =
-              append_assoc (steps ++ Put 1 packet ∷ []) (Serve moment ∷ []) (Take 1 ∷ []) ∙ append_assoc steps (Put 1 packet ∷ []) (Serve moment ∷ Take 1 ∷ []) ∙ sym (flat_map-append (steps_of moment) sofar.packets (packet ∷ []))
-              in let counted : 1 + length sofar.answers ≡ reply.number = omega (arith, sofar.many_answers, is_next)
-              in let all_replies : numbered 1 (sofar.answers ++ reply.answer ∷ []) ≡ numbered 1 sofar.answers ++ reply ∷ [] =
-              numbered-push 1 sofar.answers reply.answer ∙ ap (λ n. numbered 1 sofar.answers ++ (record { number = n; answer = reply.answer }) ∷ []) counted
-              in let all_outcomes : ((outcomes ++ Accepted reply.number ∷ []) ++ Served ∷ []) ++ Taken reply ∷ [] ≡ flat_map outcomes_of (numbered 1 (sofar.answers ++ reply.answer ∷ [])) =
-              append_assoc (outcomes ++ Accepted reply.number ∷ []) (Served ∷ []) (Taken reply ∷ []) ∙ append_assoc outcomes (Accepted reply.number ∷ []) (Served ∷ Taken reply ∷ [])
-              ∙ sym (flat_map-append outcomes_of (numbered 1 sofar.answers) (reply ∷ [])) ∙ ap (flat_map outcomes_of) (sym all_replies)
-              in record {
-                lines = sofar.lines ++ (number + 1, line) ∷ [];
-                packets = sofar.packets ++ packet ∷ [];
-                answers = sofar.answers ++ reply.answer ∷ [];
-                split = split_here ∙ sym (append_assoc sofar.lines ((number + 1, line) ∷ []) (kept_from (number + 1 + 1) behind));
-                many_lines = omega (arith, length-append sofar.lines ((number + 1, line) ∷ []), sofar.many_lines, one_more);
-                many_packets = omega (arith, length-append sofar.packets (packet ∷ []), sofar.many_packets, one_more);
-                many_answers = omega (arith, length-append sofar.answers (reply.answer ∷ []), sofar.many_answers, one_more);
-                values_are = ap (λ v. v ++ answer_value reply.answer ∷ []) sofar.values_are ∙ sym (map-append answer_value sofar.answers (reply.answer ∷ []));
-                each = packets-push sofar.lines sofar.answers sofar.packets (number + 1, line) reply.answer packet (sofar.many_packets ∙ sym sofar.many_lines) (sofar.many_packets ∙ sym sofar.many_answers) puts sofar.each;
-                grown = subst (λ l. Grown gives has_died opening l (flat_map outcomes_of (numbered 1 (sofar.answers ++ reply.answer ∷ []))) new) all_steps
-                    (subst (λ l. Grown gives has_died opening (((steps ++ Put 1 packet ∷ []) ++ Serve moment ∷ []) ++ Take 1 ∷ []) l new) all_outcomes three);
-                quiet = subst (IsQuiet new) (sym one_more) quiet;
-                written = subst (Appends contents after) (sym (reply_lines-push 1 1 sofar.answers reply.answer ∙ ap (λ n. reply_lines 1 1 sofar.answers ++ reply_line 1 n reply.answer) counted))
-                    (appends_more contents now after (reply_lines 1 1 sofar.answers) (reply_line 1 reply.number reply.answer) sofar.written more);
-              }
+      -- a reply
+      pub told_reply : (reply : Reply Answer) (new : PortState S Packet Answer) (after : Option (List ℕ)) → reply.number ≡ length values + 1 → IsQuiet new (length values + 1)
+          → Calls gives has_died moment port packet reply new → Appends now after (reply_line 1 reply.number reply.answer)
+          → SoFar (values ++ answer_value reply.answer ∷ []) new after
+      told_reply reply new after is_next quiet calls more =
+          let one_more : length (values ++ answer_value reply.answer ∷ []) ≡ length values + 1 = length-append values (answer_value reply.answer ∷ [])
+          in let steps = flat_map (steps_of moment) sofar.packets
+          in let outcomes = flat_map outcomes_of (numbered 1 sofar.answers)
+          in let one = grow gives has_died opening steps outcomes port sofar.grown (Put 1 packet) (Accepted reply.number) calls.put calls.puts
+          in let two = grow gives has_died opening _ _ calls.put one (Serve moment) Served calls.served calls.serves
+          in let three = grow gives has_died opening _ _ calls.served two (Take 1) (Taken reply) new calls.takes
+          in let all_steps : ((steps ++ Put 1 packet ∷ []) ++ Serve moment ∷ []) ++ Take 1 ∷ [] ≡ flat_map (steps_of moment) (sofar.packets ++ packet ∷ []) =
+          append_assoc (steps ++ Put 1 packet ∷ []) (Serve moment ∷ []) (Take 1 ∷ []) ∙ append_assoc steps (Put 1 packet ∷ []) (Serve moment ∷ Take 1 ∷ []) ∙ sym (flat_map-append (steps_of moment) sofar.packets (packet ∷ []))
+          in let counted : 1 + length sofar.answers ≡ reply.number = omega (arith, sofar.many_answers, is_next)
+          in let all_replies : numbered 1 (sofar.answers ++ reply.answer ∷ []) ≡ numbered 1 sofar.answers ++ reply ∷ [] =
+          numbered-push 1 sofar.answers reply.answer ∙ ap (λ n. numbered 1 sofar.answers ++ (record { number = n; answer = reply.answer }) ∷ []) counted
+          in let all_outcomes : ((outcomes ++ Accepted reply.number ∷ []) ++ Served ∷ []) ++ Taken reply ∷ [] ≡ flat_map outcomes_of (numbered 1 (sofar.answers ++ reply.answer ∷ [])) =
+          append_assoc (outcomes ++ Accepted reply.number ∷ []) (Served ∷ []) (Taken reply ∷ []) ∙ append_assoc outcomes (Accepted reply.number ∷ []) (Served ∷ Taken reply ∷ [])
+          ∙ sym (flat_map-append outcomes_of (numbered 1 sofar.answers) (reply ∷ [])) ∙ ap (flat_map outcomes_of) (sym all_replies)
+          in record {
+            packets = sofar.packets ++ packet ∷ [];
+            answers = sofar.answers ++ reply.answer ∷ [];
+            many_packets = omega (arith, length-append sofar.packets (packet ∷ []), sofar.many_packets, one_more);
+            many_answers = omega (arith, length-append sofar.answers (reply.answer ∷ []), sofar.many_answers, one_more);
+            values_are = ap (λ v. v ++ answer_value reply.answer ∷ []) sofar.values_are ∙ sym (map-append answer_value sofar.answers (reply.answer ∷ []));
+            each = packets-answered (kept_lines script) sofar.answers sofar.packets packet reply.answer (sofar.many_packets ∙ sym sofar.many_answers) sofar.each next_here;
+            grown = subst (λ l. Grown gives has_died opening l (flat_map outcomes_of (numbered 1 (sofar.answers ++ reply.answer ∷ []))) new) all_steps
+                (subst (λ l. Grown gives has_died opening (((steps ++ Put 1 packet ∷ []) ++ Serve moment ∷ []) ++ Take 1 ∷ []) l new) all_outcomes three);
+            quiet = subst (IsQuiet new) (sym one_more) quiet;
+            written = subst (Appends contents after) (sym (reply_lines-push 1 1 sofar.answers reply.answer ∙ ap (λ n. reply_lines 1 1 sofar.answers ++ reply_line 1 n reply.answer) counted))
+                (appends_more contents now after (reply_lines 1 1 sofar.answers) (reply_line 1 reply.number reply.answer) sofar.written more);
+          }
 
 module _ {S M : Type 0} (gives : S → Packet → M → S → Answer → Type 0) (has_died : S → Bool) (opening : PortState S Packet Answer) (moment : M) where
   -- a script that is too long

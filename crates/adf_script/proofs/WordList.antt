@@ -1,5 +1,5 @@
 -- The words of lines: each stands in the list of all, and no two have one spelling.
-use Rattle.std.proofs.Common.{◌≡◌, ◌≢◌, ℕ, ◌<◌, List, get_or, length, refl, sym, ap, ◌∙◌, arith}
+use Rattle.std.proofs.Common.{◌≡◌, ◌≢◌, ℕ, ◌<◌, List, get_or, refl, sym, ap, ◌∙◌, arith}
 use Rattle.adf_script.specs.declared.words.Word.{Word}
 use Rattle.adf_script.specs.declared.words.Word.TheVariants.{Die, Locate, RenameDisk, Free, Delete, Rename, Copy, Protect, MakeDir, Examine, Next, DiskInfo, Info, Comment, Parent, Date, Same, Read, Write, Update, Input, Output, End, Seek, Size, Other}
 use Rattle.adf_script.specs.declared.words.TheConstants.Word.{ALL}

@@ -10,6 +10,7 @@ pub mod Values
 pub mod Grammar
 pub mod Text
 pub mod Told
+pub mod Next
 pub mod Spoken
 pub mod Streams
 pub mod steps

@@ -3,7 +3,7 @@ use Rattle.std.specs.Prelude.{◌≡◌, ℕ, ◌+◌, Bool, true, false, List, 
 use Rattle.std.specs.Bool.{MatchBool}
 use Rattle.ados_packet.specs.declared.packet.Packet.{Packet}
 use Rattle.ados_packet.specs.declared.answer.Answer.{Answer}
-use Rattle.ados_port.specs.Port.{PortState}
+use Rattle.ados_port.specs.Port.{PortState, opening_port}
 use Rattle.ados_port.specs.History.{PortHistory}
 use Rattle.ados_port.specs.Lawful.{numbered}
 use Rattle.ados_port.specs.Step.{Step}
@@ -13,28 +13,27 @@ use Rattle.ados_port.specs.Reply.{Reply}
 use Rattle.ados_port.specs.Outcome.{Outcome}
 use Rattle.ados_port.specs.Outcome.TheVariants.{Accepted, Refused, Served, Taken}
 use Rattle.adf_script.specs.Lines.{kept_lines, is_too_long}
-use Rattle.adf_script.specs.Streams.{Writes}
+use Rattle.adf_script.specs.Streams.{Writes, ReadsAndWrites}
 use Rattle.adf_script.specs.Values.{answer_values}
 use Rattle.adf_script.specs.Grammar.{IsPacketLine, IsFaulty}
 use Rattle.adf_script.specs.Text.{reply_lines, closed_line, fault_line}
 
--- these are the packets of the first packet lines, each line read after the answers to the packets before it
-abbrev pub ArePackets : List (ℕ × List ℕ) → List Answer → List Packet → Type 0
-ArePackets lines answers packets =
-    (i : ℕ) (packet : Packet) → slice_get packets i ≡ Some packet
-    → (line : ℕ × List ℕ) × (slice_get lines i ≡ Some line) × IsPacketLine (answer_values (take i answers)) packet line.1
-
--- the line after these many packet lines puts this packet
-abbrev pub NextPuts : List (ℕ × List ℕ) → List Answer → ℕ → Packet → Type 0
-NextPuts lines answers count packet = (line : ℕ × List ℕ) × (slice_get lines count ≡ Some line) × IsPacketLine (answer_values answers) packet line.1
+-- the line after these many packet lines puts this packet, where the replies before it have these values
+abbrev pub NextPuts : List (ℕ × List ℕ) → List (Option ℕ) → ℕ → Packet → Type 0
+NextPuts lines values count packet = (line : ℕ × List ℕ) × (slice_get lines count ≡ Some line) × IsPacketLine values packet line.1
 
 -- that line is faulty, and has this number
-abbrev pub NextIsFaulty : List (ℕ × List ℕ) → List Answer → ℕ → ℕ → Type 0
-NextIsFaulty lines answers count number = (line : List ℕ) × (slice_get lines count ≡ Some (number, line)) × IsFaulty (answer_values answers) line
+abbrev pub NextIsFaulty : List (ℕ × List ℕ) → List (Option ℕ) → ℕ → ℕ → Type 0
+NextIsFaulty lines values count number = (line : List ℕ) × (slice_get lines count ≡ Some (number, line)) × IsFaulty values line
 
 -- there is no such line
 abbrev pub NoneIsLeft : List (ℕ × List ℕ) → ℕ → Type 0
 NoneIsLeft lines count = slice_get lines count ≡ None
+
+-- these are the packets of the first packet lines, each line read after the answers to the packets before it
+abbrev pub ArePackets : List (ℕ × List ℕ) → List Answer → List Packet → Type 0
+ArePackets lines answers packets =
+    (i : ℕ) (packet : Packet) → slice_get packets i ≡ Some packet → NextPuts lines (answer_values (take i answers)) i packet
 
 -- a packet is put, served and its reply taken by client 1 at this moment
 abbrev pub steps_of : {M : Type 0} → M → Packet → List (Step Packet M)
@@ -56,8 +55,8 @@ is_whole (AtFault number) = false
 
 abbrev pub EndsWith : List (ℕ × List ℕ) → List Answer → ℕ → Ending → Type 0
 EndsWith lines answers count AtEnd = NoneIsLeft lines count
-EndsWith lines answers count (AtClosed packet) = NextPuts lines answers count packet
-EndsWith lines answers count (AtFault number) = NextIsFaulty lines answers count number
+EndsWith lines answers count (AtClosed packet) = NextPuts lines (answer_values answers) count packet
+EndsWith lines answers count (AtFault number) = NextIsFaulty lines (answer_values answers) count number
 
 abbrev pub last_steps : {M : Type 0} → Ending → List (Step Packet M)
 last_steps AtEnd = []
@@ -98,3 +97,11 @@ module _ {S M : Type 0} (gives : S → Packet → M → S → Answer → Type 0)
   -- a writer, given before and after, was written to so
   abbrev pub WritesTold : List ℕ → Bool → Option (List ℕ) → Option (List ℕ) → Type 0
   WritesTold read whole old new = Writes old new (λ written. Told read written whole)
+
+-- all that a reader has is read as a script, and what is written to a writer is told of it, as a whole one or not, at a port
+-- that opens with this server and one client; each stream is given by what it has, before and after
+abbrev pub ReadsAndTells : {S M R W : Type 0} (gives : S → Packet → M → S → Answer → Type 0) (has_died : S → Bool) (server : S) (moment : M) (whole : Bool)
+    (remaining : R → Option (List ℕ)) (reader_old reader_new : R) (contents : W → Option (List ℕ)) (writer_old writer_new : W) → Type 0
+ReadsAndTells gives has_died server moment whole remaining reader_old reader_new contents writer_old writer_new =
+    ReadsAndWrites (remaining reader_old) (remaining reader_new) (contents writer_old) (contents writer_new)
+    (λ read written. Told gives has_died (opening_port server 1) moment read written whole)

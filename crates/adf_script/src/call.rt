@@ -1,7 +1,6 @@
 //! One packet through a port.
-ghost use Rattle.std.specs.Prelude.{ℕ, MatchResult};
-ghost use Rattle.ados_port.specs.Steps.{StepGives};
-ghost use Rattle.adf_script.specs.steps.Calls.{IsQuiet, CallsNext};
+ghost use Rattle.std.specs.Prelude.{ℕ};
+ghost use Rattle.adf_script.specs.steps.Calls.{IsQuiet, CallGives};
 
 use ados_packet::{Answer, Packet};
 use ados_port::{Exchange, Outcome, PutRefused, Reply, Server, Step};
@@ -15,9 +14,7 @@ pub(crate) fn call<S>(
 where
     S: Server<Request = Packet, Reply = Answer>,
     requires { (count : ℕ) × IsQuiet exchange.old count }
-    ensures { (count : ℕ) → IsQuiet exchange.old count → MatchResult result
-        (λ reply. CallsNext S.gives S.has_died moment exchange.old count packet reply exchange.new)
-        (λ refused. StepGives S.gives S.has_died exchange.old (Step.Put 1 packet) (Outcome.Refused refused) exchange.new) }
+    ensures { (count : ℕ) → IsQuiet exchange.old count → CallGives S.gives S.has_died moment exchange.old count packet result exchange.new }
 {
     match exchange.step(Step::Put { client: 1, packet }) {
         Outcome::Accepted(_) => {}

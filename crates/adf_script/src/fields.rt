@@ -1,8 +1,8 @@
 //! Fields behind the word of a line, read off the front of what is left. Each stands behind one space.
 ghost use Rattle.std.specs.Prelude.{◌≡◌, ◌≢◌, ◌∷◌, ◌++◌, [], ℕ, false, List, Option, replicate, IfSome, MatchOption};
 ghost use Rattle.ados_name.specs.Path.{IsPathText};
-ghost use Rattle.adf_script.specs.Pieces.{IsSplit, IsCut};
-ghost use Rattle.adf_script.specs.steps.Reading.{a_value, a_number, a_signed, a_text, a_long_text, a_buffer, an_object, a_date, ReadsNone, Reads};
+ghost use Rattle.adf_script.specs.Pieces.{IsCut};
+ghost use Rattle.adf_script.specs.steps.Reading.{IsQuoted, IsUnquoted, a_value, a_number, a_signed, a_text, a_long_text, a_buffer, an_object, a_date, ReadsNone, Reads};
 
 use crate::numbers::{number, value};
 use crate::pieces::{behind, cut, split_once};
@@ -27,8 +27,8 @@ fn plain(rest: &[u8]) -> Option<(&[u8], &[u8])>
 /// The bytes of a text between its quotes, and what stands behind it.
 fn quoted(rest: &[u8]) -> Option<(&[u8], &[u8])>
     ensures { MatchOption result
-        ((line text behind : List ℕ) → rest.now ≡ 32 ∷ (34 ∷ line) → ¬ (IsSplit 34 line text behind))
-        (λ parts. (line : List ℕ) × (rest.now ≡ 32 ∷ (34 ∷ line)) × IsSplit 34 line parts.0.now parts.1.now) }
+        (IsUnquoted rest.now)
+        (λ parts. IsQuoted rest.now parts.0.now parts.1.now) }
 {
     let line = behind(rest, b' ')?;
     let text = behind(line, b'"')?;

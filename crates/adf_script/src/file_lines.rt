@@ -1,7 +1,7 @@
 //! The packets of lines about files.
 ghost use Rattle.std.specs.Prelude.{◌∷◌, [], IfOk, MatchOption, replicate};
-ghost use Rattle.adf_script.specs.Grammar.{Value, LongText, Zeros, SpellsFields, form_of};
-ghost use Rattle.adf_script.specs.steps.Words.{Puts, EachOf};
+ghost use Rattle.adf_script.specs.Grammar.{Value, LongText, Zeros, SpellsFields};
+ghost use Rattle.adf_script.specs.steps.Words.{Puts, PutsNone};
 ghost use Rattle.adf_script.specs.declared.words.Word.TheVariants as word;
 
 use crate::fields::{long_text_field, path_of, value_field, zeros_field};
@@ -81,7 +81,7 @@ pub(crate) fn read(
 /// A handle and how many zeros its buffer has.
 fn buffer_of(values: &[Option<u32>], rest: &[u8]) -> Option<(u32, u32)>
     ensures { MatchOption result
-        (EachOf word.Read (λ packet. SpellsFields values.now (form_of packet).1 rest.now → ⊥))
+        (PutsNone word.Read values.now rest.now)
         (λ found. SpellsFields values.now (Value found.0 ∷ Zeros (replicate found.1 0) ∷ []) rest.now) }
 {
     let (handle, rest) = value_field(values, rest)?;
@@ -108,7 +108,7 @@ pub(crate) fn write(
 /// A handle and the text that is to be written.
 fn written<'a>(values: &[Option<u32>], rest: &'a [u8]) -> Option<(u32, &'a [u8])>
     ensures { MatchOption result
-        (EachOf word.Write (λ packet. SpellsFields values.now (form_of packet).1 rest.now → ⊥))
+        (PutsNone word.Write values.now rest.now)
         (λ found. SpellsFields values.now (Value found.0 ∷ LongText found.1.now ∷ []) rest.now) }
 {
     let (handle, rest) = value_field(values, rest)?;

@@ -5,16 +5,14 @@ ghost use Rattle.ados_port.specs.Port.{opening_port};
 ghost use Rattle.adf_script.specs.Lines.{is_too_long};
 ghost use Rattle.adf_script.specs.steps.Calls.{IsQuiet};
 ghost use Rattle.adf_script.specs.Text.{reply_line};
-ghost use Rattle.adf_script.specs.Told.{Told, WritesTold};
-ghost use Rattle.adf_script.specs.Streams.{ReadsAndWrites};
+ghost use Rattle.adf_script.specs.Told.{WritesTold, ReadsAndTells};
 ghost use Rattle.adf_script.specs.Values.{answer_value};
 
 use crate::call::call;
 use crate::fault::TryFault;
-use crate::grammar::parse;
 use crate::input::{LONGEST_SCRIPT, read_script};
-use crate::lines::{first_line, is_passed_over};
 use crate::output::{write_closed, write_fault, write_reply};
+use crate::packet_lines::{NextLine, PacketLines};
 use crate::values::keep_value;
 use ados_packet::{Answer, Packet};
 use ados_port::{Exchange, PutRefused, Reply, Server};
@@ -40,29 +38,22 @@ where
         WritesTold S.gives S.has_died exchange.old moment script.now false (W.contents writer.old) (W.contents writer.new) }
     ensures no_limit { result ≢ Err TryFault.TurnLimit }
 {
-    let mut rest = script;
-    let mut number: u64 = 0;
+    let mut lines = PacketLines::of(script);
     let mut values = Vec::new(alloc);
-    while !rest.is_empty() {
-        let (line, behind) = first_line(rest);
-        rest = behind;
-        number += 1;
-        if is_passed_over(line) {
-            continue;
-        }
-        let Some(packet) = parse(alloc, &values, line)? else {
-            write_fault(alloc, writer, number)?;
-            return Err(TryFault::Script);
-        };
-        match call(exchange, moment, packet) {
-            Ok(reply) => tell_reply(alloc, writer, &mut values, reply)?,
-            Err(PutRefused::Closed(_)) => {
-                return write_closed(alloc, writer, values.len() as u64 + 1);
+    loop {
+        match lines.next(alloc, &values)? {
+            NextLine::End => return Ok(()),
+            NextLine::Faulty(number) => {
+                write_fault(alloc, writer, number)?;
+                return Err(TryFault::Script);
             }
-            Err(PutRefused::NoRoom(_)) => return Err(TryFault::Memory),
+            NextLine::Puts(number, packet) => match call(exchange, moment, packet) {
+                Ok(reply) => tell_reply(alloc, writer, &mut values, reply)?,
+                Err(PutRefused::Closed(_)) => return write_closed(alloc, writer, number),
+                Err(PutRefused::NoRoom(_)) => return Err(TryFault::Memory),
+            },
         }
     }
-    Ok(())
 }
 
 /// Writes the line of a reply, and keeps its value behind those of the replies before it.
@@ -126,12 +117,10 @@ where
     S: Server<Request = Packet, Reply = Answer> + Drop,
     R: Read,
     W: Write,
-    ensures whole { OnOk result (ReadsAndWrites
-        (R.remaining reader.old) (R.remaining reader.new) (W.contents writer.old) (W.contents writer.new)
-        (λ read written. Told S.gives S.has_died (opening_port server 1) moment read written true)) }
-    ensures faulty { result ≡ Err TryFault.Script → ReadsAndWrites
-        (R.remaining reader.old) (R.remaining reader.new) (W.contents writer.old) (W.contents writer.new)
-        (λ read written. Told S.gives S.has_died (opening_port server 1) moment read written false) }
+    ensures whole { OnOk result
+        (ReadsAndTells S.gives S.has_died server moment true R.remaining reader.old reader.new W.contents writer.old writer.new) }
+    ensures faulty { result ≡ Err TryFault.Script →
+        ReadsAndTells S.gives S.has_died server moment false R.remaining reader.old reader.new W.contents writer.old writer.new }
     // An end that was near enough is found.
     ensures endless { result ≡ Err TryFault.TurnLimit → IfSome (R.remaining reader.old) (λ script. 2097152 ≤ length script) }
 {

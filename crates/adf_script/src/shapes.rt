@@ -1,8 +1,8 @@
 //! The fields of lines that several packets share, read to the line's end.
-ghost use Rattle.std.specs.Prelude.{◌≡◌, ◌≢◌, ℕ, List, [], IfSome, MatchOption};
+ghost use Rattle.std.specs.Prelude.{◌≡◌, ◌≢◌, [], IfSome, MatchOption};
 ghost use Rattle.ados_name.specs.Path.{IsPathText};
 ghost use Rattle.adf_script.specs.Grammar.{SpellsFields};
-ghost use Rattle.adf_script.specs.steps.Reading.{a_value, a_pair, an_object, a_target, ReadsToEnd};
+ghost use Rattle.adf_script.specs.steps.Reading.{a_value, a_pair, an_object, a_target, SpellsNone, ReadsToEnd};
 
 use crate::fields::{object_fields, signed_field, value_field};
 
@@ -35,7 +35,7 @@ pub(crate) fn two_values(values: &[Option<u32>], rest: &[u8]) -> Option<(u32, u3
 /// A lock and a path.
 pub(crate) fn object<'a>(values: &[Option<u32>], rest: &'a [u8]) -> Option<(u32, &'a [u8])>
     ensures reads { MatchOption result
-        ((object : ℕ × List ℕ) → SpellsFields values.now (an_object object) rest.now → ⊥)
+        (SpellsNone values.now an_object rest.now)
         (λ object. SpellsFields values.now (an_object (object.0, object.1.now)) rest.now) }
     ensures short { IfSome result (λ object. IsPathText object.1.now) }
 {

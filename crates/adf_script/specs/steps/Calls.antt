@@ -1,11 +1,12 @@
 -- A port with one client, between two of its packets.
-use Rattle.std.specs.Prelude.{◌≡◌, ℕ, ◌+◌, Bool, [], ◌∷◌}
+use Rattle.std.specs.Prelude.{◌≡◌, ℕ, ◌+◌, Bool, [], ◌∷◌, Result, MatchResult}
 use Rattle.ados_packet.specs.declared.packet.Packet.{Packet}
 use Rattle.ados_packet.specs.declared.answer.Answer.{Answer}
 use Rattle.ados_port.specs.Port.{PortState}
 use Rattle.ados_port.specs.Steps.{StepGives}
 use Rattle.ados_port.specs.Step.TheVariants.{Put, Serve, Take}
-use Rattle.ados_port.specs.Outcome.TheVariants.{Accepted, Served, Taken}
+use Rattle.ados_port.specs.Outcome.TheVariants.{Accepted, Refused, Served, Taken}
+use Rattle.ados_port.specs.PutRefused.{PutRefused}
 use Rattle.ados_port.specs.Reply.{Reply}
 
 -- one client, which has taken as many replies as packets of it were accepted
@@ -26,3 +27,10 @@ pub record Calls {S M : Type 0} (gives : S → Packet → M → S → Answer →
 -- so, with the reply that comes next, and the port is quiet again
 abbrev pub CallsNext : {S M : Type 0} (gives : S → Packet → M → S → Answer → Type 0) (has_died : S → Bool) (moment : M) → PortState S Packet Answer → ℕ → Packet → Reply Answer → PortState S Packet Answer → Type 0
 CallsNext gives has_died moment old count packet reply new = (reply.number ≡ count + 1) × IsQuiet new (count + 1) × Calls gives has_died moment old packet reply new
+
+-- the packet comes to the reply that comes next, or its put is refused
+abbrev pub CallGives : {S M : Type 0} (gives : S → Packet → M → S → Answer → Type 0) (has_died : S → Bool) (moment : M) → PortState S Packet Answer → ℕ → Packet → Result (Reply Answer) (PutRefused Packet) → PortState S Packet Answer → Type 0
+CallGives gives has_died moment old count packet result new =
+    MatchResult result
+    (λ reply. CallsNext gives has_died moment old count packet reply new)
+    (λ refused. StepGives gives has_died old (Put 1 packet) (Refused refused) new)

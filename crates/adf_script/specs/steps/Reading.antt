@@ -1,7 +1,16 @@
 -- What it is to read fields off the front of bytes.
-use Rattle.std.specs.Prelude.{ℕ, ℤ, List, [], ◌∷◌, ◌++◌, Option, MatchOption}
+use Rattle.std.specs.Prelude.{◌≡◌, ℕ, ℤ, List, [], ◌∷◌, ◌++◌, Option, MatchOption}
 use Rattle.ados_name.specs.declared.Date3.{Date3}
+use Rattle.adf_script.specs.Pieces.{IsSplit}
 use Rattle.adf_script.specs.Grammar.{Field, Value, Number, Signed, Text, LongText, Zeros, SpellsFields}
+
+-- a text in quotes behind a space, and what stands behind it
+abbrev pub IsQuoted : List ℕ → List ℕ → List ℕ → Type 0
+IsQuoted bytes text behind = (line : List ℕ) × (bytes ≡ 32 ∷ (34 ∷ line)) × IsSplit 34 line text behind
+
+-- no such text
+abbrev pub IsUnquoted : List ℕ → Type 0
+IsUnquoted bytes = (line text behind : List ℕ) → bytes ≡ 32 ∷ (34 ∷ line) → ¬ (IsSplit 34 line text behind)
 
 -- kinds of fields
 abbrev pub a_value : ℕ → List Field
@@ -47,6 +56,10 @@ module _ {A : Type 0} (values : List (Option ℕ)) (kind : A → List Field) (by
     pub spells : (fields : List Field) → SpellsFields values fields behind → SpellsFields values (kind x ++ fields) bytes
     pub goes_on : (y : A) (fields : List Field) → SpellsFields values (kind y ++ fields) bytes → SpellsFields values fields behind
 
+  -- no field of this kind is spelled to the end
+  abbrev pub SpellsNone : Type 0
+  SpellsNone = (x : A) → SpellsFields values (kind x) bytes → ⊥
+
   -- the fields to the end, where they are of this kind
   abbrev pub ReadsToEnd : Option A → Type 0
-  ReadsToEnd found = MatchOption found ((x : A) → SpellsFields values (kind x) bytes → ⊥) (λ x. SpellsFields values (kind x) bytes)
+  ReadsToEnd found = MatchOption found SpellsNone (λ x. SpellsFields values (kind x) bytes)

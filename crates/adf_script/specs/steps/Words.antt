@@ -64,9 +64,13 @@ EachOf Seek Fact = (handle : ℕ) (offset mode : ℤ) → Fact (packet.Seek hand
 EachOf Size Fact = (handle : ℕ) (offset mode : ℤ) → Fact (packet.SetFileSize handle offset mode)
 EachOf Other Fact = (action : ℤ) → Fact (packet.Other action)
 
+-- behind the word these bytes put no packet, where the replies before have these values
+abbrev pub PutsNone : Word → List (Option ℕ) → List ℕ → Type 0
+PutsNone word values rest = EachOf word (λ packet. SpellsFields values (form_of packet).1 rest → ⊥)
+
 -- behind the word these bytes put the packet, where the replies before have these values; or they put none, where there is none
 abbrev pub Puts : Word → List (Option ℕ) → List ℕ → Option Packet → Type 0
 Puts word values rest found =
     MatchOption found
-    (EachOf word (λ packet. SpellsFields values (form_of packet).1 rest → ⊥))
+    (PutsNone word values rest)
     (λ packet. ((form_of packet).0 ≡ spelling word) × SpellsFields values (form_of packet).1 rest)

@@ -1,0 +1,17 @@
+-- The packet lines of a script, one after another.
+use Rattle.std.specs.Prelude.{◌≡◌, ℕ, ◌+◌, List, Option}
+use Rattle.adf_script.specs.declared.packet_lines.NextLine.{NextLine}
+use Rattle.adf_script.specs.declared.packet_lines.NextLine.TheVariants.{End, Faulty, Puts}
+use Rattle.adf_script.specs.Told.{NextPuts, NextIsFaulty, NoneIsLeft}
+
+-- the packet lines of a script, and how many of them are behind
+pub record LinesView : Type 0 where
+  pub lines : List (ℕ × List ℕ)
+  pub count : ℕ
+
+-- what the next line comes to after replies of these values, and the lines before and after; packets are numbered from 1
+abbrev pub NextGives : LinesView → List (Option ℕ) → NextLine → LinesView → Type 0
+NextGives old values End new = NoneIsLeft old.lines old.count
+NextGives old values (Faulty number) new = NextIsFaulty old.lines values old.count number
+NextGives old values (Puts number packet) new =
+    (number ≡ old.count + 1) × NextPuts old.lines values old.count packet × (new ≡ record { lines = old.lines; count = number })
