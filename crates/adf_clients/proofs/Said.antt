@@ -1,48 +1,40 @@
 -- What a client has told of its script so far, line after line.
-use Rattle.std.proofs.Common.{◌≡◌, ℕ, ◌+◌, inl, inr, Bool, true, false, List, [], ◌∷◌, ◌++◌, length, take, slice_get, refl, sym, ap, subst, ◌∙◌, arith, append_assoc, append-nil, length-append}
-use Rattle.std.specs.Prelude.{Option, Some}
+use Rattle.std.proofs.Common.{◌≡◌, ℕ, ◌+◌, inl, inr, Bool, true, false, List, [], ◌∷◌, ◌++◌, length, refl, sym, ap, subst, ◌∙◌, arith, append-nil, length-append}
+use Rattle.std.specs.Prelude.{Option}
 use Rattle.std.specs.Bool.{MatchBool}
-use Rattle.std.proofs.lemmas.List.{map-append, take_all}
-use Rattle.std.proofs.lemmas.Option.{none-some, slice_get_past}
+use Rattle.std.proofs.lemmas.List.{map-append}
+use Rattle.std.proofs.lemmas.Option.{none-some}
 use Rattle.ados_packet.specs.declared.packet.Packet.{Packet}
 use Rattle.ados_packet.specs.declared.answer.Answer.{Answer}
 use Rattle.ados_port.specs.Lawful.{numbered}
 use Rattle.ados_port.specs.Reply.{Reply}
 use Rattle.ados_port.specs.Ends.{ClientView}
 use Rattle.ados_port.specs.Gathering.{answers as answers_of}
-use Rattle.ados_port.proofs.Moves.{get_end}
 use Rattle.adf_script.specs.declared.ending.ClientEnding.{ClientEnding}
 use Rattle.adf_script.specs.declared.ending.ClientEnding.TheVariants.{Done, Script, Tries}
-use Rattle.adf_script.specs.Lines.{lines_of, is_skipped, kept_from, kept_lines, is_too_long}
+use Rattle.adf_script.specs.Lines.{kept_lines, is_too_long}
 use Rattle.adf_script.specs.Values.{answer_value, answer_values}
-use Rattle.adf_script.specs.Grammar.{IsPacketLine, IsFaulty}
 use Rattle.adf_script.specs.Text.{reply_line, reply_lines, closed_line, fault_line, no_reply_line, no_room_line}
-use Rattle.adf_script.specs.Told.{ArePackets, NextPuts}
+use Rattle.adf_script.specs.Told.{ArePackets, NextPuts, NextIsFaulty, NoneIsLeft}
 use Rattle.adf_script.specs.Spoken.{SpokenEnd, Spoken}
-use Rattle.adf_script.proofs.Telling.{kept_from-skipped, kept_from-kept, reply_lines-push, packets-push, slice_get-front, slice_get-seam}
+use Rattle.adf_script.proofs.Telling.{reply_lines-push, packets-push, packets-answered}
 use Rattle.adf_clients.specs.declared.asking.Stopped.{Stopped}
 use Rattle.adf_clients.specs.declared.asking.Stopped.TheVariants.{Closed, NoRoom, NoReply}
 use Rattle.adf_clients.specs.Asking.{Replied, StoppedBy, stop_line, stop_ending}
 use Rattle.adf_clients.specs.Scripts.{IsUnused, Tells}
 
 module _ (client : ℕ) (script : List ℕ) where
-  -- with these bytes of the script left, behind so many lines and packets: these packets were put, answered so, and this text told
-  pub record SoFar (rest : List ℕ) (number taken : ℕ) (values : List (Option ℕ)) (text : List ℕ) (puts : List Packet) (answers : List Answer) : Type 0 where
-    pub lines : List (ℕ × List ℕ)
-    pub split : kept_lines script ≡ lines ++ kept_from (number + 1) rest
-    pub many_lines : length lines ≡ taken
-    pub many_puts : length puts ≡ taken
-    pub many_answers : length answers ≡ taken
+  -- after so many replies of these values: these packets were put, answered so, and this text told
+  pub record SoFar (count : ℕ) (values : List (Option ℕ)) (text : List ℕ) (puts : List Packet) (answers : List Answer) : Type 0 where
+    pub many_puts : length puts ≡ count
+    pub many_answers : length answers ≡ count
     pub values_are : values ≡ answer_values answers
-    pub each : ArePackets lines answers puts
+    pub each : ArePackets (kept_lines script) answers puts
     pub text_is : text ≡ reply_lines client 1 answers
 
   -- before the first line
-  pub nothing_said : SoFar script 0 0 [] [] [] []
+  pub nothing_said : SoFar 0 [] [] [] []
   nothing_said = record {
-    lines = [];
-    split = refl;
-    many_lines = refl;
     many_puts = refl;
     many_answers = refl;
     values_are = refl;
@@ -70,119 +62,75 @@ module _ (client : ℕ) (script : List ℕ) where
       in let runs : Runs = (answers, refl, each, last, ends, is_text)
       in subst (λ b. MatchBool b Faulty Runs) (sym short) runs
 
-  module _ (short : is_too_long script ≡ false) (rest : List ℕ) (number taken : ℕ) (values : List (Option ℕ)) (text : List ℕ) (puts : List Packet) (answers : List Answer) (sofar : SoFar rest number taken values text puts answers) where
+  module _ (short : is_too_long script ≡ false) (count : ℕ) (values : List (Option ℕ)) (text : List ℕ) (puts : List Packet) (answers : List Answer) (sofar : SoFar count values text puts answers) where
     as_many : length puts ≡ length answers
     as_many = sofar.many_puts ∙ sym sofar.many_answers
 
     -- no line is left
-    pub said_all : (knows : Bool) → rest ≡ [] → Spoken client script puts (numbered 1 answers) knows text Done
-    said_all knows empty =
-        let left : kept_lines script ≡ sofar.lines = sofar.split ∙ ap (λ l. sofar.lines ++ kept_from (number + 1) l) empty ∙ append-nil sofar.lines
-        in spoken_by puts answers knows text [] Done short (subst (λ l. ArePackets l answers puts) (sym left) sofar.each)
-        (as_many, inl (ap (λ l. slice_get l (length puts)) left ∙ slice_get_past sofar.lines (length puts) (omega (arith, sofar.many_lines, sofar.many_puts)), refl))
+    pub said_all : (knows : Bool) → NoneIsLeft (kept_lines script) count → Spoken client script puts (numbered 1 answers) knows text Done
+    said_all knows none =
+        spoken_by puts answers knows text [] Done short sofar.each
+        (as_many, inl (subst (NoneIsLeft (kept_lines script)) (sym sofar.many_puts) none, refl))
         (sofar.text_is ∙ sym (append-nil (reply_lines client 1 answers)))
 
-    module _ (line behind : List ℕ) (first : lines_of rest ≡ line ∷ lines_of behind) where
-      -- a line that is skipped
-      pub said_skipped : is_skipped line ≡ true → SoFar behind (number + 1) taken values text puts answers
-      said_skipped skipped = record {
-        lines = sofar.lines;
-        split = sofar.split ∙ ap (λ l. sofar.lines ++ l) (kept_from-skipped (number + 1) rest line behind first skipped);
-        many_lines = sofar.many_lines;
-        many_puts = sofar.many_puts;
-        many_answers = sofar.many_answers;
-        values_are = sofar.values_are;
-        each = sofar.each;
-        text_is = sofar.text_is;
-      }
+    -- a faulty line
+    pub said_fault : (knows : Bool) (number : ℕ) → NextIsFaulty (kept_lines script) values count number
+        → Spoken client script puts (numbered 1 answers) knows (text ++ fault_line client number) Script
+    said_fault knows number faulty =
+        let faulty_here = subst (λ v. NextIsFaulty (kept_lines script) v (length puts) number) sofar.values_are (subst (λ n. NextIsFaulty (kept_lines script) values n number) (sym sofar.many_puts) faulty)
+        in spoken_by puts answers knows (text ++ fault_line client number) (fault_line client number) Script short sofar.each
+        (as_many, number, faulty_here, refl)
+        (ap (λ l. l ++ fault_line client number) sofar.text_is)
 
-      module _ (kept : is_skipped line ≡ false) where
-        split_here : kept_lines script ≡ sofar.lines ++ (number + 1, line) ∷ kept_from (number + 1 + 1) behind
-        split_here = sofar.split ∙ ap (λ l. sofar.lines ++ l) (kept_from-kept (number + 1) rest line behind first kept)
+    module _ (packet : Packet) (next : NextPuts (kept_lines script) values count packet) where
+      next_here : NextPuts (kept_lines script) (answer_values answers) (length puts) packet
+      next_here = subst (λ v. NextPuts (kept_lines script) v (length puts) packet) sofar.values_are (subst (λ n. NextPuts (kept_lines script) values n packet) (sym sofar.many_puts) next)
 
-        line_here : slice_get (kept_lines script) (length puts) ≡ Some (number + 1, line)
-        line_here = ap (λ l. slice_get l (length puts)) split_here
-            ∙ slice_get-seam sofar.lines (number + 1, line) (kept_from (number + 1 + 1) behind) (length puts) (sofar.many_puts ∙ sym sofar.many_lines)
+      numbered_next : count + 1 ≡ length puts + 1
+      numbered_next = ap (λ n. n + 1) (sym sofar.many_puts)
 
-        each_here : ArePackets (kept_lines script) answers puts
-        each_here = λ i packet e.
-            let old = sofar.each i packet e
-            in (old.0, ap (λ l. slice_get l i) split_here ∙ slice_get-front sofar.lines _ i old.0 old.1, old.2)
+      -- a packet that was not put, as the end knows of the close
+      pub said_closed : (knows : Bool) → knows ≡ true → Spoken client script puts (numbered 1 answers) knows (text ++ closed_line client (count + 1)) Done
+      said_closed knows known =
+          spoken_by puts answers knows (text ++ closed_line client (count + 1)) (closed_line client (count + 1)) Done short sofar.each
+          (as_many, inr (packet, next_here, known, ap (closed_line client) numbered_next))
+          (ap (λ l. l ++ closed_line client (count + 1)) sofar.text_is)
 
-        -- a faulty line
-        pub said_fault : (knows : Bool) → IsFaulty values line → Spoken client script puts (numbered 1 answers) knows (text ++ fault_line client (number + 1)) Script
-        said_fault knows faulty =
-            spoken_by puts answers knows (text ++ fault_line client (number + 1)) (fault_line client (number + 1)) Script short each_here
-            (as_many, number + 1, (line, line_here, subst (λ v. IsFaulty v line) sofar.values_are faulty), refl)
-            (ap (λ l. l ++ fault_line client (number + 1)) sofar.text_is)
+      -- one that found no room
+      pub said_no_room : (knows : Bool) → Spoken client script puts (numbered 1 answers) knows (text ++ no_room_line client (count + 1)) Tries
+      said_no_room knows =
+          spoken_by puts answers knows (text ++ no_room_line client (count + 1)) (no_room_line client (count + 1)) Tries short sofar.each
+          (inl (as_many, packet, next_here, ap (no_room_line client) numbered_next))
+          (ap (λ l. l ++ no_room_line client (count + 1)) sofar.text_is)
 
-        module _ (packet : Packet) (spelled : IsPacketLine values packet line) where
-          puts_here : IsPacketLine (answer_values answers) packet line
-          puts_here = subst (λ v. IsPacketLine v packet line) sofar.values_are spelled
+      one_more : length (puts ++ packet ∷ []) ≡ length puts + 1
+      one_more = length-append puts (packet ∷ [])
 
-          next_here : NextPuts (kept_lines script) answers (length puts) packet
-          next_here = ((number + 1, line), line_here, puts_here)
+      -- one that was put, and not answered
+      pub said_no_reply : (knows : Bool) → Spoken client script (puts ++ packet ∷ []) (numbered 1 answers) knows (text ++ no_reply_line client (count + 1)) Tries
+      said_no_reply knows =
+          spoken_by (puts ++ packet ∷ []) answers knows (text ++ no_reply_line client (count + 1)) (no_reply_line client (count + 1)) Tries short
+          (packets-push (kept_lines script) answers puts packet as_many sofar.each next_here)
+          (inr (one_more ∙ ap (λ n. n + 1) as_many, ap (no_reply_line client) (numbered_next ∙ sym one_more)))
+          (ap (λ l. l ++ no_reply_line client (count + 1)) sofar.text_is)
 
-          numbered_next : taken + 1 ≡ length puts + 1
-          numbered_next = ap (λ n. n + 1) (sym sofar.many_puts)
-
-          -- a packet that was not put, as the end knows of the close
-          pub said_closed : (knows : Bool) → knows ≡ true → Spoken client script puts (numbered 1 answers) knows (text ++ closed_line client (taken + 1)) Done
-          said_closed knows known =
-              spoken_by puts answers knows (text ++ closed_line client (taken + 1)) (closed_line client (taken + 1)) Done short each_here
-              (as_many, inr (packet, next_here, known, ap (closed_line client) numbered_next))
-              (ap (λ l. l ++ closed_line client (taken + 1)) sofar.text_is)
-
-          -- one that found no room
-          pub said_no_room : (knows : Bool) → Spoken client script puts (numbered 1 answers) knows (text ++ no_room_line client (taken + 1)) Tries
-          said_no_room knows =
-              spoken_by puts answers knows (text ++ no_room_line client (taken + 1)) (no_room_line client (taken + 1)) Tries short each_here
-              (inl (as_many, packet, next_here, ap (no_room_line client) numbered_next))
-              (ap (λ l. l ++ no_room_line client (taken + 1)) sofar.text_is)
-
-          -- these packets and this one
-          each_and_this : ArePackets (kept_lines script) answers (puts ++ packet ∷ [])
-          each_and_this = λ i p e. elim (get_end puts packet p i e) [
-            | inl w ↦ each_here i p w
-            | inr w ↦
-                let all : take i answers ≡ answers = take_all i answers (omega (arith, w.0, as_many))
-                in (
-                  (number + 1, line),
-                  ap (slice_get (kept_lines script)) w.0 ∙ line_here,
-                  subst (λ l. IsPacketLine (answer_values l) p line) (sym all) (subst (λ q. IsPacketLine (answer_values answers) q line) w.1 puts_here),
-                )
-          ]
-
-          one_more : length (puts ++ packet ∷ []) ≡ length puts + 1
-          one_more = length-append puts (packet ∷ [])
-
-          -- one that was put, and not answered
-          pub said_no_reply : (knows : Bool) → Spoken client script (puts ++ packet ∷ []) (numbered 1 answers) knows (text ++ no_reply_line client (taken + 1)) Tries
-          said_no_reply knows =
-              spoken_by (puts ++ packet ∷ []) answers knows (text ++ no_reply_line client (taken + 1)) (no_reply_line client (taken + 1)) Tries short each_and_this
-              (inr (one_more ∙ ap (λ n. n + 1) as_many, ap (no_reply_line client) (numbered_next ∙ sym one_more)))
-              (ap (λ l. l ++ no_reply_line client (taken + 1)) sofar.text_is)
-
-          -- a reply
-          pub said_reply : (answer : Answer) → SoFar behind (number + 1) (taken + 1) (values ++ answer_value answer ∷ []) (text ++ reply_line client (taken + 1) answer) (puts ++ packet ∷ []) (answers ++ answer ∷ [])
-          said_reply answer =
-              let counted : 1 + length answers ≡ taken + 1 = omega (arith, sofar.many_answers)
-              in record {
-                lines = sofar.lines ++ (number + 1, line) ∷ [];
-                split = split_here ∙ sym (append_assoc sofar.lines ((number + 1, line) ∷ []) (kept_from (number + 1 + 1) behind));
-                many_lines = length-append sofar.lines ((number + 1, line) ∷ []) ∙ ap (λ n. n + 1) sofar.many_lines;
-                many_puts = one_more ∙ sym numbered_next;
-                many_answers = length-append answers (answer ∷ []) ∙ ap (λ n. n + 1) sofar.many_answers;
-                values_are = ap (λ v. v ++ answer_value answer ∷ []) sofar.values_are ∙ sym (map-append answer_value answers (answer ∷ []));
-                each = packets-push sofar.lines answers puts (number + 1, line) answer packet (sofar.many_puts ∙ sym sofar.many_lines) as_many puts_here sofar.each;
-                text_is = ap (λ l. l ++ reply_line client (taken + 1) answer) sofar.text_is
-                    ∙ sym (reply_lines-push client 1 answers answer ∙ ap (λ n. reply_lines client 1 answers ++ reply_line client n answer) counted);
-              }
+      -- a reply
+      pub said_reply : (answer : Answer) → SoFar (count + 1) (values ++ answer_value answer ∷ []) (text ++ reply_line client (count + 1) answer) (puts ++ packet ∷ []) (answers ++ answer ∷ [])
+      said_reply answer =
+          let counted : 1 + length answers ≡ count + 1 = omega (arith, sofar.many_answers)
+          in record {
+            many_puts = one_more ∙ sym numbered_next;
+            many_answers = length-append answers (answer ∷ []) ∙ ap (λ n. n + 1) sofar.many_answers;
+            values_are = ap (λ v. v ++ answer_value answer ∷ []) sofar.values_are ∙ sym (map-append answer_value answers (answer ∷ []));
+            each = packets-answered (kept_lines script) answers puts packet answer as_many sofar.each next_here;
+            text_is = ap (λ l. l ++ reply_line client (count + 1) answer) sofar.text_is
+                ∙ sym (reply_lines-push client 1 answers answer ∙ ap (λ n. reply_lines client 1 answers ++ reply_line client n answer) counted);
+          }
 
 -- the same of a client's end
 module _ {M : Type 0} (client : ℕ) (script : List ℕ) where
-  abbrev pub SaidBy : List ℕ → ℕ → ℕ → List (Option ℕ) → List ℕ → ClientView Packet M Answer → Type 0
-  SaidBy rest number taken values text end = SoFar client script rest number taken values text end.put (answers_of end.taken)
+  abbrev pub SaidBy : ℕ → List (Option ℕ) → List ℕ → ClientView Packet M Answer → Type 0
+  SaidBy count values text end = SoFar client script count values text end.put (answers_of end.taken)
 
   abbrev pub SpokenBy : ClientView Packet M Answer → List ℕ → ClientEnding → Type 0
   SpokenBy end text ending = Spoken client script end.put (numbered 1 (answers_of end.taken)) end.knows text ending
@@ -195,29 +143,29 @@ module _ {M : Type 0} (client : ℕ) (script : List ℕ) where
       (subst (λ (e : ClientEnding). Spoken client script end.put (numbered 1 (answers_of end.taken)) end.knows text e) (sym is_ending) spoken))
 
   -- before the first line
-  pub begins : (end : ClientView Packet M Answer) → IsUnused end → SaidBy script 0 0 [] [] end
-  begins end unused = subst (λ p. SoFar client script script 0 0 [] [] p (answers_of end.taken)) (sym unused.0)
-      (subst (λ t. SoFar client script script 0 0 [] [] [] (answers_of t)) (sym unused.1) (nothing_said client script))
+  pub begins : (end : ClientView Packet M Answer) → IsUnused end → SaidBy 0 [] [] end
+  begins end unused = subst (λ p. SoFar client script 0 [] [] p (answers_of end.taken)) (sym unused.0)
+      (subst (λ t. SoFar client script 0 [] [] [] (answers_of t)) (sym unused.1) (nothing_said client script))
 
   -- a script that is too long
   pub begins_long : (end : ClientView Packet M Answer) → IsUnused end → is_too_long script ≡ true → SpokenBy end (fault_line client 0) Script
   begins_long end unused long = subst (λ p. Spoken client script p (numbered 1 (answers_of end.taken)) end.knows (fault_line client 0) Script) (sym unused.0)
       (subst (λ t. Spoken client script [] (numbered 1 (answers_of t)) end.knows (fault_line client 0) Script) (sym unused.1) (said_long client script end.knows long))
 
-  module _ (short : is_too_long script ≡ false) (rest : List ℕ) (number taken : ℕ) (values : List (Option ℕ)) (text : List ℕ) (old : ClientView Packet M Answer) (said : SaidBy rest number taken values text old)
-      (line behind : List ℕ) (first : lines_of rest ≡ line ∷ lines_of behind) (kept : is_skipped line ≡ false) (packet : Packet) (spelled : IsPacketLine values packet line) (new : ClientView Packet M Answer) where
+  module _ (short : is_too_long script ≡ false) (count : ℕ) (values : List (Option ℕ)) (text : List ℕ) (old : ClientView Packet M Answer) (said : SaidBy count values text old)
+      (packet : Packet) (next : NextPuts (kept_lines script) values count packet) (new : ClientView Packet M Answer) where
     -- a packet with its reply
     pub replies : (reply : Reply Answer) (values_now : List (Option ℕ)) (text_now : List ℕ) → Replied old packet reply new
-        → values_now ≡ values ++ answer_value reply.answer ∷ [] → text_now ≡ text ++ reply_line client (taken + 1) reply.answer → SaidBy behind (number + 1) (taken + 1) values_now text_now new
+        → values_now ≡ values ++ answer_value reply.answer ∷ [] → text_now ≡ text ++ reply_line client (count + 1) reply.answer → SaidBy (count + 1) values_now text_now new
     replies reply values_now text_now replied are_values is_text =
-        let Now : List Packet → List Answer → Type 0 = SoFar client script behind (number + 1) (taken + 1) values_now text_now
-        in let Kept : List (Option ℕ) → Type 0 = λ v. SoFar client script behind (number + 1) (taken + 1) v text_now (old.put ++ packet ∷ []) (answers_of old.taken ++ reply.answer ∷ [])
-        in let Written : List ℕ → Type 0 = λ t. SoFar client script behind (number + 1) (taken + 1) (values ++ answer_value reply.answer ∷ []) t (old.put ++ packet ∷ []) (answers_of old.taken ++ reply.answer ∷ [])
+        let Now : List Packet → List Answer → Type 0 = SoFar client script (count + 1) values_now text_now
+        in let Kept : List (Option ℕ) → Type 0 = λ v. SoFar client script (count + 1) v text_now (old.put ++ packet ∷ []) (answers_of old.taken ++ reply.answer ∷ [])
+        in let Written : List ℕ → Type 0 = λ t. SoFar client script (count + 1) (values ++ answer_value reply.answer ∷ []) t (old.put ++ packet ∷ []) (answers_of old.taken ++ reply.answer ∷ [])
         in let answers_are : answers_of new.taken ≡ answers_of old.taken ++ reply.answer ∷ [] = ap answers_of replied.taken ∙ map-append (λ (r : M × Answer). r.1) old.taken ((replied.moment, reply.answer) ∷ [])
         in subst (λ p. Now p (answers_of new.taken)) (sym replied.put)
         (subst (Now (old.put ++ packet ∷ [])) (sym answers_are)
         (subst Kept (sym are_values) (subst Written (sym is_text)
-        (said_reply client script short rest number taken values text old.put (answers_of old.taken) said line behind first kept packet spelled reply.answer))))
+        (said_reply client script short count values text old.put (answers_of old.taken) said packet next reply.answer))))
 
     -- the end of a client with these lists
     with_lists : (puts : List Packet) (put_is : new.put ≡ puts) (taken_is : new.taken ≡ old.taken) (told : List ℕ) (ending : ClientEnding)
@@ -227,10 +175,10 @@ module _ {M : Type 0} (client : ℕ) (script : List ℕ) where
         (subst (λ t. Spoken client script puts (numbered 1 (answers_of t)) new.knows told ending) (sym taken_is) spoken)
 
     -- a packet without one
-    pub stops : (stopped : Stopped) → StoppedBy old packet stopped new → SpokenBy new (text ++ stop_line client (taken + 1) stopped) (stop_ending stopped)
+    pub stops : (stopped : Stopped) → StoppedBy old packet stopped new → SpokenBy new (text ++ stop_line client (count + 1) stopped) (stop_ending stopped)
     stops Closed how = with_lists old.put how.0.0 how.0.1 _ _
-        (said_closed client script short rest number taken values text old.put (answers_of old.taken) said line behind first kept packet spelled new.knows how.1)
+        (said_closed client script short count values text old.put (answers_of old.taken) said packet next new.knows how.1)
     stops NoRoom how = with_lists old.put how.0 how.1 _ _
-        (said_no_room client script short rest number taken values text old.put (answers_of old.taken) said line behind first kept packet spelled new.knows)
+        (said_no_room client script short count values text old.put (answers_of old.taken) said packet next new.knows)
     stops NoReply how = with_lists (old.put ++ packet ∷ []) how.put how.taken _ _
-        (said_no_reply client script short rest number taken values text old.put (answers_of old.taken) said line behind first kept packet spelled new.knows)
+        (said_no_reply client script short count values text old.put (answers_of old.taken) said packet next new.knows)

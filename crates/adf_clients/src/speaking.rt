@@ -9,11 +9,9 @@ ghost use Rattle.adf_clients.specs.Scripts.{IsUnused, Tells};
 
 use crate::asking::{Stopped, ask};
 use crate::gate::Gate;
-use adf_script::ClientEnding;
-use adf_script::grammar::parse;
-use adf_script::lines::{first_line, is_passed_over};
 use adf_script::text::{closed_text, fault_text, no_reply_text, no_room_text, reply_text};
 use adf_script::values::keep_value;
+use adf_script::{ClientEnding, NextLine, PacketLines};
 use ados_packet::{Answer, Packet};
 use ados_port::{ClientEnd, Server};
 use std::alloc::{AllocError, Global};
@@ -92,32 +90,25 @@ where
     ensures grown { Grown end.old end.new }
 {
     let client = end.number();
-    let mut rest = script;
-    let mut number: u64 = 0;
-    let mut taken: u64 = 0;
+    let mut lines = PacketLines::of(script);
     let mut values = Vec::new(alloc);
     let mut text = Vec::new(alloc);
-    while !rest.is_empty() {
-        let (line, behind) = first_line(rest);
-        rest = behind;
-        number += 1;
-        if is_passed_over(line) {
-            continue;
-        }
-        let Some(packet) = parse(alloc, &values, line)? else {
-            let fault = fault_text(alloc, client, number)?;
-            return finish(text, fault, ClientEnding::Script);
-        };
-        match ask(rt, end, gate, taken + 1, packet, turns) {
-            Ok(reply) => {
-                taken += 1;
-                keep(alloc, client, taken, &reply.answer, &mut text, &mut values)?;
+    loop {
+        match lines.next(alloc, &values)? {
+            NextLine::End => {
+                return Ok(ClientText {
+                    text,
+                    end: ClientEnding::Done,
+                });
             }
-            Err(stopped) => return stop(alloc, client, taken + 1, stopped, text),
+            NextLine::Faulty(line) => {
+                let fault = fault_text(alloc, client, line)?;
+                return finish(text, fault, ClientEnding::Script);
+            }
+            NextLine::Puts(number, packet) => match ask(rt, end, gate, number, packet, turns) {
+                Ok(reply) => keep(alloc, client, number, &reply.answer, &mut text, &mut values)?,
+                Err(stopped) => return stop(alloc, client, number, stopped, text),
+            },
         }
     }
-    Ok(ClientText {
-        text,
-        end: ClientEnding::Done,
-    })
 }

@@ -1,16 +1,16 @@
-use Rattle.std.proofs.Common.{◌+◌, ◌≤◌, length}
+use Rattle.std.proofs.Common.{◌≡◌, ◌-◌, length}
 use Rattle.ados_port.specs.Grown.{Grown}
+use Rattle.adf_script.specs.Lines.{kept_lines}
 use Rattle.adf_clients.specs.Scripts.{IsUnused}
 use Rattle.adf_clients.proofs.Said.{SaidBy}
 use Rattle.adf_clients.proofs.speaking.speak.Given as goal
 
-abbrev pub invariant-loop-rest : goal.invariant-loop-rest
-invariant-loop-rest g l = record {
-  said : IsUnused l.fn.end → SaidBy l.fn.end.number l.script l.rest l.number l.taken l.values.items l.text.items l.end;
+abbrev pub invariant-loop-text : goal.invariant-loop-text
+invariant-loop-text g l = record {
+  said : IsUnused l.fn.end → SaidBy l.fn.end.number l.script l.lines.count l.values.items l.text.items l.end;
+  lines : l.lines.lines ≡ kept_lines l.script;
   grown : Grown l.fn.end l.end;
-  few_lines : l.number + length l.rest ≤ length l.script;
-  few_packets : l.taken ≤ l.number;
 }
 
-abbrev pub decreases-loop-rest : goal.decreases-loop-rest
-decreases-loop-rest g l = length l.rest
+abbrev pub decreases-loop-text : goal.decreases-loop-text
+decreases-loop-text g l = length l.lines.lines - l.lines.count
