@@ -1,5 +1,5 @@
 -- DELETE_OBJECT.
-use Rattle.std.proofs.Common.{◌≡◌, ◌≢◌, ℕ, pos, negsuc, Bool, true, false, not, ◌==◌, List, [], ◌∷◌, Option, Some, Ok, IsSome, refl, sym, ap, ◌∙◌}
+use Rattle.std.proofs.Common.{◌≡◌, ◌≢◌, ℕ, Bool, true, false, not, ◌==◌, List, [], ◌∷◌, Option, Some, Ok, IsSome, refl, sym, ap, ◌∙◌}
 use Rattle.std.proofs.lemmas.Bool.{ne_eqb}
 use Rattle.ados_name.specs.declared.Date3.{Date3}
 use Rattle.ados_name.specs.Protection.{denies_delete}
@@ -18,8 +18,8 @@ use Rattle.ados_handler.specs.Session.{Session, is_held}
 use Rattle.ados_handler.specs.Objects.{object, protection_in, protection_of, walked}
 use Rattle.ados_handler.specs.Refusals.{first_refusal, is_empty, refusal, refusals, refuse}
 use Rattle.ados_handler.specs.Success.{after}
-use Rattle.ados_handler.specs.Meaning.{Meaning}
-use Rattle.ados_handler.proofs.Meant.{served_means, walked_on}
+use Rattle.ados_handler.specs.steps.Methods.{MethodMeans}
+use Rattle.ados_handler.proofs.Meant.{done, served_means, walked_on}
 use Rattle.ados_handler.proofs.Placed.{passed}
 use Rattle.ados_handler.proofs.Unlisting.{is_nil, parent_there}
 
@@ -46,9 +46,9 @@ module _ (t : Tree) (s : Session) (lock : ℕ) (path : List ℕ) (key : ℕ) (al
       ∙ passed DirectoryNotEmpty (not (is_empty (entries t key))) _ empty
 
   pub delete_means : (now : Date3) (new : Session) → denies_delete (protection_of t key) ≡ false → new ≡ s
-      → Meaning t s (DeleteObject lock path) now (removed now key t) new (record { action = pos 16; res1 = negsuc 0; res2 = pos 0; body = Empty })
+      → MethodMeans t s (DeleteObject lock path) now (removed now key t) new (done Empty)
   delete_means now new allowed same =
-      served_means t (removed now key t) s new (DeleteObject lock path) now _ (delete_refusal ∙ passed DeleteProtected (denies_delete (protection_of t key)) [] allowed)
+      served_means t (removed now key t) s new (DeleteObject lock path) now (done Empty) (delete_refusal ∙ passed DeleteProtected (denies_delete (protection_of t key)) [] allowed)
       (record { success = λ i. after (removed now (sym (walked_on t s lock path key [] walk).1 i) t) (same i) dos_true Empty; action = refl; res2 = refl })
 
 -- a node that is not the root and has no entries can be taken away

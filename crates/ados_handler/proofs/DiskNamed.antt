@@ -1,5 +1,5 @@
 -- RENAME_DISK with a text that is a name.
-use Rattle.std.proofs.Common.{◌≡◌, ℕ, pos, negsuc, false, true, not, ◌==◌, List, [], ◌∷◌, length, None, Some, refl, arith}
+use Rattle.std.proofs.Common.{◌≡◌, ℕ, false, true, not, ◌==◌, List, [], ◌∷◌, length, None, Some, refl, arith}
 use Rattle.std.specs.Prelude.{is_none}
 use Rattle.std.specs.List.{list_any}
 use Rattle.std.proofs.lemmas.Bool.{le-ltb, ne_eqb, or_from}
@@ -17,8 +17,8 @@ use Rattle.ados_packet.specs.declared.answer.Body.TheVariants.{Empty}
 use Rattle.ados_handler.specs.Session.{Session}
 use Rattle.ados_handler.specs.Refusals.{first_refusal, is_name, refusal, refuse}
 use Rattle.ados_handler.specs.Success.{after}
-use Rattle.ados_handler.specs.Meaning.{Meaning}
-use Rattle.ados_handler.proofs.Meant.{served_means}
+use Rattle.ados_handler.specs.steps.Methods.{MethodMeans}
+use Rattle.ados_handler.proofs.Meant.{done, served_means}
 
 no_separator : (c : ℕ) → IsNameByte c → is_separator c ≡ false
 no_separator c byte = or_from (c == 47) (c == 58) (ne_eqb c 47 byte.no_slash) (ne_eqb c 58 byte.no_colon)
@@ -32,10 +32,10 @@ is_named name is =
     rw (some, le-ltb 30 (length name) is.short, plain) refl
 
 pub rename_disk_means : (t : Tree) (s new : Session) (name : List ℕ) (now : Date3) → s.died ≡ false → IsName name → new ≡ s
-    → Meaning t s (RenameDisk name) now (disk_renamed now name t) new (record { action = pos 9; res1 = negsuc 0; res2 = pos 0; body = Empty })
+    → MethodMeans t s (RenameDisk name) now (disk_renamed now name t) new (done Empty)
 rename_disk_means t s new name now alive is same =
     let none : refusal t s (RenameDisk name) ≡ None = λ i. first_refusal (refuse DeviceNotMounted (alive i) ∷ refuse InvalidComponentName (not (is_named name is i)) ∷ []) in
-    served_means t (disk_renamed now name t) s new (RenameDisk name) now _ none
+    served_means t (disk_renamed now name t) s new (RenameDisk name) now (done Empty) none
     (record { success = λ i. after (disk_renamed now name t) (same i) dos_true Empty; action = refl; res2 = refl })
 
 -- a text that has a fault is refused

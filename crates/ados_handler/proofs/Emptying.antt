@@ -1,5 +1,5 @@
 -- A file that is emptied for a handle.
-use Rattle.std.proofs.Common.{◌≡◌, ◌≢◌, ℕ, ℤ, Bool, true, false, not, List, [], ◌∷◌, Some, None, is_some, refl, ap, ◌∙◌, subst}
+use Rattle.std.proofs.Common.{◌≡◌, ◌≢◌, ℕ, Bool, true, false, not, List, [], ◌∷◌, Some, None, is_some, refl, ap, ◌∙◌, subst}
 use Rattle.std.specs.Ordering.{nat_cmp}
 use Rattle.std.specs.FinMap.{FinMap}
 use Rattle.ados_name.specs.declared.Date3.{Date3}
@@ -10,7 +10,7 @@ use Rattle.ados_tree.specs.Kept.{Kept}
 use Rattle.ados_tree.specs.Walk.{is_file}
 use Rattle.ados_tree.specs.Change.{rewritten, shortened}
 use Rattle.ados_packet.specs.declared.dos_error.DosError.TheVariants.{DeleteProtected, ObjectInUse, ObjectWrongType, WriteProtected}
-use Rattle.ados_packet.specs.declared.answer.Answer.{Answer}
+use Rattle.ados_handler.specs.declared.results.Results.{Results}
 use Rattle.ados_handler.specs.declared.holds.HandleHold.{HandleHold}
 use Rattle.ados_handler.specs.Session.{Session, is_in_use}
 use Rattle.ados_handler.specs.Objects.{protection_of}
@@ -18,7 +18,7 @@ use Rattle.ados_handler.specs.Refusals.{first_refusal, refuse}
 use Rattle.ados_handler.specs.Success.{GivesHandle}
 use Rattle.ados_handler.specs.ProperSession.{HoldNumber, hold_at, IsProperSession}
 use Rattle.ados_handler.specs.Handler.{HandlerState, IsSoundHandler}
-use Rattle.ados_handler.specs.steps.Opening.{AnswersHandle, Opens, empty_refusals}
+use Rattle.ados_handler.specs.steps.Opening.{BringsHandle, Opens, empty_refusals}
 use Rattle.ados_handler.proofs.Holding.{not_held}
 use Rattle.ados_handler.proofs.Carrying.{carried_session}
 use Rattle.ados_handler.proofs.Rewriting.{file_node, rewritten_here, rewritten_is_file, rewritten_other}
@@ -45,7 +45,7 @@ emptied_session t proper s session key file free now =
 
 -- the file with no bytes, and a handle on it
 module _ (was : List ℕ) (s : Session) (key : ℕ) (now : Date3) (image : List ℕ) (stands : (t : Tree) → Stands was t → Stands image (shortened now key 0 t))
-    (action : ℤ) (ready held : FinMap nat_cmp HandleHold) (answer : Answer) (a : AnswersHandle action key true ready held answer) (same : ready ≡ s.handles) where
+    (ready held : FinMap nat_cmp HandleHold) (results : Results) (a : BringsHandle key true ready held results) (same : ready ≡ s.handles) where
   pub emptied_sound : (sound : IsSoundHandler was s) → is_file sound.tree key ≡ true → is_in_use s key true ≡ false → IsSoundHandler image (record s { handles = held })
   emptied_sound sound file free =
       let t = sound.tree in
@@ -55,23 +55,22 @@ module _ (was : List ℕ) (s : Session) (key : ℕ) (now : Date3) (image : List 
       record {
         tree = u;
         stands = subst (Stands image) (cut_is_emptied now key t) (stands t sound.stands);
-        holds = proper_opened action key true s ready held answer a same u (emptied_session t proper s sound.holds key file free now)
+        holds = proper_opened key true s ready held results a same u (emptied_session t proper s sound.holds key file free now)
             (ap is_some (rewritten_here t proper key f [] now)) (rewritten_is_file t proper key f [] now) free;
       }
 
   pub emptied_opens : (old : HandlerState) (was_validated : Bool) → record { image = was; was_validated = was_validated; session = s } ≡ old → (t : Tree) → Stands was t → is_file t key ≡ true → is_in_use s key true ≡ false
       → (bits : ℕ) → protection_of t key ≡ bits → denies_delete bits ≡ false → denies_write bits ≡ false → Kept was image → (validated : Bool) → validated ≡ was_validated
-      → Opens action (empty_refusals old.session key) (λ t left. GivesHandle (rewritten now key [] t) old.session key true left) old (record { image = image; was_validated = validated; session = record s { handles = held } }) answer
+      → Opens (empty_refusals old.session key) (λ t left. GivesHandle (rewritten now key [] t) old.session key true left) old (record { image = image; was_validated = validated; session = record s { handles = held } }) results
   emptied_opens old was_validated view t stood file free bits told delete write kept validated checked =
       let new : HandlerState = record { image = image; was_validated = validated; session = record s { handles = held } } in
       let u = rewritten now key [] t in
-      let opens = done_opens action (empty_refusals s key) (λ t left. GivesHandle (rewritten now key [] t) s key true left) (record { image = was; was_validated = was_validated; session = s }) new answer t stood (no_refusal s key t bits file free told delete write) (record {
+      let opens = done_opens (empty_refusals s key) (λ t left. GivesHandle (rewritten now key [] t) s key true left) (record { image = was; was_validated = was_validated; session = s }) new results t stood (no_refusal s key t bits file free told delete write) (record {
         tree = u;
         stands = subst (Stands image) (cut_is_emptied now key t) (stands t stood);
-        success = gives_handle action key true s ready held answer a same u;
-        action = ap (λ (r : Answer). r.action) a.answered;
-        res2 = ap (λ (r : Answer). r.res2) a.answered;
+        success = gives_handle key true s ready held results a same u;
+        res2 = ap (λ (r : Results). r.res2) a.told;
         boot = kept.boot;
         validated = checked;
       }) in
-      subst (λ (h : HandlerState). Opens action (empty_refusals h.session key) (λ t left. GivesHandle (rewritten now key [] t) h.session key true left) h new answer) view opens
+      subst (λ (h : HandlerState). Opens (empty_refusals h.session key) (λ t left. GivesHandle (rewritten now key [] t) h.session key true left) h new results) view opens

@@ -15,15 +15,15 @@ use Rattle.ados_tree.proofs.Nodes.{content_in, some_in}
 use Rattle.ados_packet.specs.declared.dos_error.DosError.{DosError}
 use Rattle.ados_packet.specs.declared.dos_error.DosError.TheVariants.{DeviceNotMounted, InvalidLock}
 use Rattle.ados_packet.specs.declared.packet.Packet.{Packet}
-use Rattle.ados_packet.specs.declared.answer.Answer.{Answer}
+use Rattle.ados_handler.specs.declared.results.Results.{Results}
 use Rattle.ados_packet.specs.declared.info.FileInfo.{FileInfo}
 use Rattle.ados_volume.specs.Examined.{file_info}
 use Rattle.ados_handler.specs.Session.{Session, is_handle, handle_key, handle_position}
 use Rattle.ados_handler.specs.declared.holds.HandleHold.{HandleHold}
 use Rattle.ados_handler.specs.Objects.{protection_in, protection_of}
 use Rattle.ados_handler.specs.Keeps.{HasPathTexts}
-use Rattle.ados_handler.specs.Meaning.{Meaning}
-use Rattle.ados_handler.specs.Handler.{HandlerGives, HandlerState, IsSoundHandler}
+use Rattle.ados_handler.specs.Handler.{HandlerState, IsSoundHandler}
+use Rattle.ados_handler.specs.steps.Methods.{MethodGives, MethodMeans}
 use Rattle.ados_handler.specs.Refusals.{first_refusal, refuse}
 use Rattle.ados_handler.proofs.Rewriting.{file_node}
 use Rattle.ados_handler.proofs.ImageKept.{meaning_keeps_proper}
@@ -81,18 +81,18 @@ module _ (image : List ℕ) (key : ℕ) (file : HasFileKey image key) where
         ap (λ (i : FileInfo). i.protection.0) (told t n.0 stands n.1) ∙ ap protection_in (sym n.1)
 
 -- a packet that takes no moment, and leaves all but the handles
-module _ (old given : HandlerState) (same : old ≡ given) (handles : FinMap nat_cmp HandleHold) (packet : Packet) (answer : Answer) where
-  pub gives_moved : (t : Tree) → Stands old.image t → (now : Date3) → Meaning t old.session packet now t (record old.session { handles = handles }) answer
-      → HandlerGives given packet now (record old { session = record old.session { handles = handles } }) answer
+module _ (old given : HandlerState) (same : old ≡ given) (handles : FinMap nat_cmp HandleHold) (packet : Packet) (results : Results) where
+  pub gives_moved : (t : Tree) → Stands old.image t → (now : Date3) → MethodMeans t old.session packet now t (record old.session { handles = handles }) results
+      → MethodGives given packet now (record old { session = record old.session { handles = handles } }) results
   gives_moved t stood now means =
       let new : HandlerState = record old { session = record old.session { handles = handles } } in
-      subst (λ (h : HandlerState). HandlerGives h packet now new answer) same
-      (record { old_tree = t; new_tree = t; stood = stood; stands = stood; means = means; leaves = leaves_all t old packet new answer refl; validated = refl })
+      subst (λ (h : HandlerState). MethodGives h packet now new results) same
+      (record { old_tree = t; new_tree = t; stood = stood; stands = stood; means = means; leaves = leaves_all t old packet new results refl; validated = refl })
 
   pub sound_moved : HasPathTexts packet → IsSoundHandler old.image old.session
-      → ((now : Date3) → HandlerGives given packet now (record old { session = record old.session { handles = handles } }) answer)
+      → ((now : Date3) → MethodGives given packet now (record old { session = record old.session { handles = handles } }) results)
       → IsSoundHandler old.image (record old.session { handles = handles })
   sound_moved texts sound gives =
       let moment : Date3 = record { days = 0; minutes = 0; ticks = 0 } in
-      sound_after given (record old { session = record old.session { handles = handles } }) packet moment answer (meaning_keeps_proper packet texts)
+      sound_after given (record old { session = record old.session { handles = handles } }) packet moment results (meaning_keeps_proper packet texts)
       (subst (λ (h : HandlerState). IsSoundHandler h.image h.session) same sound) (gives moment)

@@ -17,10 +17,10 @@ use Rattle.ados_handler.specs.ProperSession.{IsProperSession}
 use Rattle.ados_handler.specs.Objects.{lacks, placed_at, spot}
 use Rattle.ados_handler.specs.Refusals.{first_refusal, refusal, refusals, refuse}
 use Rattle.ados_handler.specs.Success.{GivesLock, IsNewKey, after}
-use Rattle.ados_handler.specs.Meaning.{Meaning}
 use Rattle.ados_handler.specs.Handler.{IsSoundHandler}
+use Rattle.ados_handler.specs.steps.Methods.{MethodMeans}
 use Rattle.ados_handler.proofs.Making.{made_lock}
-use Rattle.ados_handler.proofs.Meant.{served_means}
+use Rattle.ados_handler.proofs.Meant.{counted, served_means}
 use Rattle.ados_handler.proofs.Placed.{passed, placed_on}
 
 -- the refusals that look at the place
@@ -41,11 +41,11 @@ create_dir_passes t s there lock path alive place none room =
 -- a directory is made at the place, and the new session has a lock on it
 module _ (t : Tree) (s new : Session) (now : Date3) (there : ℕ × List ℕ) (key number : ℕ) (fresh : IsNewKey t key) (free : IsFreeNumber s.locks number) (same : new ≡ with_lock number key true s) where
   pub create_dir_means : (lock : ℕ) (path : List ℕ) → s.died ≡ false → placed_at t s lock path ≡ Ok there → is_some (child_of t there.0 there.1) ≡ false → lacks t 1 ≡ false
-      → Meaning t s (CreateDir lock path) now (made now there.0 key there.1 (Directory []) t) new (record { action = pos 22; res1 = pos number; res2 = pos 0; body = Empty })
+      → MethodMeans t s (CreateDir lock path) now (made now there.0 key there.1 (Directory []) t) new (counted number Empty)
   create_dir_means lock path alive place none room =
       let p = placed_on t s lock path there [] place in
       let not_refused = create_dir_passes t s there lock path alive place none room in
-      served_means t (made now there.0 key there.1 (Directory []) t) s new (CreateDir lock path) now _ not_refused
+      served_means t (made now there.0 key there.1 (Directory []) t) s new (CreateDir lock path) now (counted number Empty) not_refused
       (record {
         success = (key, fresh, (number, free, λ i. after (made now (sym p.1 i).0 key (sym p.1 i).1 (Directory []) t) (same i) (pos number) Empty));
         action = refl;

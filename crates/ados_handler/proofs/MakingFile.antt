@@ -1,5 +1,5 @@
 -- A file that is made for a handle, where there is room for it.
-use Rattle.std.proofs.Common.{◌≡◌, ℕ, ℤ, Bool, false, List, [], ◌∷◌, None, refl, ap, subst}
+use Rattle.std.proofs.Common.{◌≡◌, ℕ, Bool, false, List, [], ◌∷◌, None, refl, ap, subst}
 use Rattle.std.specs.Ordering.{nat_cmp}
 use Rattle.std.specs.FinMap.{FinMap}
 use Rattle.ados_map.specs.Pages.{IsLowestFree}
@@ -14,14 +14,14 @@ use Rattle.ados_tree.specs.Tree.Content.{File}
 use Rattle.ados_tree.specs.Walk.{child_of}
 use Rattle.change_entries.specs.Conditions.{CanMake}
 use Rattle.ados_packet.specs.declared.dos_error.DosError.TheVariants.{DiskFull}
-use Rattle.ados_packet.specs.declared.answer.Answer.{Answer}
+use Rattle.ados_handler.specs.declared.results.Results.{Results}
 use Rattle.ados_handler.specs.declared.holds.HandleHold.{HandleHold}
 use Rattle.ados_handler.specs.Session.{Session}
 use Rattle.ados_handler.specs.Objects.{lacks}
 use Rattle.ados_handler.specs.Refusals.{first_refusal, refuse}
 use Rattle.ados_handler.specs.Success.{MakesFile}
 use Rattle.ados_handler.specs.Handler.{HandlerState, IsSoundHandler}
-use Rattle.ados_handler.specs.steps.Opening.{AnswersHandle, Opens, make_refusals}
+use Rattle.ados_handler.specs.steps.Opening.{BringsHandle, Opens, make_refusals}
 use Rattle.ados_handler.proofs.FreeBlock.{new_key}
 use Rattle.ados_handler.proofs.Making.{made_handle, no_child_new}
 use Rattle.ados_handler.proofs.Opening.{done_opens, gives_handle}
@@ -35,12 +35,12 @@ can_make_in image dir name directory valid none was same t stands =
 
 -- the file under the lowest free key, and a handle on it
 module _ (was : List ℕ) (s : Session) (dir : ℕ) (name : List ℕ) (now : Date3) (key : ℕ) (low : IsLowestFree was key) (image : List ℕ) (stands : (t : Tree) → Stands was t → Stands image (made now dir key name (File []) t))
-    (action : ℤ) (exclusive : Bool) (ready held : FinMap nat_cmp HandleHold) (answer : Answer) (a : AnswersHandle action key exclusive ready held answer) (same : ready ≡ s.handles) where
+    (exclusive : Bool) (ready held : FinMap nat_cmp HandleHold) (results : Results) (a : BringsHandle key exclusive ready held results) (same : ready ≡ s.handles) where
   pub made_sound : IsSoundHandler was s → ((t : Tree) → Stands was t → CanMake t dir name) → IsSoundHandler image (record s { handles = held })
   made_sound sound can =
       let t = sound.tree in
       let u = made now dir key name (File []) t in
-      let gives = gives_handle action key exclusive s ready held answer a same u in
+      let gives = gives_handle key exclusive s ready held results a same u in
       record {
         tree = u;
         stands = stands t sound.stands;
@@ -48,17 +48,16 @@ module _ (was : List ℕ) (s : Session) (dir : ℕ) (name : List ℕ) (now : Dat
       }
 
   pub made_opens : (old : HandlerState) (was_validated : Bool) → record { image = was; was_validated = was_validated; session = s } ≡ old → (t : Tree) → Stands was t → lacks t 1 ≡ false → Kept was image → (validated : Bool) → validated ≡ was_validated
-      → Opens action make_refusals (λ t left. MakesFile t old.session dir name exclusive now left) old (record { image = image; was_validated = validated; session = record s { handles = held } }) answer
+      → Opens make_refusals (λ t left. MakesFile t old.session dir name exclusive now left) old (record { image = image; was_validated = validated; session = record s { handles = held } }) results
   made_opens old was_validated view t stood room kept validated checked =
       let new : HandlerState = record { image = image; was_validated = validated; session = record s { handles = held } } in
       let u = made now dir key name (File []) t in
-      let opens = done_opens action make_refusals (λ t left. MakesFile t s dir name exclusive now left) (record { image = was; was_validated = was_validated; session = s }) new answer t stood (ap (λ (b : Bool). first_refusal (refuse DiskFull b ∷ [])) room) (record {
+      let opens = done_opens make_refusals (λ t left. MakesFile t s dir name exclusive now left) (record { image = was; was_validated = was_validated; session = s }) new results t stood (ap (λ (b : Bool). first_refusal (refuse DiskFull b ∷ [])) room) (record {
         tree = u;
         stands = stands t stood;
-        success = (key, new_key was t stood key low, gives_handle action key exclusive s ready held answer a same u);
-        action = ap (λ (r : Answer). r.action) a.answered;
-        res2 = ap (λ (r : Answer). r.res2) a.answered;
+        success = (key, new_key was t stood key low, gives_handle key exclusive s ready held results a same u);
+        res2 = ap (λ (r : Results). r.res2) a.told;
         boot = kept.boot;
         validated = checked;
       }) in
-      subst (λ (h : HandlerState). Opens action make_refusals (λ t left. MakesFile t h.session dir name exclusive now left) h new answer) view opens
+      subst (λ (h : HandlerState). Opens make_refusals (λ t left. MakesFile t h.session dir name exclusive now left) h new results) view opens

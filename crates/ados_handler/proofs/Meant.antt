@@ -1,5 +1,5 @@
 -- What a packet means where none of its refusals holds, and why a handler stays sound.
-use Rattle.std.proofs.Common.{◌≡◌, ◌≢◌, ℕ, pos, negsuc, Bool, true, false, cond, not, ◌==◌, List, [], ◌∷◌, Option, None, Result, Ok, Err, MatchOption, option_map, inl, refl, sym, ap, ◌∙◌, subst}
+use Rattle.std.proofs.Common.{◌≡◌, ◌≢◌, ℕ, pos, Bool, true, false, cond, not, ◌==◌, List, [], ◌∷◌, Option, None, Result, Ok, Err, MatchOption, option_map, inl, refl, sym, ap, ◌∙◌, subst}
 use Rattle.std.specs.Result.{result_err, result_unwrap_or}
 use Rattle.std.specs.Prelude.{length}
 use Rattle.std.proofs.lemmas.Bool.{le-leb, ne_eqb}
@@ -14,22 +14,31 @@ use Rattle.ados_packet.specs.declared.dos_error.DosError.TheVariants.{CommentToo
 use Rattle.ados_packet.specs.Packet.{dos_true}
 use Rattle.ados_packet.specs.declared.packet.Packet.{Packet}
 use Rattle.ados_packet.specs.declared.packet.Packet.TheVariants.{SetComment, SetDate, SetProtect}
-use Rattle.ados_packet.specs.declared.answer.Answer.{Answer}
+use Rattle.ados_handler.specs.declared.results.Results.{Results}
+use Rattle.ados_packet.specs.declared.answer.Body.{Body}
 use Rattle.ados_packet.specs.declared.answer.Body.TheVariants.{Empty}
 use Rattle.ados_handler.specs.Session.{Session, is_lock}
 use Rattle.ados_handler.specs.Objects.{found, object, walk_error, walk_result, walked}
 use Rattle.ados_handler.specs.Refusals.{is_comment, first_refusal, refusal, refusals, refuse}
 use Rattle.ados_handler.specs.Success.{after}
-use Rattle.ados_handler.specs.Meaning.{IsRefused, IsServed, Meaning, ServedOrNoMemory}
+use Rattle.ados_handler.specs.Meaning.{IsRefused, IsServed, ServedOrNoMemory}
 use Rattle.ados_handler.specs.ProperSession.{IsProperSession}
 use Rattle.ados_handler.specs.Keeps.{KeepsProper}
-use Rattle.ados_handler.specs.Handler.{HandlerGives, HandlerState, IsSoundHandler}
+use Rattle.ados_handler.specs.Handler.{HandlerState, IsSoundHandler}
+use Rattle.ados_handler.specs.steps.Methods.{MethodGives, MethodMeans, answer_to}
+
+-- what a packet that is done comes to, and one that is answered with a number
+abbrev pub done : Body → Results
+done body = record { res1 = dos_true; res2 = pos 0; body = body }
+
+abbrev pub counted : ℕ → Body → Results
+counted count body = record { res1 = pos count; res2 = pos 0; body = body }
 
 -- a handler that did what a packet means is sound, where it was
-pub sound_after : (old new : HandlerState) (packet : Packet) (now : Date3) (answer : Answer) → KeepsProper packet → IsSoundHandler old.image old.session → HandlerGives old packet now new answer → IsSoundHandler new.image new.session
-sound_after old new packet now answer keeps sound gives =
+pub sound_after : (old new : HandlerState) (packet : Packet) (now : Date3) (results : Results) → KeepsProper packet → IsSoundHandler old.image old.session → MethodGives old packet now new results → IsSoundHandler new.image new.session
+sound_after old new packet now results keeps sound gives =
     let same = one_tree old.image sound.tree gives.old_tree sound.stands gives.stood in
-    let kept = keeps gives.old_tree gives.new_tree old.session new.session now answer gives.stood.proper (subst (λ (t : Tree). IsProperSession t old.session) same sound.holds) gives.means in
+    let kept = keeps gives.old_tree gives.new_tree old.session new.session now (answer_to packet results) gives.stood.proper (subst (λ (t : Tree). IsProperSession t old.session) same sound.holds) gives.means in
     record { tree = gives.new_tree; stands = gives.stands; holds = kept.1 }
 
 -- a walk that leads to an object is no refusal
@@ -53,26 +62,26 @@ marked_on t s lock path key alive walk other =
     (ap (λ (b : Bool). first_refusal (refuse DeviceNotMounted b ∷ row)) alive ∙ w.0 ∙ ap (λ (b : Bool). first_refusal (refuse ObjectWrongType b ∷ [])) not_root, w.1)
 
 -- a packet that no refusal stands against means what it does where it is served
-pub served_means : (t u : Tree) (s new : Session) (packet : Packet) (now : Date3) (answer : Answer) → refusal t s packet ≡ None → IsServed t s packet now u new answer → Meaning t s packet now u new answer
-served_means t u s new packet now answer none served =
-    subst (λ (o : Option DosError). MatchOption o (ServedOrNoMemory t s packet now u new answer) (λ code. IsRefused t s packet code u new answer)) (sym none) (inl served)
+pub served_means : (t u : Tree) (s new : Session) (packet : Packet) (now : Date3) (results : Results) → refusal t s packet ≡ None → IsServed t s packet now u new (answer_to packet results) → MethodMeans t s packet now u new results
+served_means t u s new packet now results none served =
+    subst (λ (o : Option DosError). MatchOption o (ServedOrNoMemory t s packet now u new (answer_to packet results)) (λ code. IsRefused t s packet code u new (answer_to packet results))) (sym none) (inl served)
 
 module _ (t : Tree) (s new : Session) (lock : ℕ) (path : List ℕ) (now : Date3) (key : ℕ) (alive : s.died ≡ false) (walk : walked t s lock path ≡ Ok key) (other : key ≢ root t) (same : new ≡ s) where
-  pub set_protect_means : (bits : ℕ) → Meaning t s (SetProtect lock path bits) now (with_protection now key bits t) new (record { action = pos 21; res1 = negsuc 0; res2 = pos 0; body = Empty })
+  pub set_protect_means : (bits : ℕ) → MethodMeans t s (SetProtect lock path bits) now (with_protection now key bits t) new (done Empty)
   set_protect_means bits =
       let m = marked_on t s lock path key alive walk other in
-      served_means t (with_protection now key bits t) s new (SetProtect lock path bits) now _ m.0
+      served_means t (with_protection now key bits t) s new (SetProtect lock path bits) now (done Empty) m.0
       (record { success = λ i. after (with_protection now (sym m.1 i) bits t) (same i) dos_true Empty; action = refl; res2 = refl })
 
-  pub set_date_means : (date : Date3) → Meaning t s (SetDate lock path date) now (with_date now key date t) new (record { action = pos 34; res1 = negsuc 0; res2 = pos 0; body = Empty })
+  pub set_date_means : (date : Date3) → MethodMeans t s (SetDate lock path date) now (with_date now key date t) new (done Empty)
   set_date_means date =
       let m = marked_on t s lock path key alive walk other in
-      served_means t (with_date now key date t) s new (SetDate lock path date) now _ m.0
+      served_means t (with_date now key date t) s new (SetDate lock path date) now (done Empty) m.0
       (record { success = λ i. after (with_date now (sym m.1 i) date t) (same i) dos_true Empty; action = refl; res2 = refl })
 
 -- SET_COMMENT with a text that is a comment
 module _ (t : Tree) (s : Session) (lock : ℕ) (path comment : List ℕ) (now : Date3) (key : ℕ) (alive : s.died ≡ false) (walk : walked t s lock path ≡ Ok key) where
-  pub set_comment_means : (new : Session) → key ≢ root t → new ≡ s → IsComment comment → Meaning t s (SetComment lock path comment) now (with_comment now key comment t) new (record { action = pos 28; res1 = negsuc 0; res2 = pos 0; body = Empty })
+  pub set_comment_means : (new : Session) → key ≢ root t → new ≡ s → IsComment comment → MethodMeans t s (SetComment lock path comment) now (with_comment now key comment t) new (done Empty)
   set_comment_means new other same is =
       let last : List (Option DosError) = refuse ObjectWrongType (object t s lock path == root t) ∷ [] in
       let w = walked_on t s lock path key (refuse CommentTooBig (not (is_comment comment)) ∷ last) walk in
@@ -81,5 +90,5 @@ module _ (t : Tree) (s : Session) (lock : ℕ) (path comment : List ℕ) (now : 
       let none : refusal t s (SetComment lock path comment) ≡ None =
       ap (λ (d : Bool). first_refusal (refuse DeviceNotMounted d ∷ refusals t s (SetComment lock path comment))) alive ∙ w.0
       ∙ ap (λ (c : Bool). first_refusal (refuse CommentTooBig (not c) ∷ last)) fits ∙ ap (λ (b : Bool). first_refusal (refuse ObjectWrongType b ∷ [])) away in
-      served_means t (with_comment now key comment t) s new (SetComment lock path comment) now _ none
+      served_means t (with_comment now key comment t) s new (SetComment lock path comment) now (done Empty) none
       (record { success = λ i. after (with_comment now (sym w.1 i) comment t) (same i) dos_true Empty; action = refl; res2 = refl })

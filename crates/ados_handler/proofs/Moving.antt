@@ -1,5 +1,5 @@
 -- RENAME_OBJECT: its refusals as the code finds them, and what it means where there is none.
-use Rattle.std.proofs.Common.{◌≡◌, ◌≢◌, ℕ, pos, negsuc, Bool, true, false, cond, not, nat_eq, ◌==◌, List, [], ◌∷◌, Option, Some, None, Result, Ok, Err, MatchOption, option_map, inl, inr, refl, sym, ap, ◌∙◌, subst, eqb-true}
+use Rattle.std.proofs.Common.{◌≡◌, ◌≢◌, ℕ, pos, Bool, true, false, cond, not, nat_eq, ◌==◌, List, [], ◌∷◌, Option, Some, None, Result, Ok, Err, MatchOption, option_map, inl, inr, refl, sym, ap, ◌∙◌, subst, eqb-true}
 use Rattle.std.specs.Prelude.{◌&&◌, IsTrue}
 use Rattle.std.specs.Result.{result_err, result_unwrap_or}
 use Rattle.std.proofs.lemmas.Bool.{true≢false}
@@ -18,50 +18,51 @@ use Rattle.ados_volume.proofs.Looking.{is_child}
 use Rattle.ados_packet.specs.declared.dos_error.DosError.{DosError}
 use Rattle.ados_packet.specs.declared.dos_error.DosError.TheVariants.{DeviceNotMounted, InvalidLock, NoFreeStore, ObjectExists, ObjectInUse, ObjectWrongType}
 use Rattle.ados_packet.specs.Numbers.{error_number}
-use Rattle.ados_packet.specs.Packet.{action_of, dos_true, failure_of, handed_back}
+use Rattle.ados_packet.specs.Packet.{dos_true, failure_of, handed_back}
 use Rattle.ados_packet.specs.declared.packet.Packet.{Packet}
 use Rattle.ados_packet.specs.declared.packet.Packet.TheVariants.{RenameObject}
-use Rattle.ados_packet.specs.declared.answer.Answer.{Answer}
+use Rattle.ados_handler.specs.declared.results.Results.{Results}
 use Rattle.ados_packet.specs.declared.answer.Body.TheVariants.{Empty}
 use Rattle.ados_handler.specs.Session.{Session, is_lock}
 use Rattle.ados_handler.specs.Objects.{found, object, place_error, place_result, placed, spot, walk_error, walk_result}
 use Rattle.ados_handler.specs.Refusals.{first_refusal, is_some_and, refusal, refusals, refuse}
 use Rattle.ados_handler.specs.steps.Moves.{both, move_refusal, move_refusals, source_and_place}
 use Rattle.ados_handler.specs.Success.{after}
-use Rattle.ados_handler.specs.Meaning.{IsRefused, Meaning, ServedOrNoMemory, makes_hold}
-use Rattle.ados_handler.specs.Handler.{HandlerGives, HandlerState}
+use Rattle.ados_handler.specs.Meaning.{IsRefused, ServedOrNoMemory, makes_hold}
+use Rattle.ados_handler.specs.Handler.{HandlerState}
+use Rattle.ados_handler.specs.steps.Methods.{MethodGives, MethodMeans, answer_to}
 use Rattle.ados_handler.proofs.Climbing.{directory_is_key}
 use Rattle.ados_handler.proofs.Leaving.{leaves_all}
-use Rattle.ados_handler.proofs.Meant.{served_means}
+use Rattle.ados_handler.proofs.Meant.{done, served_means}
 use Rattle.ados_handler.proofs.Reading.{from_not, none_refuses, not_refused}
 use Rattle.ados_handler.proofs.Telling.{not_root}
 use Rattle.ados_handler.proofs.Under.{under_is_told}
 
 -- a packet that is refused leaves the handler as it was
-pub refused_gives : (old new : HandlerState) (packet : Packet) (now : Date3) (answer : Answer) (t : Tree) (error : DosError) → Stands old.image t → new ≡ old → refusal t old.session packet ≡ Some error
-    → answer ≡ record { action = action_of packet; res1 = failure_of packet; res2 = pos (error_number error); body = handed_back packet } → HandlerGives old packet now new answer
-refused_gives old new packet now answer t error stood same is answered = record {
+pub refused_gives : (old new : HandlerState) (packet : Packet) (now : Date3) (results : Results) (t : Tree) (error : DosError) → Stands old.image t → new ≡ old → refusal t old.session packet ≡ Some error
+    → results ≡ record { res1 = failure_of packet; res2 = pos (error_number error); body = handed_back packet } → MethodGives old packet now new results
+refused_gives old new packet now results t error stood same is told = record {
   old_tree = t;
   new_tree = t;
   stood = stood;
   stands = subst (λ (h : HandlerState). Stands h.image t) (sym same) stood;
-  means = subst (λ (o : Option DosError). MatchOption o (ServedOrNoMemory t old.session packet now t new.session answer) (λ error. IsRefused t old.session packet error t new.session answer)) (sym is)
-      (record { tree = refl; session = ap (λ (h : HandlerState). h.session) same; answered = answered });
-  leaves = leaves_all t old packet new answer (ap (λ (h : HandlerState). h.image) same);
+  means = subst (λ (o : Option DosError). MatchOption o (ServedOrNoMemory t old.session packet now t new.session (answer_to packet results)) (λ error. IsRefused t old.session packet error t new.session (answer_to packet results))) (sym is)
+      (record { tree = refl; session = ap (λ (h : HandlerState). h.session) same; answered = ap (answer_to packet) told });
+  leaves = leaves_all t old packet new results (ap (λ (h : HandlerState). h.image) same);
   validated = ap (λ (h : HandlerState). h.was_validated) same;
 }
 
 -- so does one for whose lock or handle there is no memory
-pub no_memory_gives : (old new : HandlerState) (packet : Packet) (now : Date3) (answer : Answer) (t : Tree) → Stands old.image t → new ≡ old → refusal t old.session packet ≡ None → IsTrue (makes_hold t old.session packet)
-    → answer ≡ record { action = action_of packet; res1 = failure_of packet; res2 = pos (error_number NoFreeStore); body = handed_back packet } → HandlerGives old packet now new answer
-no_memory_gives old new packet now answer t stood same none makes answered = record {
+pub no_memory_gives : (old new : HandlerState) (packet : Packet) (now : Date3) (results : Results) (t : Tree) → Stands old.image t → new ≡ old → refusal t old.session packet ≡ None → IsTrue (makes_hold t old.session packet)
+    → results ≡ record { res1 = failure_of packet; res2 = pos (error_number NoFreeStore); body = handed_back packet } → MethodGives old packet now new results
+no_memory_gives old new packet now results t stood same none makes told = record {
   old_tree = t;
   new_tree = t;
   stood = stood;
   stands = subst (λ (h : HandlerState). Stands h.image t) (sym same) stood;
-  means = subst (λ (o : Option DosError). MatchOption o (ServedOrNoMemory t old.session packet now t new.session answer) (λ error. IsRefused t old.session packet error t new.session answer)) (sym none)
-      (inr (makes, record { tree = refl; session = ap (λ (h : HandlerState). h.session) same; answered = answered }));
-  leaves = leaves_all t old packet new answer (ap (λ (h : HandlerState). h.image) same);
+  means = subst (λ (o : Option DosError). MatchOption o (ServedOrNoMemory t old.session packet now t new.session (answer_to packet results)) (λ error. IsRefused t old.session packet error t new.session (answer_to packet results))) (sym none)
+      (inr (makes, record { tree = refl; session = ap (λ (h : HandlerState). h.session) same; answered = ap (answer_to packet) told }));
+  leaves = leaves_all t old packet new results (ap (λ (h : HandlerState). h.image) same);
   validated = ap (λ (h : HandlerState). h.was_validated) same;
 }
 
@@ -105,10 +106,10 @@ module _ (t : Tree) (s : Session) (from_lock : ℕ) (from : List ℕ) (to_lock :
 
     -- where no refusal stands against the move it is made
     pub rename_object_means : (now : Date3) (new : Session) → move_refusal t s key there.0 there.1 ≡ None → new ≡ s
-        → Meaning t s packet now (renamed now key there.0 there.1 t) new (record { action = pos 17; res1 = negsuc 0; res2 = pos 0; body = Empty })
+        → MethodMeans t s packet now (renamed now key there.0 there.1 t) new (done Empty)
     rename_object_means now new none same =
         let f = found_refusal in
-        served_means t (renamed now key there.0 there.1 t) s new packet now _ (f.0 ∙ none)
+        served_means t (renamed now key there.0 there.1 t) s new packet now (done Empty) (f.0 ∙ none)
         (record { success = λ i. after (renamed now (sym f.1 i) (sym f.2 i).0 (sym f.2 i).1 t) (same i) dos_true Empty; action = refl; res2 = refl })
 
 -- an object that nothing stands against may move

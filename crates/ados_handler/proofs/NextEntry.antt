@@ -1,5 +1,5 @@
 -- EXAMINE_NEXT.
-use Rattle.std.proofs.Common.{◌≡◌, ℕ, pos, Bool, true, false, cond, not, ◌==◌, List, [], ◌∷◌, Contains, Option, Some, None, refl, sym, ap, ◌∙◌, subst}
+use Rattle.std.proofs.Common.{◌≡◌, ℕ, Bool, true, false, cond, not, ◌==◌, List, [], ◌∷◌, Contains, Option, Some, None, refl, sym, ap, ◌∙◌, subst}
 use Rattle.std.specs.Prelude.{◌||◌, is_none, is_some, option_map}
 use Rattle.std.specs.Option.{option_map_or}
 use Rattle.std.specs.FinMap.{get}
@@ -15,16 +15,15 @@ use Rattle.ados_volume.specs.Examined.{file_info}
 use Rattle.ados_packet.specs.declared.dos_error.DosError.TheVariants.{DeviceNotMounted, InvalidLock, NoMoreEntries, ObjectNotFound, ObjectWrongType}
 use Rattle.ados_packet.specs.declared.info.FileInfo.{FileInfo}
 use Rattle.ados_volume.specs.Listing.{first_left}
-use Rattle.ados_packet.specs.Packet.{dos_true}
 use Rattle.ados_packet.specs.declared.packet.Packet.TheVariants.{ExamineNext}
-use Rattle.ados_packet.specs.declared.answer.Answer.{Answer}
+use Rattle.ados_handler.specs.declared.results.Results.{Results}
 use Rattle.ados_packet.specs.declared.answer.Body.TheVariants as body
 use Rattle.ados_handler.specs.declared.holds.LockHold.{LockHold}
 use Rattle.ados_handler.specs.Session.{Session, is_lock}
 use Rattle.ados_handler.specs.Objects.{lock_key, lock_object}
 use Rattle.ados_handler.specs.Refusals.{first_refusal, is_empty, is_some_and, refusal, refuse}
-use Rattle.ados_handler.specs.Meaning.{Meaning}
-use Rattle.ados_handler.proofs.Meant.{served_means}
+use Rattle.ados_handler.specs.steps.Methods.{MethodMeans}
+use Rattle.ados_handler.proofs.Meant.{done, served_means}
 
 -- what is left to be listed, where it has a first
 left_entry : (o : Option (List ℕ)) (next : ℕ) → first_left o ≡ Entry next → (rest : List ℕ) × (o ≡ Some (next ∷ rest))
@@ -67,17 +66,16 @@ lock_on t s lock key = go (lock == 0) (get s.locks lock)
 
 -- EXAMINE_NEXT by a lock on a directory, of a handler that has not died
 module _ (t : Tree) (s : Session) (lock dir key : ℕ) (alive : s.died ≡ false) (is : lock_object t s lock ≡ Some dir) (directory : is_file t dir ≡ false) where
-  pub next_means : (next : ℕ) (node : Node) (info : FileInfo) (now : Date3) (answer : Answer) → first_left (entries_after t dir key) ≡ Entry next → t.nodes next ≡ Some node
-      → info ≡ file_info t.format next node → answer ≡ record { action = pos 24; res1 = dos_true; res2 = pos 0; body = body.Entry info } → Meaning t s (ExamineNext lock key) now t s answer
-  next_means next node info now answer e at told answered =
+  pub next_means : (next : ℕ) (node : Node) (info : FileInfo) (now : Date3) (results : Results) → first_left (entries_after t dir key) ≡ Entry next → t.nodes next ≡ Some node
+      → info ≡ file_info t.format next node → results ≡ done (body.Entry info) → MethodMeans t s (ExamineNext lock key) now t s results
+  next_means next node info now results e at told brought =
       let left = left_entry (entries_after t dir key) next e in
       let l = lock_on t s lock dir is in
       let after : entries_after t (lock_key t s lock) key ≡ Some (next ∷ left.0) = ap (λ (d : ℕ). entries_after t d key) l.1 ∙ left.1 in
       let no_file : is_file t (lock_key t s lock) ≡ false = ap (is_file t) l.1 ∙ directory in
       let none : refusal t s (ExamineNext lock key) ≡ None =
       λ i. first_refusal (refuse DeviceNotMounted (alive i) ∷ refuse InvalidLock (not (l.0 i)) ∷ refuse ObjectWrongType (no_file i) ∷ refuse ObjectNotFound (is_none (after i)) ∷ refuse NoMoreEntries (is_some_and is_empty (after i)) ∷ []) in
-      let is_told : answer ≡ record { action = pos 24; res1 = dos_true; res2 = pos 0; body = body.Entry (file_info t.format next node) } =
-      answered ∙ (λ i. record { action = pos 24; res1 = dos_true; res2 = pos 0; body = body.Entry (told i) }) in
-      subst (λ (a : Answer). Meaning t s (ExamineNext lock key) now t s a) (sym is_told)
-      (served_means t t s s (ExamineNext lock key) now _ none
+      let is_told : results ≡ done (body.Entry (file_info t.format next node)) = brought ∙ (λ i. done (body.Entry (told i))) in
+      subst (λ (r : Results). MethodMeans t s (ExamineNext lock key) now t s r) (sym is_told)
+      (served_means t t s s (ExamineNext lock key) now (done (body.Entry (file_info t.format next node))) none
       (record { success = (next, left.0, after, (node, at, refl)); action = refl; res2 = refl }))

@@ -1,5 +1,5 @@
 -- What a packet that opens a file gives, and FINDINPUT.
-use Rattle.std.proofs.Common.{◌≡◌, ℕ, ℤ, pos, Bool, true, false, List, ◌∷◌, Option, Some, None, IsSome, Ok, MatchOption, ◌⊎◌, inl, inr, refl, sym, ap, ◌∙◌, subst}
+use Rattle.std.proofs.Common.{◌≡◌, ℕ, pos, Bool, true, false, List, ◌∷◌, Option, Some, None, IsSome, Ok, MatchOption, ◌⊎◌, inl, inr, refl, sym, ap, ◌∙◌, subst}
 use Rattle.std.specs.Prelude.{IsTrue}
 use Rattle.std.specs.Ordering.{nat_cmp}
 use Rattle.std.specs.FinMap.{FinMap, insert}
@@ -10,27 +10,28 @@ use Rattle.ados_tree.specs.Walk.{is_file}
 use Rattle.ados_packet.specs.declared.dos_error.DosError.{DosError}
 use Rattle.ados_packet.specs.declared.dos_error.DosError.TheVariants.{DeviceNotMounted, NoFreeStore}
 use Rattle.ados_packet.specs.Numbers.{error_number}
-use Rattle.ados_packet.specs.Packet.{action_of, dos_false, failure_of, handed_back}
+use Rattle.ados_packet.specs.Packet.{dos_false, failure_of, handed_back}
 use Rattle.ados_packet.specs.declared.packet.Packet.{Packet}
 use Rattle.ados_packet.specs.declared.packet.Packet.TheVariants.{FindInput}
-use Rattle.ados_packet.specs.declared.answer.Answer.{Answer}
+use Rattle.ados_handler.specs.declared.results.Results.{Results}
 use Rattle.ados_packet.specs.declared.answer.Body.TheVariants.{Empty}
 use Rattle.ados_handler.specs.declared.holds.HandleHold.{HandleHold}
 use Rattle.ados_handler.specs.Session.{Session, IsFreeNumber, is_in_use}
 use Rattle.ados_handler.specs.Objects.{object, walked}
 use Rattle.ados_handler.specs.Refusals.{first_refusal, refusal, refuse, refusals}
 use Rattle.ados_handler.specs.Success.{After, after, GivesHandle, Success}
-use Rattle.ados_handler.specs.Meaning.{IsRefused, Meaning, ServedOrNoMemory, makes_hold, sets_disk_date}
+use Rattle.ados_handler.specs.Meaning.{IsRefused, ServedOrNoMemory, makes_hold, sets_disk_date}
 use Rattle.ados_handler.specs.ProperSession.{IsProperSession}
-use Rattle.ados_handler.specs.Handler.{HandlerGives, HandlerState}
-use Rattle.ados_handler.specs.steps.Opening.{AnswersHandle, IsOpened, IsUnopened, Opens, open_refusals}
+use Rattle.ados_handler.specs.Handler.{HandlerState}
+use Rattle.ados_handler.specs.steps.Methods.{MethodGives, MethodMeans, answer_to}
+use Rattle.ados_handler.specs.steps.Opening.{BringsHandle, IsOpened, IsUnopened, Opens, open_refusals}
 use Rattle.ados_handler.proofs.Holding.{not_in_use, proper_with_handle}
 use Rattle.ados_handler.proofs.Leaving.{leaves_all}
 use Rattle.ados_handler.proofs.Meant.{walked_on}
 
 -- ---- what a packet that opens a file means
 
-module _ (packet : Packet) (now : Date3) (rows : Tree → List (Option DosError)) (success : Tree → After → Type 0) (old new : HandlerState) (answer : Answer) where
+module _ (packet : Packet) (now : Date3) (rows : Tree → List (Option DosError)) (success : Tree → After → Type 0) (old new : HandlerState) (results : Results) where
   -- the packet is this opening
   pub record IsOpening (t : Tree) : Type 0 where
     pub fails : failure_of packet ≡ dos_false
@@ -40,31 +41,31 @@ module _ (packet : Packet) (now : Date3) (rows : Tree → List (Option DosError)
     pub serves : (left : After) → success t left → Success t old.session packet now left
     pub quiet : sets_disk_date t old.session packet ≡ false → new.image ≡ old.image
 
-  pub opening_gives : (o : Opens (action_of packet) rows success old new answer) → IsOpening o.tree → HandlerGives old packet now new answer
+  pub opening_gives : (o : Opens rows success old new results) → IsOpening o.tree → MethodGives old packet now new results
   opening_gives o is = go (first_refusal (rows o.tree)) refl o.means
     where
-      refused : (code : DosError) → IsUnopened (action_of packet) code old new answer → IsRefused o.tree old.session packet code o.tree new.session answer
+      refused : (code : DosError) → IsUnopened code old new results → IsRefused o.tree old.session packet code o.tree new.session (answer_to packet results)
       refused code u = record {
         tree = refl;
         session = ap (λ (h : HandlerState). h.session) u.same;
-        answered = u.answered ∙ (λ i. record { action = action_of packet; res1 = sym is.fails i; res2 = pos (error_number code); body = sym is.back i });
+        answered = ap (answer_to packet) (u.told ∙ (λ i. record { res1 = sym is.fails i; res2 = pos (error_number code); body = sym is.back i }));
       }
 
-      meaning : (u : Tree) (r : Option DosError) → first_refusal (rows o.tree) ≡ r → MatchOption r (ServedOrNoMemory o.tree old.session packet now u new.session answer) (λ code. IsRefused o.tree old.session packet code u new.session answer) → Meaning o.tree old.session packet now u new.session answer
-      meaning u r e m = subst (λ (r : Option DosError). MatchOption r (ServedOrNoMemory o.tree old.session packet now u new.session answer) (λ code. IsRefused o.tree old.session packet code u new.session answer)) (sym (is.row ∙ e)) m
+      meaning : (u : Tree) (r : Option DosError) → first_refusal (rows o.tree) ≡ r → MatchOption r (ServedOrNoMemory o.tree old.session packet now u new.session (answer_to packet results)) (λ code. IsRefused o.tree old.session packet code u new.session (answer_to packet results)) → MethodMeans o.tree old.session packet now u new.session results
+      meaning u r e m = subst (λ (r : Option DosError). MatchOption r (ServedOrNoMemory o.tree old.session packet now u new.session (answer_to packet results)) (λ code. IsRefused o.tree old.session packet code u new.session (answer_to packet results))) (sym (is.row ∙ e)) m
 
-      unopened : (code : DosError) → IsUnopened (action_of packet) code old new answer → Meaning o.tree old.session packet now o.tree new.session answer → HandlerGives old packet now new answer
+      unopened : (code : DosError) → IsUnopened code old new results → MethodMeans o.tree old.session packet now o.tree new.session results → MethodGives old packet now new results
       unopened code u means = record {
         old_tree = o.tree;
         new_tree = o.tree;
         stood = o.stood;
         stands = subst (λ (h : HandlerState). Stands h.image o.tree) (sym u.same) o.stood;
         means = means;
-        leaves = leaves_all o.tree old packet new answer (ap (λ (h : HandlerState). h.image) u.same);
+        leaves = leaves_all o.tree old packet new results (ap (λ (h : HandlerState). h.image) u.same);
         validated = ap (λ (h : HandlerState). h.was_validated) u.same;
       }
 
-      go : (r : Option DosError) → first_refusal (rows o.tree) ≡ r → MatchOption r (IsOpened (action_of packet) (success o.tree) old new answer ⊎ IsUnopened (action_of packet) NoFreeStore old new answer) (λ code. IsUnopened (action_of packet) code old new answer) → HandlerGives old packet now new answer
+      go : (r : Option DosError) → first_refusal (rows o.tree) ≡ r → MatchOption r (IsOpened (success o.tree) old new results ⊎ IsUnopened NoFreeStore old new results) (λ code. IsUnopened code old new results) → MethodGives old packet now new results
       go (Some code) e u = unopened code u (meaning o.tree (Some code) e (refused code u))
       go None e (inr u) = unopened NoFreeStore u (meaning o.tree None e (inr (is.makes, refused NoFreeStore u)))
       go None e (inl d) = record {
@@ -72,18 +73,18 @@ module _ (packet : Packet) (now : Date3) (rows : Tree → List (Option DosError)
         new_tree = d.tree;
         stood = o.stood;
         stands = d.stands;
-        means = meaning d.tree None e (inl (record { success = is.serves _ d.success; action = d.action; res2 = d.res2 }));
+        means = meaning d.tree None e (inl (record { success = is.serves _ d.success; action = refl; res2 = d.res2 }));
         leaves = record { boot = d.boot; rest = λ why. elim why [ inl other ↦ absurd (other d.res2) | inr quiet ↦ is.quiet quiet ] };
         validated = d.validated;
       }
 
 -- an opening that no refusal stands against, and that is done
-pub done_opens : (action : ℤ) (rows : Tree → List (Option DosError)) (gives : Tree → After → Type 0) (old new : HandlerState) (answer : Answer) (t : Tree) → Stands old.image t → first_refusal (rows t) ≡ None
-    → IsOpened action (gives t) old new answer → Opens action rows gives old new answer
-done_opens action rows gives old new answer t stood none done = record {
+pub done_opens : (rows : Tree → List (Option DosError)) (gives : Tree → After → Type 0) (old new : HandlerState) (results : Results) (t : Tree) → Stands old.image t → first_refusal (rows t) ≡ None
+    → IsOpened (gives t) old new results → Opens rows gives old new results
+done_opens rows gives old new results t stood none done = record {
   tree = t;
   stood = stood;
-  means = subst (λ (r : Option DosError). MatchOption r (IsOpened action (gives t) old new answer ⊎ IsUnopened action NoFreeStore old new answer) (λ code. IsUnopened action code old new answer)) (sym none) (inl done);
+  means = subst (λ (r : Option DosError). MatchOption r (IsOpened (gives t) old new results ⊎ IsUnopened NoFreeStore old new results) (λ code. IsUnopened code old new results)) (sym none) (inl done);
 }
 
 -- ---- FINDINPUT
@@ -95,12 +96,12 @@ module _ (old : HandlerState) (lock : ℕ) (path : List ℕ) (key : ℕ) (alive 
       let w = walked_on t s lock path key (open_refusals s (object t s lock path) t) walk in
       (ap (λ (b : Bool). first_refusal (refuse DeviceNotMounted b ∷ refusals t s (FindInput lock path))) alive ∙ w.0 ∙ ap (λ (k : ℕ). first_refusal (open_refusals s k t)) w.1, w.1)
 
-  pub input_gives : (there new : HandlerState) (answer : Answer) (now : Date3) → ((t : Tree) → Stands old.image t → walked t old.session lock path ≡ Ok key)
-      → there ≡ old → Opens (pos 1005) (open_refusals there.session key) (λ t left. GivesHandle t there.session key false left) there new answer → new.image ≡ there.image → HandlerGives old (FindInput lock path) now new answer
-  input_gives there new answer now walk same opens image =
-      let o = subst (λ (h : HandlerState). Opens (pos 1005) (open_refusals h.session key) (λ t left. GivesHandle t h.session key false left) h new answer) same opens in
+  pub input_gives : (there new : HandlerState) (results : Results) (now : Date3) → ((t : Tree) → Stands old.image t → walked t old.session lock path ≡ Ok key)
+      → there ≡ old → Opens (open_refusals there.session key) (λ t left. GivesHandle t there.session key false left) there new results → new.image ≡ there.image → MethodGives old (FindInput lock path) now new results
+  input_gives there new results now walk same opens image =
+      let o = subst (λ (h : HandlerState). Opens (open_refusals h.session key) (λ t left. GivesHandle t h.session key false left) h new results) same opens in
       let row = input_row o.tree (walk o.tree o.stood) in
-      opening_gives (FindInput lock path) now _ _ old new answer o (record {
+      opening_gives (FindInput lock path) now _ _ old new results o (record {
         fails = refl;
         back = refl;
         makes = refl;
@@ -111,12 +112,12 @@ module _ (old : HandlerState) (lock : ℕ) (path : List ℕ) (key : ℕ) (alive 
 
 -- ---- the handle
 
-module _ (action : ℤ) (key : ℕ) (exclusive : Bool) (s : Session) (ready held : FinMap nat_cmp HandleHold) (answer : Answer) (a : AnswersHandle action key exclusive ready held answer) (same : ready ≡ s.handles) where
+module _ (key : ℕ) (exclusive : Bool) (s : Session) (ready held : FinMap nat_cmp HandleHold) (results : Results) (a : BringsHandle key exclusive ready held results) (same : ready ≡ s.handles) where
   added : held ≡ insert s.handles a.number (record { key = key; position = 0; exclusive = exclusive })
   added = a.added ∙ ap (λ (m : FinMap nat_cmp HandleHold). insert m a.number (record { key = key; position = 0; exclusive = exclusive })) same
 
-  pub gives_handle : (u : Tree) → GivesHandle u s key exclusive (after u (record s { handles = held }) answer.res1 answer.body)
-  gives_handle u = (a.number, subst (λ (m : FinMap nat_cmp HandleHold). IsFreeNumber m a.number) same a.free, λ i. after u (record s { handles = added i }) (a.answered i).res1 (a.answered i).body)
+  pub gives_handle : (u : Tree) → GivesHandle u s key exclusive (after u (record s { handles = held }) results.res1 results.body)
+  gives_handle u = (a.number, subst (λ (m : FinMap nat_cmp HandleHold). IsFreeNumber m a.number) same a.free, λ i. after u (record s { handles = added i }) (a.told i).res1 (a.told i).body)
 
   -- the holds stay proper where nothing stands against the handle
   pub proper_opened : (u : Tree) → IsProperSession u s → IsSome (u.nodes key) → is_file u key ≡ true → is_in_use s key exclusive ≡ false → IsProperSession u (record s { handles = held })

@@ -7,11 +7,12 @@ use Rattle.ados_tree.specs.declared.path_fault.PlaceFault.{PlaceFault}
 use Rattle.ados_packet.specs.declared.dos_error.DosError.{DosError}
 use Rattle.ados_packet.specs.declared.dos_error.DosError.TheVariants.{DeviceNotMounted, InvalidLock}
 use Rattle.ados_packet.specs.declared.packet.Packet.{Packet}
-use Rattle.ados_packet.specs.declared.answer.Answer.{Answer}
+use Rattle.ados_handler.specs.declared.results.Results.{Results}
 use Rattle.ados_handler.specs.Session.{Session, is_lock}
 use Rattle.ados_handler.specs.Objects.{place_error, place_result, placed, placed_at, spot}
 use Rattle.ados_handler.specs.Refusals.{first_refusal, refusal, refusals, refuse}
-use Rattle.ados_handler.specs.Meaning.{IsRefused, Meaning, ServedOrNoMemory}
+use Rattle.ados_handler.specs.Meaning.{IsRefused, ServedOrNoMemory}
+use Rattle.ados_handler.specs.steps.Methods.{MethodMeans, answer_to}
 
 -- a path that names a place is no refusal
 pub placed_on : (t : Tree) (s : Session) (lock : ℕ) (path : List ℕ) (there : ℕ × List ℕ) (more : List (Option DosError)) → placed_at t s lock path ≡ Ok there
@@ -42,6 +43,6 @@ pub passed : (code : DosError) (test : Bool) (more : List (Option DosError)) →
 passed code test more e = ap (λ (b : Bool). first_refusal (refuse code b ∷ more)) e
 
 -- a packet that a refusal stands against is refused
-pub refused_means : (t : Tree) (s new : Session) (packet : Packet) (now : Date3) (answer : Answer) (code : DosError) → refusal t s packet ≡ Some code → IsRefused t s packet code t new answer → Meaning t s packet now t new answer
-refused_means t s new packet now answer code some refused =
-    subst (λ (o : Option DosError). MatchOption o (ServedOrNoMemory t s packet now t new answer) (λ code. IsRefused t s packet code t new answer)) (sym some) refused
+pub refused_means : (t : Tree) (s new : Session) (packet : Packet) (now : Date3) (results : Results) (code : DosError) → refusal t s packet ≡ Some code → IsRefused t s packet code t new (answer_to packet results) → MethodMeans t s packet now t new results
+refused_means t s new packet now results code some refused =
+    subst (λ (o : Option DosError). MatchOption o (ServedOrNoMemory t s packet now t new (answer_to packet results)) (λ code. IsRefused t s packet code t new (answer_to packet results))) (sym some) refused

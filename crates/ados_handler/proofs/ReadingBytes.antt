@@ -9,19 +9,19 @@ use Rattle.ados_tree.specs.Tree.{Tree, bytes_of, content_at, size_of}
 use Rattle.ados_tree.specs.Stands.{Stands}
 use Rattle.ados_packet.specs.declared.dos_error.DosError.TheVariants.{ReadProtected}
 use Rattle.ados_packet.specs.declared.packet.Packet.TheVariants.{Read}
-use Rattle.ados_packet.specs.declared.answer.Answer.{Answer}
+use Rattle.ados_handler.specs.declared.results.Results.{Results}
 use Rattle.ados_packet.specs.declared.answer.Body.TheVariants.{Buffer}
 use Rattle.ados_handler.specs.Session.{Session, at_position, handle_key}
 use Rattle.ados_handler.specs.declared.holds.HandleHold.{HandleHold}
 use Rattle.ados_handler.specs.Objects.{bytes_read, protection_of}
 use Rattle.ados_handler.specs.Refusals.{first_refusal, refuse, refusal}
 use Rattle.ados_handler.specs.Success.{after}
-use Rattle.ados_handler.specs.Meaning.{Meaning}
-use Rattle.ados_handler.specs.Handler.{HandlerGives, HandlerState}
+use Rattle.ados_handler.specs.Handler.{HandlerState}
+use Rattle.ados_handler.specs.steps.Methods.{MethodGives, MethodMeans}
 use Rattle.ados_handler.proofs.HandleFiles.{key_is, position_is, opened_on, gives_moved}
 use Rattle.ados_handler.proofs.Reading.{size_is}
 use Rattle.ados_handler.proofs.Sizes.{size_small}
-use Rattle.ados_handler.proofs.Meant.{served_means}
+use Rattle.ados_handler.proofs.Meant.{counted as answers, served_means}
 
 module _ (t : Tree) (s : Session) (handle : ℕ) (buffer : List ℕ) (hold : HandleHold) (at : get s.handles handle ≡ Some hold)
     (count : ℕ) (counted : count ≡ min (length buffer) (length (bytes_of t hold.key) - hold.position)) where
@@ -37,7 +37,7 @@ module _ (t : Tree) (s : Session) (handle : ℕ) (buffer : List ℕ) (hold : Han
 
   pub read_means : (new : Session) (now : Date3) (filled : List ℕ) → s.died ≡ false → denies_read (protection_of t hold.key) ≡ false
       → filled ≡ take count (drop hold.position (bytes_of t hold.key)) ++ drop count buffer → new ≡ at_position handle (hold.position + count) s
-      → Meaning t s (Read handle buffer) now t new (record { action = pos 82; res1 = pos count; res2 = pos 0; body = Buffer filled })
+      → MethodMeans t s (Read handle buffer) now t new (answers count (Buffer filled))
   read_means new now filled alive readable bytes moved =
       let denied = ap (λ (key : ℕ). denies_read (protection_of t key)) (key_is s handle hold at) ∙ readable in
       let none : refusal t s (Read handle buffer) ≡ None =
@@ -45,20 +45,20 @@ module _ (t : Tree) (s : Session) (handle : ℕ) (buffer : List ℕ) (hold : Han
       ∙ ap (λ (b : Bool). first_refusal (refuse ReadProtected b ∷ [])) denied in
       let moves = moved ∙ ap₂ (λ (p n : ℕ). at_position handle (p + n) s) (sym (position_is s handle hold at)) (sym count_is) in
       let given = bytes ∙ ap₂ (λ (xs : List ℕ) (n : ℕ). xs ++ drop n buffer) (sym read_is) (sym count_is) in
-      served_means t t s new (Read handle buffer) now _ none
+      served_means t t s new (Read handle buffer) now (answers count (Buffer filled)) none
       (record { success = λ i. after t (moves i) (pos (sym count_is i)) (Buffer (given i)); action = refl; res2 = refl })
 
 module _ (old given : HandlerState) (same : old ≡ given) (t : Tree) (stood : Stands old.image t) (handle : ℕ) (buffer : List ℕ) (hold : HandleHold) (at : get given.session.handles handle ≡ Some hold)
     (count : ℕ) (counted : count ≡ min (length buffer) (length (bytes_of t hold.key) - hold.position)) where
-  pub read_gives : (filled : List ℕ) (handles : FinMap nat_cmp HandleHold) (answer : Answer) → old.session.died ≡ false → denies_read (protection_of t hold.key) ≡ false
+  pub read_gives : (filled : List ℕ) (handles : FinMap nat_cmp HandleHold) (results : Results) → old.session.died ≡ false → denies_read (protection_of t hold.key) ≡ false
       → filled ≡ take count (drop hold.position (bytes_of t hold.key)) ++ drop count buffer
-      → handles ≡ (at_position handle (hold.position + count) old.session).handles → answer ≡ record { action = pos 82; res1 = pos count; res2 = pos 0; body = Buffer filled }
-      → (now : Date3) → HandlerGives given (Read handle buffer) now (record old { session = record old.session { handles = handles } }) answer
-  read_gives filled handles answer alive readable bytes moved answered now =
+      → handles ≡ (at_position handle (hold.position + count) old.session).handles → results ≡ answers count (Buffer filled)
+      → (now : Date3) → MethodGives given (Read handle buffer) now (record old { session = record old.session { handles = handles } }) results
+  read_gives filled handles results alive readable bytes moved told now =
       let new : Session = record old.session { handles = handles } in
       let held = ap (λ (h : HandlerState). get h.session.handles handle) same ∙ at in
-      gives_moved old given same handles (Read handle buffer) answer t stood now
-      (subst (λ (a : Answer). Meaning t old.session (Read handle buffer) now t new a) (sym answered)
+      gives_moved old given same handles (Read handle buffer) results t stood now
+      (subst (λ (r : Results). MethodMeans t old.session (Read handle buffer) now t new r) (sym told)
       (read_means t old.session handle buffer hold held count counted new now filled alive readable bytes (λ i. record old.session { handles = moved i })))
 
 -- the bytes that are read end where a file can

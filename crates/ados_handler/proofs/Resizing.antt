@@ -23,7 +23,7 @@ use Rattle.ados_packet.specs.Numbers.{error_number}
 use Rattle.ados_packet.specs.Packet.{dos_true}
 use Rattle.ados_packet.specs.declared.packet.Packet.{Packet}
 use Rattle.ados_packet.specs.declared.packet.Packet.TheVariants.{SetFileSize}
-use Rattle.ados_packet.specs.declared.answer.Answer.{Answer}
+use Rattle.ados_handler.specs.declared.results.Results.{Results}
 use Rattle.ados_packet.specs.declared.answer.Body.TheVariants.{Empty}
 use Rattle.ados_handler.specs.declared.holds.HandleHold.{HandleHold}
 use Rattle.ados_handler.specs.Session.{handle_key, positions_within}
@@ -32,9 +32,10 @@ use Rattle.ados_handler.specs.Objects.{handle_target, is_bad_target, needs_more,
 use Rattle.ados_handler.specs.Refusals.{first_refusal, refusal, refuse}
 use Rattle.ados_handler.specs.Success.{after, resized}
 use Rattle.ados_handler.specs.Meaning.{IsRefused, ServedOrNoMemory}
-use Rattle.ados_handler.specs.Handler.{HandlerGives, HandlerState}
+use Rattle.ados_handler.specs.Handler.{HandlerState}
+use Rattle.ados_handler.specs.steps.Methods.{MethodGives, answer_to}
 use Rattle.ados_handler.proofs.Leaving.{leaves_all}
-use Rattle.ados_handler.proofs.Meant.{served_means}
+use Rattle.ados_handler.proofs.Meant.{done, served_means}
 use Rattle.ados_handler.proofs.HandleFiles.{key_is, opened_on, position_is}
 use Rattle.ados_handler.proofs.Tables.{sorted_entries}
 
@@ -103,51 +104,51 @@ module _ (old given : HandlerState) (same : old ≡ given) (t : Tree) (stood : S
       ∷ refuse DiskFull (needs_more t (handle_key old.session handle) (target_number (handle_target t old.session handle offset mode))) ∷ [])
       ∙ (λ i. first_refusal (refuse WriteProtected (denied i) ∷ refuse SeekError (is_bad i) ∷ refuse DiskFull (needs i) ∷ []))
 
-  refused : (new : HandlerState) (answer : Answer) (code : DosError) → refusal t old.session packet ≡ Some code → new ≡ old → answer ≡ record { action = pos 1022; res1 = pos 0; res2 = pos (error_number code); body = Empty } → HandlerGives given packet now new answer
-  refused new answer code first stays answered = subst (λ (h : HandlerState). HandlerGives h packet now new answer) same (record {
+  refused : (new : HandlerState) (results : Results) (code : DosError) → refusal t old.session packet ≡ Some code → new ≡ old → results ≡ record { res1 = pos 0; res2 = pos (error_number code); body = Empty } → MethodGives given packet now new results
+  refused new results code first stays told = subst (λ (h : HandlerState). MethodGives h packet now new results) same (record {
     old_tree = t;
     new_tree = t;
     stood = stood;
     stands = subst (λ (h : HandlerState). Stands h.image t) (sym stays) stood;
-    means = subst (λ (o : Option DosError). MatchOption o (ServedOrNoMemory t old.session packet now t new.session answer) (λ c. IsRefused t old.session packet c t new.session answer)) (sym first)
-        (record { tree = refl; session = ap (λ (h : HandlerState). h.session) stays; answered = answered });
-    leaves = leaves_all t old packet new answer (ap (λ (h : HandlerState). h.image) stays);
+    means = subst (λ (o : Option DosError). MatchOption o (ServedOrNoMemory t old.session packet now t new.session (answer_to packet results)) (λ c. IsRefused t old.session packet c t new.session (answer_to packet results))) (sym first)
+        (record { tree = refl; session = ap (λ (h : HandlerState). h.session) stays; answered = ap (answer_to packet) told });
+    leaves = leaves_all t old packet new results (ap (λ (h : HandlerState). h.image) stays);
     validated = ap (λ (h : HandlerState). h.was_validated) stays;
   })
 
   -- the target is no size
-  pub bad_gives : (answer : Answer) → is_bad_target 2147483647 target ≡ true → answer ≡ record { action = pos 1022; res1 = pos 0; res2 = pos (error_number SeekError); body = Empty } → HandlerGives given packet now given answer
-  bad_gives answer bad answered = subst (λ (h : HandlerState). HandlerGives given packet now h answer) same (refused old answer SeekError (row true _ bad refl) refl answered)
+  pub bad_gives : (results : Results) → is_bad_target 2147483647 target ≡ true → results ≡ record { res1 = pos 0; res2 = pos (error_number SeekError); body = Empty } → MethodGives given packet now given results
+  bad_gives results bad told = subst (λ (h : HandlerState). MethodGives given packet now h results) same (refused old results SeekError (row true _ bad refl) refl told)
 
-  module _ (size : ℕ) (good : is_bad_target 2147483647 target ≡ false) (there : size ≡ target_number target) (new : HandlerState) (answer : Answer) where
+  module _ (size : ℕ) (good : is_bad_target 2147483647 target ≡ false) (there : size ≡ target_number target) (new : HandlerState) (results : Results) where
     size_is : target_number (handle_target t old.session handle offset mode) ≡ size
     size_is = ap target_number target_is ∙ sym there
 
     -- there is no room for it
-    pub full_gives : needs_more t hold.key size ≡ true → new ≡ old → answer ≡ record { action = pos 1022; res1 = pos 0; res2 = pos (error_number DiskFull); body = Empty } → HandlerGives given packet now new answer
-    full_gives more stays answered = refused new answer DiskFull (row false true good (ap (needs_more t hold.key) (sym there) ∙ more)) stays answered
+    pub full_gives : needs_more t hold.key size ≡ true → new ≡ old → results ≡ record { res1 = pos 0; res2 = pos (error_number DiskFull); body = Empty } → MethodGives given packet now new results
+    full_gives more stays told = refused new results DiskFull (row false true good (ap (needs_more t hold.key) (sym there) ∙ more)) stays told
 
     -- the file has it now
     pub sized_gives : needs_more t hold.key size ≡ false → Stands new.image (resized now hold.key size t) → Kept old.image new.image
         → (size ≡ size_of t hold.key → new.image ≡ old.image) → new.was_validated ≡ old.was_validated → new.session ≡ positions_within hold.key size old.session
-        → answer ≡ record { action = pos 1022; res1 = dos_true; res2 = pos 0; body = Empty } → HandlerGives given packet now new answer
-    sized_gives room stands kept stays validated holds answered =
+        → results ≡ done Empty → MethodGives given packet now new results
+    sized_gives room stands kept stays validated holds told =
         let u = resized now hold.key size t in
-        subst (λ (h : HandlerState). HandlerGives h packet now new answer) same (record {
+        subst (λ (h : HandlerState). MethodGives h packet now new results) same (record {
           old_tree = t;
           new_tree = u;
           stood = stood;
           stands = stands;
-          means = served_means t u old.session new.session packet now answer (row false false good (ap (needs_more t hold.key) (sym there) ∙ room)) (record {
-            success = (λ i. after u (holds i) (answered i).res1 (answered i).body)
+          means = served_means t u old.session new.session packet now results (row false false good (ap (needs_more t hold.key) (sym there) ∙ room)) (record {
+            success = (λ i. after u (holds i) (told i).res1 (told i).body)
                 ∙ (λ i. after (resized now (sym file_is i) (sym size_is i) t) (positions_within (sym file_is i) (sym size_is i) old.session) dos_true Empty);
-            action = ap (λ (a : Answer). a.action) answered;
-            res2 = ap (λ (a : Answer). a.res2) answered;
+            action = refl;
+            res2 = ap (λ (r : Results). r.res2) told;
           });
           leaves = record {
             boot = kept.boot;
             rest = λ why. elim why [
-              | inl failed ↦ absurd (failed (ap (λ (a : Answer). a.res2) answered))
+              | inl failed ↦ absurd (failed (ap (λ (r : Results). r.res2) told))
               | inr none ↦ stays (sym size_is ∙ eqb-true _ _ (not-false _ none) ∙ ap (size_of t) file_is)
             ];
           };

@@ -8,27 +8,27 @@ use Rattle.ados_tree.specs.Stands.{Stands}
 use Rattle.ados_packet.specs.declared.dos_error.DosError.TheVariants.{SeekError}
 use Rattle.ados_packet.specs.declared.packet.Packet.{Packet}
 use Rattle.ados_packet.specs.declared.packet.Packet.TheVariants.{Seek}
-use Rattle.ados_packet.specs.declared.answer.Answer.{Answer}
+use Rattle.ados_handler.specs.declared.results.Results.{Results}
 use Rattle.ados_packet.specs.declared.answer.Body.TheVariants.{Empty}
 use Rattle.ados_handler.specs.Session.{Session, at_position, handle_key}
 use Rattle.ados_handler.specs.declared.holds.HandleHold.{HandleHold}
 use Rattle.ados_handler.specs.Objects.{handle_target, is_bad_target, seek_target, target_number}
 use Rattle.ados_handler.specs.Refusals.{first_refusal, refuse, refusal}
 use Rattle.ados_handler.specs.Success.{after}
-use Rattle.ados_handler.specs.Meaning.{Meaning}
-use Rattle.ados_handler.specs.Handler.{HandlerGives, HandlerState}
+use Rattle.ados_handler.specs.Handler.{HandlerState}
+use Rattle.ados_handler.specs.steps.Methods.{MethodGives, MethodMeans}
 use Rattle.ados_handler.proofs.HandleFiles.{key_is, position_is, opened_on, gives_moved}
-use Rattle.ados_handler.proofs.Meant.{served_means}
+use Rattle.ados_handler.proofs.Meant.{counted, served_means}
 
 module _ (old given : HandlerState) (same : old ≡ given) (t : Tree) (stood : Stands old.image t) (handle : ℕ) (offset mode : ℤ) (hold : HandleHold) (at : get given.session.handles handle ≡ Some hold)
     (size : ℕ) (is : (u : Tree) → Stands given.image u → size ≡ size_of u hold.key) where
   abbrev target : Option ℤ
   target = seek_target hold.position size offset mode
 
-  pub seek_gives : (position : ℕ) (handles : FinMap nat_cmp HandleHold) (answer : Answer) → old.session.died ≡ false → is_bad_target size target ≡ false → position ≡ target_number target
-      → handles ≡ (at_position handle position old.session).handles → answer ≡ record { action = pos 1008; res1 = pos hold.position; res2 = pos 0; body = Empty }
-      → (now : Date3) → HandlerGives given (Seek handle offset mode) now (record old { session = record old.session { handles = handles } }) answer
-  seek_gives position handles answer alive good there moved answered now =
+  pub seek_gives : (position : ℕ) (handles : FinMap nat_cmp HandleHold) (results : Results) → old.session.died ≡ false → is_bad_target size target ≡ false → position ≡ target_number target
+      → handles ≡ (at_position handle position old.session).handles → results ≡ counted hold.position Empty
+      → (now : Date3) → MethodGives given (Seek handle offset mode) now (record old { session = record old.session { handles = handles } }) results
+  seek_gives position handles results alive good there moved told now =
       let s : Session = old.session in
       let new : Session = record s { handles = handles } in
       let packet : Packet = Seek handle offset mode in
@@ -42,6 +42,6 @@ module _ (old given : HandlerState) (same : old ≡ given) (t : Tree) (stood : S
       let arrives : position ≡ target_number (handle_target t s handle offset mode) = there ∙ sym (ap target_number leads) in
       let moves : new ≡ at_position handle position s = λ i. record s { handles = moved i } in
       let reached = moves ∙ ap (λ (p : ℕ). at_position handle p s) arrives in
-      gives_moved old given same handles packet answer t stood now
-      (subst (λ (a : Answer). Meaning t s packet now t new a) (sym answered)
-      (served_means t t s new packet now _ none (record { success = λ i. after t (reached i) (pos (sym stands i)) Empty; action = refl; res2 = refl })))
+      gives_moved old given same handles packet results t stood now
+      (subst (λ (r : Results). MethodMeans t s packet now t new r) (sym told)
+      (served_means t t s new packet now (counted hold.position Empty) none (record { success = λ i. after t (reached i) (pos (sym stands i)) Empty; action = refl; res2 = refl })))

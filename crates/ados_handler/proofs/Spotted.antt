@@ -1,5 +1,5 @@
 -- FINDUPDATE and FINDOUTPUT at the place to which their path leads.
-use Rattle.std.proofs.Common.{◌≡◌, ℕ, pos, Bool, true, false, not, List, [], ◌∷◌, ◌++◌, Option, Some, None, Ok, MatchOption, option_map, refl, sym, ap, ◌∙◌, subst}
+use Rattle.std.proofs.Common.{◌≡◌, ℕ, Bool, true, false, not, List, [], ◌∷◌, ◌++◌, Option, Some, None, Ok, MatchOption, option_map, refl, sym, ap, ◌∙◌, subst}
 use Rattle.std.specs.Prelude.{is_none}
 use Rattle.std.specs.Result.{result_err}
 use Rattle.ados_name.specs.declared.Date3.{Date3}
@@ -11,12 +11,13 @@ use Rattle.ados_name.specs.Protection.{denies_delete, denies_write}
 use Rattle.ados_packet.specs.declared.dos_error.DosError.{DosError}
 use Rattle.ados_packet.specs.declared.dos_error.DosError.TheVariants.{DeleteProtected, DeviceNotMounted, DiskFull, InvalidLock, ObjectInUse, ObjectWrongType, WriteProtected}
 use Rattle.ados_packet.specs.declared.packet.Packet.TheVariants.{FindOutput, FindUpdate}
-use Rattle.ados_packet.specs.declared.answer.Answer.{Answer}
+use Rattle.ados_handler.specs.declared.results.Results.{Results}
 use Rattle.ados_handler.specs.Session.{Session, is_in_use, is_lock}
 use Rattle.ados_handler.specs.Objects.{place_error, placed, placed_at, protection_of, spot, spot_directory, spot_name, standing}
 use Rattle.ados_handler.specs.Refusals.{first_refusal, has_no_room, is_directory_there, is_some_and, refuse}
 use Rattle.ados_handler.specs.Success.{After, GivesHandle, MakesFile}
-use Rattle.ados_handler.specs.Handler.{HandlerGives, HandlerState}
+use Rattle.ados_handler.specs.Handler.{HandlerState}
+use Rattle.ados_handler.specs.steps.Methods.{MethodGives}
 use Rattle.ados_handler.specs.steps.Opening.{Opens, empty_refusals, make_refusals, open_refusals}
 use Rattle.ados_handler.proofs.Holding.{true_false}
 use Rattle.ados_volume.specs.Shown.{Shown}
@@ -74,7 +75,7 @@ module _ (old : HandlerState) (lock : ℕ) (path : List ℕ) (now : Date3) (ther
   makes_at t exclusive left led w = subst (λ (p : ℕ × List ℕ). MakesFile t s p.0 p.1 exclusive now left) (sym led) w
 
   -- the volume found what stands there, and the handler went on with it
-  module _ (shown found : Shown) (session : Session) (same : found ≡ shown) (view : record { image = shown.image; was_validated = shown.was_validated; session = session } ≡ old) (new : HandlerState) (answer : Answer) where
+  module _ (shown found : Shown) (session : Session) (same : found ≡ shown) (view : record { image = shown.image; was_validated = shown.was_validated; session = session } ≡ old) (new : HandlerState) (results : Results) where
     abbrev HasChild : Option ℕ → Type 0
     HasChild o = (t : Tree) → Stands shown.image t → child_of t there.0 there.1 ≡ o
 
@@ -88,12 +89,12 @@ module _ (old : HandlerState) (lock : ℕ) (path : List ℕ) (now : Date3) (ther
     spotted o child t stood = spot_with t o stood (child t (subst (λ (h : HandlerState). Stands h.image t) (sym view) stood))
 
     pub update_opens : (key : ℕ) → HasChild (Some key)
-        → Opens (pos 1004) (open_refusals at.session key) (λ t left. GivesHandle t at.session key false left) at new answer → new.image ≡ at.image → HandlerGives old (FindUpdate lock path) now new answer
+        → Opens (open_refusals at.session key) (λ t left. GivesHandle t at.session key false left) at new results → new.image ≡ at.image → MethodGives old (FindUpdate lock path) now new results
     unfolding update_rows
     update_opens key child opens image =
-        let o = subst (λ (h : HandlerState). Opens (pos 1004) (open_refusals h.session key) (λ t left. GivesHandle t h.session key false left) h new answer) at_old opens in
+        let o = subst (λ (h : HandlerState). Opens (open_refusals h.session key) (λ t left. GivesHandle t h.session key false left) h new results) at_old opens in
         let w = spotted (Some key) child o.tree o.stood in
-        opening_gives (FindUpdate lock path) now _ _ old new answer o (record {
+        opening_gives (FindUpdate lock path) now _ _ old new results o (record {
           fails = refl;
           back = refl;
           makes = refl;
@@ -103,12 +104,12 @@ module _ (old : HandlerState) (lock : ℕ) (path : List ℕ) (now : Date3) (ther
         })
 
     pub update_makes : HasChild None
-        → Opens (pos 1004) make_refusals (λ t left. MakesFile t at.session there.0 there.1 false now left) at new answer → HandlerGives old (FindUpdate lock path) now new answer
+        → Opens make_refusals (λ t left. MakesFile t at.session there.0 there.1 false now left) at new results → MethodGives old (FindUpdate lock path) now new results
     unfolding update_rows
     update_makes child opens =
-        let o = subst (λ (h : HandlerState). Opens (pos 1004) make_refusals (λ t left. MakesFile t h.session there.0 there.1 false now left) h new answer) at_old opens in
+        let o = subst (λ (h : HandlerState). Opens make_refusals (λ t left. MakesFile t h.session there.0 there.1 false now left) h new results) at_old opens in
         let w = spotted None child o.tree o.stood in
-        opening_gives (FindUpdate lock path) now _ _ old new answer o (record {
+        opening_gives (FindUpdate lock path) now _ _ old new results o (record {
           fails = refl;
           back = refl;
           makes = refl;
@@ -119,12 +120,12 @@ module _ (old : HandlerState) (lock : ℕ) (path : List ℕ) (now : Date3) (ther
         })
 
     pub output_empties : (key : ℕ) → HasChild (Some key)
-        → Opens (pos 1006) (empty_refusals at.session key) (λ t left. GivesHandle (rewritten now key [] t) at.session key true left) at new answer → HandlerGives old (FindOutput lock path) now new answer
+        → Opens (empty_refusals at.session key) (λ t left. GivesHandle (rewritten now key [] t) at.session key true left) at new results → MethodGives old (FindOutput lock path) now new results
     unfolding output_rows
     output_empties key child opens =
-        let o = subst (λ (h : HandlerState). Opens (pos 1006) (empty_refusals h.session key) (λ t left. GivesHandle (rewritten now key [] t) h.session key true left) h new answer) at_old opens in
+        let o = subst (λ (h : HandlerState). Opens (empty_refusals h.session key) (λ t left. GivesHandle (rewritten now key [] t) h.session key true left) h new results) at_old opens in
         let w = spotted (Some key) child o.tree o.stood in
-        opening_gives (FindOutput lock path) now _ _ old new answer o (record {
+        opening_gives (FindOutput lock path) now _ _ old new results o (record {
           fails = refl;
           back = refl;
           makes = refl;
@@ -134,12 +135,12 @@ module _ (old : HandlerState) (lock : ℕ) (path : List ℕ) (now : Date3) (ther
         })
 
     pub output_makes : HasChild None
-        → Opens (pos 1006) make_refusals (λ t left. MakesFile t at.session there.0 there.1 true now left) at new answer → HandlerGives old (FindOutput lock path) now new answer
+        → Opens make_refusals (λ t left. MakesFile t at.session there.0 there.1 true now left) at new results → MethodGives old (FindOutput lock path) now new results
     unfolding output_rows
     output_makes child opens =
-        let o = subst (λ (h : HandlerState). Opens (pos 1006) make_refusals (λ t left. MakesFile t h.session there.0 there.1 true now left) h new answer) at_old opens in
+        let o = subst (λ (h : HandlerState). Opens make_refusals (λ t left. MakesFile t h.session there.0 there.1 true now left) h new results) at_old opens in
         let w = spotted None child o.tree o.stood in
-        opening_gives (FindOutput lock path) now _ _ old new answer o (record {
+        opening_gives (FindOutput lock path) now _ _ old new results o (record {
           fails = refl;
           back = refl;
           makes = refl;

@@ -17,25 +17,25 @@ use Rattle.ados_tree.specs.Change.{overlaid, written}
 use Rattle.change_bytes.specs.Renewed.{NeedsMore}
 use Rattle.ados_packet.specs.declared.dos_error.DosError.TheVariants.{DiskFull, WriteProtected}
 use Rattle.ados_packet.specs.declared.packet.Packet.TheVariants.{Write}
-use Rattle.ados_packet.specs.declared.answer.Answer.{Answer}
+use Rattle.ados_handler.specs.declared.results.Results.{Results}
 use Rattle.ados_packet.specs.declared.answer.Body.TheVariants.{Buffer}
 use Rattle.ados_handler.specs.Session.{Session, at_position, handle_key, handle_position}
 use Rattle.ados_handler.specs.declared.holds.HandleHold.{HandleHold}
 use Rattle.ados_handler.specs.Objects.{needs_more, protection_of}
 use Rattle.ados_handler.specs.Refusals.{first_refusal, refuse, refusal}
 use Rattle.ados_handler.specs.Success.{after}
-use Rattle.ados_handler.specs.Meaning.{Meaning}
-use Rattle.ados_handler.specs.Handler.{HandlerGives, HandlerState, LeavesImage}
+use Rattle.ados_handler.specs.Handler.{HandlerState, LeavesImage}
+use Rattle.ados_handler.specs.steps.Methods.{MethodGives, MethodMeans, answer_to}
 use Rattle.ados_handler.proofs.Reading.{size_is}
 use Rattle.ados_handler.proofs.Rewriting.{file_node, rewritten_size}
 use Rattle.ados_handler.proofs.HandleFiles.{key_is, position_is, opened_on}
 use Rattle.ados_handler.proofs.Sizes.{size_small}
-use Rattle.ados_handler.proofs.Meant.{served_means}
+use Rattle.ados_handler.proofs.Meant.{counted as answers, served_means}
 
 module _ (t : Tree) (s : Session) (handle : ℕ) (bytes : List ℕ) (hold : HandleHold) (at : get s.handles handle ≡ Some hold) where
   pub write_means : (new : Session) (now : Date3) (count : ℕ) → s.died ≡ false → denies_write (protection_of t hold.key) ≡ false
       → ¬ NeedsMore t hold.key (max (size_of t hold.key) (hold.position + length bytes)) → count ≡ length bytes → new ≡ at_position handle (hold.position + length bytes) s
-      → Meaning t s (Write handle bytes) now (written now hold.key hold.position bytes t) new (record { action = pos 87; res1 = pos count; res2 = pos 0; body = Buffer bytes })
+      → MethodMeans t s (Write handle bytes) now (written now hold.key hold.position bytes t) new (answers count (Buffer bytes))
   write_means new now count alive writable room counted moved =
       let key = key_is s handle hold at in
       let position = position_is s handle hold at in
@@ -45,13 +45,13 @@ module _ (t : Tree) (s : Session) (handle : ℕ) (bytes : List ℕ) (hold : Hand
       opened_on s handle hold at alive (refuse WriteProtected (denies_write (protection_of t (handle_key s handle))) ∷ refuse DiskFull (needs_more t (handle_key s handle) (max (size_of t (handle_key s handle)) (handle_position s handle + length bytes))) ∷ [])
       ∙ ap₂ (λ (b c : Bool). first_refusal (refuse WriteProtected b ∷ refuse DiskFull c ∷ [])) denied more in
       let moves = moved ∙ ap (λ (p : ℕ). at_position handle (p + length bytes) s) (sym position) in
-      served_means t (written now hold.key hold.position bytes t) s new (Write handle bytes) now _ none
+      served_means t (written now hold.key hold.position bytes t) s new (Write handle bytes) now (answers count (Buffer bytes)) none
       (record { success = λ i. after (written now (sym key i) (sym position i) bytes t) (moves i) (pos (counted i)) (Buffer bytes); action = refl; res2 = refl })
 
 -- what a WRITE that is served leaves of the image
-written_leaves : (t : Tree) (old new : HandlerState) (handle : ℕ) (bytes : List ℕ) (answer : Answer) → answer.res2 ≡ pos 0 → bytes_at new.image 0 0 1024 ≡ bytes_at old.image 0 0 1024 → (bytes ≡ [] → new.image ≡ old.image)
-    → LeavesImage t old (Write handle bytes) new answer
-written_leaves t old new handle bytes answer served boot empty = record {
+written_leaves : (t : Tree) (old new : HandlerState) (handle : ℕ) (bytes : List ℕ) (results : Results) → results.res2 ≡ pos 0 → bytes_at new.image 0 0 1024 ≡ bytes_at old.image 0 0 1024 → (bytes ≡ [] → new.image ≡ old.image)
+    → LeavesImage t old (Write handle bytes) new (answer_to (Write handle bytes) results)
+written_leaves t old new handle bytes results served boot empty = record {
   boot = boot;
   rest = λ why. elim why [
     | inl refused ↦ absurd (refused served)
@@ -61,13 +61,13 @@ written_leaves t old new handle bytes answer served boot empty = record {
 
 module _ (old given : HandlerState) (same : old ≡ given) (t : Tree) (stood : Stands old.image t) (handle : ℕ) (hold : HandleHold) (at : get given.session.handles handle ≡ Some hold) (now : Date3)
     (bytes shown : List ℕ) (is : shown ≡ bytes) where
-  pub write_gives : (image : List ℕ) (validated : Bool) (handles : FinMap nat_cmp HandleHold) (end : ℕ) (answer : Answer) → old.session.died ≡ false → denies_write (protection_of t hold.key) ≡ false
+  pub write_gives : (image : List ℕ) (validated : Bool) (handles : FinMap nat_cmp HandleHold) (end : ℕ) (results : Results) → old.session.died ≡ false → denies_write (protection_of t hold.key) ≡ false
       → end ≡ hold.position + length shown
       → (¬ NeedsMore t hold.key (max (size_of t hold.key) (hold.position + length shown))) × Stands image (written now hold.key hold.position shown t)
       → bytes_at image 0 0 1024 ≡ bytes_at old.image 0 0 1024 → (shown ≡ [] → image ≡ old.image) → validated ≡ old.was_validated
-      → handles ≡ (at_position handle end old.session).handles → answer ≡ record { action = pos 87; res1 = pos (end - hold.position); res2 = pos 0; body = Buffer bytes }
-      → HandlerGives given (Write handle bytes) now (record { image = image; was_validated = validated; session = record old.session { handles = handles } }) answer
-  write_gives image validated handles end answer alive writable ends done boot empty kept moved answered =
+      → handles ≡ (at_position handle end old.session).handles → results ≡ answers (end - hold.position) (Buffer bytes)
+      → MethodGives given (Write handle bytes) now (record { image = image; was_validated = validated; session = record old.session { handles = handles } }) results
+  write_gives image validated handles end results alive writable ends done boot empty kept moved told =
       let s : Session = old.session in
       let new : HandlerState = record { image = image; was_validated = validated; session = record s { handles = handles } } in
       let ended : end ≡ hold.position + length bytes = ends ∙ ap (λ (xs : List ℕ). hold.position + length xs) is in
@@ -76,13 +76,13 @@ module _ (old given : HandlerState) (same : old ≡ given) (t : Tree) (stood : S
       let wrote = subst (λ (xs : List ℕ). (¬ NeedsMore t hold.key (max (size_of t hold.key) (hold.position + length xs))) × Stands image (written now hold.key hold.position xs t)) is done in
       let moves : record s { handles = handles } ≡ at_position handle end s = λ i. record s { handles = moved i } in
       let means = write_means t s handle bytes hold held (record s { handles = handles }) now (end - hold.position) alive writable wrote.0 count (moves ∙ ap (λ (p : ℕ). at_position handle p s) ended) in
-      subst (λ (h : HandlerState). HandlerGives h (Write handle bytes) now new answer) same (record {
+      subst (λ (h : HandlerState). MethodGives h (Write handle bytes) now new results) same (record {
         old_tree = t;
         new_tree = written now hold.key hold.position bytes t;
         stood = stood;
         stands = wrote.1;
-        means = subst (λ (a : Answer). Meaning t s (Write handle bytes) now (written now hold.key hold.position bytes t) (record s { handles = handles }) a) (sym answered) means;
-        leaves = written_leaves t old new handle bytes answer (ap (λ (a : Answer). a.res2) answered) boot (λ e. empty (is ∙ e));
+        means = subst (λ (r : Results). MethodMeans t s (Write handle bytes) now (written now hold.key hold.position bytes t) (record s { handles = handles }) r) (sym told) means;
+        leaves = written_leaves t old new handle bytes results (ap (λ (r : Results). r.res2) told) boot (λ e. empty (is ∙ e));
         validated = kept;
       })
 

@@ -1,44 +1,51 @@
 //! Packets that change what is told of an object.
 
 ghost use Rattle.ados_packet.specs.declared.packet.Packet.TheVariants.{RenameDisk, SetComment, SetDate, SetProtect};
-ghost use Rattle.ados_handler.specs.Handler.{HandlerGives};
+ghost use Rattle.ados_handler.specs.steps.Methods.{MethodGives};
 
 use crate::handler::Handler;
+use crate::results::Results;
 use ados_name::{Comment, Date3, Name, PathText, Protect};
-use ados_packet::{Action, Answer, Body, DosError};
+use ados_packet::{Body, DosError};
 
 impl Handler {
     /// RENAME_DISK.
-    pub(crate) fn rename_disk(&mut self, name: PathText, now: Date3) -> Answer
-        ensures { HandlerGives self.old (RenameDisk name) now self.new result }
+    pub(crate) fn rename_disk(&mut self, name: PathText, now: Date3) -> Results
+        ensures { MethodGives self.old (RenameDisk name) now self.new result }
     {
         if self.died {
-            return Answer::refused(Action::RenameDisk, DosError::DeviceNotMounted);
+            return Results::refused(DosError::DeviceNotMounted);
         }
         let name = match Name::new(name.bytes()) {
             Ok(name) => name,
-            Err(_) => return Answer::refused(Action::RenameDisk, DosError::InvalidComponentName),
+            Err(_) => return Results::refused(DosError::InvalidComponentName),
         };
         self.volume.rename_disk(name, now);
-        Answer::done(Action::RenameDisk, Body::Empty)
+        Results::done(Body::Empty)
     }
 
     /// SET_PROTECT.
-    pub(crate) fn set_protect(&mut self, lock: u32, path: PathText, bits: u32, now: Date3) -> Answer
-        ensures { HandlerGives self.old (SetProtect lock path bits) now self.new result }
+    pub(crate) fn set_protect(
+        &mut self,
+        lock: u32,
+        path: PathText,
+        bits: u32,
+        now: Date3,
+    ) -> Results
+        ensures { MethodGives self.old (SetProtect lock path bits) now self.new result }
     {
         if self.died {
-            return Answer::refused(Action::SetProtect, DosError::DeviceNotMounted);
+            return Results::refused(DosError::DeviceNotMounted);
         }
         let key = match self.walked(lock, &path) {
             Ok(key) => key,
-            Err(error) => return Answer::refused(Action::SetProtect, error),
+            Err(error) => return Results::refused(error),
         };
         if key == self.volume.root() {
-            return Answer::refused(Action::SetProtect, DosError::ObjectWrongType);
+            return Results::refused(DosError::ObjectWrongType);
         }
         self.volume.set_protect(key, Protect(bits), now);
-        Answer::done(Action::SetProtect, Body::Empty)
+        Results::done(Body::Empty)
     }
 
     /// SET_COMMENT.
@@ -48,42 +55,42 @@ impl Handler {
         path: PathText,
         comment: PathText,
         now: Date3,
-    ) -> Answer
-        ensures { HandlerGives self.old (SetComment lock path comment) now self.new result }
+    ) -> Results
+        ensures { MethodGives self.old (SetComment lock path comment) now self.new result }
     {
         if self.died {
-            return Answer::refused(Action::SetComment, DosError::DeviceNotMounted);
+            return Results::refused(DosError::DeviceNotMounted);
         }
         let key = match self.walked(lock, &path) {
             Ok(key) => key,
-            Err(error) => return Answer::refused(Action::SetComment, error),
+            Err(error) => return Results::refused(error),
         };
         let comment = match Comment::new(comment.bytes()) {
             Ok(comment) => comment,
-            Err(_) => return Answer::refused(Action::SetComment, DosError::CommentTooBig),
+            Err(_) => return Results::refused(DosError::CommentTooBig),
         };
         if key == self.volume.root() {
-            return Answer::refused(Action::SetComment, DosError::ObjectWrongType);
+            return Results::refused(DosError::ObjectWrongType);
         }
         self.volume.set_comment(key, &comment, now);
-        Answer::done(Action::SetComment, Body::Empty)
+        Results::done(Body::Empty)
     }
 
     /// SET_DATE.
-    pub(crate) fn set_date(&mut self, lock: u32, path: PathText, date: Date3, now: Date3) -> Answer
-        ensures { HandlerGives self.old (SetDate lock path date) now self.new result }
+    pub(crate) fn set_date(&mut self, lock: u32, path: PathText, date: Date3, now: Date3) -> Results
+        ensures { MethodGives self.old (SetDate lock path date) now self.new result }
     {
         if self.died {
-            return Answer::refused(Action::SetDate, DosError::DeviceNotMounted);
+            return Results::refused(DosError::DeviceNotMounted);
         }
         let key = match self.walked(lock, &path) {
             Ok(key) => key,
-            Err(error) => return Answer::refused(Action::SetDate, error),
+            Err(error) => return Results::refused(error),
         };
         if key == self.volume.root() {
-            return Answer::refused(Action::SetDate, DosError::ObjectWrongType);
+            return Results::refused(DosError::ObjectWrongType);
         }
         self.volume.set_date(key, date, now);
-        Answer::done(Action::SetDate, Body::Empty)
+        Results::done(Body::Empty)
     }
 }

@@ -1,81 +1,73 @@
 //! Packets that read, write and seek in the file of a handle.
 
-ghost use Rattle.std.specs.Prelude.{◌≡◌, ◌+◌, ◌-◌, ◌≤◌, [], ◌++◌, length, take, drop, min, negsuc, pos, MatchResult};
+ghost use Rattle.std.specs.Prelude.{◌≡◌, ◌+◌, ◌-◌, ◌≤◌, [], ◌++◌, length, take, drop, min, MatchResult};
 ghost use Rattle.adf_block.specs.Image.{bytes_at};
 ghost use Rattle.ados_name.specs.declared.Date3.{Date3 as Moment};
 ghost use Rattle.ados_tree.specs.Keys.{HasFileKey, HasTree};
 ghost use Rattle.ados_tree.specs.Tree.{Tree, bytes_of, size_of};
 ghost use Rattle.ados_tree.specs.Stands.{Stands};
-ghost use Rattle.ados_packet.specs.Numbers.{action_number, error_number};
 ghost use Rattle.ados_packet.specs.declared.packet.Packet.TheVariants.{Read, Seek, Write};
-ghost use Rattle.ados_handler.specs.Handler.{HandlerGives};
+ghost use Rattle.ados_handler.specs.steps.Methods.{MethodGives};
 ghost use Rattle.ados_handler.specs.steps.Files.{IsUnwritten, IsWritten};
 
 use crate::handler::Handler;
+use crate::results::Results;
 use crate::target::{number_within, target_of};
 use ados_name::Date3;
-use ados_packet::{Action, Answer, Body, Buffer, DosError};
+use ados_packet::{Body, Buffer, DosError};
 use ados_volume::{Full, Volume};
 
 impl Handler {
     /// SEEK. The answer is the position before it.
-    pub(crate) fn seek(&mut self, handle: u32, offset: i32, mode: i32) -> Answer
-        ensures gives { (now : Moment) → HandlerGives self.old (Seek handle offset mode) now self.new result }
+    pub(crate) fn seek(&mut self, handle: u32, offset: i32, mode: i32) -> Results
+        ensures gives { (now : Moment) → MethodGives self.old (Seek handle offset mode) now self.new result }
     {
         if self.died {
-            return failed(Action::Seek, DosError::DeviceNotMounted, Body::Empty);
+            return Results::failed(DosError::DeviceNotMounted, Body::Empty);
         }
         let Some(hold) = self.hold_of(handle) else {
-            return failed(Action::Seek, DosError::InvalidLock, Body::Empty);
+            return Results::failed(DosError::InvalidLock, Body::Empty);
         };
         let size = self.file_size(hold.key);
         let target = target_of(hold.position, size, offset, mode);
         let Some(position) = number_within(target, size) else {
-            return failed(Action::Seek, DosError::SeekError, Body::Empty);
+            return Results::failed(DosError::SeekError, Body::Empty);
         };
         self.handles.set_position(handle, position);
-        counted(Action::Seek, hold.position, Body::Empty)
+        Results::counted(hold.position, Body::Empty)
     }
 
     /// READ.
-    pub(crate) fn read(&mut self, handle: u32, buffer: Buffer) -> Answer
-        ensures gives { (now : Moment) → HandlerGives self.old (Read handle buffer) now self.new result }
+    pub(crate) fn read(&mut self, handle: u32, buffer: Buffer) -> Results
+        ensures gives { (now : Moment) → MethodGives self.old (Read handle buffer) now self.new result }
     {
         if self.died {
-            return failed(
-                Action::Read,
-                DosError::DeviceNotMounted,
-                Body::Buffer(buffer),
-            );
+            return Results::failed(DosError::DeviceNotMounted, Body::Buffer(buffer));
         }
         let Some(hold) = self.hold_of(handle) else {
-            return failed(Action::Read, DosError::InvalidLock, Body::Buffer(buffer));
+            return Results::failed(DosError::InvalidLock, Body::Buffer(buffer));
         };
         if self.file_protection(hold.key).denies_read() {
-            return failed(Action::Read, DosError::ReadProtected, Body::Buffer(buffer));
+            return Results::failed(DosError::ReadProtected, Body::Buffer(buffer));
         }
         let mut bytes = buffer.into_vec();
         let count = read_some(&self.volume, hold.key, hold.position, &mut bytes);
         self.handles.set_position(handle, hold.position + count);
-        counted(Action::Read, count, Body::Buffer(Buffer::from_vec(bytes)))
+        Results::counted(count, Body::Buffer(Buffer::from_vec(bytes)))
     }
 
     /// WRITE, of all the bytes or of none.
-    pub(crate) fn write(&mut self, handle: u32, bytes: Buffer, now: Date3) -> Answer
-        ensures { HandlerGives self.old (Write handle bytes) now self.new result }
+    pub(crate) fn write(&mut self, handle: u32, bytes: Buffer, now: Date3) -> Results
+        ensures { MethodGives self.old (Write handle bytes) now self.new result }
     {
         if self.died {
-            return failed(
-                Action::Write,
-                DosError::DeviceNotMounted,
-                Body::Buffer(bytes),
-            );
+            return Results::failed(DosError::DeviceNotMounted, Body::Buffer(bytes));
         }
         let Some(hold) = self.hold_of(handle) else {
-            return failed(Action::Write, DosError::InvalidLock, Body::Buffer(bytes));
+            return Results::failed(DosError::InvalidLock, Body::Buffer(bytes));
         };
         if self.file_protection(hold.key).denies_write() {
-            return failed(Action::Write, DosError::WriteProtected, Body::Buffer(bytes));
+            return Results::failed(DosError::WriteProtected, Body::Buffer(bytes));
         }
         let written = write_some(
             &mut self.volume,
@@ -85,10 +77,10 @@ impl Handler {
             now,
         );
         let Ok(end) = written else {
-            return failed(Action::Write, DosError::DiskFull, Body::Buffer(bytes));
+            return Results::failed(DosError::DiskFull, Body::Buffer(bytes));
         };
         self.handles.set_position(handle, end);
-        counted(Action::Write, end - hold.position, Body::Buffer(bytes))
+        Results::counted(end - hold.position, Body::Buffer(bytes))
     }
 }
 
@@ -125,29 +117,4 @@ fn write_some(
     }
     volume.write(key, position as u64, bytes, now)?;
     Ok(position + bytes.len() as u32)
-}
-
-/// A refusal of a packet that else answers a count or a position: its first result is -1.
-fn failed(action: Action, error: DosError, body: Body) -> Answer
-    ensures { result ≡ record { action = action_number action; res1 = negsuc 0; res2 = pos (error_number error); body = body } }
-{
-    Answer {
-        action: action.number(),
-        res1: -1,
-        res2: error.number(),
-        body,
-    }
-}
-
-/// A success with a count or a position.
-fn counted(action: Action, count: u32, body: Body) -> Answer
-    requires { count ≤ 52020224 }
-    ensures { result ≡ record { action = action_number action; res1 = pos count; res2 = pos 0; body = body } }
-{
-    Answer {
-        action: action.number(),
-        res1: count as i32,
-        res2: 0,
-        body,
-    }
 }

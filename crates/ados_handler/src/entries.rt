@@ -6,61 +6,62 @@ ghost use Rattle.ados_tree.specs.Tree.{Tree, entries};
 ghost use Rattle.ados_tree.specs.Stands.{Stands};
 ghost use Rattle.ados_packet.specs.declared.packet.Packet.TheVariants.{CreateDir, DeleteObject};
 ghost use Rattle.ados_handler.specs.Refusals.{is_empty};
-ghost use Rattle.ados_handler.specs.Handler.{HandlerGives};
+ghost use Rattle.ados_handler.specs.steps.Methods.{MethodGives};
 
 use crate::handler::Handler;
 use crate::holds::LockHold;
+use crate::results::Results;
 use ados_name::{Date3, PathText};
-use ados_packet::{Action, Answer, Body, DosError};
+use ados_packet::{Body, DosError};
 use ados_volume::{Next, NodeKind};
 
 impl Handler {
     /// DELETE_OBJECT.
-    pub(crate) fn delete_object(&mut self, lock: u32, path: PathText, now: Date3) -> Answer
-        ensures { HandlerGives self.old (DeleteObject lock path) now self.new result }
+    pub(crate) fn delete_object(&mut self, lock: u32, path: PathText, now: Date3) -> Results
+        ensures { MethodGives self.old (DeleteObject lock path) now self.new result }
     {
         if self.died {
-            return Answer::refused(Action::DeleteObject, DosError::DeviceNotMounted);
+            return Results::refused(DosError::DeviceNotMounted);
         }
         let key = match self.walked(lock, &path) {
             Ok(key) => key,
-            Err(error) => return Answer::refused(Action::DeleteObject, error),
+            Err(error) => return Results::refused(error),
         };
         if key == self.volume.root() {
-            return Answer::refused(Action::DeleteObject, DosError::ObjectWrongType);
+            return Results::refused(DosError::ObjectWrongType);
         }
         if self.is_held(key) {
-            return Answer::refused(Action::DeleteObject, DosError::ObjectInUse);
+            return Results::refused(DosError::ObjectInUse);
         }
         if self.has_entries(key) {
-            return Answer::refused(Action::DeleteObject, DosError::DirectoryNotEmpty);
+            return Results::refused(DosError::DirectoryNotEmpty);
         }
         if self.volume.examine(key).protection.denies_delete() {
-            return Answer::refused(Action::DeleteObject, DosError::DeleteProtected);
+            return Results::refused(DosError::DeleteProtected);
         }
         self.volume.remove(key, now);
-        Answer::done(Action::DeleteObject, Body::Empty)
+        Results::done(Body::Empty)
     }
 
     /// CREATE_DIR. The new lock is exclusive.
-    pub(crate) fn create_dir(&mut self, lock: u32, path: PathText, now: Date3) -> Answer
-        ensures { HandlerGives self.old (CreateDir lock path) now self.new result }
+    pub(crate) fn create_dir(&mut self, lock: u32, path: PathText, now: Date3) -> Results
+        ensures { MethodGives self.old (CreateDir lock path) now self.new result }
     {
         if self.died {
-            return Answer::refused(Action::CreateDir, DosError::DeviceNotMounted);
+            return Results::refused(DosError::DeviceNotMounted);
         }
         let (dir, name) = match self.placed(lock, &path) {
             Ok(found) => found,
-            Err(error) => return Answer::refused(Action::CreateDir, error),
+            Err(error) => return Results::refused(error),
         };
         if self.volume.child(dir, &name).is_some() {
-            return Answer::refused(Action::CreateDir, DosError::ObjectExists);
+            return Results::refused(DosError::ObjectExists);
         }
         if !self.has_room() {
-            return Answer::refused(Action::CreateDir, DosError::DiskFull);
+            return Results::refused(DosError::DiskFull);
         }
         if self.locks.reserve().is_err() {
-            return Answer::refused(Action::CreateDir, DosError::NoFreeStore);
+            return Results::refused(DosError::NoFreeStore);
         }
         let Ok(key) = self.volume.create(dir, name, NodeKind::Directory, now) else {
             unreachable!()
@@ -69,12 +70,7 @@ impl Handler {
             key,
             exclusive: true,
         });
-        Answer {
-            action: Action::CreateDir.number(),
-            res1: number as i32,
-            res2: 0,
-            body: Body::Empty,
-        }
+        Results::counted(number, Body::Empty)
     }
 
     /// Whether the object is a directory with entries.

@@ -17,6 +17,7 @@ mod moves;
 mod objects;
 mod outputs;
 mod positions;
+mod results;
 mod serve;
 mod set_size;
 mod table;

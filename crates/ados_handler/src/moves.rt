@@ -6,11 +6,12 @@ ghost use Rattle.ados_tree.specs.Tree.{Tree};
 ghost use Rattle.ados_tree.specs.Stands.{Stands};
 ghost use Rattle.ados_tree.specs.Keys.{HasDirectory, HasKey};
 ghost use Rattle.ados_handler.specs.steps.Moves.{move_refusal, source_and_place};
-ghost use Rattle.ados_handler.specs.Handler.{HandlerGives};
+ghost use Rattle.ados_handler.specs.steps.Methods.{MethodGives};
 
 use crate::handler::Handler;
+use crate::results::Results;
 use ados_name::{Date3, Name, PathText};
-use ados_packet::{Action, Answer, Body, DosError};
+use ados_packet::{Body, DosError};
 
 impl Handler {
     /// RENAME_OBJECT. Protection isn't looked at.
@@ -21,22 +22,22 @@ impl Handler {
         to_lock: u32,
         to: PathText,
         now: Date3,
-    ) -> Answer
-        ensures { HandlerGives self.old (RenameObject from_lock from to_lock to) now self.new result }
+    ) -> Results
+        ensures { MethodGives self.old (RenameObject from_lock from to_lock to) now self.new result }
     {
         if self.died {
-            return Answer::refused(Action::RenameObject, DosError::DeviceNotMounted);
+            return Results::refused(DosError::DeviceNotMounted);
         }
         let (key, (dir, name)) = match self.source_and_place(from_lock, &from, to_lock, &to) {
             Ok(found) => found,
-            Err(error) => return Answer::refused(Action::RenameObject, error),
+            Err(error) => return Results::refused(error),
         };
         if let Some(error) = self.move_refusal(key, dir, &name) {
-            return Answer::refused(Action::RenameObject, error);
+            return Results::refused(error);
         }
         prove!(to.bytes().len() <= PathText::MAX_LEN);
         self.volume.rename(key, dir, name, now);
-        Answer::done(Action::RenameObject, Body::Empty)
+        Results::done(Body::Empty)
     }
 
     /// The object that is to move, with the directory and the name that it is to get, or the DOS error.

@@ -5,100 +5,93 @@ ghost use Rattle.ados_tree.specs.Tree.{Tree};
 ghost use Rattle.ados_tree.specs.Keys.{HasDirectory, HasKey};
 ghost use Rattle.ados_tree.specs.Stands.{Stands};
 ghost use Rattle.ados_tree.specs.Walk.{child_of};
-ghost use Rattle.ados_packet.specs.Numbers.{action_number};
 ghost use Rattle.ados_packet.specs.declared.packet.Packet.TheVariants.{FindOutput, FindUpdate};
-ghost use Rattle.ados_handler.specs.Handler.{HandlerGives};
+ghost use Rattle.ados_handler.specs.steps.Methods.{MethodGives};
 ghost use Rattle.ados_handler.specs.steps.Opening.{Opens, OpensEmptied, make_refusals};
 ghost use Rattle.ados_handler.specs.Success.{MakesFile};
 
 use crate::files::opened;
 use crate::handler::Handler;
+use crate::results::Results;
 use ados_name::{Date3, Name, PathText};
-use ados_packet::{Action, Answer, DosError};
+use ados_packet::DosError;
 use ados_volume::NodeKind;
 
 impl Handler {
     /// FINDUPDATE.
-    pub(crate) fn find_update(&mut self, lock: u32, path: PathText, now: Date3) -> Answer
-        ensures { HandlerGives self.old (FindUpdate lock path) now self.new result }
+    pub(crate) fn find_update(&mut self, lock: u32, path: PathText, now: Date3) -> Results
+        ensures { MethodGives self.old (FindUpdate lock path) now self.new result }
     {
         if self.died {
-            return Answer::refused(Action::FindUpdate, DosError::DeviceNotMounted);
+            return Results::refused(DosError::DeviceNotMounted);
         }
         let (dir, name) = match self.placed(lock, &path) {
             Ok(found) => found,
-            Err(error) => return Answer::refused(Action::FindUpdate, error),
+            Err(error) => return Results::refused(error),
         };
         match self.volume.child(dir, &name) {
-            Some(key) => self.open_file(Action::FindUpdate, key),
-            None => self.make_file(Action::FindUpdate, dir, name, false, now),
+            Some(key) => self.open_file(key),
+            None => self.make_file(dir, name, false, now),
         }
     }
 
     /// FINDOUTPUT.
-    pub(crate) fn find_output(&mut self, lock: u32, path: PathText, now: Date3) -> Answer
-        ensures { HandlerGives self.old (FindOutput lock path) now self.new result }
+    pub(crate) fn find_output(&mut self, lock: u32, path: PathText, now: Date3) -> Results
+        ensures { MethodGives self.old (FindOutput lock path) now self.new result }
     {
         if self.died {
-            return Answer::refused(Action::FindOutput, DosError::DeviceNotMounted);
+            return Results::refused(DosError::DeviceNotMounted);
         }
         let (dir, name) = match self.placed(lock, &path) {
             Ok(found) => found,
-            Err(error) => return Answer::refused(Action::FindOutput, error),
+            Err(error) => return Results::refused(error),
         };
         match self.volume.child(dir, &name) {
             Some(key) => self.empty_file(key, now),
-            None => self.make_file(Action::FindOutput, dir, name, true, now),
+            None => self.make_file(dir, name, true, now),
         }
     }
 
-    /// The answer of FINDOUTPUT with an exclusive handle on a file, which is emptied.
-    fn empty_file(&mut self, key: u32, now: Date3) -> Answer
+    /// An exclusive handle on a file that is there, which is emptied.
+    fn empty_file(&mut self, key: u32, now: Date3) -> Results
         requires { HasKey self.old.image key }
         ensures { OpensEmptied key now self.old self.new result }
     {
         if !self.volume.is_file(key) {
-            return Answer::refused(Action::FindOutput, DosError::ObjectWrongType);
+            return Results::refused(DosError::ObjectWrongType);
         }
         if self.is_in_use(key, true) {
-            return Answer::refused(Action::FindOutput, DosError::ObjectInUse);
+            return Results::refused(DosError::ObjectInUse);
         }
         let protection = self.file_protection(key);
         if protection.denies_delete() {
-            return Answer::refused(Action::FindOutput, DosError::DeleteProtected);
+            return Results::refused(DosError::DeleteProtected);
         }
         if protection.denies_write() {
-            return Answer::refused(Action::FindOutput, DosError::WriteProtected);
+            return Results::refused(DosError::WriteProtected);
         }
         if self.handles.reserve().is_err() {
-            return Answer::refused(Action::FindOutput, DosError::NoFreeStore);
+            return Results::refused(DosError::NoFreeStore);
         }
         self.volume.cut(key, 0, now);
-        opened(&mut self.handles, Action::FindOutput, key, true)
+        opened(&mut self.handles, key, true)
     }
 
-    /// The answer with a handle on a new file, under a name that its directory does not have.
-    fn make_file(
-        &mut self,
-        action: Action,
-        dir: u32,
-        name: Name,
-        exclusive: bool,
-        now: Date3,
-    ) -> Answer
+    /// A handle on a new file, under a name that its directory does not have.
+    fn make_file(&mut self, dir: u32, name: Name, exclusive: bool, now: Date3) -> Results
         requires directory { HasDirectory self.old.image dir }
         requires new_name { (t : Tree) → Stands self.old.image t → child_of t dir name ≡ None }
-        ensures { Opens (action_number action) make_refusals (λ t left. MakesFile t self.old.session dir name exclusive now left) self.old self.new result }
+        ensures { Opens make_refusals (λ t left. MakesFile t self.old.session dir name exclusive now left) self.old self.new result }
     {
         if !self.has_room() {
-            return Answer::refused(action, DosError::DiskFull);
+            return Results::refused(DosError::DiskFull);
         }
         if self.handles.reserve().is_err() {
-            return Answer::refused(action, DosError::NoFreeStore);
+            return Results::refused(DosError::NoFreeStore);
         }
         let Ok(key) = self.volume.create(dir, name, NodeKind::File, now) else {
             unreachable!()
         };
-        opened(&mut self.handles, action, key, exclusive)
+        opened(&mut self.handles, key, exclusive)
     }
 }

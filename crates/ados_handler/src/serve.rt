@@ -1,57 +1,45 @@
 //! The handler as a server of packets.
 
+ghost use Rattle.std.specs.Prelude.{ℤ};
 ghost use Rattle.ados_name.specs.declared.Date3.{Date3 as Moment};
 ghost use Rattle.ados_packet.specs.declared.packet.Packet.TheVariants.{Die, Other};
-ghost use Rattle.ados_handler.specs.Handler.{HandlerGives};
+ghost use Rattle.ados_handler.specs.steps.Methods.{MethodGives};
 
 use crate::handler::Handler;
+use crate::results::Results;
 use ados_name::Date3;
 use ados_packet::{Action, Answer, Body, DosError, Packet};
 use port_history::Server;
 
 impl Handler {
     /// DIE, which waits until nothing is held.
-    pub(crate) fn die(&mut self) -> Answer
-        ensures gives { (now : Moment) → HandlerGives self.old Die now self.new result }
+    pub(crate) fn die(&mut self) -> Results
+        ensures gives { (now : Moment) → MethodGives self.old Die now self.new result }
     {
         if self.died {
-            return Answer::refused(Action::Die, DosError::DeviceNotMounted);
+            return Results::refused(DosError::DeviceNotMounted);
         }
         if !self.locks.is_empty() || !self.handles.is_empty() {
-            return Answer::refused(Action::Die, DosError::ObjectInUse);
+            return Results::refused(DosError::ObjectInUse);
         }
         self.died = true;
-        Answer::done(Action::Die, Body::Empty)
+        Results::done(Body::Empty)
     }
 
     /// A packet whose action is not known.
-    pub(crate) fn unknown(&self, action: i32) -> Answer
-        ensures { (now : Moment) → HandlerGives self.now (Other action) now self.now result }
+    pub(crate) fn unknown(&self) -> Results
+        ensures { (action : ℤ) (now : Moment) → MethodGives self.now (Other action) now self.now result }
     {
         if self.died {
-            return Answer::refused(Action::Other(action), DosError::DeviceNotMounted);
+            return Results::refused(DosError::DeviceNotMounted);
         }
-        Answer::refused(Action::Other(action), DosError::ActionNotKnown)
+        Results::refused(DosError::ActionNotKnown)
     }
-}
 
-impl Server for Handler {
-    ghost use Rattle.ados_handler.specs.Meaning.{is_closing};
-    ghost use Rattle.ados_handler.specs.steps.Closes.{serves_dead, serves_closing};
-
-    type Request = Packet;
-
-    type Reply = Answer;
-
-    type Moment = Date3;
-
-    ghost gives = { HandlerGives };
-
-    ghost has_died = { λ handler. handler.session.died };
-
-    ghost is_closing = { is_closing };
-
-    fn serve(&mut self, packet: Packet, now: Date3) -> Answer {
+    /// What the method of a packet comes to. The answer is that of the packet's action.
+    fn results_of(&mut self, packet: Packet, now: Date3) -> Results
+        ensures { MethodGives self.old packet now self.new result }
+    {
         match packet {
             Packet::Die => self.die(),
             Packet::LocateObject { lock, path, mode } => self.locate_object(lock, path, mode),
@@ -95,8 +83,31 @@ impl Server for Handler {
                 offset,
                 mode,
             } => self.set_file_size(handle, offset, mode, now),
-            Packet::Other { action } => self.unknown(action),
+            Packet::Other { .. } => self.unknown(),
         }
+    }
+}
+
+impl Server for Handler {
+    ghost use Rattle.ados_handler.specs.Handler.{HandlerGives};
+    ghost use Rattle.ados_handler.specs.Meaning.{is_closing};
+    ghost use Rattle.ados_handler.specs.steps.Closes.{serves_dead, serves_closing};
+
+    type Request = Packet;
+
+    type Reply = Answer;
+
+    type Moment = Date3;
+
+    ghost gives = { HandlerGives };
+
+    ghost has_died = { λ handler. handler.session.died };
+
+    ghost is_closing = { is_closing };
+
+    fn serve(&mut self, packet: Packet, now: Date3) -> Answer {
+        let action = packet.action();
+        self.results_of(packet, now).to(action)
     }
 
     fn died(&self) -> bool {

@@ -6,13 +6,14 @@ ghost use Rattle.ados_tree.specs.Stands.{Stands};
 ghost use Rattle.ados_tree.specs.Keys.{HasFileKey};
 ghost use Rattle.ados_tree.specs.Kept.{Kept};
 ghost use Rattle.ados_packet.specs.declared.packet.Packet.TheVariants.{SetFileSize};
-ghost use Rattle.ados_handler.specs.Handler.{HandlerGives};
+ghost use Rattle.ados_handler.specs.steps.Methods.{MethodGives};
 ghost use Rattle.ados_handler.specs.steps.Files.{IsResized, IsUnresized};
 
 use crate::handler::Handler;
+use crate::results::Results;
 use crate::target::{number_within, target_of};
 use ados_name::Date3;
-use ados_packet::{Action, Answer, Body, DosError};
+use ados_packet::{Body, DosError};
 use ados_tree::Full;
 use ados_volume::Volume;
 
@@ -27,29 +28,29 @@ impl Handler {
         offset: i32,
         mode: i32,
         now: Date3,
-    ) -> Answer
-        ensures { HandlerGives self.old (SetFileSize handle offset mode) now self.new result }
+    ) -> Results
+        ensures { MethodGives self.old (SetFileSize handle offset mode) now self.new result }
     {
         if self.died {
-            return Answer::refused(Action::SetFileSize, DosError::DeviceNotMounted);
+            return Results::refused(DosError::DeviceNotMounted);
         }
         let Some(hold) = self.hold_of(handle) else {
-            return Answer::refused(Action::SetFileSize, DosError::InvalidLock);
+            return Results::refused(DosError::InvalidLock);
         };
         if self.file_protection(hold.key).denies_write() {
-            return Answer::refused(Action::SetFileSize, DosError::WriteProtected);
+            return Results::refused(DosError::WriteProtected);
         }
         let held = self.file_size(hold.key);
         let target = target_of(hold.position, held, offset, mode);
         let Some(size) = number_within(target, LARGEST) else {
-            return Answer::refused(Action::SetFileSize, DosError::SeekError);
+            return Results::refused(DosError::SeekError);
         };
         match resize(&mut self.volume, hold.key, held, size, now) {
             Ok(()) => {}
-            Err(Full) => return Answer::refused(Action::SetFileSize, DosError::DiskFull),
+            Err(Full) => return Results::refused(DosError::DiskFull),
         }
         self.handles.keep_within(hold.key, size);
-        Answer::done(Action::SetFileSize, Body::Empty)
+        Results::done(Body::Empty)
     }
 }
 

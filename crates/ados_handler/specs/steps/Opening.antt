@@ -1,5 +1,5 @@
 -- How files are opened: one that is there, one that is emptied, and one that is made.
-use Rattle.std.specs.Prelude.{◌≡◌, ◌⊎◌, ℕ, ℤ, pos, Bool, true, false, not, List, [], ◌∷◌, Option, MatchOption}
+use Rattle.std.specs.Prelude.{◌≡◌, ◌⊎◌, ℕ, pos, Bool, true, false, not, List, [], ◌∷◌, Option, MatchOption}
 use Rattle.std.specs.Ordering.{nat_cmp}
 use Rattle.std.specs.FinMap as numbered
 use Rattle.adf_block.specs.Image.{bytes_at}
@@ -11,11 +11,9 @@ use Rattle.ados_tree.specs.Stands.{Stands}
 use Rattle.ados_tree.specs.Walk.{is_file}
 use Rattle.ados_packet.specs.declared.dos_error.DosError.{DosError}
 use Rattle.ados_packet.specs.declared.dos_error.DosError.TheVariants.{DeleteProtected, DiskFull, NoFreeStore, ObjectInUse, ObjectWrongType, WriteProtected}
-use Rattle.ados_packet.specs.declared.action.Action.{Action}
-use Rattle.ados_packet.specs.declared.action.Action.TheVariants.{FindOutput}
-use Rattle.ados_packet.specs.Numbers.{action_number, error_number}
+use Rattle.ados_packet.specs.Numbers.{error_number}
 use Rattle.ados_packet.specs.Packet.{dos_true, dos_false}
-use Rattle.ados_packet.specs.declared.answer.Answer.{Answer}
+use Rattle.ados_handler.specs.declared.results.Results.{Results}
 use Rattle.ados_packet.specs.declared.answer.Body.TheVariants.{Empty, Handle}
 use Rattle.ados_handler.specs.declared.holds.HandleHold.{HandleHold}
 use Rattle.ados_handler.specs.Session.{Session, IsFreeNumber, is_in_use}
@@ -47,39 +45,38 @@ make_refusals t =
     ∷ []
 
 -- no handle, for this reason, and nothing changes
-pub record IsUnopened (action : ℤ) (error : DosError) (old new : HandlerState) (answer : Answer) : Type 0 where
+pub record IsUnopened (error : DosError) (old new : HandlerState) (results : Results) : Type 0 where
   pub same : new ≡ old
-  pub answered : answer ≡ record { action = action; res1 = dos_false; res2 = pos (error_number error); body = Empty }
+  pub told : results ≡ record { res1 = dos_false; res2 = pos (error_number error); body = Empty }
 
 -- a handle, and what is left beside it
-pub record IsOpened (asked : ℤ) (gives : After → Type 0) (old new : HandlerState) (answer : Answer) : Type 0 where
+pub record IsOpened (gives : After → Type 0) (old new : HandlerState) (results : Results) : Type 0 where
   pub tree : Tree
   pub stands : Stands new.image tree
-  pub success : gives (after tree new.session answer.res1 answer.body)
-  pub action : answer.action ≡ asked
-  pub res2 : answer.res2 ≡ pos 0
+  pub success : gives (after tree new.session results.res1 results.body)
+  pub res2 : results.res2 ≡ pos 0
   pub boot : bytes_at new.image 0 0 1024 ≡ bytes_at old.image 0 0 1024
   pub validated : new.was_validated ≡ old.was_validated
 
 -- a handle where none of these refuses it, but for want of memory
-pub record Opens (action : ℤ) (refusals : Tree → List (Option DosError)) (gives : Tree → After → Type 0) (old new : HandlerState) (answer : Answer) : Type 0 where
+pub record Opens (refusals : Tree → List (Option DosError)) (gives : Tree → After → Type 0) (old new : HandlerState) (results : Results) : Type 0 where
   pub tree : Tree
   pub stood : Stands old.image tree
-  pub means : MatchOption (first_refusal (refusals tree)) (IsOpened action (gives tree) old new answer ⊎ IsUnopened action NoFreeStore old new answer) (λ error. IsUnopened action error old new answer)
+  pub means : MatchOption (first_refusal (refusals tree)) (IsOpened (gives tree) old new results ⊎ IsUnopened NoFreeStore old new results) (λ error. IsUnopened error old new results)
 
 -- a shared handle on an object that is there
-abbrev pub OpensShared : Action → ℕ → HandlerState → HandlerState → Answer → Type 0
-OpensShared action key old new answer =
-    Opens (action_number action) (open_refusals old.session key) (λ t left. GivesHandle t old.session key false left) old new answer
+abbrev pub OpensShared : ℕ → HandlerState → HandlerState → Results → Type 0
+OpensShared key old new results =
+    Opens (open_refusals old.session key) (λ t left. GivesHandle t old.session key false left) old new results
 
 -- an exclusive handle on an object that is there, which is emptied
-abbrev pub OpensEmptied : ℕ → Date3 → HandlerState → HandlerState → Answer → Type 0
-OpensEmptied key now old new answer =
-    Opens (action_number FindOutput) (empty_refusals old.session key) (λ t left. GivesHandle (rewritten now key [] t) old.session key true left) old new answer
+abbrev pub OpensEmptied : ℕ → Date3 → HandlerState → HandlerState → Results → Type 0
+OpensEmptied key now old new results =
+    Opens (empty_refusals old.session key) (λ t left. GivesHandle (rewritten now key [] t) old.session key true left) old new results
 
--- a handle more, at the beginning of a file, and the answer that names it
-pub record AnswersHandle (action : ℤ) (key : ℕ) (exclusive : Bool) (old new : numbered.FinMap nat_cmp HandleHold) (answer : Answer) : Type 0 where
+-- a handle more, at the beginning of a file, and the results that name it
+pub record BringsHandle (key : ℕ) (exclusive : Bool) (old new : numbered.FinMap nat_cmp HandleHold) (results : Results) : Type 0 where
   pub number : ℕ
   pub free : IsFreeNumber old number
   pub added : new ≡ numbered.insert old number (record { key = key; position = 0; exclusive = exclusive })
-  pub answered : answer ≡ record { action = action; res1 = dos_true; res2 = pos 0; body = Handle number }
+  pub told : results ≡ record { res1 = dos_true; res2 = pos 0; body = Handle number }

@@ -1,9 +1,8 @@
-use Rattle.std.proofs.Common.{◌≡◌, ◌<◌, ◌^◌, [], pos, w32, not, true, sym, ap, ◌∙◌, subst, refl, arith, rules, of_z, to_z}
+use Rattle.std.proofs.Common.{◌≡◌, [], not, true, sym, ap, ◌∙◌, subst, refl, rules}
 use Rattle.std.specs.Prelude.{is_some}
 use Rattle.std.specs.FinMap.{FinMap, insert}
 use Rattle.std.specs.Ordering.{nat_cmp}
 use Rattle.std.proofs.lemmas.Bool.{true≢false}
-use Rattle.std.proofs.lemmas.Int.{to_z_pos}
 use Rattle.ados_name.specs.Name.{IsName}
 use Rattle.ados_tree.specs.Tree.Content.{Directory}
 use Rattle.ados_tree.specs.Stands.{Stands}
@@ -11,13 +10,12 @@ use Rattle.ados_tree.specs.Kept.{Kept}
 use Rattle.ados_tree.specs.Change.{made}
 use Rattle.ados_volume.specs.Shown.{Shown}
 use Rattle.ados_packet.specs.declared.packet.Packet.TheVariants.{CreateDir}
-use Rattle.ados_packet.specs.declared.answer.Answer.{Answer}
-use Rattle.ados_packet.specs.declared.answer.Body.TheVariants.{Empty}
+use Rattle.ados_handler.specs.declared.results.Results.{Results}
 use Rattle.ados_handler.specs.Session.{Session, IsFreeNumber, with_lock}
-use Rattle.ados_handler.specs.Meaning.{Meaning}
 use Rattle.ados_handler.specs.declared.holds.LockHold.{LockHold}
 use Rattle.ados_handler.specs.Objects.{lacks}
 use Rattle.ados_handler.specs.Handler.{HandlerState}
+use Rattle.ados_handler.specs.steps.Methods.{MethodMeans}
 use Rattle.ados_handler.proofs.Leaving.{leaves_boot}
 use Rattle.ados_handler.proofs.FreeBlock.{can_make_new, new_key, none_free_lacks, not_lacking}
 use Rattle.ados_handler.proofs.MakingDirectory.{create_dir_means, create_dir_passes, create_dir_sound}
@@ -88,19 +86,16 @@ returns c =
     let new : Session = record { locks = c.insert_reserved-number.new.self.held; handles = c.self-2.inside.handles.held; died = c.self-2.inside.died } in
     let more = c.insert_reserved-number.ensures.held ∙ ap (λ (m : FinMap nat_cmp LockHold). insert m number (record { key = key; exclusive = true })) locks in
     let is : new ≡ with_lock number key true s = λ i. record { locks = more i; handles = (kept i).handles; died = (kept i).died } in
-    let small : number < 2 ^ 31 = omega (arith, free.1) in
     let u = made c.args.now there.0 key there.1 (Directory []) t in
-    let answer : Answer = record { action = to_z w32 (of_z w32 c.number.result); res1 = to_z w32 number; res2 = pos 0; body = Empty } in
-    let told : ◌≡◌ {A = Answer} (record { action = pos 22; res1 = pos number; res2 = pos 0; body = Empty }) answer = λ i. record { action = to_z w32 (of_z w32 (sym c.number.ensures i)); res1 = sym (to_z_pos w32 number small) i; res2 = pos 0; body = Empty } in
     let kept_image = subst (λ (v : Shown). Kept v.image c.create.new.self.image) c.child.ensures.same c.create.ensures.kept in
     record {
       old_tree = t;
       new_tree = u;
       stood = stood;
       stands = c.in-Ok-create.ensures.done.1 t stands;
-      means = subst (λ (a : Answer). Meaning t s (CreateDir c.args.lock c.args.path) c.args.now u new a) told
+      means = subst (λ (r : Results). MethodMeans t s (CreateDir c.args.lock c.args.path) c.args.now u new r) (sym c.counted.ensures)
           (create_dir_means t s new c.args.now there key number fresh free is c.args.lock c.args.path alive place none room);
-      leaves = leaves_boot t c.args.self.now (CreateDir c.args.lock c.args.path) _ answer (subst (λ (h : HandlerState). Kept h.image c.create.new.self.image) same kept_image) refl refl;
+      leaves = leaves_boot t c.args.self.now (CreateDir c.args.lock c.args.path) _ c.counted.result (subst (λ (h : HandlerState). Kept h.image c.create.new.self.image) same kept_image) (ap (λ (r : Results). r.res2) c.counted.ensures) refl;
       validated = c.create.ensures.validated ∙ ap (λ (v : Shown). v.was_validated) c.child.ensures.same ∙ ap (λ (h : HandlerState). h.was_validated) same;
     }
 

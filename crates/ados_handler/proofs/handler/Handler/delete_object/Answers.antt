@@ -6,11 +6,11 @@ use Rattle.ados_tree.specs.Change.{removed}
 use Rattle.ados_tree.proofs.Nodes.{some_in}
 use Rattle.ados_packet.specs.declared.dos_error.DosError.TheVariants.{DeleteProtected}
 use Rattle.ados_packet.specs.declared.packet.Packet.TheVariants.{DeleteObject}
-use Rattle.ados_packet.specs.declared.answer.Answer.{Answer}
+use Rattle.ados_handler.specs.declared.results.Results.{Results}
 use Rattle.ados_handler.specs.Session.{Session, is_held}
 use Rattle.ados_handler.specs.Refusals.{first_refusal, is_empty, refuse}
-use Rattle.ados_handler.specs.Meaning.{Meaning}
 use Rattle.ados_handler.specs.Handler.{HandlerState, IsSoundHandler}
+use Rattle.ados_handler.specs.steps.Methods.{MethodMeans, answer_to}
 use Rattle.ados_handler.proofs.Reading.{from_not}
 use Rattle.ados_handler.proofs.Leaving.{leaves_all, leaves_boot}
 use Rattle.ados_handler.proofs.Meant.{sound_after}
@@ -49,7 +49,7 @@ returns-then-denies_delete c =
       stood = stood;
       stands = stands;
       means = refused_means t c.args.self.now.session c.walked.new.self.session (DeleteObject c.args.lock c.args.path) c.args.now c.refused-then-denies_delete.result DeleteProtected some
-          (record { tree = refl; session = ap (λ (h : HandlerState). h.session) c.walked.ensures.same; answered = c.refused-then-denies_delete.ensures });
+          (record { tree = refl; session = ap (λ (h : HandlerState). h.session) c.walked.ensures.same; answered = ap (answer_to (DeleteObject c.args.lock c.args.path)) c.refused-then-denies_delete.ensures });
       leaves = leaves_all t c.args.self.now (DeleteObject c.args.lock c.args.path) c.walked.new.self c.refused-then-denies_delete.result (ap (λ (h : HandlerState). h.image) c.walked.ensures.same);
       validated = ap (λ (h : HandlerState). h.was_validated) c.walked.ensures.same;
     }
@@ -76,9 +76,9 @@ returns c =
       new_tree = removed c.args.now key t;
       stood = stood;
       stands = c.remove.ensures.stands t opened;
-      means = subst (λ (a : Answer). Meaning t c.args.self.now.session (DeleteObject c.args.lock c.args.path) c.args.now (removed c.args.now key t) held a) (sym c.done.ensures)
+      means = subst (λ (r : Results). MethodMeans t c.args.self.now.session (DeleteObject c.args.lock c.args.path) c.args.now (removed c.args.now key t) held r) (sym c.done.ensures)
           (delete_means t c.args.self.now.session c.args.lock c.args.path key alive walk other free empty c.args.now held allowed kept);
-      leaves = leaves_boot t c.args.self.now (DeleteObject c.args.lock c.args.path) _ c.done.result (subst (λ (h : HandlerState). Kept h.image c.remove.new.self.image) same c.remove.ensures.kept) (ap (λ (a : Answer). a.res2) c.done.ensures) refl;
+      leaves = leaves_boot t c.args.self.now (DeleteObject c.args.lock c.args.path) _ c.done.result (subst (λ (h : HandlerState). Kept h.image c.remove.new.self.image) same c.remove.ensures.kept) (ap (λ (r : Results). r.res2) c.done.ensures) refl;
       validated = c.remove.ensures.validated ∙ ap (λ (h : HandlerState). h.was_validated) same;
     }
 

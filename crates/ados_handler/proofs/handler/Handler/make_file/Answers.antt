@@ -1,10 +1,9 @@
 use Rattle.std.proofs.Common.{rules, ◌≡◌, false, sym, ap, ◌∙◌, subst}
 use Rattle.ados_name.specs.Name.{IsName}
 use Rattle.ados_tree.specs.Stands.{Stands}
-use Rattle.ados_packet.specs.Numbers.{action_number}
 use Rattle.ados_handler.specs.Objects.{lacks}
 use Rattle.ados_handler.specs.Handler.{HandlerState}
-use Rattle.ados_handler.specs.steps.Opening.{AnswersHandle}
+use Rattle.ados_handler.specs.steps.Opening.{BringsHandle}
 use Rattle.ados_handler.proofs.FreeBlock.{none_free_lacks, not_lacking}
 use Rattle.ados_handler.proofs.Holding.{true_false}
 use Rattle.ados_handler.proofs.MakingFile.{can_make_in, made_opens, made_sound}
@@ -25,12 +24,12 @@ pub invariant_of-self-2 : goal.invariant_of-self-2
 invariant_of-self-2 c =
     let valid : IsName c.args.name = search rules in
     let can = can_make_in c.args.self.now.image c.args.dir c.args.name c.requires.directory valid c.requires.new_name _ (ap (λ (h : HandlerState). h.image) c.self.view_is) in
-    made_sound _ _ c.args.dir c.args.name c.args.now c.in-Ok.key c.in-Ok.ensures.done.0 _ c.in-Ok.ensures.done.1 _ c.args.exclusive _ _ _ c.opened.ensures c.reserve.ensures.held c.self.invariant can
+    made_sound _ _ c.args.dir c.args.name c.args.now c.in-Ok.key c.in-Ok.ensures.done.0 _ c.in-Ok.ensures.done.1 c.args.exclusive _ _ _ c.opened.ensures c.reserve.ensures.held c.self.invariant can
 
 pub returns : goal.returns
 returns c =
     let sound = c.self.invariant in
     let room : lacks sound.tree 1 ≡ false = not_lacking _ (sym (c.has_room.ensures sound.tree (subst (λ (h : HandlerState). Stands h.image sound.tree) c.self.view_is sound.stands)) ∙ c.if-not-has_room.false) in
-    let answers : AnswersHandle (action_number c.args.action) c.in-Ok.key c.args.exclusive c.reserve.new.self.held c.opened.new.handles.held c.opened.result = search rules in
-    made_opens _ _ c.args.dir c.args.name c.args.now c.in-Ok.key c.in-Ok.ensures.done.0 _ c.in-Ok.ensures.done.1 (action_number c.args.action) c.args.exclusive _ _ _ answers c.reserve.ensures.held c.args.self.now _ c.self.view_is
+    let brings : BringsHandle c.in-Ok.key c.args.exclusive c.reserve.new.self.held c.opened.new.handles.held c.opened.result = search rules in
+    made_opens _ _ c.args.dir c.args.name c.args.now c.in-Ok.key c.in-Ok.ensures.done.0 _ c.in-Ok.ensures.done.1 c.args.exclusive _ _ _ brings c.reserve.ensures.held c.args.self.now _ c.self.view_is
     sound.tree sound.stands room c.create.ensures.kept _ c.create.ensures.validated

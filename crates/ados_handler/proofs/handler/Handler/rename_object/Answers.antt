@@ -8,11 +8,11 @@ use Rattle.ados_tree.specs.Change.{renamed}
 use Rattle.ados_packet.specs.Numbers.{error_number}
 use Rattle.ados_packet.specs.declared.packet.Packet.{Packet}
 use Rattle.ados_packet.specs.declared.packet.Packet.TheVariants.{RenameObject}
-use Rattle.ados_packet.specs.declared.answer.Answer.{Answer}
+use Rattle.ados_handler.specs.declared.results.Results.{Results}
 use Rattle.ados_packet.specs.declared.answer.Body.TheVariants.{Empty}
 use Rattle.ados_handler.specs.Session.{Session}
-use Rattle.ados_handler.specs.Meaning.{Meaning}
 use Rattle.ados_handler.specs.Handler.{HandlerState, IsSoundHandler}
+use Rattle.ados_handler.specs.steps.Methods.{MethodMeans}
 use Rattle.ados_handler.specs.steps.Moves.{move_refusal}
 use Rattle.ados_handler.proofs.Unlisting.{rename_keeps}
 use Rattle.ados_handler.proofs.Leaving.{leaves_boot}
@@ -27,7 +27,7 @@ returns-in-Err c =
     let stood : Stands old.image t = subst (λ (h : HandlerState). Stands h.image t) c.self.view_is c.self.invariant.stands in
     let alive = sym (ap (λ (h : HandlerState). h.session.died) c.self.view_is) ∙ c.if-self.false in
     let none = sym (c.source_and_place.ensures.found t stood) ∙ c.in-Err.is in
-    let told : ◌≡◌ {A = Answer} c.refused-in-Err.result (record { action = pos 17; res1 = pos 0; res2 = pos (error_number c.in-Err.error); body = Empty }) = search rules in
+    let told : ◌≡◌ {A = Results} c.refused-in-Err.result (record { res1 = pos 0; res2 = pos (error_number c.in-Err.error); body = Empty }) = search rules in
     refused_gives old c.source_and_place.new.self (RenameObject c.args.from_lock c.args.from c.args.to_lock c.args.to) c.args.now c.refused-in-Err.result t c.in-Err.error stood c.source_and_place.ensures.same
     (source_refused t old.session c.args.from_lock c.args.from c.args.to_lock c.args.to alive c.in-Err.error none) told
 
@@ -41,7 +41,7 @@ returns-in-Some c =
     let found = sym (c.source_and_place.ensures.found t stood) ∙ c.in-Ok.is in
     let between : Stands c.source_and_place.new.self.image t = subst (λ (h : HandlerState). Stands h.image t) (sym first) stood in
     let against = ap (λ (h : HandlerState). move_refusal t h.session c.in-Ok.found.0 c.in-Ok.found.1.0 c.in-Ok.found.1.1) (sym first) ∙ sym (c.move_refusal.ensures.refusal t between) ∙ c.in-Some.is in
-    let told : ◌≡◌ {A = Answer} c.refused-in-Some.result (record { action = pos 17; res1 = pos 0; res2 = pos (error_number c.in-Some.error); body = Empty }) = search rules in
+    let told : ◌≡◌ {A = Results} c.refused-in-Some.result (record { res1 = pos 0; res2 = pos (error_number c.in-Some.error); body = Empty }) = search rules in
     refused_gives old c.move_refusal.new.self (RenameObject c.args.from_lock c.args.from c.args.to_lock c.args.to) c.args.now c.refused-in-Some.result t c.in-Some.error stood (c.move_refusal.ensures.same ∙ first)
     (move_refused t old.session c.args.from_lock c.args.from c.args.to_lock c.args.to alive c.in-Ok.found.0 c.in-Ok.found.1 found c.in-Some.error against) told
 
@@ -77,9 +77,9 @@ returns c =
       new_tree = moved;
       stood = stood;
       stands = c.rename.ensures.stands t (subst (λ (h : HandlerState). Stands h.image t) (sym same) stood);
-      means = subst (λ (a : Answer). Meaning t old.session packet c.args.now moved held a) (sym c.done.ensures)
+      means = subst (λ (r : Results). MethodMeans t old.session packet c.args.now moved held r) (sym c.done.ensures)
           (rename_object_means t old.session c.args.from_lock c.args.from c.args.to_lock c.args.to alive c.in-Ok.found.0 c.in-Ok.found.1 found c.args.now held free kept);
-      leaves = leaves_boot t old packet _ c.done.result (subst (λ (h : HandlerState). Kept h.image c.rename.new.self.image) same c.rename.ensures.kept) (ap (λ (a : Answer). a.res2) c.done.ensures) refl;
+      leaves = leaves_boot t old packet _ c.done.result (subst (λ (h : HandlerState). Kept h.image c.rename.new.self.image) same c.rename.ensures.kept) (ap (λ (r : Results). r.res2) c.done.ensures) refl;
       validated = c.rename.ensures.validated ∙ ap (λ (h : HandlerState). h.was_validated) same;
     }
 

@@ -1,5 +1,5 @@
 use Rattle.std.proofs.Common.{rules}
-use Rattle.ados_handler.proofs.serve.HandlerServer.serve.Goals as goal
+use Rattle.ados_handler.proofs.handler.Handler.results_of.Goals as goal
 
 pub returns-in-LocateObject : goal.returns-in-LocateObject
 returns-in-LocateObject c = let gives = c.locate_object.ensures.gives c.args.now in search rules
@@ -8,4 +8,4 @@ pub returns-in-Seek : goal.returns-in-Seek
 returns-in-Seek c = let gives = c.seek.ensures.gives c.args.now in search rules
 
 pub returns-in-Other : goal.returns-in-Other
-returns-in-Other c = let gives = c.unknown.ensures c.args.now in search rules
+returns-in-Other c = let gives = c.unknown.ensures c.in-Other.action c.args.now in search rules
