@@ -1,0 +1,5 @@
+-- Lemmas for the functions of each module, in the order of the definitions.
+mod LettersLemmas
+mod EscapesLemmas
+mod HostLemmas
+mod ProtectionLettersLemmas

@@ -1,0 +1,6 @@
+use Rattle.std.proofs.Common.{◌≡◌, take}
+use Rattle.adf_text.specs.Escapes.{escaped}
+use Rattle.adf_text.proofs.escapes.escaped.Given as goal
+
+abbrev pub invariant-loop-byte : goal.invariant-loop-byte
+invariant-loop-byte l = l.shown.items ≡ escaped l.place (take l.byte-index l.bytes)

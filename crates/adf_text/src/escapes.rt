@@ -1,0 +1,64 @@
+//! Bytes that a text shows as `%` and two upper-case hexadecimal digits.
+ghost use Rattle.std.specs.Prelude.{◌≡◌, IfOk, IfErr, OnOk, All, ◌++◌};
+ghost use Rattle.std.specs.Str.{chars};
+ghost use Rattle.adf_text.specs.Letters.{IsByte, IsFaultOf};
+ghost use Rattle.adf_text.specs.Escapes.{needs_escape, escaped_byte, escaped, unescaped};
+
+use crate::letters::{LettersFault, letter_bytes};
+use percent_encoding::{percent_decode, percent_encode_byte};
+use std::alloc::{AllocError, Global};
+
+/// Where bytes are shown.
+#[derive(Clone, Copy)]
+pub(crate) enum Place {
+    HostName,
+    Comment,
+}
+
+impl Place {
+    /// Whether the byte is escaped there: the bytes 00 to 1F, 7F to 9F and `%`, and in a host's name `\`.
+    fn needs_escape(self, byte: u8) -> bool
+        ensures { result ≡ needs_escape self byte }
+    {
+        match self {
+            Place::HostName => byte < 32
+                || (127 <= byte && byte < 160)
+                || byte == b'%'
+                || byte == b'\\',
+            Place::Comment => byte < 32 || (127 <= byte && byte < 160) || byte == b'%',
+        }
+    }
+}
+
+/// The bytes with an escape for each that needs one there.
+pub(crate) fn escaped(alloc: Global, bytes: &[u8], place: Place) -> Result<Vec<u8>, AllocError>
+    ensures { IfOk result (λ shown. shown.items ≡ escaped place bytes.now) }
+{
+    let mut shown = Vec::new(alloc);
+    for byte in bytes {
+        push_escaped(&mut shown, *byte, place)?;
+    }
+    Ok(shown)
+}
+
+fn push_escaped(shown: &mut Vec<u8>, byte: u8, place: Place) -> Result<(), AllocError>
+    ensures { OnOk result (shown.new.items ≡ shown.old.items ++ escaped_byte place byte) }
+{
+    if place.needs_escape(byte) {
+        return shown.extend_from_slice(percent_encode_byte(byte).as_bytes());
+    }
+    shown.push(byte)?;
+    Ok(())
+}
+
+/// The bytes that a text's letters stand for, with each escape as its byte.
+pub(crate) fn unescaped(alloc: Global, text: &str) -> Result<Vec<u8>, LettersFault>
+    ensures ok { IfOk result (λ bytes. bytes.items ≡ unescaped text.now) }
+    ensures letters { OnOk result (All IsByte (chars text.now)) }
+    ensures fault { IfErr result (IsFaultOf text.now) }
+{
+    let letters = letter_bytes(alloc, text)?;
+    let mut bytes = Vec::new(alloc);
+    percent_decode(&letters).append_to(&mut bytes)?;
+    Ok(bytes)
+}

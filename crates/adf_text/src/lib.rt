@@ -1,0 +1,11 @@
+//! Text for people in place of an Amiga's bytes: letters, names of host files, and what emulators note beside a file.
+#![tactic(auto)]
+
+mod escapes;
+mod host;
+mod letters;
+mod protection;
+
+pub use host::{host_name, host_name_bytes, host_names_come_back};
+pub use letters::{LettersFault, letter_bytes, letter_text, letters_come_back};
+pub use protection::{protection_letters, protection_letters_come_back, protection_of_letters};
