@@ -1,5 +1,6 @@
--- Letters of bytes, escapes of those that have no picture, names of files on a host, and letters of protection bits.
+-- Letters of bytes, escapes of those that have no picture, names of files on a host, letters of protection bits, and lines beside a file.
 pub mod Letters
 pub mod Escapes
 pub mod HostNames
 pub mod ProtectionLetters
+pub mod Uaem

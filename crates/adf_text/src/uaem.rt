@@ -1,0 +1,34 @@
+//! Lines that emulators keep beside a host's file: what an Amiga knows of it and the host does not.
+ghost use Rattle.std.specs.Prelude.{◌≡◌, IfOk};
+ghost use Rattle.std.specs.String.{string_bytes};
+ghost use Rattle.adf_text.specs.Uaem.{IsLineOf};
+
+use crate::escapes::{Place, escaped};
+use crate::letters::letter_text;
+use crate::protection::protection_letters;
+use ados_name::{Comment, Date3, Protect};
+use std::alloc::{AllocError, Global};
+
+/// What a line beside a file tells of it. Of the protection bits it tells the low eight.
+#[derive(Clone, Copy, Debug, PartialEq, Eq)]
+pub struct Uaem {
+    pub protect: Protect,
+    pub date: Date3,
+    pub comment: Comment,
+}
+
+/// The line `hsparwed YYYY-MM-DD HH:MM:SS.CC COMMENT` and a line feed, as FS-UAE and Amiberry keep it in a file whose
+/// name ends in `.uaem`.
+///
+/// `CC` is hundredths of a second, two for each tick. A date without a civil text stands as `raw DAYS MINUTES TICKS`.
+/// The comment is in letters, with `%` and two hexadecimal digits for its bytes 00 to 1F, 7F to 9F and `%`, so that it
+/// stays on the line. The space before it also stands where it is empty.
+pub fn uaem_line(alloc: Global, noted: &Uaem) -> Result<String, AllocError>
+    ensures { IfOk result (λ text. IsLineOf noted.now (string_bytes text)) }
+{
+    let protection = letter_text(alloc, &protection_letters(noted.protect))?;
+    let date = noted.date.text(alloc)?;
+    let shown = escaped(alloc, noted.comment.bytes(), Place::Comment)?;
+    let comment = letter_text(alloc, &shown)?;
+    format!(in alloc; "{protection} {date} {comment}\n")
+}
