@@ -1,7 +1,7 @@
 //! The cases over the running handler.
+use crate::case::{Case, play};
 use crate::cases::*;
 use crate::floppy::{START, blank_handler};
-use crate::case::{Case, play};
 use crate::left::left_text;
 use crate::racing::{Raced, race_of_four};
 use crate::share::is_parted;

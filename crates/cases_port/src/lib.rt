@@ -19,25 +19,24 @@ mod turns;
 
 // Clients on threads of their own.
 #[cfg(test)]
-mod gates;
-#[cfg(test)]
-mod putter;
-#[cfg(test)]
-mod racing;
-#[cfg(test)]
-mod share;
-#[cfg(test)]
-mod staging;
-
-#[cfg(test)]
 mod exchange_tests;
 #[cfg(test)]
 mod floppy;
+#[cfg(test)]
+mod gates;
 #[cfg(test)]
 mod handler_tests;
 #[cfg(test)]
 mod note_keeper;
 #[cfg(test)]
+mod putter;
+#[cfg(test)]
+mod racing;
+#[cfg(test)]
 mod scripts_tests;
+#[cfg(test)]
+mod share;
+#[cfg(test)]
+mod staging;
 #[cfg(test)]
 mod stub_tests;

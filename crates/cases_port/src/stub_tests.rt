@@ -1,8 +1,8 @@
 //! Cases over the server of action numbers: those whose growths are refused in turn, and one whose answers tell where the server died.
 ghost use Rattle.std.specs.Prelude.{◌≡◌};
 
-use crate::cases::{BATCH_REFUSED, GATHER_REFUSED, PORT_REFUSED};
 use crate::case::{Case, play};
+use crate::cases::{BATCH_REFUSED, GATHER_REFUSED, PORT_REFUSED};
 use crate::racing::race_of_four;
 use crate::share::is_parted;
 use crate::stub::{Numbers, Results, Stub};
