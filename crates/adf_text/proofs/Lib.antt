@@ -3,3 +3,4 @@ mod LettersLemmas
 mod EscapesLemmas
 mod HostLemmas
 mod ProtectionLettersLemmas
+mod UaemLemmas

@@ -1,13 +1,15 @@
 -- The letters of bits spell these bits.
 use Rattle.std.proofs.Common.{◌≡◌, ℕ, zero, suc, ◌+◌, ◌*◌, ◌/◌, ◌%◌, ◌<◌, ◌==◌, Bool, true, false, List, [], ◌∷◌, ◌++◌, map, take, drop, refl, sym, ap, ◌∙◌, inr, arith}
-use Rattle.std.specs.Prelude.{not, ◌&&◌, ◌||◌}
+use Rattle.std.specs.Prelude.{not, ◌&&◌, ◌||◌, nat_lt}
 use Rattle.std.specs.List.{list_any}
 use Rattle.std.specs.Int.{bit_at}
 use Rattle.std.proofs.Math.Bool.{or-false}
-use Rattle.std.proofs.lemmas.Bool.{and_parts, not-true}
+use Rattle.std.proofs.lemmas.Bool.{and_parts, not-true, ltb-true}
+use Rattle.std.proofs.lemmas.Str.{encode_ascii}
 use Rattle.std.proofs.lemmas.Nat.{mod-pow-add}
 use Rattle.std.proofs.lemmas.Nat.Bits.{bit_at-lt}
 use Rattle.ados_name.specs.Protection.{is_set, letter_or_dash}
+use Rattle.adf_text.specs.Letters.{letters}
 use Rattle.adf_text.specs.ProtectionLetters.{protection_letters, has, bit, protection_of, AreLetters}
 
 -- what a place shows: its letter or a dash
@@ -140,3 +142,23 @@ protection_letters-low n = λ i. letter_or_dash (same-7 n i == 1) 104 ∷ letter
 
 pub AreLetters-letters : (bits : ℕ) → AreLetters (protection_letters bits)
 AreLetters-letters bits = inr (sym (ap protection_letters (protection_of-letters bits) ∙ protection_letters-low bits))
+
+-- all of these letters are ASCII
+abbrev low : List (Bool × ℕ) → Bool
+low [] = true
+low (place ∷ places) = nat_lt place.1 128 && low places
+
+shown-low : (set : Bool) (letter : ℕ) → nat_lt letter 128 ≡ true → letter_or_dash set letter < 128
+shown-low true letter is = ltb-true letter 128 is
+shown-low false letter is = omega arith
+
+letters-shown : (places : List (Bool × ℕ)) → low places ≡ true → letters (map shown places) ≡ map shown places
+letters-shown [] is = refl
+letters-shown (place ∷ places) is =
+    let parts = and_parts (nat_lt place.1 128) (low places) is in
+    let first = encode_ascii (shown place) (shown-low place.0 place.1 parts.0) in
+    let rest = letters-shown places parts.1 in
+    λ i. first i ++ rest i
+
+pub letters-protection_letters : (bits : ℕ) → letters (protection_letters bits) ≡ protection_letters bits
+letters-protection_letters bits = letters-shown (places bits) refl

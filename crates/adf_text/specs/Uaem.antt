@@ -1,5 +1,7 @@
 -- Lines that emulators keep beside a host's file.
-use Rattle.std.specs.Prelude.{◌≡◌, List, ℕ, [], ◌∷◌, ◌++◌, codes}
+use Rattle.std.specs.Prelude.{◌≡◌, ℕ, ◌%◌, ◌^◌, ◌<◌, List, [], ◌∷◌, ◌++◌, codes}
+use Rattle.ados_name.specs.declared.Date3.{Date3}
+use Rattle.ados_name.specs.Name.{IsComment}
 use Rattle.ados_name.specs.Date.{IsTextOf}
 use Rattle.adf_text.specs.declared.escapes.Place.TheVariants.{Comment}
 use Rattle.adf_text.specs.declared.uaem.Uaem.{Uaem}
@@ -12,3 +14,24 @@ abbrev pub IsLineOf : Uaem → List ℕ → Type 0
 IsLineOf noted line =
     (date : List ℕ) × IsTextOf noted.date date
     × (line ≡ letters (protection_letters noted.protect.0) ++ codes " " ++ date ++ codes " " ++ letters (escaped Comment noted.comment) ++ 10 ∷ [])
+
+-- the numbers of a date have 32 bits each
+pub record IsStamp (date : Date3) : Type 0 where
+  pub days : date.days < 2 ^ 32
+  pub minutes : date.minutes < 2 ^ 32
+  pub ticks : date.ticks < 2 ^ 32
+
+-- what a line can be of
+pub record IsNoted (noted : Uaem) : Type 0 where
+  pub date : IsStamp noted.date
+  pub comment : IsComment noted.comment
+
+-- the same eight bits, date and comment
+pub record TellsSame (noted other : Uaem) : Type 0 where
+  pub protect : noted.protect.0 % 256 ≡ other.protect.0 % 256
+  pub date : noted.date ≡ other.date
+  pub comment : noted.comment ≡ other.comment
+
+-- Law: what has the same line is the same.
+abbrev pub LineTellsOne : Type 0
+LineTellsOne = (line : List ℕ) (noted other : Uaem) → IsNoted noted → IsNoted other → IsLineOf noted line → IsLineOf other line → TellsSame noted other

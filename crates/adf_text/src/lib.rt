@@ -10,4 +10,4 @@ mod uaem;
 pub use host::{host_name, host_name_bytes, host_names_come_back};
 pub use letters::{LettersFault, letter_bytes, letter_text, letters_come_back};
 pub use protection::{protection_letters, protection_letters_come_back, protection_of_letters};
-pub use uaem::{Uaem, uaem_line};
+pub use uaem::{Uaem, line_tells_one, uaem_line};

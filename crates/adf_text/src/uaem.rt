@@ -1,7 +1,7 @@
 //! Lines that emulators keep beside a host's file: what an Amiga knows of it and the host does not.
 ghost use Rattle.std.specs.Prelude.{◌≡◌, IfOk};
 ghost use Rattle.std.specs.String.{string_bytes};
-ghost use Rattle.adf_text.specs.Uaem.{IsLineOf};
+ghost use Rattle.adf_text.specs.Uaem.{IsLineOf, LineTellsOne};
 
 use crate::escapes::{Place, escaped};
 use crate::letters::letter_text;
@@ -32,3 +32,8 @@ pub fn uaem_line(alloc: Global, noted: &Uaem) -> Result<String, AllocError>
     let comment = letter_text(alloc, &shown)?;
     format!(in alloc; "{protection} {date} {comment}\n")
 }
+
+/// A line is of one choice of eight bits, date and comment, so whoever finds what a line is of has what it was made of.
+pub fn line_tells_one()
+    ensures { LineTellsOne }
+{}
