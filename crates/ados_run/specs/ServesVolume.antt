@@ -1,5 +1,6 @@
 -- What it comes to when scripts are run as clients of a handler over a volume.
-use Rattle.std.specs.Prelude.{◌≡◌, ℕ, ◌+◌, Bool, List, length, Some, slice_get}
+use Rattle.std.specs.Prelude.{◌≡◌, ℕ, ◌+◌, Bool, List, Vec, length, map, Some, slice_get}
+use Rattle.std.specs.declared.alloc.Global.{Global}
 use Rattle.ados_name.specs.declared.Date3.{Date3}
 use Rattle.ados_tree.specs.Tree.{Tree}
 use Rattle.ados_tree.specs.Stands.{Stands}
@@ -13,6 +14,14 @@ use Rattle.ados_handler.specs.Handler.{HandlerState}
 use Rattle.adf_script.specs.declared.ending.ClientEnding.{ClientEnding}
 use Rattle.adf_script.specs.Spoken.{Spoken}
 use Rattle.ados_run.specs.TreeLists.{ListsFollowTree}
+
+-- the bytes of each script
+abbrev pub scripts_of : {G : Type 0} → List (Vec ℕ Global × G) → List (List ℕ)
+scripts_of scripts = map (λ s. s.0.items) scripts
+
+-- the bytes of each text, with how its client came to its end
+abbrev pub texts_of : List (Vec ℕ Global × ClientEnding) → List (List ℕ × ClientEnding)
+texts_of texts = map (λ t. (t.0.items, t.1)) texts
 
 -- there is a client for each script, and its text tells of that script by what the client put and took
 abbrev pub EachSpeaks : List (List ℕ) → List (ClientLists Packet Answer) → List (List ℕ × ClientEnding) → Type 0

@@ -1,6 +1,6 @@
 //! Runs scripts at a handler over a volume, each as a client on a thread of its own.
-ghost use Rattle.std.specs.Prelude.{◌<◌, IfOk, length, map};
-ghost use Rattle.ados_run.specs.ServesVolume.{ServesVolume};
+ghost use Rattle.std.specs.Prelude.{◌<◌, IfOk, length};
+ghost use Rattle.ados_run.specs.ServesVolume.{ServesVolume, scripts_of, texts_of};
 
 use adf_clients::{
     ClientEnding, Gate, ScriptsDone, ScriptsFault, assign, part_done, serve_scripts,
@@ -39,7 +39,7 @@ where
     G: Gate + Drop + Send + 'static,
     R: Threads + Wait + Copy + Send + Drop + 'static,
     requires some { 0 < length scripts.items }
-    ensures { IfOk result (λ done. ServesVolume volume.image volume.was_validated (map (λ s. s.0.items) scripts.items) moment (map (λ t. (t.0.items, t.1)) done.texts.items) done.handler) }
+    ensures { IfOk result (λ done. ServesVolume volume.image volume.was_validated (scripts_of scripts.items) moment (texts_of done.texts.items) done.handler) }
 {
     // This calls `image`, which tells that there is a tree.
     prove!(volume.image().blocks() >= 16);
