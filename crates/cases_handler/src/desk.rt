@@ -184,3 +184,20 @@ pub(crate) fn expect_accepted(rt: &impl Abort, alloc: Global, desk: &mut Desk) -
     assert_eq!(rt; again.info(), desk.info()?);
     Ok(())
 }
+
+/// Each line in turn is answered as its row says, and then the image is accepted as it is.
+pub(crate) fn on_desk(
+    rt: &impl Abort,
+    alloc: Global,
+    desk: Desk,
+    rows: &[Row<'_>],
+) -> Result<(), Fail> {
+    let mut desk = desk;
+    desk.tell(rt, alloc, rows)?;
+    expect_accepted(rt, alloc, &mut desk)
+}
+
+/// The same over a blank floppy.
+pub(crate) fn on_floppy(rt: &impl Abort, alloc: Global, rows: &[Row<'_>]) -> Result<(), Fail> {
+    on_desk(rt, alloc, Desk::floppy(alloc, Format::Ffs)?, rows)
+}

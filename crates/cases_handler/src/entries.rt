@@ -1,54 +1,52 @@
 //! Entries of directories: made, listed, moved and taken away.
 
-use crate::desk::{Desk, expect_accepted};
+use crate::desk::{Desk, Row, expect_accepted, on_desk, on_floppy};
 use adf_block::Format;
 use std::alloc::Global;
 use std::process::Abort;
 use std::test::Fail;
 
-/// Makes files (`B` in block 2, `A` in 3 and `DP` in 4) and a directory (`d` in 5), lists the root, and moves them about.
+/// Files (`B` in block 2, `A` in 3 and `DP` in 4) are made, listed in the root, and one gets another name.
+const LIST_AND_RENAME: [Row<'static>; 16] = [
+    (r#"output 0 "B""#, "-1 0"),
+    (r#"output 0 "A""#, "-1 0"),
+    (r#"output 0 "DP""#, "-1 0"),
+    ("end $1", "-1 0"),
+    ("end $2", "-1 0"),
+    ("end $3", "-1 0"),
+    ("next 0 880", "-1 0 3 -3 0 A"),
+    ("next 0 3", "-1 0 4 -3 0 DP"),
+    ("next 0 4", "-1 0 2 -3 0 B"),
+    ("next 0 2", "0 232"),
+    ("next 0 881", "0 205"),
+    (r#"rename 0 "A" 0 "a""#, "-1 0"),
+    ("next 0 880", "-1 0 4 -3 0 DP"),
+    ("next 0 4", "-1 0 3 -3 0 a"),
+    ("next 0 3", "-1 0 2 -3 0 B"),
+    ("next 0 2", "0 232"),
+];
+
+/// A directory (`d` in 5) is made, and a file moves into it.
+const RENAME_ON: [Row<'static>; 8] = [
+    (r#"mkdir 0 "d""#, "lock"),
+    ("free $1", "-1 0"),
+    (r#"rename 0 "a" 0 "d/a""#, "-1 0"),
+    ("next 0 880", "-1 0 4 -3 0 DP"),
+    ("next 0 4", "-1 0 2 -3 0 B"),
+    ("next 0 2", "-1 0 5 2 0 d"),
+    ("next 0 5", "0 232"),
+    (r#"rename 0 "B" 0 "dp""#, "0 203"),
+];
+
+/// Makes the files and the directory, lists the root, and moves them about.
 pub(crate) fn list_and_rename_on(
     rt: &impl Abort,
     alloc: Global,
     desk: &mut Desk,
 ) -> Result<(), Fail> {
-    desk.tell(
-        rt,
-        alloc,
-        &[
-            (r#"output 0 "B""#, "-1 0"),
-            (r#"output 0 "A""#, "-1 0"),
-            (r#"output 0 "DP""#, "-1 0"),
-            ("end $1", "-1 0"),
-            ("end $2", "-1 0"),
-            ("end $3", "-1 0"),
-            ("next 0 880", "-1 0 3 -3 0 A"),
-            ("next 0 3", "-1 0 4 -3 0 DP"),
-            ("next 0 4", "-1 0 2 -3 0 B"),
-            ("next 0 2", "0 232"),
-            ("next 0 881", "0 205"),
-            (r#"rename 0 "A" 0 "a""#, "-1 0"),
-            ("next 0 880", "-1 0 4 -3 0 DP"),
-            ("next 0 4", "-1 0 3 -3 0 a"),
-            ("next 0 3", "-1 0 2 -3 0 B"),
-            ("next 0 2", "0 232"),
-        ],
-    )?;
+    desk.tell(rt, alloc, &LIST_AND_RENAME)?;
     desk.renumber();
-    desk.tell(
-        rt,
-        alloc,
-        &[
-            (r#"mkdir 0 "d""#, "lock"),
-            ("free $1", "-1 0"),
-            (r#"rename 0 "a" 0 "d/a""#, "-1 0"),
-            ("next 0 880", "-1 0 4 -3 0 DP"),
-            ("next 0 4", "-1 0 2 -3 0 B"),
-            ("next 0 2", "-1 0 5 2 0 d"),
-            ("next 0 5", "0 232"),
-            (r#"rename 0 "B" 0 "dp""#, "0 203"),
-        ],
-    )?;
+    desk.tell(rt, alloc, &RENAME_ON)?;
     desk.renumber();
     Ok(())
 }
@@ -60,15 +58,21 @@ fn list_and_rename(rt: HostRuntime) -> Result<(), Fail> {
     expect_accepted(&rt, rt.alloc(), &mut desk)
 }
 
+/// A floppy with the directories `B`, `A` and `DP`, on which there is no hold.
+fn with_directories(alloc: Global) -> Result<Desk, Fail> {
+    let mut desk = Desk::floppy(alloc, Format::Ffs)?;
+    desk.directory(b"B")?;
+    desk.directory(b"A")?;
+    desk.directory(b"DP")?;
+    Ok(desk)
+}
+
 #[test]
 fn three_in_a_slot(rt: HostRuntime) -> Result<(), Fail> {
-    let mut desk = Desk::floppy(rt.alloc(), Format::Ffs)?;
-    for name in [b"B".as_slice(), b"A", b"DP"] {
-        desk.directory(name)?;
-    }
-    desk.tell(
+    on_desk(
         &rt,
         rt.alloc(),
+        with_directories(rt.alloc())?,
         &[
             ("next 0 880", "-1 0 3 2 0 A"),
             ("next 0 $1", "-1 0 4 2 0 DP"),
@@ -80,14 +84,12 @@ fn three_in_a_slot(rt: HostRuntime) -> Result<(), Fail> {
             ("next 0 $7", "-1 0 2 2 0 B"),
             ("next 0 $8", "0 232"),
         ],
-    )?;
-    expect_accepted(&rt, rt.alloc(), &mut desk)
+    )
 }
 
 #[test]
 fn refused_moves(rt: HostRuntime) -> Result<(), Fail> {
-    let mut desk = Desk::floppy(rt.alloc(), Format::Ffs)?;
-    desk.tell(
+    on_floppy(
         &rt,
         rt.alloc(),
         &[
@@ -103,15 +105,13 @@ fn refused_moves(rt: HostRuntime) -> Result<(), Fail> {
             (r#"delete 0 """#, "0 212"),
             (r#"rename 0 "" 0 "e""#, "0 212"),
         ],
-    )?;
-    expect_accepted(&rt, rt.alloc(), &mut desk)
+    )
 }
 
 /// An object with an exclusive hold stays where it is; one with shared holds may move.
 #[test]
 fn moves_under_holds(rt: HostRuntime) -> Result<(), Fail> {
-    let mut desk = Desk::floppy(rt.alloc(), Format::Ffs)?;
-    desk.tell(
+    on_floppy(
         &rt,
         rt.alloc(),
         &[
@@ -122,14 +122,13 @@ fn moves_under_holds(rt: HostRuntime) -> Result<(), Fail> {
             (r#"rename 0 "d" 0 "e""#, "-1 0"),
             ("examine $4", "-1 0 2 2 0 e"),
         ],
-    )?;
-    expect_accepted(&rt, rt.alloc(), &mut desk)
+    )
 }
 
 /// A file has no entries.
 #[test]
 fn entries_of_a_file(rt: HostRuntime) -> Result<(), Fail> {
-    Desk::floppy(rt.alloc(), Format::Ffs)?.tell(
+    on_floppy(
         &rt,
         rt.alloc(),
         &[
@@ -145,8 +144,7 @@ fn entries_of_a_file(rt: HostRuntime) -> Result<(), Fail> {
 /// A handle stands against DELETE_OBJECT, and the object of one that was ended is taken away.
 #[test]
 fn delete_under_a_handle(rt: HostRuntime) -> Result<(), Fail> {
-    let mut desk = Desk::floppy(rt.alloc(), Format::Ffs)?;
-    desk.tell(
+    on_floppy(
         &rt,
         rt.alloc(),
         &[
@@ -157,6 +155,5 @@ fn delete_under_a_handle(rt: HostRuntime) -> Result<(), Fail> {
             (r#"delete 0 "f""#, "-1 0"),
             ("diskinfo", "-1 0 82 1758 2 512 444f5301"),
         ],
-    )?;
-    expect_accepted(&rt, rt.alloc(), &mut desk)
+    )
 }

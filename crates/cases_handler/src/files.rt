@@ -1,35 +1,52 @@
 //! Files that are opened, read and written.
 
-use crate::desk::{Desk, expect_accepted};
+use crate::desk::{Desk, Row, expect_accepted, on_desk, on_floppy};
 use adf_block::Format;
 use ados_packet::{Body, Buffer, Packet};
 use std::alloc::Global;
 use std::process::Abort;
 use std::test::Fail;
 
-/// A floppy with the file `f` of the ten digits, and a handle on it, `$1`, which stands at the beginning.
-pub(crate) fn with_digits(rt: &impl Abort, alloc: Global) -> Result<Desk, Fail> {
+/// The file `f` gets the ten digits, and its handle, `$1`, stands at the beginning.
+const DIGITS: [Row<'static>; 3] = [
+    (r#"update 0 "f""#, "-1 0"),
+    (r#"write $1 "0123456789""#, "10 0"),
+    ("seek $1 0 -1", "10 0"),
+];
+
+/// A floppy with that file.
+fn with_digits(rt: &impl Abort, alloc: Global) -> Result<Desk, Fail> {
     let mut desk = Desk::floppy(alloc, Format::Ffs)?;
-    desk.tell(
-        rt,
-        alloc,
-        &[
-            (r#"update 0 "f""#, "-1 0"),
-            (r#"write $1 "0123456789""#, "10 0"),
-            ("seek $1 0 -1", "10 0"),
-        ],
-    )?;
+    desk.tell(rt, alloc, &DIGITS)?;
     Ok(desk)
 }
 
-/// A READ into dots is answered with these results and bytes.
+/// Each line in turn, over a floppy with that file, is answered as its row says, and then the image is accepted as it is.
+pub(crate) fn on_digits(rt: &impl Abort, alloc: Global, rows: &[Row<'_>]) -> Result<(), Fail> {
+    on_desk(rt, alloc, with_digits(rt, alloc)?, rows)
+}
+
+/// A READ by a handle into dots, and the results and bytes that it is answered with.
+type Read<'a> = (u32, (i32, i32), &'a [u8]);
+
+/// Each READ in turn is answered so.
+fn expect_reads(
+    rt: &impl Abort,
+    alloc: Global,
+    desk: &mut Desk,
+    reads: &[Read<'_>],
+) -> Result<(), Fail> {
+    for read in reads {
+        expect_read(rt, alloc, desk, *read)?;
+    }
+    Ok(())
+}
+
 fn expect_read(
     rt: &impl Abort,
     alloc: Global,
     desk: &mut Desk,
-    handle: u32,
-    results: (i32, i32),
-    bytes: &[u8],
+    (handle, results, bytes): Read<'_>,
 ) -> Result<(), Fail> {
     let buffer = Buffer::from_vec(vec![in alloc; b'.'; bytes.len()]?);
     let answer = desk.ask(Packet::Read { handle, buffer });
@@ -59,16 +76,18 @@ fn seek_and_read(rt: HostRuntime) -> Result<(), Fail> {
         ],
     )?;
     let handle = desk.value(1)?;
-    expect_read(&rt, alloc, &mut desk, handle, (2, 0), b"89...")?;
-    expect_read(&rt, alloc, &mut desk, handle, (0, 0), b".....")?;
-    expect_read(&rt, alloc, &mut desk, handle, (0, 0), b"")?;
-    expect_read(&rt, alloc, &mut desk, 99, (-1, 211), b"...")
+    let reads: [Read<'static>; 4] = [
+        (handle, (2, 0), b"89..."),
+        (handle, (0, 0), b"....."),
+        (handle, (0, 0), b""),
+        (99, (-1, 211), b"..."),
+    ];
+    expect_reads(&rt, alloc, &mut desk, &reads)
 }
 
 #[test]
 fn overlay(rt: HostRuntime) -> Result<(), Fail> {
-    let mut desk = with_digits(&rt, rt.alloc())?;
-    desk.tell(
+    on_digits(
         &rt,
         rt.alloc(),
         &[
@@ -77,8 +96,7 @@ fn overlay(rt: HostRuntime) -> Result<(), Fail> {
             ("seek $1 0 -1", "12 0"),
             ("read $1 13", "12 0 303132333435363761626364"),
         ],
-    )?;
-    expect_accepted(&rt, rt.alloc(), &mut desk)
+    )
 }
 
 /// Each writer has a handle of its own, and sees the bytes of the other.
@@ -106,7 +124,7 @@ fn two_writers(rt: HostRuntime) -> Result<(), Fail> {
 /// FINDINPUT makes no file, and opens no directory; FINDUPDATE and FINDOUTPUT open none either.
 #[test]
 fn refused_opens(rt: HostRuntime) -> Result<(), Fail> {
-    Desk::floppy(rt.alloc(), Format::Ffs)?.tell(
+    on_floppy(
         &rt,
         rt.alloc(),
         &[
@@ -125,7 +143,7 @@ fn refused_opens(rt: HostRuntime) -> Result<(), Fail> {
 /// A handle of FINDOUTPUT is the only one on its file.
 #[test]
 fn exclusive_outputs(rt: HostRuntime) -> Result<(), Fail> {
-    Desk::floppy(rt.alloc(), Format::Ffs)?.tell(
+    on_floppy(
         &rt,
         rt.alloc(),
         &[
@@ -140,35 +158,38 @@ fn exclusive_outputs(rt: HostRuntime) -> Result<(), Fail> {
 }
 
 /// Protection bits are looked at by DELETE_OBJECT, FINDOUTPUT, READ and WRITE.
-pub(crate) fn protection_on(rt: &impl Abort, alloc: Global, desk: &mut Desk) -> Result<(), Fail> {
-    desk.tell(
-        rt,
-        alloc,
-        &[
-            (r#"output 0 "f""#, "-1 0"),
-            ("end $1", "-1 0"),
-            (r#"protect 0 "f" 1"#, "-1 0"),
-            (r#"delete 0 "f""#, "0 222"),
-            (r#"protect 0 "f" 5"#, "-1 0"),
-            (r#"output 0 "f""#, "0 222"),
-            (r#"input 0 "f""#, "-1 0"),
-            (r#"protect 0 "f" 4"#, "-1 0"),
-            (r#"write $7 "x""#, "-1 223"),
-            (r#"protect 0 "f" 8"#, "-1 0"),
-            ("read $7 3", "-1 224"),
-            (r#"protect 0 "f" 16"#, "-1 0"),
-            (r#"write $7 """#, "0 0"),
-            (r#"locate 0 -2 "f""#, "lock"),
-        ],
-    )?;
-    assert_eq!(rt; desk.entry(alloc, b"examine $14")?.protection.0, 16);
-    desk.tell(
-        rt,
-        alloc,
-        &[(r#"write $7 "x""#, "1 0"), (r#"protect 0 "" 1"#, "0 212")],
-    )?;
-    assert_eq!(rt; desk.entry(alloc, b"examine $14")?.protection.0, 0);
+const PROTECT: [Row<'static>; 14] = [
+    (r#"output 0 "f""#, "-1 0"),
+    ("end $1", "-1 0"),
+    (r#"protect 0 "f" 1"#, "-1 0"),
+    (r#"delete 0 "f""#, "0 222"),
+    (r#"protect 0 "f" 5"#, "-1 0"),
+    (r#"output 0 "f""#, "0 222"),
+    (r#"input 0 "f""#, "-1 0"),
+    (r#"protect 0 "f" 4"#, "-1 0"),
+    (r#"write $7 "x""#, "-1 223"),
+    (r#"protect 0 "f" 8"#, "-1 0"),
+    ("read $7 3", "-1 224"),
+    (r#"protect 0 "f" 16"#, "-1 0"),
+    (r#"write $7 """#, "0 0"),
+    (r#"locate 0 -2 "f""#, "lock"),
+];
+
+/// A byte is written, and the root has no protection bits.
+const WRITE_ON: [Row<'static>; 2] = [(r#"write $7 "x""#, "1 0"), (r#"protect 0 "" 1"#, "0 212")];
+
+/// The object of lock `$14` has these protection bits.
+fn expect_bits(rt: &impl Abort, alloc: Global, desk: &mut Desk, bits: u32) -> Result<(), Fail> {
+    assert_eq!(rt; desk.entry(alloc, b"examine $14")?.protection.0, bits);
     Ok(())
+}
+
+/// An empty write leaves the archive bit, any other clears it.
+pub(crate) fn protection_on(rt: &impl Abort, alloc: Global, desk: &mut Desk) -> Result<(), Fail> {
+    desk.tell(rt, alloc, &PROTECT)?;
+    expect_bits(rt, alloc, desk, 16)?;
+    desk.tell(rt, alloc, &WRITE_ON)?;
+    expect_bits(rt, alloc, desk, 0)
 }
 
 #[test]

@@ -1,6 +1,6 @@
 //! Names that are found after changes, though earlier ones are kept, and deep directories.
 
-use crate::desk::{Desk, expect_accepted, numbered};
+use crate::desk::{Desk, expect_accepted, numbered, on_desk, on_floppy};
 use adf_block::Format;
 use std::alloc::Global;
 use std::process::Abort;
@@ -9,8 +9,7 @@ use std::test::Fail;
 /// A directory in the block of one that was taken away.
 #[test]
 fn no_stale_names(rt: HostRuntime) -> Result<(), Fail> {
-    let mut desk = Desk::floppy(rt.alloc(), Format::Ffs)?;
-    desk.tell(
+    on_floppy(
         &rt,
         rt.alloc(),
         &[
@@ -29,8 +28,7 @@ fn no_stale_names(rt: HostRuntime) -> Result<(), Fail> {
             (r#"locate 0 -2 "c""#, "lock"),
             ("examine $13", "-1 0 2 2 0 c"),
         ],
-    )?;
-    expect_accepted(&rt, rt.alloc(), &mut desk)
+    )
 }
 
 /// Each name, in turn, of the directories in the blocks from 2.
@@ -85,15 +83,15 @@ fn deep_directories(rt: HostRuntime) -> Result<(), Fail> {
     let free = format!(in alloc; "free {first}")?;
     let rename = format!(in alloc; "rename 0 \"d\" {last} \"e\"")?;
     let locate = format!(in alloc; "locate {last} -1 \"\"")?;
-    desk.tell(
+    on_desk(
         &rt,
         alloc,
+        desk,
         &[
             (mkdir.as_str(), "0 221"),
             (free.as_str(), "-1 0"),
             (rename.as_str(), "0 202"),
             (locate.as_str(), "0 202"),
         ],
-    )?;
-    expect_accepted(&rt, alloc, &mut desk)
+    )
 }

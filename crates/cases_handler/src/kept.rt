@@ -3,11 +3,21 @@
 use crate::desk::{Desk, Row, expect_accepted, write_line};
 use crate::entries::list_and_rename_on;
 use crate::files::protection_on;
-use crate::full::expect_full;
+use crate::full::fill;
 use crate::looks::{expect_block, expect_longs};
-use adf_block::Format;
+use adf_block::{Format, Image};
 use cases_drawn::{checked, copy, is_same, with_boot_code, with_lost_block};
+use std::process::Abort;
 use std::test::Fail;
+
+/// Two floppies have the same blocks, but for one.
+fn expect_same_but(rt: &impl Abort, image: &Image, blank: &Image, other: u32) {
+    for block in 0..1_760 {
+        if block != other {
+            expect_block(rt, image, blank, block);
+        }
+    }
+}
 
 #[test]
 fn directory_bytes(rt: HostRuntime) -> Result<(), Fail> {
@@ -32,11 +42,7 @@ fn directory_bytes(rt: HostRuntime) -> Result<(), Fail> {
     expect_longs(&rt, desk.image(), 880, &[(15, 2), (5, 0x90a8_8cd1)]);
     expect_longs(&rt, desk.image(), 881, &page);
     desk.tell(&rt, alloc, &[(r#"delete 0 "d""#, "-1 0")])?;
-    for block in 0..1_760 {
-        if block != 2 {
-            expect_block(&rt, desk.image(), &blank, block);
-        }
-    }
+    expect_same_but(&rt, desk.image(), &blank, 2);
     Ok(())
 }
 
@@ -118,18 +124,19 @@ fn lost_block_kept(rt: HostRuntime) -> Result<(), Fail> {
     let was = with_lost_block(alloc)?;
     let (write, write_more) = (write_line(alloc, 885_760)?, write_line(alloc, 885_761)?);
     let mut desk = Desk::new(alloc, checked(alloc, copy(alloc, &was)?)?);
-    desk.tell(&rt, alloc, &[(r#"output 0 "f""#, "-1 0")])?;
-    expect_full(&rt, alloc, &mut desk, (write_more.as_str(), "-1 221"))?;
-    desk.tell(
+    fill(
         &rt,
         alloc,
+        &mut desk,
+        &[(r#"output 0 "f""#, "-1 0")],
+        (write_more.as_str(), "-1 221"),
         &[
             (write.as_str(), "885760 0"),
             ("diskinfo", "-1 0 82 1758 1758 512 444f5301"),
         ],
     )?;
     expect_block(&rt, desk.image(), &was, 5);
-    expect_accepted(&rt, alloc, &mut desk)
+    Ok(())
 }
 
 /// Packets that only look, that leave a size as it is, or that are refused, change no byte.

@@ -1,33 +1,38 @@
 //! Locks, and where paths lead.
 
-use crate::desk::Desk;
+use crate::desk::{Desk, Row, on_floppy};
 use adf_block::Format;
 use std::alloc::Global;
 use std::process::Abort;
 use std::test::Fail;
 
-/// A floppy with the directories `a` (block 2) and `b` (3) and the empty file `f` (4) in the root, on which there is no hold.
+/// The directories `a` (block 2) and `b` (3) and the empty file `f` (4) are made in the root.
+const ENTRIES: [Row<'static>; 6] = [
+    (r#"mkdir 0 "a""#, "lock"),
+    (r#"mkdir 0 "b""#, "lock"),
+    (r#"output 0 "f""#, "-1 0"),
+    ("free $1", "-1 0"),
+    ("free $2", "-1 0"),
+    ("end $3", "-1 0"),
+];
+
+/// A floppy with these, on which there is no hold.
 fn with_entries(rt: &impl Abort, alloc: Global) -> Result<Desk, Fail> {
     let mut desk = Desk::floppy(alloc, Format::Ffs)?;
-    desk.tell(
-        rt,
-        alloc,
-        &[
-            (r#"mkdir 0 "a""#, "lock"),
-            (r#"mkdir 0 "b""#, "lock"),
-            (r#"output 0 "f""#, "-1 0"),
-            ("free $1", "-1 0"),
-            ("free $2", "-1 0"),
-            ("end $3", "-1 0"),
-        ],
-    )?;
+    desk.tell(rt, alloc, &ENTRIES)?;
     desk.renumber();
     Ok(desk)
 }
 
+/// Each line in turn, over a floppy with these, is answered as its row says.
+fn on_entries(rt: &impl Abort, alloc: Global, rows: &[Row<'_>]) -> Result<(), Fail> {
+    let mut desk = with_entries(rt, alloc)?;
+    desk.tell(rt, alloc, rows)
+}
+
 #[test]
 fn paths(rt: HostRuntime) -> Result<(), Fail> {
-    with_entries(&rt, rt.alloc())?.tell(
+    on_entries(
         &rt,
         rt.alloc(),
         &[
@@ -49,7 +54,7 @@ fn paths(rt: HostRuntime) -> Result<(), Fail> {
 
 #[test]
 fn places(rt: HostRuntime) -> Result<(), Fail> {
-    with_entries(&rt, rt.alloc())?.tell(
+    on_entries(
         &rt,
         rt.alloc(),
         &[
@@ -59,6 +64,16 @@ fn places(rt: HostRuntime) -> Result<(), Fail> {
             (r#"mkdir 0 "x/y""#, "0 204"),
         ],
     )
+}
+
+/// The locks of these lines have different numbers.
+fn expect_apart(rt: &impl Abort, desk: &Desk, lines: &[usize]) -> Result<(), Fail> {
+    for (i, line) in lines.iter().enumerate() {
+        for other in &lines[..i] {
+            assert!(rt; desk.value(*line)? != desk.value(*other)?);
+        }
+    }
+    Ok(())
 }
 
 /// Each lock has a number of its own.
@@ -78,19 +93,13 @@ fn locks(rt: HostRuntime) -> Result<(), Fail> {
             ("examine $6", "-1 0 880 1 0 Work"),
         ],
     )?;
-    let numbers = [1, 2, 3, 5, 6];
-    for (i, number) in numbers.iter().enumerate() {
-        for other in &numbers[..i] {
-            assert!(rt; desk.value(*number)? != desk.value(*other)?);
-        }
-    }
-    Ok(())
+    expect_apart(&rt, &desk, &[1, 2, 3, 5, 6])
 }
 
 /// Lock 0 stands for the root, and is no hold.
 #[test]
 fn lock_zero(rt: HostRuntime) -> Result<(), Fail> {
-    with_entries(&rt, rt.alloc())?.tell(
+    on_entries(
         &rt,
         rt.alloc(),
         &[
@@ -106,7 +115,7 @@ fn lock_zero(rt: HostRuntime) -> Result<(), Fail> {
 
 #[test]
 fn create_dir(rt: HostRuntime) -> Result<(), Fail> {
-    Desk::floppy(rt.alloc(), Format::Ffs)?.tell(
+    on_floppy(
         &rt,
         rt.alloc(),
         &[
@@ -119,7 +128,7 @@ fn create_dir(rt: HostRuntime) -> Result<(), Fail> {
 
 #[test]
 fn same_lock(rt: HostRuntime) -> Result<(), Fail> {
-    with_entries(&rt, rt.alloc())?.tell(
+    on_entries(
         &rt,
         rt.alloc(),
         &[
@@ -136,7 +145,7 @@ fn same_lock(rt: HostRuntime) -> Result<(), Fail> {
 /// The parent of a directory of which there is an exclusive lock cannot be had by PARENT.
 #[test]
 fn parent_in_use(rt: HostRuntime) -> Result<(), Fail> {
-    with_entries(&rt, rt.alloc())?.tell(
+    on_entries(
         &rt,
         rt.alloc(),
         &[
@@ -153,7 +162,7 @@ fn parent_in_use(rt: HostRuntime) -> Result<(), Fail> {
 /// A lock stands against DIE, and so does a handle. What comes behind it is answered as by a handler that has died.
 #[test]
 fn lock_blocks_die(rt: HostRuntime) -> Result<(), Fail> {
-    with_entries(&rt, rt.alloc())?.tell(
+    on_entries(
         &rt,
         rt.alloc(),
         &[

@@ -1,6 +1,6 @@
 //! Names, comments and dates of objects, and of the volume.
 
-use crate::desk::{Desk, expect_accepted};
+use crate::desk::{Desk, expect_accepted, on_floppy};
 use crate::looks::expect_longs;
 use adf_block::Format;
 use ados_name::Date3;
@@ -32,7 +32,7 @@ fn refused_names(rt: HostRuntime) -> Result<(), Fail> {
 /// DISK_INFO and INFO tell the same.
 #[test]
 fn info_of_blank(rt: HostRuntime) -> Result<(), Fail> {
-    Desk::floppy(rt.alloc(), Format::Ffs)?.tell(
+    on_floppy(
         &rt,
         rt.alloc(),
         &[

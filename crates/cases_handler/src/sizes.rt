@@ -1,7 +1,7 @@
 //! SET_FILE_SIZE.
 
-use crate::desk::{Desk, expect_accepted, write_line};
-use crate::files::with_digits;
+use crate::desk::{Desk, on_desk, write_line};
+use crate::files::on_digits;
 use adf_block::Format;
 use std::alloc::Global;
 use std::process::Abort;
@@ -9,8 +9,7 @@ use std::test::Fail;
 
 #[test]
 fn resize(rt: HostRuntime) -> Result<(), Fail> {
-    let mut desk = with_digits(&rt, rt.alloc())?;
-    desk.tell(
+    on_digits(
         &rt,
         rt.alloc(),
         &[
@@ -27,18 +26,17 @@ fn resize(rt: HostRuntime) -> Result<(), Fail> {
             (r#"protect 0 "f" 4"#, "-1 0"),
             ("size $1 0 -1", "0 223"),
         ],
-    )?;
-    expect_accepted(&rt, rt.alloc(), &mut desk)
+    )
 }
 
 /// What was cut away comes back as zeros.
 fn expect_zeros(rt: &impl Abort, alloc: Global, format: Format) -> Result<(), Fail> {
-    let mut desk = Desk::floppy(alloc, format)?;
     let write = write_line(alloc, 600)?;
     let read = format!(in alloc; "600 0 78{}", "00".repeat(alloc, 599)?)?;
-    desk.tell(
+    on_desk(
         rt,
         alloc,
+        Desk::floppy(alloc, format)?,
         &[
             (r#"output 0 "f""#, "-1 0"),
             (write.as_str(), "600 0"),
@@ -47,8 +45,7 @@ fn expect_zeros(rt: &impl Abort, alloc: Global, format: Format) -> Result<(), Fa
             ("seek $1 0 -1", "1 0"),
             ("read $1 600", read.as_str()),
         ],
-    )?;
-    expect_accepted(rt, alloc, &mut desk)
+    )
 }
 
 #[test]
@@ -59,8 +56,7 @@ fn shrink_and_grow(rt: HostRuntime) -> Result<(), Fail> {
 
 #[test]
 fn positions_follow(rt: HostRuntime) -> Result<(), Fail> {
-    let mut desk = with_digits(&rt, rt.alloc())?;
-    desk.tell(
+    on_digits(
         &rt,
         rt.alloc(),
         &[
@@ -71,6 +67,5 @@ fn positions_follow(rt: HostRuntime) -> Result<(), Fail> {
             ("seek $1 0 0", "5 0"),
             ("seek $4 0 0", "2 0"),
         ],
-    )?;
-    expect_accepted(&rt, rt.alloc(), &mut desk)
+    )
 }

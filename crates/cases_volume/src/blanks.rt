@@ -1,7 +1,5 @@
 //! Blank volumes byte by byte, in both kinds.
 
-ghost use Rattle.adf_block.specs.Image.{IsSize};
-
 use adf_block::{Format, Image};
 use ados_name::{Date3, Name};
 use ados_volume::{DiskInfo, blank};
@@ -13,23 +11,17 @@ use std::test::Fail;
 /// The sum of the root of a blank double density floppy `Work`, whose page is block 881.
 const SUM: u32 = 0x90a8_8cd3;
 
-/// The boot blocks and the root of a blank volume `Work`.
-fn with_root(alloc: Global, format: Format, blocks: u32, root: u32, sum: u32) -> Result<Image, Fail>
-    requires { IsSize blocks }
-{
-    let mut image = zeros(alloc, blocks)?;
-    put(&mut image, 0, &[(0, first_long(format))]);
-    let longs = [
-        (0, 2),
-        (3, 72),
-        (5, sum),
-        (78, u32::MAX),
-        (108, 0x0457_6f72),
-        (109, 0x6b00_0000),
-        (127, 1),
-    ];
-    put(&mut image, root, &longs);
-    Ok(image)
+/// A page: its block, the last of its longs from 1 that are filled with ones, and those that are others.
+type Page<'a> = (u32, u32, &'a [(u32, u32)]);
+
+/// A blank volume `Work`: its blocks, its root with the sum and the longs that name the pages, and these.
+#[derive(Clone, Copy)]
+struct Drawn<'a> {
+    blocks: u32,
+    root: u32,
+    sum: u32,
+    names: &'a [(u32, u32)],
+    pages: &'a [Page<'a>],
 }
 
 /// Fills longs 1 to `last` of a page, then writes others.
@@ -38,6 +30,29 @@ fn put_page(image: &mut Image, page: u32, last: u32, longs: &[(u32, u32)]) {
         put(image, page, &[(i, u32::MAX)]);
     }
     put(image, page, longs);
+}
+
+/// Draws a blank volume.
+fn draw(rt: &impl Abort, alloc: Global, format: Format, drawn: &Drawn<'_>) -> Result<Image, Fail> {
+    let blocks = drawn.blocks;
+    assert!(rt; 16 <= blocks && blocks <= 101_602);
+    let mut image = zeros(alloc, blocks)?;
+    put(&mut image, 0, &[(0, first_long(format))]);
+    let longs = [
+        (0, 2),
+        (3, 72),
+        (5, drawn.sum),
+        (78, u32::MAX),
+        (108, 0x0457_6f72),
+        (109, 0x6b00_0000),
+        (127, 1),
+    ];
+    put(&mut image, drawn.root, &longs);
+    put(&mut image, drawn.root, drawn.names);
+    for &(page, last, others) in drawn.pages {
+        put_page(&mut image, page, last, others);
+    }
+    Ok(image)
 }
 
 /// A blank volume `Work` has all bytes of the image.
@@ -53,57 +68,69 @@ fn expect_blank(
     Ok(())
 }
 
+/// In both kinds a blank volume has all bytes that are drawn.
+fn expect_drawn(rt: &impl Abort, alloc: Global, drawn: &Drawn<'_>) -> Result<(), Fail> {
+    for format in KINDS {
+        expect_blank(rt, alloc, format, &draw(rt, alloc, format, drawn)?)?;
+    }
+    Ok(())
+}
+
 const KINDS: [Format; 2] = [Format::Ofs, Format::Ffs];
 
 #[test]
 fn blank_double_density(rt: HostRuntime) -> Result<(), Fail> {
-    for format in KINDS {
-        let mut image = with_root(rt.alloc(), format, 1760, 880, SUM)?;
-        put(&mut image, 880, &[(79, 881)]);
-        let page = [(0, 0xc000_c037), (28, 0xffff_3fff), (55, 0x3fff_ffff)];
-        put_page(&mut image, 881, 54, &page);
-        expect_blank(&rt, rt.alloc(), format, &image)?;
-    }
-    Ok(())
+    let page = [(0, 0xc000_c037), (28, 0xffff_3fff), (55, 0x3fff_ffff)];
+    let drawn = Drawn {
+        blocks: 1760,
+        root: 880,
+        sum: SUM,
+        names: &[(79, 881)],
+        pages: &[(881, 54, &page)],
+    };
+    expect_drawn(&rt, rt.alloc(), &drawn)
 }
 
 /// The root differs from that of double density in the page alone, and so by as much in the sum.
 #[test]
 fn blank_high_density(rt: HostRuntime) -> Result<(), Fail> {
-    for format in KINDS {
-        let mut image = with_root(rt.alloc(), format, 3520, 1760, SUM + 881 - 1761)?;
-        put(&mut image, 1760, &[(79, 1761)]);
-        let page = [(0, 0x8000_006e), (55, 0x3fff_ffff), (110, 0x3fff_ffff)];
-        put_page(&mut image, 1761, 109, &page);
-        expect_blank(&rt, rt.alloc(), format, &image)?;
-    }
-    Ok(())
+    let page = [(0, 0x8000_006e), (55, 0x3fff_ffff), (110, 0x3fff_ffff)];
+    let drawn = Drawn {
+        blocks: 3520,
+        root: 1760,
+        sum: SUM + 881 - 1761,
+        names: &[(79, 1761)],
+        pages: &[(1761, 109, &page)],
+    };
+    expect_drawn(&rt, rt.alloc(), &drawn)
 }
 
 #[test]
 fn sixteen_blocks(rt: HostRuntime) -> Result<(), Fail> {
-    for format in KINDS {
-        let mut image = with_root(rt.alloc(), format, 16, 8, SUM + 881 - 9)?;
-        put(&mut image, 8, &[(79, 9)]);
-        put_page(&mut image, 9, 0, &[(0, 0xffff_c0c1), (1, 0x0000_3f3f)]);
-        expect_blank(&rt, rt.alloc(), format, &image)?;
-    }
-    Ok(())
+    let drawn = Drawn {
+        blocks: 16,
+        root: 8,
+        sum: SUM + 881 - 9,
+        names: &[(79, 9)],
+        pages: &[(9, 0, &[(0, 0xffff_c0c1), (1, 0x0000_3f3f)])],
+    };
+    expect_drawn(&rt, rt.alloc(), &drawn)
 }
 
 /// The second page has the bit of the last block alone.
 #[test]
 fn several_pages(rt: HostRuntime) -> Result<(), Fail> {
-    for format in KINDS {
-        let sum = SUM + 881 - 2035 - 2036;
-        let mut image = with_root(rt.alloc(), format, 4067, 2034, sum)?;
-        put(&mut image, 2034, &[(79, 2035), (80, 2036)]);
-        let first = [(0, 0x0007_007f), (64, 0xfff8_ffff)];
-        put_page(&mut image, 2035, 127, &first);
-        put_page(&mut image, 2036, 0, &[(0, u32::MAX), (1, 1)]);
-        expect_blank(&rt, rt.alloc(), format, &image)?;
-    }
-    Ok(())
+    let drawn = Drawn {
+        blocks: 4067,
+        root: 2034,
+        sum: SUM + 881 - 2035 - 2036,
+        names: &[(79, 2035), (80, 2036)],
+        pages: &[
+            (2035, 127, &[(0, 0x0007_007f), (64, 0xfff8_ffff)]),
+            (2036, 0, &[(0, u32::MAX), (1, 1)]),
+        ],
+    };
+    expect_drawn(&rt, rt.alloc(), &drawn)
 }
 
 /// All three dates of the root are the moment.
@@ -136,9 +163,24 @@ fn blank_at_a_moment(rt: HostRuntime) -> Result<(), Fail> {
 }
 
 /// A blank volume of this size has its root here, and so many blocks behind the boot blocks, of which so many are in use.
+fn expect_counts(
+    rt: &impl Abort,
+    alloc: Global,
+    (size, root, blocks, used): (u32, u32, u32, u32),
+) -> Result<(), Fail> {
+    assert!(rt; 16 <= size && size <= 101_602);
+    let volume = work(alloc, Format::Ffs, size)?;
+    let info = volume.info();
+    assert_eq!(rt;
+        (volume.root(), info.blocks, info.used),
+        (root, blocks, used)
+    );
+    Ok(())
+}
+
 #[test]
 fn counts_of_blanks(rt: HostRuntime) -> Result<(), Fail> {
-    for (size, root, blocks, used) in [
+    for row in [
         (16, 8, 14, 2),
         (1_760, 880, 1_758, 2),
         (3_520, 1_760, 3_518, 2),
@@ -146,11 +188,7 @@ fn counts_of_blanks(rt: HostRuntime) -> Result<(), Fail> {
         (4_067, 2_034, 4_065, 3),
         (101_602, 50_801, 101_600, 26),
     ] {
-        assert!(rt; 16 <= size && size <= 101_602);
-        let volume = work(rt.alloc(), Format::Ffs, size)?;
-        let info = volume.info();
-        assert_eq!(rt; (info.blocks, info.used), (blocks, used));
-        assert_eq!(rt; volume.root(), root);
+        expect_counts(&rt, rt.alloc(), row)?;
     }
     Ok(())
 }
@@ -173,16 +211,21 @@ fn info_of_blank(rt: HostRuntime) -> Result<(), Fail> {
     Ok(())
 }
 
+/// A volume of so many blocks that is made has all bytes of the one that is drawn.
+fn expect_made(rt: &impl Abort, alloc: Global, format: Format, blocks: u32) -> Result<(), Fail> {
+    assert!(rt; 16 <= blocks && blocks <= 101_602);
+    let wanted = blank_image(alloc, format, blocks)?;
+    let volume = work(alloc, format, blocks)?;
+    assert!(rt; is_same(volume.image(), &wanted), "of {blocks} blocks");
+    Ok(())
+}
+
 /// A volume that is made is the one that is drawn by hand.
 #[test]
 fn drawn_by_hand(rt: HostRuntime) -> Result<(), Fail> {
-    for format in KINDS {
-        for blocks in [16, 1_760, 3_520, 4_066, 4_067, 101_602] {
-            assert!(rt; 16 <= blocks && blocks <= 101_602);
-            let wanted = blank_image(rt.alloc(), format, blocks)?;
-            let volume = work(rt.alloc(), format, blocks)?;
-            assert!(rt; is_same(volume.image(), &wanted), "of {blocks} blocks");
-        }
+    for blocks in [16, 1_760, 3_520, 4_066, 4_067, 101_602] {
+        expect_made(&rt, rt.alloc(), Format::Ofs, blocks)?;
+        expect_made(&rt, rt.alloc(), Format::Ffs, blocks)?;
     }
     Ok(())
 }

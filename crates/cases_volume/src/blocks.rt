@@ -5,6 +5,7 @@ ghost use Rattle.std.specs.Prelude.{◌≤◌};
 use adf_block::{BootKind, Image, SizeFault, size_ok};
 use cases_drawn::{floppy, put, zeros};
 use std::alloc::Global;
+use std::process::Abort;
 use std::test::Fail;
 
 /// The first fault of that many bytes, which come back.
@@ -24,6 +25,18 @@ fn fault_of(alloc: Global, bytes: usize) -> Result<Option<SizeFault>, Fail>
     }
 }
 
+/// An image of that many bytes has this fault, or none.
+fn expect_size(
+    rt: &impl Abort,
+    alloc: Global,
+    bytes: usize,
+    fault: Option<SizeFault>,
+) -> Result<(), Fail> {
+    assert!(rt; bytes <= 100_000_000);
+    assert_eq!(rt; fault_of(alloc, bytes)?, fault, "of {bytes} bytes");
+    Ok(())
+}
+
 #[test]
 fn sizes(rt: HostRuntime) -> Result<(), Fail> {
     for (bytes, fault) in [
@@ -34,8 +47,7 @@ fn sizes(rt: HostRuntime) -> Result<(), Fail> {
         (52_020_224, None),
         (52_020_736, Some(SizeFault::TooManyBlocks)),
     ] {
-        assert!(rt; bytes <= 100_000_000);
-        assert_eq!(rt; fault_of(rt.alloc(), bytes)?, fault, "of {bytes} bytes");
+        expect_size(&rt, rt.alloc(), bytes, fault)?;
     }
     Ok(())
 }
@@ -53,6 +65,19 @@ fn size_limits(rt: HostRuntime) {
     }
 }
 
+/// An image with these longs at its front is bootable, or not.
+fn expect_bootable(
+    rt: &impl Abort,
+    alloc: Global,
+    [kind, sum, code]: [u32; 3],
+    is_bootable: bool,
+) -> Result<(), Fail> {
+    let mut image = zeros(alloc, 1_760)?;
+    put(&mut image, 0, &[(0, kind), (1, sum), (2, code)]);
+    assert_eq!(rt; image.is_bootable(), is_bootable);
+    Ok(())
+}
+
 /// The sum of the first rows is all ones; the carry comes round.
 #[test]
 fn boot_sum(rt: HostRuntime) -> Result<(), Fail> {
@@ -62,10 +87,7 @@ fn boot_sum(rt: HostRuntime) -> Result<(), Fail> {
         ([0x444f_5301, 0xbbb0_acff, 0xffff_ffff], false),
         ([0x444f_5301, 0xbbb0_acfe, 0xffff_ffff], true),
     ] {
-        let mut image = zeros(rt.alloc(), 1_760)?;
-        let [kind, sum, code] = longs;
-        put(&mut image, 0, &[(0, kind), (1, sum), (2, code)]);
-        assert_eq!(rt; image.is_bootable(), is_bootable);
+        expect_bootable(&rt, rt.alloc(), longs, is_bootable)?;
     }
     Ok(())
 }

@@ -1,13 +1,13 @@
-//! What is asked of a volume and changed in it, each by a path from the root, at the first moment.
+//! What is asked of a volume and changed in it, each by a path from the root.
 
 ghost use Rattle.std.specs.Prelude.{IfOk};
 ghost use Rattle.ados_tree.specs.Keys.{HasDirectory, HasEntryKey, HasFileKey, HasKey};
 
-use ados_name::{Date3, Name, PathText, Protect};
+use ados_name::{Comment, Date3, Name, PathText, Protect};
 use ados_tree::{PlaceFault, WalkFault};
 use ados_volume::{FileInfo, Next, Volume};
 use cases_drawn::{
-    Refusal, START, entry_behind, is_file, make_directory, make_file, move_to, put_bytes, resize,
+    Refusal, entry_behind, is_file, make_directory, make_file, move_to, put_bytes, resize,
     take_away,
 };
 use std::alloc::Global;
@@ -80,6 +80,7 @@ pub(crate) fn next(volume: &mut Volume, path: &[u8], key: u32) -> Result<Next, F
 pub(crate) fn expect_entries(
     rt: &impl Abort,
     volume: &mut Volume,
+    number: usize,
     path: &[u8],
     names: &[&[u8]],
 ) -> Result<(), Fail> {
@@ -90,50 +91,49 @@ pub(crate) fn expect_entries(
             return Err("an entry is missing".into());
         };
         let info = volume.examine(key);
-        assert_eq!(rt; info.name.bytes(), *name);
+        assert_eq!(rt; info.name.bytes(), *name, "row {number}");
         last = key;
     }
-    assert_eq!(rt; volume.next(dir, last), Next::End);
+    assert_eq!(rt; volume.next(dir, last), Next::End, "row {number}");
     Ok(())
 }
 
-/// A walk from the object of the path `from` ends so.
-pub(crate) fn expect_walk(
-    rt: &impl Abort,
+/// Where a path leads from the object of another one.
+pub(crate) fn walk_from(
     volume: &mut Volume,
     from: &[u8],
     path: &[u8],
-    wanted: Result<u32, WalkFault>,
-) -> Result<(), Fail> {
+) -> Result<Result<u32, WalkFault>, Fail> {
     let root = volume.root();
     let start = volume.walk(root, &PathText::new(from)?)?;
-    assert_eq!(rt; volume.walk(start, &PathText::new(path)?), wanted);
-    Ok(())
+    Ok(volume.walk(start, &PathText::new(path)?))
 }
 
-/// The place that a path names is so.
-pub(crate) fn expect_place(
-    rt: &impl Abort,
+/// The place that a path names.
+pub(crate) fn place(
     volume: &mut Volume,
     path: &[u8],
-    wanted: Result<(u32, Name), PlaceFault>,
-) -> Result<(), Fail> {
+) -> Result<Result<(u32, Name), PlaceFault>, Fail> {
     let root = volume.root();
-    assert_eq!(rt; volume.place(root, &PathText::new(path)?), wanted);
-    Ok(())
+    Ok(volume.place(root, &PathText::new(path)?))
 }
 
 /// What comes after each key in a directory, which is that of a place in it.
 pub(crate) fn expect_order(
     rt: &impl Abort,
     volume: &mut Volume,
+    number: usize,
     place: &[u8],
     order: &[(u32, Next)],
 ) -> Result<(), Fail> {
     let root = volume.root();
     let (dir, _) = volume.place(root, &PathText::new(place)?)?;
     for (key, wanted) in order {
-        assert_eq!(rt; volume.next(dir, *key), *wanted, "after {key}");
+        assert_eq!(rt;
+            volume.next(dir, *key),
+            *wanted,
+            "row {number}: after {key}"
+        );
     }
     Ok(())
 }
@@ -148,23 +148,32 @@ pub(crate) fn child(volume: &mut Volume, name: &[u8]) -> Result<Option<u32>, Fai
 pub(crate) fn makes_directory(
     volume: &mut Volume,
     path: &[u8],
+    moment: Date3,
 ) -> Result<Result<u32, Refusal>, Fail> {
     let root = volume.root();
     let (dir, name) = volume.place(root, &PathText::new(path)?)?;
-    Ok(make_directory(volume, dir, name, START))
+    Ok(make_directory(volume, dir, name, moment))
 }
 
 /// Makes a file.
-pub(crate) fn makes_file(volume: &mut Volume, path: &[u8]) -> Result<Result<u32, Refusal>, Fail> {
+pub(crate) fn makes_file(
+    volume: &mut Volume,
+    path: &[u8],
+    moment: Date3,
+) -> Result<Result<u32, Refusal>, Fail> {
     let root = volume.root();
     let (dir, name) = volume.place(root, &PathText::new(path)?)?;
-    Ok(make_file(volume, dir, name, START))
+    Ok(make_file(volume, dir, name, moment))
 }
 
 /// Takes an object away.
-pub(crate) fn removes(volume: &mut Volume, path: &[u8]) -> Result<Result<(), Refusal>, Fail> {
+pub(crate) fn removes(
+    volume: &mut Volume,
+    path: &[u8],
+    moment: Date3,
+) -> Result<Result<(), Refusal>, Fail> {
     let key = object(volume, path)?;
-    Ok(take_away(volume, key, START))
+    Ok(take_away(volume, key, moment))
 }
 
 /// Moves an object to a place.
@@ -172,11 +181,12 @@ pub(crate) fn renames(
     volume: &mut Volume,
     from: &[u8],
     to: &[u8],
+    moment: Date3,
 ) -> Result<Result<(), Refusal>, Fail> {
     let key = object(volume, from)?;
     let root = volume.root();
     let (dir, name) = volume.place(root, &PathText::new(to)?)?;
-    Ok(move_to(volume, key, dir, name, START))
+    Ok(move_to(volume, key, dir, name, moment))
 }
 
 /// Writes bytes to a file.
@@ -185,9 +195,10 @@ pub(crate) fn writes(
     path: &[u8],
     pos: u64,
     bytes: &[u8],
+    moment: Date3,
 ) -> Result<Result<(), Refusal>, Fail> {
     let key = file(volume, path)?;
-    Ok(put_bytes(volume, key, pos, bytes, START))
+    Ok(put_bytes(volume, key, pos, bytes, moment))
 }
 
 /// Gives a file a size.
@@ -195,19 +206,25 @@ pub(crate) fn resizes(
     volume: &mut Volume,
     path: &[u8],
     size: u32,
+    moment: Date3,
 ) -> Result<Result<(), Refusal>, Fail> {
     let key = file(volume, path)?;
-    Ok(resize(volume, key, size, START))
+    Ok(resize(volume, key, size, moment))
 }
 
 /// Sets the protection bits of an entry.
-pub(crate) fn protects(volume: &mut Volume, path: &[u8], bits: u32) -> Result<(), Fail> {
+pub(crate) fn protects(
+    volume: &mut Volume,
+    path: &[u8],
+    bits: u32,
+    moment: Date3,
+) -> Result<(), Fail> {
     let key = entry(volume, path)?;
-    volume.set_protect(key, Protect(bits), START);
+    volume.set_protect(key, Protect(bits), moment);
     Ok(())
 }
 
-/// Sets the date of an entry, at another moment.
+/// Sets the date of an entry.
 pub(crate) fn dates(
     volume: &mut Volume,
     path: &[u8],
@@ -216,6 +233,19 @@ pub(crate) fn dates(
 ) -> Result<(), Fail> {
     let key = entry(volume, path)?;
     volume.set_date(key, date, moment);
+    Ok(())
+}
+
+/// Sets the comment of an entry.
+pub(crate) fn comments(
+    volume: &mut Volume,
+    path: &[u8],
+    comment: &[u8],
+    moment: Date3,
+) -> Result<(), Fail> {
+    let comment = Comment::new(comment)?;
+    let key = entry(volume, path)?;
+    volume.set_comment(key, &comment, moment);
     Ok(())
 }
 

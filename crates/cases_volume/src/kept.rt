@@ -1,58 +1,61 @@
 //! Bytes that no change touches.
 
-use crate::by_path::{examined, makes_file, protects, writes};
-use crate::looks::{expect_accepted, expect_block};
-use crate::moved::list_and_rename_on;
-use ados_volume::Volume;
-use cases_drawn::{Refusal, checked, copy, floppy, is_same, with_boot_code, with_lost_block};
-use std::process::Abort;
+use crate::full::fill;
+use crate::moved::LIST_AND_RENAME;
+use crate::rows::{Field, Row, on_floppy, play};
+use Field::Bits;
+use Row::{Accepted, NewFile, Protects, Same, Told, Used, Writes};
+use cases_drawn::{Refusal, START, checked, copy, with_boot_code, with_lost_block};
 use std::test::Fail;
 
 /// Protection bits are set one after another; an empty write leaves the archive bit, any other clears it.
-fn protect_on(rt: &impl Abort, volume: &mut Volume) -> Result<(), Fail> {
-    assert!(rt; makes_file(volume, b"f")?.is_ok());
-    for bits in [1, 5, 4, 8, 16] {
-        protects(volume, b"f", bits)?;
-        assert_eq!(rt; examined(volume, b"f")?.protection.0, bits);
-    }
-    assert_eq!(rt; writes(volume, b"f", 0, b"")?, Ok(()));
-    assert_eq!(rt; examined(volume, b"f")?.protection.0, 16);
-    assert_eq!(rt; writes(volume, b"f", 0, b"x")?, Ok(()));
-    assert_eq!(rt; examined(volume, b"f")?.protection.0, 0);
-    Ok(())
-}
+const PROTECT: [Row<'static>; 16] = [
+    NewFile(b"f"),
+    Protects(b"f", 1),
+    Told(b"f", &[Bits(1)]),
+    Protects(b"f", 5),
+    Told(b"f", &[Bits(5)]),
+    Protects(b"f", 4),
+    Told(b"f", &[Bits(4)]),
+    Protects(b"f", 8),
+    Told(b"f", &[Bits(8)]),
+    Protects(b"f", 16),
+    Told(b"f", &[Bits(16)]),
+    Writes(b"f", 0, b"", Ok(())),
+    Told(b"f", &[Bits(16)]),
+    Writes(b"f", 0, b"x", Ok(())),
+    Told(b"f", &[Bits(0)]),
+    Accepted,
+];
 
 #[test]
 fn protection(rt: HostRuntime) -> Result<(), Fail> {
-    let mut volume = floppy(rt.alloc())?;
-    protect_on(&rt, &mut volume)?;
-    expect_accepted(&rt, rt.alloc(), &volume)
+    on_floppy(&rt, rt.alloc(), &PROTECT)
 }
 
 #[test]
 fn boot_blocks_kept(rt: HostRuntime) -> Result<(), Fail> {
     let was = with_boot_code(rt.alloc())?;
     let mut volume = checked(rt.alloc(), copy(rt.alloc(), &was)?)?;
-    list_and_rename_on(&rt, &mut volume)?;
-    protect_on(&rt, &mut volume)?;
-    expect_block(&rt, volume.image(), &was, 0);
-    expect_block(&rt, volume.image(), &was, 1);
-    expect_accepted(&rt, rt.alloc(), &volume)
+    play(&rt, rt.alloc(), &mut volume, START, &LIST_AND_RENAME)?;
+    play(&rt, rt.alloc(), &mut volume, START, &PROTECT)?;
+    let kept = [Same(&was, 0), Same(&was, 1)];
+    play(&rt, rt.alloc(), &mut volume, START, &kept)
 }
 
 #[test]
 fn lost_block_kept(rt: HostRuntime) -> Result<(), Fail> {
-    let mut bytes = vec![in rt.alloc(); b'y'; 885_761]?;
+    let all = vec![in rt.alloc(); b'y'; 885_760]?;
+    let more = vec![in rt.alloc(); b'y'; 885_761]?;
     let was = with_lost_block(rt.alloc())?;
     let mut volume = checked(rt.alloc(), copy(rt.alloc(), &was)?)?;
-    assert!(rt; makes_file(&mut volume, b"f")?.is_ok());
-    let before = copy(rt.alloc(), volume.image())?;
-    let full = writes(&mut volume, b"f", 0, &bytes)?;
-    assert_eq!(rt; full, Err(Refusal::DiskFull));
-    assert!(rt; is_same(volume.image(), &before));
-    bytes.truncate(885_760);
-    assert_eq!(rt; writes(&mut volume, b"f", 0, &bytes)?, Ok(()));
-    assert_eq!(rt; volume.info().used, 1_758);
-    expect_block(&rt, volume.image(), &was, 5);
-    expect_accepted(&rt, rt.alloc(), &volume)
+    fill(
+        &rt,
+        rt.alloc(),
+        &mut volume,
+        &[NewFile(b"f")],
+        &[Writes(b"f", 0, &more, Err(Refusal::DiskFull))],
+        &[Writes(b"f", 0, &all, Ok(())), Used(1_758), Accepted],
+    )?;
+    play(&rt, rt.alloc(), &mut volume, START, &[Same(&was, 5)])
 }

@@ -8,6 +8,8 @@ mod by_path;
 #[cfg(test)]
 mod looks;
 #[cfg(test)]
+mod rows;
+#[cfg(test)]
 mod trees;
 
 // Names, paths, protection and dates.

@@ -5,24 +5,28 @@ use adf_block::{Format, Image};
 use ados_tree::FaultKind;
 use cases_drawn::{blank_image, copy, floppy, page_count, put, settle, settle_page, zeros};
 use std::alloc::{AllocError, Global};
+use std::process::Abort;
 use std::test::Fail;
 
 /// The long of the root that says whether the bitmap is valid.
 const BITMAP_FLAG: u32 = 78;
 
+/// With this flag of the bitmap a page of zeros is written anew.
+fn expect_validated(rt: &impl Abort, alloc: Global, flag: u32) -> Result<(), Fail> {
+    let wanted = floppy(alloc)?.into_image();
+    let mut image = copy(alloc, &wanted)?;
+    settle(&mut image, 880, &[(BITMAP_FLAG, flag)]);
+    for i in 0..128 {
+        put(&mut image, 881, &[(i, 0)]);
+    }
+    expect_mended(rt, alloc, image, &wanted)
+}
+
 /// A page of zeros is written anew.
 #[test]
 fn validated(rt: HostRuntime) -> Result<(), Fail> {
-    let wanted = floppy(rt.alloc())?.into_image();
-    for flag in [0, 1] {
-        let mut image = copy(rt.alloc(), &wanted)?;
-        settle(&mut image, 880, &[(BITMAP_FLAG, flag)]);
-        for i in 0..128 {
-            put(&mut image, 881, &[(i, 0)]);
-        }
-        expect_mended(&rt, rt.alloc(), image, &wanted)?;
-    }
-    Ok(())
+    expect_validated(&rt, rt.alloc(), 0)?;
+    expect_validated(&rt, rt.alloc(), 1)
 }
 
 /// The blank floppy with another flag, longs of its page changed, and both sums settled.
@@ -51,20 +55,24 @@ fn bad_page_sum(rt: HostRuntime) -> Result<(), Fail> {
     expect_fault(&rt, rt.alloc(), &image, FaultKind::BadSum, 881)
 }
 
-/// Of each size the blank volume whose pages were lost becomes that which is drawn with its pages.
+/// The blank volume of this size whose pages were lost becomes that which is drawn with its pages.
+fn expect_pages(rt: &impl Abort, alloc: Global, blocks: u32) -> Result<(), Fail> {
+    assert!(rt; 16 <= blocks && blocks <= 101_602);
+    let wanted = blank_image(alloc, Format::Ffs, blocks)?;
+    let mut image = copy(alloc, &wanted)?;
+    let root = image.root();
+    settle(&mut image, root, &[(BITMAP_FLAG, 0)]);
+    for page in 0..page_count(&image) {
+        let block = root.saturating_add(1).saturating_add(page);
+        settle_page(&mut image, block, &[(1, 0), (2, 7)]);
+    }
+    expect_mended(rt, alloc, image, &wanted)
+}
+
 #[test]
 fn mended_pages(rt: HostRuntime) -> Result<(), Fail> {
     for blocks in [16, 4_066, 4_067, 101_602] {
-        assert!(rt; 16 <= blocks && blocks <= 101_602);
-        let wanted = blank_image(rt.alloc(), Format::Ffs, blocks)?;
-        let mut image = copy(rt.alloc(), &wanted)?;
-        let root = image.root();
-        settle(&mut image, root, &[(BITMAP_FLAG, 0)]);
-        for page in 0..page_count(&image) {
-            let block = root.saturating_add(1).saturating_add(page);
-            settle_page(&mut image, block, &[(1, 0), (2, 7)]);
-        }
-        expect_mended(&rt, rt.alloc(), image, &wanted)?;
+        expect_pages(&rt, rt.alloc(), blocks)?;
     }
     Ok(())
 }

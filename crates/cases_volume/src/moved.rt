@@ -1,112 +1,131 @@
 //! Entries that are made, moved and refused.
 
-use crate::by_path::{
-    examined, expect_entries, makes_directory, makes_file, next, removes, renames,
+use crate::rows::{Field, Row, on_floppy};
+use Field::Key;
+use Row::{
+    Accepted, Entries, Longs, MakesDirectory, MakesFile, NewDirectory, NewFile, Next, Removes,
+    Renames, Told,
 };
-use crate::looks::{expect_accepted, expect_longs};
-use ados_volume::{Next, Volume};
-use cases_drawn::{Refusal, floppy};
-use std::process::Abort;
+use ados_volume::Next::NotAnEntry;
+use cases_drawn::Refusal;
 use std::test::Fail;
 
 /// Files `B`, `A` and `DP`: the last two stand in one slot, in the order in which they entered it.
-pub(crate) fn list_and_rename_on(rt: &impl Abort, volume: &mut Volume) -> Result<(), Fail> {
-    for name in [b"B".as_slice(), b"A", b"DP"] {
-        assert!(rt; makes_file(volume, name)?.is_ok());
-    }
-    expect_entries(rt, volume, b"", &[b"A", b"DP", b"B"])?;
-    assert_eq!(rt; next(volume, b"", 881)?, Next::NotAnEntry);
-    assert_eq!(rt; renames(volume, b"A", b"a")?, Ok(()));
-    expect_entries(rt, volume, b"", &[b"DP", b"a", b"B"])?;
-    assert!(rt; makes_directory(volume, b"d")?.is_ok());
-    assert_eq!(rt; renames(volume, b"a", b"d/a")?, Ok(()));
-    expect_entries(rt, volume, b"", &[b"DP", b"B", b"d"])?;
-    expect_entries(rt, volume, b"d", &[b"a"])?;
-    assert_eq!(rt; renames(volume, b"B", b"dp")?, Err(Refusal::ObjectExists));
-    Ok(())
-}
+pub(crate) const LIST_AND_RENAME: [Row<'static>; 13] = [
+    NewFile(b"B"),
+    NewFile(b"A"),
+    NewFile(b"DP"),
+    Entries(b"", &[b"A", b"DP", b"B"]),
+    Next(b"", 881, NotAnEntry),
+    Renames(b"A", b"a", Ok(())),
+    Entries(b"", &[b"DP", b"a", b"B"]),
+    NewDirectory(b"d"),
+    Renames(b"a", b"d/a", Ok(())),
+    Entries(b"", &[b"DP", b"B", b"d"]),
+    Entries(b"d", &[b"a"]),
+    Renames(b"B", b"dp", Err(Refusal::ObjectExists)),
+    Accepted,
+];
 
 #[test]
 fn list_and_rename(rt: HostRuntime) -> Result<(), Fail> {
-    let mut volume = floppy(rt.alloc())?;
-    list_and_rename_on(&rt, &mut volume)?;
-    expect_accepted(&rt, rt.alloc(), &volume)
+    on_floppy(&rt, rt.alloc(), &LIST_AND_RENAME)
 }
 
 #[test]
 fn three_in_a_slot(rt: HostRuntime) -> Result<(), Fail> {
-    let mut volume = floppy(rt.alloc())?;
-    for name in [b"B".as_slice(), b"A", b"DP"] {
-        assert!(rt; makes_directory(&mut volume, name)?.is_ok());
-    }
-    expect_entries(&rt, &mut volume, b"", &[b"A", b"DP", b"B"])?;
-    assert_eq!(rt; renames(&mut volume, b"A", b"a")?, Ok(()));
-    expect_entries(&rt, &mut volume, b"", &[b"DP", b"a", b"B"])?;
-    expect_accepted(&rt, rt.alloc(), &volume)
+    on_floppy(
+        &rt,
+        rt.alloc(),
+        &[
+            NewDirectory(b"B"),
+            NewDirectory(b"A"),
+            NewDirectory(b"DP"),
+            Entries(b"", &[b"A", b"DP", b"B"]),
+            Renames(b"A", b"a", Ok(())),
+            Entries(b"", &[b"DP", b"a", b"B"]),
+            Accepted,
+        ],
+    )
 }
 
 /// Each refusal leaves the image as it was.
 #[test]
 fn refused_moves(rt: HostRuntime) -> Result<(), Fail> {
-    let mut volume = floppy(rt.alloc())?;
-    assert_eq!(rt; makes_directory(&mut volume, b"x")?, Ok(2));
-    let exists = Err(Refusal::ObjectExists);
-    assert_eq!(rt; makes_directory(&mut volume, b"X")?, exists);
-    assert_eq!(rt; makes_file(&mut volume, b"X")?, exists);
-    let under = Err(Refusal::ObjectInUse);
-    assert_eq!(rt; renames(&mut volume, b"x", b"x/e")?, under);
-    assert_eq!(rt; makes_directory(&mut volume, b"x/y")?, Ok(3));
-    assert_eq!(rt; renames(&mut volume, b"x", b"x/y/e")?, under);
-    assert_eq!(rt;
-        removes(&mut volume, b"x")?,
-        Err(Refusal::DirectoryNotEmpty)
-    );
-    assert_eq!(rt; removes(&mut volume, b"")?, Err(Refusal::WrongType));
-    assert_eq!(rt; renames(&mut volume, b"", b"x/r")?, Err(Refusal::WrongType));
-    assert_eq!(rt; renames(&mut volume, b"x/y", b"z")?, Ok(()));
-    assert_eq!(rt; renames(&mut volume, b"x", b"z/x")?, Ok(()));
-    assert_eq!(rt; examined(&mut volume, b"z/x")?.key, 2);
-    expect_accepted(&rt, rt.alloc(), &volume)
+    on_floppy(
+        &rt,
+        rt.alloc(),
+        &[
+            MakesDirectory(b"x", Ok(2)),
+            MakesDirectory(b"X", Err(Refusal::ObjectExists)),
+            MakesFile(b"X", Err(Refusal::ObjectExists)),
+            Renames(b"x", b"x/e", Err(Refusal::ObjectInUse)),
+            MakesDirectory(b"x/y", Ok(3)),
+            Renames(b"x", b"x/y/e", Err(Refusal::ObjectInUse)),
+            Removes(b"x", Err(Refusal::DirectoryNotEmpty)),
+            Removes(b"", Err(Refusal::WrongType)),
+            Renames(b"", b"x/r", Err(Refusal::WrongType)),
+            Renames(b"x/y", b"z", Ok(())),
+            Renames(b"x", b"z/x", Ok(())),
+            Told(b"z/x", &[Key(2)]),
+            Accepted,
+        ],
+    )
 }
 
 /// Directories `A`, `DP`, `EC` and `B` stand in blocks 2 to 5, the first three in one slot. Each is taken out of its chain: from
 /// the middle, as the first, put back, as the last, and as the only one.
 #[test]
 fn takes_out(rt: HostRuntime) -> Result<(), Fail> {
-    let mut volume = floppy(rt.alloc())?;
-    for name in [b"A".as_slice(), b"DP", b"EC", b"B"] {
-        assert!(rt; makes_directory(&mut volume, name)?.is_ok());
-    }
-    expect_entries(&rt, &mut volume, b"", &[b"A", b"DP", b"EC", b"B"])?;
-    expect_longs(&rt, volume.image(), 880, &[(12, 2), (13, 5)]);
-    let rows: [(&[u8], &[&[u8]], u32, (u32, u32)); 4] = [
-        (b"DP", &[b"A", b"EC", b"B"], 2, (2, 4)),
-        (b"A", &[b"EC", b"B"], 4, (4, 0)),
-        (b"EC", &[b"B"], 0, (5, 0)),
-        (b"B", &[], 0, (4, 0)),
-    ];
-    for (name, left, first, (block, next)) in rows {
-        assert_eq!(rt; removes(&mut volume, name)?, Ok(()));
-        expect_entries(&rt, &mut volume, b"", left)?;
-        expect_longs(&rt, volume.image(), 880, &[(12, first)]);
-        expect_longs(&rt, volume.image(), block, &[(124, next)]);
-    }
-    expect_accepted(&rt, rt.alloc(), &volume)
+    on_floppy(
+        &rt,
+        rt.alloc(),
+        &[
+            NewDirectory(b"A"),
+            NewDirectory(b"DP"),
+            NewDirectory(b"EC"),
+            NewDirectory(b"B"),
+            Entries(b"", &[b"A", b"DP", b"EC", b"B"]),
+            Longs(880, &[(12, 2), (13, 5)]),
+            Removes(b"DP", Ok(())),
+            Entries(b"", &[b"A", b"EC", b"B"]),
+            Longs(880, &[(12, 2)]),
+            Longs(2, &[(124, 4)]),
+            Removes(b"A", Ok(())),
+            Entries(b"", &[b"EC", b"B"]),
+            Longs(880, &[(12, 4)]),
+            Longs(4, &[(124, 0)]),
+            Removes(b"EC", Ok(())),
+            Entries(b"", &[b"B"]),
+            Longs(880, &[(12, 0)]),
+            Longs(5, &[(124, 0)]),
+            Removes(b"B", Ok(())),
+            Entries(b"", &[]),
+            Longs(880, &[(12, 0)]),
+            Longs(4, &[(124, 0)]),
+            Accepted,
+        ],
+    )
 }
 
 /// An entry that is put back is the last of its chain, and is taken out from there.
 #[test]
 fn puts_last(rt: HostRuntime) -> Result<(), Fail> {
-    let mut volume = floppy(rt.alloc())?;
-    for name in [b"A".as_slice(), b"DP", b"A/IW"] {
-        assert!(rt; makes_directory(&mut volume, name)?.is_ok());
-    }
-    assert_eq!(rt; renames(&mut volume, b"A/IW", b"IW")?, Ok(()));
-    expect_entries(&rt, &mut volume, b"", &[b"A", b"DP", b"IW"])?;
-    expect_entries(&rt, &mut volume, b"A", &[])?;
-    expect_longs(&rt, volume.image(), 3, &[(124, 4)]);
-    assert_eq!(rt; removes(&mut volume, b"IW")?, Ok(()));
-    expect_entries(&rt, &mut volume, b"", &[b"A", b"DP"])?;
-    expect_longs(&rt, volume.image(), 3, &[(124, 0)]);
-    expect_accepted(&rt, rt.alloc(), &volume)
+    on_floppy(
+        &rt,
+        rt.alloc(),
+        &[
+            NewDirectory(b"A"),
+            NewDirectory(b"DP"),
+            NewDirectory(b"A/IW"),
+            Renames(b"A/IW", b"IW", Ok(())),
+            Entries(b"", &[b"A", b"DP", b"IW"]),
+            Entries(b"A", &[]),
+            Longs(3, &[(124, 4)]),
+            Removes(b"IW", Ok(())),
+            Entries(b"", &[b"A", b"DP"]),
+            Longs(3, &[(124, 0)]),
+            Accepted,
+        ],
+    )
 }

@@ -5,6 +5,7 @@ use ados_name::{
     Step, same_name_same_slot, upper,
 };
 use std::alloc::Global;
+use std::process::Abort;
 use std::test::Fail;
 
 /// The name that these bytes spell.
@@ -33,6 +34,14 @@ fn text(alloc: Global, days: u32, minutes: u32, ticks: u32) -> Result<String, Fa
     Ok(date.text(alloc)?)
 }
 
+/// A name has this slot and these bytes.
+fn expect_slot(rt: &impl Abort, bytes: &[u8], slot: u32) -> Result<(), Fail> {
+    let name = name(bytes)?;
+    assert_eq!(rt; (name.slot(), name.hash() % 72), (slot, slot));
+    assert_eq!(rt; name.bytes(), bytes);
+    Ok(())
+}
+
 #[test]
 fn hashes(rt: HostRuntime) -> Result<(), Fail> {
     let slots: [(&[u8], u32); 10] = [
@@ -48,10 +57,7 @@ fn hashes(rt: HostRuntime) -> Result<(), Fail> {
         (b"\xc4", 65),
     ];
     for (bytes, slot) in slots {
-        let name = name(bytes)?;
-        assert_eq!(rt; name.slot(), slot);
-        assert_eq!(rt; name.hash() % 72, slot);
-        assert_eq!(rt; name.bytes(), bytes);
+        expect_slot(&rt, bytes, slot)?;
     }
     assert!(rt; name(b"ReadMe")?.same(&name(b"README")?));
     assert!(rt; !name(b"\xe4")?.same(&name(b"\xc4")?));
@@ -76,46 +82,71 @@ fn upper_cases(rt: HostRuntime) {
 
 #[test]
 fn name_faults(rt: HostRuntime) -> Result<(), Fail> {
-    assert_eq!(rt; Name::new(b""), Err(NameFault::Empty));
-    assert_eq!(rt; Name::new(&[b'/'; 31]), Err(NameFault::TooLong));
-    assert_eq!(rt; Name::new(b"a/b"), Err(NameFault::Separator));
-    assert_eq!(rt; Name::new(b"a:b"), Err(NameFault::Separator));
+    let faults: [(&[u8], NameFault); 4] = [
+        (b"", NameFault::Empty),
+        (&[b'/'; 31], NameFault::TooLong),
+        (b"a/b", NameFault::Separator),
+        (b"a:b", NameFault::Separator),
+    ];
+    for (bytes, fault) in faults {
+        assert_eq!(rt; Name::new(bytes), Err(fault));
+    }
     assert_eq!(rt; name(&[b'x'; 30])?.bytes(), [b'x'; 30].as_slice());
     Ok(())
 }
 
+/// The length of a comment.
+fn comment_length(bytes: &[u8]) -> Result<usize, CommentTooLong> {
+    Ok(Comment::new(bytes)?.bytes().len())
+}
+
+/// The length of a path.
+fn path_length(bytes: &[u8]) -> Result<usize, PathTooLong> {
+    Ok(PathText::new(bytes)?.bytes().len())
+}
+
 #[test]
-fn comments_and_paths_of_any_length(rt: HostRuntime) -> Result<(), Fail> {
-    assert_eq!(rt; Comment::new(&[b'x'; 80]), Err(CommentTooLong));
-    assert_eq!(rt;
-        Comment::new(&[b'x'; 79]).map(|comment| comment.bytes().len()),
-        Ok(79)
-    );
-    assert_eq!(rt;
-        Comment::new(b"a:b/c").map(|comment| comment.bytes().len()),
-        Ok(5)
-    );
-    assert_eq!(rt; PathText::new(&[b'x'; 256]), Err(PathTooLong));
-    assert_eq!(rt; path(&[b'x'; 255])?.bytes().len(), 255);
-    assert_eq!(rt; path(b"")?.bytes(), b"".as_slice());
-    Ok(())
+fn comments_and_paths_of_any_length(rt: HostRuntime) {
+    let comments: [(&[u8], Result<usize, CommentTooLong>); 3] = [
+        (&[b'x'; 80], Err(CommentTooLong)),
+        (&[b'x'; 79], Ok(79)),
+        (b"a:b/c", Ok(5)),
+    ];
+    for (bytes, length) in comments {
+        assert_eq!(rt; comment_length(bytes), length);
+    }
+    let paths: [(&[u8], Result<usize, PathTooLong>); 3] = [
+        (&[b'x'; 256], Err(PathTooLong)),
+        (&[b'x'; 255], Ok(255)),
+        (b"", Ok(0)),
+    ];
+    for (bytes, length) in paths {
+        assert_eq!(rt; path_length(bytes), length);
+    }
 }
 
 #[test]
 fn dates(rt: HostRuntime) -> Result<(), Fail> {
-    let alloc = rt.alloc();
-    assert_eq!(rt;
-        text(alloc, 8035, 61, 125)?.as_str(),
-        "2000-01-01 01:01:02.50"
-    );
-    assert_eq!(rt;
-        text(alloc, 2_929_974, 1439, 2999)?.as_str(),
-        "9999-12-31 23:59:59.98"
-    );
-    assert_eq!(rt; text(alloc, 2_929_975, 0, 0)?.as_str(), "raw 2929975 0 0");
-    assert_eq!(rt; text(alloc, 0, 1440, 0)?.as_str(), "raw 0 1440 0");
-    assert_eq!(rt; text(alloc, 0, 0, 0)?.as_str(), "1978-01-01 00:00:00.00");
-    assert_eq!(rt; text(alloc, 0, 0, 3000)?.as_str(), "raw 0 0 3000");
+    let texts: [(u32, u32, u32, &str); 6] = [
+        (8035, 61, 125, "2000-01-01 01:01:02.50"),
+        (2_929_974, 1439, 2999, "9999-12-31 23:59:59.98"),
+        (2_929_975, 0, 0, "raw 2929975 0 0"),
+        (0, 1440, 0, "raw 0 1440 0"),
+        (0, 0, 0, "1978-01-01 00:00:00.00"),
+        (0, 0, 3000, "raw 0 0 3000"),
+    ];
+    for (days, minutes, ticks, wanted) in texts {
+        assert_eq!(rt; text(rt.alloc(), days, minutes, ticks)?.as_str(), wanted);
+    }
+    Ok(())
+}
+
+/// A path is split into these.
+fn expect_split(rt: &impl Abort, bytes: &[u8], front: &[u8], last: &[u8]) -> Result<(), Fail> {
+    let path = path(bytes)?;
+    let (found_front, found_last) = path.split_last();
+    assert_eq!(rt; found_front, front);
+    assert_eq!(rt; found_last, last);
     Ok(())
 }
 
@@ -130,14 +161,11 @@ fn split_and_letters(rt: HostRuntime) -> Result<(), Fail> {
         (b"", b"", b""),
     ];
     for (bytes, front, last) in splits {
-        let path = path(bytes)?;
-        let (found_front, found_last) = path.split_last();
-        assert_eq!(rt; found_front, front);
-        assert_eq!(rt; found_last, last);
+        expect_split(&rt, bytes, front, last)?;
     }
-    assert_eq!(rt; Protect(0).letters().as_slice(), b"---rwed".as_slice());
-    assert_eq!(rt; Protect(15).letters().as_slice(), b"-------".as_slice());
-    assert_eq!(rt; Protect(112).letters().as_slice(), b"sparwed".as_slice());
+    for (bits, letters) in [(0, b"---rwed"), (15, b"-------"), (112, b"sparwed")] {
+        assert_eq!(rt; Protect(bits).letters().as_slice(), letters.as_slice());
+    }
     Ok(())
 }
 
@@ -166,6 +194,20 @@ fn spelled(alloc: Global, steps: PathSteps) -> Result<Vec<u8>, Fail> {
     Ok(text)
 }
 
+/// A path has these steps, from the root or not.
+fn expect_steps(
+    rt: &impl Abort,
+    alloc: Global,
+    bytes: &[u8],
+    steps: &[u8],
+    from_root: bool,
+) -> Result<(), Fail> {
+    let path = path(bytes)?;
+    assert_eq!(rt; spelled(alloc, path.steps())?.as_slice(), steps);
+    assert_eq!(rt; path.from_root(), from_root);
+    Ok(())
+}
+
 #[test]
 fn steps_of_paths(rt: HostRuntime) -> Result<(), Fail> {
     let alloc = rt.alloc();
@@ -180,9 +222,7 @@ fn steps_of_paths(rt: HostRuntime) -> Result<(), Fail> {
         (b":", b"", true),
     ];
     for (bytes, steps, from_root) in walks {
-        let path = path(bytes)?;
-        assert_eq!(rt; spelled(alloc, path.steps())?.as_slice(), steps);
-        assert_eq!(rt; path.from_root(), from_root);
+        expect_steps(&rt, alloc, bytes, steps, from_root)?;
     }
     let front_of_place = path(b"x:a//b/c")?;
     let (front, _) = front_of_place.split_last();

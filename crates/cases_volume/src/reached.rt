@@ -6,6 +6,7 @@ use cases_drawn::{put, settle, zeros};
 use check_marks::Mark;
 use check_reach::{check_kind, reach};
 use std::alloc::{AllocError, Global};
+use std::process::Abort;
 use std::test::Fail;
 
 /// The number -3, which stands for a file.
@@ -63,22 +64,60 @@ fn marked(alloc: Global, image: &Image) -> Result<Vec<(usize, Mark)>, Fail> {
     Ok(found)
 }
 
-/// The fault that is met.
-fn fault(alloc: Global, image: &Image) -> Option<VolumeFault> {
-    reach(alloc, image).err()
+/// This fault is met.
+fn expect_fault(
+    rt: &impl Abort,
+    alloc: Global,
+    image: &Image,
+    fault: VolumeFault,
+    long: u32,
+) -> Result<(), Fail> {
+    assert_eq!(rt; reach(alloc, image).err(), Some(fault), "at {long}");
+    Ok(())
+}
+
+/// A root with this long has this fault.
+fn expect_of_root(
+    rt: &impl Abort,
+    alloc: Global,
+    (long, value, kind): (u32, u32, FaultKind),
+) -> Result<(), Fail> {
+    let mut image = blank(alloc)?;
+    settle(&mut image, 8, &[(long, value)]);
+    expect_fault(rt, alloc, &image, VolumeFault { kind, block: 8 }, long)
+}
+
+/// An entry with this long has this fault.
+fn expect_of_entry(
+    rt: &impl Abort,
+    alloc: Global,
+    (long, value, kind): (u32, u32, FaultKind),
+) -> Result<(), Fail> {
+    let mut image = with_directory(alloc)?;
+    settle(&mut image, 10, &[(long, value)]);
+    expect_fault(rt, alloc, &image, VolumeFault { kind, block: 10 }, long)
+}
+
+/// These blocks are marked, in order.
+fn expect_marked(
+    rt: &impl Abort,
+    alloc: Global,
+    image: &Image,
+    wanted: &[(usize, Mark)],
+) -> Result<(), Fail> {
+    assert_eq!(rt; marked(alloc, image)?.as_slice(), wanted);
+    Ok(())
 }
 
 #[test]
 fn blank_volume(rt: HostRuntime) -> Result<(), Fail> {
     let image = blank(rt.alloc())?;
-    let found = marked(rt.alloc(), &image)?;
-    assert_eq!(rt; found.as_slice(), [(8, ROOT), (9, PAGE)].as_slice());
-    Ok(())
+    expect_marked(&rt, rt.alloc(), &image, &[(8, ROOT), (9, PAGE)])
 }
 
-#[test]
-fn file_with_an_extension(rt: HostRuntime) -> Result<(), Fail> {
-    let mut image = with_directory(rt.alloc())?;
+/// The volume with a file of two data blocks in place of the directory; the second one is of its extension block.
+fn with_file(alloc: Global) -> Result<Image, AllocError> {
+    let mut image = with_directory(alloc)?;
     settle(&mut image, 10, &[(2, 1), (77, 11), (126, 12), (127, FILE)]);
     settle(&mut image, 11, &[(0, 8), (1, 10)]);
     settle(
@@ -87,7 +126,12 @@ fn file_with_an_extension(rt: HostRuntime) -> Result<(), Fail> {
         &[(0, 16), (1, 12), (2, 1), (77, 13), (125, 10), (127, FILE)],
     );
     settle(&mut image, 13, &[(0, 8), (1, 10)]);
-    let found = marked(rt.alloc(), &image)?;
+    Ok(image)
+}
+
+#[test]
+fn file_with_an_extension(rt: HostRuntime) -> Result<(), Fail> {
+    let image = with_file(rt.alloc())?;
     let header = Mark {
         role: Role::Entry(8, 6),
         holder: 8,
@@ -116,8 +160,7 @@ fn file_with_an_extension(rt: HostRuntime) -> Result<(), Fail> {
         (12, extension),
         (13, second),
     ];
-    assert_eq!(rt; found.as_slice(), file.as_slice());
-    Ok(())
+    expect_marked(&rt, rt.alloc(), &image, &file)
 }
 
 #[test]
@@ -128,8 +171,8 @@ fn faults_of_a_root(rt: HostRuntime) -> Result<(), Fail> {
         kind: FaultKind::BadSum,
         block: 8,
     };
-    assert_eq!(rt; fault(rt.alloc(), &image), Some(sum));
-    for (i, value, kind) in [
+    expect_fault(&rt, rt.alloc(), &image, sum, 20)?;
+    for row in [
         (0, 8, FaultKind::BadType),
         (3, 71, FaultKind::BadType),
         (79, 16, FaultKind::BadPointer),
@@ -140,17 +183,14 @@ fn faults_of_a_root(rt: HostRuntime) -> Result<(), Fail> {
         (125, 1, FaultKind::BadParent),
         (127, 2, FaultKind::BadType),
     ] {
-        let mut image = blank(rt.alloc())?;
-        settle(&mut image, 8, &[(i, value)]);
-        let shown = VolumeFault { kind, block: 8 };
-        assert_eq!(rt; fault(rt.alloc(), &image), Some(shown), "at {i}");
+        expect_of_root(&rt, rt.alloc(), row)?;
     }
     Ok(())
 }
 
 #[test]
 fn faults_of_an_entry(rt: HostRuntime) -> Result<(), Fail> {
-    for (i, value, kind) in [
+    for row in [
         (0, 8, FaultKind::BadType),
         (1, 9, FaultKind::BadOwnKey),
         (82, 0x5000_0000, FaultKind::BadComment),
@@ -161,11 +201,21 @@ fn faults_of_an_entry(rt: HostRuntime) -> Result<(), Fail> {
         (127, 4, FaultKind::LinkEntry),
         (127, 1, FaultKind::BadType),
     ] {
-        let mut image = with_directory(rt.alloc())?;
-        settle(&mut image, 10, &[(i, value)]);
-        let shown = VolumeFault { kind, block: 10 };
-        assert_eq!(rt; fault(rt.alloc(), &image), Some(shown), "at {i}");
+        expect_of_entry(&rt, rt.alloc(), row)?;
     }
+    Ok(())
+}
+
+/// The kind of a volume with this first long is taken, or refused so.
+fn expect_kind(
+    rt: &impl Abort,
+    alloc: Global,
+    first: u32,
+    refused: Option<VolumeFault>,
+) -> Result<(), Fail> {
+    let mut image = blank(alloc)?;
+    put(&mut image, 0, &[(0, first)]);
+    assert_eq!(rt; check_kind(&image).err(), refused, "at {first}");
     Ok(())
 }
 
@@ -185,9 +235,7 @@ fn kinds(rt: HostRuntime) -> Result<(), Fail> {
         (0x444f_5302, Some(unsupported)),
         (0x444f_5200, Some(no_disk)),
     ] {
-        let mut image = blank(rt.alloc())?;
-        put(&mut image, 0, &[(0, first)]);
-        assert_eq!(rt; check_kind(&image).err(), refused, "at {first}");
+        expect_kind(&rt, rt.alloc(), first, refused)?;
     }
     Ok(())
 }

@@ -1,53 +1,70 @@
 //! Files that are written over, cut and made longer.
 
-use crate::by_path::{examined, makes_file, read, resizes, writes};
-use crate::looks::expect_accepted;
+use crate::rows::{Field, Row, on_floppy, on_volume};
+use Field::Size;
+use Row::{Accepted, NewFile, Reads, Resizes, Told, Writes};
 use adf_block::Format;
-use cases_drawn::{Refusal, floppy, work};
+use cases_drawn::{Refusal, work};
+use std::alloc::Global;
+use std::process::Abort;
 use std::test::Fail;
 
 #[test]
 fn overlay(rt: HostRuntime) -> Result<(), Fail> {
-    let mut volume = floppy(rt.alloc())?;
-    assert!(rt; makes_file(&mut volume, b"f")?.is_ok());
-    assert_eq!(rt; writes(&mut volume, b"f", 0, b"0123456789")?, Ok(()));
-    assert_eq!(rt; writes(&mut volume, b"f", 8, b"abcd")?, Ok(()));
-    assert_eq!(rt; examined(&mut volume, b"f")?.size, 12);
-    let bytes = read(rt.alloc(), &mut volume, b"f", 0, 20)?;
-    assert_eq!(rt; bytes.as_slice(), b"01234567abcd".as_slice());
-    let far = writes(&mut volume, b"f", 13, b"x")?;
-    assert_eq!(rt; far, Err(Refusal::SeekError));
-    expect_accepted(&rt, rt.alloc(), &volume)
+    on_floppy(
+        &rt,
+        rt.alloc(),
+        &[
+            NewFile(b"f"),
+            Writes(b"f", 0, b"0123456789", Ok(())),
+            Writes(b"f", 8, b"abcd", Ok(())),
+            Told(b"f", &[Size(12)]),
+            Reads(b"f", 0, 20, b"01234567abcd"),
+            Writes(b"f", 13, b"x", Err(Refusal::SeekError)),
+            Accepted,
+        ],
+    )
 }
 
 #[test]
 fn resize(rt: HostRuntime) -> Result<(), Fail> {
-    let mut volume = floppy(rt.alloc())?;
-    assert!(rt; makes_file(&mut volume, b"f")?.is_ok());
-    assert_eq!(rt; writes(&mut volume, b"f", 0, b"0123456789")?, Ok(()));
-    assert_eq!(rt; resizes(&mut volume, b"f", 4)?, Ok(()));
-    assert_eq!(rt; resizes(&mut volume, b"f", 7)?, Ok(()));
-    let bytes = read(rt.alloc(), &mut volume, b"f", 4, 8)?;
-    assert_eq!(rt; bytes.as_slice(), [0, 0, 0].as_slice());
-    assert_eq!(rt; resizes(&mut volume, b"f", 7)?, Ok(()));
-    expect_accepted(&rt, rt.alloc(), &volume)
+    on_floppy(
+        &rt,
+        rt.alloc(),
+        &[
+            NewFile(b"f"),
+            Writes(b"f", 0, b"0123456789", Ok(())),
+            Resizes(b"f", 4, Ok(())),
+            Resizes(b"f", 7, Ok(())),
+            Reads(b"f", 4, 8, &[0, 0, 0]),
+            Resizes(b"f", 7, Ok(())),
+            Accepted,
+        ],
+    )
+}
+
+/// What was cut off comes back as zeros.
+fn expect_zeros(rt: &impl Abort, alloc: Global, format: Format) -> Result<(), Fail> {
+    let mut zeros = [0; 600];
+    zeros[0] = b'x';
+    on_volume(
+        rt,
+        alloc,
+        work(alloc, format, 1760)?,
+        &[
+            NewFile(b"f"),
+            Writes(b"f", 0, &[b'x'; 600], Ok(())),
+            Resizes(b"f", 1, Ok(())),
+            Resizes(b"f", 600, Ok(())),
+            Reads(b"f", 0, 600, &zeros),
+            Accepted,
+        ],
+    )
 }
 
 /// What was cut off does not come back, though a block of it may be taken again.
 #[test]
 fn shrink_and_grow(rt: HostRuntime) -> Result<(), Fail> {
-    let bytes = vec![in rt.alloc(); b'x'; 600]?;
-    for format in [Format::Ffs, Format::Ofs] {
-        let mut volume = work(rt.alloc(), format, 1760)?;
-        assert!(rt; makes_file(&mut volume, b"f")?.is_ok());
-        assert_eq!(rt; writes(&mut volume, b"f", 0, &bytes)?, Ok(()));
-        assert_eq!(rt; resizes(&mut volume, b"f", 1)?, Ok(()));
-        assert_eq!(rt; resizes(&mut volume, b"f", 600)?, Ok(()));
-        let told = read(rt.alloc(), &mut volume, b"f", 0, 600)?;
-        assert_eq!(rt; told.len(), 600);
-        assert_eq!(rt; told[0], b'x');
-        assert!(rt; told[1..].iter().all(|byte| *byte == 0));
-        expect_accepted(&rt, rt.alloc(), &volume)?;
-    }
-    Ok(())
+    expect_zeros(&rt, rt.alloc(), Format::Ffs)?;
+    expect_zeros(&rt, rt.alloc(), Format::Ofs)
 }

@@ -1,11 +1,12 @@
 //! Changes at a later moment, in volumes of 16 blocks drawn by hand: the longs that they write, and the dates.
 
-use crate::by_path::{directory, entry, file};
-use crate::looks::expect_longs;
-use adf_block::{Format, Image};
-use ados_name::{Comment, Date3, Name, Protect};
+use crate::rows::{Field, Row, play};
+use Field::{Key, Type};
+use Row::{Comments, Dates, Longs, NamesDisk, Protects, Resizes, Stamped, Told, Writes};
+use adf_block::Format;
+use ados_name::Date3;
 use ados_volume::Volume;
-use cases_drawn::{Refusal, checked, first_long, put, put_bytes, resize, settle, zeros};
+use cases_drawn::{Refusal, checked, first_long, put, settle, zeros};
 use std::alloc::Global;
 use std::process::Abort;
 use std::test::Fail;
@@ -60,112 +61,133 @@ fn with_file(alloc: Global) -> Result<Volume, Fail> {
     )
 }
 
-/// The sum of a block.
-fn sum(rt: &impl Abort, image: &Image, block: u32) -> u32 {
-    assert!(rt; block < image.blocks());
-    image.sum(block)
-}
-
-/// A block has these longs, the disk date is the moment, and the sums are settled.
-fn expect_stamped(rt: &impl Abort, volume: &Volume, block: u32, wanted: &[(u32, u32)]) {
-    let image = volume.image();
-    expect_longs(rt, image, block, wanted);
-    expect_longs(rt, image, ROOT, &[(118, 7), (119, 8), (120, 9)]);
-    assert_eq!(rt; (sum(rt, image, block), sum(rt, image, ROOT)), (0, 0));
+/// Goes through a case on a volume at the moment.
+fn on_volume(rt: &impl Abort, alloc: Global, volume: Volume, rows: &[Row<'_>]) -> Result<(), Fail> {
+    let mut volume = volume;
+    play(rt, alloc, &mut volume, MOMENT, rows)
 }
 
 #[test]
 fn protection(rt: HostRuntime) -> Result<(), Fail> {
-    let mut volume = with_directory(rt.alloc())?;
-    let key = entry(&mut volume, b"Sub")?;
-    volume.set_protect(key, Protect(0xffff_ff0f), MOMENT);
-    expect_stamped(&rt, &volume, ENTRY, &[(80, 0xffff_ff0f), (105, 0)]);
-    assert_eq!(rt; directory(&mut volume, b"Sub")?, ENTRY);
-    Ok(())
+    on_volume(
+        &rt,
+        rt.alloc(),
+        with_directory(rt.alloc())?,
+        &[
+            Protects(b"Sub", 0xffff_ff0f),
+            Stamped(ENTRY, &[(80, 0xffff_ff0f), (105, 0)]),
+            Told(b"Sub", &[Key(ENTRY), Type(2)]),
+        ],
+    )
 }
 
 #[test]
 fn comment(rt: HostRuntime) -> Result<(), Fail> {
-    let mut volume = with_directory(rt.alloc())?;
-    let key = entry(&mut volume, b"Sub")?;
-    volume.set_comment(key, &Comment::new(b"hi")?, MOMENT);
-    expect_stamped(&rt, &volume, ENTRY, &[(82, 0x0268_6963), (105, 0)]);
-    Ok(())
+    on_volume(
+        &rt,
+        rt.alloc(),
+        with_directory(rt.alloc())?,
+        &[
+            Comments(b"Sub", b"hi"),
+            Stamped(ENTRY, &[(82, 0x0268_6963), (105, 0)]),
+        ],
+    )
 }
+
+const DATE: Date3 = Date3 {
+    days: 1,
+    minutes: 2,
+    ticks: 3,
+};
 
 #[test]
 fn date(rt: HostRuntime) -> Result<(), Fail> {
-    let mut volume = with_directory(rt.alloc())?;
-    let key = entry(&mut volume, b"Sub")?;
-    let date = Date3 {
-        days: 1,
-        minutes: 2,
-        ticks: 3,
-    };
-    volume.set_date(key, date, MOMENT);
-    expect_stamped(&rt, &volume, ENTRY, &[(105, 1), (106, 2), (107, 3)]);
-    Ok(())
+    on_volume(
+        &rt,
+        rt.alloc(),
+        with_directory(rt.alloc())?,
+        &[
+            Dates(b"Sub", DATE),
+            Stamped(ENTRY, &[(105, 1), (106, 2), (107, 3)]),
+        ],
+    )
 }
 
 #[test]
 fn disk_name(rt: HostRuntime) -> Result<(), Fail> {
-    let mut volume = with_directory(rt.alloc())?;
-    volume.rename_disk(Name::new(b"Wo")?, MOMENT);
-    let wanted = [(108, 0x0257_6f72), (109, 0x6b00_0000), (105, 0), (121, 0)];
-    expect_stamped(&rt, &volume, ROOT, &wanted);
-    Ok(())
+    on_volume(
+        &rt,
+        rt.alloc(),
+        with_directory(rt.alloc())?,
+        &[
+            NamesDisk(b"Wo"),
+            Stamped(ROOT, &[(108, 0x0257_6f72), (109, 0x6b00_0000)]),
+            Stamped(ROOT, &[(105, 0), (121, 0)]),
+        ],
+    )
 }
 
-/// The header has these longs, is without its archive bit, and its date is the moment; the file is found still.
-fn expect_file(rt: &impl Abort, volume: &mut Volume, wanted: &[(u32, u32)]) -> Result<(), Fail> {
-    expect_stamped(rt, volume, ENTRY, wanted);
-    expect_stamped(rt, volume, ENTRY, &[(80, 1), (105, 7), (106, 8), (107, 9)]);
-    assert_eq!(rt; file(volume, b"F")?, ENTRY);
-    Ok(())
-}
+/// The header is without its archive bit, and its date is the moment.
+const WRITTEN: Row<'static> = Stamped(ENTRY, &[(80, 1), (105, 7), (106, 8), (107, 9)]);
+
+/// The file is found still.
+const FOUND: Row<'static> = Told(b"F", &[Key(ENTRY), Type(-3)]);
 
 #[test]
 fn written(rt: HostRuntime) -> Result<(), Fail> {
-    let mut volume = with_file(rt.alloc())?;
-    let key = file(&mut volume, b"F")?;
-    assert_eq!(rt; put_bytes(&mut volume, key, 0, b"hello", MOMENT), Ok(()));
-    let data = [(0, 8), (1, ENTRY), (2, 1), (3, 5), (4, 0), (6, 0x6865_6c6c)];
-    expect_longs(&rt, volume.image(), 2, &data);
-    expect_longs(&rt, volume.image(), 2, &[(7, 0x6f00_0000), (8, 0)]);
-    expect_file(&rt, &mut volume, &[(2, 1), (4, 2), (77, 2), (81, 5)])
+    on_volume(
+        &rt,
+        rt.alloc(),
+        with_file(rt.alloc())?,
+        &[
+            Writes(b"F", 0, b"hello", Ok(())),
+            Longs(2, &[(0, 8), (1, ENTRY), (2, 1), (3, 5), (4, 0)]),
+            Longs(2, &[(6, 0x6865_6c6c), (7, 0x6f00_0000), (8, 0)]),
+            Stamped(ENTRY, &[(2, 1), (4, 2), (77, 2), (81, 5)]),
+            WRITTEN,
+            FOUND,
+        ],
+    )
 }
 
 #[test]
 fn grown_and_cut(rt: HostRuntime) -> Result<(), Fail> {
-    let mut volume = with_file(rt.alloc())?;
-    let key = file(&mut volume, b"F")?;
-    assert_eq!(rt; resize(&mut volume, key, 489, MOMENT), Ok(()));
-    expect_longs(&rt, volume.image(), 2, &[(2, 1), (3, 488), (4, 3)]);
-    expect_longs(&rt, volume.image(), 3, &[(2, 2), (3, 1), (4, 0)]);
-    let grown = [(2, 2), (4, 2), (76, 3), (77, 2), (81, 489)];
-    expect_file(&rt, &mut volume, &grown)?;
-    let key = file(&mut volume, b"F")?;
-    assert_eq!(rt; resize(&mut volume, key, 0, MOMENT), Ok(()));
-    expect_file(&rt, &mut volume, &[(2, 0), (4, 0), (81, 0)])
+    on_volume(
+        &rt,
+        rt.alloc(),
+        with_file(rt.alloc())?,
+        &[
+            Resizes(b"F", 489, Ok(())),
+            Longs(2, &[(2, 1), (3, 488), (4, 3)]),
+            Longs(3, &[(2, 2), (3, 1), (4, 0)]),
+            Stamped(ENTRY, &[(2, 2), (4, 2), (76, 3), (77, 2), (81, 489)]),
+            WRITTEN,
+            FOUND,
+            Resizes(b"F", 0, Ok(())),
+            Stamped(ENTRY, &[(2, 0), (4, 0), (81, 0)]),
+            WRITTEN,
+            FOUND,
+        ],
+    )
 }
 
 /// What is refused for want of room stamps nothing.
 #[test]
 fn written_full(rt: HostRuntime) -> Result<(), Fail> {
     let bytes = vec![in rt.alloc(); 1_u8; 5_369]?;
-    let full = Err(Refusal::DiskFull);
-    let mut volume = with_file(rt.alloc())?;
-    let key = file(&mut volume, b"F")?;
-    assert_eq!(rt; put_bytes(&mut volume, key, 0, &bytes, MOMENT), full);
-    expect_longs(&rt, volume.image(), ENTRY, &[(2, 0), (80, 0x11), (81, 0)]);
-    expect_longs(&rt, volume.image(), ROOT, &[(118, 0)]);
-    let key = file(&mut volume, b"F")?;
-    assert_eq!(rt;
-        put_bytes(&mut volume, key, 0, &bytes[..5_368], MOMENT),
-        Ok(())
-    );
-    expect_file(&rt, &mut volume, &[(2, 11), (81, 5_368)])?;
-    let key = file(&mut volume, b"F")?;
-    assert_eq!(rt; resize(&mut volume, key, 5_369, MOMENT), full);
-    Ok(())
+    on_volume(
+        &rt,
+        rt.alloc(),
+        with_file(rt.alloc())?,
+        &[
+            Writes(b"F", 0, &bytes, Err(Refusal::DiskFull)),
+            Longs(ENTRY, &[(2, 0), (80, 0x11), (81, 0)]),
+            Longs(ROOT, &[(118, 0)]),
+            Writes(b"F", 0, &bytes[..5_368], Ok(())),
+            Stamped(ENTRY, &[(2, 11), (81, 5_368)]),
+            WRITTEN,
+            FOUND,
+            Resizes(b"F", 5_369, Err(Refusal::DiskFull)),
+        ],
+    )
 }
