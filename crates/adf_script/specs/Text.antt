@@ -1,6 +1,9 @@
 -- What is printed of each reply, and at the end.
-use Rattle.std.specs.Prelude.{ℕ, ◌+◌, ◌/◌, ◌%◌, ◌^◌, ℤ, pos, negsuc, Bool, false, ◌==◌, nat_lt, if◌then◌else◌, List, [], ◌∷◌, ◌++◌, take, flat_map, decimal, codes}
+use Rattle.std.specs.Prelude.{ℕ, ◌+◌, ◌/◌, ◌%◌, ◌^◌, ℤ, pos, negsuc, Bool, nat_lt, if◌then◌else◌, List, [], ◌∷◌, ◌++◌, take, flat_map, decimal, codes}
 use Rattle.std.specs.Fmt.{signed_decimal}
+use Rattle.std.specs.Ordering.{int_eq}
+use Rattle.ados_packet.specs.Numbers.{action_number}
+use Rattle.ados_packet.specs.declared.action.Action.TheVariants.{Read}
 use Rattle.ados_packet.specs.declared.info.FileInfo.{FileInfo}
 use Rattle.ados_packet.specs.declared.info.DiskInfo.{DiskInfo}
 use Rattle.ados_packet.specs.declared.answer.Answer.{Answer}
@@ -24,8 +27,7 @@ hex_long n = hex_byte (n / 2 ^ 24) ++ hex_byte (n / 2 ^ 16 % 256) ++ hex_byte (n
 
 -- READ, by its action
 abbrev pub is_read : ℤ → Bool
-is_read (pos n) = n == 82
-is_read (negsuc n) = false
+is_read action = int_eq action (action_number Read)
 
 -- how many bytes a READ gave; 0 where the action is another or the result is negative
 abbrev pub count_read : ℤ → ℤ → ℕ

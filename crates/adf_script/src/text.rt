@@ -3,11 +3,8 @@ ghost use Rattle.std.specs.Prelude.{◌≡◌, ◌++◌, IfOk, OnOk};
 ghost use Rattle.adf_script.specs.Text.{count_read, read_text, entry_text, disk_text, body_text, results, line, reply_line, closed_line, no_reply_line, no_room_line, fault_line};
 
 use crate::hex::{push_hex, push_hex_long};
-use ados_packet::{Answer, Body, DiskInfo, FileInfo};
+use ados_packet::{Action, Answer, Body, DiskInfo, FileInfo};
 use std::alloc::{AllocError, Global};
-
-/// The action of a READ.
-const READ: i32 = 82;
 
 /// The line of a reply, with its line feed.
 pub fn reply_text(
@@ -92,7 +89,7 @@ fn push_body(alloc: Global, text: &mut Vec<u8>, answer: &Answer) -> Result<(), A
 fn count_read(answer: &Answer) -> usize
     ensures { result ≡ count_read answer.now.action answer.now.res1 }
 {
-    if answer.action == READ && answer.res1 > 0 {
+    if answer.action == Action::Read.number() && answer.res1 > 0 {
         answer.res1 as usize
     } else {
         0
