@@ -5,10 +5,6 @@
 mod laws;
 mod run;
 mod serve;
-#[cfg(test)]
-mod serve_tests;
-#[cfg(test)]
-mod tests;
 
 pub use laws::{dead_handlers_rest, histories_follow_trees, lists_follow_trees, trees_read_back};
 pub use run::{RunFault, run_volume};

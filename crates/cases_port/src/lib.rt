@@ -40,3 +40,9 @@ mod share;
 mod staging;
 #[cfg(test)]
 mod stub_tests;
+
+// The handler in one call: steps run over an image, and scripts with a client each.
+#[cfg(test)]
+mod run_tests;
+#[cfg(test)]
+mod serve_tests;

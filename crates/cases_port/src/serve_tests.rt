@@ -1,8 +1,8 @@
 //! Scripts over the blank floppy.
-use crate::{VolumeServed, serve_volume};
 use adf_block::Format;
 use adf_clients::{ClientEnding, OpenGate, ScriptsFault};
 use ados_name::{Date3, Name};
+use ados_run::{VolumeServed, serve_volume};
 use ados_volume::{Volume, blank};
 use std::alloc::{AllocError, Global};
 use std::test::Fail;

@@ -1,12 +1,12 @@
 //! Runs over the blank floppy, and over an image that is refused.
 ghost use Rattle.std.specs.Prelude.{◌≤◌};
 
-use crate::{RunFault, run_volume};
 use adf_block::{Format, Image};
 use ados_handler::Handler;
 use ados_name::{Date3, Name, PathText};
 use ados_packet::{Answer, Body, Packet};
 use ados_port::{Outcome, PutRefused, RunDone, Step};
+use ados_run::{RunFault, run_volume};
 use ados_volume::{FaultKind, blank};
 use std::alloc::Global;
 use std::process::Abort;
