@@ -1,3 +1,3 @@
--- Lemmas on the entries that are listed, and on the directories that the list stands in.
+-- Lemmas on the directories that the list stands in, and on what is told to be one.
 pub mod Levels
-pub mod Listed
+pub mod Directories

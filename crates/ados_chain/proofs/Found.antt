@@ -1,11 +1,12 @@
 -- What a link that was found says of its chain, and what comes after an entry.
-use Rattle.std.proofs.Common.{◌≡◌, ◌≢◌, ℕ, ◌+◌, ◌-◌, ◌<◌, ◌⊎◌, inl, inr, List, [], ◌∷◌, ◌++◌, length, get_or, Contains, refl, sym, ap, ◌∙◌, subst, arith, append_assoc, append-nil}
+use Rattle.std.proofs.Common.{◌≡◌, ◌≢◌, ℕ, ◌+◌, ◌-◌, ◌<◌, ◌⊎◌, inl, inr, List, [], ◌∷◌, ◌++◌, length, get_or, Contains, Some, refl, sym, ap, ◌∙◌, subst, arith, append_assoc, append-nil}
 use Rattle.std.proofs.lemmas.List.Elements.{Contains-append_left, Contains-append_right, Contains-append_cases}
 use Rattle.adf_block.specs.Image.{block_count, long}
 use Rattle.adf_block.specs.Chained.{Chained}
 use Rattle.adf_block.specs.Fields.{table_entry, next_in_chain, first_slot}
 use Rattle.ados_chain.specs.Chains.{LawfulChains, slot_at, InChains, chains_from, entries_of}
-use Rattle.ados_chain.specs.Look.{first_of, next_after}
+use Rattle.ados_chain.specs.Behind.{behind}
+use Rattle.ados_chain.specs.Look.{first_left}
 use Rattle.ados_chain.specs.declared.read.Next.TheVariants.{Entry}
 use Rattle.ados_chain.specs.Relinks.{link_block}
 use Rattle.ados_chain.specs.Links.{IsLink, LeadsTo, BeginsWith}
@@ -13,7 +14,7 @@ use Rattle.ados_chain.proofs.Lists.{Once-before, Contains-here, Contains-later, 
 use Rattle.ados_chain.proofs.Spelling.{link_block-in, Chained-behind}
 use Rattle.ados_chain.proofs.Framing.{link_long-is}
 use Rattle.ados_chain.proofs.Chaining.{none_zero, one_chain, chains_same}
-use Rattle.ados_chain.proofs.Order.{next_after-found, entries-split, Contains-chains_from}
+use Rattle.ados_chain.proofs.Order.{behind-found, entries-split, Contains-chains_from}
 
 -- a link is one of the 128 longs
 pub IsLink-small : (i : ℕ) → IsLink i → i < 128
@@ -88,14 +89,15 @@ leads_to_end image dir chains h s small block i to = go to.rest to.split to.begi
     go (key ∷ back) e b = absurd (none_zero image dir chains h s small key (subst (λ (xs : List ℕ). Contains xs key) (sym e) (Contains-append_right to.front (key ∷ back) key (Contains-here key back))) b)
 
 module _ (image : List ℕ) (dir : ℕ) (chains : ℕ → List ℕ) (h : LawfulChains image dir chains) (s key : ℕ) (small : s < 72) (m : Contains (chains s) key) where
-  -- after an entry come the entries behind it in its chain and then those of the next slots
-  pub next_after-entry : (back : List ℕ) × (Chained image next_in_chain (long image key next_in_chain) back) × ((k : ℕ) → Contains back k → Contains (chains s) k) × (next_after (entries_of chains) key ≡ first_of (back ++ chains_from chains (s + 1) (72 - (s + 1))))
-  next_after-entry =
+  -- behind an entry stand the entries behind it in its chain and then those of the next slots
+  behind-entry : (back : List ℕ) × (Chained image next_in_chain (long image key next_in_chain) back) × ((k : ℕ) → Contains back k → Contains (chains s) k)
+      × (behind key (entries_of chains) ≡ Some (back ++ chains_from chains (s + 1) (72 - (s + 1))))
+  behind-entry =
       let at = Contains-split (chains s) key m in
       let spelled = subst (λ (xs : List ℕ). Chained image next_in_chain (table_entry image dir s) xs) at.2 (h.spelled s small) in
       (at.1, (Chained-behind image dir (first_slot + s) at.0 (key ∷ at.1) spelled).1, λ k b. subst (λ (xs : List ℕ). Contains xs k) (sym at.2) (Contains-append_right at.0 (key ∷ at.1) k (Contains-later key at.1 k b)), after at.0 at.1 at.2)
     where
-      after : (front back : List ℕ) → chains s ≡ front ++ key ∷ back → next_after (entries_of chains) key ≡ first_of (back ++ chains_from chains (s + 1) (72 - (s + 1)))
+      after : (front back : List ℕ) → chains s ≡ front ++ key ∷ back → behind key (entries_of chains) ≡ Some (back ++ chains_from chains (s + 1) (72 - (s + 1)))
       after front back split =
           let later = chains_from chains (s + 1) (72 - (s + 1)) in
           let before = chains_from chains 0 s in
@@ -104,21 +106,22 @@ module _ (image : List ℕ) (dir : ℕ) (chains : ℕ → List ℕ) (h : LawfulC
             | inl a ↦ let t = Contains-chains_from chains 0 s key a in absurd (omega (arith, t.2, one_chain image dir chains h t.0 s key (omega (arith, t.2)) small t.3 m))
             | inr b ↦ Once-before front key back (subst (λ (xs : List ℕ). (i j d : ℕ) → i < j → j < length xs → get_or xs i d ≢ get_or xs j d) split (h.once s small)) b
           ] in
-          ap (λ (xs : List ℕ). next_after xs key) (entries-split chains s small ∙ ap (λ (xs : List ℕ). before ++ (xs ++ later)) split ∙ ap (λ (xs : List ℕ). before ++ xs) (append_assoc front (key ∷ back) later) ∙ sym (append_assoc before front (key ∷ (back ++ later))))
-          ∙ next_after-found (before ++ front) key (back ++ later) apart
+          ap (λ (xs : List ℕ). behind key xs) (entries-split chains s small ∙ ap (λ (xs : List ℕ). before ++ (xs ++ later)) split ∙ ap (λ (xs : List ℕ). before ++ xs) (append_assoc front (key ∷ back) later) ∙ sym (append_assoc before front (key ∷ (back ++ later))))
+          ∙ behind-found (before ++ front) key (back ++ later) apart
 
   -- an entry that is not the last of its chain
-  pub next_after-more : (next : ℕ) → next ≡ long image key next_in_chain → next ≢ 0 → next_after (entries_of chains) key ≡ Entry next
-  next_after-more next e n = let a = next_after-entry in a.3 ∙ go a.0 a.1
+  pub behind-more : (next : ℕ) → next ≡ long image key next_in_chain → next ≢ 0 → first_left (behind key (entries_of chains)) ≡ Entry next
+  behind-more next e n = let a = behind-entry in ap first_left a.3 ∙ go a.0 a.1
     where
-      go : (back : List ℕ) → Chained image next_in_chain (long image key next_in_chain) back → first_of (back ++ chains_from chains (s + 1) (72 - (s + 1))) ≡ Entry next
+      go : (back : List ℕ) → Chained image next_in_chain (long image key next_in_chain) back → first_left (Some (back ++ chains_from chains (s + 1) (72 - (s + 1)))) ≡ Entry next
       go [] c = absurd (n (e ∙ c))
       go (k ∷ back) c = ap Entry (sym c.0 ∙ sym e)
 
   -- the last entry of its chain
-  pub next_after-last : long image key next_in_chain ≡ 0 → next_after (entries_of chains) key ≡ first_of (chains_from chains (s + 1) (72 - (s + 1)))
-  next_after-last e = let a = next_after-entry in a.3 ∙ go a.0 a.1 a.2
+  pub behind-last : long image key next_in_chain ≡ 0 → behind key (entries_of chains) ≡ Some (chains_from chains (s + 1) (72 - (s + 1)))
+  behind-last e = let a = behind-entry in a.3 ∙ go a.0 a.1 a.2
     where
-      go : (back : List ℕ) → Chained image next_in_chain (long image key next_in_chain) back → ((k : ℕ) → Contains back k → Contains (chains s) k) → first_of (back ++ chains_from chains (s + 1) (72 - (s + 1))) ≡ first_of (chains_from chains (s + 1) (72 - (s + 1)))
+      go : (back : List ℕ) → Chained image next_in_chain (long image key next_in_chain) back → ((k : ℕ) → Contains back k → Contains (chains s) k)
+          → Some (back ++ chains_from chains (s + 1) (72 - (s + 1))) ≡ Some (chains_from chains (s + 1) (72 - (s + 1)))
       go [] c sub = refl
       go (k ∷ back) c sub = absurd (none_zero image dir chains h s small k (sub k (Contains-here k back)) (sym c.0 ∙ e))

@@ -1,21 +1,40 @@
 -- The order of a directory: what comes after a key, by the chains.
-use Rattle.std.proofs.Common.{◌≡◌, ℕ, zero, suc, ◌+◌, ◌-◌, ◌<◌, ◌≤◌, inl, inr, List, [], ◌∷◌, ◌++◌, Contains, refl, sym, ap, ◌∙◌, subst, arith, append_assoc, eq-eqb}
+use Rattle.std.proofs.Common.{◌≡◌, ℕ, zero, suc, ◌+◌, ◌-◌, ◌<◌, ◌≤◌, inl, inr, Bool, true, false, cond, ◌==◌, List, [], ◌∷◌, ◌++◌, Contains, Option, Some, None, refl, sym, ap, ◌∙◌, subst, arith, append_assoc, eq-eqb}
 use Rattle.std.proofs.lemmas.Bool.{ne_eqb}
+use Rattle.std.proofs.lemmas.Option.{none-some, same_Some}
 use Rattle.std.proofs.lemmas.List.Elements.{Contains-append_cases}
 use Rattle.ados_chain.specs.Chains.{chains_from, entries_of, InChains}
-use Rattle.ados_chain.specs.Look.{first_of, next_after}
-use Rattle.ados_chain.specs.declared.read.Next.TheVariants.{Entry, End, NotAnEntry}
+use Rattle.ados_chain.specs.Behind.{behind}
+use Rattle.ados_chain.specs.Look.{first_left}
+use Rattle.ados_chain.specs.declared.read.Next.TheVariants.{Entry, End}
 use Rattle.ados_chain.proofs.Lists.{Contains-here, Contains-later, Contains-nil}
 
-pub next_after-found : (xs : List ℕ) (key : ℕ) (ys : List ℕ) → ¬ Contains xs key → next_after (xs ++ key ∷ ys) key ≡ first_of ys
-next_after-found [] key ys n = rw (eq-eqb key key refl) refl
-next_after-found (x ∷ xs) key ys n =
-    rw (ne_eqb x key (λ e. n (subst (λ (z : ℕ). Contains (x ∷ xs) z) e (Contains-here x xs)))) (next_after-found xs key ys (λ m. n (Contains-later x xs key m)))
+-- what stands behind a key whose first place in the list is known, and behind one that is not in it
+pub behind-found : (xs : List ℕ) (key : ℕ) (ys : List ℕ) → ¬ Contains xs key → behind key (xs ++ key ∷ ys) ≡ Some ys
+behind-found [] key ys n = rw (eq-eqb key key refl) refl
+behind-found (x ∷ xs) key ys n =
+    rw (ne_eqb x key (λ e. n (subst (λ (z : ℕ). Contains (x ∷ xs) z) e (Contains-here x xs)))) (behind-found xs key ys (λ m. n (Contains-later x xs key m)))
 
-pub next_after-absent : (xs : List ℕ) (key : ℕ) → ¬ Contains xs key → next_after xs key ≡ NotAnEntry
-next_after-absent [] key n = refl
-next_after-absent (x ∷ xs) key n =
-    rw (ne_eqb x key (λ e. n (subst (λ (z : ℕ). Contains (x ∷ xs) z) e (Contains-here x xs)))) (next_after-absent xs key (λ m. n (Contains-later x xs key m)))
+pub behind-absent : (xs : List ℕ) (key : ℕ) → ¬ Contains xs key → behind key xs ≡ None
+behind-absent [] key n = refl
+behind-absent (x ∷ xs) key n =
+    rw (ne_eqb x key (λ e. n (subst (λ (z : ℕ). Contains (x ∷ xs) z) e (Contains-here x xs)))) (behind-absent xs key (λ m. n (Contains-later x xs key m)))
+
+-- what stands behind a key of a list stands in it, and not in its first place
+behind-in : (xs : List ℕ) (key next : ℕ) (rest : List ℕ) → behind key xs ≡ Some (next ∷ rest) → Contains xs next
+behind-in [] key next rest e = absurd (none-some (next ∷ rest) e)
+behind-in (x ∷ xs) key next rest e = Contains-later x xs next (go (x == key) e (behind-in xs key next rest))
+  where
+    go : (b : Bool) → cond b (Some xs) (behind key xs) ≡ Some (next ∷ rest) → (behind key xs ≡ Some (next ∷ rest) → Contains xs next) → Contains xs next
+    go true f later = subst (λ (ys : List ℕ). Contains ys next) (sym (same_Some xs (next ∷ rest) f)) (Contains-here next rest)
+    go false f later = later f
+
+pub behind-later : (x : ℕ) (xs : List ℕ) (key next : ℕ) (rest : List ℕ) → behind key (x ∷ xs) ≡ Some (next ∷ rest) → Contains xs next
+behind-later x xs key next rest = go (x == key)
+  where
+    go : (b : Bool) → cond b (Some xs) (behind key xs) ≡ Some (next ∷ rest) → Contains xs next
+    go true e = subst (λ (ys : List ℕ). Contains ys next) (sym (same_Some xs (next ∷ rest) e)) (Contains-here next rest)
+    go false e = behind-in xs key next rest e
 
 -- the chains from s on are those of m slots and then those of the others
 pub chains_from-split : (chains : ℕ → List ℕ) (s m n : ℕ) → chains_from chains s (m + n) ≡ chains_from chains s m ++ chains_from chains (s + m) n
@@ -62,17 +81,28 @@ pub entry-in_chains : (chains : ℕ → List ℕ) (key : ℕ) → Contains (entr
 entry-in_chains chains key m = let r = Contains-chains_from chains 0 72 key m in (r.0, omega (arith, r.2), r.3)
 
 -- the first entry is in the first slot whose chain is not empty
-pub first_of-here : (chains : ℕ → List ℕ) (s key : ℕ) (later : List ℕ) → s < 72 → chains s ≡ key ∷ later → first_of (chains_from chains s (72 - s)) ≡ Entry key
-first_of-here chains s key later l e = ap first_of (chains_from-next chains s l) ∙ ap (λ (xs : List ℕ). first_of (xs ++ chains_from chains (s + 1) (72 - (s + 1)))) e
+pub first-here : (chains : ℕ → List ℕ) (s key : ℕ) (later : List ℕ) → s < 72 → chains s ≡ key ∷ later → first_left (Some (chains_from chains s (72 - s))) ≡ Entry key
+first-here chains s key later l e =
+    ap (λ (xs : List ℕ). first_left (Some xs)) (chains_from-next chains s l)
+    ∙ ap (λ (xs : List ℕ). first_left (Some (xs ++ chains_from chains (s + 1) (72 - (s + 1))))) e
 
-pub first_of-later : (chains : ℕ → List ℕ) (s : ℕ) → s < 72 → chains s ≡ [] → first_of (chains_from chains s (72 - s)) ≡ first_of (chains_from chains (s + 1) (72 - (s + 1)))
-first_of-later chains s l e = ap first_of (chains_from-next chains s l) ∙ ap (λ (xs : List ℕ). first_of (xs ++ chains_from chains (s + 1) (72 - (s + 1)))) e
+pub first-later : (chains : ℕ → List ℕ) (s : ℕ) → s < 72 → chains s ≡ []
+    → first_left (Some (chains_from chains s (72 - s))) ≡ first_left (Some (chains_from chains (s + 1) (72 - (s + 1))))
+first-later chains s l e =
+    ap (λ (xs : List ℕ). first_left (Some xs)) (chains_from-next chains s l)
+    ∙ ap (λ (xs : List ℕ). first_left (Some (xs ++ chains_from chains (s + 1) (72 - (s + 1))))) e
 
-pub first_of-all : (chains : ℕ → List ℕ) → first_of (chains_from chains 72 (72 - 72)) ≡ End
+pub first-all : (chains : ℕ → List ℕ) → first_left (Some (chains_from chains 72 (72 - 72))) ≡ End
 unfolding chains_from
-first_of-all chains = refl
+first-all chains = refl
 
 -- there is no first entry only where there is none
-pub first_of-end : (xs : List ℕ) → first_of xs ≡ End → xs ≡ []
-first_of-end [] e = refl
-first_of-end (x ∷ xs) e = absurd (cc e)
+pub first-end : (xs : List ℕ) → first_left (Some xs) ≡ End → xs ≡ []
+first-end [] e = refl
+first-end (x ∷ xs) e = absurd (cc e)
+
+-- where there is a first to be listed, there is such a list
+pub first-entry : (left : Option (List ℕ)) (next : ℕ) → first_left left ≡ Entry next → (rest : List ℕ) × (left ≡ Some (next ∷ rest))
+first-entry None next e = absurd (cc e)
+first-entry (Some []) next e = absurd (cc e)
+first-entry (Some (k ∷ ks)) next e = let same : k ≡ next = cc e in (ks, ap (λ (n : ℕ). Some (n ∷ ks)) same)

@@ -1,5 +1,5 @@
 -- What looking into a directory answers.
-use Rattle.std.specs.Prelude.{◌≡◌, ◌<◌, ◌==◌, if◌then◌else◌, ℕ, List, [], ◌∷◌, ◌++◌, Option, None, Some, Contains}
+use Rattle.std.specs.Prelude.{◌≡◌, ◌<◌, ℕ, List, [], ◌∷◌, ◌++◌, Option, None, Some, Contains}
 use Rattle.adf_block.specs.Fields.{table_longs}
 use Rattle.ados_name.specs.Name.{Same}
 use Rattle.ados_chain.specs.Chains.{name_at, InChains}
@@ -28,12 +28,8 @@ abbrev pub FindsSlot : (ℕ → List ℕ) → ℕ → Option ℕ → Type 0
 FindsSlot chains key None = ¬ InChains chains key
 FindsSlot chains key (Some s) = (s < table_longs) × Contains (chains s) key
 
--- the first of the keys, or the end
-abbrev pub first_of : List ℕ → Next
-first_of [] = End
-first_of (key ∷ keys) = Entry key
-
--- what comes after a key in a list
-abbrev pub next_after : List ℕ → ℕ → Next
-next_after [] key = NotAnEntry
-next_after (other ∷ keys) key = if other == key then first_of keys else next_after keys key
+-- of the keys that are still to be listed the first, if there is such a list at all
+abbrev pub first_left : Option (List ℕ) → Next
+first_left None = NotAnEntry
+first_left (Some []) = End
+first_left (Some (key ∷ keys)) = Entry key

@@ -1,10 +1,11 @@
 //! Looking into a directory: an entry by its name, and the entries in order.
 
-ghost use Rattle.std.specs.Prelude.{◌≡◌, ◌≤◌, ◌-◌, ◌↔◌, ◌∷◌, [], ℕ, List, IsTrue};
+ghost use Rattle.std.specs.Prelude.{◌≡◌, ◌≤◌, ◌-◌, ◌↔◌, ◌∷◌, [], ℕ, List, Some, IsTrue};
 ghost use Rattle.adf_block.specs.Fields.{table_longs};
 ghost use Rattle.ados_name.specs.Name.{slot};
 ghost use Rattle.ados_chain.specs.Chains.{HasChains, LawfulChains, chains_from, entries_of};
-ghost use Rattle.ados_chain.specs.Look.{FindsNamed, FindsSlot, first_of, next_after};
+ghost use Rattle.ados_chain.specs.Behind.{behind};
+ghost use Rattle.ados_chain.specs.Look.{FindsNamed, FindsSlot, first_left};
 
 use crate::entry::{has_name, name_of};
 use crate::link::link_to;
@@ -44,7 +45,7 @@ pub fn find(image: &Image, dir: u32, name: &Name) -> Option<u32>
 /// valid name, is `NotAnEntry`.
 pub fn after(image: &Image, dir: u32, key: u32) -> Next
     requires { HasChains image.now dir }
-    ensures { (chains : ℕ → List ℕ) → LawfulChains image.now dir chains → result ≡ next_after (dir ∷ entries_of chains) key }
+    ensures { (chains : ℕ → List ℕ) → LawfulChains image.now dir chains → result ≡ first_left (behind key (dir ∷ entries_of chains)) }
 {
     if key == dir {
         return first_from(image, dir, 0);
@@ -72,7 +73,7 @@ pub fn is_empty(image: &Image, dir: u32) -> bool
 fn first_from(image: &Image, dir: u32, slot: u32) -> Next
     requires chains { HasChains image.now dir }
     requires slot { slot ≤ table_longs }
-    ensures { (chains : ℕ → List ℕ) → LawfulChains image.now dir chains → result ≡ first_of (chains_from chains slot (table_longs - slot)) }
+    ensures { (chains : ℕ → List ℕ) → LawfulChains image.now dir chains → result ≡ first_left (Some (chains_from chains slot (table_longs - slot))) }
 {
     for s in slot..TABLE_LONGS {
         let key = image.long(dir, FIRST_SLOT + s);

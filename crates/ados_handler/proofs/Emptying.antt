@@ -10,7 +10,7 @@ use Rattle.ados_tree.specs.Kept.{Kept}
 use Rattle.ados_tree.specs.Walk.{is_file}
 use Rattle.ados_tree.specs.Change.{rewritten, shortened}
 use Rattle.ados_packet.specs.declared.dos_error.DosError.TheVariants.{DeleteProtected, ObjectInUse, ObjectWrongType, WriteProtected}
-use Rattle.ados_handler.specs.declared.results.Results.{Results}
+use Rattle.ados_packet.specs.declared.results.Results.{Results}
 use Rattle.ados_handler.specs.declared.holds.HandleHold.{HandleHold}
 use Rattle.ados_handler.specs.Session.{Session, is_in_use}
 use Rattle.ados_handler.specs.Objects.{protection_of}

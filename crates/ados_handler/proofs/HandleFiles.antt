@@ -15,7 +15,7 @@ use Rattle.ados_tree.proofs.Nodes.{content_in, some_in}
 use Rattle.ados_packet.specs.declared.dos_error.DosError.{DosError}
 use Rattle.ados_packet.specs.declared.dos_error.DosError.TheVariants.{DeviceNotMounted, InvalidLock}
 use Rattle.ados_packet.specs.declared.packet.Packet.{Packet}
-use Rattle.ados_handler.specs.declared.results.Results.{Results}
+use Rattle.ados_packet.specs.declared.results.Results.{Results}
 use Rattle.ados_packet.specs.declared.info.FileInfo.{FileInfo}
 use Rattle.ados_volume.specs.Examined.{file_info}
 use Rattle.ados_handler.specs.Session.{Session, is_handle, handle_key, handle_position}

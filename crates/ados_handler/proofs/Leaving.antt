@@ -4,7 +4,7 @@ use Rattle.adf_block.specs.Image.{bytes_at}
 use Rattle.ados_tree.specs.Tree.{Tree}
 use Rattle.ados_tree.specs.Kept.{Kept}
 use Rattle.ados_packet.specs.declared.packet.Packet.{Packet}
-use Rattle.ados_handler.specs.declared.results.Results.{Results}
+use Rattle.ados_packet.specs.declared.results.Results.{Results}
 use Rattle.ados_handler.specs.Meaning.{sets_disk_date}
 use Rattle.ados_handler.specs.Handler.{HandlerState, LeavesImage}
 use Rattle.ados_handler.specs.steps.Methods.{answer_to}

@@ -14,7 +14,7 @@ use Rattle.ados_tree.specs.Tree.Content.{File}
 use Rattle.ados_tree.specs.Walk.{child_of}
 use Rattle.change_entries.specs.Conditions.{CanMake}
 use Rattle.ados_packet.specs.declared.dos_error.DosError.TheVariants.{DiskFull}
-use Rattle.ados_handler.specs.declared.results.Results.{Results}
+use Rattle.ados_packet.specs.declared.results.Results.{Results}
 use Rattle.ados_handler.specs.declared.holds.HandleHold.{HandleHold}
 use Rattle.ados_handler.specs.Session.{Session}
 use Rattle.ados_handler.specs.Objects.{lacks}

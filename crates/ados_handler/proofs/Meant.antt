@@ -14,7 +14,7 @@ use Rattle.ados_packet.specs.declared.dos_error.DosError.TheVariants.{CommentToo
 use Rattle.ados_packet.specs.Packet.{dos_true}
 use Rattle.ados_packet.specs.declared.packet.Packet.{Packet}
 use Rattle.ados_packet.specs.declared.packet.Packet.TheVariants.{SetComment, SetDate, SetProtect}
-use Rattle.ados_handler.specs.declared.results.Results.{Results}
+use Rattle.ados_packet.specs.declared.results.Results.{Results}
 use Rattle.ados_packet.specs.declared.answer.Body.{Body}
 use Rattle.ados_packet.specs.declared.answer.Body.TheVariants.{Empty}
 use Rattle.ados_handler.specs.Session.{Session, is_lock}

@@ -7,7 +7,7 @@ use Rattle.ados_tree.specs.declared.path_fault.PlaceFault.{PlaceFault}
 use Rattle.ados_packet.specs.declared.dos_error.DosError.{DosError}
 use Rattle.ados_packet.specs.declared.dos_error.DosError.TheVariants.{DeviceNotMounted, InvalidLock}
 use Rattle.ados_packet.specs.declared.packet.Packet.{Packet}
-use Rattle.ados_handler.specs.declared.results.Results.{Results}
+use Rattle.ados_packet.specs.declared.results.Results.{Results}
 use Rattle.ados_handler.specs.Session.{Session, is_lock}
 use Rattle.ados_handler.specs.Objects.{place_error, place_result, placed, placed_at, spot}
 use Rattle.ados_handler.specs.Refusals.{first_refusal, refusal, refusals, refuse}

@@ -9,7 +9,7 @@ use Rattle.ados_tree.specs.Tree.{Tree, bytes_of, content_at, size_of}
 use Rattle.ados_tree.specs.Stands.{Stands}
 use Rattle.ados_packet.specs.declared.dos_error.DosError.TheVariants.{ReadProtected}
 use Rattle.ados_packet.specs.declared.packet.Packet.TheVariants.{Read}
-use Rattle.ados_handler.specs.declared.results.Results.{Results}
+use Rattle.ados_packet.specs.declared.results.Results.{Results}
 use Rattle.ados_packet.specs.declared.answer.Body.TheVariants.{Buffer}
 use Rattle.ados_handler.specs.Session.{Session, at_position, handle_key}
 use Rattle.ados_handler.specs.declared.holds.HandleHold.{HandleHold}

@@ -8,7 +8,7 @@ use Rattle.ados_tree.specs.Stands.{Stands}
 use Rattle.ados_packet.specs.declared.dos_error.DosError.TheVariants.{SeekError}
 use Rattle.ados_packet.specs.declared.packet.Packet.{Packet}
 use Rattle.ados_packet.specs.declared.packet.Packet.TheVariants.{Seek}
-use Rattle.ados_handler.specs.declared.results.Results.{Results}
+use Rattle.ados_packet.specs.declared.results.Results.{Results}
 use Rattle.ados_packet.specs.declared.answer.Body.TheVariants.{Empty}
 use Rattle.ados_handler.specs.Session.{Session, at_position, handle_key}
 use Rattle.ados_handler.specs.declared.holds.HandleHold.{HandleHold}

@@ -11,7 +11,7 @@ use Rattle.ados_name.specs.Protection.{denies_delete, denies_write}
 use Rattle.ados_packet.specs.declared.dos_error.DosError.{DosError}
 use Rattle.ados_packet.specs.declared.dos_error.DosError.TheVariants.{DeleteProtected, DeviceNotMounted, DiskFull, InvalidLock, ObjectInUse, ObjectWrongType, WriteProtected}
 use Rattle.ados_packet.specs.declared.packet.Packet.TheVariants.{FindOutput, FindUpdate}
-use Rattle.ados_handler.specs.declared.results.Results.{Results}
+use Rattle.ados_packet.specs.declared.results.Results.{Results}
 use Rattle.ados_handler.specs.Session.{Session, is_in_use, is_lock}
 use Rattle.ados_handler.specs.Objects.{place_error, placed, placed_at, protection_of, spot, spot_directory, spot_name, standing}
 use Rattle.ados_handler.specs.Refusals.{first_refusal, has_no_room, is_directory_there, is_some_and, refuse}

@@ -17,7 +17,7 @@ use Rattle.ados_tree.specs.Change.{overlaid, written}
 use Rattle.change_bytes.specs.Renewed.{NeedsMore}
 use Rattle.ados_packet.specs.declared.dos_error.DosError.TheVariants.{DiskFull, WriteProtected}
 use Rattle.ados_packet.specs.declared.packet.Packet.TheVariants.{Write}
-use Rattle.ados_handler.specs.declared.results.Results.{Results}
+use Rattle.ados_packet.specs.declared.results.Results.{Results}
 use Rattle.ados_packet.specs.declared.answer.Body.TheVariants.{Buffer}
 use Rattle.ados_handler.specs.Session.{Session, at_position, handle_key, handle_position}
 use Rattle.ados_handler.specs.declared.holds.HandleHold.{HandleHold}

@@ -4,9 +4,8 @@ ghost use Rattle.ados_packet.specs.declared.packet.Packet.TheVariants.{RenameDis
 ghost use Rattle.ados_handler.specs.steps.Methods.{MethodGives};
 
 use crate::handler::Handler;
-use crate::results::Results;
 use ados_name::{Comment, Date3, Name, PathText, Protect};
-use ados_packet::{Body, DosError};
+use ados_packet::{Body, DosError, Results};
 
 impl Handler {
     /// RENAME_DISK.

@@ -11,10 +11,9 @@ ghost use Rattle.ados_handler.specs.steps.Methods.{MethodGives};
 ghost use Rattle.ados_handler.specs.steps.Files.{IsUnwritten, IsWritten};
 
 use crate::handler::Handler;
-use crate::results::Results;
 use crate::target::{number_within, target_of};
 use ados_name::Date3;
-use ados_packet::{Body, Buffer, DosError};
+use ados_packet::{Body, Buffer, DosError, Results};
 use ados_volume::{Full, Volume};
 
 impl Handler {

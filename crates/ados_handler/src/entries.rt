@@ -10,9 +10,8 @@ ghost use Rattle.ados_handler.specs.steps.Methods.{MethodGives};
 
 use crate::handler::Handler;
 use crate::holds::LockHold;
-use crate::results::Results;
 use ados_name::{Date3, PathText};
-use ados_packet::{Body, DosError};
+use ados_packet::{Body, DosError, Results};
 use ados_volume::{Next, NodeKind};
 
 impl Handler {

@@ -9,10 +9,9 @@ ghost use Rattle.ados_handler.specs.steps.Opening.{BringsHandle, OpensShared};
 
 use crate::handler::Handler;
 use crate::holds::HandleHold;
-use crate::results::Results;
 use crate::table::Table;
 use ados_name::PathText;
-use ados_packet::{Body, DosError};
+use ados_packet::{Body, DosError, Results};
 
 impl Handler {
     /// FINDINPUT.

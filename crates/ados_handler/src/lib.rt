@@ -17,7 +17,6 @@ mod moves;
 mod objects;
 mod outputs;
 mod positions;
-mod results;
 mod serve;
 mod set_size;
 mod table;

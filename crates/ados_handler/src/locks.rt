@@ -11,9 +11,8 @@ ghost use Rattle.ados_handler.specs.steps.Methods.{MethodGives};
 
 use crate::handler::Handler;
 use crate::holds::LockHold;
-use crate::results::Results;
 use ados_name::PathText;
-use ados_packet::{Body, DosError};
+use ados_packet::{Body, DosError, Results};
 
 impl Handler {
     /// LOCATE_OBJECT.

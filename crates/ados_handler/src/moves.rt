@@ -9,9 +9,8 @@ ghost use Rattle.ados_handler.specs.steps.Moves.{move_refusal, source_and_place}
 ghost use Rattle.ados_handler.specs.steps.Methods.{MethodGives};
 
 use crate::handler::Handler;
-use crate::results::Results;
 use ados_name::{Date3, Name, PathText};
-use ados_packet::{Body, DosError};
+use ados_packet::{Body, DosError, Results};
 
 impl Handler {
     /// RENAME_OBJECT. Protection isn't looked at.

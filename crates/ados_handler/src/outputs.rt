@@ -12,9 +12,8 @@ ghost use Rattle.ados_handler.specs.Success.{MakesFile};
 
 use crate::files::opened;
 use crate::handler::Handler;
-use crate::results::Results;
 use ados_name::{Date3, Name, PathText};
-use ados_packet::DosError;
+use ados_packet::{DosError, Results};
 use ados_volume::NodeKind;
 
 impl Handler {

@@ -6,9 +6,8 @@ ghost use Rattle.ados_packet.specs.declared.packet.Packet.TheVariants.{Die, Othe
 ghost use Rattle.ados_handler.specs.steps.Methods.{MethodGives};
 
 use crate::handler::Handler;
-use crate::results::Results;
 use ados_name::Date3;
-use ados_packet::{Action, Answer, Body, DosError, Packet};
+use ados_packet::{Action, Answer, Body, DosError, Packet, Results};
 use port_history::Server;
 
 impl Handler {

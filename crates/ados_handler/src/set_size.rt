@@ -10,10 +10,9 @@ ghost use Rattle.ados_handler.specs.steps.Methods.{MethodGives};
 ghost use Rattle.ados_handler.specs.steps.Files.{IsResized, IsUnresized};
 
 use crate::handler::Handler;
-use crate::results::Results;
 use crate::target::{number_within, target_of};
 use ados_name::Date3;
-use ados_packet::{Body, DosError};
+use ados_packet::{Body, DosError, Results};
 use ados_tree::Full;
 use ados_volume::Volume;
 

@@ -5,8 +5,7 @@ ghost use Rattle.ados_packet.specs.declared.packet.Packet.TheVariants.{DiskInfo,
 ghost use Rattle.ados_handler.specs.steps.Methods.{MethodGives};
 
 use crate::handler::Handler;
-use crate::results::Results;
-use ados_packet::{Body, DosError};
+use ados_packet::{Body, DosError, Results};
 use ados_volume::Next;
 
 impl Handler {

@@ -1,10 +1,5 @@
 //! The answers.
-ghost use Rattle.std.specs.Prelude.{◌≡◌, pos, negsuc};
-ghost use Rattle.ados_packet.specs.Numbers.{action_number, error_number};
-
-use crate::action::Action;
 use crate::buffer::Buffer;
-use crate::dos_error::DosError;
 use crate::info::{DiskInfo, FileInfo};
 
 /// What an answer brings beside its results.
@@ -28,30 +23,4 @@ pub struct Answer {
     pub res1: i32,
     pub res2: i32,
     pub body: Body,
-}
-
-impl Answer {
-    /// A success: DOSTRUE, which is -1, and no error.
-    pub fn done(action: Action, body: Body) -> Self
-        ensures { result ≡ record { action = action_number action; res1 = negsuc 0; res2 = pos 0; body = body } }
-    {
-        Answer {
-            action: action.number(),
-            res1: -1,
-            res2: 0,
-            body,
-        }
-    }
-
-    /// A refusal with this error, whose first result is DOSFALSE, which is 0.
-    pub fn refused(action: Action, error: DosError) -> Self
-        ensures { result ≡ record { action = action_number action; res1 = pos 0; res2 = pos (error_number error); body = Body.Empty } }
-    {
-        Answer {
-            action: action.number(),
-            res1: 0,
-            res2: error.number(),
-            body: Body::Empty,
-        }
-    }
 }

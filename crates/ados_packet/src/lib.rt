@@ -7,6 +7,7 @@ pub mod buffer;
 pub mod dos_error;
 pub mod info;
 pub mod packet;
+pub mod results;
 
 pub use action::Action;
 pub use answer::{Answer, Body};
@@ -14,6 +15,7 @@ pub use buffer::Buffer;
 pub use dos_error::DosError;
 pub use info::{DiskInfo, FileInfo};
 pub use packet::Packet;
+pub use results::Results;
 
 #[cfg(test)]
 mod tests;

@@ -1,9 +1,9 @@
 //! Rows of packets and answers.
-use crate::action::Action;
-use crate::answer::{Answer, Body};
+use crate::answer::Body;
 use crate::dos_error::DosError;
 use crate::info::DiskInfo;
 use crate::packet::Packet;
+use crate::results::Results;
 use ados_name::PathText;
 
 #[test]
@@ -22,12 +22,20 @@ fn a_success_and_a_refusal(rt: HostRuntime) {
         bytes_per_block: 512,
         disk_type: 0x444F_5301,
     };
-    let done = Answer::done(Action::DiskInfo, Body::Disk(info));
+    let done = Results::done(Body::Disk(info)).to(25);
     assert_eq!(rt; (done.action, done.res1, done.res2), (25, -1, 0));
     assert!(rt; matches!(done.body, Body::Disk(found) if found == info));
-    let refused = Answer::refused(Action::Other(999), DosError::ActionNotKnown);
+    let refused = Results::refused(DosError::ActionNotKnown).to(999);
     assert_eq!(rt; (refused.action, refused.res1, refused.res2), (999, 0, 209));
     assert!(rt; matches!(refused.body, Body::Empty));
+}
+
+#[test]
+fn a_count_and_a_refused_count(rt: HostRuntime) {
+    let counted = Results::counted(3, Body::Empty).to(82);
+    assert_eq!(rt; (counted.action, counted.res1, counted.res2), (82, 3, 0));
+    let failed = Results::failed(DosError::SeekError, Body::Empty).to(1008);
+    assert_eq!(rt; (failed.action, failed.res1, failed.res2), (1008, -1, 219));
 }
 
 fn path() -> PathText {

@@ -6,6 +6,7 @@ use Rattle.ados_name.specs.declared.Date3.{Date3}
 use Rattle.ados_name.specs.Name.{slot}
 pub use Rattle.ados_name.specs.Protection.{without_archive}
 pub use Rattle.ados_data.specs.File.{overlaid}
+use Rattle.ados_chain.specs.Behind.{behind}
 use Rattle.ados_tree.specs.Tree.{Content, Node, Tree, root, bytes_of, entries, name_of, parent_of}
 use Rattle.ados_tree.specs.Tree.Content.{Directory, File}
 
@@ -87,11 +88,6 @@ with_date moment key date t = stamped moment (changed key (λ node. record node 
 abbrev pub disk_renamed : Date3 → List ℕ → Tree → Tree
 disk_renamed moment name t = stamped moment (changed (root t) (λ node. record node { name = name }) t)
 
--- what stands in a list behind a key, where the key stands in it
-abbrev pub behind : ℕ → List ℕ → Option (List ℕ)
-behind key [] = None
-behind key (k ∷ ks) = if k == key then Some ks else behind key ks
-
 -- the entries of a directory that are still to be listed after a key; its own key asks for all
 abbrev pub entries_after : Tree → ℕ → ℕ → Option (List ℕ)
-entries_after t dir key = if key == dir then Some (entries t dir) else behind key (entries t dir)
+entries_after t dir key = behind key (dir ∷ entries t dir)

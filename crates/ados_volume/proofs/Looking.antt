@@ -1,6 +1,6 @@
 -- What the chains, the files and the longs of an image say of its tree.
-use Rattle.std.proofs.Common.{◌≡◌, ℕ, zero, suc, ◌+◌, inl, inr, Bool, true, false, nat_eq, ◌==◌, List, [], ◌∷◌, ◌++◌, filter, map, find, Contains, Option, Some, None, IsSome, bytes_eq, refl, sym, ap, ◌∙◌, subst, arith, eq-eqb, ne_eqb, zero-add, if◌then◌else◌}
-use Rattle.std.proofs.lemmas.Bool.{false≢true, cases_eq}
+use Rattle.std.proofs.Common.{◌≡◌, ℕ, zero, suc, ◌+◌, inl, inr, Bool, true, false, nat_eq, ◌==◌, List, [], ◌∷◌, ◌++◌, filter, map, find, Contains, Option, Some, None, IsSome, bytes_eq, refl, sym, ap, ◌∙◌, subst, arith, eq-eqb, zero-add}
+use Rattle.std.proofs.lemmas.Bool.{false≢true}
 use Rattle.std.proofs.lemmas.List.{append-nil}
 use Rattle.std.proofs.lemmas.List.Elements.{All-filter, All-contains, All-contains_itself, Contains-append_right}
 use Rattle.std.proofs.lemmas.Slice.Eq.{bytes_eq-Decides}
@@ -8,17 +8,17 @@ use Rattle.ados_name.specs.Name.{upper, slot, Same, SameNameSameSlot}
 use Rattle.adf_block.specs.Image.{long}
 use Rattle.adf_block.specs.Fields.{file_type}
 use Rattle.ados_chain.specs.Chains.{LawfulChains, name_at, chains_from, entries_of}
-use Rattle.ados_chain.specs.Look.{FindsNamed, first_of, next_after}
+use Rattle.ados_chain.specs.Behind.{behind}
+use Rattle.ados_chain.specs.Look.{FindsNamed, first_left}
 use Rattle.ados_chain.proofs.Lists.{Contains-here, Contains-later, Contains-cases, Contains-nil}
 use Rattle.ados_chain.proofs.Order.{chains_from-split}
 use Rattle.ados_tree.specs.Tree.{Content, Node, Tree, root, content_at, entries, name_of}
 use Rattle.ados_tree.specs.Tree.Content.{Directory, File}
 use Rattle.ados_tree.specs.Stands.{Stands, in_slot, type_of}
 use Rattle.ados_tree.specs.Walk.{child_of, is_file, holds_file}
-use Rattle.ados_tree.specs.Change.{behind, entries_after}
+use Rattle.ados_tree.specs.Change.{entries_after}
 use Rattle.ados_tree.proofs.Lists.{joined}
 use Rattle.ados_tree.proofs.Nodes.{some_in, content_in, entry_node, entries_by_slot, root_or_parent}
-use Rattle.ados_volume.specs.Listing.{first_left}
 use Rattle.ados_volume.proofs.Bridge.{lawful_chains, name_is}
 
 Contains-filter-in : (p : ℕ → Bool) (xs : List ℕ) (x : ℕ) → Contains xs x → p x ≡ true → Contains (filter p xs) x
@@ -60,32 +60,6 @@ joined-chains g (suc n) =
     ∙ ap (λ (ys : List ℕ). chains_from g 0 n ++ ys) (sym (append-nil (g (0 + n))))
     ∙ sym (chains_from-split g 0 n 1)
     ∙ ap (chains_from g 0) more
-
-first-left : (keys : List ℕ) → first_of keys ≡ first_left (Some keys)
-first-left [] = refl
-first-left (key ∷ keys) = refl
-
--- what stands behind a key
-behind-next : (keys : List ℕ) (key : ℕ) → next_after keys key ≡ first_left (behind key keys)
-behind-next [] key = refl
-behind-next (k ∷ ks) key = go (k == key) refl (behind-next ks key)
-  where
-    go : (b : Bool) → (k == key) ≡ b → next_after ks key ≡ first_left (behind key ks) → next_after (k ∷ ks) key ≡ first_left (behind key (k ∷ ks))
-    go true h rest = rw h (first-left ks)
-    go false h rest = rw h rest
-
--- what a directory's own key or an entry's key leads to
-listed-next : (dir key : ℕ) (keys : List ℕ) → next_after (dir ∷ keys) key ≡ first_left (if key == dir then Some keys else behind key keys)
-listed-next dir key keys = elim (cases_eq dir key) [
-  | inl same ↦
-      let one : (dir == key) ≡ true = eq-eqb dir key same in
-      let other : (key == dir) ≡ true = eq-eqb key dir (sym same) in
-      rw (one, other) (first-left keys)
-  | inr apart ↦
-      let one : (dir == key) ≡ false = ne_eqb dir key apart in
-      let other : (key == dir) ≡ false = ne_eqb key dir (λ e. apart (sym e)) in
-      rw (one, other) (behind-next keys key)
-]
 
 module _ (image : List ℕ) (t : Tree) (s : Stands image t) where
   pub chains_of : (dir : ℕ) → (keys : List ℕ) × (content_at t dir ≡ Some (Directory keys)) → LawfulChains image dir (in_slot t dir)
@@ -139,8 +113,8 @@ module _ (image : List ℕ) (t : Tree) (s : Stands image t) where
   entries_are : (dir : ℕ) → entries_of (in_slot t dir) ≡ entries t dir
   entries_are dir = sym (joined-chains (in_slot t dir) 72) ∙ sym (entries_by_slot t s.proper dir)
 
-  pub next_is : (dir key : ℕ) → next_after (dir ∷ entries_of (in_slot t dir)) key ≡ first_left (entries_after t dir key)
-  next_is dir key = ap (λ (keys : List ℕ). next_after (dir ∷ keys) key) (entries_are dir) ∙ listed-next dir key (entries t dir)
+  pub next_is : (dir key : ℕ) → first_left (behind key (dir ∷ entries_of (in_slot t dir))) ≡ first_left (entries_after t dir key)
+  next_is dir key = ap (λ (keys : List ℕ). first_left (behind key (dir ∷ keys))) (entries_are dir)
 
   -- ---- a file
 

@@ -2,6 +2,5 @@
 pub mod Shown
 pub mod Examined
 pub mod Info
-pub mod Listing
 pub mod Refused
 pub mod steps

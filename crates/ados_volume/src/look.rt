@@ -7,7 +7,7 @@ ghost use Rattle.ados_tree.specs.Stands.{Stands};
 ghost use Rattle.ados_tree.specs.Walk.{child_of, is_file};
 ghost use Rattle.ados_tree.specs.Change.{entries_after};
 ghost use Rattle.ados_tree.specs.Keys.{HasDirectory, HasFileKey, HasKey, HasTree};
-ghost use Rattle.ados_volume.specs.Listing.{first_left};
+ghost use Rattle.ados_chain.specs.Look.{first_left};
 
 use crate::volume::Volume;
 use adf_block::Image;

@@ -4,7 +4,7 @@ use Rattle.ados_tree.specs.Tree.{Tree}
 use Rattle.ados_packet.specs.Packet.{action_of}
 use Rattle.ados_packet.specs.declared.packet.Packet.{Packet}
 use Rattle.ados_packet.specs.declared.answer.Answer.{Answer}
-use Rattle.ados_handler.specs.declared.results.Results.{Results}
+use Rattle.ados_packet.specs.declared.results.Results.{Results}
 use Rattle.ados_handler.specs.Session.{Session}
 use Rattle.ados_handler.specs.Meaning.{Meaning}
 use Rattle.ados_handler.specs.Handler.{HandlerGives, HandlerState}

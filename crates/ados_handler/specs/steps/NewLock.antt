@@ -2,7 +2,7 @@
 use Rattle.std.specs.Prelude.{◌≡◌, ◌⊎◌, ℕ, pos, Bool}
 use Rattle.ados_packet.specs.declared.dos_error.DosError.TheVariants.{NoFreeStore}
 use Rattle.ados_packet.specs.Numbers.{error_number}
-use Rattle.ados_handler.specs.declared.results.Results.{Results}
+use Rattle.ados_packet.specs.declared.results.Results.{Results}
 use Rattle.ados_packet.specs.declared.answer.Body.TheVariants.{Empty}
 use Rattle.ados_handler.specs.Session.{Session, IsFreeNumber, with_lock}
 

@@ -13,7 +13,7 @@ use Rattle.ados_packet.specs.declared.dos_error.DosError.{DosError}
 use Rattle.ados_packet.specs.declared.dos_error.DosError.TheVariants.{DeleteProtected, DiskFull, NoFreeStore, ObjectInUse, ObjectWrongType, WriteProtected}
 use Rattle.ados_packet.specs.Numbers.{error_number}
 use Rattle.ados_packet.specs.Packet.{dos_true, dos_false}
-use Rattle.ados_handler.specs.declared.results.Results.{Results}
+use Rattle.ados_packet.specs.declared.results.Results.{Results}
 use Rattle.ados_packet.specs.declared.answer.Body.TheVariants.{Empty, Handle}
 use Rattle.ados_handler.specs.declared.holds.HandleHold.{HandleHold}
 use Rattle.ados_handler.specs.Session.{Session, IsFreeNumber, is_in_use}

@@ -1,6 +1,6 @@
 use Rattle.std.proofs.Common.{sym, ◌∙◌}
-use Rattle.adf_listing.proofs.Listed.{listed_has_key}
+use Rattle.ados_tree.proofs.Listed.{next_has_key}
 use Rattle.adf_listing.proofs.keys.entry_behind.Goals as goal
 
 pub returns-in-Entry : goal.returns-in-Entry
-returns-in-Entry c = listed_has_key c.args.volume.now.image c.args.dir c.args.last c.in-Entry.key (λ t s. sym c.in-Entry.is ∙ c.next.ensures t s)
+returns-in-Entry c = next_has_key c.args.volume.now.image c.args.dir c.args.last c.in-Entry.key (λ t s. sym c.in-Entry.is ∙ c.next.ensures t s)

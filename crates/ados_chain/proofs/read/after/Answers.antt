@@ -1,8 +1,9 @@
-use Rattle.std.proofs.Common.{sym, ◌∙◌, arith, eq-eqb}
+use Rattle.std.proofs.Common.{ap, sym, ◌∙◌, arith, eq-eqb}
 use Rattle.std.proofs.lemmas.Bool.{ne_eqb}
 use Rattle.ados_chain.specs.Chains.{entries_of}
-use Rattle.ados_chain.proofs.Order.{next_after-absent, entry-in_chains}
-use Rattle.ados_chain.proofs.Found.{next_after-more, next_after-last}
+use Rattle.ados_chain.specs.Look.{first_left}
+use Rattle.ados_chain.proofs.Order.{behind-absent, entry-in_chains}
+use Rattle.ados_chain.proofs.Found.{behind-more, behind-last}
 use Rattle.ados_chain.proofs.read.after.Goals as goal
 
 pub returns-then-key-dir : goal.returns-then-key-dir
@@ -12,7 +13,7 @@ pub returns-in_default : goal.returns-in_default
 returns-in_default c =
     λ chains h.
     rw (ne_eqb c.args.dir c.args.key (λ e. c.if-key-dir.false (sym e)))
-    (sym (next_after-absent (entries_of chains) c.args.key (λ m. c.in_default.ensures chains h (entry-in_chains chains c.args.key m))))
+    (sym (ap first_left (behind-absent (entries_of chains) c.args.key (λ m. c.in_default.ensures chains h (entry-in_chains chains c.args.key m)))))
 
 pub long-next-requires-clause-block : goal.long-next-requires-clause-block
 long-next-requires-clause-block c =
@@ -30,11 +31,11 @@ returns-then-next-eq0 c =
     λ chains h.
     let at = c.in-Some.ensures chains h in
     rw (ne_eqb c.args.dir c.args.key (λ e. c.if-key-dir.false (sym e)))
-    (c.first_from-then-next-eq0.ensures chains h ∙ sym (next_after-last c.args.image.now c.args.dir chains h c.in-Some.slot c.args.key at.0 at.1 (sym c.long-next.ensures ∙ c.if-next-eq0.true)))
+    (c.first_from-then-next-eq0.ensures chains h ∙ sym (ap first_left (behind-last c.args.image.now c.args.dir chains h c.in-Some.slot c.args.key at.0 at.1 (sym c.long-next.ensures ∙ c.if-next-eq0.true))))
 
 pub returns-else-next-eq0 : goal.returns-else-next-eq0
 returns-else-next-eq0 c =
     λ chains h.
     let at = c.in-Some.ensures chains h in
     rw (ne_eqb c.args.dir c.args.key (λ e. c.if-key-dir.false (sym e)))
-    (sym (next_after-more c.args.image.now c.args.dir chains h c.in-Some.slot c.args.key at.0 at.1 c.long-next.result c.long-next.ensures c.if-next-eq0.false))
+    (sym (behind-more c.args.image.now c.args.dir chains h c.in-Some.slot c.args.key at.0 at.1 c.long-next.result c.long-next.ensures c.if-next-eq0.false))

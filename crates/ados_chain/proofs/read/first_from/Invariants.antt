@@ -1,8 +1,8 @@
 -- The chains of the slots before s are empty.
-use Rattle.std.proofs.Common.{◌≡◌, ◌-◌, ℕ, List}
+use Rattle.std.proofs.Common.{◌≡◌, ◌-◌, ℕ, List, Some}
 use Rattle.ados_chain.specs.Chains.{LawfulChains, chains_from}
-use Rattle.ados_chain.specs.Look.{first_of}
+use Rattle.ados_chain.specs.Look.{first_left}
 use Rattle.ados_chain.proofs.read.first_from.Given as goal
 
 abbrev pub invariant-loop-s : goal.invariant-loop-s
-invariant-loop-s l = (chains : ℕ → List ℕ) → LawfulChains l.image l.dir chains → first_of (chains_from chains l.slot (72 - l.slot)) ≡ first_of (chains_from chains l.s (72 - l.s))
+invariant-loop-s l = (chains : ℕ → List ℕ) → LawfulChains l.image l.dir chains → first_left (Some (chains_from chains l.slot (72 - l.slot))) ≡ first_left (Some (chains_from chains l.s (72 - l.s)))

@@ -1,7 +1,7 @@
 use Rattle.std.proofs.Common.{sym, ap, ◌∙◌}
 use Rattle.ados_packet.specs.declared.info.FileInfo.{FileInfo}
 use Rattle.ados_tree.proofs.Nodes.{some_in}
-use Rattle.adf_listing.proofs.Listed.{told_directory}
+use Rattle.adf_listing.proofs.Directories.{told_directory}
 use Rattle.bench.proofs.Objects.{told_file}
 use Rattle.bench.proofs.told.describe.Goals as goal
 

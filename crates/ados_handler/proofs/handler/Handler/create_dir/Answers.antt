@@ -10,7 +10,7 @@ use Rattle.ados_tree.specs.Kept.{Kept}
 use Rattle.ados_tree.specs.Change.{made}
 use Rattle.ados_volume.specs.Shown.{Shown}
 use Rattle.ados_packet.specs.declared.packet.Packet.TheVariants.{CreateDir}
-use Rattle.ados_handler.specs.declared.results.Results.{Results}
+use Rattle.ados_packet.specs.declared.results.Results.{Results}
 use Rattle.ados_handler.specs.Session.{Session, IsFreeNumber, with_lock}
 use Rattle.ados_handler.specs.declared.holds.LockHold.{LockHold}
 use Rattle.ados_handler.specs.Objects.{lacks}

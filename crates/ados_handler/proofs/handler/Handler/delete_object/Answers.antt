@@ -6,7 +6,7 @@ use Rattle.ados_tree.specs.Change.{removed}
 use Rattle.ados_tree.proofs.Nodes.{some_in}
 use Rattle.ados_packet.specs.declared.dos_error.DosError.TheVariants.{DeleteProtected}
 use Rattle.ados_packet.specs.declared.packet.Packet.TheVariants.{DeleteObject}
-use Rattle.ados_handler.specs.declared.results.Results.{Results}
+use Rattle.ados_packet.specs.declared.results.Results.{Results}
 use Rattle.ados_handler.specs.Session.{Session, is_held}
 use Rattle.ados_handler.specs.Refusals.{first_refusal, is_empty, refuse}
 use Rattle.ados_handler.specs.Handler.{HandlerState, IsSoundHandler}

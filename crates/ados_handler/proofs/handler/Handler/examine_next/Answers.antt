@@ -4,7 +4,8 @@ use Rattle.ados_tree.specs.Stands.{Stands}
 use Rattle.ados_packet.specs.declared.packet.Packet.TheVariants.{ExamineNext}
 use Rattle.ados_handler.specs.Handler.{HandlerState}
 use Rattle.ados_handler.proofs.Leaving.{leaves_all}
-use Rattle.ados_handler.proofs.NextEntry.{next_means, next_node}
+use Rattle.ados_tree.proofs.Listed.{next_node}
+use Rattle.ados_handler.proofs.NextEntry.{next_means}
 use Rattle.ados_handler.proofs.handler.Handler.examine_next.Goals as goal
 
 pub examine-requires : goal.examine-requires

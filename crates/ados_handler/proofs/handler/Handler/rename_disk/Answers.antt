@@ -5,7 +5,7 @@ use Rattle.ados_tree.specs.Kept.{Kept}
 use Rattle.ados_tree.specs.Change.{disk_renamed}
 use Rattle.ados_packet.specs.declared.dos_error.DosError.TheVariants.{InvalidComponentName}
 use Rattle.ados_packet.specs.declared.packet.Packet.TheVariants.{RenameDisk}
-use Rattle.ados_handler.specs.declared.results.Results.{Results}
+use Rattle.ados_packet.specs.declared.results.Results.{Results}
 use Rattle.ados_handler.specs.Session.{Session}
 use Rattle.ados_handler.specs.Handler.{HandlerState, IsSoundHandler}
 use Rattle.ados_handler.specs.steps.Methods.{MethodMeans}

@@ -8,7 +8,7 @@ use Rattle.ados_tree.specs.Change.{renamed}
 use Rattle.ados_packet.specs.Numbers.{error_number}
 use Rattle.ados_packet.specs.declared.packet.Packet.{Packet}
 use Rattle.ados_packet.specs.declared.packet.Packet.TheVariants.{RenameObject}
-use Rattle.ados_handler.specs.declared.results.Results.{Results}
+use Rattle.ados_packet.specs.declared.results.Results.{Results}
 use Rattle.ados_packet.specs.declared.answer.Body.TheVariants.{Empty}
 use Rattle.ados_handler.specs.Session.{Session}
 use Rattle.ados_handler.specs.Handler.{HandlerState, IsSoundHandler}

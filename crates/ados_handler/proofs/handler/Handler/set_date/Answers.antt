@@ -4,7 +4,7 @@ use Rattle.ados_tree.specs.Stands.{Stands}
 use Rattle.ados_tree.specs.Kept.{Kept}
 use Rattle.ados_tree.specs.Change.{with_date}
 use Rattle.ados_packet.specs.declared.packet.Packet.TheVariants.{SetDate}
-use Rattle.ados_handler.specs.declared.results.Results.{Results}
+use Rattle.ados_packet.specs.declared.results.Results.{Results}
 use Rattle.ados_handler.specs.Session.{Session}
 use Rattle.ados_handler.specs.Handler.{HandlerState, IsSoundHandler}
 use Rattle.ados_handler.specs.steps.Methods.{MethodMeans}

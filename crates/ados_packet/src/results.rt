@@ -1,12 +1,13 @@
-//! What the method of a packet comes to.
+//! What a packet comes to.
 
 ghost use Rattle.std.specs.Prelude.{◌≡◌, ◌<◌, pos, negsuc};
 ghost use Rattle.ados_packet.specs.Numbers.{error_number};
 
-use ados_packet::{Answer, Body, DosError};
+use crate::answer::{Answer, Body};
+use crate::dos_error::DosError;
 
-/// The two results of a packet, where the second is 0 or a DOS error number, and what they bring. `serve` puts the packet's action in
-/// front of them.
+/// The two results of a packet, where the second is 0 or a DOS error number, and what they bring. With the packet's action in front
+/// of them they are its answer.
 #[derive(Drop)]
 pub struct Results {
     pub res1: i32,
@@ -22,14 +23,14 @@ impl Results {
     }
 
     /// A success: DOSTRUE, which is -1, and no error.
-    pub(crate) fn done(body: Body) -> Self
+    pub fn done(body: Body) -> Self
         ensures { result ≡ record { res1 = negsuc 0; res2 = pos 0; body = body } }
     {
         Results::new(-1, 0, body)
     }
 
     /// A success with a number: a count, a position or a lock.
-    pub(crate) fn counted(count: u32, body: Body) -> Self
+    pub fn counted(count: u32, body: Body) -> Self
         requires { count < 2147483648 }
         ensures { result ≡ record { res1 = pos count; res2 = pos 0; body = body } }
     {
@@ -37,21 +38,21 @@ impl Results {
     }
 
     /// A refusal with this error, whose first result is DOSFALSE, which is 0.
-    pub(crate) fn refused(error: DosError) -> Self
+    pub fn refused(error: DosError) -> Self
         ensures { result ≡ record { res1 = pos 0; res2 = pos (error_number error); body = Body.Empty } }
     {
         Results::new(0, error.number(), Body::Empty)
     }
 
     /// A refusal of a packet that else answers a count or a position: its first result is -1.
-    pub(crate) fn failed(error: DosError, body: Body) -> Self
+    pub fn failed(error: DosError, body: Body) -> Self
         ensures { result ≡ record { res1 = negsuc 0; res2 = pos (error_number error); body = body } }
     {
         Results::new(-1, error.number(), body)
     }
 
     /// The answer to a packet of this action.
-    pub(crate) fn to(self, action: i32) -> Answer
+    pub fn to(self, action: i32) -> Answer
         ensures { result ≡ record { action = action; res1 = self.res1; res2 = self.res2; body = self.body } }
     {
         Answer {
