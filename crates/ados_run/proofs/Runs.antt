@@ -20,8 +20,8 @@ use Rattle.ados_run.proofs.Resting.{dead_handlers_rest}
 
 -- an accepted image stands for a tree
 accepted_tree : (image checked : List ℕ) (was_validated : Bool) → Accepts image was_validated checked → (t : Tree) × Stands checked t
-accepted_tree image checked false a = a.2
-accepted_tree image checked true a = (a.1.0, a.1.1)
+accepted_tree image checked false a = a.3
+accepted_tree image checked true a = (a.2.0, a.2.1)
 
 -- the opening handler, of which the image, the validation and the holds are told apart
 pub opening_handler : (handler : HandlerState) (image : List ℕ) (was_validated : Bool) → handler.image ≡ image → handler.was_validated ≡ was_validated → handler.session ≡ opening_session

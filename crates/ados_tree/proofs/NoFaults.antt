@@ -1,8 +1,7 @@
 -- An image that stands for a tree shows no fault.
-use Rattle.std.proofs.Common.{◌≡◌, ℕ, suc, ◌+◌, ◌-◌, ◌*◌, ◌/◌, ◌<◌, ◌≤◌, min, ◌⊎◌, inl, inr, List, [], ◌∷◌, length, take, drop, sum_by, slice_index, Contains, refl, sym, ap, ap₂, ◌∙◌, subst, arith, add-one, ◌==◌, if◌then◌else◌}
-use Rattle.std.proofs.lemmas.List.{get_or_default, get_or-take, get_or-drop, take-take, get_or_past}
+use Rattle.std.proofs.Common.{◌≡◌, ℕ, zero, suc, ◌+◌, ◌*◌, ◌<◌, ◌≤◌, ◌⊎◌, inl, inr, List, [], ◌∷◌, length, take, drop, slice_index, Contains, refl, sym, ap, ap₂, ◌∙◌, subst, arith, ◌==◌, if◌then◌else◌}
+use Rattle.std.proofs.lemmas.List.{get_or_default, get_or-take, get_or-drop, take-take}
 use Rattle.std.proofs.lemmas.List.Elements.{All-contains}
-use Rattle.std.proofs.lemmas.List.Sums.{sum_by-cons}
 use Rattle.adf_block.specs.declared.Format.{Format}
 use Rattle.adf_block.specs.declared.Format.TheVariants.{Ofs, Ffs}
 use Rattle.adf_block.specs.Image.{byte_at, bytes_at, long, block_sum}
@@ -10,18 +9,19 @@ use Rattle.ados_name.specs.Name.{Same, slot, IsName, IsNameByte}
 use Rattle.ados_tree.specs.declared.fault.FaultKind.TheVariants.{NotADosDisk, UnsupportedKind, BadSum, BadType, BadOwnKey, BadParent, BadPointer, BlockUsedTwice, WrongChain, BadName, DuplicateName, BadComment, BadCount, BadSequence, LinkEntry, MarkedFree, NoMemory}
 use Rattle.ados_tree.specs.Tree.{Content, Node, Tree, root, name_of, size_of}
 use Rattle.ados_tree.specs.Tree.Content.{Directory, File}
-use Rattle.adf_block.specs.Fields.{primary_type, pointer_count, held_count, next_data, parent_key, next_extension, secondary_type, file_type, text_at, HasText, comment_byte, name_byte}
-use Rattle.ados_tree.specs.Stands.{Stands, HasNode, HasEntry, format_byte, type_of}
+use Rattle.adf_block.specs.Fields.{primary_type, parent_key, secondary_type, file_type, text_at, HasText, comment_byte, name_byte}
+use Rattle.ados_tree.specs.Layout.{Duty, HasDuty}
+use Rattle.ados_tree.specs.Stands.{Stands, HasNode, HasEntry, format_byte, kind_bytes, type_of}
 use Rattle.ados_tree.specs.Faults
 use Rattle.ados_tree.specs.declared.role.Role.{Role}
 use Rattle.ados_tree.specs.declared.role.Role.TheVariants as roles
-use Rattle.ados_tree.specs.Faults.{InImage, IsOfs, IsEntry, IsExtension, IsData, IsFile, IsDirectory, IsLinkType, Reached, IsPlace, PlaceNames, AreDataBlocks, IsDataAt, HasPointers, HasName, Shows, root_of, first_pointers, pointers_of}
+use Rattle.ados_tree.specs.Faults.{IsOfs, IsEntry, IsLinkType, Reached, PlaceNames, HasName, root_of}
 use Rattle.ados_tree.specs.Laws.{FaultsHaveNoTree}
-use Rattle.ados_tree.proofs.Standing.{StandsAt, IsFileNode, IsEntryNode, entry_at, reached_stands, same_place, inside_at, serves_at, duty_of, leads, LeadsTo, root_at, root_is, holder_of, long_of, Chained-more}
-use Rattle.ados_data.specs.File.{format_of, HasExtension, HasOfsData}
+use Rattle.ados_tree.proofs.Standing.{StandsAt, IsFileNode, IsEntryNode, entry_at, file_at, reached_stands, same_place, inside_at, serves_at, duty_of, leads, LeadsTo, root_at, root_is, holder_of, long_of}
+use Rattle.ados_tree.proofs.FileBlocks.{IsWhole}
+use Rattle.ados_tree.proofs.FileFaults.{WholeFile, AreWhole, first_link, next_link, no_bad_sequence, no_bad_count}
+use Rattle.ados_data.specs.File.{format_of, HasFile, HasExtension, HasOfsData}
 use Rattle.ados_data.specs.Cost.{data_count}
-use Rattle.adf_block.specs.Chained.{Chained}
-use Rattle.ados_tree.proofs.FileBlocks.{file_node, link_within, data_are, pointers_are}
 
 -- a byte of a part of a block
 byte_in : (image : List ℕ) (b i n j : ℕ) → j < n → byte_at image b (i + j) ≡ slice_index (bytes_at image b i n) j
@@ -50,23 +50,34 @@ format_from_byte : (f : Format) → (if format_byte f == 0 then Ofs else Ffs) �
 format_from_byte Ofs = refl
 format_from_byte Ffs = refl
 
--- what the data blocks of an OFS file hold is the size
-held_sum : (f : ℕ → ℕ) (blocks : List ℕ) (size : ℕ) → ((i : ℕ) → i < length blocks → f (slice_index blocks i) ≡ min 488 (size - 488 * i)) → size ≤ 488 * length blocks → sum_by f blocks ≡ size
-held_sum f [] size h l = omega (arith, l)
-held_sum f (x ∷ xs) size h l =
-    let rest = held_sum f xs (size - 488) (λ i m. h (suc i) (omega arith) ∙ omega arith) (omega (arith, l)) in
-    let first = h 0 (omega arith) in
-    sum_by-cons f x xs ∙ omega (arith, rest, first)
+-- the boot block of a format
+module _ (image : List ℕ) (format : Format) (boot : bytes_at image 0 0 4 ≡ kind_bytes format) where
+  pub is_dos : bytes_at image 0 0 3 ≡ 68 ∷ 79 ∷ 83 ∷ []
+  is_dos = front_of image 0 0 3 4 (omega arith) ∙ ap (take 3) boot
+
+  format_at : byte_at image 0 3 ≡ format_byte format
+  format_at = byte_in image 0 0 4 3 (omega arith) ∙ ap (λ (bytes : List ℕ). slice_index bytes 3) boot
+
+  pub is_known : byte_at image 0 3 ≤ 1
+  is_known = omega (arith, format_at, format_small format)
+
+-- the duty of a header or extension block of a file
+abbrev header_duty : ℕ → ℕ → Duty
+header_duty file zero = Duty.Key
+header_duty file (suc k) = Duty.Extension file k
+
+one_header : (file p q : ℕ) → header_duty file p ≡ header_duty file q → p ≡ q
+one_header file zero zero e = refl
+one_header file zero (suc q) e = absurd (cc e)
+one_header file (suc p) zero e = absurd (cc e)
+one_header file (suc p) (suc q) e = let places : p ≡ q = cc e in ap (λ (n : ℕ). suc n) places
 
 module _ (image : List ℕ) (t : Tree) (s : Stands image t) where
-  format_at : byte_at image 0 3 ≡ format_byte t.format
-  format_at = byte_in image 0 0 4 3 (omega arith) ∙ ap (λ (bytes : List ℕ). slice_index bytes 3) s.boot
-
   ofs : IsOfs image → t.format ≡ Ofs
-  ofs h = ofs_byte t.format (sym format_at ∙ h)
+  ofs h = ofs_byte t.format (sym (format_at image t.format s.boot) ∙ h)
 
   format_same : format_of image ≡ t.format
-  format_same = ap (λ (n : ℕ). if n == 0 then Ofs else Ffs) format_at ∙ format_from_byte t.format
+  format_same = ap (λ (n : ℕ). if n == 0 then Ofs else Ffs) (format_at image t.format s.boot) ∙ format_from_byte t.format
 
   -- an entry is a node, with the fields of an entry
   record EntryFields (dir r block : ℕ) : Type 0 where
@@ -212,19 +223,6 @@ module _ (image : List ℕ) (t : Tree) (s : Stands image t) where
       go n (inr a) b (inr (inl c)) = omega (arith, a, b, c)
       go n (inr a) b (inr (inr c)) = omega (arith, a, b, c)
 
--- a chain begins with the first of its list, or with 0
-chain_head : (image : List ℕ) (link first : ℕ) (xs : List ℕ) → Chained image link first xs → first ≡ slice_index xs 0
-chain_head image link first [] c = c
-chain_head image link first (x ∷ xs) c = c.0
-
--- and goes on to the next one, or to 0
-chain_next : (image : List ℕ) (link first : ℕ) (xs : List ℕ) (k : ℕ) → Chained image link first xs → k < length xs → long image (slice_index xs k) link ≡ slice_index xs (k + 1)
-chain_next image link first xs k c l =
-    elim (Chained-more image link first xs k c l) [
-      | inl g ↦ g.1 ∙ ap (slice_index xs) (sym (add-one k))
-      | inr g ↦ g.1 ∙ sym (get_or_past xs (k + 1) 0 (omega (arith, g.0)))
-    ]
-
 module _ (image : List ℕ) (t : Tree) (s : Stands image t) where
   -- what a named block stands for
   record Target (holder i block : ℕ) : Type 0 where
@@ -255,109 +253,44 @@ module _ (image : List ℕ) (t : Tree) (s : Stands image t) where
       let root_stands : StandsAt image t s roles.Root 0 block = record { within = omega arith; here = sym (at_root image t s e); holder = tt } in
       b.to.not_root (same_place image t s b.next roles.Root b.to.place 0 block b.stands root_stands).0
 
-  -- what is known of a data block of a file of the image
-  record KnownData (file i block : ℕ) (blocks : List ℕ) : Type 0 where
-    of_file : IsFileNode image t s file
-    are : blocks ≡ s.layout.file_data file
-    within : i < length (s.layout.file_data file)
-    here : slice_index (s.layout.file_data file) i ≡ block
+  -- ---- the files
 
-  known_data : (file i block : ℕ) (blocks : List ℕ) → IsDataAt image file blocks i block → KnownData file i block blocks
-  known_data file i block blocks h =
-      let are = data_are image t s file blocks h.of_file in
-      record {
-        of_file = file_node image t s file h.of_file.is_file;
-        are = are;
-        within = subst (λ (xs : List ℕ). i < length xs) are h.within;
-        here = subst (λ (xs : List ℕ). slice_index xs i ≡ block) are h.here;
+  whole_file : (file : ℕ) → IsFileNode image t s file → WholeFile image file
+  whole_file file f = record { blocks = s.layout.file_data file; extensions = s.layout.extensions file; bytes = f.bytes; whole = whole }
+    where
+      size : size_of t file ≡ length f.bytes
+      size = rw (f.at, f.content) refl
+
+      stands : (k : ℕ) → k < length (s.layout.extensions file) → StandsAt image t s (roles.Extension file) k (slice_index (s.layout.extensions file) k)
+      stands k l = record { within = l; here = refl; holder = f }
+
+      serves : (k : ℕ) → k ≤ length (s.layout.extensions file) → HasDuty t s.layout (slice_index (file ∷ s.layout.extensions file) k) (header_duty file k)
+      serves zero l = rw f.at refl
+      serves (suc k) l = serves_at image t s (roles.Extension file) k _ (stands k (omega arith))
+
+      whole : IsWhole image file (s.layout.file_data file) (s.layout.extensions file) f.bytes
+      whole = record {
+        holds = subst (λ (format : Format). HasFile image format file (s.layout.file_data file) (s.layout.extensions file) f.bytes) (sym (format_same image t s)) (s.files file f.node f.bytes f.at f.content);
+        data_fits = s.fits.file_data file ∙ ap₂ data_count (sym (format_same image t s)) size;
+        extensions_fit = s.fits.extensions file;
+        inside = λ i l. inside_at image t s (roles.Extension file) i _ (stands i l);
+        once = λ p q l m e. one_header file p q (s.fits.one_duty _ (header_duty file p) (header_duty file q) (serves p l) (subst (λ (b : ℕ). HasDuty t s.layout b (header_duty file q)) (sym e) (serves q m)));
       }
 
-  ofs_fields : (o : IsOfs image) (file i block : ℕ) (blocks : List ℕ) (h : KnownData file i block blocks) → HasOfsData image file (length h.of_file.bytes) i block
-  ofs_fields o file i block blocks h =
-      let f = h.of_file in
-      subst (HasOfsData image file (length f.bytes) i) h.here ((s.files file f.node f.bytes f.at f.content).ofs_data (ofs image t s o) i h.within)
-
-  -- the number of the data blocks of a file
-  count_of_data : (file : ℕ) (f : IsFileNode image t s file) → length (s.layout.file_data file) ≡ data_count t.format (length f.bytes)
-  count_of_data file f =
-      let size : size_of t file ≡ length f.bytes = rw (f.at, f.content) refl in
-      s.fits.file_data file ∙ ap (data_count t.format) size
-
-  ofs_count : (o : IsOfs image) (file : ℕ) (f : IsFileNode image t s file) → length (s.layout.file_data file) ≡ (length f.bytes + 488 - 1) / 488
-  ofs_count o file f = count_of_data file f ∙ ap (λ (format : Format). data_count format (length f.bytes)) (ofs image t s o)
+  are_whole : AreWhole image
+  unfolding whole_file
+  are_whole = record {
+    file = λ file h. let at = reached_stands image t s h.reached in whole_file file (file_at image t s h.dir h.slot_of_chain at.0 file at.1 h.secondary);
+    extension = λ file block h. let at = reached_stands image t s h in record { of_file = whole_file file at.1.holder; place = at.0; within = at.1.within; here = at.1.here };
+  }
 
   no_bad_pointer : (block : ℕ) → Faults.HasBadPointer image block → ⊥
   no_bad_pointer block (Faults.HasBadPointer.outside {i = i} {role = role} {next = next} r p n) =
       let at = reached_stands image t s r in
       let to = leads image t s at.0 at.1 p in
       n (inside_at image t s next to.place (long image block i) to.stands)
-  no_bad_pointer block (Faults.HasBadPointer.first_data o h n) =
-      let f = file_node image t s block h in
-      let blocks = s.layout.file_data block in
-      let chain = (s.files block f.node f.bytes f.at f.content).ofs_chain (ofs image t s o) in
-      let first = ap (λ (xs : List ℕ). slice_index xs 0) (pointers_are image t s block f 0 (omega arith)) ∙ get_or-take 72 (drop (72 * 0) (s.layout.file_data block)) 0 0 (omega arith) in
-      n (chain_head image next_data (long image block next_data) (s.layout.file_data block) chain ∙ sym first)
-  no_bad_pointer block (Faults.HasBadPointer.further_data {file = file} {i = i} {blocks = blocks} o h n) =
-      let d = known_data file i block blocks h in
-      let f = d.of_file in
-      let chain = (s.files file f.node f.bytes f.at f.content).ofs_chain (ofs image t s o) in
-      let next = chain_next image next_data (long image file next_data) (s.layout.file_data file) i chain d.within in
-      n (ap (λ (b : ℕ). long image b next_data) (sym d.here) ∙ next ∙ ap (λ (xs : List ℕ). slice_index xs (i + 1)) (sym d.are))
-
-  no_bad_sequence : (block : ℕ) → Faults.HasBadSequence image block → ⊥
-  no_bad_sequence block h =
-      let d = known_data h.file h.i block h.blocks h.at in
-      h.wrong (ofs_fields h.ofs h.file h.i block h.blocks d).sequence
-
-  -- a block with pointers is a header or an extension block of a file
-  record PointerBlock (block : ℕ) : Type 0 where
-    file : ℕ
-    of_file : IsFileNode image t s file
-    place : ℕ
-    within : place ≤ length (s.layout.extensions file)
-    here : slice_index (file ∷ s.layout.extensions file) place ≡ block
-
-  pointer_block : (block : ℕ) → HasPointers image block → PointerBlock block
-  pointer_block block (HasPointers.file_pointers h) =
-      record { file = block; of_file = file_node image t s block h; place = 0; within = omega arith; here = refl }
-  pointer_block block (HasPointers.extension_pointers h) =
-      let at = reached_stands image t s h.1 in
-      record { file = h.0; of_file = at.1.holder; place = suc at.0; within = omega (arith, at.1.within); here = at.1.here }
-
-  counted : (block : ℕ) (p : PointerBlock block) → pointer_count image block ≡ min 72 (length (s.layout.file_data p.file) - 72 * p.place)
-  counted block p =
-      let f = p.of_file in
-      ap (pointer_count image) (sym p.here) ∙ (s.files p.file f.node f.bytes f.at f.content).counts p.place p.within
-
-  no_bad_count : (block : ℕ) → Faults.HasBadCount image block → ⊥
-  no_bad_count block (Faults.HasBadCount.over h l) = omega (arith, counted block (pointer_block block h), l)
-  no_bad_count block (Faults.HasBadCount.not_full h l n) =
-      let p = pointer_block block h in
-      let more = link_within image t s p.file p.of_file p.place p.within (λ z. n (ap (λ (b : ℕ). long image b next_extension) (sym p.here) ∙ z)) in
-      omega (arith, counted block p, l, more, s.fits.extensions p.file)
-  no_bad_count block (Faults.HasBadCount.no_pointer h z) =
-      let at = reached_stands image t s h.1 in
-      let p : PointerBlock block = record { file = h.0; of_file = at.1.holder; place = suc at.0; within = omega (arith, at.1.within); here = at.1.here } in
-      omega (arith, counted block p, z, at.1.within, s.fits.extensions h.0)
-  no_bad_count block (Faults.HasBadCount.wrong_size {blocks = blocks} h n) =
-      let f = file_node image t s block h.is_file in
-      let size = (s.files block f.node f.bytes f.at f.content).size in
-      n (ap length (data_are image t s block blocks h) ∙ count_of_data block f ∙ ap₂ data_count (sym (format_same image t s)) (sym size))
-  no_bad_count block (Faults.HasBadCount.held_not_full {file = file} {i = i} {blocks = blocks} o h l n) =
-      let d = known_data file i block blocks h in
-      let more : i + 1 < length (s.layout.file_data file) = subst (λ (xs : List ℕ). i + 1 < length xs) d.are l in
-      n ((ofs_fields o file i block blocks d).held ∙ omega (arith, more, ofs_count o file d.of_file))
-  no_bad_count block (Faults.HasBadCount.held_none {file = file} {i = i} {blocks = blocks} o h z) =
-      let d = known_data file i block blocks h in
-      omega (arith, (ofs_fields o file i block blocks d).held, z, d.within, ofs_count o file d.of_file)
-  no_bad_count block (Faults.HasBadCount.held_over {file = file} {i = i} {blocks = blocks} o h l) =
-      let d = known_data file i block blocks h in
-      omega (arith, (ofs_fields o file i block blocks d).held, l)
-  no_bad_count block (Faults.HasBadCount.wrong_sum {blocks = blocks} o h inside n) =
-      let f = file_node image t s block h.is_file in
-      let file = s.files block f.node f.bytes f.at f.content in
-      let sum = held_sum (held_count image) (s.layout.file_data block) (length f.bytes) (λ i l. (file.ofs_data (ofs image t s o) i l).held) (omega (arith, ofs_count o block f)) in
-      n (ap (sum_by (held_count image)) (data_are image t s block blocks h) ∙ sum ∙ sym file.size)
+  no_bad_pointer block (Faults.HasBadPointer.first_data o h n) = n (first_link image are_whole o block h)
+  no_bad_pointer block (Faults.HasBadPointer.further_data {file = file} {i = i} {blocks = blocks} o h n) = n (next_link image are_whole o file i block blocks h)
 
   none_marked_free : (block : ℕ) → Faults.IsReachedAndFree image block → ⊥
   none_marked_free block h =
@@ -365,12 +298,9 @@ module _ (image : List ℕ) (t : Tree) (s : Stands image t) where
       let serves = serves_at image t s h.role at.0 block at.1 in
       s.marked_free block (s.fits.inside block _ serves) h.free (duty_of image t s h.role at.0, serves)
 
-  no_foreign_disk : (bytes_at image 0 0 3 ≡ 68 ∷ 79 ∷ 83 ∷ [] → ⊥) → ⊥
-  no_foreign_disk n = n (front_of image 0 0 3 4 (omega arith) ∙ ap (take 3) s.boot)
-
 pub faults_have_no_tree : FaultsHaveNoTree
-faults_have_no_tree image t NotADosDisk block h s = no_foreign_disk image t s h.0
-faults_have_no_tree image t UnsupportedKind block h s = omega (arith, h.1, format_at image t s, format_small t.format)
+faults_have_no_tree image t NotADosDisk block h s = h.0 (is_dos image t.format s.boot)
+faults_have_no_tree image t UnsupportedKind block h s = omega (arith, h.1, is_known image t.format s.boot)
 faults_have_no_tree image t BadSum block h s = no_bad_sum image t s block h
 faults_have_no_tree image t BadType block h s = no_bad_type image t s block h
 faults_have_no_tree image t BadOwnKey block h s = no_bad_own_key image t s block h
@@ -381,8 +311,8 @@ faults_have_no_tree image t WrongChain block h s = no_wrong_chain image t s bloc
 faults_have_no_tree image t BadName block h s = no_bad_name image t s block h
 faults_have_no_tree image t DuplicateName block h s = no_duplicate_name image t s block h
 faults_have_no_tree image t BadComment block h s = no_bad_comment image t s block h
-faults_have_no_tree image t BadCount block h s = no_bad_count image t s block h
-faults_have_no_tree image t BadSequence block h s = no_bad_sequence image t s block h
+faults_have_no_tree image t BadCount block h s = no_bad_count image (are_whole image t s) block h
+faults_have_no_tree image t BadSequence block h s = no_bad_sequence image (are_whole image t s) block h
 faults_have_no_tree image t LinkEntry block h s = no_link image t s block h.0 h.1
 faults_have_no_tree image t MarkedFree block h s = none_marked_free image t s block h
 faults_have_no_tree image t NoMemory block h s = h

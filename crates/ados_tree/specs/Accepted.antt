@@ -2,19 +2,24 @@
 use Rattle.std.specs.Prelude.{◌≡◌, ◌⊎◌, ℕ, List, None, Bool, true, false}
 use Rattle.ados_tree.specs.Tree.{Tree}
 use Rattle.ados_tree.specs.Stands.{Stands}
+use Rattle.ados_tree.specs.declared.fault.FaultKind.{FaultKind}
 use Rattle.ados_tree.specs.declared.fault.FaultKind.TheVariants.{NoMemory}
 use Rattle.ados_tree.specs.declared.fault.VolumeFault.{VolumeFault}
 use Rattle.ados_tree.specs.Faults.{Shows}
 use Rattle.ados_tree.specs.Rebuilt.{HasValidBitmap, Rebuilt}
 
+-- the image shows no fault at any block
+abbrev pub ShowsNoFault : List ℕ → Type 0
+ShowsNoFault image = (kind : FaultKind) (block : ℕ) → ¬ Shows image kind block
+
 -- the tree has no lost blocks
 abbrev pub HasNoLost : Tree → Type 0
 HasNoLost t = (block : ℕ) → t.lost block ≡ None
 
--- the image of the volume, by the image that was handed in and whether its bitmap was rebuilt
+-- the image that was handed in shows no fault, and the volume's is that one, or, where its bitmap was rebuilt, that one with a new bitmap
 abbrev pub Accepts : List ℕ → Bool → List ℕ → Type 0
-Accepts old false new = HasValidBitmap old × (new ≡ old) × ((t : Tree) × Stands new t)
-Accepts old true new = Rebuilt old new × ((t : Tree) × Stands new t × HasNoLost t)
+Accepts old false new = ShowsNoFault old × HasValidBitmap old × (new ≡ old) × ((t : Tree) × Stands new t)
+Accepts old true new = ShowsNoFault old × Rebuilt old new × ((t : Tree) × Stands new t × HasNoLost t)
 
 -- why the image is refused: it shows the fault, or there was no memory, which has block 0
 abbrev pub IsRefusal : List ℕ → VolumeFault → Type 0

@@ -1,4 +1,5 @@
--- Blank images first, then what the image says of its tree, then what the cache keeps through each change.
+-- Why `check` decides, then blank images, then what the image says of its tree, then what the cache keeps through each change.
+pub mod Decided
 pub mod BlankRoot
 pub mod BlankMarks
 pub mod BlankImage

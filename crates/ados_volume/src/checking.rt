@@ -1,7 +1,6 @@
 //! The volume of an image that was checked.
 
-ghost use Rattle.std.specs.Prelude.{MatchResult};
-ghost use Rattle.ados_tree.specs.Accepted.{Accepts, HandsBack};
+ghost use Rattle.ados_volume.specs.Checked.{Checks};
 
 use crate::cache::NameCache;
 use crate::volume::Volume;
@@ -15,7 +14,7 @@ use std::alloc::Global;
 /// Where the root says that the bitmap is valid, the volume's image is the one that was handed in; else the bitmap was
 /// written anew. `NoMemory` says that memory was refused before any change.
 pub fn check(alloc: Global, image: Image) -> Result<Volume, Rejected>
-    ensures { MatchResult result (λ volume. Accepts image volume.was_validated volume.image) (λ rejected. HandsBack image rejected.image rejected.fault) }
+    ensures { Checks image result }
 {
     let Ok(names) = NameCache::new(alloc) else {
         return Err(Rejected {

@@ -30,7 +30,7 @@ use Rattle.change_bytes.proofs.BytesKept.{data_field, is_ofs, is_ffs}
 first_pointer : (image : List ℕ) (t : Tree) (s : Stands image t) (file : ℕ) → IsFileNode image t s file → slice_index (pointers_of image file) 0 ≡ slice_index (s.layout.file_data file) 0
 first_pointer image t s file f =
     let all : drop (72 * 0) (s.layout.file_data file) ≡ s.layout.file_data file = refl in
-    ap (λ (xs : List ℕ). slice_index xs 0) (pointers_are image t s file f 0 (omega arith) ∙ ap (take 72) all) ∙ get_or-take 72 (s.layout.file_data file) 0 0 (omega arith)
+    ap (λ (xs : List ℕ). slice_index xs 0) (pointers_are image t.format file (s.layout.file_data file) (s.layout.extensions file) f.bytes (s.files file f.node f.bytes f.at f.content) 0 (omega arith) ∙ ap (take 72) all) ∙ get_or-take 72 (s.layout.file_data file) 0 0 (omega arith)
 
 module _ (old new : List ℕ) (t : Tree) (s : Stands old t) (file : ℕ) (node : Node) (bytes : List ℕ) (found : t.nodes file ≡ Some node) (is_file : node.content ≡ File bytes)
     (blocks' extensions' bytes' : List ℕ) (h : IsRewritten old file (s.layout.file_data file) (s.layout.extensions file) new blocks' extensions' bytes')

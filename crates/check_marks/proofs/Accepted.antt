@@ -14,6 +14,7 @@ use Rattle.ados_tree.specs.Faults.IsPlace.{root_page}
 use Rattle.ados_tree.specs.Faults.Reached.{start, named}
 use Rattle.ados_tree.specs.Rebuilt.{HasValidBitmap, IsOfBitmap, Rebuilt}
 use Rattle.ados_tree.specs.Accepted.{HasNoLost}
+use Rattle.ados_tree.proofs.NoFaults.{faults_have_no_tree}
 use Rattle.check_marks.specs.declared.mark.Mark.{Mark}
 use Rattle.check_marks.specs.Marks.{mark_at, IsChecked}
 use Rattle.check_marks.specs.Laws.{AreInUse, IsMended, CheckedHasPages, CheckedIsAccepted, MendedIsAccepted}
@@ -24,6 +25,7 @@ use Rattle.check_marks.proofs.Untouched.{root_same, root_longs}
 use Rattle.check_marks.proofs.TreeOf.{tree_of, lost_of, lost_view}
 use Rattle.check_marks.proofs.Standing.{stands}
 use Rattle.check_marks.proofs.Carried.{is_checked}
+use Rattle.check_marks.proofs.NoFaults.{shows_no_fault}
 
 module _ (image : List ℕ) (marks : List (Option Mark)) (c : IsChecked image marks) where
   -- page p is marked for its long of the root
@@ -65,7 +67,10 @@ pub checked_has_pages : CheckedHasPages
 checked_has_pages image marks im c = lawful_pages image marks c
 
 pub checked_is_accepted : CheckedIsAccepted
-checked_is_accepted image marks im c valid used = (valid, refl, (tree_of image marks, stands image marks im c valid used))
+checked_is_accepted image marks im c valid used =
+    let t = tree_of image marks in
+    let s = stands image marks im c valid used in
+    (λ kind block shows. faults_have_no_tree image t kind block shows s, valid, refl, (t, s))
 
 -- ---- which blocks are named
 
@@ -209,6 +214,7 @@ module _ (old new : List ℕ) (marks : List (Option Mark)) (im : IsImage old) (c
 
 pub mended_is_accepted : MendedIsAccepted
 mended_is_accepted old new marks im new_im c was mended = (
+  shows_no_fault old marks im c was,
   rebuilt old new marks im c mended was,
   (tree_of new marks, stands new marks new_im (checked_new old new marks im c mended) (valid old new marks im c mended) (in_use old new marks im c mended), no_lost old new marks im c mended),
 )

@@ -1,4 +1,4 @@
--- Why an image with sound marks stands for a tree, as it is or with its bitmap mended.
+-- Why an image with sound marks stands for a tree, as it is or with its bitmap mended, and shows no fault.
 pub mod Counting
 pub mod Paths
 pub mod Roles
@@ -11,4 +11,5 @@ pub mod Standing
 pub mod Untouched
 pub mod FilesKept
 pub mod Carried
+pub mod NoFaults
 pub mod Accepted

@@ -6,4 +6,4 @@ returns-in-None-clause-answer c =
 
 pub returns-in-None-clause-stands : goal.returns-in-None-clause-stands
 returns-in-None-clause-stands c =
-    (c.checked_is_accepted.ensures c.args.image c.args.marks.now c.in-None.ensures.image c.requires.checked c.requires.valid c.in-None.ensures.found).2
+    (c.checked_is_accepted.ensures c.args.image c.args.marks.now c.in-None.ensures.image c.requires.checked c.requires.valid c.in-None.ensures.found).3
