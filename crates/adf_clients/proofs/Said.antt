@@ -15,9 +15,9 @@ use Rattle.adf_script.specs.declared.ending.ClientEnding.TheVariants.{Done, Scri
 use Rattle.adf_script.specs.Lines.{kept_lines, is_too_long}
 use Rattle.adf_script.specs.Values.{answer_value, answer_values}
 use Rattle.adf_script.specs.Text.{reply_line, reply_lines, closed_line, fault_line, no_reply_line, no_room_line}
-use Rattle.adf_script.specs.Told.{ArePackets, NextPuts, NextIsFaulty, NoneIsLeft}
+use Rattle.adf_script.specs.Packets.{ArePackets, NextPuts, NextIsFaulty, NoneIsLeft}
 use Rattle.adf_script.specs.Spoken.{SpokenEnd, Spoken}
-use Rattle.adf_script.proofs.Telling.{reply_lines-push, packets-push, packets-answered}
+use Rattle.adf_script.proofs.Pushing.{reply_lines-push, packets-push, packets-answered}
 use Rattle.adf_clients.specs.declared.asking.Stopped.{Stopped}
 use Rattle.adf_clients.specs.declared.asking.Stopped.TheVariants.{Closed, NoRoom, NoReply}
 use Rattle.adf_clients.specs.Asking.{Replied, StoppedBy, stop_line, stop_ending}

@@ -6,4 +6,6 @@ pub mod FieldLemmas
 pub mod WordList
 pub mod WordLemmas
 pub mod Quiet
+pub mod Pushing
 pub mod Telling
+pub mod OneRun

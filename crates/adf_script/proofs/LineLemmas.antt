@@ -5,7 +5,7 @@ use Rattle.std.specs.List.{enumerate_from}
 use Rattle.std.proofs.lemmas.List.{nil_from_length}
 use Rattle.std.proofs.lemmas.Option.{slice_get_past}
 use Rattle.adf_script.specs.Lines.{lines_of, on_first, is_skipped, kept_from, kept_lines}
-use Rattle.adf_script.specs.Told.{NoneIsLeft}
+use Rattle.adf_script.specs.Packets.{NoneIsLeft}
 use Rattle.adf_script.specs.steps.Left.{IsLeft}
 use Rattle.adf_script.specs.Pieces.{has_byte}
 use Rattle.adf_script.proofs.Splitting.{or_false}

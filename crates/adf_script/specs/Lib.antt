@@ -9,7 +9,9 @@ pub mod Pieces
 pub mod Values
 pub mod Grammar
 pub mod Text
+pub mod Packets
 pub mod Told
+pub mod Ran
 pub mod Next
 pub mod Spoken
 pub mod Streams

@@ -2,7 +2,7 @@
 use Rattle.std.specs.Prelude.{◌≡◌, ℕ, ◌+◌, List, Option}
 use Rattle.adf_script.specs.declared.packet_lines.NextLine.{NextLine}
 use Rattle.adf_script.specs.declared.packet_lines.NextLine.TheVariants.{End, Faulty, Puts}
-use Rattle.adf_script.specs.Told.{NextPuts, NextIsFaulty, NoneIsLeft}
+use Rattle.adf_script.specs.Packets.{NextPuts, NextIsFaulty, NoneIsLeft}
 
 -- the packet lines of a script, and how many of them are behind
 pub record LinesView : Type 0 where

@@ -10,7 +10,7 @@ use Rattle.adf_script.specs.declared.ending.ClientEnding.TheVariants.{Done, Scri
 use Rattle.adf_script.specs.Lines.{kept_lines, is_too_long}
 use Rattle.adf_script.specs.Values.{answer_values}
 use Rattle.adf_script.specs.Text.{reply_lines, closed_line, fault_line, no_reply_line, no_room_line}
-use Rattle.adf_script.specs.Told.{ArePackets, NextPuts, NextIsFaulty, NoneIsLeft}
+use Rattle.adf_script.specs.Packets.{ArePackets, NextPuts, NextIsFaulty, NoneIsLeft}
 
 -- the last line of a client that has put so many packets and taken these answers; knows: its end knows of the close
 abbrev pub SpokenEnd : ℕ → List (ℕ × List ℕ) → List Answer → ℕ → Bool → List ℕ → ClientEnding → Type 0

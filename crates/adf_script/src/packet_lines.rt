@@ -1,7 +1,7 @@
 //! The packet lines of a script, one after another.
 ghost use Rattle.std.specs.Prelude.{◌≡◌, IfOk, MatchOption};
 ghost use Rattle.adf_script.specs.Lines.{kept_lines};
-ghost use Rattle.adf_script.specs.Told.{NoneIsLeft};
+ghost use Rattle.adf_script.specs.Packets.{NoneIsLeft};
 ghost use Rattle.adf_script.specs.Next.{NextGives};
 ghost use Rattle.adf_script.specs.steps.Left.{Passes};
 

@@ -1,5 +1,5 @@
 -- What a script over a handler tells is what it tells over the tree.
-use Rattle.std.proofs.Common.{◌≡◌, ℕ, ◌++◌, Bool, true, false, List, Option, length, codes, subst}
+use Rattle.std.proofs.Common.{◌≡◌, ℕ, Bool, true, false, List, [], Option, codes, subst}
 use Rattle.std.specs.Bool.{MatchBool}
 use Rattle.adf_block.specs.declared.Format.TheVariants.{Ffs}
 use Rattle.ados_tree.specs.Tree.{Tree}
@@ -14,31 +14,31 @@ use Rattle.ados_run.specs.TreePort.{means, tree_died, handler_died, over_tree}
 use Rattle.ados_run.proofs.Following.{histories_follow_trees}
 use Rattle.adf_script.specs.Lines.{kept_lines, is_too_long}
 use Rattle.adf_script.specs.Streams.{ReadsAndWrites}
-use Rattle.adf_script.specs.Text.{reply_lines, fault_line}
-use Rattle.adf_script.specs.Told.{Ending, Ran, Told, is_whole, last_line}
+use Rattle.adf_script.specs.Text.{fault_line}
+use Rattle.adf_script.specs.Told.{LinesTell, Told}
+use Rattle.adf_script.specs.Told.LinesTell.{ended, answered, closed, faulty}
 use Rattle.adf_serve.specs.Script.{RunsScript, first_moment}
 use Rattle.adf_serve.proofs.Blank.{work_stands}
 
-module _ (t : Tree) (opening : PortState HandlerState Packet Answer) (stood : Stands opening.server.image t) where
-  ran : (lines : List (ℕ × List ℕ)) (answers : List Answer) (ending : Ending) → Ran HandlerGives handler_died opening first_moment lines answers ending
-      → Ran means tree_died (over_tree t opening) first_moment lines answers ending
-  ran lines answers ending r =
-      let follows = histories_follow_trees t opening _ _ r.closing stood r.history in
-      record { packets = r.packets; each = r.each; ends = r.ends; closing = over_tree follows.last_tree r.closing; history = follows.history }
+lines_follow_trees : {port : PortState HandlerState Packet Answer} {lines : List (ℕ × List ℕ)} {values : List (Option ℕ)} {next : ℕ} {text : List ℕ} {whole : Bool}
+    → LinesTell HandlerGives handler_died first_moment port lines values next text whole → (t : Tree) → Stands port.server.image t
+    → LinesTell means tree_died first_moment (over_tree t port) lines values next text whole
+lines_follow_trees ended t stood = ended
+lines_follow_trees (answered {port = port} {new = new} puts history rest) t stood =
+    let follows = histories_follow_trees t port _ _ new stood history in
+    answered puts follows.history (lines_follow_trees rest follows.last_tree follows.stands)
+lines_follow_trees (closed {port = port} {new = new} puts history) t stood = closed puts (histories_follow_trees t port _ _ new stood history).history
+lines_follow_trees (faulty none) t stood = faulty none
 
-  told : (read written : List ℕ) (whole : Bool) → Told HandlerGives handler_died opening first_moment read written whole
-      → Told means tree_died (over_tree t opening) first_moment read written whole
-  told read written whole = go (is_too_long read)
-    where
-      go : (b : Bool)
-          → MatchBool b ((whole ≡ false) × (written ≡ fault_line 1 0))
-          ((answers : List Answer) × (ending : Ending) × Ran HandlerGives handler_died opening first_moment (kept_lines read) answers ending × (whole ≡ is_whole ending)
-          × (written ≡ reply_lines 1 1 answers ++ last_line 1 (length answers) ending))
-          → MatchBool b ((whole ≡ false) × (written ≡ fault_line 1 0))
-          ((answers : List Answer) × (ending : Ending) × Ran means tree_died (over_tree t opening) first_moment (kept_lines read) answers ending × (whole ≡ is_whole ending)
-          × (written ≡ reply_lines 1 1 answers ++ last_line 1 (length answers) ending))
-      go true w = w
-      go false w = (w.0, w.1, ran (kept_lines read) w.0 w.1 w.2, w.3, w.4)
+told : (t : Tree) (opening : PortState HandlerState Packet Answer) → Stands opening.server.image t → (read written : List ℕ) (whole : Bool)
+    → Told HandlerGives handler_died opening first_moment read written whole → Told means tree_died (over_tree t opening) first_moment read written whole
+told t opening stood read written whole = go (is_too_long read)
+  where
+    go : (b : Bool)
+        → MatchBool b ((whole ≡ false) × (written ≡ fault_line 1 0)) (LinesTell HandlerGives handler_died first_moment opening (kept_lines read) [] 1 written whole)
+        → MatchBool b ((whole ≡ false) × (written ≡ fault_line 1 0)) (LinesTell means tree_died first_moment (over_tree t opening) (kept_lines read) [] 1 written whole)
+    go true w = w
+    go false w = lines_follow_trees w t stood
 
 pub runs_script : (handler : HandlerState) → IsBlank Ffs 1760 (codes "Work") first_moment handler.image → handler.session ≡ opening_session
     → (reader_old reader_new writer_old writer_new : Option (List ℕ)) (whole : Bool)

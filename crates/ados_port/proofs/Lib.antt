@@ -4,6 +4,7 @@ pub use Rattle.port_history.proofs.Replies
 pub use Rattle.port_history.proofs.Lawful
 pub use Rattle.port_exchange.proofs.Histories
 pub use Rattle.port_exchange.proofs.Grows
+pub use Rattle.port_exchange.proofs.Joining
 pub use Rattle.port_ends.proofs.Eachs
 pub use Rattle.port_ends.proofs.Moves
 pub use Rattle.port_ends.proofs.Gathers

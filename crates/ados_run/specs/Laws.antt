@@ -15,7 +15,8 @@ use Rattle.ados_port.specs.Outcome.{Outcome}
 use Rattle.ados_packet.specs.declared.packet.Packet.{Packet}
 use Rattle.ados_packet.specs.declared.answer.Answer.{Answer}
 use Rattle.ados_handler.specs.Handler.{HandlerState, HandlerGives}
-use Rattle.ados_run.specs.TreePort.{FollowsTree, handler_died}
+use Rattle.adf_script.specs.Ran.{LinesAreOneRun}
+use Rattle.ados_run.specs.TreePort.{FollowsTree, handler_died, means, tree_died}
 use Rattle.ados_run.specs.TreeLists.{ListsFollowTree}
 use Rattle.ados_run.specs.Rests.{RestsOnceDead}
 
@@ -40,3 +41,7 @@ DeadHandlersRest =
 -- an image that stands for a tree is refused only for want of memory
 abbrev pub TreesReadBack : Type 0
 TreesReadBack = (image : List ℕ) (t : Tree) (fault : VolumeFault) → Stands image t → IsRefusal image fault → fault.kind ≡ NoMemory
+
+-- what a script tells line by line at the port of a tree is what one run of it tells, in one history of that port
+abbrev pub LinesOverTreesAreOneRun : Type 0
+LinesOverTreesAreOneRun = LinesAreOneRun means tree_died

@@ -1,5 +1,5 @@
 //! Laws over the definitions, each as the contract of a function that does nothing.
-ghost use Rattle.ados_run.specs.Laws.{DeadHandlersRest, HistoriesFollowTrees, ListsFollowTrees, TreesReadBack};
+ghost use Rattle.ados_run.specs.Laws.{DeadHandlersRest, HistoriesFollowTrees, LinesOverTreesAreOneRun, ListsFollowTrees, TreesReadBack};
 
 /// What happens at a handler's port is what happens to the tree that its image stands for.
 pub fn histories_follow_trees()
@@ -19,4 +19,9 @@ pub fn dead_handlers_rest()
 /// An image that stands for a tree is refused only for want of memory.
 pub fn trees_read_back()
     ensures { TreesReadBack }
+{}
+
+/// What a script tells at the port of a tree, line by line, is what one run of it tells, in one history of that port.
+pub fn lines_over_trees_are_one_run()
+    ensures { LinesOverTreesAreOneRun }
 {}

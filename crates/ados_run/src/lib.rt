@@ -6,6 +6,9 @@ mod laws;
 mod run;
 mod serve;
 
-pub use laws::{dead_handlers_rest, histories_follow_trees, lists_follow_trees, trees_read_back};
+pub use laws::{
+    dead_handlers_rest, histories_follow_trees, lines_over_trees_are_one_run, lists_follow_trees,
+    trees_read_back,
+};
 pub use run::{RunFault, run_volume};
 pub use serve::{VolumeServed, serve_volume};

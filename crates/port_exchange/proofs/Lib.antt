@@ -1,5 +1,6 @@
--- Lemmas on what an exchange shows, and on histories that grow step by step.
+-- Lemmas on what an exchange shows, on histories that grow step by step, and on two of them, one behind the other.
 pub mod Kept
 pub mod Views
 pub mod Histories
 pub mod Grows
+pub mod Joining

@@ -5,7 +5,7 @@ use Rattle.ados_port.proofs.Growth.{grown_more}
 use Rattle.adf_script.specs.declared.ending.ClientEnding.TheVariants.{Script}
 use Rattle.adf_script.specs.Next.{LinesView}
 use Rattle.adf_script.specs.Text.{fault_line, reply_line}
-use Rattle.adf_script.specs.Told.{NextPuts, NextIsFaulty}
+use Rattle.adf_script.specs.Packets.{NextPuts, NextIsFaulty}
 use Rattle.adf_clients.specs.Asking.{stop_line, stop_ending}
 use Rattle.adf_clients.specs.Scripts.{IsUnused}
 use Rattle.adf_clients.proofs.Said.{SaidBy, tells_by, said_fault, replies, stops}
