@@ -15,6 +15,7 @@ use Rattle.ados_port.specs.Reply.{Reply}
 use Rattle.ados_port.specs.Ends.{ClientView, HandlerView, AreEnds, IsNew, Serves}
 use Rattle.ados_port.specs.Gathering.{all_lists, lists_of}
 use Rattle.ados_port.proofs.Gathers.{get_map}
+use Rattle.ados_port.proofs.Replayed.{lists_have_a_history}
 use Rattle.ados_packet.specs.declared.packet.Packet.{Packet}
 use Rattle.ados_packet.specs.declared.answer.Answer.{Answer}
 use Rattle.ados_handler.specs.Session.{opening_session}
@@ -22,8 +23,11 @@ use Rattle.ados_handler.specs.Handler.{HandlerState, HandlerGives}
 use Rattle.adf_script.specs.declared.ending.ClientEnding.{ClientEnding}
 use Rattle.adf_script.specs.Spoken.{Spoken}
 use Rattle.adf_clients.specs.Scripts.{Tells, EachTells}
+use Rattle.ados_run.specs.SideBySide.{ServesBoth, beside, both_died, handler_over, handlers_of}
+use Rattle.ados_run.specs.TreeLists.{ListsFollowTree}
 use Rattle.ados_run.specs.ServesVolume.{EachSpeaks, ServesVolume}
-use Rattle.ados_run.proofs.Following.{lists_follow_trees}
+use Rattle.ados_run.proofs.Following.{handlers_run, lists_follow_trees}
+use Rattle.ados_run.proofs.Resting.{dead_handlers_rest}
 
 -- an end with its script, and with what it told
 abbrev Given : Type 0
@@ -95,7 +99,7 @@ module _ {C D : Type 0} (end_of : C → ClientView Packet Date3 Answer) (script_
       → Lawful HandlerGives last.opening (all_lists ends untaken) last.served unanswered closing
       → ServesVolume image was_validated scripts moment told closing
   serves_volume image was_validated moment opening first last served clients done scripts ends told untaken unanswered closing stood is new serves are_scripts are_ends are_told tells all_ends long lawful =
-      let start : HandlerState = record { image = image; was_validated = was_validated; session = opening_session } in
+      let start : HandlerState = handler_over image was_validated in
       let opened : last.opening ≡ start = serves.opening ∙ (new.0 ∙ is) in
       let all_served : last.served ≡ served = serves.served_more ∙ ap (λ l. l ++ served) new.2 in
       let given : List Given = map (λ c. (end_of c, script_of c)) clients in
@@ -105,6 +109,9 @@ module _ {C D : Type 0} (end_of : C → ClientView Packet Date3 Answer) (script_
       let told_are : map (λ (d : Done). d.1) dones ≡ told = map-map (λ (d : Done). d.1) (λ d. (client_of d, told_of d)) done ∙ sym are_told in
       let speaks : EachSpeaks (map (λ (g : Given). g.1) given) (all_lists (ends_of dones) untaken) (map (λ (d : Done). d.1) dones) =
       each_speaks last given dones untaken tells (subst (λ l. AreEnds last l) (sym ends_are) all_ends) (long ∙ ap (λ (l : List (ClientView Packet Date3 Answer)). length l) (sym ends_are)) in
+      let follows : ListsFollowTree stood.0 start (all_lists ends untaken) served unanswered closing =
+      lists_follow_trees stood.0 start (all_lists ends untaken) served unanswered closing stood.1
+      (subst (λ (z : HandlerState × List (Serving Packet Date3 Answer)). Lawful HandlerGives z.0 (all_lists ends untaken) z.1 unanswered closing) (λ i. (opened i, all_served i)) lawful) in
       record {
         tree = stood.0;
         stands = stood.1;
@@ -114,6 +121,7 @@ module _ {C D : Type 0} (end_of : C → ClientView Packet Date3 Answer) (script_
         unanswered = unanswered;
         speaks = subst (λ (z : List (List ℕ) × (List (ClientView Packet Date3 Answer) × List (List ℕ × ClientEnding))). EachSpeaks z.0 (all_lists z.1.0 untaken) z.1.1) (λ i. (scripts_are i, (ends_are i, told_are i))) speaks;
         moments = serves.moments;
-        follows = lists_follow_trees stood.0 start (all_lists ends untaken) served unanswered closing stood.1
-            (subst (λ (z : HandlerState × List (Serving Packet Date3 Answer)). Lawful HandlerGives z.0 (all_lists ends untaken) z.1 unanswered closing) (λ i. (opened i, all_served i)) lawful);
+        follows = follows;
+        history = (lists_have_a_history ServesBoth both_died (beside stood.0 start) (all_lists ends untaken) served unanswered (beside follows.last_tree closing) refl).0 follows.lawful;
+        rests = dead_handlers_rest start served (handlers_of follows.lawful.meaning.0) (handlers_run (beside stood.0 start) served follows.lawful.meaning.0 follows.lawful.meaning.1);
       }
