@@ -7,6 +7,7 @@ pub mod OtherFiles
 pub mod Refilled
 pub mod Taken
 pub mod Calls
+pub mod FirstData
 pub mod BytesKept
 pub mod NewBlocks
 pub mod Stamped

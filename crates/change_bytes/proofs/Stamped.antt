@@ -1,8 +1,7 @@
 -- An image in which the moment of a change was put: all but that is as before.
-use Rattle.std.proofs.Common.{◌≡◌, ◌≢◌, ℕ, zero, suc, ◌+◌, ◌-◌, ◌/◌, ◌%◌, ◌^◌, ◌<◌, ◌≤◌, inl, inr, ◌==◌, not, bit_and, nat_le, Bool, true, false, cond, List, [], ◌∷◌, ◌++◌, slice_index, Some, refl, sym, ap, ap₂, ◌∙◌, subst, arith}
-use Rattle.std.proofs.lemmas.Bool.{leb-true}
+use Rattle.std.proofs.Common.{◌≡◌, ◌≢◌, ℕ, ◌+◌, ◌-◌, ◌/◌, ◌%◌, ◌^◌, ◌<◌, ◌≤◌, inl, inr, ◌==◌, not, bit_and, Bool, cond, List, [], ◌∷◌, Some, refl, sym, ap, ◌∙◌, subst, arith}
 use Rattle.adf_block.specs.Image.{block_count, root_key, page_count, IsInside, byte_at, long, has_free_bit, free_bit_count, total}
-use Rattle.adf_block.specs.Fields.{pointer_count, name_byte, comment_byte}
+use Rattle.adf_block.specs.Fields.{name_byte, comment_byte}
 use Rattle.adf_block.specs.Frame.{SameBut}
 use Rattle.adf_block.proofs.Frames.{same_long, same_count}
 use Rattle.adf_block.proofs.Totals.{total-same}
@@ -13,12 +12,13 @@ use Rattle.ados_tree.specs.Layout.{Duty, HasDuty}
 use Rattle.ados_tree.specs.Stands.{Stands}
 use Rattle.ados_tree.specs.declared.role.Role.{Role}
 use Rattle.ados_tree.specs.declared.role.Role.TheVariants as roles
-use Rattle.ados_tree.specs.Faults.{IsPlace, IsPointer, Reached, first_pointers, pointers_of}
+use Rattle.ados_tree.specs.Faults.{IsPlace, IsPointer, IsFile, Reached}
 use Rattle.ados_tree.specs.Faults.IsPlace.{root_page, root_slot, directory_slot, next_entry, header_pointer, first_extension, extension_pointer, further_extension}
 use Rattle.ados_tree.specs.Faults.Reached.{start, named}
 use Rattle.ados_tree.specs.Kept.{Kept, IsField, Alike, InLongs, InText}
 use Rattle.ados_tree.specs.Kept.IsField.{root_longs, root_name, page_longs, directory_longs, file_longs, entry_name, entry_comment, extension_longs, ofs_data_longs, ofs_data, ffs_data}
-use Rattle.ados_tree.specs.NewBlocks.{IsTaken, TakesLowest, NamesFirstData}
+use Rattle.ados_tree.specs.NewBlocks.{IsTaken, TakesLowest}
+use Rattle.ados_tree.proofs.Keeping.{first_stays, keeps_first_since}
 use Rattle.ados_tree.proofs.Standing.{count_same, root_is, reached_stands, root_at}
 use Rattle.change_bytes.specs.Stamps.{IsFileStamp, IsDiskStamp, AtStamps}
 use Rattle.change_bytes.proofs.Writable.{key_serves, page_serves}
@@ -168,6 +168,10 @@ module _ (old new : List ℕ) (t : Tree) (s : Stands old t) (file : ℕ) (node :
         let moved = reached_moves r in
         let none : ¬ IsField new b role i = λ f. n (field_back b i role f) in
         g.others b i role role' l moved r' alike none n' ∙ k.others b i role role l r moved (alike_self role) n none;
+    first = λ b f f'.
+        let moved : IsFile new b = record { dir = f.dir; slot_of_chain = f.slot_of_chain; reached = reached_moves f.reached; secondary = plain_long b 127 (omega arith) (back (omega arith)) ∙ f.secondary } in
+        let firsts = first_stays old new b (plain_long b 2 (omega arith) (front (omega arith))) (λ i l. plain_long b (77 - i) (omega arith) (table (omega (arith, l)) (omega arith))) in
+        keeps_first_since old new last b firsts (plain_long b 4 (omega arith) (front (omega arith))) (g.first b moved f');
   }
 
   -- ---- marks
@@ -196,28 +200,11 @@ module _ (old new : List ℕ) (t : Tree) (s : Stands old t) (file : ℕ) (node :
   lowest_before last g = record {
     lowest = λ b other m i was is. g.lowest b other (moved b m) (i.0, omega (arith, i.1, count)) (marks_same other i ∙ was) is;
     zero_else = λ b i role m r l n. g.zero_else b i role (moved b m) r l n;
+    first = λ b m f. g.first b (moved b m) f;
   }
     where
       moved : (b : ℕ) → IsTaken old last b → IsTaken new last b
       moved b m = record { inside = (m.inside.0, omega (arith, m.inside.1, count)); was_free = marks_same b m.inside ∙ m.was_free; in_use = m.in_use }
-
-  -- ---- the first data block
-
-  first_pointers_same : (b n : ℕ) → n ≤ 72 → first_pointers new b n ≡ first_pointers old b n
-  first_pointers_same b zero l = refl
-  first_pointers_same b (suc n) l =
-      ap₂ (λ (xs : List ℕ) (x : ℕ). xs ++ x ∷ []) (first_pointers_same b n (omega arith)) (plain_long b (77 - n) (omega arith) (table (omega arith) (omega arith)))
-
-  pub pointers_same : (b : ℕ) → pointers_of new b ≡ pointers_of old b
-  pointers_same b =
-      ap (λ (n : ℕ). cond (nat_le n 72) (first_pointers new b n) []) (plain_long b 2 (omega arith) (front (omega arith))) ∙ go (nat_le (pointer_count old b) 72) refl
-    where
-      go : (v : Bool) → nat_le (pointer_count old b) 72 ≡ v → cond v (first_pointers new b (pointer_count old b)) [] ≡ cond v (first_pointers old b (pointer_count old b)) []
-      go true e = first_pointers_same b (pointer_count old b) (leb-true (pointer_count old b) 72 e)
-      go false e = refl
-
-  pub first_same : NamesFirstData old file → NamesFirstData new file
-  first_same e = plain_long file 4 (omega arith) (front (omega arith)) ∙ e ∙ ap (λ (xs : List ℕ). slice_index xs 0) (sym (pointers_same file))
 
   pub format_same : format_of new ≡ format_of old
   format_same = rw ofs_back refl

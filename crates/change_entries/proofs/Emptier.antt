@@ -1,16 +1,21 @@
 -- A file is emptied before it is taken away; a directory has nothing in it.
-use Rattle.std.proofs.Common.{◌≡◌, ◌≢◌, ℕ, ◌<◌, List, take, Option, Some, option_map, option_and_then, refl, sym, ap, ◌∙◌, subst, arith}
+use Rattle.std.proofs.Common.{◌≡◌, ◌≢◌, ℕ, ◌/◌, ◌<◌, List, take, Option, Some, None, IsSome, option_map, option_and_then, refl, sym, ap, ◌∙◌, subst, arith}
 use Rattle.adf_block.specs.Fields.{secondary_type, file_type}
 use Rattle.adf_block.specs.Image.{block_count}
 use Rattle.ados_name.specs.declared.Date3.{Date3}
 use Rattle.ados_tree.specs.Change.{changed, removed, shortened, without_archive}
 use Rattle.ados_tree.specs.Stands.{Stands, type_of}
-use Rattle.ados_tree.specs.Tree.{Content, Node, Tree, bytes_of, content_at, entries_in, size_in, size_of}
+use Rattle.ados_tree.specs.Tree.{Content, Node, Tree, root, bytes_of, content_at, entries_in, size_in, size_of}
 use Rattle.ados_tree.specs.Tree.Content.{Directory, File}
+use Rattle.ados_tree.specs.Faults.{InImage}
+use Rattle.ados_tree.specs.Keys.{HasEntryKey}
+use Rattle.ados_tree.specs.Kept.{Kept}
+use Rattle.ados_tree.specs.NewBlocks.{KeepsRest, TakesNone}
+use Rattle.ados_tree.proofs.Keeping.{none_taken}
 use Rattle.ados_tree.proofs.Nodes.{parent_in}
 use Rattle.ados_tree.proofs.OneTree.{one_tree}
 use Rattle.change_entries.specs.Conditions.{CanRemove}
-use Rattle.change_entries.specs.steps.Emptied.{Empties, IsEmptied}
+use Rattle.change_entries.specs.steps.Emptied.{Empties, GivesBack, IsEmptied}
 use Rattle.change_entries.proofs.Changed.{nodes_here}
 use Rattle.change_entries.proofs.Emptying.{removed_same}
 use Rattle.change_entries.proofs.Loose.{not_own_parent}
@@ -24,6 +29,19 @@ module _ (old : List ℕ) (t : Tree) (st : Stands old t) (key : ℕ) (can : CanR
 
   typed : secondary_type old key ≡ type_of entry.0.content
   typed = (st.entries key can.dir entry.0 entry.1 entry.2).secondary
+
+  not_root : key ≢ root t
+  not_root e =
+      let at_root : t.nodes key ≡ Some st.proper.root_node.0 = ap t.nodes e ∙ st.proper.root_node.1 in
+      let one : entry.0 ≡ st.proper.root_node.0 = cc (entry.1, at_root) in
+      let none : entry.0.parent ≡ None = ap (λ (a : Node). a.parent) one ∙ st.proper.root_node.2.no_parent in
+      cc (none, entry.2)
+
+  has_node : IsSome (t.nodes key)
+  has_node = let at = entry.1 in rw at refl
+
+  pub entry_key : HasEntryKey old key
+  entry_key = λ u su. subst (λ (x : Tree). IsSome (x.nodes key) × (key ≢ root x)) (one_tree old t u st su) (has_node, not_root)
 
   -- what is no file has no bytes
   pub not_file : secondary_type old key ≢ file_type → size_of t key ≡ 0
@@ -74,3 +92,20 @@ module _ (moment : Date3) (key : ℕ) (old mid : List ℕ) (t : Tree) (st : Stan
 
   pub taken_away : (new : List ℕ) → ((v : Tree) → Stands mid v → Stands new (removed moment key v)) → Stands new (removed moment key t)
   taken_away new gone = subst (Stands new) emptied.2.same (gone emptied.0 emptied.1)
+
+-- what emptying the entry and then taking it away keeps
+module _ (key : ℕ) (old mid new : List ℕ) (t : Tree) (st : Stands old t) (can : CanRemove t key) (empties : KeepsRest old mid) (none : TakesNone old mid) (kept : Kept old new) (gives : GivesBack key mid new) where
+  in_mid : (b : ℕ) → InImage old b → InImage mid b
+  in_mid b i = (i.0, omega (arith, i.1, ap (λ (n : ℕ). n / 512) empties.kept.size))
+
+  pub takes_none : TakesNone old new
+  takes_none b i free = gives.none b (in_mid b i) (none b i free)
+
+  pub keeps_away : KeepsRest old new
+  keeps_away = record {
+    kept = kept;
+    lowest = none_taken old new takes_none;
+    freed = λ b i inside free no_entry l.
+        let other : b ≢ key = λ e. no_entry (subst (HasEntryKey old) (sym e) (entry_key old t st key can)) in
+        gives.freed b i (in_mid b inside) other free l ∙ empties.freed b i inside (gives.given b (in_mid b inside) other free) no_entry l;
+  }

@@ -20,6 +20,7 @@ pub mod Created
 pub mod Renamed
 pub mod Removed
 pub mod EntriesKept
+pub mod Spared
 pub mod KeptSteps
 pub mod Reaching
 pub mod Emptying

@@ -2,10 +2,10 @@
 use Rattle.std.specs.Prelude.{◌≡◌, ◌⊎◌, ℕ, pos, Bool, true, false, not, List, [], ◌∷◌, Option, MatchOption}
 use Rattle.std.specs.Ordering.{nat_cmp}
 use Rattle.std.specs.FinMap as numbered
-use Rattle.adf_block.specs.Image.{bytes_at}
 use Rattle.ados_name.specs.Protection.{denies_delete, denies_write}
 use Rattle.ados_name.specs.declared.Date3.{Date3}
 use Rattle.ados_tree.specs.Change.{rewritten}
+use Rattle.ados_tree.specs.NewBlocks.{KeepsRest}
 use Rattle.ados_tree.specs.Tree.{Tree}
 use Rattle.ados_tree.specs.Stands.{Stands}
 use Rattle.ados_tree.specs.Walk.{is_file}
@@ -55,7 +55,7 @@ pub record IsOpened (gives : After → Type 0) (old new : HandlerState) (results
   pub stands : Stands new.image tree
   pub success : gives (after tree new.session results.res1 results.body)
   pub res2 : results.res2 ≡ pos 0
-  pub boot : bytes_at new.image 0 0 1024 ≡ bytes_at old.image 0 0 1024
+  pub keeps : KeepsRest old.image new.image
   pub validated : new.was_validated ≡ old.was_validated
 
 -- a handle where none of these refuses it, but for want of memory

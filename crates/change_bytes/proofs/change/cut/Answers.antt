@@ -7,7 +7,7 @@ use Rattle.ados_tree.specs.Stands.{Stands}
 use Rattle.ados_tree.specs.Change.{rewritten}
 use Rattle.change_bytes.proofs.Calls.{of_cut}
 use Rattle.change_bytes.proofs.Relaid.{IsRewritten}
-use Rattle.change_bytes.proofs.Renewed.{bytes_in, size_in, mid_writable, same_contents, stands_rewritten, keeps_rest}
+use Rattle.change_bytes.proofs.Renewed.{bytes_in, size_in, mid_writable, same_contents, stands_rewritten, keeps_rest, inside_mid, marks_mid}
 use Rattle.change_bytes.proofs.change.cut.Goals as goal
 
 pub cut-requires-clause-writable : goal.cut-requires-clause-writable
@@ -34,7 +34,12 @@ returns-clause-stands c = λ t s.
     subst (λ (xs : List ℕ). Stands c.cut.new.image (rewritten c.args.moment c.args.file xs t)) bytes
     (stands_rewritten c.args.moment c.args.image.now c.stamp.new.image c.args.file c.requires.tree c.requires.file c.stamp.ensures c.cut.new.image (cut_short c) t s)
 
-pub returns-clause-rest : goal.returns-clause-rest
-returns-clause-rest c =
+pub returns-clause-keeps : goal.returns-clause-keeps
+returns-clause-keeps c =
     keeps_rest c.args.moment c.args.image.now c.stamp.new.image c.args.file c.requires.tree c.requires.file c.stamp.ensures c.cut.new.image (cut_short c) c.cut.ensures.keeps
     (λ a b i two below was is. absurd (false≢true (sym is ∙ c.cut.ensures.free_stays b i was)))
+
+pub returns-clause-none : goal.returns-clause-none
+returns-clause-none c = λ b inside free.
+    c.cut.ensures.free_stays b (inside_mid c.args.moment c.args.image.now c.stamp.new.image c.args.file c.requires.tree c.requires.file c.stamp.ensures b inside)
+    (marks_mid c.args.moment c.args.image.now c.stamp.new.image c.args.file c.requires.tree c.requires.file c.stamp.ensures b inside ∙ free)

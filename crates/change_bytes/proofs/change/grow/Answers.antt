@@ -58,6 +58,6 @@ returns-clause-done c = λ t s.
           (stands_rewritten c.args.moment c.args.image.now c.stamp.new.image c.args.file c.requires.tree c.requires.file c.stamp.ensures c.extend.new.image (grown_long c) t s),
     )
 
-pub returns-clause-rest : goal.returns-clause-rest
-returns-clause-rest c =
+pub returns-clause-keeps : goal.returns-clause-keeps
+returns-clause-keeps c =
     keeps_rest c.args.moment c.args.image.now c.stamp.new.image c.args.file c.requires.tree c.requires.file c.stamp.ensures c.extend.new.image (grown_long c) c.extend.ensures.keeps c.extend.ensures.gains.lowest

@@ -99,6 +99,6 @@ returns-clause-done c = λ t s.
           (stands_rewritten c.args.moment c.args.image.now c.stamp.new.image c.args.file c.requires.tree c.requires.file c.stamp.ensures c.write_at.new.image (written_over c) t s)),
     )
 
-pub returns-clause-rest : goal.returns-clause-rest
-returns-clause-rest c =
+pub returns-clause-keeps : goal.returns-clause-keeps
+returns-clause-keeps c =
     keeps_rest c.args.moment c.args.image.now c.stamp.new.image c.args.file c.requires.tree c.requires.file c.stamp.ensures c.write_at.new.image (written_over c) c.write_at.ensures.keeps c.write_at.ensures.gains.lowest
