@@ -13,6 +13,7 @@ use Rattle.ados_packet.specs.declared.answer.Answer.{Answer}
 use Rattle.ados_handler.specs.Handler.{HandlerState}
 use Rattle.adf_script.specs.declared.ending.ClientEnding.{ClientEnding}
 use Rattle.adf_script.specs.Spoken.{Spoken}
+use Rattle.ados_run.specs.TreePort.{handler_died}
 use Rattle.ados_run.specs.SideBySide.{ServesBoth, beside, both_died, handler_over, handlers_of}
 use Rattle.ados_run.specs.TreeLists.{ListsFollowTree}
 use Rattle.ados_run.specs.Rests.{RestsOnceDead}
@@ -25,13 +26,14 @@ scripts_of scripts = map (λ s. s.0.items) scripts
 abbrev pub texts_of : List (Vec ℕ Global × ClientEnding) → List (List ℕ × ClientEnding)
 texts_of texts = map (λ t. (t.0.items, t.1)) texts
 
--- there is a client for each script, and its text tells of that script by what the client put and took
-abbrev pub EachSpeaks : List (List ℕ) → List (ClientLists Packet Answer) → List (List ℕ × ClientEnding) → Type 0
-EachSpeaks scripts clients told =
+-- there is a client for each script, and its text tells of that script by what the client put and took, and of the close
+-- only where the handler has died
+abbrev pub EachSpeaks : List (List ℕ) → List (ClientLists Packet Answer) → Bool → List (List ℕ × ClientEnding) → Type 0
+EachSpeaks scripts clients died told =
     (length clients ≡ length scripts) × (length told ≡ length scripts)
     × ((place : ℕ) (script : List ℕ) → slice_get scripts place ≡ Some script
-    → (lists : ClientLists Packet Answer) × (end : List ℕ × ClientEnding) × (knows : Bool) × (slice_get clients place ≡ Some lists) × (slice_get told place ≡ Some end)
-    × Spoken (place + 1) script lists.put lists.taken knows end.0 end.1)
+    → (lists : ClientLists Packet Answer) × (end : List ℕ × ClientEnding) × (slice_get clients place ≡ Some lists) × (slice_get told place ≡ Some end)
+    × Spoken (place + 1) script lists.put lists.taken died end.0 end.1)
 
 -- The volume's image stands for exactly one tree. Each client's text tells of its script, and what all of them put and took is
 -- one history from that tree on, in which each packet was served at this moment, and image and tree changed side by side. Some
@@ -43,7 +45,7 @@ pub record ServesVolume (image : List ℕ) (was_validated : Bool) (scripts : Lis
   pub clients : List (ClientLists Packet Answer)
   pub served : List (Serving Packet Date3 Answer)
   pub unanswered : List (ℕ × Packet)
-  pub speaks : EachSpeaks scripts clients told
+  pub speaks : EachSpeaks scripts clients (handler_died closing) told
   pub moments : AllAt moment served
   pub follows : ListsFollowTree tree (handler_over image was_validated) clients served unanswered closing
   pub history : HasHistory ServesBoth both_died (beside tree (handler_over image was_validated)) clients served unanswered (beside follows.last_tree closing)

@@ -1,6 +1,7 @@
 -- What contracts see of a port's ends.
 use Rattle.std.specs.Prelude.{◌≡◌, ◌⊎◌, ◌||◌, ℕ, ◌+◌, ◌≤◌, Bool, true, false, List, [], ◌∷◌, ◌++◌, length, map, Some, slice_get}
 use Rattle.std.specs.declared.alloc.Global.{Global}
+use Rattle.atomic_table.specs.Seated.{TableId}
 use Rattle.crossbeam_queue.specs.SegTies.{SegId}
 use Rattle.port_history.specs.declared.step.Reply.{Reply}
 use Rattle.port_history.specs.declared.step.PutRefused.{PutRefused}
@@ -11,7 +12,7 @@ use Rattle.port_ends.specs.Rings.{RingId, OutView, all_of, AreEmpty, EachStaysPo
 -- a client's end: its port, mark and ring, its number, its put list, its taken list with the moments, and whether it knows of the close
 pub record ClientView (Q M A : Type 0) : Type 0 where
   pub port : SegId Global
-  pub mark : ℕ
+  pub mark : TableId
   pub ring : RingId
   pub number : ℕ
   pub put : List Q
@@ -21,7 +22,7 @@ pub record ClientView (Q M A : Type 0) : Type 0 where
 -- the handler's end: its port and mark, the opening server, what was served, the server now, for each client what was posted and what waits, and whether the mark is known to be set
 pub record HandlerView (S Q M A : Type 0) : Type 0 where
   pub port : SegId Global
-  pub mark : ℕ
+  pub mark : TableId
   pub opening : S
   pub served : List (Serving Q M A)
   pub server : S
@@ -67,6 +68,10 @@ module _ {Q M A : Type 0} where
   -- of all clients
   abbrev pub AreFresh : List (ClientView Q M A) → Type 0
   AreFresh cs = (k : ℕ) (c : ClientView Q M A) → slice_get cs k ≡ Some c → IsFresh c
+
+  -- where any of these ends knows of the close, the server has died
+  abbrev pub CloseMeansDeath : List (ClientView Q M A) → Bool → Type 0
+  CloseMeansDeath cs died = (k : ℕ) (c : ClientView Q M A) → slice_get cs k ≡ Some c → c.knows ≡ true → died ≡ true
 
 module _ {S Q M A : Type 0} where
   -- this is the end of client k + 1

@@ -4,8 +4,9 @@ ghost use Rattle.port_history.specs.History.{Lawful};
 ghost use Rattle.port_ends.specs.Ends.{OfClients};
 ghost use Rattle.port_ends.specs.steps.Rule.{ArePutLists, total};
 ghost use Rattle.port_ends.specs.steps.Rooms.{OnlyElement, RoomsFit, HasRoomAt, AreOutletsOf, LeftAt, AllLeft};
+ghost use Rattle.port_ends.specs.steps.HandlerEnds.{AllHeard};
 ghost use Rattle.port_ends.specs.Gathering.{all_lists};
-ghost use Rattle.port_ends.specs.Ends.{AreEnds};
+ghost use Rattle.port_ends.specs.Ends.{AreEnds, CloseMeansDeath};
 
 use crate::client::ClientEnd;
 use crate::handler::HandlerEnd;
@@ -150,6 +151,18 @@ fn room_for_packets<S: Server>(
     Vec::with_capacity(alloc, puts.saturating_sub(served) as usize).ok()
 }
 
+// Hears what each client knows of the close. No end changes.
+fn hear_all<S: Server>(handler: &mut HandlerEnd<S>, clients: &mut Vec<ClientEnd<S>>)
+    requires { AreEnds handler.old clients.old.items }
+    ensures same { (handler.new ≡ handler.old) × (clients.new.items ≡ clients.old.items) }
+    ensures heard { AllHeard S.is_closing (S.has_died handler.old.server) clients.old.items }
+{
+    for k in 0..clients.len() {
+        let client = &mut clients[k];
+        handler.hear(client);
+    }
+}
+
 // Takes all ends in, once there is room.
 fn finish<S: Server, R: Wait>(
     rt: &R,
@@ -162,9 +175,11 @@ fn finish<S: Server, R: Wait>(
     requires rooms { RoomsFit clients.items handler.outlets untaken.items }
     requires empty { unanswered.items ≡ [] }
     requires room { total (map (λ c. c.put) clients.items) ≤ length handler.served + vec_capacity unanswered }
+    requires heard { AllHeard S.is_closing (S.has_died handler.server) clients.items }
     ensures lawful { Lawful S.gives handler.opening (all_lists clients.items result.untaken.items) handler.served
         result.unanswered.items result.server }
     ensures clients { length result.untaken.items ≡ length clients.items }
+    ensures closed { CloseMeansDeath clients.items (S.has_died result.server) }
 {
     handler.witness();
     let (queue, outlets, server) = handler.into_parts();
@@ -179,6 +194,8 @@ fn finish<S: Server, R: Wait>(
 
 /// Gathers all ends of one port, in order of client, once their threads have handed them back.
 ///
+/// Where an end knows of the close, the server that is handed back has died.
+///
 /// All memory is got before the first change. A refusal is for want of it, and hands all ends back as they were, so that the call can be made again.
 pub fn gather<S: Server, R: Wait>(
     rt: &R,
@@ -190,6 +207,7 @@ pub fn gather<S: Server, R: Wait>(
     ensures lawful { IfOk result (λ r. Lawful S.gives handler.opening (all_lists clients.items r.untaken.items) handler.served
         r.unanswered.items r.server) }
     ensures clients { IfOk result (λ r. length r.untaken.items ≡ length clients.items) }
+    ensures closed { IfOk result (λ r. CloseMeansDeath clients.items (S.has_died r.server)) }
     ensures refused { IfErr result (λ e. (e.handler ≡ handler) × (e.clients.items ≡ clients.items)) }
 {
     let mut handler = handler;
@@ -197,6 +215,7 @@ pub fn gather<S: Server, R: Wait>(
     let Some(untaken) = room_for_replies(alloc, &mut handler, &mut clients) else {
         return Err(GatherRefused { handler, clients });
     };
+    hear_all(&mut handler, &mut clients);
     let Some(unanswered) = room_for_packets(alloc, handler.served_count(), &clients) else {
         return Err(GatherRefused { handler, clients });
     };

@@ -3,7 +3,7 @@ ghost use Rattle.std.specs.Prelude.{◌≡◌, ◌<◌, ◌≤◌, ◌^◌, ◌�
 ghost use Rattle.port_history.specs.History.{Serving};
 ghost use Rattle.port_ends.specs.Rings.{EachPosts, waiting_count};
 ghost use Rattle.port_ends.specs.steps.Sending.{EachHasRoom, UsesOne};
-ghost use Rattle.port_ends.specs.steps.HandlerEnds.{AddsClientEnd, IsQueueOf};
+ghost use Rattle.port_ends.specs.steps.HandlerEnds.{AddsClientEnd, Heard, IsQueueOf};
 ghost use Rattle.port_ends.specs.steps.Rooms.{HasUntaken};
 ghost use Rattle.port_ends.specs.Ends.{HandlerView, IsNew, IsSound, Serves};
 ghost use Rattle.port_ends.specs.Batches.{ServesSome, ServesSoMany, OnlyPosts, EndsAs};
@@ -237,6 +237,15 @@ impl<S: Server> HandlerEnd<S> {
         let outlet = &mut self.outlets[k];
         let posted = client.count_beside(outlet);
         posted + outlet.waiting()
+    }
+
+    // Hears what a client knows of the close.
+    pub(crate) fn hear(&mut self, client: &mut ClientEnd<S>)
+        requires { client.old.mark ≡ self.old.mark }
+        ensures same { (self.new ≡ self.old) × (client.new ≡ client.old) }
+        ensures heard { Heard S.is_closing (S.has_died self.old.server) client.old }
+    {
+        client.tell(&mut self.desk);
     }
 
     // How many packets were served.

@@ -1,7 +1,9 @@
 use Rattle.std.proofs.Common.{ap, sym, subst, ◌∙◌, ◌+◌, ◌++◌, ◌≡◌, Some, slice_get, length, arith}
+use Rattle.port_ends.proofs.Closes.{close_means_death}
 use Rattle.port_ends.proofs.Gathers.{replies_few, lawful_replies, get_map, is_lawful}
 use Rattle.port_history.specs.History.{MeaningRun, packets_by, packets_of}
 use Rattle.port_ends.specs.Ends.{OfClients}
+use Rattle.port_ends.specs.steps.HandlerEnds.{AllHeard}
 use Rattle.port_ends.proofs.gathering.finish.Goals as goal
 
 pub take_in-queue-requires-clause-ends : goal.take_in-queue-requires-clause-ends
@@ -38,3 +40,15 @@ returns-clause-lawful g c =
     (lawful_replies c.args.clients.items c.args.handler.outlets c.into_parts-queue.result.1.items c.take_in-queue.result.1.items c.args.handler.served c.requires.ends.0 p.outlets c.witness.ensures.replies t.replies)
     (subst (λ n. OfClients n (packets_of c.args.handler.served ++ rest)) (ap (λ q. q.clients) t.queue ∙ (p.queue.3 ∙ sym c.requires.ends.0))
     (subst (λ l. OfClients c.take_in-queue.result.0.clients (l ++ rest)) taken c.take_rest-unanswered.ensures.clients))
+
+pub returns-clause-closed : goal.returns-clause-closed
+returns-clause-closed g c =
+    let p = c.into_parts-queue.ensures in
+    let t = c.take_in-queue.ensures in
+    let server = g.S.Server in
+    close_means_death server.gives server.has_died server.is_closing g.met.S.Server.stays_dead g.met.S.Server.closes_dead
+    c.args.handler.opening c.into_parts-queue.result.2 c.args.handler.served c.args.clients.items c.take_in-queue.result.1.items
+    (subst (λ s. MeaningRun server.gives c.args.handler.opening c.args.handler.served s) (sym p.server) c.witness.ensures.run)
+    t.clients
+    (subst (λ s. AllHeard server.is_closing (server.has_died s) c.args.clients.items) (sym p.server) c.requires.heard)
+    (lawful_replies c.args.clients.items c.args.handler.outlets c.into_parts-queue.result.1.items c.take_in-queue.result.1.items c.args.handler.served c.requires.ends.0 p.outlets c.witness.ensures.replies t.replies)
