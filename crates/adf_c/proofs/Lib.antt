@@ -1,0 +1,2 @@
+-- How what a handle owns lies in memory.
+pub mod Values
