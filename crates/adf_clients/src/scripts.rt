@@ -4,7 +4,7 @@ ghost use Rattle.ados_packet.specs.declared.packet.Packet.{Packet};
 ghost use Rattle.ados_packet.specs.declared.answer.Answer.{Answer};
 ghost use Rattle.ados_port.specs.History.{Serving};
 ghost use Rattle.ados_port.specs.Ends.{AreEnds, Serves};
-ghost use Rattle.adf_clients.specs.Scripts.{AreUnused, EachTells};
+ghost use Rattle.adf_clients.specs.Scripts.{AreUnused, EachTells, given_to, told_by};
 
 use crate::ends::{join, part};
 use crate::gate::Gate;
@@ -67,7 +67,7 @@ where
     requires all { AreEnds handler (map (λ c. c.0) clients.items) }
     requires unused { AreUnused (map (λ c. c.0) clients.items) }
     ensures handler { IfOk result (λ done. (xs : List (Serving Packet S.Moment Answer)) × Serves S.gives moment handler xs done.handler) }
-    ensures clients { IfOk result (λ done. EachTells (map (λ c. (c.0, c.1.items)) clients.items) (map (λ d. (d.client, (d.text.items, d.end))) done.clients.items)) }
+    ensures clients { IfOk result (λ done. EachTells (given_to clients.items) (told_by done.clients.items)) }
     ensures all { IfOk result (λ done. AreEnds done.handler (map (λ d. d.client) done.clients.items)) }
 {
     let (ends, jobs) = part(alloc, clients, turns)?;

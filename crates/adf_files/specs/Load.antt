@@ -2,6 +2,7 @@
 use Rattle.std.specs.Prelude.{ℕ, List, length, Option, ⊤}
 use Rattle.std.specs.Io.KnownBytes.{Consumes, IsAtEnd}
 use Rattle.adf_block.specs.Size.{IsSizeFault}
+use Rattle.adf_input.specs.Front.{GivesNoEnd}
 use Rattle.adf_input.specs.declared.input.InputFault.{InputFault}
 use Rattle.adf_input.specs.declared.input.InputFault.TheVariants as input
 use Rattle.adf_files.specs.declared.load.LoadFault.{LoadFault}
@@ -11,11 +12,12 @@ use Rattle.adf_files.specs.declared.load.LoadFault.TheVariants.{Read, Memory, Tu
 abbrev pub ReadsAll : Option (List ℕ) → Option (List ℕ) → List ℕ → Type 0
 ReadsAll old new bytes = Consumes old new bytes × IsAtEnd new
 
--- a fault of the size comes with all bytes that were read, and is that of their number
+-- a fault of the size comes with all bytes that were read, and is that of their number; a limit of reads is met only where the
+-- reader gave no end within it
 abbrev pub IsRefusal : Option (List ℕ) → Option (List ℕ) → LoadFault → Type 0
 IsRefusal old new Read = ⊤
 IsRefusal old new Memory = ⊤
-IsRefusal old new TurnLimit = ⊤
+IsRefusal old new TurnLimit = GivesNoEnd old new
 IsRefusal old new (Size refused) = ReadsAll old new refused.bytes.items × IsSizeFault (length refused.bytes.items) refused.fault
 
 -- input that failed, as a load that did

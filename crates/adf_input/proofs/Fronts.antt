@@ -1,5 +1,5 @@
 -- Input of which only the front is kept.
-use Rattle.std.proofs.Common.{◌≡◌, ◌≤◌, ◌<◌, ◌+◌, ℕ, zero, suc, List, [], ◌∷◌, ◌++◌, take, length, refl, ap, sym, ◌∙◌, Option, None, Some, IfSome, append-nil, length-append, subst, min, ◌-◌, arith}
+use Rattle.std.proofs.Common.{◌≡◌, ◌≤◌, ◌<◌, ◌+◌, ℕ, zero, suc, List, [], ◌∷◌, ◌++◌, take, length, refl, ap, sym, ◌∙◌, Option, append-nil, length-append, subst, min, ◌-◌, arith}
 use Rattle.std.specs.Io.KnownBytes.{Consumes, IsAtEnd}
 use Rattle.std.proofs.KnownBytes.{Consumes-nil, Consumes-trans}
 use Rattle.std.proofs.lemmas.List.{take_min}
@@ -39,7 +39,6 @@ pub read_all : (a b c : Option (List ℕ)) (most : ℕ) (kept part : List ℕ) (
 read_all a b c most kept part n reads before last none end =
     (before.seen, subst (Consumes a c) (append-nil before.seen) (Consumes-trans a b c before.seen [] before.consumed (subst (λ k. Consumes b c (take k part)) none last)), end, before.front)
 
-pub seen_fits : (a b : Option (List ℕ)) (seen : List ℕ) (n : ℕ) → Consumes a b seen → n ≤ length seen → IfSome a (λ input. n ≤ length input)
-seen_fits None b seen n consumed many = tt
-seen_fits (Some xs) None seen n consumed many = absurd consumed
-seen_fits (Some xs) (Some ys) seen n consumed many = omega (arith, ap length consumed, length-append seen ys, many)
+-- so many reads without an end
+pub no_end : (a b : Option (List ℕ)) (most : ℕ) (kept : List ℕ) (reads least : ℕ) → KeepsFront a b most kept reads → least ≤ reads → (input : List ℕ) × Consumes a b input × (least ≤ length input)
+no_end a b most kept reads least before many = (before.seen, before.consumed, omega (arith, before.many, many))

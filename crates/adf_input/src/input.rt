@@ -1,8 +1,8 @@
 //! Input that is read to its end, within a number of reads.
-ghost use Rattle.std.specs.Prelude.{◌≡◌, ◌≤◌, ◌++◌, take, length, IfOk, OnOk, IfSome};
+ghost use Rattle.std.specs.Prelude.{◌≡◌, ◌≤◌, ◌++◌, take, length, IfOk, OnOk};
 ghost use Rattle.std.specs.Io.KnownBytes.{ReadConsumes};
 ghost use Rattle.std.specs.Io.{ReadsAtMost};
-ghost use Rattle.adf_input.specs.Front.{ReadsFront};
+ghost use Rattle.adf_input.specs.Front.{GivesNoEnd, ReadsFront};
 
 use std::alloc::{AllocError, Global};
 use std::io::{Error, ErrorKind, Read, Result as IoResult};
@@ -32,7 +32,7 @@ pub fn read_input<R: Read>(
 ) -> Result<Vec<u8>, InputFault>
     ensures bytes { IfOk result (λ bytes. ReadsFront most (R.remaining reader.old) (R.remaining reader.new) bytes.items) }
     // An end that was near enough is found.
-    ensures endless { result ≡ Err InputFault.TurnLimit → IfSome (R.remaining reader.old) (λ input. READS ≤ length input) }
+    ensures endless { result ≡ Err InputFault.TurnLimit → GivesNoEnd (R.remaining reader.old) (R.remaining reader.new) }
 {
     let mut bytes = Vec::new(alloc);
     let mut chunk = [0u8; CHUNK];

@@ -1,7 +1,12 @@
 -- What is told to be a directory is one.
-use Rattle.std.proofs.Common.{◌≡◌, ℕ, pos, List, Option, Some, None, refl, ap}
-use Rattle.ados_tree.specs.Tree.{Content, Node, Tree, content_at}
+use Rattle.std.proofs.Common.{◌≡◌, ℕ, pos, List, [], Option, Some, None, option_map, refl, ap, ◌∙◌}
+use Rattle.ados_tree.specs.Tree.{Content, Node, Tree, Proper, content_at, entries, entries_in}
 use Rattle.ados_tree.specs.Tree.Content.{Directory, File}
+use Rattle.ados_chain.specs.Look.{first_left}
+use Rattle.ados_chain.specs.declared.read.Next.TheVariants.{Entry}
+use Rattle.ados_chain.proofs.Order.{behind-later, first-entry}
+use Rattle.ados_tree.specs.Change.{entries_after}
+use Rattle.ados_tree.proofs.Nodes.{entry_node}
 use Rattle.ados_volume.specs.Examined.{entry_type}
 
 type-directory : (parent : Option ℕ) (content : Content) → entry_type parent content ≡ pos 2 → (keys : List ℕ) × (content ≡ Directory keys)
@@ -14,3 +19,18 @@ pub told_directory : (t : Tree) (key : ℕ) (node : Node) → t.nodes key ≡ So
 told_directory t key node e h =
     let d = type-directory node.parent node.content h in
     (d.0, rw e (ap Some d.1))
+
+-- what is told to be no directory but the root has no entries
+pub told_file : (t : Tree) (key dir : ℕ) (node : Node) → t.nodes key ≡ Some node → node.parent ≡ Some dir → ¬ (entry_type node.parent node.content ≡ pos 2) → entries t key ≡ []
+told_file t key dir node e parent no_directory =
+    ap (λ (o : Option Node). entries_in (option_map (λ (n : Node). n.content) o)) e ∙ go node.content (λ same. no_directory (ap (λ (o : Option ℕ). entry_type o node.content) parent ∙ same))
+  where
+    go : (content : Content) → ¬ (entry_type (Some dir) content ≡ pos 2) → entries_in (Some content) ≡ []
+    go (Directory keys) other = absurd (other refl)
+    go (File bytes) other = refl
+
+-- the entry that is left first is a node of its directory
+pub next_in : (t : Tree) → Proper t → (dir last key : ℕ) → first_left (entries_after t dir last) ≡ Entry key → (node : Node) × (t.nodes key ≡ Some node) × (node.parent ≡ Some dir)
+next_in t proper dir last key e =
+    let left = first-entry (entries_after t dir last) key e in
+    entry_node t proper dir key (behind-later dir (entries t dir) last key left.0 left.1)

@@ -3,7 +3,7 @@ use Rattle.std.proofs.Common.{◌≡◌, ℕ, List, [], ◌∷◌, ◌++◌, Opt
 use Rattle.std.proofs.lemmas.List.Elements.{All-pop, All-push, All-same}
 use Rattle.ados_tree.specs.Keys.{HasDirectory}
 use Rattle.adf_listing.specs.declared.listing.Level.{Level}
-use Rattle.adf_listing.specs.Levels.{AreDirectories}
+use Rattle.adf_listing.specs.steps.Levels.{AreDirectories}
 
 module _ (image : List ℕ) where
   Listed : Level → Type 0

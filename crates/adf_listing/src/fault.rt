@@ -11,6 +11,11 @@ pub enum PrintFault {
 }
 
 impl From<AllocError> for PrintFault {
+    ghost use Rattle.std.specs.Prelude.{◌≡◌};
+    ghost use Rattle.adf_listing.specs.declared.fault.PrintFault.TheVariants.{Memory};
+
+    ghost from_gives = { λ _ fault. fault ≡ Memory };
+
     fn from(_error: AllocError) -> PrintFault {
         PrintFault::Memory
     }

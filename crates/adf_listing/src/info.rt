@@ -1,26 +1,41 @@
 //! What DISK_INFO tells, and whether the boot blocks run.
+ghost use Rattle.std.specs.Prelude.{◌≡◌, IfOk, OnOk, OnErr};
+ghost use Rattle.std.specs.Io.KnownBytes.{Appends, Keeps};
+ghost use Rattle.adf_listing.specs.Fronts.{WritesFront};
+ghost use Rattle.adf_listing.specs.Info.{boot_line, info_text};
+
 use crate::fault::PrintFault;
+use crate::output::write_text;
 use adf_block::Image;
-use adf_files::write_output;
 use adf_script::text::results_text;
 use ados_packet::Answer;
 use std::alloc::Global;
 use std::io::Write;
 
 /// Writes the results of an answer to DISK_INFO as a script's line tells them, and then `boot yes` or `boot no`: whether
-/// the image's boot sum is right.
+/// the image's boot sum is right. Nothing is written where there is no memory for the text.
 pub fn write_info<W: Write>(
     alloc: Global,
     answer: &Answer,
     image: &Image,
     writer: &mut W,
-) -> Result<(), PrintFault> {
+) -> Result<(), PrintFault>
+    ensures ok { OnOk result (Appends (W.contents writer.old) (W.contents writer.new) (info_text answer.now image.now)) }
+    ensures front { OnErr result (WritesFront (W.contents writer.old) (W.contents writer.new) (info_text answer.now image.now)) }
+    ensures memory { result ≡ Err PrintFault.Memory → Keeps (W.contents writer.old) (W.contents writer.new) }
+{
     let mut text = results_text(alloc, answer)?;
-    let boot = if image.is_bootable() {
+    text.extend_from_slice(boot_text(image).as_bytes())?;
+    write_text(text.as_slice(), writer)
+}
+
+/// The line of the boot blocks.
+fn boot_text(image: &Image) -> &'static str
+    ensures { result.now ≡ boot_line image.now }
+{
+    if image.is_bootable() {
         "boot yes\n"
     } else {
         "boot no\n"
-    };
-    text.extend_from_slice(boot.as_bytes())?;
-    write_output(text.as_slice(), writer).map_err(|_| PrintFault::Write)
+    }
 }

@@ -1,6 +1,12 @@
 //! What is asked of a volume while it is listed.
-ghost use Rattle.std.specs.Prelude.{◌≡◌, ◌↔◌, IfSome, IsTrue, pos};
+ghost use Rattle.std.specs.Prelude.{◌≡◌, ◌≢◌, ◌↔◌, ℕ, IfSome, IfNone, IsTrue, Some, pos};
+ghost use Rattle.ados_chain.specs.Look.{first_left};
+ghost use Rattle.ados_chain.specs.declared.read.Next.TheVariants.{Entry};
+ghost use Rattle.ados_tree.specs.Change.{entries_after};
 ghost use Rattle.ados_tree.specs.Keys.{HasDirectory, HasKey};
+ghost use Rattle.ados_tree.specs.Stands.{Stands};
+ghost use Rattle.ados_tree.specs.Tree.{Tree, Node};
+ghost use Rattle.ados_volume.specs.Examined.{file_info};
 
 use ados_packet::FileInfo;
 use ados_volume::{Next, Volume};
@@ -11,7 +17,9 @@ const DIRECTORY: i32 = 2;
 /// The entry of a directory behind this one; the directory's own key asks for the first.
 pub(crate) fn entry_behind(volume: &Volume, dir: u32, last: u32) -> Option<u32>
     requires { HasDirectory volume.now.image dir }
-    ensures { IfSome result (HasKey volume.now.image) }
+    ensures key { IfSome result (HasKey volume.now.image) }
+    ensures next { IfSome result (λ key. (t : Tree) → Stands volume.now.image t → first_left (entries_after t dir last) ≡ Entry key) }
+    ensures none { IfNone result ((t : Tree) → Stands volume.now.image t → (key : ℕ) → first_left (entries_after t dir last) ≢ Entry key) }
 {
     match volume.next(dir, last) {
         Next::Entry(key) => Some(key),
@@ -22,7 +30,8 @@ pub(crate) fn entry_behind(volume: &Volume, dir: u32, last: u32) -> Option<u32>
 /// What there is to tell of an object; of one of the type 2 that it is a directory.
 pub(crate) fn describe(volume: &Volume, key: u32) -> FileInfo
     requires { HasKey volume.now.image key }
-    ensures { result.entry_type ≡ pos 2 → HasDirectory volume.now.image key }
+    ensures directory { result.entry_type ≡ pos 2 → HasDirectory volume.now.image key }
+    ensures info { (t : Tree) (node : Node) → Stands volume.now.image t → t.nodes key ≡ Some node → result ≡ file_info t.format key node }
 {
     volume.examine(key)
 }

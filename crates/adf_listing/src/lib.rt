@@ -6,6 +6,7 @@ mod info;
 mod keys;
 mod lines;
 mod listing;
+mod output;
 
 pub use fault::PrintFault;
 pub use info::write_info;

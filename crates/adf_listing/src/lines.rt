@@ -1,9 +1,19 @@
 //! The lines of a list.
+ghost use Rattle.std.specs.Prelude.{◌≡◌, ◌++◌, IfOk, OnOk};
+ghost use Rattle.std.specs.String.{string_bytes};
+ghost use Rattle.ados_name.specs.Protection.{letters};
+ghost use Rattle.adf_script.specs.Text.{line, spaced};
+ghost use Rattle.adf_listing.specs.Listing.{right_in, size_text};
+ghost use Rattle.adf_listing.specs.steps.Going.{PushesLine};
+
 use ados_packet::FileInfo;
 use std::alloc::{AllocError, Global};
 
 /// The entry type of a file.
 const FILE: i32 = -3;
+
+/// As many blanks as a size has places.
+const BLANKS: &[u8] = b"        ";
 
 /// Appends the line of an entry: its size right in 8 places, or `dir`, its protection bits, its date and its path.
 pub(crate) fn push_entry(
@@ -11,23 +21,44 @@ pub(crate) fn push_entry(
     text: &mut Vec<u8>,
     info: &FileInfo,
     path: &[u8],
-) -> Result<(), AllocError> {
-    let size = if info.entry_type == FILE {
-        let size = info.size;
-        format!(in alloc; "{size}")?
-    } else {
-        String::from_str(alloc, "dir")?
-    };
-    for _ in size.len()..8 {
-        text.push(b' ')?;
-    }
-    text.extend_from_slice(size.as_bytes())?;
-    text.push(b' ')?;
-    text.extend_from_slice(&info.protection.letters())?;
-    text.push(b' ')?;
-    text.extend_from_slice(info.date.text(alloc)?.as_bytes())?;
-    text.push(b' ')?;
-    text.extend_from_slice(path)?;
+) -> Result<(), AllocError>
+    ensures { OnOk result (PushesLine text.old.items text.new.items info.now path.now) }
+{
+    let size = size_text(alloc, info)?;
+    let date = info.date.text(alloc)?;
+    push_right(text, size.as_bytes())?;
+    push_spaced(text, &info.protection.letters())?;
+    push_spaced(text, date.as_bytes())?;
+    push_spaced(text, path)?;
     text.push(b'\n')?;
     Ok(())
+}
+
+/// The bytes of a file as a number, or `dir`.
+fn size_text(alloc: Global, info: &FileInfo) -> Result<String, AllocError>
+    ensures { IfOk result (λ text. string_bytes text ≡ size_text info.now) }
+{
+    if info.entry_type == FILE {
+        let size = info.size;
+        format!(in alloc; "{size}")
+    } else {
+        String::from_str(alloc, "dir")
+    }
+}
+
+/// Appends a word right in 8 places.
+fn push_right(text: &mut Vec<u8>, word: &[u8]) -> Result<(), AllocError>
+    ensures { OnOk result (text.new.items ≡ text.old.items ++ right_in 8 word.now) }
+{
+    text.extend_from_slice(&BLANKS[word.len().min(8)..])?;
+    text.extend_from_slice(word)?;
+    Ok(())
+}
+
+/// Appends a word behind a space.
+fn push_spaced(text: &mut Vec<u8>, word: &[u8]) -> Result<(), AllocError>
+    ensures { OnOk result (text.new.items ≡ text.old.items ++ spaced word.now) }
+{
+    text.push(b' ')?;
+    text.extend_from_slice(word)
 }

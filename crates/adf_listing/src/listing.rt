@@ -1,11 +1,18 @@
 //! All directories and files of a volume.
-ghost use Rattle.std.specs.Prelude.{◌≡◌, IfOk, OnOk};
-ghost use Rattle.adf_listing.specs.Levels.{AreDirectories};
+ghost use Rattle.std.specs.Prelude.{◌≡◌, [], List, IfOk, OnOk, OnErr};
+ghost use Rattle.std.specs.Io.KnownBytes.{Appends};
+ghost use Rattle.ados_tree.specs.Stands.{Stands};
+ghost use Rattle.ados_tree.specs.Tree.{Tree};
+ghost use Rattle.adf_script.specs.Streams.{Writes};
+ghost use Rattle.adf_listing.specs.Fronts.{WritesFront, WritesFrontOf};
+ghost use Rattle.adf_listing.specs.Listing.{BeginsList, IsList, Listed};
+ghost use Rattle.adf_listing.specs.steps.Levels.{AreDirectories, IsSoFar};
+ghost use Rattle.adf_listing.specs.steps.Going.{GoesOn, Passes, Starts};
 
 use crate::fault::PrintFault;
 use crate::keys::{describe, entry_behind, is_directory};
 use crate::lines::push_entry;
-use adf_files::write_output;
+use crate::output::write_text;
 use ados_volume::Volume;
 use std::alloc::{AllocError, Global};
 use std::io::Write;
@@ -24,18 +31,23 @@ pub struct Level {
 /// The directories from the root to the one that is being listed, the path of its entry that was listed last, and the
 /// text that is not written yet.
 #[derive(Drop)]
-struct Listing {
+pub struct Listing {
     levels: Vec<Level>,
     path: Vec<u8>,
     text: Vec<u8>,
 }
 
 /// Writes the volume's name, and a line for each entry, a directory directly before its contents.
+///
+/// Where the writer fails, or there is no memory, it has taken a front of that text.
 pub fn write_list<W: Write>(
     alloc: Global,
     volume: &Volume,
     writer: &mut W,
-) -> Result<(), PrintFault> {
+) -> Result<(), PrintFault>
+    ensures ok { OnOk result ((t : Tree) → Stands volume.now.image t → Writes (W.contents writer.old) (W.contents writer.new) (IsList t)) }
+    ensures front { OnErr result ((t : Tree) → Stands volume.now.image t → WritesFrontOf (W.contents writer.old) (W.contents writer.new) (BeginsList t)) }
+{
     let mut listing = Listing::start(alloc, volume)?;
     for _ in 0..2 * volume.image().blocks() as u64 {
         if !listing.go_on(alloc, volume)? {
@@ -49,7 +61,8 @@ pub fn write_list<W: Write>(
 impl Listing {
     /// The line of the volume, before the first entry of the root.
     fn start(alloc: Global, volume: &Volume) -> Result<Listing, AllocError>
-        ensures { IfOk result (λ listing. AreDirectories volume.now.image listing.levels.items) }
+        ensures directories { IfOk result (λ made. AreDirectories volume.now.image made.levels.items) }
+        ensures starts { IfOk result (λ made. (t : Tree) → Stands volume.now.image t → Starts t made) }
     {
         let root = volume.root();
         let mut text = Vec::new(alloc);
@@ -73,7 +86,9 @@ impl Listing {
     /// directory is left.
     fn go_on(&mut self, alloc: Global, volume: &Volume) -> Result<bool, AllocError>
         requires { AreDirectories volume.now.image self.old.levels.items }
-        ensures { OnOk result (AreDirectories volume.now.image self.new.levels.items) }
+        ensures directories { OnOk result (AreDirectories volume.now.image self.new.levels.items) }
+        ensures goes { IfOk result (λ goes. (t : Tree) → Stands volume.now.image t → (first left : List Listed)
+            → IsSoFar t self.old.levels.items self.old.path.items first left → GoesOn t self.old self.new first left goes) }
     {
         let Some(level) = self.levels.pop() else {
             return Ok(false);
@@ -99,7 +114,10 @@ impl Listing {
 
     /// Writes the text, if there is enough of it.
     fn write_when_long<W: Write>(&mut self, writer: &mut W) -> Result<(), PrintFault>
-        ensures { self.new.levels.items ≡ self.old.levels.items }
+        ensures levels { self.new.levels.items ≡ self.old.levels.items }
+        ensures path { self.new.path.items ≡ self.old.path.items }
+        ensures ok { OnOk result (Passes (W.contents writer.old) (W.contents writer.new) self.old.text.items self.new.text.items) }
+        ensures front { OnErr result (WritesFront (W.contents writer.old) (W.contents writer.new) self.old.text.items) }
     {
         if self.text.len() < ENOUGH {
             return Ok(());
@@ -109,14 +127,14 @@ impl Listing {
 
     /// Writes the text that is not written yet.
     fn write<W: Write>(&mut self, writer: &mut W) -> Result<(), PrintFault>
-        ensures { self.new.levels.items ≡ self.old.levels.items }
+        ensures levels { self.new.levels.items ≡ self.old.levels.items }
+        ensures path { self.new.path.items ≡ self.old.path.items }
+        ensures ok { OnOk result (Passes (W.contents writer.old) (W.contents writer.new) self.old.text.items self.new.text.items) }
+        ensures all { OnOk result (self.new.text.items ≡ []) }
+        ensures front { OnErr result (WritesFront (W.contents writer.old) (W.contents writer.new) self.old.text.items) }
     {
-        match write_output(self.text.as_slice(), writer) {
-            Ok(()) => {
-                self.text.clear();
-                Ok(())
-            }
-            Err(_) => Err(PrintFault::Write),
-        }
+        write_text(self.text.as_slice(), writer)?;
+        self.text.clear();
+        Ok(())
     }
 }

@@ -1,6 +1,6 @@
 //! Reads a script.
-ghost use Rattle.std.specs.Prelude.{◌≡◌, ◌≤◌, length, IfOk, IfSome};
-ghost use Rattle.adf_input.specs.Front.{ReadsFront};
+ghost use Rattle.std.specs.Prelude.{◌≡◌, IfOk};
+ghost use Rattle.adf_input.specs.Front.{GivesNoEnd, ReadsFront};
 
 use adf_input::{InputFault, read_input};
 use std::alloc::Global;
@@ -12,7 +12,7 @@ pub const LONGEST_SCRIPT: usize = 1_048_576;
 /// Reads to the end, and keeps the front: one byte more than a script may have shows that it is too long.
 pub fn read_script<R: Read>(alloc: Global, reader: &mut R) -> Result<Vec<u8>, InputFault>
     ensures read { IfOk result (λ kept. ReadsFront 1048577 (R.remaining reader.old) (R.remaining reader.new) kept.items) }
-    ensures endless { result ≡ Err InputFault.TurnLimit → IfSome (R.remaining reader.old) (λ script. 2097152 ≤ length script) }
+    ensures endless { result ≡ Err InputFault.TurnLimit → GivesNoEnd (R.remaining reader.old) (R.remaining reader.new) }
 {
     read_input(alloc, reader, LONGEST_SCRIPT + 1)
 }

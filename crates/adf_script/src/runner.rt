@@ -1,6 +1,7 @@
 //! Runs a script.
-ghost use Rattle.std.specs.Prelude.{◌≡◌, ◌≢◌, ◌≤◌, ◌∷◌, ◌++◌, [], OnOk, IfSome, false, true, length};
+ghost use Rattle.std.specs.Prelude.{◌≡◌, ◌≢◌, ◌∷◌, ◌++◌, [], OnOk, false, true};
 ghost use Rattle.std.specs.Io.KnownBytes.{Appends};
+ghost use Rattle.adf_input.specs.Front.{GivesNoEnd};
 ghost use Rattle.ados_port.specs.Port.{opening_port};
 ghost use Rattle.adf_script.specs.Lines.{is_too_long};
 ghost use Rattle.adf_script.specs.steps.Calls.{IsQuiet};
@@ -122,7 +123,7 @@ where
     ensures faulty { result ≡ Err TryFault.Script →
         ReadsAndTells S.gives S.has_died server moment false R.remaining reader.old reader.new W.contents writer.old writer.new }
     // An end that was near enough is found.
-    ensures endless { result ≡ Err TryFault.TurnLimit → IfSome (R.remaining reader.old) (λ script. 2097152 ≤ length script) }
+    ensures endless { result ≡ Err TryFault.TurnLimit → GivesNoEnd (R.remaining reader.old) (R.remaining reader.new) }
 {
     let script = read_script(alloc, reader)?;
     let outcome = tell(alloc, server, moment, &script, writer);

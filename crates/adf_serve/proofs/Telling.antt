@@ -11,7 +11,7 @@ use Rattle.ados_packet.specs.declared.answer.Answer.{Answer}
 use Rattle.ados_handler.specs.Session.{Session, opening_session}
 use Rattle.ados_handler.specs.Handler.{HandlerState, HandlerGives}
 use Rattle.ados_run.specs.TreePort.{means, tree_died, handler_died, over_tree}
-use Rattle.ados_run.proofs.Following.{histories_follow_trees}
+use Rattle.ados_run.proofs.Following.{each_side_is_a_history, histories_follow_trees}
 use Rattle.adf_script.specs.Lines.{kept_lines, is_too_long}
 use Rattle.adf_script.specs.Streams.{ReadsAndWrites}
 use Rattle.adf_script.specs.Text.{fault_line}
@@ -26,8 +26,9 @@ lines_follow_trees : {port : PortState HandlerState Packet Answer} {lines : List
 lines_follow_trees ended t stood = ended
 lines_follow_trees (answered {port = port} {new = new} puts history rest) t stood =
     let follows = histories_follow_trees t port _ _ new stood history in
-    answered puts follows.history (lines_follow_trees rest follows.last_tree follows.stands)
-lines_follow_trees (closed {port = port} {new = new} puts history) t stood = closed puts (histories_follow_trees t port _ _ new stood history).history
+    answered puts (each_side_is_a_history t port _ _ new follows).0 (lines_follow_trees rest follows.last_tree follows.stands)
+lines_follow_trees (closed {port = port} {new = new} puts history) t stood =
+    closed puts (each_side_is_a_history t port _ _ new (histories_follow_trees t port _ _ new stood history)).0
 lines_follow_trees (faulty none) t stood = faulty none
 
 told : (t : Tree) (opening : PortState HandlerState Packet Answer) → Stands opening.server.image t → (read written : List ℕ) (whole : Bool)

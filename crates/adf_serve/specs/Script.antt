@@ -17,8 +17,12 @@ first_moment = record { days = 0; minutes = 0; ticks = 0 }
 abbrev pub work_floppy : TreeState
 work_floppy = record { tree = blank_tree Ffs 1760 (codes "Work") first_moment; session = opening_session }
 
--- a script is read to its end, and what is written tells of it as client 1 of a port over that floppy, each packet answered
--- at the first moment as it is meant: of a whole one, or of one with a fault
+-- what is told of a script, as client 1 of a port over that floppy, each packet answered at the first moment as it is meant: of
+-- a whole one, or of one with a fault
+abbrev pub ToldOnFloppy : Bool → List ℕ → List ℕ → Type 0
+ToldOnFloppy whole read written = Told means tree_died (opening_port work_floppy 1) first_moment read written whole
+
+-- a script is read to its end, and that is written
 abbrev pub RunsScript : Option (List ℕ) → Option (List ℕ) → Option (List ℕ) → Option (List ℕ) → Bool → Type 0
 RunsScript reader_old reader_new writer_old writer_new whole =
-    ReadsAndWrites reader_old reader_new writer_old writer_new (λ read written. Told means tree_died (opening_port work_floppy 1) first_moment read written whole)
+    ReadsAndWrites reader_old reader_new writer_old writer_new (λ read written. ToldOnFloppy whole read written)

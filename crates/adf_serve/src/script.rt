@@ -31,7 +31,8 @@ pub fn try_script<R: Read, W: Write>(
     writer: &mut W,
 ) -> Result<(), TryFault>
     ensures whole { OnOk result (RunsScript (R.remaining reader.old) (R.remaining reader.new) (W.contents writer.old) (W.contents writer.new) true) }
-    ensures faulty { result ≡ Err TryFault.Script → RunsScript (R.remaining reader.old) (R.remaining reader.new) (W.contents writer.old) (W.contents writer.new) false }
+    ensures faulty { result ≡ Err TryFault.Script →
+        RunsScript (R.remaining reader.old) (R.remaining reader.new) (W.contents writer.old) (W.contents writer.new) false }
 {
     let handler = work_floppy(alloc)?;
     run_script(alloc, handler, FIRST_MOMENT, reader, writer)

@@ -30,8 +30,10 @@ where
     R: Read,
     W: Write,
     F: Write,
-    ensures whole { words.now ≡ [] → result ≡ 0 → RunsScript (R.remaining reader.old) (R.remaining reader.new) (W.contents writer.old) (W.contents writer.new) true }
-    ensures faulty { words.now ≡ [] → result ≡ 3 → RunsScript (R.remaining reader.old) (R.remaining reader.new) (W.contents writer.old) (W.contents writer.new) false }
+    ensures whole { words.now ≡ [] → result ≡ 0 →
+        RunsScript (R.remaining reader.old) (R.remaining reader.new) (W.contents writer.old) (W.contents writer.new) true }
+    ensures faulty { words.now ≡ [] → result ≡ 3 →
+        RunsScript (R.remaining reader.old) (R.remaining reader.new) (W.contents writer.old) (W.contents writer.new) false }
 {
     let done = match read_words(alloc, words) {
         Ok(Job::Script) => return run_script(alloc, reader, writer, faults),

@@ -3,4 +3,6 @@ mod LettersLemmas
 mod EscapesLemmas
 mod HostLemmas
 mod ProtectionLettersLemmas
+mod DatedLemmas
 mod UaemLemmas
+mod ReadsLemmas

@@ -1,6 +1,5 @@
 -- Lines that emulators keep beside a host's file.
-use Rattle.std.specs.Prelude.{◌≡◌, ℕ, ◌%◌, ◌^◌, ◌<◌, List, [], ◌∷◌, ◌++◌, codes}
-use Rattle.ados_name.specs.declared.Date3.{Date3}
+use Rattle.std.specs.Prelude.{◌≡◌, ℕ, ◌%◌, List, [], ◌∷◌, ◌++◌, codes}
 use Rattle.ados_name.specs.Name.{IsComment}
 use Rattle.ados_name.specs.Date.{IsTextOf}
 use Rattle.adf_text.specs.declared.escapes.Place.TheVariants.{Comment}
@@ -8,18 +7,13 @@ use Rattle.adf_text.specs.declared.uaem.Uaem.{Uaem}
 use Rattle.adf_text.specs.Letters.{letters}
 use Rattle.adf_text.specs.Escapes.{escaped}
 use Rattle.adf_text.specs.ProtectionLetters.{protection_letters}
+use Rattle.adf_text.specs.Dated.{IsStamp}
 
 -- the line: the letters of the bits, the date and the comment with a space between, and a line feed
 abbrev pub IsLineOf : Uaem → List ℕ → Type 0
 IsLineOf noted line =
     (date : List ℕ) × IsTextOf noted.date date
     × (line ≡ letters (protection_letters noted.protect.0) ++ codes " " ++ date ++ codes " " ++ letters (escaped Comment noted.comment) ++ 10 ∷ [])
-
--- the numbers of a date have 32 bits each
-pub record IsStamp (date : Date3) : Type 0 where
-  pub days : date.days < 2 ^ 32
-  pub minutes : date.minutes < 2 ^ 32
-  pub ticks : date.ticks < 2 ^ 32
 
 -- what a line can be of
 pub record IsNoted (noted : Uaem) : Type 0 where

@@ -2,7 +2,7 @@
 ghost use Rattle.std.specs.Prelude.{◌≡◌, IfOk, IfErr, OnOk, All, ◌++◌};
 ghost use Rattle.std.specs.Str.{chars};
 ghost use Rattle.adf_text.specs.Letters.{IsByte, IsFaultOf};
-ghost use Rattle.adf_text.specs.Escapes.{needs_escape, escaped_byte, escaped, unescaped};
+ghost use Rattle.adf_text.specs.Escapes.{is_control, needs_escape, escaped_byte, escaped, unescaped};
 
 use crate::letters::{LettersFault, letter_bytes};
 use percent_encoding::{percent_decode, percent_encode_byte};
@@ -21,13 +21,17 @@ impl Place {
         ensures { result ≡ needs_escape self byte }
     {
         match self {
-            Place::HostName => byte < 32
-                || (127 <= byte && byte < 160)
-                || byte == b'%'
-                || byte == b'\\',
-            Place::Comment => byte < 32 || (127 <= byte && byte < 160) || byte == b'%',
+            Place::HostName => is_control(byte) || byte == b'%' || byte == b'\\',
+            Place::Comment => is_control(byte) || byte == b'%',
         }
     }
+}
+
+/// Whether the byte has no picture: 00 to 1F and 7F to 9F.
+pub(crate) fn is_control(byte: u8) -> bool
+    ensures { result ≡ is_control byte }
+{
+    byte < 32 || (127 <= byte && byte < 160)
 }
 
 /// The bytes with an escape for each that needs one there.

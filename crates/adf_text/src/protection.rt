@@ -42,8 +42,9 @@ pub fn protection_of_letters(text: &[u8]) -> Option<Protect>
     None
 }
 
-fn spelled_bits(text: &[u8]) -> Protect
-    ensures { result.0 ≡ protection_of text.now }
+pub(crate) fn spelled_bits(text: &[u8]) -> Protect
+    ensures value { result.0 ≡ protection_of text.now }
+    ensures eight { result.0 < 256 }
 {
     Protect(
         bit(text.contains(&b'h'), 128)

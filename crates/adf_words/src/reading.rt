@@ -19,7 +19,8 @@ const LARGEST: u64 = 4_294_967_295;
 
 /// The job that these words ask for, which stand behind the program's own name.
 pub fn read_words<'a>(alloc: Global, words: &'a [String]) -> Result<Job<'a>, WordsFault>
-    ensures { words.now ≡ [] → result ≡ Ok Job.Script }
+    ensures none { words.now ≡ [] → result ≡ Ok Job.Script }
+    ensures some { result ≡ Ok Job.Script → words.now ≡ [] }
 {
     if words.is_empty() {
         return Ok(Job::Script);

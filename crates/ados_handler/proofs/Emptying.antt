@@ -6,7 +6,7 @@ use Rattle.ados_name.specs.declared.Date3.{Date3}
 use Rattle.ados_name.specs.Protection.{denies_delete, denies_write}
 use Rattle.ados_tree.specs.Tree.{Tree, Proper}
 use Rattle.ados_tree.specs.Stands.{Stands}
-use Rattle.ados_tree.specs.Kept.{Kept}
+use Rattle.ados_tree.specs.NewBlocks.{KeepsRest}
 use Rattle.ados_tree.specs.Walk.{is_file}
 use Rattle.ados_tree.specs.Change.{rewritten, shortened}
 use Rattle.ados_packet.specs.declared.dos_error.DosError.TheVariants.{DeleteProtected, ObjectInUse, ObjectWrongType, WriteProtected}
@@ -60,9 +60,9 @@ module _ (was : List ℕ) (s : Session) (key : ℕ) (now : Date3) (image : List 
       }
 
   pub emptied_opens : (old : HandlerState) (was_validated : Bool) → record { image = was; was_validated = was_validated; session = s } ≡ old → (t : Tree) → Stands was t → is_file t key ≡ true → is_in_use s key true ≡ false
-      → (bits : ℕ) → protection_of t key ≡ bits → denies_delete bits ≡ false → denies_write bits ≡ false → Kept was image → (validated : Bool) → validated ≡ was_validated
+      → (bits : ℕ) → protection_of t key ≡ bits → denies_delete bits ≡ false → denies_write bits ≡ false → KeepsRest was image → (validated : Bool) → validated ≡ was_validated
       → Opens (empty_refusals old.session key) (λ t left. GivesHandle (rewritten now key [] t) old.session key true left) old (record { image = image; was_validated = validated; session = record s { handles = held } }) results
-  emptied_opens old was_validated view t stood file free bits told delete write kept validated checked =
+  emptied_opens old was_validated view t stood file free bits told delete write keeps validated checked =
       let new : HandlerState = record { image = image; was_validated = validated; session = record s { handles = held } } in
       let u = rewritten now key [] t in
       let opens = done_opens (empty_refusals s key) (λ t left. GivesHandle (rewritten now key [] t) s key true left) (record { image = was; was_validated = was_validated; session = s }) new results t stood (no_refusal s key t bits file free told delete write) (record {
@@ -70,7 +70,7 @@ module _ (was : List ℕ) (s : Session) (key : ℕ) (now : Date3) (image : List 
         stands = subst (Stands image) (cut_is_emptied now key t) (stands t stood);
         success = gives_handle key true s ready held results a same u;
         res2 = ap (λ (r : Results). r.res2) a.told;
-        boot = kept.boot;
+        keeps = keeps;
         validated = checked;
       }) in
       subst (λ (h : HandlerState). Opens (empty_refusals h.session key) (λ t left. GivesHandle (rewritten now key [] t) h.session key true left) h new results) view opens

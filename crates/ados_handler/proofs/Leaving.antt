@@ -1,8 +1,8 @@
 -- What packets leave of the image.
-use Rattle.std.proofs.Common.{◌≡◌, pos, List, ℕ, true, inl, inr, sym, ap, ◌∙◌}
-use Rattle.adf_block.specs.Image.{bytes_at}
+use Rattle.std.proofs.Common.{◌≡◌, pos, true, inl, inr, sym, ◌∙◌, subst}
 use Rattle.ados_tree.specs.Tree.{Tree}
-use Rattle.ados_tree.specs.Kept.{Kept}
+use Rattle.ados_tree.specs.NewBlocks.{KeepsRest}
+use Rattle.ados_tree.proofs.Keeping.{same_keeps}
 use Rattle.ados_packet.specs.declared.packet.Packet.{Packet}
 use Rattle.ados_packet.specs.declared.results.Results.{Results}
 use Rattle.ados_handler.specs.Meaning.{sets_disk_date}
@@ -13,11 +13,11 @@ use Rattle.ados_handler.proofs.Holding.{true_false}
 module _ (t : Tree) (old : HandlerState) (packet : Packet) (new : HandlerState) (results : Results) where
   -- where no byte changes
   pub leaves_all : new.image ≡ old.image → LeavesImage t old packet new (answer_to packet results)
-  leaves_all same = record { boot = ap (λ (image : List ℕ). bytes_at image 0 0 1024) same; rest = λ _. same }
+  leaves_all same = record { keeps = subst (KeepsRest old.image) (sym same) (same_keeps old.image); rest = λ _. same }
 
   -- where a packet is served that sets the disk date
-  pub leaves_boot : Kept old.image new.image → results.res2 ≡ pos 0 → sets_disk_date t old.session packet ≡ true → LeavesImage t old packet new (answer_to packet results)
-  leaves_boot kept served sets = record {
-    boot = kept.boot;
+  pub leaves_rest : KeepsRest old.image new.image → results.res2 ≡ pos 0 → sets_disk_date t old.session packet ≡ true → LeavesImage t old packet new (answer_to packet results)
+  leaves_rest keeps served sets = record {
+    keeps = keeps;
     rest = λ why. elim why [ inl refused ↦ absurd (refused served) | inr none ↦ absurd (true_false (sym sets ∙ none)) ];
   }

@@ -7,7 +7,7 @@ use Rattle.ados_name.specs.declared.Date3.{Date3}
 use Rattle.ados_name.specs.Name.{IsName}
 use Rattle.ados_tree.specs.Change.{made}
 use Rattle.ados_tree.specs.Keys.{HasDirectory}
-use Rattle.ados_tree.specs.Kept.{Kept}
+use Rattle.ados_tree.specs.NewBlocks.{KeepsRest}
 use Rattle.ados_tree.specs.Stands.{Stands}
 use Rattle.ados_tree.specs.Tree.{Tree}
 use Rattle.ados_tree.specs.Tree.Content.{File}
@@ -47,9 +47,9 @@ module _ (was : List ℕ) (s : Session) (dir : ℕ) (name : List ℕ) (now : Dat
         holds = (made_handle t s sound.stands.proper sound.holds now dir key name (File []) (can t sound.stands) (new_key was t sound.stands key low) refl exclusive _ refl gives).1;
       }
 
-  pub made_opens : (old : HandlerState) (was_validated : Bool) → record { image = was; was_validated = was_validated; session = s } ≡ old → (t : Tree) → Stands was t → lacks t 1 ≡ false → Kept was image → (validated : Bool) → validated ≡ was_validated
+  pub made_opens : (old : HandlerState) (was_validated : Bool) → record { image = was; was_validated = was_validated; session = s } ≡ old → (t : Tree) → Stands was t → lacks t 1 ≡ false → KeepsRest was image → (validated : Bool) → validated ≡ was_validated
       → Opens make_refusals (λ t left. MakesFile t old.session dir name exclusive now left) old (record { image = image; was_validated = validated; session = record s { handles = held } }) results
-  made_opens old was_validated view t stood room kept validated checked =
+  made_opens old was_validated view t stood room keeps validated checked =
       let new : HandlerState = record { image = image; was_validated = validated; session = record s { handles = held } } in
       let u = made now dir key name (File []) t in
       let opens = done_opens make_refusals (λ t left. MakesFile t s dir name exclusive now left) (record { image = was; was_validated = was_validated; session = s }) new results t stood (ap (λ (b : Bool). first_refusal (refuse DiskFull b ∷ [])) room) (record {
@@ -57,7 +57,7 @@ module _ (was : List ℕ) (s : Session) (dir : ℕ) (name : List ℕ) (now : Dat
         stands = stands t stood;
         success = (key, new_key was t stood key low, gives_handle key exclusive s ready held results a same u);
         res2 = ap (λ (r : Results). r.res2) a.told;
-        boot = kept.boot;
+        keeps = keeps;
         validated = checked;
       }) in
       subst (λ (h : HandlerState). Opens make_refusals (λ t left. MakesFile t h.session dir name exclusive now left) h new results) view opens

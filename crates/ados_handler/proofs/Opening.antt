@@ -74,7 +74,7 @@ module _ (packet : Packet) (now : Date3) (rows : Tree → List (Option DosError)
         stood = o.stood;
         stands = d.stands;
         means = meaning d.tree None e (inl (record { success = is.serves _ d.success; action = refl; res2 = d.res2 }));
-        leaves = record { boot = d.boot; rest = λ why. elim why [ inl other ↦ absurd (other d.res2) | inr quiet ↦ is.quiet quiet ] };
+        leaves = record { keeps = d.keeps; rest = λ why. elim why [ inl other ↦ absurd (other d.res2) | inr quiet ↦ is.quiet quiet ] };
         validated = d.validated;
       }
 

@@ -14,7 +14,7 @@ use Rattle.ados_name.specs.declared.Date3.{Date3}
 use Rattle.ados_name.specs.Protection.{denies_write}
 use Rattle.ados_tree.specs.Tree.{Tree, free, size_of}
 use Rattle.ados_tree.specs.Stands.{Stands}
-use Rattle.ados_tree.specs.Kept.{Kept}
+use Rattle.ados_tree.specs.NewBlocks.{KeepsRest}
 use Rattle.ados_tree.specs.Change.{grown, shortened}
 use Rattle.change_bytes.specs.Renewed.{NeedsMore}
 use Rattle.ados_packet.specs.declared.dos_error.DosError.{DosError}
@@ -129,10 +129,10 @@ module _ (old given : HandlerState) (same : old ≡ given) (t : Tree) (stood : S
     full_gives more stays told = refused new results DiskFull (row false true good (ap (needs_more t hold.key) (sym there) ∙ more)) stays told
 
     -- the file has it now
-    pub sized_gives : needs_more t hold.key size ≡ false → Stands new.image (resized now hold.key size t) → Kept old.image new.image
+    pub sized_gives : needs_more t hold.key size ≡ false → Stands new.image (resized now hold.key size t) → KeepsRest old.image new.image
         → (size ≡ size_of t hold.key → new.image ≡ old.image) → new.was_validated ≡ old.was_validated → new.session ≡ positions_within hold.key size old.session
         → results ≡ done Empty → MethodGives given packet now new results
-    sized_gives room stands kept stays validated holds told =
+    sized_gives room stands keeps stays validated holds told =
         let u = resized now hold.key size t in
         subst (λ (h : HandlerState). MethodGives h packet now new results) same (record {
           old_tree = t;
@@ -146,7 +146,7 @@ module _ (old given : HandlerState) (same : old ≡ given) (t : Tree) (stood : S
             res2 = ap (λ (r : Results). r.res2) told;
           });
           leaves = record {
-            boot = kept.boot;
+            keeps = keeps;
             rest = λ why. elim why [
               | inl failed ↦ absurd (failed (ap (λ (r : Results). r.res2) told))
               | inr none ↦ stays (sym size_is ∙ eqb-true _ _ (not-false _ none) ∙ ap (size_of t) file_is)

@@ -5,10 +5,10 @@ use Rattle.std.specs.Ordering.{nat_cmp}
 use Rattle.std.specs.FinMap.{FinMap, get}
 use Rattle.std.proofs.lemmas.Bool.{false_from_ne_true, ltb-true}
 use Rattle.std.proofs.lemmas.List.{nil_from_length}
-use Rattle.adf_block.specs.Image.{bytes_at}
 use Rattle.ados_data.specs.Cost.{block_cost}
 use Rattle.ados_name.specs.declared.Date3.{Date3}
 use Rattle.ados_name.specs.Protection.{denies_write}
+use Rattle.ados_tree.specs.NewBlocks.{KeepsRest}
 use Rattle.ados_tree.specs.Tree.{Tree, Proper, bytes_of, content_at, size_of}
 use Rattle.ados_tree.specs.Stands.{Stands}
 use Rattle.ados_tree.specs.Keys.{HasFileKey, HasTree}
@@ -49,10 +49,10 @@ module _ (t : Tree) (s : Session) (handle : ℕ) (bytes : List ℕ) (hold : Hand
       (record { success = λ i. after (written now (sym key i) (sym position i) bytes t) (moves i) (pos (counted i)) (Buffer bytes); action = refl; res2 = refl })
 
 -- what a WRITE that is served leaves of the image
-written_leaves : (t : Tree) (old new : HandlerState) (handle : ℕ) (bytes : List ℕ) (results : Results) → results.res2 ≡ pos 0 → bytes_at new.image 0 0 1024 ≡ bytes_at old.image 0 0 1024 → (bytes ≡ [] → new.image ≡ old.image)
+written_leaves : (t : Tree) (old new : HandlerState) (handle : ℕ) (bytes : List ℕ) (results : Results) → results.res2 ≡ pos 0 → KeepsRest old.image new.image → (bytes ≡ [] → new.image ≡ old.image)
     → LeavesImage t old (Write handle bytes) new (answer_to (Write handle bytes) results)
-written_leaves t old new handle bytes results served boot empty = record {
-  boot = boot;
+written_leaves t old new handle bytes results served keeps empty = record {
+  keeps = keeps;
   rest = λ why. elim why [
     | inl refused ↦ absurd (refused served)
     | inr none ↦ empty (nil_from_length bytes (omega (arith, ltb-false 0 (length bytes) none)))
@@ -64,10 +64,10 @@ module _ (old given : HandlerState) (same : old ≡ given) (t : Tree) (stood : S
   pub write_gives : (image : List ℕ) (validated : Bool) (handles : FinMap nat_cmp HandleHold) (end : ℕ) (results : Results) → old.session.died ≡ false → denies_write (protection_of t hold.key) ≡ false
       → end ≡ hold.position + length shown
       → (¬ NeedsMore t hold.key (max (size_of t hold.key) (hold.position + length shown))) × Stands image (written now hold.key hold.position shown t)
-      → bytes_at image 0 0 1024 ≡ bytes_at old.image 0 0 1024 → (shown ≡ [] → image ≡ old.image) → validated ≡ old.was_validated
+      → KeepsRest old.image image → (shown ≡ [] → image ≡ old.image) → validated ≡ old.was_validated
       → handles ≡ (at_position handle end old.session).handles → results ≡ answers (end - hold.position) (Buffer bytes)
       → MethodGives given (Write handle bytes) now (record { image = image; was_validated = validated; session = record old.session { handles = handles } }) results
-  write_gives image validated handles end results alive writable ends done boot empty kept moved told =
+  write_gives image validated handles end results alive writable ends done keeps empty kept moved told =
       let s : Session = old.session in
       let new : HandlerState = record { image = image; was_validated = validated; session = record s { handles = handles } } in
       let ended : end ≡ hold.position + length bytes = ends ∙ ap (λ (xs : List ℕ). hold.position + length xs) is in
@@ -82,7 +82,7 @@ module _ (old given : HandlerState) (same : old ≡ given) (t : Tree) (stood : S
         stood = stood;
         stands = wrote.1;
         means = subst (λ (r : Results). MethodMeans t s (Write handle bytes) now (written now hold.key hold.position bytes t) (record s { handles = handles }) r) (sym told) means;
-        leaves = written_leaves t old new handle bytes results (ap (λ (r : Results). r.res2) told) boot (λ e. empty (is ∙ e));
+        leaves = written_leaves t old new handle bytes results (ap (λ (r : Results). r.res2) told) keeps (λ e. empty (is ∙ e));
         validated = kept;
       })
 

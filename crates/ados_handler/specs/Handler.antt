@@ -1,8 +1,8 @@
 -- What contracts see of a handler, and what it does with a packet.
 use Rattle.std.specs.Prelude.{◌≡◌, ◌≢◌, ◌⊎◌, ℕ, pos, List, Bool, false, refl}
 use Rattle.std.specs.Coded.{Coded, code_by, coded×, coded_ℕ, coded_bool, coded_list}
-use Rattle.adf_block.specs.Image.{bytes_at}
 use Rattle.ados_name.specs.declared.Date3.{Date3}
+use Rattle.ados_tree.specs.NewBlocks.{KeepsRest}
 use Rattle.ados_tree.specs.Tree.{Tree}
 use Rattle.ados_tree.specs.Stands.{Stands}
 use Rattle.ados_packet.specs.declared.packet.Packet.{Packet}
@@ -30,9 +30,9 @@ pub record IsSoundHandler (image : List ℕ) (session : Session) : Type 0 where
   pub stands : Stands image tree
   pub holds : IsProperSession tree session
 
--- a packet changes no byte of the boot blocks, and no byte at all where it is refused or sets no disk date
+-- a packet keeps what is part of no field, the boot blocks too, and takes the lowest free blocks; where it is refused or sets no disk date it changes no byte at all
 pub record LeavesImage (t : Tree) (old : HandlerState) (packet : Packet) (new : HandlerState) (answer : Answer) : Type 0 where
-  pub boot : bytes_at new.image 0 0 1024 ≡ bytes_at old.image 0 0 1024
+  pub keeps : KeepsRest old.image new.image
   pub rest : (answer.res2 ≢ pos 0) ⊎ (sets_disk_date t old.session packet ≡ false) → new.image ≡ old.image
 
 -- a packet is served at a moment: what it means leads from the tree and the holds to the new ones

@@ -4,7 +4,7 @@ use Rattle.ados_name.specs.declared.Date3.{Date3}
 use Rattle.ados_tree.specs.Tree.{Tree, parent_of, size_of}
 use Rattle.ados_packet.specs.declared.dos_error.DosError.{DosError}
 use Rattle.ados_packet.specs.declared.dos_error.DosError.TheVariants.{DeviceNotMounted, NoFreeStore}
-use Rattle.ados_packet.specs.Numbers.{error_number}
+use Rattle.ados_packet.specs.Numbers.{error_number, no_lock}
 use Rattle.ados_packet.specs.Packet.{action_of, failure_of, handed_back}
 use Rattle.ados_packet.specs.declared.packet.Packet.{Packet}
 use Rattle.ados_packet.specs.declared.packet.Packet.TheVariants.{LocateObject, RenameDisk, DeleteObject, RenameObject, CopyDir, SetProtect, CreateDir, SetComment, Parent, SetDate, Write, FindUpdate, FindInput, FindOutput, SetFileSize}
@@ -17,7 +17,7 @@ use Rattle.ados_handler.specs.Success.{after, Success}
 -- the packet, where it is not refused, makes a lock or a handle, for which there may be no memory or number
 abbrev pub makes_hold : Tree → Session → Packet → Bool
 makes_hold t s (LocateObject lock path mode) = true
-makes_hold t s (CopyDir lock) = not (lock == 0)
+makes_hold t s (CopyDir lock) = not (lock == no_lock)
 makes_hold t s (Parent lock) = is_some (parent_of t (lock_key t s lock))
 makes_hold t s (CreateDir lock path) = true
 makes_hold t s (FindInput lock path) = true

@@ -13,6 +13,7 @@ use Rattle.ados_tree.specs.declared.path_fault.PlaceFault.{PlaceFault}
 use Rattle.ados_tree.specs.declared.path_fault.PlaceFault.TheVariants as places
 use Rattle.ados_packet.specs.declared.dos_error.DosError.{DosError}
 use Rattle.ados_packet.specs.declared.dos_error.DosError.TheVariants.{DirectoryNotFound, InvalidComponentName, InvalidLock, ObjectNotFound, ObjectWrongType}
+use Rattle.ados_packet.specs.Numbers.{no_lock}
 use Rattle.ados_handler.specs.Session.{Session, handle_key, handle_position, is_lock}
 
 -- the errors of a walk and of a place
@@ -27,13 +28,13 @@ place_error places.ObjectNotFound = ObjectNotFound
 place_error places.WrongType = ObjectWrongType
 place_error places.InvalidName = InvalidComponentName
 
--- the object of a lock; lock 0 stands for the root
+-- the object of a lock; `no_lock` stands for the root
 abbrev pub lock_key : Tree → Session → ℕ → ℕ
-lock_key t s lock = if lock == 0 then root t else option_map_or (λ l. l.key) (numbered.get s.locks lock) 0
+lock_key t s lock = if lock == no_lock then root t else option_map_or (λ l. l.key) (numbered.get s.locks lock) 0
 
 -- the same, where the number is that of a lock
 abbrev pub lock_object : Tree → Session → ℕ → Option ℕ
-lock_object t s lock = if lock == 0 then Some (root t) else option_map (λ l. l.key) (numbered.get s.locks lock)
+lock_object t s lock = if lock == no_lock then Some (root t) else option_map (λ l. l.key) (numbered.get s.locks lock)
 
 -- where a path from a lock leads, and where it leads somewhere the object there
 abbrev pub found : Tree → Session → ℕ → List ℕ → Result ℕ WalkFault

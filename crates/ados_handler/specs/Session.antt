@@ -5,6 +5,7 @@ use Rattle.std.specs.Option.{option_map_or}
 use Rattle.std.specs.Ordering.{nat_cmp}
 use Rattle.std.specs.FinMap as numbered
 use Rattle.std.specs.Coded.{Coded, code_by, coded×, coded_ℕ, coded_bool}
+use Rattle.ados_packet.specs.Numbers.{no_lock}
 use Rattle.ados_handler.specs.declared.holds.LockHold.{LockHold}
 use Rattle.ados_handler.specs.declared.holds.HandleHold.{HandleHold}
 
@@ -32,6 +33,10 @@ session_code =
     (λ s. (s.locks, (s.handles, s.died)))
     (λ p. record { locks = p.0; handles = p.1.0; died = p.1.1 }) (λ _. refl)
 
+-- the locks and handles of a handler, and whether it has died
+abbrev pub session_of : numbered.FinMap nat_cmp LockHold → numbered.FinMap nat_cmp HandleHold → Bool → Session
+session_of locks handles died = record { locks = locks; handles = handles; died = died }
+
 -- no lock, no handle, and not dead
 abbrev pub opening_session : Session
 opening_session = record { locks = numbered.empty; handles = numbered.empty; died = false }
@@ -54,13 +59,13 @@ is_held_exclusively s key = list_any (λ hold. (hold.0 == key) && hold.1) (holds
 abbrev pub is_in_use : Session → ℕ → Bool → Bool
 is_in_use s key exclusive = if exclusive then is_held s key else is_held_exclusively s key
 
--- 0 and the numbers of the locks that are held
+-- `no_lock`, and the numbers of the locks that are held
 abbrev pub is_lock : Session → ℕ → Bool
-is_lock s lock = (lock == 0) || numbered.contains_key s.locks lock
+is_lock s lock = (lock == no_lock) || numbered.contains_key s.locks lock
 
--- lock 0 is no hold, and so not exclusive
+-- `no_lock` is no hold, and so not exclusive
 abbrev pub is_exclusive_lock : Session → ℕ → Bool
-is_exclusive_lock s lock = if lock == 0 then false else option_map_or (λ l. l.exclusive) (numbered.get s.locks lock) false
+is_exclusive_lock s lock = if lock == no_lock then false else option_map_or (λ l. l.exclusive) (numbered.get s.locks lock) false
 
 -- the numbers of the handles that are held
 abbrev pub is_handle : Session → ℕ → Bool

@@ -8,6 +8,7 @@ use Rattle.ados_tree.specs.Change.{disk_renamed, entries_after, grown, made, rem
 use Rattle.change_entries.specs.Conditions.{IsUnused}
 use Rattle.ados_volume.specs.Examined.{file_info}
 use Rattle.ados_volume.specs.Info.{disk_info}
+use Rattle.ados_packet.specs.Numbers.{no_lock}
 use Rattle.ados_packet.specs.Packet.{dos_true, dos_false}
 use Rattle.ados_packet.specs.declared.packet.Packet.{Packet}
 use Rattle.ados_packet.specs.declared.packet.Packet.TheVariants.{Die, LocateObject, RenameDisk, FreeLock, DeleteObject, RenameObject, CopyDir, SetProtect, CreateDir, ExamineObject, ExamineNext, DiskInfo, Info, SetComment, Parent, SetDate, SameLock, Read, Write, FindUpdate, FindInput, FindOutput, End, Seek, SetFileSize, Other}
@@ -67,13 +68,13 @@ module _ (t : Tree) (s : Session) where
   Success (RenameDisk name) now result =
       result ≡ after (disk_renamed now name t) s dos_true Empty
   Success (FreeLock lock) now result =
-      result ≡ after t (if lock == 0 then s else without_lock lock s) dos_true Empty
+      result ≡ after t (if lock == no_lock then s else without_lock lock s) dos_true Empty
   Success (DeleteObject lock path) now result =
       result ≡ after (removed now (object t s lock path) t) s dos_true Empty
   Success (RenameObject from_lock from to_lock to) now result =
       result ≡ after (renamed now (object t s from_lock from) (spot_directory t s to_lock to) (spot_name t s to_lock to) t) s dos_true Empty
   Success (CopyDir lock) now result =
-      MatchBool (lock == 0) (result ≡ after t s (pos 0) Empty) (GivesLock t s (lock_key t s lock) false result)
+      MatchBool (lock == no_lock) (result ≡ after t s (pos no_lock) Empty) (GivesLock t s (lock_key t s lock) false result)
   Success (SetProtect lock path bits) now result =
       result ≡ after (with_protection now (object t s lock path) bits t) s dos_true Empty
   Success (CreateDir lock path) now result =
@@ -90,7 +91,7 @@ module _ (t : Tree) (s : Session) where
   Success (SetComment lock path comment) now result =
       result ≡ after (with_comment now (object t s lock path) comment t) s dos_true Empty
   Success (Parent lock) now result =
-      MatchOption (parent_of t (lock_key t s lock)) (result ≡ after t s (pos 0) Empty) (λ dir. GivesLock t s dir false result)
+      MatchOption (parent_of t (lock_key t s lock)) (result ≡ after t s (pos no_lock) Empty) (λ dir. GivesLock t s dir false result)
   Success (SetDate lock path date) now result =
       result ≡ after (with_date now (object t s lock path) date t) s dos_true Empty
   Success (SameLock first second) now result =

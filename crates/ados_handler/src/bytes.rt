@@ -1,14 +1,14 @@
 //! Packets that read, write and seek in the file of a handle.
 
-ghost use Rattle.std.specs.Prelude.{◌≡◌, ◌+◌, ◌-◌, ◌≤◌, [], ◌++◌, length, take, drop, min, MatchResult};
-ghost use Rattle.adf_block.specs.Image.{bytes_at};
+ghost use Rattle.std.specs.Prelude.{◌≡◌, ◌+◌, ◌-◌, ◌≤◌, [], ◌++◌, length, take, drop, min};
 ghost use Rattle.ados_name.specs.declared.Date3.{Date3 as Moment};
 ghost use Rattle.ados_tree.specs.Keys.{HasFileKey, HasTree};
 ghost use Rattle.ados_tree.specs.Tree.{Tree, bytes_of, size_of};
 ghost use Rattle.ados_tree.specs.Stands.{Stands};
+ghost use Rattle.ados_tree.specs.NewBlocks.{KeepsRest};
 ghost use Rattle.ados_packet.specs.declared.packet.Packet.TheVariants.{Read, Seek, Write};
 ghost use Rattle.ados_handler.specs.steps.Methods.{MethodGives};
-ghost use Rattle.ados_handler.specs.steps.Files.{IsUnwritten, IsWritten};
+ghost use Rattle.ados_handler.specs.steps.Files.{WritesOrStays};
 
 use crate::handler::Handler;
 use crate::target::{number_within, target_of};
@@ -106,8 +106,8 @@ fn write_some(
     requires tree { HasTree volume.old.image }
     requires file { HasFileKey volume.old.image key }
     requires start { (t : Tree) → Stands volume.old.image t → position ≤ size_of t key }
-    ensures done { MatchResult result (IsWritten volume.old volume.new key position bytes.now now) (λ _. IsUnwritten volume.old volume.new key position bytes.now) }
-    ensures boot { bytes_at volume.new.image 0 0 1024 ≡ bytes_at volume.old.image 0 0 1024 }
+    ensures done { WritesOrStays volume.old volume.new key position bytes.now now result }
+    ensures keeps { KeepsRest volume.old.image volume.new.image }
     ensures none { bytes.now ≡ [] → volume.new ≡ volume.old }
     ensures validated { volume.new.was_validated ≡ volume.old.was_validated }
 {

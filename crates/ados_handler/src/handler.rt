@@ -19,15 +19,16 @@ pub struct Handler {
 }
 
 impl Model for Handler {
+    ghost use Rattle.ados_handler.specs.Session.{session_of};
     ghost use Rattle.ados_handler.specs.Handler.{HandlerState, IsSoundHandler, handler_code};
 
     ghost Value = { HandlerState };
 
     ghost coded = { handler_code };
 
-    ghost view = { λ h. record { image = h.volume.image; was_validated = h.volume.was_validated; session = record { locks = h.locks.held; handles = h.handles.held; died = h.died } } };
+    ghost view = { λ h. record { image = h.volume.image; was_validated = h.volume.was_validated; session = session_of h.locks.held h.handles.held h.died } };
 
-    ghost invariant = { λ h. IsSoundHandler h.volume.image (record { locks = h.locks.held; handles = h.handles.held; died = h.died }) };
+    ghost invariant = { λ h. IsSoundHandler h.volume.image (session_of h.locks.held h.handles.held h.died) };
 }
 
 impl Handler {

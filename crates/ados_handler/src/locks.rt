@@ -12,7 +12,7 @@ ghost use Rattle.ados_handler.specs.steps.Methods.{MethodGives};
 use crate::handler::Handler;
 use crate::holds::LockHold;
 use ados_name::PathText;
-use ados_packet::{Body, DosError, Results};
+use ados_packet::{Body, DosError, NO_LOCK, Results};
 
 impl Handler {
     /// LOCATE_OBJECT.
@@ -33,14 +33,14 @@ impl Handler {
         self.bring_lock(key, exclusive)
     }
 
-    /// FREE_LOCK. Lock 0 is no hold, and stays.
+    /// FREE_LOCK. `NO_LOCK` is no hold, and stays.
     pub(crate) fn free_lock(&mut self, lock: u32) -> Results
         ensures gives { (now : Moment) → MethodGives self.old (FreeLock lock) now self.new result }
     {
         if self.died {
             return Results::refused(DosError::DeviceNotMounted);
         }
-        if lock != 0 {
+        if lock != NO_LOCK {
             if self.locks.get(lock).is_none() {
                 return Results::refused(DosError::InvalidLock);
             }
@@ -49,15 +49,15 @@ impl Handler {
         Results::done(Body::Empty)
     }
 
-    /// COPY_DIR. Lock 0 is no hold, and its copy is lock 0.
+    /// COPY_DIR. `NO_LOCK` is no hold, and is its own copy.
     pub(crate) fn copy_dir(&mut self, lock: u32) -> Results
         ensures gives { (now : Moment) → MethodGives self.old (CopyDir lock) now self.new result }
     {
         if self.died {
             return Results::refused(DosError::DeviceNotMounted);
         }
-        if lock == 0 {
-            return Results::counted(0, Body::Empty);
+        if lock == NO_LOCK {
+            return Results::counted(NO_LOCK, Body::Empty);
         }
         let hold = match self.locks.get(lock) {
             Some(hold) => *hold,
@@ -93,7 +93,7 @@ impl Handler {
         }
     }
 
-    /// PARENT. The root has none, and lock 0 is answered.
+    /// PARENT. The root has none, and `NO_LOCK` is answered.
     pub(crate) fn parent(&mut self, lock: u32) -> Results
         ensures gives { (now : Moment) → MethodGives self.old (Parent lock) now self.new result }
     {
@@ -104,7 +104,7 @@ impl Handler {
             return Results::refused(DosError::InvalidLock);
         };
         let Some(dir) = self.volume.parent(key) else {
-            return Results::counted(0, Body::Empty);
+            return Results::counted(NO_LOCK, Body::Empty);
         };
         if self.is_held_exclusively(dir) {
             return Results::refused(DosError::ObjectInUse);

@@ -8,7 +8,7 @@ ghost use Rattle.ados_handler.specs.Objects.{lock_object, place_error, placed_at
 
 use crate::handler::Handler;
 use ados_name::{Name, PathText};
-use ados_packet::DosError;
+use ados_packet::{DosError, NO_LOCK};
 use ados_tree::{PlaceFault, WalkFault};
 
 impl Handler {
@@ -17,7 +17,7 @@ impl Handler {
         ensures object { (t : Tree) → Stands self.now.image t → result ≡ lock_object t self.now.session lock }
         ensures key { IfSome result (λ key. HasKey self.now.image key) }
     {
-        if lock == 0 {
+        if lock == NO_LOCK {
             return Some(self.volume.root());
         }
         match self.locks.get(lock) {

@@ -4,7 +4,7 @@ ghost use Rattle.std.specs.Prelude.{◌≡◌, MatchResult};
 ghost use Rattle.ados_tree.specs.Tree.{Tree, size_of};
 ghost use Rattle.ados_tree.specs.Stands.{Stands};
 ghost use Rattle.ados_tree.specs.Keys.{HasFileKey};
-ghost use Rattle.ados_tree.specs.Kept.{Kept};
+ghost use Rattle.ados_tree.specs.NewBlocks.{KeepsRest};
 ghost use Rattle.ados_packet.specs.declared.packet.Packet.TheVariants.{SetFileSize};
 ghost use Rattle.ados_handler.specs.steps.Methods.{MethodGives};
 ghost use Rattle.ados_handler.specs.steps.Files.{IsResized, IsUnresized};
@@ -58,7 +58,7 @@ fn resize(volume: &mut Volume, key: u32, held: u32, size: u32, moment: Date3) ->
     requires file { HasFileKey volume.old.image key }
     requires held { (t : Tree) → Stands volume.old.image t → held ≡ size_of t key }
     ensures done { MatchResult result (λ _. IsResized volume.old volume.new key size moment) (λ _. IsUnresized volume.old volume.new key size) }
-    ensures kept { Kept volume.old.image volume.new.image }
+    ensures keeps { KeepsRest volume.old.image volume.new.image }
     ensures same { (t : Tree) → Stands volume.old.image t → size ≡ size_of t key → volume.new.image ≡ volume.old.image }
     ensures validated { volume.new.was_validated ≡ volume.old.was_validated }
 {

@@ -1,9 +1,13 @@
--- The numbers of the actions and of the errors, as the AmigaDOS Technical Reference gives them.
+-- The numbers of the actions and of the errors, and that of no lock, as the AmigaDOS Technical Reference gives them.
 use Rattle.std.specs.Prelude.{ℕ, ℤ, pos}
 use Rattle.ados_packet.specs.declared.dos_error.DosError.{DosError}
 use Rattle.ados_packet.specs.declared.dos_error.DosError.TheVariants.{NoFreeStore, ObjectInUse, ObjectExists, DirectoryNotFound, ObjectNotFound, ActionNotKnown, InvalidComponentName, InvalidLock, ObjectWrongType, DirectoryNotEmpty, DeviceNotMounted, SeekError, CommentTooBig, DiskFull, DeleteProtected, WriteProtected, ReadProtected, NotADosDisk, NoMoreEntries}
 use Rattle.ados_packet.specs.declared.action.Action.{Action}
 use Rattle.ados_packet.specs.declared.action.Action.TheVariants as action
+
+-- the number that stands for no lock: for the root of the disk
+abbrev pub no_lock : ℕ
+no_lock = 0
 
 -- the number of an error
 abbrev pub error_number : DosError → ℕ

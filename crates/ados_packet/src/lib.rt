@@ -14,7 +14,7 @@ pub use answer::{Answer, Body};
 pub use buffer::Buffer;
 pub use dos_error::DosError;
 pub use info::{DiskInfo, FileInfo};
-pub use packet::Packet;
+pub use packet::{NO_LOCK, Packet};
 pub use results::Results;
 
 #[cfg(test)]

@@ -6,9 +6,12 @@ use crate::action::Action;
 use crate::buffer::Buffer;
 use ados_name::{Date3, PathText};
 
+/// The number that stands for no lock: for the root of the disk (ZERO of the AmigaDOS Technical Reference).
+pub const NO_LOCK: u32 = 0;
+
 /// A packet, with the arguments that its action takes. The actions are those of the AmigaDOS Technical Reference.
 ///
-/// A `lock` of 0 stands for the root. A path is walked from the object of the lock in front of it.
+/// A `lock` of `NO_LOCK` stands for the root. A path is walked from the object of the lock in front of it.
 #[derive(Drop)]
 pub enum Packet {
     /// DIE: the handler is to take no more packets.

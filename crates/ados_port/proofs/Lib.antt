@@ -2,6 +2,7 @@
 pub use Rattle.port_history.proofs.Closing
 pub use Rattle.port_history.proofs.Replies
 pub use Rattle.port_history.proofs.Lawful
+pub use Rattle.port_history.proofs.Replayed
 pub use Rattle.port_exchange.proofs.Histories
 pub use Rattle.port_exchange.proofs.Grows
 pub use Rattle.port_exchange.proofs.Joining

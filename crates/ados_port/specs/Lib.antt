@@ -10,6 +10,7 @@ pub use Rattle.port_history.specs.History
 pub use Rattle.port_history.specs.Closing
 pub use Rattle.port_history.specs.Lawful
 pub use Rattle.port_history.specs.Lists
+pub use Rattle.port_history.specs.Laws
 pub use Rattle.port_ends.specs.Ends
 pub use Rattle.port_ends.specs.Batches
 pub use Rattle.port_ends.specs.Gathering

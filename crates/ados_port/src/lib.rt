@@ -8,5 +8,7 @@ pub use port_ends::{
     open_port,
 };
 pub use port_exchange::{Exchange, NewRefused, RunDone, RunRefused, run};
-pub use port_history::{Outcome, PutRefused, Reply, Server, Step};
+pub use port_history::{
+    Outcome, PutRefused, Reply, Server, Step, closed_after_death, lists_have_a_history,
+};
 pub use port_threads::{Client, ServeClientsFault, Served, serve_clients};

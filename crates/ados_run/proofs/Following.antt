@@ -1,98 +1,177 @@
--- A history of the port of a handler is one of the port of the tree behind it.
-use Rattle.std.proofs.Common.{◌≡◌, ℕ, zero, suc, Bool, List, [], ◌∷◌, take, refl, sym, ap, ◌∙◌, subst}
+-- A history of the port of a handler is one of the tree behind it, side by side.
+use Rattle.std.proofs.Common.{◌≡◌, ℕ, Bool, List, [], ◌∷◌, map, take, refl, sym, ap, ◌∙◌, subst}
+use Rattle.std.proofs.lemmas.List.{take-map}
 use Rattle.ados_name.specs.declared.Date3.{Date3}
 use Rattle.ados_tree.specs.Tree.{Tree}
 use Rattle.ados_tree.specs.Stands.{Stands}
 use Rattle.ados_tree.proofs.OneTree.{one_tree}
-use Rattle.ados_port.specs.History.{Event, Serving, Run, last_server, events_of, served_count, served_by, OutcomeFits}
+use Rattle.ados_port.specs.Port.{PortState}
+use Rattle.ados_port.specs.Step.{Step}
+use Rattle.ados_port.specs.Outcome.{Outcome}
+use Rattle.ados_port.specs.Lawful.{Lawful}
+use Rattle.ados_port.specs.History.{Event, PortHistory, Serving, Run, last_server, events_of, served_count, served_by, OutcomeFits}
 use Rattle.ados_packet.specs.declared.packet.Packet.{Packet}
 use Rattle.ados_packet.specs.declared.answer.Answer.{Answer}
-use Rattle.ados_handler.specs.Session.{Session}
 use Rattle.ados_handler.specs.Meaning.{Meaning}
 use Rattle.ados_handler.specs.Handler.{HandlerState, HandlerGives}
-use Rattle.ados_run.specs.TreePort.{TreeState, means, over_tree}
-use Rattle.ados_run.specs.Laws.{HistoriesFollowTrees, ListsFollowTrees}
+use Rattle.ados_run.specs.TreePort.{TreeState, means, tree_died, handler_died, with_tree}
+use Rattle.ados_run.specs.SideBySide.{BothSides, ServesBoth, both_died, handlers_of, beside, port_beside}
+use Rattle.ados_run.specs.Laws.{EachSideIsAHistory, EachSideIsLawful, HistoriesFollowTrees, ListsFollowTrees}
 
--- the state of a handler over this tree
-abbrev state_of : Tree → HandlerState → TreeState
-state_of t handler = record { tree = t; session = handler.session }
+-- servers, each seen as another
+module _ {S T : Type 0} (f : S → T) where
+  last_server-map : (opening : S) (servers : List S) → f (last_server opening servers) ≡ last_server (f opening) (map f servers)
+  last_server-map opening [] = refl
+  last_server-map opening (server ∷ servers) = last_server-map server servers
 
--- the trees behind a run of a handler whose image stood for this one: at each moment they have the handler's session
-record TreeRun (old : HandlerState) (t : Tree) (served : List (Serving Packet Date3 Answer)) (servers : List HandlerState) : Type 0 where
-  states : List TreeState
-  run : Run means (state_of t old) served states
-  sessions : (n : ℕ) → (last_server (state_of t old) (take n states)).session ≡ (last_server old (take n servers)).session
-  session : (last_server (state_of t old) states).session ≡ (last_server old servers).session
-  stands : Stands (last_server old servers).image (last_server (state_of t old) states).tree
+  last_server-take : (opening : S) (servers : List S) (n : ℕ) → last_server (f opening) (take n (map f servers)) ≡ f (last_server opening (take n servers))
+  last_server-take opening servers n = ap (last_server (f opening)) (take-map f n servers) ∙ sym (last_server-map opening (take n servers))
+
+  module _ {Q M A : Type 0} (gives : S → Q → M → S → A → Type 0) (also : T → Q → M → T → A → Type 0)
+      (seen : (old new : S) (packet : Q) (moment : M) (answer : A) → gives old packet moment new answer → also (f old) packet moment (f new) answer) where
+    run-map : (opening : S) (served : List (Serving Q M A)) (servers : List S) → Run gives opening served servers → Run also (f opening) served (map f servers)
+    run-map opening [] [] run = tt
+    run-map opening [] (new ∷ servers) run = elim run [ ]
+    run-map opening (s ∷ served) [] run = elim run [ ]
+    run-map opening (s ∷ served) (new ∷ servers) run = (seen opening new s.packet s.moment s.answer run.0, run-map new served servers run.1)
+
+-- a history in which other servers stand for its own, and die when they do
+module _ {S T Q M A : Type 0} (gives : S → Q → M → S → A → Type 0) (has_died : S → Bool) (also : T → Q → M → T → A → Type 0) (also_died : T → Bool)
+    (opening : PortState S Q A) (steps : List (Step Q M)) (outcomes : List (Outcome Q A)) (closing : PortState S Q A) (h : PortHistory gives has_died opening steps outcomes closing) where
+  abbrev with_server : T → PortState S Q A → PortState T Q A
+  with_server server port = record { server = server; clients = port.clients; waiting = port.waiting }
+
+  other_servers : (first last : T) (servers : List T) → Run also first h.served servers → last ≡ last_server first servers
+      → ((n : ℕ) → also_died (last_server first (take n servers)) ≡ has_died (last_server opening.server (take n h.servers)))
+      → PortHistory also also_died (with_server first opening) steps outcomes (with_server last closing)
+  other_servers first last servers run is_last dies = record {
+    served = h.served;
+    servers = servers;
+    meaning = run;
+    in_order = h.in_order;
+    moments = h.moments;
+    as_long = h.as_long;
+    fits = λ i e at_i.
+        let before : List (Event Q M A) = take i (events_of steps outcomes) in
+        subst (λ (died : Bool). OutcomeFits (with_server first opening) (served_by before h.served) died before e.step e.outcome)
+        (sym (dies (served_count before))) (h.fits i e at_i);
+    closing_server = is_last;
+    closing_waiting = h.closing_waiting;
+    closing_clients = h.closing_clients;
+  }
+
+-- a handler of both, and a tree
+abbrev handler_side : BothSides → HandlerState
+handler_side both = both.handler
+
+abbrev tree_side : BothSides → TreeState
+tree_side both = with_tree both.tree both.handler
+
+-- the trees beside a run of a handler whose image stood for this one
+record BothRun (old : HandlerState) (t : Tree) (served : List (Serving Packet Date3 Answer)) (servers : List HandlerState) : Type 0 where
+  states : List BothSides
+  run : Run ServesBoth (beside t old) served states
+  handlers : handlers_of states ≡ servers
+  stands : Stands (last_server old servers).image (last_server (beside t old) states).tree
   validated : (last_server old servers).was_validated ≡ old.was_validated
 
--- one more state and one more handler in front
-sessions_behind : (t new_tree : Tree) (old new : HandlerState) (states : List TreeState) (servers : List HandlerState)
-    → ((n : ℕ) → (last_server (state_of new_tree new) (take n states)).session ≡ (last_server new (take n servers)).session)
-    → (n : ℕ) → (last_server (state_of t old) (take n (state_of new_tree new ∷ states))).session ≡ (last_server old (take n (new ∷ servers))).session
-sessions_behind t new_tree old new states servers later zero = refl
-sessions_behind t new_tree old new states servers later (suc n) = later n
-
-nothing_served : (t : Tree) (old : HandlerState) (n : ℕ) → (last_server (state_of t old) (take n [])).session ≡ (last_server old (take n [])).session
-nothing_served t old zero = refl
-nothing_served t old (suc n) = refl
-
-tree_run : (old : HandlerState) (t : Tree) → Stands old.image t → (served : List (Serving Packet Date3 Answer)) (servers : List HandlerState)
-    → Run HandlerGives old served servers → TreeRun old t served servers
-tree_run old t stood [] [] run = record { states = []; run = tt; sessions = nothing_served t old; session = refl; stands = stood; validated = refl }
-tree_run old t stood [] (new ∷ servers) run = elim run [ ]
-tree_run old t stood (s ∷ served) [] run = elim run [ ]
-tree_run old t stood (s ∷ served) (new ∷ servers) run =
+both_run : (old : HandlerState) (t : Tree) → Stands old.image t → (served : List (Serving Packet Date3 Answer)) (servers : List HandlerState)
+    → Run HandlerGives old served servers → BothRun old t served servers
+both_run old t stood [] [] run = record { states = []; run = tt; handlers = refl; stands = stood; validated = refl }
+both_run old t stood [] (new ∷ servers) run = elim run [ ]
+both_run old t stood (s ∷ served) [] run = elim run [ ]
+both_run old t stood (s ∷ served) (new ∷ servers) run =
     let first : HandlerGives old s.packet s.moment new s.answer = run.0 in
-    let rest : TreeRun new first.new_tree served servers = tree_run new first.new_tree first.stands served servers run.1 in
+    let rest : BothRun new first.new_tree served servers = both_run new first.new_tree first.stands served servers run.1 in
+    let meant : Meaning t old.session s.packet s.moment first.new_tree new.session s.answer =
+    subst (λ (u : Tree). Meaning u old.session s.packet s.moment first.new_tree new.session s.answer) (one_tree old.image first.old_tree t first.stood stood) first.means in
+    let served_first : ServesBoth (beside t old) s.packet s.moment (beside first.new_tree new) s.answer = record { gives = first; means = meant; stands = first.stands } in
     record {
-      states = state_of first.new_tree new ∷ rest.states;
-      run = (subst (λ (u : Tree). Meaning u old.session s.packet s.moment first.new_tree new.session s.answer) (one_tree old.image first.old_tree t first.stood stood) first.means, rest.run);
-      sessions = sessions_behind t first.new_tree old new rest.states servers rest.sessions;
-      session = rest.session;
+      states = beside first.new_tree new ∷ rest.states;
+      run = (served_first, rest.run);
+      handlers = ap (λ l. new ∷ l) rest.handlers;
       stands = rest.stands;
       validated = rest.validated ∙ first.validated;
     }
 
+-- the last of both is the last handler with its tree
+last_beside : (old : HandlerState) (t : Tree) (served : List (Serving Packet Date3 Answer)) (servers : List HandlerState) (both : BothRun old t served servers)
+    → beside (last_server (beside t old) both.states).tree (last_server old servers) ≡ last_server (beside t old) both.states
+last_beside old t served servers both =
+    let last : BothSides = last_server (beside t old) both.states in
+    let same : last_server old servers ≡ last.handler = ap (last_server old) (sym both.handlers) ∙ sym (last_server-map handler_side (beside t old) both.states) in
+    λ i. record { tree = last.tree; handler = same i }
+
 pub histories_follow_trees : HistoriesFollowTrees
 histories_follow_trees t opening steps outcomes closing stood h =
-    let trees : TreeRun opening.server t h.served h.servers = tree_run opening.server t stood h.served h.servers h.meaning in
-    let last : TreeState = last_server (state_of t opening.server) trees.states in
-    let session : closing.server.session ≡ last.session = ap (λ (s : HandlerState). s.session) h.closing_server ∙ sym trees.session in
+    let both : BothRun opening.server t h.served h.servers = both_run opening.server t stood h.served h.servers h.meaning in
+    let first : BothSides = beside t opening.server in
+    let last : Tree = (last_server first both.states).tree in
     record {
-      last_tree = last.tree;
-      history = record {
-        served = h.served;
-        servers = trees.states;
-        meaning = trees.run;
-        in_order = h.in_order;
-        moments = h.moments;
-        as_long = h.as_long;
-        fits = λ i e at_i.
-            let before : List (Event Packet Date3 Answer) = take i (events_of steps outcomes) in
-            subst (λ (died : Bool). OutcomeFits (over_tree t opening) (served_by before h.served) died before e.step e.outcome)
-            (sym (ap (λ (s : Session). s.died) (trees.sessions (served_count before)))) (h.fits i e at_i);
-        closing_server = λ i. record { tree = last.tree; session = session i };
-        closing_waiting = h.closing_waiting;
-        closing_clients = h.closing_clients;
-      };
-      stands = subst (λ (s : HandlerState). Stands s.image last.tree) (sym h.closing_server) trees.stands;
-      validated = ap (λ (s : HandlerState). s.was_validated) h.closing_server ∙ trees.validated;
+      last_tree = last;
+      history = other_servers HandlerGives handler_died ServesBoth both_died opening steps outcomes closing h first (beside last closing.server) both.states both.run
+          (ap (beside last) h.closing_server ∙ last_beside opening.server t h.served h.servers both)
+          (λ n. ap handler_died (sym (last_server-take handler_side first both.states n) ∙ ap (λ l. last_server opening.server (take n l)) both.handlers));
+      stands = subst (λ (s : HandlerState). Stands s.image last) (sym h.closing_server) both.stands;
+      validated = ap (λ (s : HandlerState). s.was_validated) h.closing_server ∙ both.validated;
     }
 
 pub lists_follow_trees : ListsFollowTrees
 lists_follow_trees t opening clients served unanswered closing stood h =
-    let trees : TreeRun opening t served h.meaning.0 = tree_run opening t stood served h.meaning.0 h.meaning.1 in
-    let last : TreeState = last_server (state_of t opening) trees.states in
-    let session : last.session ≡ closing.session = trees.session ∙ ap (λ (s : HandlerState). s.session) h.meaning.2 in
+    let both : BothRun opening t served h.meaning.0 = both_run opening t stood served h.meaning.0 h.meaning.1 in
+    let last : Tree = (last_server (beside t opening) both.states).tree in
     record {
-      last_tree = last.tree;
+      last_tree = last;
       lawful = record {
-        meaning = (trees.states, trees.run, λ i. record { tree = last.tree; session = session i });
+        meaning = (both.states, both.run, sym (last_beside opening t served h.meaning.0 both) ∙ ap (beside last) h.meaning.2);
         each_put = h.each_put;
         each_reply = h.each_reply;
         known = h.known;
       };
-      stands = subst (λ (s : HandlerState). Stands s.image last.tree) h.meaning.2 trees.stands;
-      validated = sym (ap (λ (s : HandlerState). s.was_validated) h.meaning.2) ∙ trees.validated;
+      stands = subst (λ (s : HandlerState). Stands s.image last) h.meaning.2 both.stands;
+      validated = sym (ap (λ (s : HandlerState). s.was_validated) h.meaning.2) ∙ both.validated;
     }
+
+-- what is served side by side is served on each side
+abbrev on_tree : (old new : BothSides) (packet : Packet) (moment : Date3) (answer : Answer) → ServesBoth old packet moment new answer → means (tree_side old) packet moment (tree_side new) answer
+on_tree old new packet moment answer given = given.means
+
+abbrev on_handler : (old new : BothSides) (packet : Packet) (moment : Date3) (answer : Answer) → ServesBoth old packet moment new answer → HandlerGives old.handler packet moment new.handler answer
+on_handler old new packet moment answer given = given.gives
+
+pub handlers_run : (opening : BothSides) (served : List (Serving Packet Date3 Answer)) (states : List BothSides) → Run ServesBoth opening served states → Run HandlerGives opening.handler served (handlers_of states)
+handlers_run opening served states run = run-map handler_side ServesBoth HandlerGives on_handler opening served states run
+
+pub each_side_is_a_history : EachSideIsAHistory
+each_side_is_a_history t opening steps outcomes closing follows =
+    let h : PortHistory ServesBoth both_died (port_beside t opening) steps outcomes (port_beside follows.last_tree closing) = follows.history in
+    let first : BothSides = beside t opening.server in (
+      other_servers ServesBoth both_died means tree_died (port_beside t opening) steps outcomes (port_beside follows.last_tree closing) h
+          (tree_side first) (with_tree follows.last_tree closing.server) (map tree_side h.servers)
+          (run-map tree_side ServesBoth means on_tree first h.served h.servers h.meaning)
+          (ap tree_side h.closing_server ∙ last_server-map tree_side first h.servers)
+          (λ n. ap tree_died (last_server-take tree_side first h.servers n)),
+      other_servers ServesBoth both_died HandlerGives handler_died (port_beside t opening) steps outcomes (port_beside follows.last_tree closing) h
+          opening.server closing.server (handlers_of h.servers)
+          (handlers_run first h.served h.servers h.meaning)
+          (ap handler_side h.closing_server ∙ last_server-map handler_side first h.servers)
+          (λ n. ap handler_died (last_server-take handler_side first h.servers n)),
+    )
+
+pub each_side_is_lawful : EachSideIsLawful
+each_side_is_lawful t opening clients served unanswered closing follows =
+    let h : Lawful ServesBoth (beside t opening) clients served unanswered (beside follows.last_tree closing) = follows.lawful in
+    let first : BothSides = beside t opening in (
+      record {
+        meaning = (map tree_side h.meaning.0, run-map tree_side ServesBoth means on_tree first served h.meaning.0 h.meaning.1, sym (last_server-map tree_side first h.meaning.0) ∙ ap tree_side h.meaning.2);
+        each_put = h.each_put;
+        each_reply = h.each_reply;
+        known = h.known;
+      },
+      record {
+        meaning = (handlers_of h.meaning.0, handlers_run first served h.meaning.0 h.meaning.1, sym (last_server-map handler_side first h.meaning.0) ∙ ap handler_side h.meaning.2);
+        each_put = h.each_put;
+        each_reply = h.each_reply;
+        known = h.known;
+      },
+    )

@@ -1,19 +1,19 @@
--- Once a handler has died nothing is accepted or changed.
-use Rattle.std.proofs.Common.{◌≡◌, ◌≢◌, ℕ, zero, suc, ◌+◌, pos, Bool, true, false, List, [], ◌∷◌, take, drop, slice_get, MatchOption, arith, refl, sym, ap, ◌∙◌, inl}
+-- Once a handler has died each packet is refused and nothing is changed.
+use Rattle.std.proofs.Common.{◌≡◌, ◌≢◌, ℕ, zero, suc, ◌+◌, pos, Bool, true, false, List, [], ◌∷◌, take, drop, slice_get, Some, MatchOption, arith, refl, sym, ap, ◌∙◌, subst, inl}
 use Rattle.std.specs.Prelude.{All}
 use Rattle.std.proofs.lemmas.List.Elements.{All-nil, All-cons}
+use Rattle.std.proofs.lemmas.Option.{none-some, same_Some}
 use Rattle.ados_name.specs.declared.Date3.{Date3}
 use Rattle.ados_tree.specs.Tree.{Tree}
-use Rattle.ados_port.specs.History.{Event, Serving, Run, last_server, events_of, served_count}
-use Rattle.ados_port.proofs.Closing.{closed_after_death}
+use Rattle.ados_port.specs.History.{Serving, Run, last_server}
 use Rattle.ados_packet.specs.declared.packet.Packet.{Packet}
 use Rattle.ados_packet.specs.declared.answer.Answer.{Answer}
 use Rattle.ados_packet.specs.declared.dos_error.DosError.TheVariants.{DeviceNotMounted}
 use Rattle.ados_handler.specs.Session.{Session}
 use Rattle.ados_handler.specs.Refusals.{first_refusal, refuse, refusals}
-use Rattle.ados_handler.specs.Meaning.{Meaning, IsRefused, ServedOrNoMemory, is_number}
+use Rattle.ados_handler.specs.Meaning.{Meaning, IsRefused, ServedOrNoMemory, is_closing, is_number}
 use Rattle.ados_handler.specs.Handler.{HandlerState, HandlerGives}
-use Rattle.ados_handler.specs.steps.Closes.{serves_dead}
+use Rattle.ados_handler.specs.steps.Closes.{serves_closing}
 use Rattle.ados_handler.proofs.Holding.{true_false}
 use Rattle.ados_run.specs.TreePort.{handler_died}
 use Rattle.ados_run.specs.Rests.{IsTooLate, handler_after, RestsAfter}
@@ -29,13 +29,23 @@ dead_refused t u s v packet now answer dead means = go s.died dead means
     go true e refused = refused
     go false e other = absurd (true_false (sym e))
 
+-- where no packet was served the handler is the old one
+last_of_none : (old : HandlerState) (n : ℕ) → last_server old (take n []) ≡ old
+last_of_none old zero = refl
+last_of_none old (suc n) = refl
+
 -- what a dead handler serves: all is too late, and no byte changes
 record DeadRun (old : HandlerState) (served : List (Serving Packet Date3 Answer)) (servers : List HandlerState) : Type 0 where
   too_late : All IsTooLate served
-  image : (last_server old servers).image ≡ old.image
+  image : (n : ℕ) → (last_server old (take n servers)).image ≡ old.image
+
+image_behind : (old new : HandlerState) (servers : List HandlerState) → new.image ≡ old.image → ((n : ℕ) → (last_server new (take n servers)).image ≡ new.image)
+    → (n : ℕ) → (last_server old (take n (new ∷ servers))).image ≡ old.image
+image_behind old new servers same later zero = refl
+image_behind old new servers same later (suc n) = later n ∙ same
 
 dead_run : (old : HandlerState) (served : List (Serving Packet Date3 Answer)) (servers : List HandlerState) → handler_died old ≡ true → Run HandlerGives old served servers → DeadRun old served servers
-dead_run old [] [] dead run = record { too_late = All-nil IsTooLate; image = refl }
+dead_run old [] [] dead run = record { too_late = All-nil IsTooLate; image = λ n. ap (λ (s : HandlerState). s.image) (last_of_none old n) }
 dead_run old [] (new ∷ servers) dead run = elim run [ ]
 dead_run old (s ∷ served) [] dead run = elim run [ ]
 dead_run old (s ∷ served) (new ∷ servers) dead run =
@@ -43,7 +53,7 @@ dead_run old (s ∷ served) (new ∷ servers) dead run =
     let refused = dead_refused first.old_tree first.new_tree old.session new.session s.packet s.moment s.answer dead first.means in
     let failed : s.answer.res2 ≢ pos 0 = λ zero_res2. true_false (ap (is_number 0) (sym zero_res2 ∙ ap (λ (a : Answer). a.res2) refused.answered)) in
     let rest : DeadRun new served servers = dead_run new served servers (ap (λ (v : Session). v.died) refused.session ∙ dead) run.1 in
-    record { too_late = All-cons IsTooLate s served refused.answered rest.too_late; image = rest.image ∙ first.leaves.rest (inl failed) }
+    record { too_late = All-cons IsTooLate s served refused.answered rest.too_late; image = image_behind old new servers (first.leaves.rest (inl failed)) rest.image }
 
 -- a run from its first packets on
 run_from : (old : HandlerState) (served : List (Serving Packet Date3 Answer)) (servers : List HandlerState) → Run HandlerGives old served servers
@@ -55,31 +65,36 @@ run_from old (s ∷ served) [] run n = elim run [ ]
 run_from old (s ∷ served) (new ∷ servers) run zero = run
 run_from old (s ∷ served) (new ∷ servers) run (suc n) = run_from new served servers run.1 n
 
-last_from : (old : HandlerState) (servers : List HandlerState) (n : ℕ) → last_server (last_server old (take n servers)) (drop n servers) ≡ last_server old servers
-last_from old [] zero = refl
-last_from old [] (suc n) = refl
-last_from old (new ∷ servers) zero = refl
-last_from old (new ∷ servers) (suc n) = last_from new servers n
+last_from : (old : HandlerState) (servers : List HandlerState) (n m : ℕ) → last_server (last_server old (take n servers)) (take m (drop n servers)) ≡ last_server old (take (n + m) servers)
+last_from old servers zero m = let same : m ≡ 0 + m = omega arith in ap (λ k. last_server old (take k servers)) same
+last_from old [] (suc n) m = last_of_none old m ∙ sym (last_of_none old (suc n + m))
+last_from old (new ∷ servers) (suc n) m =
+    let more : suc (n + m) ≡ suc n + m = omega arith in
+    last_from new servers n m ∙ ap (λ k. last_server old (take k (new ∷ servers))) more
 
-slice_get-drop : {A : Type 0} (xs : List A) (n k : ℕ) → slice_get (drop n xs) k ≡ slice_get xs (n + k)
-slice_get-drop xs zero k = ap (slice_get xs) (omega arith)
-slice_get-drop [] (suc n) k = refl
-slice_get-drop (x ∷ xs) (suc n) k =
-    let e : suc (n + k) ≡ suc n + k = omega arith in
-    slice_get-drop xs n k ∙ ap (slice_get (x ∷ xs)) e
+-- behind an answer that closes the handler has died
+dead_behind : (old : HandlerState) (served : List (Serving Packet Date3 Answer)) (servers : List HandlerState) → Run HandlerGives old served servers
+    → (place : ℕ) (s : Serving Packet Date3 Answer) → slice_get served place ≡ Some s → is_closing s.answer ≡ true → handler_died (last_server old (take (suc place) servers)) ≡ true
+dead_behind old [] servers run place s at closes = absurd (none-some s at)
+dead_behind old (first ∷ served) [] run place s at closes = elim run [ ]
+dead_behind old (first ∷ served) (new ∷ servers) run zero s at closes =
+    let same : first ≡ s = same_Some first s at in
+    serves_closing old new first.packet first.moment first.answer run.0 (ap (λ (x : Serving Packet Date3 Answer). is_closing x.answer) same ∙ closes)
+dead_behind old (first ∷ served) (new ∷ servers) run (suc place) s at closes = dead_behind new served servers run.1 place s at closes
 
 pub dead_handlers_rest : DeadHandlersRest
-dead_handlers_rest opening steps outcomes closing h = record { history = h; rests = rests }
+dead_handlers_rest opening served servers run = record {
+  dead = rests;
+  closing = λ place s at closes.
+      let next : suc place ≡ place + 1 = omega arith in
+      rests (place + 1) (subst (λ n. handler_died (handler_after opening served servers n) ≡ true) next (dead_behind opening served servers run place s at closes));
+}
   where
-    rests : (count : ℕ) → handler_died (handler_after h count) ≡ true → RestsAfter h count
+    rests : (count : ℕ) → handler_died (handler_after opening served servers count) ≡ true → RestsAfter opening served servers count
     rests count dead =
-        let events : List (Event Packet Date3 Answer) = events_of steps outcomes in
-        let n : ℕ = served_count (take count events) in
-        let behind : DeadRun (handler_after h count) (drop n h.served) (drop n h.servers) =
-        dead_run (handler_after h count) (drop n h.served) (drop n h.servers) dead (run_from opening.server h.served h.servers h.meaning n) in
+        let behind : DeadRun (handler_after opening served servers count) (drop count served) (drop count servers) =
+        dead_run (handler_after opening served servers count) (drop count served) (drop count servers) dead (run_from opening served servers run count) in
         record {
-          closed = λ k client packet outcome c at_k found.
-              closed_after_death HandlerGives handler_died serves_dead opening steps outcomes closing h count (count + k) client packet outcome c (omega arith) dead (sym (slice_get-drop events count k) ∙ at_k) found;
           too_late = behind.too_late;
-          image = ap (λ (s : HandlerState). s.image) (h.closing_server ∙ sym (last_from opening.server h.servers n)) ∙ behind.image;
+          image = λ more. ap (λ (s : HandlerState). s.image) (sym (last_from opening servers count more)) ∙ behind.image more;
         }

@@ -9,13 +9,16 @@ use Rattle.ados_port.specs.Port.{PortState, opening_port}
 use Rattle.ados_port.specs.History.{PortHistory}
 use Rattle.ados_port.specs.Step.{Step}
 use Rattle.ados_port.specs.Outcome.{Outcome}
+use Rattle.ados_port.proofs.Closing.{closed_after_death}
 use Rattle.ados_packet.specs.declared.packet.Packet.{Packet}
 use Rattle.ados_packet.specs.declared.answer.Answer.{Answer}
 use Rattle.ados_handler.specs.Session.{opening_session}
 use Rattle.ados_handler.specs.Handler.{HandlerState, HandlerGives}
+use Rattle.ados_handler.specs.steps.Closes.{serves_dead}
 use Rattle.ados_run.specs.TreePort.{handler_died}
+use Rattle.ados_run.specs.SideBySide.{BothSides, FollowsTree, ServesBoth, beside, both_died, handler_over, handlers_of, port_beside}
 use Rattle.ados_run.specs.Runs.{RunsVolume, port_over}
-use Rattle.ados_run.proofs.Following.{histories_follow_trees}
+use Rattle.ados_run.proofs.Following.{handlers_run, histories_follow_trees}
 use Rattle.ados_run.proofs.Resting.{dead_handlers_rest}
 
 -- an accepted image stands for a tree
@@ -28,6 +31,10 @@ pub opening_handler : (handler : HandlerState) (image : List ℕ) (was_validated
     → handler ≡ record { image = image; was_validated = was_validated; session = opening_session }
 opening_handler handler image was_validated i v s j = record { image = i j; was_validated = v j; session = s j }
 
+-- a handler that died stays dead, with its tree beside it
+both_stay_dead : (old new : BothSides) (packet : Packet) (moment : Date3) (answer : Answer) → ServesBoth old packet moment new answer → both_died old ≡ true → both_died new ≡ true
+both_stay_dead old new packet moment answer given dead = serves_dead old.handler new.handler packet moment answer given.gives dead
+
 pub runs_volume : (image : List ℕ) (clients : ℕ) (steps : List (Step Packet Date3)) (outcomes : List (Outcome Packet Answer)) (closing : PortState HandlerState Packet Answer)
     (checked : List ℕ) (was_validated : Bool) → Accepts image was_validated checked
     → (handler : HandlerState) → handler ≡ record { image = checked; was_validated = was_validated; session = opening_session }
@@ -38,6 +45,8 @@ runs_volume image clients steps outcomes closing checked was_validated accepted 
     let from_first : PortHistory HandlerGives handler_died first steps outcomes closing =
     subst (λ (p : PortState HandlerState Packet Answer). PortHistory HandlerGives handler_died p steps outcomes closing) (opened ∙ ap (λ (s : HandlerState). opening_port s clients) is) h in
     let (t, stood) = accepted_tree image checked was_validated accepted in
+    let follows : FollowsTree t first steps outcomes closing = histories_follow_trees t first steps outcomes closing stood from_first in
+    let both : BothSides = beside t (handler_over checked was_validated) in
     record {
       checked = checked;
       was_validated = was_validated;
@@ -45,6 +54,7 @@ runs_volume image clients steps outcomes closing checked was_validated accepted 
       tree = t;
       stands = stood;
       only = λ other stands. one_tree checked other t stands stood;
-      follows = histories_follow_trees t first steps outcomes closing stood from_first;
-      dies = dead_handlers_rest first steps outcomes closing from_first;
+      follows = follows;
+      closed = closed_after_death ServesBoth both_died both_stay_dead (port_beside t first) steps outcomes (port_beside follows.last_tree closing) follows.history;
+      rests = dead_handlers_rest both.handler follows.history.served (handlers_of follows.history.servers) (handlers_run both follows.history.served follows.history.servers follows.history.meaning);
     }

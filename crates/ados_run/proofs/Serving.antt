@@ -1,5 +1,5 @@
 -- Scripts over the volume of a handler, from what the port's ends tell.
-use Rattle.std.proofs.Common.{◌≡◌, ℕ, zero, suc, ◌<◌, ◌≤◌, Bool, List, [], ◌∷◌, ◌++◌, length, map, get_or, Some, None, slice_get, arith, refl, sym, ap, ◌∙◌, subst, ⊎_elim}
+use Rattle.std.proofs.Common.{◌≡◌, ℕ, zero, suc, ◌+◌, ◌<◌, ◌≤◌, Bool, List, [], ◌∷◌, ◌++◌, length, map, get_or, Some, None, slice_get, arith, refl, sym, ap, ◌∙◌, subst, ⊎_elim}
 use Rattle.std.specs.Prelude.{Vec}
 use Rattle.std.specs.declared.alloc.Global.{Global}
 use Rattle.std.proofs.lemmas.List.{length-map}
@@ -12,9 +12,10 @@ use Rattle.ados_tree.proofs.OneTree.{one_tree}
 use Rattle.ados_port.specs.Lawful.{ClientLists, Lawful}
 use Rattle.ados_port.specs.Serving.{Serving}
 use Rattle.ados_port.specs.Reply.{Reply}
-use Rattle.ados_port.specs.Ends.{ClientView, HandlerView, AreEnds, IsNew, Serves}
+use Rattle.ados_port.specs.Ends.{ClientView, HandlerView, AreEnds, CloseMeansDeath, IsNew, Serves}
 use Rattle.ados_port.specs.Gathering.{all_lists, lists_of}
 use Rattle.ados_port.proofs.Gathers.{get_map}
+use Rattle.ados_port.proofs.Replayed.{lists_have_a_history}
 use Rattle.ados_packet.specs.declared.packet.Packet.{Packet}
 use Rattle.ados_packet.specs.declared.answer.Answer.{Answer}
 use Rattle.ados_handler.specs.Session.{opening_session}
@@ -22,8 +23,13 @@ use Rattle.ados_handler.specs.Handler.{HandlerState, HandlerGives}
 use Rattle.adf_script.specs.declared.ending.ClientEnding.{ClientEnding}
 use Rattle.adf_script.specs.Spoken.{Spoken}
 use Rattle.adf_clients.specs.Scripts.{Tells, EachTells}
+use Rattle.ados_run.specs.TreePort.{handler_died}
+use Rattle.ados_run.specs.SideBySide.{ServesBoth, beside, both_died, handler_over, handlers_of}
+use Rattle.ados_run.specs.TreeLists.{ListsFollowTree}
 use Rattle.ados_run.specs.ServesVolume.{EachSpeaks, ServesVolume}
-use Rattle.ados_run.proofs.Following.{lists_follow_trees}
+use Rattle.ados_run.proofs.Closed.{spoken_closed}
+use Rattle.ados_run.proofs.Following.{handlers_run, lists_follow_trees}
+use Rattle.ados_run.proofs.Resting.{dead_handlers_rest}
 
 -- an end with its script, and with what it told
 abbrev Given : Type 0
@@ -60,10 +66,10 @@ given_at given place script at =
     (λ (e : (length given ≤ place) × (slice_get given place ≡ None)). let far = e.0 in absurd (omega (arith, within, as_long, far)))
     (slice_get_cases given place).1
 
-each_speaks : (h : HandlerView HandlerState Packet Date3 Answer) (given : List Given) (done : List Done) (untaken : List (Vec (Reply Answer) Global))
-    → EachTells given done → AreEnds h (ends_of done) → length untaken ≡ length (ends_of done)
-    → EachSpeaks (map (λ g. g.1) given) (all_lists (ends_of done) untaken) (map (λ d. d.1) done)
-each_speaks h given done untaken tells ends long =
+each_speaks : (h : HandlerView HandlerState Packet Date3 Answer) (given : List Given) (done : List Done) (untaken : List (Vec (Reply Answer) Global)) (died : Bool)
+    → EachTells given done → AreEnds h (ends_of done) → length untaken ≡ length (ends_of done) → CloseMeansDeath (ends_of done) died
+    → EachSpeaks (map (λ g. g.1) given) (all_lists (ends_of done) untaken) died (map (λ d. d.1) done)
+each_speaks h given done untaken died tells ends long closed =
     let as_many : length done ≡ length (map (λ (g : Given). g.1) given) = tells.0 ∙ sym (length-map given (λ g. g.1)) in (
       as_many_lists (ends_of done) untaken long ∙ (length-map done (λ d. d.0) ∙ as_many),
       length-map done (λ d. d.1) ∙ as_many,
@@ -76,10 +82,10 @@ each_speaks h given done untaken tells ends long =
           let spoken : Spoken d.0.0.number script lists.put lists.taken d.0.0.knows d.0.1.0 d.0.1.1 = subst (λ s. Tells s d.0.0 d.0.1.0 d.0.1.1) g.2 d.3 in (
             lists,
             d.0.1,
-            d.0.0.knows,
             u.1,
             get_map (λ (d : Done). d.1) done place d.0 d.1,
-            subst (λ (n : ℕ). Spoken n script lists.put lists.taken d.0.0.knows d.0.1.0 d.0.1.1) (ends.1 place d.0.0 end_at).2 spoken,
+            spoken_closed (place + 1) script lists.put lists.taken d.0.1.0 d.0.1.1 d.0.0.knows died (closed place d.0.0 end_at)
+                (subst (λ (n : ℕ). Spoken n script lists.put lists.taken d.0.0.knows d.0.1.0 d.0.1.1) (ends.1 place d.0.0 end_at).2 spoken),
           ),
     )
 
@@ -93,9 +99,10 @@ module _ {C D : Type 0} (end_of : C → ClientView Packet Date3 Answer) (script_
       → scripts ≡ map script_of clients → ends ≡ map client_of done → told ≡ map told_of done
       → EachTells (map (λ c. (end_of c, script_of c)) clients) (map (λ d. (client_of d, told_of d)) done) → AreEnds last ends → length untaken ≡ length ends
       → Lawful HandlerGives last.opening (all_lists ends untaken) last.served unanswered closing
+      → CloseMeansDeath ends (handler_died closing)
       → ServesVolume image was_validated scripts moment told closing
-  serves_volume image was_validated moment opening first last served clients done scripts ends told untaken unanswered closing stood is new serves are_scripts are_ends are_told tells all_ends long lawful =
-      let start : HandlerState = record { image = image; was_validated = was_validated; session = opening_session } in
+  serves_volume image was_validated moment opening first last served clients done scripts ends told untaken unanswered closing stood is new serves are_scripts are_ends are_told tells all_ends long lawful closed =
+      let start : HandlerState = handler_over image was_validated in
       let opened : last.opening ≡ start = serves.opening ∙ (new.0 ∙ is) in
       let all_served : last.served ≡ served = serves.served_more ∙ ap (λ l. l ++ served) new.2 in
       let given : List Given = map (λ c. (end_of c, script_of c)) clients in
@@ -103,8 +110,11 @@ module _ {C D : Type 0} (end_of : C → ClientView Packet Date3 Answer) (script_
       let scripts_are : map (λ (g : Given). g.1) given ≡ scripts = map-map (λ (g : Given). g.1) (λ c. (end_of c, script_of c)) clients ∙ sym are_scripts in
       let ends_are : ends_of dones ≡ ends = map-map (λ (d : Done). d.0) (λ d. (client_of d, told_of d)) done ∙ sym are_ends in
       let told_are : map (λ (d : Done). d.1) dones ≡ told = map-map (λ (d : Done). d.1) (λ d. (client_of d, told_of d)) done ∙ sym are_told in
-      let speaks : EachSpeaks (map (λ (g : Given). g.1) given) (all_lists (ends_of dones) untaken) (map (λ (d : Done). d.1) dones) =
-      each_speaks last given dones untaken tells (subst (λ l. AreEnds last l) (sym ends_are) all_ends) (long ∙ ap (λ (l : List (ClientView Packet Date3 Answer)). length l) (sym ends_are)) in
+      let speaks : EachSpeaks (map (λ (g : Given). g.1) given) (all_lists (ends_of dones) untaken) (handler_died closing) (map (λ (d : Done). d.1) dones) =
+      each_speaks last given dones untaken (handler_died closing) tells (subst (λ l. AreEnds last l) (sym ends_are) all_ends) (long ∙ ap (λ (l : List (ClientView Packet Date3 Answer)). length l) (sym ends_are)) (subst (λ l. CloseMeansDeath l (handler_died closing)) (sym ends_are) closed) in
+      let follows : ListsFollowTree stood.0 start (all_lists ends untaken) served unanswered closing =
+      lists_follow_trees stood.0 start (all_lists ends untaken) served unanswered closing stood.1
+      (subst (λ (z : HandlerState × List (Serving Packet Date3 Answer)). Lawful HandlerGives z.0 (all_lists ends untaken) z.1 unanswered closing) (λ i. (opened i, all_served i)) lawful) in
       record {
         tree = stood.0;
         stands = stood.1;
@@ -112,8 +122,9 @@ module _ {C D : Type 0} (end_of : C → ClientView Packet Date3 Answer) (script_
         clients = all_lists ends untaken;
         served = served;
         unanswered = unanswered;
-        speaks = subst (λ (z : List (List ℕ) × (List (ClientView Packet Date3 Answer) × List (List ℕ × ClientEnding))). EachSpeaks z.0 (all_lists z.1.0 untaken) z.1.1) (λ i. (scripts_are i, (ends_are i, told_are i))) speaks;
+        speaks = subst (λ (z : List (List ℕ) × (List (ClientView Packet Date3 Answer) × List (List ℕ × ClientEnding))). EachSpeaks z.0 (all_lists z.1.0 untaken) (handler_died closing) z.1.1) (λ i. (scripts_are i, (ends_are i, told_are i))) speaks;
         moments = serves.moments;
-        follows = lists_follow_trees stood.0 start (all_lists ends untaken) served unanswered closing stood.1
-            (subst (λ (z : HandlerState × List (Serving Packet Date3 Answer)). Lawful HandlerGives z.0 (all_lists ends untaken) z.1 unanswered closing) (λ i. (opened i, all_served i)) lawful);
+        follows = follows;
+        history = (lists_have_a_history ServesBoth both_died (beside stood.0 start) (all_lists ends untaken) served unanswered (beside follows.last_tree closing) refl).0 follows.lawful;
+        rests = dead_handlers_rest start served (handlers_of follows.lawful.meaning.0) (handlers_run (beside stood.0 start) served follows.lawful.meaning.0 follows.lawful.meaning.1);
       }

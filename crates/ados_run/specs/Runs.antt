@@ -1,28 +1,24 @@
 -- What a run of port steps over an image comes to.
 use Rattle.std.specs.Prelude.{◌≡◌, ℕ, Bool, List}
-use Rattle.ados_name.specs.declared.Date3.{Date3}
 use Rattle.ados_tree.specs.Tree.{Tree}
 use Rattle.ados_tree.specs.Stands.{Stands}
 use Rattle.ados_tree.specs.Accepted.{Accepts, IsRefusal}
-use Rattle.ados_port.specs.Port.{PortState, opening_port}
-use Rattle.ados_port.specs.Step.{Step}
-use Rattle.ados_port.specs.Outcome.{Outcome}
-use Rattle.ados_packet.specs.declared.packet.Packet.{Packet}
-use Rattle.ados_packet.specs.declared.answer.Answer.{Answer}
-use Rattle.ados_handler.specs.Session.{opening_session}
-use Rattle.ados_handler.specs.Handler.{HandlerState}
-use Rattle.ados_run.specs.TreePort.{FollowsTree}
+use Rattle.ados_port.specs.Port.{opening_port}
+use Rattle.ados_port.specs.Closing.{ClosedOnceDead}
+use Rattle.ados_run.specs.TreePort.{HandlerPort, PacketOutcomes, PacketSteps}
+use Rattle.ados_run.specs.SideBySide.{FollowsTree, handler_over, handlers_of}
 use Rattle.ados_run.specs.Rests.{RestsOnceDead}
 use Rattle.ados_run.specs.declared.run.RunFault.{RunFault}
 use Rattle.ados_run.specs.declared.run.RunFault.TheVariants.{Rejected, NoMemory}
 
--- a port with so many clients to a handler over this image: nothing is held, it has not died, and nothing was put
-abbrev pub port_over : List ℕ → Bool → ℕ → PortState HandlerState Packet Answer
-port_over image was_validated clients = opening_port (record { image = image; was_validated = was_validated; session = opening_session }) clients
+-- a port with so many clients to a handler over this image, where nothing was put
+abbrev pub port_over : List ℕ → Bool → ℕ → HandlerPort
+port_over image was_validated clients = opening_port (handler_over image was_validated) clients
 
 -- The image is accepted, as it is or with its bitmap written anew, and then stands for exactly one tree. At a port over it
--- the steps followed that tree, and once the handler had died nothing was accepted or changed.
-pub record RunsVolume (image : List ℕ) (clients : ℕ) (steps : List (Step Packet Date3)) (outcomes : List (Outcome Packet Answer)) (closing : PortState HandlerState Packet Answer) : Type 0 where
+-- image and tree followed the steps side by side; once the handler had died each put was refused as closed, each packet was
+-- refused, and no byte changed
+pub record RunsVolume (image : List ℕ) (clients : ℕ) (steps : PacketSteps) (outcomes : PacketOutcomes) (closing : HandlerPort) : Type 0 where
   pub checked : List ℕ
   pub was_validated : Bool
   pub accepted : Accepts image was_validated checked
@@ -30,7 +26,8 @@ pub record RunsVolume (image : List ℕ) (clients : ℕ) (steps : List (Step Pac
   pub stands : Stands checked tree
   pub only : (other : Tree) → Stands checked other → other ≡ tree
   pub follows : FollowsTree tree (port_over checked was_validated clients) steps outcomes closing
-  pub dies : RestsOnceDead (port_over checked was_validated clients) steps outcomes closing
+  pub closed : ClosedOnceDead follows.history
+  pub rests : RestsOnceDead (handler_over checked was_validated) follows.history.served (handlers_of follows.history.servers)
 
 -- The image is handed back: as it was, with a fault that it shows, or, where there was no memory for the run, as it was accepted
 abbrev pub IsRunFault : List ℕ → RunFault → Type 0

@@ -1,7 +1,8 @@
 //! Laws over the definitions, each as the contract of a function that does nothing.
-ghost use Rattle.ados_run.specs.Laws.{DeadHandlersRest, HistoriesFollowTrees, LinesOverTreesAreOneRun, ListsFollowTrees, TreesReadBack};
+ghost use Rattle.ados_run.specs.Laws.{DeadHandlersRest, EachSideIsAHistory, EachSideIsLawful, HistoriesFollowTrees};
+ghost use Rattle.ados_run.specs.Laws.{LinesOverTreesAreOneRun, ListsFollowTrees, TreesReadBack};
 
-/// What happens at a handler's port is what happens to the tree that its image stands for.
+/// What happens at a handler's port happens side by side to its image and to the tree that the image stands for.
 pub fn histories_follow_trees()
     ensures { HistoriesFollowTrees }
 {}
@@ -11,7 +12,17 @@ pub fn lists_follow_trees()
     ensures { ListsFollowTrees }
 {}
 
-/// A handler that died accepts and changes nothing.
+/// What happens to image and tree side by side is a history of the tree alone, and one of the handler alone.
+pub fn each_side_is_a_history()
+    ensures { EachSideIsAHistory }
+{}
+
+/// The same of what the ends of a running port tell.
+pub fn each_side_is_lawful()
+    ensures { EachSideIsLawful }
+{}
+
+/// A handler that died refuses each packet and changes nothing. That its port accepts none is `ados_port::closed_after_death`.
 pub fn dead_handlers_rest()
     ensures { DeadHandlersRest }
 {}

@@ -7,8 +7,8 @@ mod run;
 mod serve;
 
 pub use laws::{
-    dead_handlers_rest, histories_follow_trees, lines_over_trees_are_one_run, lists_follow_trees,
-    trees_read_back,
+    dead_handlers_rest, each_side_is_a_history, each_side_is_lawful, histories_follow_trees,
+    lines_over_trees_are_one_run, lists_follow_trees, trees_read_back,
 };
 pub use run::{RunFault, run_volume};
 pub use serve::{VolumeServed, serve_volume};

@@ -140,17 +140,17 @@ module _ (image : List ℕ) (are : AreWhole image) where
   no_bad_count block (Faults.HasBadCount.wrong_size {blocks = blocks} h n) =
       let f = are.file block h.is_file in
       n (ap length (data_same block f blocks h) ∙ f.whole.data_fits ∙ ap (data_count (format_of image)) (sym f.whole.holds.size))
-  no_bad_count block (Faults.HasBadCount.held_not_full {file = file} {i = i} {blocks = blocks} o h l n) =
-      let d = known_data file i block blocks h in
-      let more : i + 1 < length d.of_file.blocks = subst (λ (xs : List ℕ). i + 1 < length xs) d.same l in
-      n ((ofs_fields o file i block blocks d).held ∙ omega (arith, more, ofs_count o file d.of_file))
+  no_bad_count block (Faults.HasBadCount.held_not_full o h n) =
+      let d = known_data h.file h.i block h.blocks h.at in
+      let more : h.i + 1 < length d.of_file.blocks = subst (λ (xs : List ℕ). h.i + 1 < length xs) d.same h.followed in
+      n ((ofs_fields o h.file h.i block h.blocks d).held ∙ omega (arith, more, ofs_count o h.file d.of_file))
   no_bad_count block (Faults.HasBadCount.held_none {file = file} {i = i} {blocks = blocks} o h z) =
       let d = known_data file i block blocks h in
       omega (arith, (ofs_fields o file i block blocks d).held, z, d.within, ofs_count o file d.of_file)
   no_bad_count block (Faults.HasBadCount.held_over {file = file} {i = i} {blocks = blocks} o h l) =
       let d = known_data file i block blocks h in
       omega (arith, (ofs_fields o file i block blocks d).held, l)
-  no_bad_count block (Faults.HasBadCount.wrong_sum {blocks = blocks} o h inside n) =
-      let f = are.file block h.is_file in
+  no_bad_count block (Faults.HasBadCount.wrong_sum o h) =
+      let f = are.file block h.of_file.is_file in
       let sum = held_sum (held_count image) f.blocks (length f.bytes) (λ i l. (f.whole.holds.ofs_data (ofs o) i l).held) (omega (arith, ofs_count o block f)) in
-      n (ap (sum_by (held_count image)) (data_same block f blocks h) ∙ sum ∙ sym f.whole.holds.size)
+      h.wrong (ap (sum_by (held_count image)) (data_same block f h.blocks h.of_file) ∙ sum ∙ sym f.whole.holds.size)

@@ -246,7 +246,7 @@ module _ (image : List ℕ) (t : Tree) (s : Stands image t) where
       )
 
   none_used_twice : (block : ℕ) → Faults.IsUsedTwice image block → ⊥
-  none_used_twice block (Faults.IsUsedTwice.two_holders {holder = a} {other = b} {i = i} {j = j} inside m n d) = d (one_holder block a b i j m n).0
+  none_used_twice block (Faults.IsUsedTwice.two_holders {holder = a} {other = b} inside m n d) = d (one_holder block a b m.0 n.0 m.1 n.1).0
   none_used_twice block (Faults.IsUsedTwice.two_longs {holder = a} {i = i} {j = j} inside m n d) = d (one_holder block a a i j m n).1
   none_used_twice block (Faults.IsUsedTwice.root_named {holder = a} {i = i} e n) =
       let b = target a i block n in

@@ -20,6 +20,26 @@ root_of image = root_key (block_count image)
 abbrev pub InImage : List ℕ → ℕ → Type 0
 InImage image block = IsInside (block_count image) block
 
+-- long i of the block names a block of the image
+abbrev pub LeadsInside : List ℕ → ℕ → ℕ → Type 0
+LeadsInside image block i = InImage image (long image block i)
+
+-- the header is that of a directory
+abbrev pub HasDirectoryType : List ℕ → ℕ → Type 0
+HasDirectoryType image block = secondary_type image block ≡ directory_type
+
+-- the header is that of a file
+abbrev pub HasFileType : List ℕ → ℕ → Type 0
+HasFileType image block = secondary_type image block ≡ file_type
+
+-- a chain begins in the slot
+abbrev pub HasChain : List ℕ → ℕ → ℕ → Type 0
+HasChain image block s = table_entry image block s ≢ 0
+
+-- an extension block follows
+abbrev pub IsContinued : List ℕ → ℕ → Type 0
+IsContinued image block = long image block next_extension ≢ 0
+
 -- a pointer stands within a count of at most 72
 abbrev pub IsPointer : List ℕ → ℕ → ℕ → Type 0
 IsPointer image block i = (i < pointer_count image block) × (pointer_count image block ≤ table_longs)
@@ -27,32 +47,34 @@ IsPointer image block i = (i < pointer_count image block) × (pointer_count imag
 -- long i of a block in a role is a place: it names a block, and gives that block its role
 pub data IsPlace (image : List ℕ) : ℕ → Role → ℕ → Role → Type 0 where
   root_page : {block i : ℕ} → i < page_count (block_count image) → IsPlace image block Root (first_page + i) Page
-  root_slot : {block s : ℕ} → s < table_longs → table_entry image block s ≢ 0 → IsPlace image block Root (first_slot + s) (Entry block s)
-  directory_slot : {block dir r s : ℕ} → secondary_type image block ≡ directory_type → s < table_longs → table_entry image block s ≢ 0 → IsPlace image block (Entry dir r) (first_slot + s) (Entry block s)
+  root_slot : {block s : ℕ} → s < table_longs → HasChain image block s → IsPlace image block Root (first_slot + s) (Entry block s)
+  directory_slot : {block dir r s : ℕ} → HasDirectoryType image block → s < table_longs → HasChain image block s
+      → IsPlace image block (Entry dir r) (first_slot + s) (Entry block s)
   next_entry : {block dir s : ℕ} → long image block next_in_chain ≢ 0 → IsPlace image block (Entry dir s) next_in_chain (Entry dir s)
-  header_pointer : {block dir s i : ℕ} → secondary_type image block ≡ file_type → IsPointer image block i → IsPlace image block (Entry dir s) (first_pointer - i) (Data block)
-  first_extension : {block dir s : ℕ} → secondary_type image block ≡ file_type → long image block next_extension ≢ 0 → IsPlace image block (Entry dir s) next_extension (Extension block)
+  header_pointer : {block dir s i : ℕ} → HasFileType image block → IsPointer image block i → IsPlace image block (Entry dir s) (first_pointer - i) (Data block)
+  first_extension : {block dir s : ℕ} → HasFileType image block → IsContinued image block → IsPlace image block (Entry dir s) next_extension (Extension block)
   extension_pointer : {block file i : ℕ} → IsPointer image block i → IsPlace image block (Extension file) (first_pointer - i) (Data file)
-  further_extension : {block file : ℕ} → long image block next_extension ≢ 0 → IsPlace image block (Extension file) next_extension (Extension file)
+  further_extension : {block file : ℕ} → IsContinued image block → IsPlace image block (Extension file) next_extension (Extension file)
 
 -- the blocks that are reached, each in a role: the root, and what a place of a reached block names
 pub data Reached (image : List ℕ) : ℕ → Role → Type 0 where
   start : Reached image (root_of image) Root
-  named : {block i : ℕ} {role next : Role} → Reached image block role → IsPlace image block role i next → InImage image (long image block i) → Reached image (long image block i) next
+  named : {block i : ℕ} {role next : Role} → Reached image block role → IsPlace image block role i next → LeadsInside image block i
+      → Reached image (long image block i) next
 
 -- an entry that is a directory
 pub record IsDirectory (image : List ℕ) (block : ℕ) : Type 0 where
   pub dir : ℕ
   pub slot_of_chain : ℕ
   pub reached : Reached image block (Entry dir slot_of_chain)
-  pub secondary : secondary_type image block ≡ directory_type
+  pub secondary : HasDirectoryType image block
 
 -- an entry that is a file
 pub record IsFile (image : List ℕ) (block : ℕ) : Type 0 where
   pub dir : ℕ
   pub slot_of_chain : ℕ
   pub reached : Reached image block (Entry dir slot_of_chain)
-  pub secondary : secondary_type image block ≡ file_type
+  pub secondary : HasFileType image block
 
 -- the block is an entry, in some slot of some directory
 abbrev pub IsEntry : List ℕ → ℕ → Type 0
@@ -77,6 +99,10 @@ LeadOn image link blocks = (i : ℕ) → i + 1 < length blocks → long image (s
 -- each block but the first is in the image
 abbrev pub FurtherAreInside : List ℕ → List ℕ → Type 0
 FurtherAreInside image blocks = (i : ℕ) → i + 1 < length blocks → InImage image (slice_index blocks (i + 1))
+
+-- the link of the data block to the next one names what stands behind place i of these, or is 0 where nothing does
+abbrev pub LinksOn : List ℕ → ℕ → List ℕ → ℕ → Type 0
+LinksOn image block blocks i = long image block next_data ≡ slice_index blocks (i + 1)
 
 -- no block stands twice
 abbrev pub AreDistinct : List ℕ → Type 0
@@ -115,12 +141,31 @@ pub record AreDataBlocks (image : List ℕ) (file : ℕ) (blocks : List ℕ) : T
   pub linked : LinkedOnce image next_extension file headers
   pub pointed : blocks ≡ flat_map (pointers_of image) headers
 
+-- how many data blocks a file of its size has
+abbrev pub count_of_size : List ℕ → ℕ → ℕ
+count_of_size image file = data_count (format_of image) (file_size image file)
+
+-- the data blocks of a file, all inside the image, hold together another number of bytes than its size
+pub record HoldsOtherSize (image : List ℕ) (file : ℕ) : Type 0 where
+  pub blocks : List ℕ
+  pub of_file : AreDataBlocks image file blocks
+  pub inside : All (InImage image) blocks
+  pub wrong : sum_by (held_count image) blocks ≢ file_size image file
+
 -- place i of the data blocks of a file is a block
 pub record IsDataAt (image : List ℕ) (file : ℕ) (blocks : List ℕ) (i block : ℕ) : Type 0 where
   pub of_file : AreDataBlocks image file blocks
   pub within : i < length blocks
   pub here : slice_index blocks i ≡ block
   pub inside : InImage image block
+
+-- a data block of a file, and not its last one
+pub record IsInnerData (image : List ℕ) (block : ℕ) : Type 0 where
+  pub file : ℕ
+  pub i : ℕ
+  pub blocks : List ℕ
+  pub at : IsDataAt image file blocks i block
+  pub followed : i + 1 < length blocks
 
 -- blocks of this role have a sum field
 abbrev pub HasSum : List ℕ → Role → Type 0
@@ -130,6 +175,10 @@ HasSum image _ = ⊤
 -- the secondary types of links: a soft link, a hard link to a directory, one to a file
 abbrev pub IsLinkType : ℕ → Type 0
 IsLinkType n = (n ≡ soft_link_type) ⊎ (n ≡ directory_link_type) ⊎ (n ≡ file_link_type)
+
+-- the header is that of a link
+abbrev pub HasLinkType : List ℕ → ℕ → Type 0
+HasLinkType image block = IsLinkType (secondary_type image block)
 
 -- a reached block with a sum field does not sum to 0
 pub record HasBadSum (image : List ℕ) (block : ℕ) : Type 0 where
@@ -144,9 +193,9 @@ pub data HasBadType (image : List ℕ) (block : ℕ) : Type 0 where
   root_table : block ≡ root_of image → long image block table_size_long ≢ table_longs → HasBadType image block
   root_secondary : block ≡ root_of image → secondary_type image block ≢ root_type → HasBadType image block
   entry_primary : IsEntry image block → primary_type image block ≢ header_type → HasBadType image block
-  entry_secondary : IsEntry image block → secondary_type image block ≢ directory_type → secondary_type image block ≢ file_type → ¬ IsLinkType (secondary_type image block) → HasBadType image block
+  entry_secondary : IsEntry image block → ¬ HasDirectoryType image block → ¬ HasFileType image block → ¬ HasLinkType image block → HasBadType image block
   extension_primary : IsExtension image block → primary_type image block ≢ list_type → HasBadType image block
-  extension_secondary : IsExtension image block → secondary_type image block ≢ file_type → HasBadType image block
+  extension_secondary : IsExtension image block → ¬ HasFileType image block → HasBadType image block
   data_primary : IsOfs image → IsData image block → primary_type image block ≢ data_type → HasBadType image block
 
 -- an entry's or extension block's own number is wrong
@@ -163,9 +212,9 @@ pub data HasBadParent (image : List ℕ) (block : ℕ) : Type 0 where
 
 -- a place holds a number outside the image; in OFS, a link from data block to data block is wrong
 pub data HasBadPointer (image : List ℕ) (block : ℕ) : Type 0 where
-  outside : {i : ℕ} {role next : Role} → Reached image block role → IsPlace image block role i next → ¬ InImage image (long image block i) → HasBadPointer image block
+  outside : {i : ℕ} {role next : Role} → Reached image block role → IsPlace image block role i next → ¬ LeadsInside image block i → HasBadPointer image block
   first_data : IsOfs image → IsFile image block → long image block next_data ≢ slice_index (pointers_of image block) 0 → HasBadPointer image block
-  further_data : {file i : ℕ} {blocks : List ℕ} → IsOfs image → IsDataAt image file blocks i block → long image block next_data ≢ slice_index blocks (i + 1) → HasBadPointer image block
+  further_data : {file i : ℕ} {blocks : List ℕ} → IsOfs image → IsDataAt image file blocks i block → ¬ LinksOn image block blocks i → HasBadPointer image block
 
 -- long i of a reached block is a place, and names the block
 pub record PlaceNames (image : List ℕ) (holder i block : ℕ) : Type 0 where
@@ -175,9 +224,13 @@ pub record PlaceNames (image : List ℕ) (holder i block : ℕ) : Type 0 where
   pub place : IsPlace image holder role i next
   pub names : long image holder i ≡ block
 
+-- a place of the holder names the block
+abbrev pub IsNamedBy : List ℕ → ℕ → ℕ → Type 0
+IsNamedBy image block holder = (i : ℕ) × PlaceNames image holder i block
+
 -- two places name the block, or one names the root
 pub data IsUsedTwice (image : List ℕ) (block : ℕ) : Type 0 where
-  two_holders : {holder other i j : ℕ} → InImage image block → PlaceNames image holder i block → PlaceNames image other j block → holder ≢ other → IsUsedTwice image block
+  two_holders : {holder other : ℕ} → InImage image block → IsNamedBy image block holder → IsNamedBy image block other → holder ≢ other → IsUsedTwice image block
   two_longs : {holder i j : ℕ} → InImage image block → PlaceNames image holder i block → PlaceNames image holder j block → i ≢ j → IsUsedTwice image block
   root_named : {holder i : ℕ} → block ≡ root_of image → PlaceNames image holder i block → IsUsedTwice image block
 
@@ -231,13 +284,13 @@ pub data HasPointers (image : List ℕ) (block : ℕ) : Type 0 where
 -- a count or size that the blocks of the file do not bear out
 pub data HasBadCount (image : List ℕ) (block : ℕ) : Type 0 where
   over : HasPointers image block → table_longs < pointer_count image block → HasBadCount image block
-  not_full : HasPointers image block → pointer_count image block < table_longs → long image block next_extension ≢ 0 → HasBadCount image block
+  not_full : HasPointers image block → pointer_count image block < table_longs → IsContinued image block → HasBadCount image block
   no_pointer : IsExtension image block → pointer_count image block ≡ 0 → HasBadCount image block
-  wrong_size : {blocks : List ℕ} → AreDataBlocks image block blocks → length blocks ≢ data_count (format_of image) (file_size image block) → HasBadCount image block
-  held_not_full : {file i : ℕ} {blocks : List ℕ} → IsOfs image → IsDataAt image file blocks i block → i + 1 < length blocks → held_count image block ≢ ofs_room → HasBadCount image block
+  wrong_size : {blocks : List ℕ} → AreDataBlocks image block blocks → length blocks ≢ count_of_size image block → HasBadCount image block
+  held_not_full : IsOfs image → IsInnerData image block → held_count image block ≢ ofs_room → HasBadCount image block
   held_none : {file i : ℕ} {blocks : List ℕ} → IsOfs image → IsDataAt image file blocks i block → held_count image block ≡ 0 → HasBadCount image block
   held_over : {file i : ℕ} {blocks : List ℕ} → IsOfs image → IsDataAt image file blocks i block → ofs_room < held_count image block → HasBadCount image block
-  wrong_sum : {blocks : List ℕ} → IsOfs image → AreDataBlocks image block blocks → All (InImage image) blocks → sum_by (held_count image) blocks ≢ file_size image block → HasBadCount image block
+  wrong_sum : IsOfs image → HoldsOtherSize image block → HasBadCount image block
 
 -- an OFS data block whose number is not its place in the file, from 1
 pub record HasBadSequence (image : List ℕ) (block : ℕ) : Type 0 where
@@ -272,7 +325,7 @@ Shows image DuplicateName block = HasDuplicateName image block
 Shows image BadComment block = HasBadComment image block
 Shows image BadCount block = HasBadCount image block
 Shows image BadSequence block = HasBadSequence image block
-Shows image LinkEntry block = IsEntry image block × IsLinkType (secondary_type image block)
+Shows image LinkEntry block = IsEntry image block × HasLinkType image block
 Shows image MarkedFree block = IsReachedAndFree image block
 -- want of memory is no fault of the image
 Shows image NoMemory block = ⊥

@@ -1,9 +1,9 @@
 -- What a change of an image keeps.
-use Rattle.std.specs.Prelude.{◌≡◌, ℕ, ◌+◌, ◌-◌, ◌*◌, ◌<◌, ◌≤◌, ⊤, List, [], ◌∷◌, length, Any}
-use Rattle.adf_block.specs.Image.{block_count, page_count, byte_at, bytes_at}
+use Rattle.std.specs.Prelude.{◌≡◌, ◌≢◌, ℕ, ◌+◌, ◌-◌, ◌*◌, ◌<◌, ◌≤◌, ⊤, List, [], ◌∷◌, length, slice_index, Any}
+use Rattle.adf_block.specs.Image.{block_count, page_count, byte_at, bytes_at, long}
 use Rattle.adf_block.specs.Fields.{pointer_count, held_count, secondary_type, file_type, comment_byte, name_byte, primary_type_long, own_key_long, pointer_count_long, sum_long, next_data, secondary_type_long, directory_type, table_longs, table_size_long, first_slot, first_pointer, bitmap_flag, first_page, disk_date_long, creation_date_long, protection_long, size_long, date_long, next_in_chain, parent_long, ofs_data_byte, page_sum_long, first_map_long, map_longs}
 use Rattle.ados_tree.specs.declared.role.Role.{Role}
-use Rattle.ados_tree.specs.Faults.{Reached, IsOfs}
+use Rattle.ados_tree.specs.Faults.{Reached, IsFile, IsOfs, pointers_of}
 use Rattle.ados_tree.specs.declared.role.Role.TheVariants.{Root, Page, Entry, Data, Extension}
 
 -- a byte of a block lies in one of these runs of longs, each by its first and last
@@ -77,8 +77,22 @@ StaysUnnamed old new block i role role' =
     Reached old block role → Reached new block role' → Alike role role'
     → ¬ IsField old block role i → ¬ IsField new block role' i → byte_at new block i ≡ byte_at old block i
 
--- the boot blocks stay, and so does each byte that is part of no field, of a block that keeps its role
+-- the first data block of a file, or 0
+abbrev pub first_data : List ℕ → ℕ → ℕ
+first_data image file = slice_index (pointers_of image file) 0
+
+-- the header of a file names its first data block, in FFS too
+abbrev pub NamesFirstData : List ℕ → ℕ → Type 0
+NamesFirstData image file = long image file next_data ≡ first_data image file
+
+-- what a header says of its first data block stays where that is the same one; where it is another, the header names it
+pub record KeepsFirstData (old new : List ℕ) (file : ℕ) : Type 0 where
+  pub same : first_data new file ≡ first_data old file → long new file next_data ≡ long old file next_data
+  pub other : first_data new file ≢ first_data old file → NamesFirstData new file
+
+-- the boot blocks stay; so does each byte that is part of no field, of a block that keeps its role; and what a header says of its first data block
 pub record Kept (old new : List ℕ) : Type 0 where
   pub size : length new ≡ length old
   pub boot : bytes_at new 0 0 1024 ≡ bytes_at old 0 0 1024
   pub others : (block i : ℕ) (role role' : Role) → i < 512 → StaysUnnamed old new block i role role'
+  pub first : (file : ℕ) → IsFile old file → IsFile new file → KeepsFirstData old new file

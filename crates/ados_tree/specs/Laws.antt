@@ -21,7 +21,9 @@ FaultsHaveNoTree = (image : List ℕ) (t : Tree) (kind : FaultKind) (block : ℕ
 
 -- a blank image stands for the tree of an empty root
 abbrev pub BlankStands : Type 0
-BlankStands = (format : Format) (n : ℕ) (name : List ℕ) (moment : Date3) (image : List ℕ) → IsName name → IsBlank format n name moment image → Stands image (blank_tree format n name moment)
+BlankStands =
+    (format : Format) (n : ℕ) (name : List ℕ) (moment : Date3) (image : List ℕ) → IsName name → IsBlank format n name moment image
+    → Stands image (blank_tree format n name moment)
 
 -- there is a blank FFS image of 1,760 blocks, of the name `Work`, with the first moment as its dates
 abbrev pub HasBlankImage : Type 0

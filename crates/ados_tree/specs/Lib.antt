@@ -7,6 +7,7 @@ pub mod Layout
 pub mod Stands
 pub mod Keys
 pub mod Kept
+pub mod Untold
 pub mod NewBlocks
 pub mod Faults
 pub mod Rebuilt

@@ -1,10 +1,11 @@
--- How a change of an image takes new blocks.
-use Rattle.std.specs.Prelude.{◌≡◌, ℕ, ◌<◌, List, slice_index}
-use Rattle.adf_block.specs.Image.{byte_at, long, HasFreeBit}
-use Rattle.adf_block.specs.Fields.{next_data}
+-- How a change of an image takes new blocks, and what it keeps beside what it is for.
+use Rattle.std.specs.Prelude.{◌≡◌, ℕ, ◌<◌, List}
+use Rattle.adf_block.specs.Image.{byte_at, HasFreeBit}
 use Rattle.ados_tree.specs.declared.role.Role.{Role}
-use Rattle.ados_tree.specs.Faults.{InImage, Reached, pointers_of}
-use Rattle.ados_tree.specs.Kept.{IsField}
+use Rattle.ados_tree.specs.Faults.{InImage, IsFile, Reached}
+use Rattle.ados_tree.specs.Keys.{HasEntryKey}
+use Rattle.ados_tree.specs.Kept.{IsField, Kept, NamesFirstData}
+use Rattle.ados_tree.specs.Untold.{KeepsUntold}
 
 -- a block that was free and is in use
 pub record IsTaken (old new : List ℕ) (block : ℕ) : Type 0 where
@@ -12,11 +13,23 @@ pub record IsTaken (old new : List ℕ) (block : ℕ) : Type 0 where
   pub was_free : HasFreeBit old block
   pub in_use : ¬ HasFreeBit new block
 
--- the blocks that are taken lie below those that are still free, and each byte of one that is part of no field is 0
+-- the blocks that are taken lie below those that are still free; each byte of one that is part of no field is 0, and one that heads a file names its first data block, or 0
 pub record TakesLowest (old new : List ℕ) : Type 0 where
   pub lowest : (block other : ℕ) → IsTaken old new block → InImage old other → HasFreeBit old other → HasFreeBit new other → block < other
   pub zero_else : (block i : ℕ) (role : Role) → IsTaken old new block → Reached new block role → i < 512 → ¬ IsField new block role i → byte_at new block i ≡ 0
+  pub first : (block : ℕ) → IsTaken old new block → IsFile new block → NamesFirstData new block
 
--- the header of a file names its first data block, in FFS too
-abbrev pub NamesFirstData : List ℕ → ℕ → Type 0
-NamesFirstData image file = long image file next_data ≡ slice_index (pointers_of image file) 0
+-- no block is taken: each that was free still is
+abbrev pub TakesNone : List ℕ → List ℕ → Type 0
+TakesNone old new = (block : ℕ) → InImage old block → HasFreeBit old block → HasFreeBit new block
+
+-- a block that is free afterwards has the bytes that it had, unless it was that of an entry
+abbrev pub KeepsFreed : List ℕ → List ℕ → Type 0
+KeepsFreed old new = (block i : ℕ) → InImage old block → HasFreeBit new block → ¬ HasEntryKey old block → i < 512 → byte_at new block i ≡ byte_at old block i
+
+-- what is part of no field is kept, and so is that of which a tree tells nothing; the blocks that are taken are the lowest free ones, and empty but for their fields; those that are free afterwards keep their bytes
+pub record KeepsRest (old new : List ℕ) : Type 0 where
+  pub kept : Kept old new
+  pub lowest : TakesLowest old new
+  pub freed : KeepsFreed old new
+  pub untold : KeepsUntold old new

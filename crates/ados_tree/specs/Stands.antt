@@ -55,6 +55,18 @@ pub record HasRoot (image : List ℕ) (t : Tree) (l : Layout) : Type 0 where
 abbrev pub in_slot : Tree → ℕ → ℕ → List ℕ
 in_slot t dir s = filter (λ key. slot (name_of t key) == s) (entries t dir)
 
+-- the chain of each slot of a directory spells the directory's entries in that slot
+abbrev pub SpellsChains : List ℕ → Tree → Type 0
+SpellsChains image t =
+    (dir : ℕ) (node : Node) (keys : List ℕ) (s : ℕ) → t.nodes dir ≡ Some node → node.content ≡ Directory keys → s < table_longs
+    → Chained image next_in_chain (table_entry image dir s) (in_slot t dir s)
+
+-- the pointers of each file spell its data blocks, and these hold its bytes
+abbrev pub HasFiles : List ℕ → Tree → Layout → Type 0
+HasFiles image t layout =
+    (file : ℕ) (node : Node) (bytes : List ℕ) → t.nodes file ≡ Some node → node.content ≡ File bytes
+    → HasFile image t.format file (layout.file_data file) (layout.extensions file) bytes
+
 -- the image stands for the tree
 pub record Stands (image : List ℕ) (t : Tree) : Type 0 where
   pub proper : Proper t
@@ -68,10 +80,8 @@ pub record Stands (image : List ℕ) (t : Tree) : Type 0 where
   pub entries : (key dir : ℕ) (node : Node) → t.nodes key ≡ Some node → node.parent ≡ Some dir → HasEntry image key node dir
   pub pages : (page : ℕ) → Contains layout.pages page → block_sum image page ≡ 0
   pub lost : (block : ℕ) (bytes : List ℕ) → t.lost block ≡ Some bytes → bytes_at image block 0 512 ≡ bytes
-  -- the chain of each slot spells the directory's entries in it
-  pub chains : (dir : ℕ) (node : Node) (keys : List ℕ) (s : ℕ) → t.nodes dir ≡ Some node → node.content ≡ Directory keys → s < table_longs → Chained image next_in_chain (table_entry image dir s) (in_slot t dir s)
-  -- the pointers of each file spell its data blocks, and these hold its bytes
-  pub files : (file : ℕ) (node : Node) (bytes : List ℕ) → t.nodes file ≡ Some node → node.content ≡ File bytes → HasFile image t.format file (layout.file_data file) (layout.extensions file) bytes
+  pub chains : SpellsChains image t
+  pub files : HasFiles image t layout
   -- a block is marked free exactly where it is not named
   pub marked_free : (block : ℕ) → IsInside t.blocks block → HasFreeBit image block → ¬ Named t layout block
   pub marked_used : (block : ℕ) → IsInside t.blocks block → ¬ HasFreeBit image block → Named t layout block

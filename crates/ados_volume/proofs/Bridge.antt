@@ -6,7 +6,7 @@ use Rattle.adf_block.specs.Image.{bytes_at}
 use Rattle.adf_block.specs.Fields.{name_byte, text_at, HasText}
 use Rattle.ados_name.specs.Name.{slot, IsName}
 use Rattle.ados_chain.specs.Chains.{LawfulChains, IsEntryBlock, name_at}
-use Rattle.change_bytes.proofs.Writable.{inside, key_serves}
+use Rattle.ados_tree.proofs.Writable.{inside, key_serves}
 use Rattle.ados_tree.specs.Tree.{Node, Tree, LeadsToRoot, entries, name_of, parent_of}
 use Rattle.ados_tree.specs.Tree.Content.{Directory}
 use Rattle.ados_tree.specs.Tree.LeadsToRoot.{at_root, by_parent}

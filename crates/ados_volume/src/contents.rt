@@ -1,12 +1,12 @@
 //! Changes of what a file holds.
 
-ghost use Rattle.std.specs.Prelude.{◌≡◌, ◌<◌, ◌≤◌, MatchResult};
+ghost use Rattle.std.specs.Prelude.{◌≡◌, ◌<◌, ◌≤◌};
 ghost use Rattle.ados_tree.specs.Tree.{Tree, size_of};
 ghost use Rattle.ados_tree.specs.Stands.{Stands};
 ghost use Rattle.ados_tree.specs.Keys.{HasFileKey};
 ghost use Rattle.ados_tree.specs.Change.{shortened};
-ghost use Rattle.change_bytes.specs.Renewed.{Grows, KeepsRest, Writes};
-ghost use Rattle.ados_volume.specs.Refused.{RefusesGrowth, RefusesWrite};
+ghost use Rattle.ados_tree.specs.NewBlocks.{KeepsRest, TakesNone};
+ghost use Rattle.ados_volume.specs.Refused.{GrowsOrRefuses, WritesOrRefuses};
 
 use crate::volume::Volume;
 use ados_name::Date3;
@@ -19,20 +19,21 @@ impl Volume {
     pub fn write(&mut self, key: u32, pos: u64, bytes: &[u8], moment: Date3) -> Result<(), Full>
         requires file { HasFileKey self.old.image key }
         requires start { (t : Tree) → Stands self.old.image t → pos ≤ size_of t key }
-        ensures done { MatchResult result (λ _. Writes moment key pos bytes.now self.old.image self.new.image) (λ _. RefusesWrite key pos bytes.now self.old self.new) }
-        ensures rest { KeepsRest self.old.image key self.new.image }
+        ensures done { WritesOrRefuses moment key pos bytes.now self.old self.new result }
+        ensures keeps { KeepsRest self.old.image self.new.image }
         ensures validated { self.new.was_validated ≡ self.old.was_validated }
     {
         write(&mut self.image, key, pos, bytes, moment)
     }
 
     /// Keeps the front of a file, of this size. The moment becomes the file's date and the disk date, and the file's archive bit
-    /// is cleared.
+    /// is cleared. What stands in the blocks that are given back stays there.
     pub fn cut(&mut self, key: u32, size: u32, moment: Date3)
         requires file { HasFileKey self.old.image key }
         requires shorter { (t : Tree) → Stands self.old.image t → size ≤ size_of t key }
         ensures stands { (t : Tree) → Stands self.old.image t → Stands self.new.image (shortened moment key size t) }
-        ensures rest { KeepsRest self.old.image key self.new.image }
+        ensures keeps { KeepsRest self.old.image self.new.image }
+        ensures none { TakesNone self.old.image self.new.image }
         ensures validated { self.new.was_validated ≡ self.old.was_validated }
     {
         cut(&mut self.image, key, size, moment);
@@ -43,8 +44,8 @@ impl Volume {
     pub fn grow(&mut self, key: u32, size: u32, moment: Date3) -> Result<(), Full>
         requires file { HasFileKey self.old.image key }
         requires longer { (t : Tree) → Stands self.old.image t → size_of t key < size }
-        ensures done { MatchResult result (λ _. Grows moment key size self.old.image self.new.image) (λ _. RefusesGrowth key size self.old self.new) }
-        ensures rest { KeepsRest self.old.image key self.new.image }
+        ensures done { GrowsOrRefuses moment key size self.old self.new result }
+        ensures keeps { KeepsRest self.old.image self.new.image }
         ensures validated { self.new.was_validated ≡ self.old.was_validated }
     {
         grow(&mut self.image, key, size, moment)

@@ -4,8 +4,7 @@ ghost use Rattle.std.specs.Prelude.{◌≡◌, MatchResult};
 ghost use Rattle.ados_tree.specs.Tree.{Tree};
 ghost use Rattle.ados_tree.specs.Stands.{Stands};
 ghost use Rattle.ados_tree.specs.Keys.{HasKey, HasTree};
-ghost use Rattle.ados_tree.specs.Kept.{Kept};
-ghost use Rattle.ados_tree.specs.NewBlocks.{TakesLowest};
+ghost use Rattle.ados_tree.specs.NewBlocks.{KeepsRest, TakesNone};
 ghost use Rattle.ados_tree.specs.Change.{removed, renamed};
 ghost use Rattle.change_entries.specs.Conditions.{CanMake, CanRemove, CanRename};
 ghost use Rattle.change_entries.specs.Kinds.{Makes};
@@ -33,19 +32,19 @@ impl Volume {
     ) -> Result<u32, Full>
         requires { (t : Tree) → Stands self.old.image t → CanMake t dir name }
         ensures done { MatchResult result (λ key. Makes moment dir name kind key self.old.image self.new.image) (λ _. RefusesEntry self.old self.new) }
-        ensures kept { Kept self.old.image self.new.image }
-        ensures lowest { TakesLowest self.old.image self.new.image }
+        ensures keeps { KeepsRest self.old.image self.new.image }
         ensures validated { self.new.was_validated ≡ self.old.was_validated }
     {
         create(&mut self.image, dir, &name, kind, moment)
     }
 
-    /// Takes away a file, or a directory with no entries. What stands in the blocks that are given back stays there, but for what
-    /// a file's header tells of its bytes. The moment becomes the date of the directory and the disk date.
+    /// Takes away a file, or a directory with no entries. What stands in the blocks that are given back stays there, but for the
+    /// entry's own block. The moment becomes the date of the directory and the disk date.
     pub fn remove(&mut self, key: u32, moment: Date3)
         requires { (t : Tree) → Stands self.old.image t → CanRemove t key }
         ensures stands { (t : Tree) → Stands self.old.image t → Stands self.new.image (removed moment key t) }
-        ensures kept { Kept self.old.image self.new.image }
+        ensures keeps { KeepsRest self.old.image self.new.image }
+        ensures none { TakesNone self.old.image self.new.image }
         ensures validated { self.new.was_validated ≡ self.old.was_validated }
     {
         forget(&mut self.names, &self.image, key);
@@ -57,7 +56,8 @@ impl Volume {
     pub fn rename(&mut self, key: u32, dir: u32, name: Name, moment: Date3)
         requires { (t : Tree) → Stands self.old.image t → CanRename t key dir name }
         ensures stands { (t : Tree) → Stands self.old.image t → Stands self.new.image (renamed moment key dir name t) }
-        ensures kept { Kept self.old.image self.new.image }
+        ensures keeps { KeepsRest self.old.image self.new.image }
+        ensures none { TakesNone self.old.image self.new.image }
         ensures validated { self.new.was_validated ≡ self.old.was_validated }
     {
         forget(&mut self.names, &self.image, key);

@@ -1,51 +1,62 @@
 //! Changes of what a volume tells of a directory or file, and of its own name.
 
-ghost use Rattle.std.specs.Prelude.{◌≡◌};
+ghost use Rattle.std.specs.Prelude.{◌≡◌, ◌+◌, length};
+ghost use Rattle.adf_block.specs.Fields.{long_byte, protection_long, comment_byte, date_long, name_byte};
 ghost use Rattle.ados_tree.specs.Tree.{Tree};
 ghost use Rattle.ados_tree.specs.Stands.{Stands};
 ghost use Rattle.ados_tree.specs.Keys.{HasEntryKey};
-ghost use Rattle.ados_tree.specs.Kept.{Kept};
+ghost use Rattle.ados_tree.specs.Faults.{root_of};
+ghost use Rattle.ados_tree.specs.NewBlocks.{KeepsRest};
 ghost use Rattle.ados_tree.specs.Change.{disk_renamed, with_comment, with_date, with_protection};
+ghost use Rattle.change_fields.specs.Places.{OnlyRestamped};
 
 use crate::volume::Volume;
 use ados_name::{Comment, Date3, Name, Protect};
 use change_fields::{rename_disk, set_comment, set_date, set_protection};
 
 impl Volume {
-    /// Sets the protection bits of a directory or file. The disk date becomes the moment.
+    /// Sets the protection bits of a directory or file. The disk date becomes the moment. But for these and the sums of both
+    /// blocks every byte stays.
     pub fn set_protect(&mut self, key: u32, bits: Protect, moment: Date3)
         requires { HasEntryKey self.old.image key }
         ensures stands { (t : Tree) → Stands self.old.image t → Stands self.new.image (with_protection moment key bits.0 t) }
-        ensures kept { Kept self.old.image self.new.image }
+        ensures keeps { KeepsRest self.old.image self.new.image }
+        ensures rest { OnlyRestamped key (long_byte protection_long) (long_byte (protection_long + 1)) self.old.image self.new.image }
         ensures validated { self.new.was_validated ≡ self.old.was_validated }
     {
         set_protection(&mut self.image, key, bits, moment);
     }
 
-    /// Sets the comment of a directory or file. The disk date becomes the moment.
+    /// Sets the comment of a directory or file. The disk date becomes the moment. But for these and the sums of both blocks
+    /// every byte stays, those behind a shorter comment too.
     pub fn set_comment(&mut self, key: u32, comment: &Comment, moment: Date3)
         requires { HasEntryKey self.old.image key }
         ensures stands { (t : Tree) → Stands self.old.image t → Stands self.new.image (with_comment moment key comment.now t) }
-        ensures kept { Kept self.old.image self.new.image }
+        ensures keeps { KeepsRest self.old.image self.new.image }
+        ensures rest { OnlyRestamped key comment_byte (comment_byte + 1 + length comment.now) self.old.image self.new.image }
         ensures validated { self.new.was_validated ≡ self.old.was_validated }
     {
         set_comment(&mut self.image, key, comment, moment);
     }
 
-    /// Sets the date of a directory or file. The disk date becomes the moment.
+    /// Sets the date of a directory or file. The disk date becomes the moment. But for these and the sums of both blocks every
+    /// byte stays.
     pub fn set_date(&mut self, key: u32, date: Date3, moment: Date3)
         requires { HasEntryKey self.old.image key }
         ensures stands { (t : Tree) → Stands self.old.image t → Stands self.new.image (with_date moment key date t) }
-        ensures kept { Kept self.old.image self.new.image }
+        ensures keeps { KeepsRest self.old.image self.new.image }
+        ensures rest { OnlyRestamped key (long_byte date_long) (long_byte (date_long + 3)) self.old.image self.new.image }
         ensures validated { self.new.was_validated ≡ self.old.was_validated }
     {
         set_date(&mut self.image, key, date, moment);
     }
 
-    /// Gives the volume another name. The disk date becomes the moment.
+    /// Gives the volume another name. The disk date becomes the moment. But for these and the root's sum every byte stays, those
+    /// behind a shorter name too.
     pub fn rename_disk(&mut self, name: Name, moment: Date3)
         ensures stands { (t : Tree) → Stands self.old.image t → Stands self.new.image (disk_renamed moment name t) }
-        ensures kept { Kept self.old.image self.new.image }
+        ensures keeps { KeepsRest self.old.image self.new.image }
+        ensures rest { OnlyRestamped (root_of self.old.image) name_byte (name_byte + 1 + length name) self.old.image self.new.image }
         ensures validated { self.new.was_validated ≡ self.old.was_validated }
     {
         rename_disk(&mut self.image, &name, moment);

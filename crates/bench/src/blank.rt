@@ -14,12 +14,12 @@ pub(crate) const MOMENT: Date3 = Date3 {
     ticks: 0,
 };
 
-/// A volume of so many blocks with nothing in it.
-pub(crate) fn blank_volume(alloc: Global, blocks: u32) -> Result<Volume>
+/// A volume of this kind and so many blocks with nothing in it.
+pub(crate) fn blank_volume(alloc: Global, format: Format, blocks: u32) -> Result<Volume>
     requires { IsSize blocks }
 {
     let Ok(name) = Name::new(b"Bench") else {
         bail!("no name");
     };
-    Ok(blank(alloc, Format::Ffs, blocks, name, MOMENT)?)
+    Ok(blank(alloc, format, blocks, name, MOMENT)?)
 }

@@ -3,6 +3,7 @@ ghost use Rattle.std.specs.Prelude.{◌≤◌};
 
 use crate::blank::blank_volume;
 use crate::by_path::{make, read, remove, write};
+use adf_block::Format;
 use ados_volume::{NodeKind, Volume};
 use anyhow::Result;
 use std::alloc::Global;
@@ -136,10 +137,11 @@ fn time_large<R: Clock + Eprint>(rt: &R, volume: &mut Volume, bytes: &mut [u8]) 
 pub(crate) fn time<R: Clock + Print + Eprint>(
     rt: &R,
     alloc: Global,
+    format: Format,
     files: u32,
     dirs: u32,
 ) -> Result<()> {
-    let mut volume = blank_volume(alloc, BLOCKS)?;
+    let mut volume = blank_volume(alloc, format, BLOCKS)?;
     let mut bytes = vec![in alloc; b'x'; LARGE]?;
     let small = time_small(rt, &mut volume, files, dirs)?;
     let large = time_large(rt, &mut volume, &mut bytes)?;

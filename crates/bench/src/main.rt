@@ -10,18 +10,28 @@ mod port;
 mod told;
 mod volume;
 
+use adf_block::Format;
 use anyhow::{Result, bail};
 use std::env;
 
 /// What the words may be. `all` times each thing, with the counts that are taken where no word gives another.
 const USAGE: &str =
-    "usage: bench port [TRIPS] | volume [FILE] | changes [FILES [DIRS]] | packets [ROUNDS [LOCKS [ENTRIES]]] | all";
+    "usage: bench port [TRIPS] | volume [FILE] | changes [FILES [DIRS [ofs|ffs]]] | packets [ROUNDS [LOCKS [ENTRIES]]] | all";
 
 /// A number from a word, or another where there is no word.
 fn number(word: Option<String>, otherwise: u32) -> Result<u32> {
     match word {
         Some(word) => Ok(word.as_str().parse::<u32>()?),
         None => Ok(otherwise),
+    }
+}
+
+/// The kind of a volume from a word, FFS where there is none.
+fn kind(word: Option<String>) -> Result<Format> {
+    match word.as_deref() {
+        None | Some("ffs") => Ok(Format::Ffs),
+        Some("ofs") => Ok(Format::Ofs),
+        Some(_) => bail!("{USAGE}"),
     }
 }
 
@@ -34,7 +44,8 @@ fn main(rt: HostRuntime) -> Result<()> {
         Some("changes") => {
             let files = number(words.next(), changes::FILES)?;
             let dirs = number(words.next(), changes::DIRS)?;
-            changes::time(&rt, alloc, files, dirs)
+            let format = kind(words.next())?;
+            changes::time(&rt, alloc, format, files, dirs)
         }
         Some("packets") => {
             let rounds = number(words.next(), packets::ROUNDS)?;
@@ -45,7 +56,7 @@ fn main(rt: HostRuntime) -> Result<()> {
         Some("all") => {
             port::time(&rt, alloc, port::TRIPS)?;
             volume::time(&rt, alloc, None)?;
-            changes::time(&rt, alloc, changes::FILES, changes::DIRS)?;
+            changes::time(&rt, alloc, Format::Ffs, changes::FILES, changes::DIRS)?;
             packets::time(
                 &rt,
                 alloc,

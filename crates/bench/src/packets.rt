@@ -1,6 +1,7 @@
 //! Times packets on one thread, over `run` of an exchange and over the handler alone.
 
 use crate::blank::{MOMENT, blank_volume};
+use adf_block::Format;
 use ados_handler::Handler;
 use ados_name::{Date3, PathText};
 use ados_packet::{Answer, Body, Buffer, Packet};
@@ -193,7 +194,7 @@ pub(crate) fn time<R: Clock + Print + Eprint>(
     locks: u32,
     entries: u32,
 ) -> Result<()> {
-    let mut handler = Handler::new(alloc, blank_volume(alloc, BLOCKS)?);
+    let mut handler = Handler::new(alloc, blank_volume(alloc, Format::Ffs, BLOCKS)?);
     make_entries(&mut handler, entries)?;
     let handle = open(&mut handler)?;
     hold(&mut handler, locks)?;

@@ -4,7 +4,7 @@ ghost use Rattle.ados_tree.specs.Keys.{HasDirectory, HasFileKey, HasKey};
 
 use crate::blank::blank_volume;
 use crate::told::{DIRECTORY, FILE, describe, entry_behind};
-use adf_block::Image;
+use adf_block::{Format, Image};
 use adf_files::load_image;
 use ados_volume::{Volume, check};
 use anyhow::{Result, bail};
@@ -103,7 +103,7 @@ fn read_files(alloc: Global, volume: &Volume) -> Result<Reading, AllocError> {
 /// The image of a file, or of a blank floppy where none is named.
 fn open_image<R: Files>(rt: &R, alloc: Global, file: Option<&str>) -> Result<Image> {
     let Some(file) = file else {
-        return Ok(blank_volume(alloc, BLOCKS)?.into_image());
+        return Ok(blank_volume(alloc, Format::Ffs, BLOCKS)?.into_image());
     };
     let mut reader = fs::open(rt, file)?;
     match load_image(alloc, &mut reader) {

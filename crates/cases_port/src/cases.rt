@@ -27,6 +27,41 @@ pub const RINGS: Case = Case {
     left: "alive\nuntaken 1 3-3 0 209",
 };
 
+/// Each batch first posts what waits, also where no packet waits to be served.
+pub const BATCHES_POST: Case = Case {
+    clients: 1,
+    ring: 1,
+    again: false,
+    rows: &[
+        (PutMany(1, 3), "accepted 1 to 3"),
+        (Batch(8), "served 3"),
+        (Take(1), "1 0 209"),
+        (Take(1), "nothing"),
+        (Batch(8), "served 0"),
+        (Take(1), "2 0 209"),
+        (Batch(0), "served 0"),
+        (Take(1), "3 0 209"),
+    ],
+    left: "alive\nuntaken 1",
+};
+
+/// The packets that are left stand in the order in which they were put, whoever put them.
+pub const LEFT_IN_ORDER: Case = Case {
+    clients: 3,
+    ring: 8,
+    again: false,
+    rows: &[
+        (Put(2, STRANGE), "accepted 1"),
+        (Put(3, DISK_INFO), "accepted 1"),
+        (Put(1, STRANGE), "accepted 1"),
+        (Put(2, DIE), "accepted 2"),
+        (Put(1, DISK_INFO), "accepted 2"),
+        (Put(3, STRANGE), "accepted 2"),
+        (Batch(1), "served 1"),
+    ],
+    left: "alive\nunanswered 3 25\nunanswered 1 999\nunanswered 2 5\nunanswered 1 25\nunanswered 3 999\nuntaken 1\nuntaken 2 1-1 0 209\nuntaken 3",
+};
+
 /// A packet behind two that were served is left.
 pub const HALF_SERVED: Case = Case {
     clients: 2,
@@ -193,6 +228,9 @@ pub const PORT_REFUSED: Case = Case {
     ],
     left: "dead\nuntaken 1 1-1 -1 0 2-2 0 218",
 };
+
+/// What two clients leave that took all their replies.
+pub const TWO_THREADS_TOOK: &str = "alive\nuntaken 1\nuntaken 2";
 
 /// What four clients leave that put 1,000 packets each.
 pub const FOUR_THREADS_PUT: &str =

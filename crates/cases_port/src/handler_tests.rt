@@ -64,6 +64,16 @@ fn rings(rt: HostRuntime) -> Result<(), Fail> {
 }
 
 #[test]
+fn batches_post(rt: HostRuntime) -> Result<(), Fail> {
+    expect(&rt, rt.alloc(), BATCHES_POST)
+}
+
+#[test]
+fn left_in_order(rt: HostRuntime) -> Result<(), Fail> {
+    expect(&rt, rt.alloc(), LEFT_IN_ORDER)
+}
+
+#[test]
 fn half_served(rt: HostRuntime) -> Result<(), Fail> {
     expect(&rt, rt.alloc(), HALF_SERVED)
 }
@@ -101,7 +111,7 @@ fn unanswered_after_die(rt: HostRuntime) -> Result<(), Fail> {
 #[test]
 fn four_threads_put(rt: HostRuntime) -> Result<(), Fail> {
     let raced = raced(&rt, rt.alloc(), None)?;
-    assert_eq!(rt; raced.accepted.as_slice(), [1000; 4].as_slice());
+    assert_eq!(rt; raced.counts.as_slice(), [1000; 4].as_slice());
     assert_eq!(rt;
         left_text(rt.alloc(), &Actions, &raced.left)?.as_str(),
         FOUR_THREADS_PUT
@@ -112,7 +122,7 @@ fn four_threads_put(rt: HostRuntime) -> Result<(), Fail> {
 #[test]
 fn racing_die(rt: HostRuntime) -> Result<(), Fail> {
     let raced = raced(&rt, rt.alloc(), Some(500))?;
-    assert_eq!(rt; raced.accepted.len(), 4);
+    assert_eq!(rt; raced.counts.len(), 4);
     assert!(rt; is_parted(&Actions, &raced, 500));
     Ok(())
 }

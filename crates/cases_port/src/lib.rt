@@ -19,6 +19,8 @@ mod turns;
 
 // Clients on threads of their own.
 #[cfg(test)]
+mod ahead;
+#[cfg(test)]
 mod exchange_tests;
 #[cfg(test)]
 mod floppy;

@@ -35,8 +35,8 @@ impl<S: Server> Client<S> for Putter<S> {
     }
 }
 
-// Puts one packet, with so many tries. It was not put where the port has closed or the tries ran out.
-fn put_one<S: Server, R: Wait>(
+/// Puts one packet, with so many tries. It was not put where the port has closed or the tries ran out.
+pub fn put_one<S: Server, R: Wait>(
     rt: &R,
     end: &mut ClientEnd<S>,
     packet: S::Request,

@@ -56,11 +56,11 @@ fn share_of<S: Server, V: Voice<S>>(voice: &V, replies: &[Reply<S::Reply>]) -> O
 /// Whether the first client's DIE behind so many other packets ended the server: each client's replies are 0 209 and then 0 218, with the DIE's own between those of the first client, and its served and unanswered packets are as many as it put.
 pub fn is_parted<S: Server, V: Voice<S>>(voice: &V, raced: &Raced<S>, die_at: usize) -> bool {
     let left = &raced.left;
-    if !left.server.died() || left.untaken.len() != raced.accepted.len() {
+    if !left.server.died() || left.untaken.len() != raced.counts.len() {
         return false;
     }
     let mut client = 0usize;
-    for (replies, accepted) in left.untaken.iter().zip(raced.accepted.iter()) {
+    for (replies, accepted) in left.untaken.iter().zip(raced.counts.iter()) {
         client = client.wrapping_add(1);
         let Some(share) = share_of(voice, replies) else {
             return false;

@@ -2,8 +2,9 @@
 ghost use Rattle.std.specs.Prelude.{◌≡◌};
 
 use crate::case::{Case, play};
-use crate::cases::{BATCH_REFUSED, GATHER_REFUSED, PORT_REFUSED};
-use crate::racing::race_of_four;
+use crate::cases::{BATCH_REFUSED, GATHER_REFUSED, PORT_REFUSED, TWO_THREADS_TOOK};
+use crate::left::left_text;
+use crate::racing::{race_of_four, two_ahead};
 use crate::share::is_parted;
 use crate::stub::{Numbers, Results, Stub};
 use std::alloc::Global;
@@ -36,12 +37,26 @@ fn port_refused(rt: HostRuntime) -> Result<(), Fail> {
     expect(&rt, rt.alloc(), PORT_REFUSED)
 }
 
+/// Each client puts all its packets before it takes a reply, so that replies wait beside a ring of one place until a batch posts them.
+#[test]
+fn put_ahead(rt: HostRuntime) -> Result<(), Fail> {
+    let Some(raced) = two_ahead(&rt, rt.alloc(), &Numbers, Stub::new(), MOMENT) else {
+        return Err(Fail::from("memory or a thread"));
+    };
+    assert_eq!(rt; raced.counts.as_slice(), [100; 2].as_slice());
+    assert_eq!(rt;
+        left_text(rt.alloc(), &Numbers, &raced.left)?.as_str(),
+        TWO_THREADS_TOOK
+    );
+    Ok(())
+}
+
 #[test]
 fn racing_die(rt: HostRuntime) -> Result<(), Fail> {
     let Some(raced) = race_of_four(&rt, rt.alloc(), &Numbers, Stub::new(), MOMENT, Some(500)) else {
         return Err(Fail::from("memory or a thread"));
     };
-    assert_eq!(rt; raced.accepted.len(), 4);
+    assert_eq!(rt; raced.counts.len(), 4);
     assert!(rt; is_parted(&Numbers, &raced, 500));
     let untaken = &raced.left.untaken;
     let death = match untaken.first().and_then(|replies| replies.get(500)) {

@@ -14,13 +14,16 @@ use Rattle.ados_tree.specs.Layout.{Layout}
 use Rattle.ados_tree.specs.Stands.{Stands, type_of}
 use Rattle.ados_tree.specs.declared.role.Role.{Role}
 use Rattle.ados_tree.specs.declared.role.Role.TheVariants as roles
-use Rattle.ados_tree.specs.Faults.{IsOfs}
-use Rattle.ados_tree.specs.Kept.{Kept, IsField, Alike}
+use Rattle.ados_tree.specs.Faults.{IsFile, IsOfs}
+use Rattle.ados_tree.specs.Kept.{Kept, IsField, Alike, KeepsFirstData}
 use Rattle.ados_tree.specs.Kept.IsField.{page_longs, file_longs, extension_longs, ofs_data_longs, ofs_data, ffs_data}
+use Rattle.ados_tree.proofs.Keeping.{header_stays}
 use Rattle.ados_tree.proofs.Standing.{StandsAt, reached_stands, serves_at, duty_of, root_at, entry_at}
-use Rattle.change_bytes.proofs.Writable.{named_used, format_is}
+use Rattle.ados_tree.proofs.Writable.{named_used, format_is}
 use Rattle.change_bytes.proofs.Content.{refilled, holding, here}
 use Rattle.change_bytes.proofs.Relaid.{IsRewritten, relaid, data_here, data_there, extensions_here, extensions_there}
+use Rattle.change_bytes.proofs.FirstData.{keeps_first}
+use Rattle.change_bytes.proofs.Unchanged.{long_as}
 use Rattle.change_bytes.proofs.Refilled.{boot_stays, key_stays, root_stays, data_stays, extension_stays, stands_after, layout_after}
 
 -- ---- fields
@@ -210,6 +213,16 @@ module _ (old new : List ℕ) (t : Tree) (s : Stands old t) (file : ℕ) (node :
       ∙ boot_byte (512 * 0 + 0 + k) (omega (arith, below))
       ∙ sym (get_or-take 1024 (drop (512 * 0 + 0) old) k 0 below ∙ get_or-drop (512 * 0 + 0) old k 0))
 
+  first_kept : (b : ℕ) → IsFile old b → KeepsFirstData old new b
+  first_kept b f = elim (cases_eq b file) [
+    | inl same ↦ subst (KeepsFirstData old new) (sym same) (keeps_first old new t s file node bytes found is_file blocks' extensions' bytes' h keeps)
+    | inr other ↦
+        let at = reached_stands old t s f.reached in
+        let e = entry_at old t s f.dir f.slot_of_chain at.0 b at.1 in
+        let stays = long_as old new b (key_stays old new t s file node bytes found is_file blocks' extensions' bytes' h b e.node e.at other) in
+        header_stays old new b (stays 2 (omega arith)) (λ i l. stays (77 - i) (omega arith)) (stays 4 (omega arith))
+  ]
+
   pub kept : Kept old new
   kept = record {
     size = h.leaves.same_length;
@@ -218,4 +231,5 @@ module _ (old new : List ℕ) (t : Tree) (s : Stands old t) (file : ℕ) (node :
         let at = reached_stands old t s r in
         let at' = reached_stands new v after r' in
         block_kept at.0 at'.0 b i role role' l at.1 at'.1 alike n n';
+    first = λ b f g. first_kept b f;
   }

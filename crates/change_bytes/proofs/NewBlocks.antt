@@ -1,11 +1,11 @@
--- How a file that is rewritten takes new blocks.
-use Rattle.std.proofs.Common.{◌≡◌, ◌≢◌, ℕ, ◌-◌, ◌*◌, ◌/◌, ◌<◌, ◌≤◌, ◌⊎◌, inl, inr, min, Bool, true, false, List, length, take, drop, slice_index, Some, refl, sym, ap, ◌∙◌, subst, arith}
-use Rattle.std.proofs.lemmas.Bool.{cases_eq, cases_order, false≢true}
-use Rattle.std.proofs.lemmas.List.{get_or-take, get_or_past}
+-- How a file that is rewritten takes new blocks, and what stays in those that it gives back.
+use Rattle.std.proofs.Common.{◌≡◌, ◌≢◌, ℕ, zero, suc, ◌-◌, ◌*◌, ◌/◌, ◌<◌, ◌≤◌, ◌⊎◌, inl, inr, min, Bool, true, false, List, ◌∷◌, length, slice_index, Some, refl, sym, ap, ◌∙◌, subst, arith}
+use Rattle.std.proofs.lemmas.Bool.{cases_order, false≢true}
 use Rattle.adf_block.specs.declared.Format.{Format}
 use Rattle.adf_block.specs.declared.Format.TheVariants.{Ofs, Ffs}
 use Rattle.adf_block.specs.Image.{IsInside, block_count, byte_at, has_free_bit, HasFreeBit}
 use Rattle.adf_block.specs.Fields.{pointer_count, held_count, file_size}
+use Rattle.ados_map.specs.Pages.{page_block}
 use Rattle.ados_data.specs.File.{format_of}
 use Rattle.ados_data.specs.Unnamed.{KeepsUnnamed, IsExtensionField, data_end}
 use Rattle.ados_tree.specs.Tree.{Node, Tree}
@@ -14,23 +14,16 @@ use Rattle.ados_tree.specs.Layout.{Layout, Duty, HasDuty}
 use Rattle.ados_tree.specs.Stands.{Stands}
 use Rattle.ados_tree.specs.declared.role.Role.{Role}
 use Rattle.ados_tree.specs.declared.role.Role.TheVariants as roles
-use Rattle.ados_tree.specs.Faults.{InImage, pointers_of}
+use Rattle.ados_tree.specs.Faults.{InImage}
 use Rattle.ados_tree.specs.Kept.{IsField}
 use Rattle.ados_tree.specs.Kept.IsField.{extension_longs, ffs_data}
-use Rattle.ados_tree.specs.NewBlocks.{IsTaken, TakesLowest, NamesFirstData}
-use Rattle.ados_tree.proofs.Standing.{StandsAt, IsFileNode, slice_get-index, reached_stands, serves_at, duty_of}
-use Rattle.ados_tree.proofs.FileBlocks.{pointers_are}
-use Rattle.change_bytes.proofs.Writable.{named_used}
-use Rattle.change_bytes.proofs.Content.{refilled, holding, here}
-use Rattle.change_bytes.proofs.Relaid.{IsIn, IsRewritten, relaid, data_here, serves_data, serves_extension}
+use Rattle.ados_tree.specs.NewBlocks.{IsTaken, TakesLowest}
+use Rattle.ados_tree.proofs.Standing.{StandsAt, slice_get-index, reached_stands, serves_at, duty_of}
+use Rattle.ados_tree.proofs.Writable.{key_serves, named_used, page_serves}
+use Rattle.change_bytes.proofs.Content.{refilled, stays}
+use Rattle.change_bytes.proofs.Relaid.{IsIn, IsRewritten, relaid, serves_data, serves_extension}
 use Rattle.change_bytes.proofs.Refilled.{stands_after, layout_after}
 use Rattle.change_bytes.proofs.BytesKept.{data_field, is_ofs, is_ffs}
-
--- the first data block of a file is the first pointer of its header
-first_pointer : (image : List ℕ) (t : Tree) (s : Stands image t) (file : ℕ) → IsFileNode image t s file → slice_index (pointers_of image file) 0 ≡ slice_index (s.layout.file_data file) 0
-first_pointer image t s file f =
-    let all : drop (72 * 0) (s.layout.file_data file) ≡ s.layout.file_data file = refl in
-    ap (λ (xs : List ℕ). slice_index xs 0) (pointers_are image t.format file (s.layout.file_data file) (s.layout.extensions file) f.bytes (s.files file f.node f.bytes f.at f.content) 0 (omega arith) ∙ ap (take 72) all) ∙ get_or-take 72 (s.layout.file_data file) 0 0 (omega arith)
 
 module _ (old new : List ℕ) (t : Tree) (s : Stands old t) (file : ℕ) (node : Node) (bytes : List ℕ) (found : t.nodes file ≡ Some node) (is_file : node.content ≡ File bytes)
     (blocks' extensions' bytes' : List ℕ) (h : IsRewritten old file (s.layout.file_data file) (s.layout.extensions file) new blocks' extensions' bytes')
@@ -139,34 +132,44 @@ module _ (old new : List ℕ) (t : Tree) (s : Stands old t) (file : ℕ) (node :
           | inl m ↦ zero_data role at.0 b i m.0 at.1 taken m.1 m.2 small n
           | inr m ↦ zero_extension role at.0 b i m.0 at.1 taken m.1 m.2 small n
         ];
+    first = λ b taken f.
+        let at = reached_stands new v after f.reached in
+        let role = roles.Entry f.dir f.slot_of_chain in
+        elim (is_new b taken) [
+          | inl m ↦
+              let serves = serves_data old new t s file node bytes found is_file blocks' extensions' bytes' h m.0 m.1 ∙ ap Some m.2 in
+              let duty = same_duty role at.0 b (Duty.Data file m.0) at.1 serves in
+              absurd (cc duty)
+          | inr m ↦
+              let serves = serves_extension old new t s file node bytes found is_file blocks' extensions' bytes' h m.0 m.1 ∙ ap Some m.2 in
+              let duty = same_duty role at.0 b (Duty.Extension file m.0) at.1 serves in
+              absurd (cc duty)
+        ];
   }
 
-  -- ---- the first data block
+  -- ---- what stays in free blocks
 
-  first_old : slice_index (pointers_of old file) 0 ≡ slice_index (s.layout.file_data file) 0
-  first_old = first_pointer old t s file (record { node = node; bytes = bytes; at = found; content = is_file })
+  -- the block of a node is in use
+  pub key_used : (k : ℕ) (a : Node) → t.nodes k ≡ Some a → has_free_bit new k ≡ false
+  key_used k a e =
+      let w = stays t file node bytes bytes' found is_file k a e in
+      named_used new v after k Duty.Key (key_serves new v after k w.0 w.1)
 
-  first_new : slice_index (pointers_of new file) 0 ≡ slice_index blocks' 0
-  first_new =
-      first_pointer new v after file (record { node = holding bytes' node; bytes = bytes'; at = here t file node bytes bytes' found is_file; content = refl })
-      ∙ ap (λ (l : Layout). slice_index (l.file_data file) 0) (layout_after old new t s file node bytes found is_file blocks' extensions' bytes' h)
-      ∙ ap (λ (xs : List ℕ). slice_index xs 0) (data_here s.layout file blocks' extensions')
+  module _ (c : ℕ) (free : HasFreeBit new c) where
+    unused : (b : ℕ) (duty : Duty) → HasDuty v (relaid s.layout file blocks' extensions') b duty → c ≢ b
+    unused b duty m e =
+        let also : HasDuty v after.layout b duty = subst (λ (l : Layout). HasDuty v l b duty) (sym (layout_after old new t s file node bytes found is_file blocks' extensions' bytes' h)) m in
+        false≢true (sym (named_used new v after b duty also) ∙ ap (has_free_bit new) (sym e) ∙ free)
 
-  -- the header names the first data block, where that one is another, or where it did before
-  pub names_first : (slice_index (pointers_of new file) 0 ≢ slice_index (pointers_of old file) 0) ⊎ NamesFirstData old file → NamesFirstData new file
-  names_first w = elim (cases_eq (length (s.layout.file_data file)) 0) [
-    | inl none ↦ elim (cases_eq (length blocks') 0) [
-      | inl still ↦ unchanged (inl (none, still)) (get_or_past blocks' 0 0 (omega (arith, still)) ∙ sym (get_or_past (s.layout.file_data file) 0 0 (omega (arith, none))))
-      | inr some ↦ keeps.first_taken none (omega (arith, some)) ∙ sym first_new
-    ]
-    | inr some ↦ elim (cases_eq (length blocks') 0) [
-      | inl gone ↦ keeps.first_given (omega (arith, some)) gone ∙ sym (get_or_past blocks' 0 0 (omega (arith, gone))) ∙ sym first_new
-      | inr still ↦ unchanged (inr (omega (arith, some), omega (arith, still))) (elim (h.data_from 0 (omega (arith, still))) [ inl same ↦ same.1 | inr free ↦ absurd (omega (arith, some, free.0)) ])
-    ]
-  ]
-    where
-      unchanged : ((length (s.layout.file_data file) ≡ 0) × (length blocks' ≡ 0)) ⊎ ((0 < length (s.layout.file_data file)) × (0 < length blocks')) → slice_index blocks' 0 ≡ slice_index (s.layout.file_data file) 0 → NamesFirstData new file
-      unchanged c same = elim w [
-        | inl other ↦ absurd (other (first_new ∙ same ∙ sym first_old))
-        | inr named ↦ keeps.first_kept c ∙ named ∙ first_old ∙ sym same ∙ sym first_new
-      ]
+    beside_headers : (q : ℕ) → q ≤ length extensions' → c ≢ slice_index (file ∷ extensions') q
+    beside_headers zero l e = false≢true (sym (key_used file node found) ∙ ap (has_free_bit new) (sym e) ∙ free)
+    beside_headers (suc q) l e =
+        unused (slice_index extensions' q) (Duty.Extension file q) (serves_extension old new t s file node bytes found is_file blocks' extensions' bytes' h q (omega (arith, l))) e
+
+    pub freed_stays : (i : ℕ) → InImage old c → i < 512 → byte_at new c i ≡ byte_at old c i
+    freed_stays i inside l = keeps.others c i l (record {
+      inside = inside.1;
+      beside_pages = λ p m. unused (page_block old p) (Duty.Page p) (page_serves old t s p m);
+      beside_headers = beside_headers;
+      beside_data = λ j m. unused (slice_index blocks' j) (Duty.Data file j) (serves_data old new t s file node bytes found is_file blocks' extensions' bytes' h j m);
+    })

@@ -16,7 +16,7 @@ use Rattle.ados_tree.specs.Tree.Content.{Directory, File}
 use Rattle.ados_tree.specs.Layout.{Duty, HasDuty}
 use Rattle.ados_tree.specs.Stands.{Stands, HasNode, HasEntry, HasRoot, in_slot, type_of}
 use Rattle.ados_tree.proofs.Standing.{count_same, slice_get-index, entry_at}
-use Rattle.change_bytes.proofs.Writable.{key_serves, page_serves, lawful_pages, is_lawful, format_is}
+use Rattle.ados_tree.proofs.Writable.{key_serves, page_serves, lawful_pages, is_lawful, format_is}
 use Rattle.change_bytes.proofs.Content.{refilled, Was, was, file_not_root, proper_after, slots_same}
 use Rattle.change_bytes.proofs.Unchanged.{StaysBut, Stays, long_stays, text_stays, date_stays, long_as, bytes_as, sum_stays, text_as, date_as}
 use Rattle.change_bytes.proofs.Relaid.{IsRewritten, relaid, data_there, data_here, extensions_there, extensions_here, other, fits_after, marked_free_after, marked_used_after}

@@ -14,7 +14,7 @@ use Rattle.ados_tree.specs.Layout.{Layout, Fits, Duty, HasDuty, Named}
 use Rattle.ados_tree.specs.Stands.{Stands}
 use Rattle.ados_tree.proofs.Standing.{count_same, slice_get-index}
 use Rattle.ados_tree.proofs.Counting.{slice_get-back}
-use Rattle.change_bytes.proofs.Writable.{inside, key_serves, named_used, page_serves, beside_pages, format_is}
+use Rattle.ados_tree.proofs.Writable.{inside, key_serves, named_used, page_serves, beside_pages, format_is}
 use Rattle.change_bytes.proofs.Content.{refilled, was, stays, size_here, size_there}
 
 -- a block of a list stands at its old place, or is a further one that was marked free

@@ -1,8 +1,9 @@
 -- A file that is stamped and then rewritten: what follows for the tree and the image.
-use Rattle.std.proofs.Common.{◌≡◌, ◌≢◌, ℕ, ◌+◌, ◌<◌, ◌≤◌, inl, inr, true, false, List, [], length, slice_index, Option, Some, None, option_map, refl, sym, ap, ap₂, ◌∙◌, subst, arith, eq-eqb}
-use Rattle.std.proofs.lemmas.Bool.{ne_eqb, cases_eq, lt-ltb, ltb-true}
-use Rattle.adf_block.specs.Image.{IsInside, block_count, long, has_free_bit, free_bit_count}
+use Rattle.std.proofs.Common.{◌≡◌, ◌≢◌, ℕ, ◌+◌, ◌<◌, ◌≤◌, inl, inr, true, false, List, [], length, Option, Some, None, option_map, refl, sym, ap, ap₂, ◌∙◌, subst, arith, eq-eqb}
+use Rattle.std.proofs.lemmas.Bool.{ne_eqb, cases_eq, lt-ltb, ltb-true, false≢true}
+use Rattle.adf_block.specs.Image.{IsImage, IsInside, block_count, long, has_free_bit, free_bit_count}
 use Rattle.adf_block.specs.Frame.{SameBut}
+use Rattle.adf_block.proofs.Frames.{same_count}
 use Rattle.ados_name.specs.declared.Date3.{Date3}
 use Rattle.ados_data.specs.Cost.{block_cost}
 use Rattle.ados_data.specs.File.{format_of, data_blocks, extension_blocks, contents}
@@ -14,19 +15,22 @@ use Rattle.ados_tree.specs.Layout.{Duty}
 use Rattle.ados_tree.specs.Keys.{HasFileKey, HasTree}
 use Rattle.ados_tree.specs.Stands.{Stands}
 use Rattle.ados_tree.specs.Change.{rewritten, without_archive}
+use Rattle.ados_tree.specs.NewBlocks.{KeepsRest}
 use Rattle.ados_tree.proofs.Nodes.{content_in}
+use Rattle.ados_tree.proofs.FilesStay.{has_bytes, untold_trans}
 use Rattle.ados_tree.proofs.Standing.{root_is, IsFileNode}
 use Rattle.ados_tree.proofs.Counting.{free_bits_count}
 use Rattle.ados_tree.proofs.OneTree.{one_tree}
 use Rattle.change_bytes.specs.Stamps.{AtStamps, touched}
-use Rattle.change_bytes.specs.Renewed.{IsStamped, KeepsRest, NeedsMore}
-use Rattle.change_bytes.proofs.Writable.{inside, key_serves, writable, data_is, extensions_is, bytes_is, format_is}
+use Rattle.change_bytes.specs.Renewed.{IsStamped, NeedsMore}
+use Rattle.ados_tree.proofs.Writable.{inside, key_serves, writable, data_is, extensions_is, bytes_is, format_is}
 use Rattle.change_bytes.proofs.Content.{refilled, holding, file_not_root}
 use Rattle.change_bytes.proofs.Relaid.{IsRewritten}
 use Rattle.change_bytes.proofs.Refilled.{stands_after}
 use Rattle.change_bytes.proofs.BytesKept.{kept}
-use Rattle.change_bytes.proofs.NewBlocks.{takes_lowest, names_first}
-use Rattle.change_bytes.proofs.Stamped.{kept_before, count_marked, lowest_before, pointers_same, first_same, format_same}
+use Rattle.change_bytes.proofs.NewBlocks.{takes_lowest, freed_stays, key_used}
+use Rattle.change_bytes.proofs.Stamped.{kept_before, count_marked, lowest_before, marks_same, format_same, untold_stays}
+use Rattle.change_bytes.proofs.UntoldKept.{untold_kept}
 
 -- the node of a file's key
 pub file_node : (image : List ℕ) (t : Tree) (s : Stands image t) (file : ℕ) → HasFileKey image file → IsFileNode image t s file
@@ -114,6 +118,13 @@ module _ (moment : Date3) (old mid : List ℕ) (file : ℕ) (tree : HasTree old)
       go None = refl
       go (Some a) = refl
 
+  -- so is what any node holds
+  touched_contents : (t : Tree) (k : ℕ) → content_at (touched moment file t) k ≡ content_at t k
+  touched_contents t k = elim (cases_eq k file) [
+    | inl e ↦ ap (content_at (touched moment file t)) e ∙ touched_content t ∙ ap (content_at t) (sym e)
+    | inr n ↦ rw (ne_eqb k file n) refl
+  ]
+
   -- the image after it stands for a tree in which the file is one still
   abbrev pub mid_tree : HasTree mid
   mid_tree = (touched moment file tree.0, h.stands tree.0 tree.1)
@@ -135,6 +146,13 @@ module _ (moment : Date3) (old mid : List ℕ) (file : ℕ) (tree : HasTree old)
 
   rest : SameBut (AtStamps (root tree.0) file) old mid
   rest = subst (λ (r : ℕ). SameBut (AtStamps r file) old mid) (root_is old tree.0 tree.1) h.rest
+
+  -- the same blocks are marked
+  pub inside_mid : (b : ℕ) → IsInside (block_count old) b → IsInside (block_count mid) b
+  inside_mid b i = let count = same_count (AtStamps (root tree.0) file) old mid rest in (i.0, omega (arith, i.1, count))
+
+  pub marks_mid : (b : ℕ) → IsInside (block_count old) b → has_free_bit mid b ≡ has_free_bit old b
+  marks_mid b i = marks_same old mid tree.0 tree.1 file node.node node.at file_is_no_root rest b i
 
   -- the file's bytes are the same, and there is as much room
   pub same_contents : contents mid file ≡ contents old file
@@ -166,8 +184,9 @@ module _ (moment : Date3) (old mid : List ℕ) (file : ℕ) (tree : HasTree old)
         (stands_after mid new (touched moment file u) after file f.node f.bytes f.at f.content (data_blocks new file) (extension_blocks new file) (contents new file) laid)
 
     module _ (keeps : KeepsUnnamed mid file (data_blocks mid file) (extension_blocks mid file) new (data_blocks new file) (extension_blocks new file))
+        (images : contents new file ≡ contents mid file → IsImage mid × IsImage new)
         (lowest : (c d : ℕ) → IsInside (block_count mid) d → 2 ≤ c → c < d → has_free_bit mid d ≡ true → has_free_bit new d ≡ false → has_free_bit new c ≡ false) where
-      pub keeps_rest : KeepsRest old file new
+      pub keeps_rest : KeepsRest old new
       keeps_rest =
           let u = touched moment file tree.0 in
           let f = file_node mid u mid_tree.1 file mid_key in
@@ -184,10 +203,18 @@ module _ (moment : Date3) (old mid : List ℕ) (file : ℕ) (tree : HasTree old)
                 (kept mid new u mid_tree.1 file f.node f.bytes f.at f.content (data_blocks new file) (extension_blocks new file) (contents new file) laid unnamed);
             lowest = lowest_before old mid tree.0 tree.1 file node.node node.at file_is_no_root rest new
                 (takes_lowest mid new u mid_tree.1 file f.node f.bytes f.at f.content (data_blocks new file) (extension_blocks new file) (contents new file) laid unnamed lowest);
-            first = λ w.
-                names_first mid new u mid_tree.1 file f.node f.bytes f.at f.content (data_blocks new file) (extension_blocks new file) (contents new file) laid unnamed
-                (elim w [
-                  | inl other ↦ inl (λ z. other (z ∙ ap (λ (xs : List ℕ). slice_index xs 0) (pointers_same old mid tree.0 tree.1 file node.node node.at file_is_no_root rest file)))
-                  | inr named ↦ inr (first_same old mid tree.0 tree.1 file node.node node.at file_is_no_root rest named)
+            freed = λ b i inside free no_entry l.
+                let used = key_used mid new u mid_tree.1 file f.node f.bytes f.at f.content (data_blocks new file) (extension_blocks new file) (contents new file) laid unnamed in
+                let at_root = used (root u) mid_tree.1.proper.root_node.0 mid_tree.1.proper.root_node.1 in
+                freed_stays mid new u mid_tree.1 file f.node f.bytes f.at f.content (data_blocks new file) (extension_blocks new file) (contents new file) laid unnamed b free i (inside_mid b inside) l
+                ∙ rest.same_byte b i l (λ w. elim w [
+                  | inl z ↦ false≢true (sym (used file f.node f.at) ∙ ap (has_free_bit new) (sym z.0) ∙ free)
+                  | inr z ↦ false≢true (sym at_root ∙ ap (has_free_bit new) (sym z.0) ∙ free)
                 ]);
+            untold = untold_trans old mid new tree.0 u tree.1 mid_tree.1 (same_count (AtStamps (root tree.0) file) old mid rest)
+                (format_same old mid tree.0 tree.1 file node.node node.at file_is_no_root rest)
+                (λ g bs is was. has_bytes mid u mid_tree.1 g bs (touched_contents tree.0 g ∙ was tree.0 tree.1))
+                (untold_stays old mid tree.0 tree.1 file node.node node.at file_is_no_root rest)
+                (untold_kept mid new u mid_tree.1 file f.node f.bytes f.at f.content (data_blocks new file) (extension_blocks new file) (contents new file) laid unnamed
+                (λ same. images (same ∙ sym (bytes_is mid u mid_tree.1 file f.node f.bytes f.at f.content))));
           }

@@ -1,8 +1,7 @@
 -- An image in which the moment of a change was put: all but that is as before.
-use Rattle.std.proofs.Common.{◌≡◌, ◌≢◌, ℕ, zero, suc, ◌+◌, ◌-◌, ◌/◌, ◌%◌, ◌^◌, ◌<◌, ◌≤◌, inl, inr, ◌==◌, not, bit_and, nat_le, Bool, true, false, cond, List, [], ◌∷◌, ◌++◌, slice_index, Some, refl, sym, ap, ap₂, ◌∙◌, subst, arith}
-use Rattle.std.proofs.lemmas.Bool.{leb-true}
+use Rattle.std.proofs.Common.{◌≡◌, ◌≢◌, ℕ, ◌+◌, ◌-◌, ◌/◌, ◌%◌, ◌^◌, ◌<◌, ◌≤◌, inl, inr, ◌==◌, not, bit_and, Bool, cond, List, [], ◌∷◌, Some, refl, sym, ap, ◌∙◌, subst, arith}
 use Rattle.adf_block.specs.Image.{block_count, root_key, page_count, IsInside, byte_at, long, has_free_bit, free_bit_count, total}
-use Rattle.adf_block.specs.Fields.{pointer_count, name_byte, comment_byte}
+use Rattle.adf_block.specs.Fields.{name_byte, comment_byte}
 use Rattle.adf_block.specs.Frame.{SameBut}
 use Rattle.adf_block.proofs.Frames.{same_long, same_count}
 use Rattle.adf_block.proofs.Totals.{total-same}
@@ -13,15 +12,18 @@ use Rattle.ados_tree.specs.Layout.{Duty, HasDuty}
 use Rattle.ados_tree.specs.Stands.{Stands}
 use Rattle.ados_tree.specs.declared.role.Role.{Role}
 use Rattle.ados_tree.specs.declared.role.Role.TheVariants as roles
-use Rattle.ados_tree.specs.Faults.{IsPlace, IsPointer, Reached, first_pointers, pointers_of}
+use Rattle.ados_tree.specs.Faults.{IsPlace, IsPointer, IsFile, Reached}
 use Rattle.ados_tree.specs.Faults.IsPlace.{root_page, root_slot, directory_slot, next_entry, header_pointer, first_extension, extension_pointer, further_extension}
 use Rattle.ados_tree.specs.Faults.Reached.{start, named}
 use Rattle.ados_tree.specs.Kept.{Kept, IsField, Alike, InLongs, InText}
 use Rattle.ados_tree.specs.Kept.IsField.{root_longs, root_name, page_longs, directory_longs, file_longs, entry_name, entry_comment, extension_longs, ofs_data_longs, ofs_data, ffs_data}
-use Rattle.ados_tree.specs.NewBlocks.{IsTaken, TakesLowest, NamesFirstData}
+use Rattle.ados_tree.specs.NewBlocks.{IsTaken, TakesLowest}
+use Rattle.ados_tree.specs.Untold.{KeepsUntold, data_at}
+use Rattle.ados_tree.proofs.FilesStay.{data_blocks_stay, data_serves, extension_blocks_stay, file_of_key, files_stay}
+use Rattle.ados_tree.proofs.Keeping.{first_stays, keeps_first_since}
 use Rattle.ados_tree.proofs.Standing.{count_same, root_is, reached_stands, root_at}
 use Rattle.change_bytes.specs.Stamps.{IsFileStamp, IsDiskStamp, AtStamps}
-use Rattle.change_bytes.proofs.Writable.{key_serves, page_serves}
+use Rattle.ados_tree.proofs.Writable.{key_serves, page_serves}
 
 -- a long that is no stamp, neither of a file nor of the root
 data IsPlain (j : ℕ) : Type 0 where
@@ -168,21 +170,31 @@ module _ (old new : List ℕ) (t : Tree) (s : Stands old t) (file : ℕ) (node :
         let moved = reached_moves r in
         let none : ¬ IsField new b role i = λ f. n (field_back b i role f) in
         g.others b i role role' l moved r' alike none n' ∙ k.others b i role role l r moved (alike_self role) n none;
+    first = λ b f f'.
+        let moved : IsFile new b = record { dir = f.dir; slot_of_chain = f.slot_of_chain; reached = reached_moves f.reached; secondary = plain_long b 127 (omega arith) (back (omega arith)) ∙ f.secondary } in
+        let firsts = first_stays old new b (plain_long b 2 (omega arith) (front (omega arith))) (λ i l. plain_long b (77 - i) (omega arith) (table (omega (arith, l)) (omega arith))) in
+        keeps_first_since old new last b firsts (plain_long b 4 (omega arith) (front (omega arith))) (g.first b moved f');
   }
 
   -- ---- marks
 
-  pub marks_same : (b : ℕ) → IsInside (block_count old) b → has_free_bit new b ≡ has_free_bit old b
-  unfolding has_free_bit
-  marks_same b i =
-      let within : (b - 2) / 4064 < pages_of old = omega (arith, i.0, i.1) in
+  page_same : (p : ℕ) → p < pages_of old → page_block new p ≡ page_block old p
+  page_same p l =
       let root_new : root_key (block_count new) ≡ root t = ap root_key count ∙ root_is old t s in
-      let page : page_block new ((b - 2) / 4064) ≡ page_block old ((b - 2) / 4064) =
-      ap (λ (r : ℕ). long new r (79 + (b - 2) / 4064)) root_new ∙ page_long ((b - 2) / 4064) within ∙ ap (λ (r : ℕ). long old r (79 + (b - 2) / 4064)) (sym (root_is old t s)) in
+      ap (λ (r : ℕ). long new r (79 + p)) root_new ∙ page_long p l ∙ ap (λ (r : ℕ). long old r (79 + p)) (sym (root_is old t s))
+
+  -- each bit, those past the end too
+  bit_same : (b : ℕ) → (b - 2) / 4064 < pages_of old → has_free_bit new b ≡ has_free_bit old b
+  unfolding has_free_bit
+  bit_same b within =
+      let page : page_block new ((b - 2) / 4064) ≡ page_block old ((b - 2) / 4064) = page_same ((b - 2) / 4064) within in
       let serves = page_serves old t s ((b - 2) / 4064) within in
       let value = ap (λ (x : ℕ). long new x (1 + (b - 2) % 4064 / 32)) page
       ∙ same_long (AtStamps (root t) file) old new h (page_block old ((b - 2) / 4064)) (1 + (b - 2) % 4064 / 32) (omega arith) (λ k e. block_stays (page_block old ((b - 2) / 4064)) (Duty.Page ((b - 2) / 4064)) serves (λ z. cc z) k) in
       ap (λ (x : ℕ). not (bit_and x (2 ^ ((b - 2) % 32)) == 0)) value
+
+  pub marks_same : (b : ℕ) → IsInside (block_count old) b → has_free_bit new b ≡ has_free_bit old b
+  marks_same b i = bit_same b (omega (arith, i.0, i.1))
 
   pub count_marked : free_bit_count new ≡ free_bit_count old
   count_marked =
@@ -196,28 +208,25 @@ module _ (old new : List ℕ) (t : Tree) (s : Stands old t) (file : ℕ) (node :
   lowest_before last g = record {
     lowest = λ b other m i was is. g.lowest b other (moved b m) (i.0, omega (arith, i.1, count)) (marks_same other i ∙ was) is;
     zero_else = λ b i role m r l n. g.zero_else b i role (moved b m) r l n;
+    first = λ b m f. g.first b (moved b m) f;
   }
     where
       moved : (b : ℕ) → IsTaken old last b → IsTaken new last b
       moved b m = record { inside = (m.inside.0, omega (arith, m.inside.1, count)); was_free = marks_same b m.inside ∙ m.was_free; in_use = m.in_use }
 
-  -- ---- the first data block
-
-  first_pointers_same : (b n : ℕ) → n ≤ 72 → first_pointers new b n ≡ first_pointers old b n
-  first_pointers_same b zero l = refl
-  first_pointers_same b (suc n) l =
-      ap₂ (λ (xs : List ℕ) (x : ℕ). xs ++ x ∷ []) (first_pointers_same b n (omega arith)) (plain_long b (77 - n) (omega arith) (table (omega arith) (omega arith)))
-
-  pub pointers_same : (b : ℕ) → pointers_of new b ≡ pointers_of old b
-  pointers_same b =
-      ap (λ (n : ℕ). cond (nat_le n 72) (first_pointers new b n) []) (plain_long b 2 (omega arith) (front (omega arith))) ∙ go (nat_le (pointer_count old b) 72) refl
-    where
-      go : (v : Bool) → nat_le (pointer_count old b) 72 ≡ v → cond v (first_pointers new b (pointer_count old b)) [] ≡ cond v (first_pointers old b (pointer_count old b)) []
-      go true e = first_pointers_same b (pointer_count old b) (leb-true (pointer_count old b) 72 e)
-      go false e = refl
-
-  pub first_same : NamesFirstData old file → NamesFirstData new file
-  first_same e = plain_long file 4 (omega arith) (front (omega arith)) ∙ e ∙ ap (λ (xs : List ℕ). slice_index xs 0) (sym (pointers_same file))
-
   pub format_same : format_of new ≡ format_of old
   format_same = rw ofs_back refl
+
+  -- ---- what no tree tells of
+
+  pub untold_stays : KeepsUntold old new
+  untold_stays =
+      let links : (b : ℕ) → long new b 126 ≡ long old b 126 = λ b. plain_long b 126 (omega arith) (back (omega arith)) in
+      let pointers : (b i : ℕ) → i < 72 → long new b (77 - i) ≡ long old b (77 - i) = λ b i l. plain_long b (77 - i) (omega (arith, l)) (table (omega (arith, l)) (omega arith)) in
+      let size : (f : ℕ) → long new f 81 ≡ long old f 81 = λ f. plain_long f 81 (omega arith) (texts (omega arith) (omega arith)) in
+      files_stay old new (record { pages = page_same; bits = λ k has past. bit_same k (omega (arith, has.0, has.1)) })
+      (λ f was is. record {
+        blocks = data_blocks_stay old new links pointers format_same f (size f);
+        extensions = extension_blocks_stay old new links pointers format_same f (size f);
+        bytes = λ q i l m. h.same_byte (data_at old f q) i m (block_stays (data_at old f q) (Duty.Data f q) (data_serves old t s f (file_of_key old t s f was) q l) (λ z. cc z) i);
+      })

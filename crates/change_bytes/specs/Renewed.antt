@@ -1,14 +1,13 @@
 -- What a change of a file's content does.
-use Rattle.std.specs.Prelude.{◌≢◌, ℕ, ◌+◌, max, nat_lt, Bool, IsTrue, ◌⊎◌, List, length, slice_index}
+use Rattle.std.specs.Prelude.{◌≡◌, ℕ, ◌+◌, max, nat_lt, Bool, IsTrue, List, length}
 use Rattle.adf_block.specs.Frame.{SameBut}
 use Rattle.ados_name.specs.declared.Date3.{Date3}
 use Rattle.ados_data.specs.Cost.{block_cost}
 use Rattle.ados_tree.specs.Tree.{Tree, free, size_of}
 use Rattle.ados_tree.specs.Stands.{Stands}
 use Rattle.ados_tree.specs.Change.{grown, written}
-use Rattle.ados_tree.specs.Faults.{pointers_of, root_of}
+use Rattle.ados_tree.specs.Faults.{root_of}
 use Rattle.ados_tree.specs.Kept.{Kept}
-use Rattle.ados_tree.specs.NewBlocks.{TakesLowest, NamesFirstData}
 use Rattle.change_bytes.specs.Stamps.{AtStamps, touched}
 
 -- with this size the file needs more blocks than it has and are free
@@ -32,6 +31,10 @@ Writes moment file pos bytes old new =
 abbrev pub CannotWrite : ℕ → ℕ → List ℕ → List ℕ → Type 0
 CannotWrite file pos bytes image = (t : Tree) → Stands image t → NeedsMore t file (written_size t file pos bytes)
 
+-- the image is as it was, and there is no room to write them
+abbrev pub StaysUnwritten : ℕ → ℕ → List ℕ → List ℕ → List ℕ → Type 0
+StaysUnwritten file pos bytes old new = (new ≡ old) × CannotWrite file pos bytes old
+
 -- there was room for zeros behind the file up to this size, and the new image stands for the tree with them
 abbrev pub Grows : Date3 → ℕ → ℕ → List ℕ → List ℕ → Type 0
 Grows moment file size old new = (t : Tree) → Stands old t → (¬ NeedsMore t file size) × Stands new (grown moment file size t)
@@ -40,18 +43,12 @@ Grows moment file size old new = (t : Tree) → Stands old t → (¬ NeedsMore t
 abbrev pub CannotGrow : ℕ → ℕ → List ℕ → Type 0
 CannotGrow file size image = (t : Tree) → Stands image t → NeedsMore t file size
 
+-- the image is as it was, and there is no room for them
+abbrev pub StaysUngrown : ℕ → ℕ → List ℕ → List ℕ → Type 0
+StaysUngrown file size old new = (new ≡ old) × CannotGrow file size old
+
 -- the moment of a change was put into the file and the root, and nothing else was changed
 pub record IsStamped (moment : Date3) (old : List ℕ) (file : ℕ) (new : List ℕ) : Type 0 where
   pub stands : (t : Tree) → Stands old t → Stands new (touched moment file t)
   pub kept : Kept old new
   pub rest : SameBut (AtStamps (root_of old) file) old new
-
--- the first data block of a file, or 0
-abbrev pub first_data : List ℕ → ℕ → ℕ
-first_data image file = slice_index (pointers_of image file) 0
-
--- what no field names is kept; the blocks that are taken are the lowest free ones, and empty but for their fields; and where the file's first data block changes its header names it, in FFS too
-pub record KeepsRest (old : List ℕ) (file : ℕ) (new : List ℕ) : Type 0 where
-  pub kept : Kept old new
-  pub lowest : TakesLowest old new
-  pub first : (first_data new file ≢ first_data old file) ⊎ NamesFirstData old file → NamesFirstData new file

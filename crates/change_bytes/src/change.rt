@@ -5,7 +5,8 @@ ghost use Rattle.ados_tree.specs.Tree.{Tree, size_of};
 ghost use Rattle.ados_tree.specs.Stands.{Stands};
 ghost use Rattle.ados_tree.specs.Keys.{HasFileKey, HasTree};
 ghost use Rattle.ados_tree.specs.Change.{shortened};
-ghost use Rattle.change_bytes.specs.Renewed.{CannotGrow, CannotWrite, Grows, KeepsRest, Writes};
+ghost use Rattle.ados_tree.specs.NewBlocks.{KeepsRest, TakesNone};
+ghost use Rattle.change_bytes.specs.Renewed.{Grows, StaysUngrown, StaysUnwritten, Writes};
 
 use crate::space::{has_room, size_of};
 use crate::stamp::stamp;
@@ -26,8 +27,8 @@ pub fn write(
     requires tree { HasTree image.old }
     requires file { HasFileKey image.old file }
     requires start { (t : Tree) → Stands image.old t → pos ≤ size_of t file }
-    ensures done { MatchResult result (λ _. Writes moment file pos bytes.now image.old image.new) (λ _. (image.new ≡ image.old) × CannotWrite file pos bytes.now image.old) }
-    ensures rest { KeepsRest image.old file image.new }
+    ensures done { MatchResult result (λ _. Writes moment file pos bytes.now image.old image.new) (λ _. StaysUnwritten file pos bytes.now image.old image.new) }
+    ensures keeps { KeepsRest image.old image.new }
 {
     if bytes.is_empty() {
         return Ok(());
@@ -37,7 +38,9 @@ pub fn write(
         return Err(Full);
     }
     stamp(image, file, moment);
+    prove!(image.blocks() >= 16);
     write_at(image, file, pos, bytes);
+    prove!(image.blocks() >= 16);
     Ok(())
 }
 
@@ -47,10 +50,13 @@ pub fn cut(image: &mut Image, file: u32, size: u32, moment: Date3)
     requires file { HasFileKey image.old file }
     requires shorter { (t : Tree) → Stands image.old t → size ≤ size_of t file }
     ensures stands { (t : Tree) → Stands image.old t → Stands image.new (shortened moment file size t) }
-    ensures rest { KeepsRest image.old file image.new }
+    ensures keeps { KeepsRest image.old image.new }
+    ensures none { TakesNone image.old image.new }
 {
     stamp(image, file, moment);
+    prove!(image.blocks() >= 16);
     ados_data::cut(image, file, size);
+    prove!(image.blocks() >= 16);
 }
 
 /// Puts zeros behind the bytes of a file, up to this size. The image stays as it was where the blocks do not suffice.
@@ -58,8 +64,8 @@ pub fn grow(image: &mut Image, file: u32, size: u32, moment: Date3) -> Result<()
     requires tree { HasTree image.old }
     requires file { HasFileKey image.old file }
     requires longer { (t : Tree) → Stands image.old t → size_of t file < size }
-    ensures done { MatchResult result (λ _. Grows moment file size image.old image.new) (λ _. (image.new ≡ image.old) × CannotGrow file size image.old) }
-    ensures rest { KeepsRest image.old file image.new }
+    ensures done { MatchResult result (λ _. Grows moment file size image.old image.new) (λ _. StaysUngrown file size image.old image.new) }
+    ensures keeps { KeepsRest image.old image.new }
 {
     if !has_room(image, file, size as u64) {
         return Err(Full);

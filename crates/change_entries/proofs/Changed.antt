@@ -1,10 +1,13 @@
 -- What the nodes of a changed tree are.
-use Rattle.std.proofs.Common.{◌≡◌, ◌≢◌, ℕ, ◌⊎◌, inl, inr, List, Option, Some, None, option_map, option_and_then, refl, sym, ap, ◌∙◌, subst, eq-eqb}
+use Rattle.std.proofs.Common.{◌≡◌, ◌≢◌, ℕ, ◌⊎◌, inl, inr, ◌==◌, not, List, Option, Some, None, is_some, IsSome, option_map, option_and_then, refl, sym, ap, ◌∙◌, subst, eq-eqb}
+use Rattle.std.specs.Prelude.{filter}
+use Rattle.std.specs.Option.{option_map_or}
 use Rattle.std.proofs.lemmas.Bool.{ne_eqb, cases_eq}
+use Rattle.ados_name.specs.Name.{slot}
 use Rattle.ados_name.specs.declared.Date3.{Date3}
-use Rattle.ados_tree.specs.Tree.{Node, Tree, entries, entries_in, name_in, name_of, parent_of}
+use Rattle.ados_tree.specs.Tree.{Content, Node, Tree, entries, entries_in, name_in, name_of, parent_of}
 use Rattle.ados_tree.specs.Tree.Content.{Directory}
-use Rattle.ados_tree.specs.Change.{with_node, changed, listed}
+use Rattle.ados_tree.specs.Change.{with_node, changed, enter, left, listed, made, new_node, removed, renamed}
 
 pub nodes_here : (key : ℕ) (o : Option Node) (t : Tree) → (with_node key o t).nodes key ≡ o
 nodes_here key o t = rw (eq-eqb key key refl) refl
@@ -61,8 +64,74 @@ module _ (moment : Date3) (dir : ℕ) (keys : List ℕ) (t : Tree) where
       go None = refl
       go (Some a) = refl
 
+  pub listed_some : (k : ℕ) → is_some ((listed moment dir keys t).nodes k) ≡ is_some (t.nodes k)
+  listed_some k = changed_keeps is_some (relisted moment keys) dir t go k
+    where
+      go : (o : Option Node) → is_some (option_map (relisted moment keys) o) ≡ is_some o
+      go None = refl
+      go (Some a) = refl
+
   pub listed_here : (a : Node) → t.nodes dir ≡ Some a → entries (listed moment dir keys t) dir ≡ keys
   listed_here a e = ap (λ (o : Option Node). entries_in (option_map (λ node. node.content) o)) (nodes_here dir (option_map (relisted moment keys) (t.nodes dir)) t ∙ ap (option_map (relisted moment keys)) e)
 
   pub listed_other : (d : ℕ) → d ≢ dir → entries (listed moment dir keys t) d ≡ entries t d
   listed_other d n = ap (λ (o : Option Node). entries_in (option_map (λ node. node.content) o)) (nodes_other dir (option_map (relisted moment keys) (t.nodes dir)) t d n)
+
+-- ---- what stays of a tree whose entries change: its size, its lost blocks, and its keys but for those that come and go
+
+module _ (moment : Date3) (key : ℕ) (t : Tree) where
+  abbrev left_by : Option ℕ → Tree
+  left_by o = option_map_or (λ dir. listed moment dir (filter (λ j. not (j == key)) (entries t dir)) t) o t
+
+  pub left_blocks : (left moment key t).blocks ≡ t.blocks
+  left_blocks = go (parent_of t key)
+    where
+      go : (o : Option ℕ) → (left_by o).blocks ≡ t.blocks
+      go None = refl
+      go (Some dir) = refl
+
+  pub left_lost : (left moment key t).lost ≡ t.lost
+  left_lost = go (parent_of t key)
+    where
+      go : (o : Option ℕ) → (left_by o).lost ≡ t.lost
+      go None = refl
+      go (Some dir) = refl
+
+  left_some : (k : ℕ) → is_some ((left moment key t).nodes k) ≡ is_some (t.nodes k)
+  left_some k = go (parent_of t key)
+    where
+      go : (o : Option ℕ) → is_some ((left_by o).nodes k) ≡ is_some (t.nodes k)
+      go None = refl
+      go (Some dir) = listed_some moment dir (filter (λ j. not (j == key)) (entries t dir)) t k
+
+  pub removed_some : (k : ℕ) → k ≢ key → is_some ((removed moment key t).nodes k) ≡ is_some (t.nodes k)
+  removed_some k n = ap is_some (nodes_other key None (left moment key t) k n) ∙ left_some k
+
+-- the keys of a directory that a key enters
+abbrev with_key : ℕ → ℕ → Tree → List ℕ
+with_key dir key t = enter (λ k. slot (name_of t k)) key (entries t dir)
+
+-- an entry under another name, in another directory
+abbrev retitled : ℕ → List ℕ → Node → Node
+retitled dir name node = record node { name = name; parent = Some dir }
+
+module _ (moment : Date3) (key dir : ℕ) (name : List ℕ) (t : Tree) where
+  abbrev moving : Tree
+  moving = changed key (retitled dir name) (left moment key t)
+
+  pub renamed_some : (k : ℕ) → is_some ((renamed moment key dir name t).nodes k) ≡ is_some (t.nodes k)
+  renamed_some k = listed_some moment dir (with_key dir key moving) moving k ∙ changed_keeps is_some (retitled dir name) key (left moment key t) go k ∙ left_some moment key t k
+    where
+      go : (o : Option Node) → is_some (option_map (retitled dir name) o) ≡ is_some o
+      go None = refl
+      go (Some a) = refl
+
+module _ (moment : Date3) (dir key : ℕ) (name : List ℕ) (content : Content) (t : Tree) where
+  abbrev making : Tree
+  making = with_node key (Some (new_node moment dir name content)) t
+
+  pub made_here : IsSome ((made moment dir key name content t).nodes key)
+  made_here = listed_some moment dir (with_key dir key making) making key ∙ ap is_some (nodes_here key (Some (new_node moment dir name content)) t)
+
+  pub made_other : (k : ℕ) → k ≢ key → is_some ((made moment dir key name content t).nodes k) ≡ is_some (t.nodes k)
+  made_other k n = listed_some moment dir (with_key dir key making) making k ∙ ap is_some (nodes_other key (Some (new_node moment dir name content)) t k n)

@@ -1,10 +1,10 @@
 -- The steps by which an entry is made.
-use Rattle.std.proofs.Common.{◌≡◌, ◌≢◌, ℕ, ◌+◌, ◌<◌, inl, inr, List, false, Some, refl, sym, ap, ◌∙◌, subst, arith}
+use Rattle.std.proofs.Common.{◌≡◌, ◌≢◌, ℕ, ◌+◌, ◌<◌, inl, inr, List, false, Some, IsSome, refl, sym, ap, ◌∙◌, subst, arith}
 use Rattle.std.proofs.lemmas.Bool.{cases_eq}
-use Rattle.adf_block.specs.Frame.{OnlyBlock}
-use Rattle.adf_block.specs.Image.{block_count, root_key}
+use Rattle.adf_block.specs.Frame.{OnlyBlock, SameBut}
+use Rattle.adf_block.specs.Image.{HasFreeBit, block_count, root_key}
 use Rattle.adf_block.proofs.Frames.{same_count, same_trans}
-use Rattle.ados_map.specs.Changes.{BitChanged}
+use Rattle.ados_map.specs.Changes.{MapPlace, BitChanged}
 use Rattle.ados_map.specs.Pages.{IsLowestFree, LawfulPages, page_of, pages_of}
 use Rattle.ados_name.specs.declared.Date3.{Date3}
 use Rattle.ados_chain.proofs.Changes.{slot_at-small}
@@ -13,16 +13,17 @@ use Rattle.ados_chain.specs.Relinks.{CanInsert, InsertsLast, link_block, link_lo
 use Rattle.ados_tree.specs.Change.{made, new_node, with_node}
 use Rattle.ados_tree.specs.Stands.{Stands, in_slot}
 use Rattle.ados_tree.specs.Tree.{Node, Tree, root, size_in}
-use Rattle.ados_tree.specs.Kept.{Kept}
 use Rattle.ados_tree.specs.Layout.{Duty, HasDuty}
-use Rattle.ados_tree.specs.NewBlocks.{TakesLowest}
+use Rattle.ados_tree.specs.NewBlocks.{KeepsRest, TakesLowest}
+use Rattle.ados_tree.specs.Untold.{KeepsPastEnd}
+use Rattle.ados_tree.proofs.FilesStay.{past_end_trans}
 use Rattle.change_entries.specs.declared.node_kind.NodeKind.{NodeKind}
 use Rattle.change_entries.specs.declared.node_kind.NodeKind.TheVariants as kinds
 use Rattle.change_entries.specs.Conditions.{CanMake, IsEmpty, IsUnused}
 use Rattle.change_entries.specs.Kinds.{content_of}
 use Rattle.change_entries.specs.steps.Making.{IsNewEntry}
 use Rattle.change_entries.specs.steps.Writes.{AtDate, AtLongs, Dated}
-use Rattle.change_entries.proofs.Changed.{nodes_here, nodes_other}
+use Rattle.change_entries.proofs.Changed.{made_here, made_other, nodes_here, nodes_other}
 use Rattle.change_entries.proofs.FirstFree.{AtLink, dated_there, linked_there, stamped_there, takes_key}
 use Rattle.change_entries.proofs.Lawful.{lawful_chains, lawful_pages, page_is, page_within}
 use Rattle.change_entries.proofs.EntriesKept.{IsWritten, written_kept}
@@ -32,7 +33,9 @@ use Rattle.change_entries.proofs.Loose.{Loose, proper_is_loose}
 use Rattle.change_entries.proofs.Making.{begun_spells, made_spells, made_stands, no_duty, unused}
 use Rattle.change_entries.proofs.ProperChanges.{IsDirectoryNode, begun_is_loose, dir_not_key, directory_at}
 use Rattle.change_entries.proofs.Relisted.{IsLinkPlace}
+use Rattle.change_entries.proofs.Spared.{keeps_freed}
 use Rattle.change_entries.proofs.Spells.{Spells, spells}
+use Rattle.change_entries.proofs.UntoldKept.{IsOffMap, bit_past_end, dated_off, filled_off, linked_off, off_past_end, old_pages, pages_after, stamped_off, untold_kept}
 
 -- the pages of an image that stands for a tree are lawful
 pub pages_of_standing : (image : List ℕ) (t : Tree) → Stands image t → LawfulPages image
@@ -113,49 +116,88 @@ module _ (old m1 m2 : List ℕ) (t : Tree) (st : Stands old t) (moment : Date3) 
           made_stands old m1 m2 t st moment dir key name (content_of kind) can fresh empty no_bytes low taken filled entry m3 m4 m5 inserted dated
           (at_root m4 m5 t moment (dated_count dir 105 moment m3 m4 dated ∙ count_m3) stamp)
 
-      -- ---- what is no field
+      restamped : Dated (root t) 118 moment m4 m5
+      restamped = at_root m4 m5 t moment (dated_count dir 105 moment m3 m4 dated ∙ count_m3) stamp
+
+      after : Spells m5 (made moment dir key name (content_of kind) t) st.layout
+      after = made_spells old m1 m2 t st moment dir key name (content_of kind) can fresh empty no_bytes low taken filled entry m3 m4 m5 inserted dated restamped
+
+      -- ---- what is written
 
       no_duties : (duty : Duty) → ¬ HasDuty t st.layout key duty
       no_duties = no_duty old t st.layout (spells old t st) key fresh.inside low.free
 
+      in_use : ¬ HasFreeBit m5 key
+      in_use free = after.marked_free key fresh.inside free (Duty.Key, made_here moment dir key name (content_of kind) t)
+
       known : (k : ℕ) (x : Node) → begun.nodes k ≡ Some x → k ≢ root t → IsKnown old t st m5 k
       known k x e n = elim (cases_eq k key) [
-        | inl same ↦ subst (IsKnown old t st m5) (sym same) (inr (fresh.inside.0, no_duties))
+        | inl same ↦ subst (IsKnown old t st m5) (sym same) (inr (fresh.inside.0, in_use, no_duties))
         | inr other ↦ inl (x, sym (nodes_other key (Some (new_node moment dir name (content_of kind))) t k other) ∙ e, n)
       ]
 
       own_page : page_of key < pages_of old
       own_page = omega (arith, low.inside.0, low.inside.1)
 
-      pub created_kept : Kept old m5
-      created_kept =
+      created_written : SameBut (IsWritten old t st m5) old m5
+      created_written =
           let whole = proper_is_loose t st.proper in
           let within = page_within old t st.layout 0 (spells old t st) whole (page_of key) own_page in
           let page = page_is old t st.layout 0 (spells old t st) whole (page_of key) within in
-          written_kept old m5 t st
-          (same_trans (IsWritten old t st m5) old m4 m5
+          same_trans (IsWritten old t st m5) old m4 m5
           (same_trans (IsWritten old t st m5) old m3 m4
           (same_trans (IsWritten old t st m5) old m2 m3
           (same_trans (IsWritten old t st m5) old m1 m2
           (marked_kept old t st m5 key (page_of key) false old m1 within (sym page) taken)
-          (filled_kept old t st m5 key fresh.inside.0 no_duties m1 m2 filled))
+          (filled_kept old t st m5 key fresh.inside.0 in_use no_duties m1 m2 filled))
           (linked_kept old t st m5 begun dir (link_block dir (in_slot begun dir slot_key)) (link_long (6 + slot_key) (in_slot begun dir slot_key)) key key directory.node directory.keys directory.at directory.content known link_at
-          (inr (fresh.inside.0, no_duties)) m2 m3 inserted.relinks))
+          (inr (fresh.inside.0, in_use, no_duties)) m2 m3 inserted.relinks))
           (dated_kept old t st m5 dir directory.node directory.at moment m3 m4 dated))
-          (stamped_kept old t st m5 moment m4 m5 (at_root m4 m5 t moment (dated_count dir 105 moment m3 m4 dated ∙ count_m3) stamp)))
+          (stamped_kept old t st m5 moment m4 m5 restamped)
 
       -- ---- which block it is
 
-      pub created_lowest : TakesLowest old m5
+      no_root : key ≢ root t
+      no_root e = cc (sym fresh.no_node ∙ ap t.nodes e ∙ st.proper.root_node.1)
+
+      created_lowest : TakesLowest old m5
       created_lowest =
-          let restamped = at_root m4 m5 t moment (dated_count dir 105 moment m3 m4 dated ∙ count_m3) stamp in
-          let no_root : key ≢ root t = λ e. cc (sym fresh.no_node ∙ ap t.nodes e ∙ st.proper.root_node.1) in
           takes_key m2 m5 key dir name (content_of kind) moment entry
           (same_trans (AtLink key) m2 m4 m5
           (same_trans (AtLink key) m2 m3 m4
           (linked_there key dir t apart no_root begun (link_block dir (in_slot begun dir slot_key)) (link_long (6 + slot_key) (in_slot begun dir slot_key)) key link_at m2 m3 inserted.relinks)
           (dated_there key dir t apart no_root moment m3 m4 dated))
           (stamped_there key dir t apart no_root moment m4 m5 restamped))
-          old t st low no_root
-          (made_spells old m1 m2 t st moment dir key name (content_of kind) can fresh empty no_bytes low taken filled entry m3 m4 m5 inserted dated restamped)
-          created
+          old t st low no_root after created
+
+      -- ---- the map past its end
+
+      of_key : IsKnown old t st m5 key
+      of_key = inr (fresh.inside.0, in_use, no_duties)
+
+      off_map : SameBut (IsOffMap old t st) m1 m5
+      off_map =
+          same_trans (IsOffMap old t st) m1 m4 m5
+          (same_trans (IsOffMap old t st) m1 m3 m4
+          (same_trans (IsOffMap old t st) m1 m2 m3
+          (filled_off old t st m5 key of_key no_root m1 m2 filled)
+          (linked_off old t st m5 begun dir (link_block dir (in_slot begun dir slot_key)) (link_long (6 + slot_key) (in_slot begun dir slot_key)) key key directory.node directory.at known link_at of_key m2 m3 inserted.relinks))
+          (dated_off old t st dir 105 directory.node directory.at (omega arith) moment m3 m4 dated))
+          (stamped_off old t st moment m4 m5 restamped)
+
+      past_end : KeepsPastEnd old m5
+      past_end =
+          let bit = bit_past_end old t st old m1 key false (old_pages old t st) (pages_of_standing old t st) low.inside taken in
+          let count = same_count (MapPlace old key) old m1 taken.rest in
+          past_end_trans old m1 m5 count bit (off_past_end old t st m1 m5 (pages_after old t st old m1 count bit (old_pages old t st)) off_map)
+
+      pub created_keeps : KeepsRest old m5
+      created_keeps =
+          let root_some : IsSome (t.nodes (root t)) = rw st.proper.root_node.1 refl in
+          record {
+            kept = written_kept old m5 t st created_written;
+            lowest = created_lowest;
+            freed = keeps_freed old m5 t (made moment dir key name (content_of kind) t) st after refl refl created_written
+                (made_other moment dir key name (content_of kind) t (root t) (λ e. no_root (sym e)) ∙ root_some);
+            untold = untold_kept old m5 t (made moment dir key name (content_of kind) t) st after created.proper created_written past_end;
+          }

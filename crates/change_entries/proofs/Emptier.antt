@@ -1,17 +1,25 @@
 -- A file is emptied before it is taken away; a directory has nothing in it.
-use Rattle.std.proofs.Common.{◌≡◌, ◌≢◌, ℕ, ◌<◌, List, take, Option, Some, option_map, option_and_then, refl, sym, ap, ◌∙◌, subst, arith}
+use Rattle.std.proofs.Common.{◌≡◌, ◌≢◌, ℕ, ◌/◌, ◌<◌, List, slice_index, take, Option, Some, None, IsSome, option_map, option_and_then, refl, sym, ap, ◌∙◌, subst, arith}
 use Rattle.adf_block.specs.Fields.{secondary_type, file_type}
-use Rattle.adf_block.specs.Image.{block_count}
+use Rattle.adf_block.specs.Image.{block_count, byte_at}
+use Rattle.adf_block.proofs.Blocks.{byte-bytes_at}
 use Rattle.ados_name.specs.declared.Date3.{Date3}
-use Rattle.ados_tree.specs.Change.{changed, removed, shortened, without_archive}
+use Rattle.ados_tree.specs.Change.{changed, left, removed, shortened, without_archive}
 use Rattle.ados_tree.specs.Stands.{Stands, type_of}
-use Rattle.ados_tree.specs.Tree.{Content, Node, Tree, bytes_of, content_at, entries_in, size_in, size_of}
+use Rattle.ados_tree.specs.Tree.{Content, Node, Tree, root, bytes_of, content_at, entries_in, size_in, size_of}
 use Rattle.ados_tree.specs.Tree.Content.{Directory, File}
+use Rattle.ados_tree.specs.Faults.{InImage}
+use Rattle.ados_tree.specs.Keys.{HasEntryKey, HasFileKey}
+use Rattle.ados_tree.specs.Untold.{HasFileBytes, KeepsUntold}
+use Rattle.ados_tree.proofs.FilesStay.{has_bytes, untold_trans}
+use Rattle.ados_tree.specs.Kept.{Kept}
+use Rattle.ados_tree.specs.NewBlocks.{KeepsRest, TakesNone}
+use Rattle.ados_tree.proofs.Keeping.{none_taken}
 use Rattle.ados_tree.proofs.Nodes.{parent_in}
 use Rattle.ados_tree.proofs.OneTree.{one_tree}
 use Rattle.change_entries.specs.Conditions.{CanRemove}
-use Rattle.change_entries.specs.steps.Emptied.{Empties, IsEmptied}
-use Rattle.change_entries.proofs.Changed.{nodes_here}
+use Rattle.change_entries.specs.steps.Emptied.{Empties, GivesBack, IsEmptied}
+use Rattle.change_entries.proofs.Changed.{nodes_here, nodes_other}
 use Rattle.change_entries.proofs.Emptying.{removed_same}
 use Rattle.change_entries.proofs.Loose.{not_own_parent}
 
@@ -24,6 +32,19 @@ module _ (old : List ℕ) (t : Tree) (st : Stands old t) (key : ℕ) (can : CanR
 
   typed : secondary_type old key ≡ type_of entry.0.content
   typed = (st.entries key can.dir entry.0 entry.1 entry.2).secondary
+
+  not_root : key ≢ root t
+  not_root e =
+      let at_root : t.nodes key ≡ Some st.proper.root_node.0 = ap t.nodes e ∙ st.proper.root_node.1 in
+      let one : entry.0 ≡ st.proper.root_node.0 = cc (entry.1, at_root) in
+      let none : entry.0.parent ≡ None = ap (λ (a : Node). a.parent) one ∙ st.proper.root_node.2.no_parent in
+      cc (none, entry.2)
+
+  has_node : IsSome (t.nodes key)
+  has_node = let at = entry.1 in rw at refl
+
+  pub entry_key : HasEntryKey old key
+  entry_key = λ u su. subst (λ (x : Tree). IsSome (x.nodes key) × (key ≢ root x)) (one_tree old t u st su) (has_node, not_root)
 
   -- what is no file has no bytes
   pub not_file : secondary_type old key ≢ file_type → size_of t key ≡ 0
@@ -42,7 +63,7 @@ module _ (old : List ℕ) (t : Tree) (st : Stands old t) (key : ℕ) (can : CanR
 
   module _ (moment : Date3) where
     pub kept_as_is : secondary_type old key ≢ file_type → IsEmptied moment key t t
-    kept_as_is n = record { can = can; no_bytes = not_file n; same = refl }
+    kept_as_is n = record { can = can; no_bytes = not_file n; others = λ k o. refl; same = refl }
 
     abbrev shorter : Node → Node
     shorter node = record node { content = File (take 0 (bytes_of t key)); date = moment; protection = without_archive node.protection }
@@ -58,6 +79,7 @@ module _ (old : List ℕ) (t : Tree) (st : Stands old t) (key : ℕ) (can : CanR
         empty = ap (λ (o : Option Node). entries_in (option_map (λ node. node.content) o)) cut_node;
       };
       no_bytes = ap (λ (o : Option Node). size_in (option_map (λ node. node.content) o)) cut_node;
+      others = λ k n. nodes_other key (option_map shorter (t.nodes key)) t k n;
       same = removed_same t key can.dir moment shorter (λ a. refl) can.listed (not_own_parent t st.proper key can.dir can.listed moment);
     }
 
@@ -74,3 +96,38 @@ module _ (moment : Date3) (key : ℕ) (old mid : List ℕ) (t : Tree) (st : Stan
 
   pub taken_away : (new : List ℕ) → ((v : Tree) → Stands mid v → Stands new (removed moment key v)) → Stands new (removed moment key t)
   taken_away new gone = subst (Stands new) emptied.2.same (gone emptied.0 emptied.1)
+
+-- what emptying the entry and then taking it away keeps
+module _ (key : ℕ) (old mid new : List ℕ) (t : Tree) (st : Stands old t) (can : CanRemove t key) (empties : KeepsRest old mid) (none : TakesNone old mid) (kept : Kept old new) (gives : GivesBack key mid new) where
+  in_mid : (b : ℕ) → InImage old b → InImage mid b
+  in_mid b i = (i.0, omega (arith, i.1, ap (λ (n : ℕ). n / 512) empties.kept.size))
+
+  pub takes_none : TakesNone old new
+  takes_none b i free = gives.none b (in_mid b i) (none b i free)
+
+  -- in between all files but the entry hold what they held
+  module _ (moment : Date3) (emptied : Empties moment key old mid) (untold : KeepsUntold mid new) (away : Stands new (removed moment key t)) where
+    untold_away : KeepsUntold old new
+    untold_away =
+        let between = emptied t st in
+        let kind : byte_at mid 0 3 ≡ byte_at old 0 3 = sym (byte-bytes_at mid 0 0 1024 3 (omega arith)) ∙ ap (λ (xs : List ℕ). slice_index xs 3) empties.kept.boot ∙ byte-bytes_at old 0 0 1024 3 (omega arith) in
+        untold_trans old mid new t between.0 st between.1 (ap (λ (n : ℕ). n / 512) empties.kept.size) (rw kind refl) same empties.untold untold
+      where
+        same : (file : ℕ) (bytes : List ℕ) → HasFileKey new file → HasFileBytes old file bytes → HasFileBytes mid file bytes
+        same file bytes is was =
+            let between = emptied t st in
+            let not_key : file ≢ key = λ e.
+            let none : content_at (removed moment key t) file ≡ None = ap (content_at (removed moment key t)) e ∙ ap (option_map (λ (a : Node). a.content)) (nodes_here key None (left moment key t)) in
+            let some = (is (removed moment key t) away).1 in
+            cc (none, some) in
+            has_bytes mid between.0 between.1 file bytes (ap (option_map (λ (a : Node). a.content)) (between.2.others file not_key) ∙ was t st)
+
+    pub keeps_away : KeepsRest old new
+    keeps_away = record {
+      kept = kept;
+      lowest = none_taken old new takes_none;
+      freed = λ b i inside free no_entry l.
+          let other : b ≢ key = λ e. no_entry (subst (HasEntryKey old) (sym e) (entry_key old t st key can)) in
+          gives.freed b i (in_mid b inside) other free l ∙ empties.freed b i inside (gives.given b (in_mid b inside) other free) no_entry l;
+      untold = untold_away;
+    }

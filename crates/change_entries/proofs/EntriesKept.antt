@@ -1,18 +1,21 @@
 -- A change of entries keeps all that is no field.
-use Rattle.std.proofs.Common.{◌≡◌, ◌≢◌, ℕ, ◌+◌, ◌*◌, ◌/◌, ◌%◌, ◌<◌, ◌≤◌, ◌⊎◌, inl, inr, List, take, drop, length, slice_index, Some, None, refl, sym, ap, ◌∙◌, subst, arith, length-take, length-drop}
+use Rattle.std.proofs.Common.{◌≡◌, ◌≢◌, ℕ, ◌+◌, ◌-◌, ◌*◌, ◌/◌, ◌%◌, ◌<◌, ◌≤◌, ◌⊎◌, inl, inr, List, take, drop, length, slice_index, Some, None, refl, sym, ap, ◌∙◌, subst, arith, length-take, length-drop}
 use Rattle.std.proofs.lemmas.List.{ext_get_or, get_or-take, get_or-drop}
-use Rattle.adf_block.specs.Image.{byte_at, bytes_at}
+use Rattle.adf_block.specs.Image.{HasFreeBit, byte_at, bytes_at, long}
 use Rattle.adf_block.specs.Fields.{secondary_type, name_byte}
 use Rattle.adf_block.specs.Frame.{SameBut}
+use Rattle.adf_block.proofs.Frames.{same_long}
 use Rattle.ados_tree.specs.Tree.{Content, Node, Tree, root}
 use Rattle.ados_tree.specs.Tree.Content.{Directory, File}
 use Rattle.ados_tree.specs.Layout.{Duty, HasDuty}
 use Rattle.ados_tree.specs.Stands.{Stands, type_of}
 use Rattle.ados_tree.specs.declared.role.Role.{Role}
 use Rattle.ados_tree.specs.declared.role.Role.TheVariants as roles
-use Rattle.ados_tree.specs.Kept.{Kept, IsField, Alike, InText}
+use Rattle.ados_tree.specs.Faults.{IsFile}
+use Rattle.ados_tree.specs.Kept.{Kept, KeepsFirstData, IsField, Alike, InText}
 use Rattle.ados_tree.specs.Kept.IsField.{root_longs, page_longs, directory_longs, file_longs, entry_name}
-use Rattle.ados_tree.proofs.Standing.{StandsAt, reached_stands, serves_at, duty_of, root_at, entry_at, slice_get-index}
+use Rattle.ados_tree.proofs.Keeping.{header_stays}
+use Rattle.ados_tree.proofs.Standing.{StandsAt, IsFileNode, file_at, reached_stands, serves_at, duty_of, root_at, entry_at, slice_get-index}
 
 -- a long of the block of a node that is a field in each role: the sum, a directory's table, the date, in the root the disk date, and in an entry the link and the directory
 pub data IsPlain (t : Tree) (b : ℕ) (node : Node) (j : ℕ) : Type 0 where
@@ -22,10 +25,10 @@ pub data IsPlain (t : Tree) (b : ℕ) (node : Node) (j : ℕ) : Type 0 where
   disk : b ≡ root t → 118 ≤ j → j < 121 → IsPlain t b node j
   link : b ≢ root t → 124 ≤ j → j < 126 → IsPlain t b node j
 
--- byte i of block b may be written: it is of a page, of a block with no duty, of such a long, or of the name that an entry gets
+-- byte i of block b may be written: it is of a page, of a block with no duty that is in use afterwards, of such a long, or of the name that an entry gets
 pub data IsWritten (old : List ℕ) (t : Tree) (st : Stands old t) (new : List ℕ) (b i : ℕ) : Type 0 where
   of_page : (p : ℕ) → p < length st.layout.pages → slice_index st.layout.pages p ≡ b → IsWritten old t st new b i
-  of_none : 2 ≤ b → ((duty : Duty) → ¬ HasDuty t st.layout b duty) → IsWritten old t st new b i
+  of_none : 2 ≤ b → ¬ HasFreeBit new b → ((duty : Duty) → ¬ HasDuty t st.layout b duty) → IsWritten old t st new b i
   of_node : (node : Node) → t.nodes b ≡ Some node → IsPlain t b node (i / 4) → IsWritten old t st new b i
   of_name : (node : Node) → t.nodes b ≡ Some node → b ≢ root t → InText new b name_byte i → IsWritten old t st new b i
 
@@ -35,7 +38,7 @@ module _ (old new : List ℕ) (t : Tree) (st : Stands old t) (h : SameBut (IsWri
 
   not_boot : (b i : ℕ) → b < 2 → ¬ IsWritten old t st new b i
   not_boot b i l (of_page p m e) = let inside = st.fits.inside b (Duty.Page p) (page_serves b p m e) in omega (arith, l, inside.0)
-  not_boot b i l (of_none m n) = omega (arith, l, m)
+  not_boot b i l (of_none m used n) = omega (arith, l, m)
   not_boot b i l (of_node a e p) = let inside = st.proper.inside b a e in omega (arith, l, inside.0)
   not_boot b i l (of_name a e n p) = let inside = st.proper.inside b a e in omega (arith, l, inside.0)
 
@@ -117,9 +120,35 @@ module _ (old new : List ℕ) (t : Tree) (st : Stands old t) (h : SameBut (IsWri
 
   written_field : (b i k : ℕ) (role role' : Role) → i < 512 → StandsAt old t st role k b → Alike role role' → IsWritten old t st new b i → IsField old b role i ⊎ IsField new b role' i
   written_field b i k role role' m at alike (of_page p l e) = inl (page_field b i k p role m (st.fits.one_duty b (duty_of old t st role k) (Duty.Page p) (serves_at old t st role k b at) (page_serves b p l e)))
-  written_field b i k role role' m at alike (of_none l n) = absurd (n (duty_of old t st role k) (serves_at old t st role k b at))
+  written_field b i k role role' m at alike (of_none l used n) = absurd (n (duty_of old t st role k) (serves_at old t st role k b at))
   written_field b i k role role' m at alike (of_node a e p) = inl (node_field b i k role role' a e p at (st.fits.one_duty b (duty_of old t st role k) Duty.Key (serves_at old t st role k b at) (rw e refl)))
   written_field b i k role role' m at alike (of_name a e n text) = inr (name_field b i k role role' alike n text at (st.fits.one_duty b (duty_of old t st role k) Duty.Key (serves_at old t st role k b at) (rw e refl)))
+
+  -- what tells of a file's data in its header is not written
+  front_unwritten : (b i : ℕ) → IsFileNode old t st b → i / 4 < 78 → i / 4 ≢ 5 → ¬ IsWritten old t st new b i
+  front_unwritten b i f l n (of_page p m e) = let duty = st.fits.one_duty b (Duty.Page p) Duty.Key (page_serves b p m e) (rw f.at refl) in cc duty
+  front_unwritten b i f l n (of_none m used none) = none Duty.Key (rw f.at refl)
+  front_unwritten b i f l n (of_name a e m text) = omega (arith, l, text.0)
+  front_unwritten b i f l n (of_node a e p) = go p
+    where
+      go : IsPlain t b a (i / 4) → ⊥
+      go (sum d) = n d
+      go (table keys c from below) =
+          let same : a ≡ f.node = cc (e, f.at) in
+          let both : Directory keys ≡ File f.bytes = sym c ∙ ap (λ (x : Node). x.content) same ∙ f.content in
+          cc both
+      go (date from below) = omega (arith, l, from)
+      go (disk d from below) = omega (arith, l, from)
+      go (link d from below) = omega (arith, l, from)
+
+  first_kept : (b : ℕ) → IsFile old b → KeepsFirstData old new b
+  first_kept b f =
+      let at = reached_stands old t st f.reached in
+      let file = file_at old t st f.dir f.slot_of_chain at.0 b at.1 f.secondary in
+      header_stays old new b (stays file 2 (omega arith) (omega arith)) (λ i l. stays file (77 - i) (omega arith) (omega (arith, l))) (stays file 4 (omega arith) (omega arith))
+    where
+      stays : IsFileNode old t st b → (j : ℕ) → j < 78 → j ≢ 5 → long new b j ≡ long old b j
+      stays file j l n = same_long (IsWritten old t st new) old new h b j (omega (arith, l)) (λ k e. front_unwritten b k file (omega (arith, l, e)) (λ d. n (sym e ∙ d)))
 
   pub written_kept : Kept old new
   written_kept = record {
@@ -128,4 +157,5 @@ module _ (old new : List ℕ) (t : Tree) (st : Stands old t) (h : SameBut (IsWri
     others = λ b i role role' m a a' alike n o. h.same_byte b i m (λ w.
         let at = reached_stands old t st a in
         elim (written_field b i at.0 role role' m at.1 alike w) [ inl f ↦ n f | inr f ↦ o f ]);
+    first = λ b f g. first_kept b f;
   }

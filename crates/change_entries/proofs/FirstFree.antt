@@ -1,17 +1,17 @@
 -- A new entry takes the lowest free block, in which each byte of no field is 0.
-use Rattle.std.proofs.Common.{◌≡◌, ◌≢◌, ℕ, ◌+◌, ◌/◌, ◌<◌, ◌≤◌, ◌⊎◌, inl, inr, List, length, Option, Some, None, is_some, option_map, refl, sym, ap, ◌∙◌, subst, arith}
+use Rattle.std.proofs.Common.{◌≡◌, ◌≢◌, ℕ, ◌+◌, ◌*◌, ◌/◌, ◌<◌, ◌≤◌, ◌⊎◌, inl, inr, nat_le, cond, List, [], length, slice_index, Option, Some, None, is_some, option_map, refl, sym, ap, ◌∙◌, subst, arith}
 use Rattle.std.proofs.lemmas.Bool.{cases_eq, cases_lt, cases_order, false≢true}
 use Rattle.adf_block.specs.Fields.{next_in_chain, name_byte, secondary_type, file_type}
 use Rattle.adf_block.specs.Frame.{SameBut}
-use Rattle.adf_block.specs.Image.{IsInside, HasFreeBit, byte_at}
+use Rattle.adf_block.specs.Image.{IsInside, HasFreeBit, byte_at, long}
 use Rattle.adf_block.proofs.Frames.{same_long, same_weaken}
 use Rattle.ados_chain.specs.Relinks.{AtLinks, Relinks}
 use Rattle.ados_map.specs.Pages.{IsLowestFree}
 use Rattle.ados_name.specs.Name.{slot}
 use Rattle.ados_name.specs.declared.Date3.{Date3}
 use Rattle.ados_tree.specs.Change.{enter, made, new_node, with_node}
-use Rattle.ados_tree.specs.Faults.{InImage, Reached}
-use Rattle.ados_tree.specs.Kept.{IsField}
+use Rattle.ados_tree.specs.Faults.{InImage, Reached, first_pointers}
+use Rattle.ados_tree.specs.Kept.{IsField, NamesFirstData}
 use Rattle.ados_tree.specs.Kept.IsField.{directory_longs, file_longs, entry_name}
 use Rattle.ados_tree.specs.Layout.{Duty, Named, HasDuty}
 use Rattle.ados_tree.specs.NewBlocks.{IsTaken, TakesLowest}
@@ -24,16 +24,10 @@ use Rattle.ados_tree.proofs.Standing.{StandsAt, count_same, duty_of, reached_sta
 use Rattle.change_entries.specs.steps.Making.{IsNewEntry, IsNewField}
 use Rattle.change_entries.specs.steps.Writes.{AtDate, AtLongs, Dated}
 use Rattle.change_entries.proofs.Changed.{changed_keeps, nodes_here, nodes_other, relisted}
+use Rattle.change_entries.proofs.Making.{zero_long}
 use Rattle.change_entries.proofs.Relisted.{IsLinkPlace}
 use Rattle.change_entries.proofs.Relisted.IsLinkPlace.{in_table, in_entry}
 use Rattle.change_entries.proofs.Spells.{Spells}
-
--- where no block is taken, none is taken wrongly
-pub takes_none : (image : List ℕ) → TakesLowest image image
-takes_none image = record {
-  lowest = λ block other m i was is. absurd (m.in_use m.was_free);
-  zero_else = λ block i role m r l n. absurd (m.in_use m.was_free);
-}
 
 -- ---- what stands in the block
 
@@ -118,6 +112,23 @@ module _ (filled new : List ℕ) (key dir : ℕ) (name : List ℕ) (content : Co
       other (inl m) = m refl
       other (inr w) = n (new_field d s i (inr w))
 
+  -- it names its first data block: there is none
+  zero_at : (j : ℕ) → (j ≡ 2) ⊎ (j ≡ 4) → long new key j ≡ 0
+  zero_at j o = zero_long new key j (λ k p q. h.same_byte key k (omega (arith, o, q)) (other k p q) ∙ entry.zeros k (omega (arith, o, q)) (no_field k p q))
+    where
+      other : (k : ℕ) → 4 * j ≤ k → k < 4 * j + 4 → ¬ AtLink key key k
+      other k p q (inl m) = m refl
+      other k p q (inr w) = omega (arith, o, p, q, w)
+
+      no_field : (k : ℕ) → 4 * j ≤ k → k < 4 * j + 4 → ¬ IsNewField (length name) k
+      no_field k p q (inl f) = omega (arith, o, p, q, f)
+      no_field k p q (inr (inl f)) = omega (arith, o, p, q, f)
+      no_field k p q (inr (inr (inl f))) = omega (arith, o, p, q, f.0)
+      no_field k p q (inr (inr (inr f))) = omega (arith, o, p, q, f)
+
+  names_none : NamesFirstData new key
+  names_none = zero_at 4 (inr refl) ∙ sym (ap (λ (n : ℕ). slice_index (cond (nat_le n 72) (first_pointers new key n) []) 0) (zero_at 2 (inl refl)))
+
   -- ---- which block it is
 
   module _ (old : List ℕ) (t : Tree) (st : Stands old t) (low : IsLowestFree old key) (no_root : key ≢ root t)
@@ -183,4 +194,5 @@ module _ (filled new : List ℕ) (key dir : ℕ) (name : List ℕ) (content : Co
       zero_else = λ b i role m r l n.
           let e = is_key b m in
           ap (λ (c : ℕ). byte_at new c i) e ∙ zero_in role i (subst (λ (c : ℕ). Reached new c role) e r) l (subst (λ (c : ℕ). ¬ IsField new c role i) e n);
+      first = λ b m f. subst (NamesFirstData new) (sym (is_key b m)) names_none;
     }

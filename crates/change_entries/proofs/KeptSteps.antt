@@ -2,7 +2,7 @@
 use Rattle.std.proofs.Common.{◌≡◌, ◌≢◌, ℕ, ◌/◌, ◌<◌, ◌≤◌, ◌⊎◌, inl, inr, Bool, List, length, slice_index, Some, sym, ap, ◌∙◌, subst, arith}
 use Rattle.adf_block.specs.Fields.{next_in_chain, name_byte}
 use Rattle.adf_block.specs.Frame.{InBlock, OnlyBlock, SameBut}
-use Rattle.adf_block.specs.Image.{byte_at}
+use Rattle.adf_block.specs.Image.{HasFreeBit, byte_at}
 use Rattle.adf_block.proofs.Frames.{same_weaken}
 use Rattle.ados_map.specs.Changes.{MapPlace, BitChanged}
 use Rattle.ados_map.specs.Pages.{page_block, page_of}
@@ -23,15 +23,15 @@ module _ (old : List ℕ) (t : Tree) (st : Stands old t) (new : List ℕ) where
   abbrev pub At : ℕ → ℕ → Type 0
   At = IsWritten old t st new
 
-  -- a block of a node that is no root, or of none
+  -- a block of a node that is no root, or one of none that is in use afterwards
   abbrev pub IsKnown : ℕ → Type 0
-  IsKnown b = ((node : Node) × (t.nodes b ≡ Some node) × (b ≢ root t)) ⊎ ((2 ≤ b) × ((duty : Duty) → ¬ HasDuty t st.layout b duty))
+  IsKnown b = ((node : Node) × (t.nodes b ≡ Some node) × (b ≢ root t)) ⊎ ((2 ≤ b) × (¬ HasFreeBit new b) × ((duty : Duty) → ¬ HasDuty t st.layout b duty))
 
   -- the link or the sum of a known block
   known_link : (b i : ℕ) → IsKnown b → (i / 4 ≡ next_in_chain) ⊎ (i / 4 ≡ 5) → At b i
   known_link b i (inl n) (inl e) = of_node n.0 n.1 (link n.2 (omega (arith, e)) (omega (arith, e)))
   known_link b i (inl n) (inr e) = of_node n.0 n.1 (sum e)
-  known_link b i (inr n) e = of_none n.0 n.1
+  known_link b i (inr n) e = of_none n.0 n.1 n.2
 
   -- a link of a directory's chains, or the sum of its block, where the places are those of a tree whose nodes are known
   place_written : (u : Tree) (dir b i0 : ℕ) (d : Node) (keys : List ℕ) → t.nodes dir ≡ Some d → d.content ≡ Directory keys → ((k : ℕ) (x : Node) → u.nodes k ≡ Some x → k ≢ root u → IsKnown k) → IsLinkPlace u dir b i0 → (i : ℕ) → (i / 4 ≡ i0) ⊎ (i / 4 ≡ 5) → At b i
@@ -66,8 +66,8 @@ module _ (old : List ℕ) (t : Tree) (st : Stands old t) (new : List ℕ) where
   pub marked_kept : (key p : ℕ) (free : Bool) (m m' : List ℕ) → p < length st.layout.pages → slice_index st.layout.pages p ≡ page_block m (page_of key) → BitChanged m key free m' → SameBut At m m'
   marked_kept key p free m m' l e r = same_weaken (MapPlace m key) At m m' (λ c i w. of_page p l (e ∙ sym w.0)) r.rest
 
-  pub filled_kept : (key : ℕ) → 2 ≤ key → ((duty : Duty) → ¬ HasDuty t st.layout key duty) → (m m' : List ℕ) → OnlyBlock key m m' → SameBut At m m'
-  filled_kept key l none m m' h = same_weaken (InBlock key) At m m' (λ c i w. subst (λ (x : ℕ). At x i) (sym w) (of_none l none)) h
+  pub filled_kept : (key : ℕ) → 2 ≤ key → ¬ HasFreeBit new key → ((duty : Duty) → ¬ HasDuty t st.layout key duty) → (m m' : List ℕ) → OnlyBlock key m m' → SameBut At m m'
+  filled_kept key l used none m m' h = same_weaken (InBlock key) At m m' (λ c i w. subst (λ (x : ℕ). At x i) (sym w) (of_none l used none)) h
 
   pub titled_kept : (key dir : ℕ) (name : List ℕ) (d : Node) → t.nodes key ≡ Some d → key ≢ root t → byte_at new key name_byte ≡ length name → (m m' : List ℕ) → Titled key dir name m m' → SameBut At m m'
   titled_kept key dir name d at n counted m m' r = same_weaken (AtTitle key (length name)) At m m' within r.rest

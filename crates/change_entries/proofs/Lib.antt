@@ -20,7 +20,9 @@ pub mod Created
 pub mod Renamed
 pub mod Removed
 pub mod EntriesKept
+pub mod Spared
 pub mod KeptSteps
 pub mod Reaching
+pub mod UntoldKept
 pub mod Emptying
 pub mod Emptier

@@ -11,7 +11,7 @@ use Rattle.ados_map.specs.Pages.{page_block, page_of}
 use Rattle.ados_name.specs.declared.Date3.{Date3}
 use Rattle.ados_tree.specs.Tree.{Node, Tree, root}
 use Rattle.ados_tree.specs.Tree.Content.{Directory, File}
-use Rattle.ados_tree.specs.Faults.{InImage, IsPlace, Reached}
+use Rattle.ados_tree.specs.Faults.{InImage, IsFile, IsPlace, Reached}
 use Rattle.ados_tree.specs.Faults.IsPlace.{root_page, root_slot, directory_slot, next_entry, header_pointer, first_extension, extension_pointer, further_extension}
 use Rattle.ados_tree.specs.Faults.Reached.{start, named}
 use Rattle.ados_tree.specs.Kept.{Kept, IsField, Alike, InLongs, InText}
@@ -20,6 +20,7 @@ use Rattle.ados_tree.specs.Layout.{Duty, HasDuty}
 use Rattle.ados_tree.specs.Stands.{Stands}
 use Rattle.ados_tree.specs.declared.role.Role.{Role}
 use Rattle.ados_tree.specs.declared.role.Role.TheVariants as roles
+use Rattle.ados_tree.proofs.Keeping.{first_stays, keeps_first_until}
 use Rattle.ados_tree.proofs.Standing.{count_same, duty_of, file_at, reached_stands, serves_at, slice_get-index}
 use Rattle.change_entries.specs.steps.Writes.{AtDate, AtLongs, Dated}
 use Rattle.change_entries.proofs.Relisted.{IsLinkPlace}
@@ -277,6 +278,21 @@ module _ (old : List ℕ) (t : Tree) (st : Stands old t) where
         ofs_data (ofs_stays ∙ o) l (subst (λ (n : ℕ). i < 24 + n) (sym (long_stays b 3 (reached_no_page b (roles.Data f) (λ z. cc z) r) (omega arith) (inl (omega arith)))) m)
     field_stays r (ffs_data n) = ffs_data (λ o. n (sym ofs_stays ∙ o))
 
+    -- the pointers of a file
+    pointer_stays : (b : ℕ) → ¬ IsPage b → IsFile old b → (i : ℕ) → i < 72 → long new b (77 - i) ≡ long old b (77 - i)
+    pointer_stays b q f i l =
+        same_long W old new change b (77 - i) (omega arith)
+        (λ k e. stays b k q (λ x. omega (arith, x, e, l)) (λ w. no_link w.0 (sym e ∙ w.1)) (λ w. omega (arith, w.1, e)))
+      where
+        no_link : b ≡ b0 → 77 - i ≡ i0 → ⊥
+        no_link e d =
+            let stood = reached_stands old t st f.reached in
+            let file = file_at old t st f.dir f.slot_of_chain stood.0 b stood.1 f.secondary in
+            let here = dir_node b (77 - i) (omega arith) e d in
+            let same : file.node ≡ a = cc (file.at, here) in
+            let both : Directory keys ≡ File file.bytes = sym holds ∙ ap (λ (x : Node). x.content) (sym same) ∙ file.content in
+            cc both
+
     -- what an earlier change kept is kept
     pub kept_since : Kept old new → (first : List ℕ) → Kept first old → Kept first new
     kept_since after first before = record {
@@ -286,4 +302,9 @@ module _ (old : List ℕ) (t : Tree) (st : Stands old t) where
           let mid = reached_before r' in
           let none : ¬ IsField old b role' i = λ f. n' (field_stays mid f) in
           after.others b i role' role' l mid r' (alike_itself role') none n' ∙ before.others b i role role' l r mid alike n none;
+      first = λ b f g.
+          let q = reached_no_page b (roles.Entry g.dir g.slot_of_chain) (λ z. cc z) (reached_before g.reached) in
+          let mid : IsFile old b = record { dir = g.dir; slot_of_chain = g.slot_of_chain; reached = reached_before g.reached; secondary = sym (type_stays b q) ∙ g.secondary } in
+          let firsts = first_stays old new b (pointers_stay b q) (λ i l. pointer_stays b q mid i l) in
+          keeps_first_until first old new b firsts (long_stays b 4 q (omega arith) (inl (omega arith))) (before.first b f mid);
     }

@@ -1,7 +1,9 @@
 -- The steps by which an entry without contents is taken away.
-use Rattle.std.proofs.Common.{◌≡◌, ℕ, ◌+◌, ◌<◌, inl, List, ◌∷◌, length, slice_index, Contains, Some, true, sym, ◌∙◌, subst, arith}
+use Rattle.std.proofs.Common.{◌≡◌, ◌≢◌, ℕ, ◌+◌, ◌<◌, inl, inr, List, ◌∷◌, length, slice_index, Contains, Some, IsSome, true, refl, sym, ap, ◌∙◌, subst, arith}
+use Rattle.std.proofs.lemmas.Bool.{cases_eq}
 use Rattle.std.proofs.lemmas.List.Elements.{Contains-append_left}
 use Rattle.adf_block.specs.Chained.{Chained}
+use Rattle.adf_block.specs.Frame.{SameBut}
 use Rattle.adf_block.specs.Fields.{next_in_chain, parent_key, table_entry}
 use Rattle.adf_block.specs.Image.{block_count, long, root_key, IsInside}
 use Rattle.adf_block.proofs.Frames.{same_count, same_trans}
@@ -14,10 +16,14 @@ use Rattle.ados_chain.specs.Chains.{LawfulChains, slot_at}
 use Rattle.ados_chain.specs.Relinks.{CanUnlink, Unlinks, link_block, link_long}
 use Rattle.ados_tree.specs.Change.{removed}
 use Rattle.ados_tree.specs.Kept.{Kept}
+use Rattle.ados_tree.specs.Layout.{Duty}
+use Rattle.ados_tree.specs.Untold.{KeepsUntold}
+use Rattle.ados_tree.proofs.FilesStay.{past_end_trans}
 use Rattle.ados_tree.specs.Stands.{Stands, in_slot}
 use Rattle.ados_tree.specs.Tree.{Node, Tree, root, size_of}
 use Rattle.ados_tree.proofs.Nodes.{parent_in}
 use Rattle.change_entries.specs.Conditions.{CanRemove}
+use Rattle.change_entries.specs.steps.Emptied.{GivesBack}
 use Rattle.change_entries.specs.steps.Writes.{Dated}
 use Rattle.change_entries.proofs.Created.{at_root, dated_count}
 use Rattle.change_entries.proofs.Lawful.{lawful_chains, not_root, page_is, page_within}
@@ -27,7 +33,10 @@ use Rattle.change_entries.proofs.Listing.{place_behind}
 use Rattle.change_entries.proofs.Loose.{l, unlisted_is_loose as out_is_loose}
 use Rattle.change_entries.proofs.Reaching.{AtAside, dated_aside, kept_since, marked_aside, stamped_aside}
 use Rattle.change_entries.proofs.Relisted.{IsLinkPlace}
-use Rattle.change_entries.proofs.Removing.{directory, out_pages, out_spells, removed_stands, removes_link, s, whole_loose}
+use Rattle.change_entries.proofs.Changed.{left_blocks, left_lost, removed_some}
+use Rattle.change_entries.proofs.Removing.{directory, out_pages, out_spells, removed_spells, removed_stands, removes_link, s, whole_loose}
+use Rattle.change_entries.proofs.Spared.{bytes_stay, still_free, was_free}
+use Rattle.change_entries.proofs.UntoldKept.{IsOffMap, bit_past_end, dated_off, linked_off, off_past_end, old_pages, pages_after, stamped_off, untold_kept}
 
 module _ (old : List ℕ) (t : Tree) (st : Stands old t) (moment : Date3) (key : ℕ) (can : CanRemove t key) (no_bytes : size_of t key ≡ 0) (from : ℕ) (from_is : from ≡ parent_key old key) where
   in_tree : IsInside t.blocks key
@@ -100,19 +109,20 @@ module _ (old : List ℕ) (t : Tree) (st : Stands old t) (moment : Date3) (key :
       stamp_at_root : (m3 m4 : List ℕ) → BitChanged m2 key true m3 → Dated (root_key (block_count m3)) 118 moment m3 m4 → Dated (root t) 118 moment m3 m4
       stamp_at_root m3 m4 given stamp = at_root m3 m4 t moment (same_count (MapPlace m2 key) m2 m3 given.rest ∙ count_m2) stamp
 
-      gone_kept : (m3 m4 : List ℕ) → BitChanged m2 key true m3 → Dated (root_key (block_count m3)) 118 moment m3 m4 → Kept old m4
-      gone_kept m3 m4 given stamp =
+      not_root_key : key ≢ root t
+      not_root_key = not_root old t st.layout 0 (s old t st moment key can no_bytes) (whole_loose old t st moment key can no_bytes) key can.dir can.listed
+
+      gone_written : (m3 m4 : List ℕ) → BitChanged m2 key true m3 → Dated (root_key (block_count m3)) 118 moment m3 m4 → SameBut (IsWritten old t st m4) old m4
+      gone_written m3 m4 given stamp =
           let d = directory old t st moment key can no_bytes in
-          let no_root = not_root old t st.layout 0 (s old t st moment key can no_bytes) (whole_loose old t st moment key can no_bytes) key can.dir can.listed in
-          written_kept old m4 t st
-          (same_trans (IsWritten old t st m4) old m3 m4
+          same_trans (IsWritten old t st m4) old m3 m4
           (same_trans (IsWritten old t st m4) old m2 m3
           (same_trans (IsWritten old t st m4) old m1 m2
           (linked_kept old t st m4 t can.dir (link_block can.dir unlinked.front) (link_long (6 + slot_key) unlinked.front) (long old key next_in_chain) key d.0 d.1 d.2 d.3 (λ k x e n. inl (x, e, n)) link_at
-          (inl (node.0, node.1, no_root)) old m1 unlinked.relinks)
+          (inl (node.0, node.1, not_root_key)) old m1 unlinked.relinks)
           (dated_kept old t st m4 can.dir d.0 d.2 moment m1 m2 dated_from))
           (marked_kept old t st m4 key (page_of key) true m2 m3 page.0 page.1 given))
-          (stamped_kept old t st m4 moment m3 m4 (stamp_at_root m3 m4 given stamp)))
+          (stamped_kept old t st m4 moment m3 m4 (stamp_at_root m3 m4 given stamp))
 
       -- what an earlier change kept is kept
       pub gone_kept_since : (m3 m4 : List ℕ) → BitChanged m2 key true m3 → Dated (root_key (block_count m3)) 118 moment m3 m4 → (first : List ℕ) → Kept first old → Kept first m4
@@ -122,8 +132,47 @@ module _ (old : List ℕ) (t : Tree) (st : Stands old t) (moment : Date3) (key :
           (same_trans (AtAside old t st) m1 m3 m4
           (same_trans (AtAside old t st) m1 m2 m3 (dated_aside old t st can.dir moment m1 m2 dated_from) (marked_aside old t st key (page_of key) m2 m3 page.0 page.1 given))
           (stamped_aside old t st moment m3 m4 (stamp_at_root m3 m4 given stamp)))
-          (gone_kept m3 m4 given stamp)
+          (written_kept old m4 t st (gone_written m3 m4 given stamp))
 
       pub gone : (m3 m4 : List ℕ) → BitChanged m2 key true m3 → Dated (root_key (block_count m3)) 118 moment m3 m4 → Stands m4 (removed moment key t)
       gone m3 m4 given stamp =
           removed_stands old t st moment key can no_bytes m1 m2 m3 m4 unlinked dated_from given (stamp_at_root m3 m4 given stamp)
+
+      -- ---- what no tree tells of
+
+      off_map : SameBut (IsOffMap old t st) old m2
+      off_map =
+          let d = directory old t st moment key can no_bytes in
+          same_trans (IsOffMap old t st) old m1 m2
+          (linked_off old t st m2 t can.dir (link_block can.dir unlinked.front) (link_long (6 + slot_key) unlinked.front) (long old key next_in_chain) key d.0 d.2 (λ k x e n. inl (x, e, n)) link_at (inl (node.0, node.1, not_root_key)) old m1 unlinked.relinks)
+          (dated_off old t st can.dir 105 d.0 d.2 (omega arith) moment m1 m2 dated_from)
+
+      pub gone_untold : (m3 m4 : List ℕ) → BitChanged m2 key true m3 → Dated (root_key (block_count m3)) 118 moment m3 m4 → KeepsUntold old m4
+      gone_untold m3 m4 given stamp =
+          let stamp_root = stamp_at_root m3 m4 given stamp in
+          let after = removed_spells old t st moment key can no_bytes m1 m2 m3 m4 unlinked dated_from given stamp_root in
+          let first = off_past_end old t st old m2 (old_pages old t st) off_map in
+          let count = same_count (IsOffMap old t st) old m2 off_map in
+          let pages = pages_after old t st old m2 count first (old_pages old t st) in
+          let bit = bit_past_end old t st m2 m3 key true pages pages_still key_still given in
+          let same = same_count (MapPlace m2 key) m2 m3 given.rest in
+          let last = off_past_end old t st m3 m4 (pages_after old t st m2 m3 same bit pages) (stamped_off old t st moment m3 m4 stamp_root) in
+          untold_kept old m4 t (removed moment key t) st after (gone m3 m4 given stamp).proper (gone_written m3 m4 given stamp)
+          (past_end_trans old m3 m4 (same ∙ count) (past_end_trans old m2 m3 count first bit) last)
+
+      -- no block is taken, and none but the entry's own is given back or, being free, written
+      pub gone_gives : (m3 m4 : List ℕ) → BitChanged m2 key true m3 → Dated (root_key (block_count m3)) 118 moment m3 m4 → GivesBack key old m4
+      gone_gives m3 m4 given stamp =
+          let u = removed moment key t in
+          let after = removed_spells old t st moment key can no_bytes m1 m2 m3 m4 unlinked dated_from given (stamp_at_root m3 m4 given stamp) in
+          let root_some : IsSome (t.nodes (root t)) = rw st.proper.root_node.1 refl in
+          let root_there : IsSome (u.nodes (root t)) = removed_some moment key t (root t) (λ e. not_root_key (sym e)) ∙ root_some in
+          let stays : (b : ℕ) → b ≢ key → IsSome (t.nodes b) → IsSome (u.nodes b) = λ b n some. removed_some moment key t b n ∙ some in
+          record {
+            none = λ b inside free. still_free old m4 t u st after (left_blocks moment key t) (left_lost moment key t) b inside
+                (λ some. elim (cases_eq b key) [ inl e ↦ rw (ap t.nodes e ∙ node.1) refl | inr n ↦ sym (removed_some moment key t b n) ∙ some ]) free;
+            given = λ b inside n free. was_free old m4 t u st after (left_blocks moment key t) (left_lost moment key t) b inside (stays b n) free;
+            freed = λ b i inside n free l.
+                bytes_stay old m4 t u st after (left_blocks moment key t) (left_lost moment key t) (gone_written m3 m4 given stamp) root_there b inside free
+                (λ some no_root. after.marked_free b (inside.0, omega (arith, inside.1, st.whole, left_blocks moment key t)) free (Duty.Key, stays b n some)) i l;
+          }

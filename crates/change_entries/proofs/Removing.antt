@@ -100,8 +100,13 @@ module _ (old : List ℕ) (t : Tree) (st : Stands old t) (moment : Date3) (key :
       gone_proper : Proper (with_node key None out)
       gone_proper = without_is_proper out key out_is_loose None no_entries refl (sym no_entries)
 
+      pub removed_spells : Spells m4 (removed moment key t) st.layout
+      removed_spells =
+          subst (λ (u : Tree). Spells m4 (stamped moment (with_node key None u)) st.layout) (sym (left_is t st.proper key can.dir can.listed moment))
+          (stamped_spells m3 m4 (with_node key None out) st.layout 0 gone_spells (proper_is_loose (with_node key None out) gone_proper) moment restamped)
+
       pub removed_stands : Stands m4 (removed moment key t)
       removed_stands =
-          subst (λ (u : Tree). Stands m4 (stamped moment (with_node key None u))) (sym (left_is t st.proper key can.dir can.listed moment))
-          (stands m4 (stamped moment (with_node key None out)) st.layout (stamped_is_proper moment (with_node key None out) gone_proper)
-          (stamped_spells m3 m4 (with_node key None out) st.layout 0 gone_spells (proper_is_loose (with_node key None out) gone_proper) moment restamped))
+          stands m4 (removed moment key t) st.layout
+          (subst (λ (u : Tree). Proper (stamped moment (with_node key None u))) (sym (left_is t st.proper key can.dir can.listed moment)) (stamped_is_proper moment (with_node key None out) gone_proper))
+          removed_spells

@@ -1,7 +1,8 @@
 -- The steps by which an entry moves.
-use Rattle.std.proofs.Common.{◌≡◌, ◌≢◌, ℕ, ◌+◌, ◌<◌, inl, List, ◌∷◌, length, Contains, Some, sym, ◌∙◌, subst, arith}
+use Rattle.std.proofs.Common.{◌≡◌, ◌≢◌, ℕ, ◌+◌, ◌<◌, inl, List, ◌∷◌, length, Contains, Some, IsSome, refl, sym, ◌∙◌, subst, arith}
 use Rattle.std.proofs.lemmas.List.Elements.{Contains-append_left}
 use Rattle.adf_block.specs.Fields.{name_byte, next_in_chain, parent_key}
+use Rattle.adf_block.specs.Frame.{SameBut}
 use Rattle.adf_block.specs.Image.{block_count, byte_at, long, root_key}
 use Rattle.adf_block.proofs.Frames.{same_count, same_trans}
 use Rattle.ados_name.specs.declared.Date3.{Date3}
@@ -9,21 +10,26 @@ use Rattle.ados_chain.proofs.Changes.{slot_at-small}
 use Rattle.ados_chain.specs.Chains.{LawfulChains, slot_at}
 use Rattle.ados_chain.specs.Relinks.{CanInsert, CanUnlink, InsertsLast, Unlinks, link_block, link_long}
 use Rattle.ados_tree.specs.Change.{changed, entered, renamed}
-use Rattle.ados_tree.specs.Kept.{Kept}
+use Rattle.ados_tree.specs.NewBlocks.{KeepsRest, TakesNone}
 use Rattle.ados_tree.specs.Stands.{Stands, in_slot}
 use Rattle.ados_tree.specs.Tree.{Node, Tree, root}
+use Rattle.ados_tree.proofs.Keeping.{none_taken}
 use Rattle.ados_tree.proofs.Nodes.{parent_in}
 use Rattle.change_entries.specs.Conditions.{CanRename}
 use Rattle.change_entries.specs.steps.Writes.{AtTitle, Dated, Titled}
 use Rattle.change_entries.proofs.Created.{at_root, dated_count}
 use Rattle.change_entries.proofs.Lawful.{lawful_chains, not_root}
-use Rattle.change_entries.proofs.Changed.{nodes_other, relisted, was}
+use Rattle.change_entries.proofs.Changed.{left_blocks, left_lost, nodes_other, relisted, renamed_some, was}
 use Rattle.change_entries.proofs.EntriesKept.{IsWritten, written_kept}
 use Rattle.change_entries.proofs.KeptSteps.{IsKnown, dated_kept, linked_kept, stamped_kept, titled_kept}
 use Rattle.change_entries.proofs.Listing.{place_behind}
 use Rattle.change_entries.proofs.Loose.{kept, left_is}
 use Rattle.change_entries.proofs.ProperChanges.{dir_is_other, directory_at, moved_here}
-use Rattle.change_entries.proofs.Renaming.{directory, goal_directory, gone, moves_in, moves_link, renamed_stands, s, the_entry, there, there_loose, there_spells, whole_loose}
+use Rattle.change_entries.proofs.Spared.{keeps_freed, still_free}
+use Rattle.change_entries.proofs.Relisted.{IsLinkPlace}
+use Rattle.change_entries.proofs.Spells.{Spells}
+use Rattle.change_entries.proofs.UntoldKept.{IsOffMap, dated_off, linked_off, off_past_end, old_pages, stamped_off, titled_off, untold_kept}
+use Rattle.change_entries.proofs.Renaming.{directory, goal_directory, gone, moves_in, moves_link, renamed_spells, renamed_stands, s, the_entry, there, there_loose, there_spells, whole_loose}
 
 -- the entry's node, with its new name and directory
 abbrev titling : ℕ → List ℕ → Node → Node
@@ -107,31 +113,81 @@ module _ (old : List ℕ) (t : Tree) (st : Stands old t) (moment : Date3) (key d
               (nodes_other dir _ (there old t st moment key dir name can) key (λ e. dir_is_other t moment key dir name st.proper can (sym e)) ∙ moved_here t moment key dir name st.proper can) in
               (after.nodes key (titling dir name (the_entry old t st moment key dir name can).0) at).name.counted
 
-          pub moved_kept : (m5 m6 : List ℕ) → Dated dir 105 moment m4 m5 → Dated (root_key (block_count m5)) 118 moment m5 m6 → Kept old m6
-          moved_kept m5 m6 dated stamp =
+          -- where the link stood that named it, and where the one stands that does now
+          left_place : IsLinkPlace t can.from (link_block can.from unlinked.front) (link_long (6 + slot_at old key) unlinked.front)
+          left_place =
+              let d = directory old t st moment key dir name can in
+              place_behind old t st.layout 0 (s old t st moment key dir name can) (whole_loose old t st moment key dir name can) can.from d.0 d.1 d.2 d.3 (slot_at old key) (slot_at-small old key) unlinked.front
+              (λ k m. subst (λ (xs : List ℕ). Contains xs k) (sym unlinked.split) (Contains-append_left unlinked.front (key ∷ unlinked.back) k m))
+
+          goal_place : IsLinkPlace (there old t st moment key dir name can) dir (link_block dir (in_slot (there old t st moment key dir name can) dir (slot_at m3 key))) (link_long (6 + slot_at m3 key) (in_slot (there old t st moment key dir name can) dir (slot_at m3 key)))
+          goal_place =
+              let g = goal_directory old t st moment key dir name can m1 m2 m3 unlinked dated_from titled in
+              place_behind m3 (there old t st moment key dir name can) st.layout key (there_spells old t st moment key dir name can m1 m2 m3 unlinked dated_from titled) (there_loose old t st moment key dir name can) dir g.0 g.1 g.2 g.3 (slot_at m3 key) (slot_at-small m3 key)
+              (in_slot (there old t st moment key dir name can) dir (slot_at m3 key)) (λ k m. m)
+
+          moved_written : (m5 m6 : List ℕ) → Dated dir 105 moment m4 m5 → Dated (root_key (block_count m5)) 118 moment m5 m6 → SameBut (IsWritten old t st m6) old m6
+          moved_written m5 m6 dated stamp =
               let d = directory old t st moment key dir name can in
               let e = the_entry old t st moment key dir name can in
-              let g = goal_directory old t st moment key dir name can m1 m2 m3 unlinked dated_from titled in
               let into = directory_at t dir can.directory in
-              let spelled_old = s old t st moment key dir name can in
-              let whole = whole_loose old t st moment key dir name can in
               let old_slot = slot_at old key in
               let new_slot = slot_at m3 key in
               let goal_tree = there old t st moment key dir name can in
               let of_key : IsKnown old t st m6 key = inl (e.0, e.1, no_root) in
-              written_kept old m6 t st
-              (same_trans (IsWritten old t st m6) old m5 m6
+              same_trans (IsWritten old t st m6) old m5 m6
               (same_trans (IsWritten old t st m6) old m4 m5
               (same_trans (IsWritten old t st m6) old m3 m4
               (same_trans (IsWritten old t st m6) old m2 m3
               (same_trans (IsWritten old t st m6) old m1 m2
-              (linked_kept old t st m6 t can.from (link_block can.from unlinked.front) (link_long (6 + old_slot) unlinked.front) (long old key next_in_chain) key d.0 d.1 d.2 d.3 (λ k x f n. inl (x, f, n))
-              (place_behind old t st.layout 0 spelled_old whole can.from d.0 d.1 d.2 d.3 old_slot (slot_at-small old key) unlinked.front (λ k m. subst (λ (xs : List ℕ). Contains xs k) (sym unlinked.split) (Contains-append_left unlinked.front (key ∷ unlinked.back) k m)))
-              of_key old m1 unlinked.relinks)
+              (linked_kept old t st m6 t can.from (link_block can.from unlinked.front) (link_long (6 + old_slot) unlinked.front) (long old key next_in_chain) key d.0 d.1 d.2 d.3 (λ k x f n. inl (x, f, n)) left_place of_key old m1 unlinked.relinks)
               (dated_kept old t st m6 can.from d.0 d.2 moment m1 m2 dated_from))
               (titled_kept old t st m6 key dir name e.0 e.1 no_root (counted m6 (moved m5 m6 dated stamp)) m2 m3 titled))
-              (linked_kept old t st m6 goal_tree dir (link_block dir (in_slot goal_tree dir new_slot)) (link_long (6 + new_slot) (in_slot goal_tree dir new_slot)) key key into.node into.keys into.at into.content (known m6)
-              (place_behind m3 goal_tree st.layout key (there_spells old t st moment key dir name can m1 m2 m3 unlinked dated_from titled) (there_loose old t st moment key dir name can) dir g.0 g.1 g.2 g.3 new_slot (slot_at-small m3 key) (in_slot goal_tree dir new_slot) (λ k m. m))
-              of_key m3 m4 inserted.relinks))
+              (linked_kept old t st m6 goal_tree dir (link_block dir (in_slot goal_tree dir new_slot)) (link_long (6 + new_slot) (in_slot goal_tree dir new_slot)) key key into.node into.keys into.at into.content (known m6) goal_place of_key m3 m4 inserted.relinks))
               (dated_kept old t st m6 dir into.node into.at moment m4 m5 dated))
-              (stamped_kept old t st m6 moment m5 m6 (at_root m5 m6 t moment (dated_count dir 105 moment m4 m5 dated ∙ count_m4) stamp)))
+              (stamped_kept old t st m6 moment m5 m6 (at_root m5 m6 t moment (dated_count dir 105 moment m4 m5 dated ∙ count_m4) stamp))
+
+          -- ---- what stays
+
+          after : (m5 m6 : List ℕ) → Dated dir 105 moment m4 m5 → Dated (root_key (block_count m5)) 118 moment m5 m6 → Spells m6 (renamed moment key dir name t) st.layout
+          after m5 m6 dated stamp =
+              renamed_spells old t st moment key dir name can m1 m2 m3 unlinked dated_from titled m4 m5 m6 inserted dated
+              (at_root m5 m6 t moment (dated_count dir 105 moment m4 m5 dated ∙ count_m4) stamp)
+
+          pub moved_none : (m5 m6 : List ℕ) → Dated dir 105 moment m4 m5 → Dated (root_key (block_count m5)) 118 moment m5 m6 → TakesNone old m6
+          moved_none m5 m6 dated stamp =
+              λ b inside free. still_free old m6 t (renamed moment key dir name t) st (after m5 m6 dated stamp) (left_blocks moment key t) (left_lost moment key t) b inside (λ some. sym (renamed_some moment key dir name t b) ∙ some) free
+
+          -- none of the map is written
+          moved_off : (m5 m6 : List ℕ) → Dated dir 105 moment m4 m5 → Dated (root_key (block_count m5)) 118 moment m5 m6 → SameBut (IsOffMap old t st) old m6
+          moved_off m5 m6 dated stamp =
+              let d = directory old t st moment key dir name can in
+              let e = the_entry old t st moment key dir name can in
+              let into = directory_at t dir can.directory in
+              let old_slot = slot_at old key in
+              let new_slot = slot_at m3 key in
+              let goal_tree = there old t st moment key dir name can in
+              let of_key : IsKnown old t st m6 key = inl (e.0, e.1, no_root) in
+              same_trans (IsOffMap old t st) old m5 m6
+              (same_trans (IsOffMap old t st) old m4 m5
+              (same_trans (IsOffMap old t st) old m3 m4
+              (same_trans (IsOffMap old t st) old m2 m3
+              (same_trans (IsOffMap old t st) old m1 m2
+              (linked_off old t st m6 t can.from (link_block can.from unlinked.front) (link_long (6 + old_slot) unlinked.front) (long old key next_in_chain) key d.0 d.2 (λ k x f n. inl (x, f, n)) left_place of_key old m1 unlinked.relinks)
+              (dated_off old t st can.from 105 d.0 d.2 (omega arith) moment m1 m2 dated_from))
+              (titled_off old t st m6 key dir name of_key no_root m2 m3 titled))
+              (linked_off old t st m6 goal_tree dir (link_block dir (in_slot goal_tree dir new_slot)) (link_long (6 + new_slot) (in_slot goal_tree dir new_slot)) key key into.node into.at (known m6) goal_place of_key m3 m4 inserted.relinks))
+              (dated_off old t st dir 105 into.node into.at (omega arith) moment m4 m5 dated))
+              (stamped_off old t st moment m5 m6 (at_root m5 m6 t moment (dated_count dir 105 moment m4 m5 dated ∙ count_m4) stamp))
+
+          pub moved_keeps : (m5 m6 : List ℕ) → Dated dir 105 moment m4 m5 → Dated (root_key (block_count m5)) 118 moment m5 m6 → KeepsRest old m6
+          moved_keeps m5 m6 dated stamp =
+              let root_some : IsSome (t.nodes (root t)) = rw st.proper.root_node.1 refl in
+              record {
+                kept = written_kept old m6 t st (moved_written m5 m6 dated stamp);
+                lowest = none_taken old m6 (moved_none m5 m6 dated stamp);
+                freed = keeps_freed old m6 t (renamed moment key dir name t) st (after m5 m6 dated stamp) (left_blocks moment key t) (left_lost moment key t) (moved_written m5 m6 dated stamp)
+                    (renamed_some moment key dir name t (root t) ∙ root_some);
+                untold = untold_kept old m6 t (renamed moment key dir name t) st (after m5 m6 dated stamp) (moved m5 m6 dated stamp).proper (moved_written m5 m6 dated stamp)
+                    (off_past_end old t st old m6 (old_pages old t st) (moved_off m5 m6 dated stamp));
+              }

@@ -177,9 +177,11 @@ module _ (old : List ℕ) (t : Tree) (st : Stands old t) (moment : Date3) (key d
     moves_in = can_insert m3 m3 m3 there st.layout key there_spells there_loose dir goal_directory.0 goal_directory.1 goal_directory.2 goal_directory.3 (named t moment key dir name st.proper can the_entry.0) (moved_here t moment key dir name st.proper can) (λ e. dir_is_other t moment key dir name st.proper can (sym e))
 
     module _ (m4 m5 m6 : List ℕ) (inserts : InsertsLast dir key (in_slot there dir) m3 m4) (dated : Dated dir 105 moment m4 m5) (restamped : Dated (root t) 118 moment m5 m6) where
-      pub renamed_stands : Stands m6 (renamed moment key dir name t)
-      renamed_stands =
+      pub renamed_spells : Spells m6 (renamed moment key dir name t) st.layout
+      renamed_spells =
           let entered_so = entered_spells m3 m4 m5 there st.layout key there_spells there_loose dir goal_directory.0 goal_directory.1 goal_directory.2 goal_directory.3 (named t moment key dir name st.proper can the_entry.0) (moved_here t moment key dir name st.proper can) (λ e. dir_is_other t moment key dir name st.proper can (sym e)) inserts moment dated in
           let whole = stamped_spells m5 m6 (entered moment dir key there) st.layout 0 entered_so (proper_is_loose (entered moment dir key there) (moved_entered_proper t moment key dir name st.proper can)) moment restamped in
-          stands m6 (renamed moment key dir name t) st.layout (renamed_is_proper t moment key dir name st.proper can)
-          (subst (λ (u : Tree). Spells m6 (stamped moment (entered moment dir key (changed key (λ node. record node { name = name; parent = Some dir }) u))) st.layout) (sym (left_is t st.proper key can.from can.listed moment)) whole)
+          subst (λ (u : Tree). Spells m6 (stamped moment (entered moment dir key (changed key (λ node. record node { name = name; parent = Some dir }) u))) st.layout) (sym (left_is t st.proper key can.from can.listed moment)) whole
+
+      pub renamed_stands : Stands m6 (renamed moment key dir name t)
+      renamed_stands = stands m6 (renamed moment key dir name t) st.layout (renamed_is_proper t moment key dir name st.proper can) renamed_spells

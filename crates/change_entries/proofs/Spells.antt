@@ -1,5 +1,5 @@
 -- An image that spells a tree: it stands for it, if the tree is proper.
-use Rattle.std.proofs.Common.{◌≡◌, ℕ, ◌*◌, ◌<◌, List, [], ◌∷◌, length, Some, Contains}
+use Rattle.std.proofs.Common.{◌≡◌, ℕ, ◌*◌, ◌<◌, List, [], ◌∷◌, length, Some, Contains, refl}
 use Rattle.adf_block.specs.Image.{bytes_at, block_sum, IsInside, HasFreeBit}
 use Rattle.adf_block.specs.Chained.{Chained}
 use Rattle.adf_block.specs.Fields.{table_entry, next_in_chain}
@@ -57,3 +57,7 @@ stands image t l proper s = record {
   marked_free = s.marked_free;
   marked_used = s.marked_used;
 }
+
+pub layout_is : (image : List ℕ) (t : Tree) (l : Layout) (proper : Proper t) (s : Spells image t l) → (stands image t l proper s).layout ≡ l
+unfolding stands
+layout_is image t l proper s = refl

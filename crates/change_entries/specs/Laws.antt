@@ -7,7 +7,9 @@ use Rattle.change_entries.specs.Conditions.{CanMake, CanRemove, CanRename, IsEmp
 
 -- a tree with an empty entry more is proper
 abbrev pub MadeIsProper : Type 0
-MadeIsProper = (t : Tree) (moment : Date3) (dir key : ℕ) (name : List ℕ) (content : Content) → Proper t → CanMake t dir name → IsUnused t key → IsEmpty content → Proper (made moment dir key name content t)
+MadeIsProper =
+    (t : Tree) (moment : Date3) (dir key : ℕ) (name : List ℕ) (content : Content) → Proper t → CanMake t dir name → IsUnused t key
+    → IsEmpty content → Proper (made moment dir key name content t)
 
 -- a tree without one of its entries is proper
 abbrev pub RemovedIsProper : Type 0

@@ -3,8 +3,7 @@
 ghost use Rattle.std.specs.Prelude.{◌≡◌, IfErr, IfOk};
 ghost use Rattle.ados_map.specs.Pages.{IsLowestFree, NoneFree};
 ghost use Rattle.ados_tree.specs.Change.{made};
-ghost use Rattle.ados_tree.specs.Kept.{Kept};
-ghost use Rattle.ados_tree.specs.NewBlocks.{TakesLowest};
+ghost use Rattle.ados_tree.specs.NewBlocks.{KeepsRest};
 ghost use Rattle.ados_tree.specs.Stands.{Stands};
 ghost use Rattle.ados_tree.specs.Tree.{Tree};
 ghost use Rattle.change_entries.specs.Conditions.{CanMake};
@@ -30,8 +29,7 @@ pub fn create(
     requires can { (t : Tree) → Stands image.old t → CanMake t dir name.now }
     ensures key { IfOk result (λ key. IsLowestFree image.old key) }
     ensures stands { IfOk result (λ key. (t : Tree) → Stands image.old t → Stands image.new (made moment dir key name.now (content_of kind) t)) }
-    ensures kept { Kept image.old image.new }
-    ensures lowest { TakesLowest image.old image.new }
+    ensures keeps { KeepsRest image.old image.new }
     ensures full { IfErr result (λ full. NoneFree image.old × (image.new ≡ image.old)) }
 {
     let Some(key) = take_first(image) else {

@@ -3,10 +3,12 @@
 ghost use Rattle.std.specs.Prelude.{◌≡◌, ℕ, List};
 ghost use Rattle.ados_tree.specs.Change.{removed};
 ghost use Rattle.ados_tree.specs.Kept.{Kept};
+ghost use Rattle.ados_tree.specs.NewBlocks.{KeepsRest, TakesNone};
 ghost use Rattle.ados_tree.specs.Stands.{Stands};
 ghost use Rattle.ados_tree.specs.Tree.{Tree, size_of};
+ghost use Rattle.ados_tree.specs.Untold.{KeepsUntold};
 ghost use Rattle.change_entries.specs.Conditions.{CanRemove};
-ghost use Rattle.change_entries.specs.steps.Emptied.{Empties};
+ghost use Rattle.change_entries.specs.steps.Emptied.{Empties, GivesBack};
 
 use crate::block::{stamp, touch};
 use adf_block::Image;
@@ -16,13 +18,14 @@ use ados_map::give_back;
 use ados_name::Date3;
 use change_bytes::cut;
 
-/// Takes away an entry: a directory without entries, or a file, whose blocks are given back. What stands in the blocks
-/// stays.
+/// Takes away an entry: a directory without entries, or a file, whose blocks are given back. What stands in these stays,
+/// but for the entry's own block.
 pub fn remove(image: &mut Image, key: u32, moment: Date3)
     requires tree { (t : Tree) × Stands image.old t }
     requires can { (t : Tree) → Stands image.old t → CanRemove t key }
     ensures stands { (t : Tree) → Stands image.old t → Stands image.new (removed moment key t) }
-    ensures kept { Kept image.old image.new }
+    ensures keeps { KeepsRest image.old image.new }
+    ensures none { TakesNone image.old image.new }
 {
     empty(image, key, moment);
     remove_empty(image, key, moment);
@@ -33,7 +36,8 @@ fn empty(image: &mut Image, key: u32, moment: Date3)
     requires tree { (t : Tree) × Stands image.old t }
     requires can { (t : Tree) → Stands image.old t → CanRemove t key }
     ensures empties { Empties moment key image.old image.new }
-    ensures kept { Kept image.old image.new }
+    ensures keeps { KeepsRest image.old image.new }
+    ensures none { TakesNone image.old image.new }
 {
     if image.long(key, SECONDARY_TYPE) != FILE_TYPE {
         return;
@@ -41,14 +45,16 @@ fn empty(image: &mut Image, key: u32, moment: Date3)
     cut(image, key, 0, moment);
 }
 
-/// Takes away an entry with nothing in it: a directory without entries, or a file of no bytes. What stands in its block
-/// stays, and what an earlier change of the image kept is still kept.
+/// Takes away an entry with nothing in it: a directory without entries, or a file of no bytes. What an earlier change of
+/// the image kept is still kept.
 fn remove_empty(image: &mut Image, key: u32, moment: Date3)
     requires tree { (t : Tree) × Stands image.old t }
     requires can { (t : Tree) → Stands image.old t → CanRemove t key }
     requires empty { (t : Tree) → Stands image.old t → size_of t key ≡ 0 }
     ensures stands { (t : Tree) → Stands image.old t → Stands image.new (removed moment key t) }
     ensures kept { (first : List ℕ) → Kept first image.old → Kept first image.new }
+    ensures gives { GivesBack key image.old image.new }
+    ensures untold { KeepsUntold image.old image.new }
 {
     let dir = image.long(key, PARENT);
     unlink(image, dir, key);

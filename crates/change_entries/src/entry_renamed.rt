@@ -1,7 +1,7 @@
 //! An entry that moves.
 
 ghost use Rattle.ados_tree.specs.Change.{renamed};
-ghost use Rattle.ados_tree.specs.Kept.{Kept};
+ghost use Rattle.ados_tree.specs.NewBlocks.{KeepsRest, TakesNone};
 ghost use Rattle.ados_tree.specs.Stands.{Stands};
 ghost use Rattle.ados_tree.specs.Tree.{Tree};
 ghost use Rattle.change_entries.specs.Conditions.{CanRename};
@@ -17,7 +17,8 @@ pub fn rename(image: &mut Image, key: u32, dir: u32, name: &Name, moment: Date3)
     requires tree { (t : Tree) × Stands image.old t }
     requires can { (t : Tree) → Stands image.old t → CanRename t key dir name.now }
     ensures stands { (t : Tree) → Stands image.old t → Stands image.new (renamed moment key dir name.now t) }
-    ensures kept { Kept image.old image.new }
+    ensures keeps { KeepsRest image.old image.new }
+    ensures none { TakesNone image.old image.new }
 {
     let from = image.long(key, PARENT);
     unlink(image, from, key);

@@ -12,11 +12,12 @@ use Rattle.ados_tree.specs.Stands.{Stands}
 use Rattle.ados_tree.specs.Dates.{date_at}
 use Rattle.ados_tree.specs.Change.{changed, stamped, with_node}
 use Rattle.ados_tree.specs.Kept.{Kept}
+use Rattle.ados_tree.specs.NewBlocks.{KeepsRest}
 use Rattle.ados_tree.proofs.Nodes.{root_or_parent}
 use Rattle.change_fields.specs.Places.{Summed, Restamped}
 use Rattle.change_fields.proofs.Retells.{retold, Retells}
 use Rattle.change_fields.proofs.Retold.{Telling, Tells, stands_retold}
-use Rattle.change_fields.proofs.FieldsKept.{IsKeyField, kept_fields, telling_field, disk_date_field}
+use Rattle.change_fields.proofs.FieldsKept.{IsKeyField, IsTold, kept_fields, keeps_fields, telling_field, telling_told, disk_date_field}
 use Rattle.change_fields.proofs.Summing.{text_beside, long_beside, date_beside}
 
 -- bytes low to high - 1 of the key's block may be those that tell of the node after
@@ -231,16 +232,25 @@ module _ (old new : List ℕ) (t : Tree) (s : Stands old t) (key : ℕ) (node : 
     field_at b i (inl w) = subst (λ (k : ℕ). IsKeyField old new t k i) (sym w.0) (field_told i (c.within i w.1 w.2))
     field_at b i (inr w) = subst (λ (k : ℕ). IsKeyField old new t k i) (sym w.0) (field_told i (Telling.sum w.1))
 
-    kept_told : SameBut (Summed key low high) old new → Kept old new
-    kept_told rest = kept_fields old new t s (Summed key low high) rest (λ b i l w. field_at b i w)
+    told_at : (b i : ℕ) → Summed key low high b i → IsTold t b i
+    told_at b i (inl w) = subst (λ (k : ℕ). IsTold t k i) (sym w.0) (telling_told old new t s key after c.retells.name c.retells.comment i (c.within i w.1 w.2))
+    told_at b i (inr w) = inl w.1
 
-    kept_retold : (r : ℕ) → r ≡ root t → SameBut (Restamped r key low high) old new → Kept old new
-    kept_retold r e rest = kept_fields old new t s (Restamped r key low high) rest (λ b i l w. field b i w)
+    kept_told : SameBut (Summed key low high) old new → Kept old new
+    kept_told rest = kept_fields old new t s (Summed key low high) rest (λ b i l w. field_at b i w) told_at
+
+    keeps_retold : (r : ℕ) → r ≡ root t → SameBut (Restamped r key low high) old new → KeepsRest old new
+    keeps_retold r e rest = keeps_fields old new t s (Restamped r key low high) rest (λ b i l w. field b i w) told
       where
         field : (b i : ℕ) → Restamped r key low high b i → IsKeyField old new t b i
         field b i (inl w) = field_at b i w
         field b i (inr (inl w)) = disk_date_field old new t s b (w.0 ∙ e) i (inr (w.1, w.2))
         field b i (inr (inr w)) = disk_date_field old new t s b (w.0 ∙ e) i (inl w.1)
+
+        told : (b i : ℕ) → Restamped r key low high b i → IsTold t b i
+        told b i (inl w) = told_at b i w
+        told b i (inr (inl w)) = inr (omega (arith, w.1), omega (arith, w.2), λ z. omega (arith, w.1, z), λ _. omega (arith, w.1))
+        told b i (inr (inr w)) = inl w.1
 
   to_retold : (f : Node → Node) (d : Date3) → Stands new (stamped d (changed key f t)) → Stands new (retold key (f node) d t)
   to_retold f d h = subst (λ o. Stands new (stamped d (with_node key o t))) (ap (option_map f) at) h
@@ -250,9 +260,9 @@ module _ (old new : List ℕ) (t : Tree) (s : Stands old t) (key : ℕ) (node : 
   kept_changed f c h rest = kept_told (f node) t.disk_date t.disk_date c (to_retold f t.disk_date h) rest
 
   -- a field is changed, and then the disk date
-  pub kept_restamped : (f : Node → Node) → Case t key node (f node) t.disk_date low high → (moment : Date3) → Stands new (stamped moment (changed key f t))
-      → (r : ℕ) → r ≡ root t → SameBut (Restamped r key low high) old new → Kept old new
-  kept_restamped f c moment h r e rest = kept_retold (f node) t.disk_date moment c (to_retold f moment h) r e rest
+  pub keeps_restamped : (f : Node → Node) → Case t key node (f node) t.disk_date low high → (moment : Date3) → Stands new (stamped moment (changed key f t))
+      → (r : ℕ) → r ≡ root t → SameBut (Restamped r key low high) old new → KeepsRest old new
+  keeps_restamped f c moment h r e rest = keeps_retold (f node) t.disk_date moment c (to_retold f moment h) r e rest
 
   -- the disk date is changed
   pub kept_stamped : (moment : Date3) → Case t key node node moment low high → Stands new (stamped moment t) → SameBut (Summed key low high) old new → Kept old new

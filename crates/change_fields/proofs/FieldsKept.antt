@@ -1,10 +1,14 @@
--- A change of fields in the blocks of keys keeps all that is no field.
-use Rattle.std.proofs.Common.{◌≡◌, ◌≢◌, ℕ, ◌+◌, ◌*◌, ◌/◌, ◌%◌, ◌<◌, ◌≤◌, ◌⊎◌, inl, inr, List, take, drop, slice_index, Some, IsSome, refl, sym, ap, ◌∙◌, arith, length-take, length-drop}
+-- A change of fields in the blocks of keys keeps all that is no field, and leaves the map as it is.
+use Rattle.std.proofs.Common.{◌≡◌, ◌≢◌, ℕ, ◌+◌, ◌-◌, ◌*◌, ◌/◌, ◌%◌, ◌^◌, ◌<◌, ◌≤◌, ◌⊎◌, inl, inr, ◌==◌, not, bit_and, List, length, take, drop, slice_index, Some, IsSome, refl, sym, ap, ◌∙◌, arith, length-take, length-drop}
 use Rattle.std.proofs.lemmas.Bool.{cases_eq}
 use Rattle.std.proofs.lemmas.List.{ext_get_or, get_or-take, get_or-drop}
-use Rattle.adf_block.specs.Image.{byte_at, bytes_at}
+use Rattle.adf_block.specs.Image.{block_count, root_key, page_count, byte_at, bytes_at, long, has_free_bit}
 use Rattle.adf_block.specs.Fields.{HasText, secondary_type, name_byte, comment_byte}
 use Rattle.adf_block.specs.Frame.{SameBut}
+use Rattle.adf_block.proofs.Frames.{same_long, same_count}
+use Rattle.ados_map.specs.Pages.{page_block, pages_of}
+use Rattle.ados_name.specs.Name.{IsName, IsComment}
+use Rattle.ados_data.specs.File.{format_of}
 use Rattle.ados_tree.specs.Tree.{Content, Node, Tree, root}
 use Rattle.ados_tree.specs.Tree.Content.{Directory, File}
 use Rattle.ados_tree.specs.Layout.{Duty}
@@ -13,14 +17,23 @@ use Rattle.ados_tree.specs.declared.role.Role.{Role}
 use Rattle.ados_tree.specs.declared.role.Role.TheVariants as roles
 use Rattle.ados_tree.specs.Kept.{Kept, IsField, Alike}
 use Rattle.ados_tree.specs.Kept.IsField.{root_longs, root_name, directory_longs, file_longs, entry_comment}
+use Rattle.ados_tree.specs.NewBlocks.{KeepsRest, TakesNone}
+use Rattle.ados_tree.specs.Keys.{HasFileKey}
+use Rattle.ados_tree.specs.Untold.{KeepsData, KeepsUntold, data_at}
+use Rattle.ados_tree.proofs.FilesStay.{data_blocks_stay, data_serves, extension_blocks_stay, file_of_key, files_stay}
 use Rattle.ados_tree.proofs.Nodes.{root_or_parent}
-use Rattle.ados_tree.proofs.Standing.{StandsAt, reached_stands, same_place, serves_at, duty_of, root_at}
+use Rattle.ados_tree.proofs.Keeping.{header_stays, none_taken}
+use Rattle.ados_tree.proofs.Standing.{StandsAt, count_same, reached_stands, same_place, serves_at, duty_of, root_at, slice_get-index}
 use Rattle.change_fields.proofs.Retold.{Telling}
 
 -- byte i of a key's block is part of a field in its role, in the old or in the new image
 pub data IsKeyField (old new : List ℕ) (t : Tree) (b i : ℕ) : Type 0 where
   root_field : b ≡ root t → (IsField old b roles.Root i ⊎ IsField new b roles.Root i) → IsKeyField old new t b i
   entry_field : b ≢ root t → IsSome (t.nodes b) → ((dir s : ℕ) → IsField old b (roles.Entry dir s) i) ⊎ ((dir s : ℕ) → IsField new b (roles.Entry dir s) i) → IsKeyField old new t b i
+
+-- byte i of a block is of its sum, or behind the pointers of a file, and then neither of its size nor of its extension; in the root it is behind the pages, too
+abbrev pub IsTold : Tree → ℕ → ℕ → Type 0
+IsTold t b i = (i / 4 ≡ 5) ⊎ ((320 ≤ i) × (i < 504) × (i / 4 ≢ 81) × (b ≡ root t → 420 ≤ i))
 
 module _ (old new : List ℕ) (t : Tree) (s : Stands old t) where
   is_key : (b i : ℕ) → IsKeyField old new t b i → IsSome (t.nodes b)
@@ -52,7 +65,7 @@ module _ (old new : List ℕ) (t : Tree) (s : Stands old t) where
       go (roles.Entry dir q) (roles.Data file) at alike n m f d = absurd alike
       go (roles.Entry dir q) (roles.Extension file) at alike n m f d = absurd alike
 
-  module _ (changed : ℕ → ℕ → Type 0) (h : SameBut changed old new) (fields : (b i : ℕ) → i < 512 → changed b i → IsKeyField old new t b i) where
+  module _ (changed : ℕ → ℕ → Type 0) (h : SameBut changed old new) (fields : (b i : ℕ) → i < 512 → changed b i → IsKeyField old new t b i) (told : (b i : ℕ) → changed b i → IsTold t b i) where
     boot_byte : (k : ℕ) → k < 1024 → slice_index new k ≡ slice_index old k
     unfolding byte_at
     boot_byte k l =
@@ -73,15 +86,109 @@ module _ (old new : List ℕ) (t : Tree) (s : Stands old t) where
         ∙ boot_byte (512 * 0 + 0 + k) (omega (arith, below))
         ∙ sym (get_or-take 1024 (drop (512 * 0 + 0) old) k 0 below ∙ get_or-drop (512 * 0 + 0) old k 0))
 
+    -- what tells of a file's data stays
+    front_stays : (b j : ℕ) → j < 78 → j ≢ 5 → long new b j ≡ long old b j
+    front_stays b j l n = same_long changed old new h b j (omega (arith, l)) (λ k e w. elim (told b k w) [ inl f ↦ n (sym e ∙ f) | inr f ↦ omega (arith, e, l, f.0) ])
+
     -- all else is kept
     pub kept_fields : Kept old new
     kept_fields = record {
       size = h.same_length;
       boot = boot_kept;
       others = λ b i role role' l a a' alike n m. h.same_byte b i l (λ w. let at = reached_stands old t s a in no_field b i at.0 role role' at.1 alike n m (fields b i l w));
+      first = λ b f g. header_stays old new b (front_stays b 2 (omega arith) (omega arith)) (λ i l. front_stays b (77 - i) (omega arith) (omega (arith, l))) (front_stays b 4 (omega arith) (omega arith));
+    }
+
+    -- ---- the map
+
+    count : block_count new ≡ block_count old
+    count = same_count changed old new h
+
+    page_long : (p : ℕ) → p < page_count (block_count old) → long new (root t) (79 + p) ≡ long old (root t) (79 + p)
+    page_long p l =
+        let few : 79 + p < 105 = omega (arith, l, count_same old t s, s.proper.size.1) in
+        same_long changed old new h (root t) (79 + p) (omega (arith, few))
+        (λ k e w. elim (told (root t) k w) [ inl f ↦ omega (arith, e, f) | inr f ↦ let behind = f.3 refl in omega (arith, e, few, behind) ])
+
+    page_stays : (p k : ℕ) → p < length s.layout.pages → k < 512 → ¬ changed (slice_index s.layout.pages p) k
+    page_stays p k l m w =
+        let duty = s.fits.one_duty (slice_index s.layout.pages p) (Duty.Page p) Duty.Key (slice_get-index s.layout.pages p l) (is_key (slice_index s.layout.pages p) k (fields (slice_index s.layout.pages p) k m w)) in
+        cc duty
+
+    -- each bit is as it was, those past the end too
+    pub marks_stay : (b : ℕ) → (b - 2) / 4064 < page_count (block_count old) → has_free_bit new b ≡ has_free_bit old b
+    unfolding has_free_bit
+    marks_stay b l =
+        let within : (b - 2) / 4064 < length s.layout.pages = omega (arith, l, s.fits.pages, ap page_count (count_same old t s)) in
+        let root_new : root_key (block_count new) ≡ root t = ap root_key (count ∙ count_same old t s) in
+        let root_old : root_key (block_count old) ≡ root t = ap root_key (count_same old t s) in
+        let page_old : long old (root t) (79 + (b - 2) / 4064) ≡ slice_index s.layout.pages ((b - 2) / 4064) = s.root_fields.pages ((b - 2) / 4064) within in
+        let at_new : long new (root_key (block_count new)) (79 + (b - 2) / 4064) ≡ slice_index s.layout.pages ((b - 2) / 4064) = ap (λ (q : ℕ). long new q (79 + (b - 2) / 4064)) root_new ∙ page_long ((b - 2) / 4064) l ∙ page_old in
+        let at_old : long old (root_key (block_count old)) (79 + (b - 2) / 4064) ≡ slice_index s.layout.pages ((b - 2) / 4064) = ap (λ (q : ℕ). long old q (79 + (b - 2) / 4064)) root_old ∙ page_old in
+        let here : long new (slice_index s.layout.pages ((b - 2) / 4064)) (1 + (b - 2) % 4064 / 32) ≡ long old (slice_index s.layout.pages ((b - 2) / 4064)) (1 + (b - 2) % 4064 / 32) =
+        same_long changed old new h (slice_index s.layout.pages ((b - 2) / 4064)) (1 + (b - 2) % 4064 / 32) (omega arith) (λ k e w. page_stays ((b - 2) / 4064) k within (omega (arith, e)) w) in
+        let value = ap (λ (x : ℕ). long new x (1 + (b - 2) % 4064 / 32)) at_new ∙ here ∙ ap (λ (x : ℕ). long old x (1 + (b - 2) % 4064 / 32)) (sym at_old) in
+        ap (λ (x : ℕ). not (bit_and x (2 ^ ((b - 2) % 32)) == 0)) value
+
+    -- no block is taken, and none that is free was written
+    takes_none : TakesNone old new
+    takes_none b inside free = marks_stay b (omega (arith, inside.0, inside.1)) ∙ free
+
+    -- ---- what no tree tells of
+
+    page_names_stay : (p : ℕ) → p < pages_of old → page_block new p ≡ page_block old p
+    page_names_stay p l =
+        let root_old : root_key (block_count old) ≡ root t = ap root_key (count_same old t s) in
+        ap (λ (q : ℕ). long new q (79 + p)) (ap root_key count ∙ root_old) ∙ page_long p l ∙ ap (λ (q : ℕ). long old q (79 + p)) (sym root_old)
+
+    link_stays : (b : ℕ) → long new b 126 ≡ long old b 126
+    link_stays b = same_long changed old new h b 126 (omega arith) (λ k e w. elim (told b k w) [ inl f ↦ omega (arith, e, f) | inr f ↦ omega (arith, e, f.1) ])
+
+    size_stays : (b : ℕ) → long new b 81 ≡ long old b 81
+    size_stays b = same_long changed old new h b 81 (omega arith) (λ k e w. elim (told b k w) [ inl f ↦ omega (arith, e, f) | inr f ↦ f.2 e ])
+
+    format_stays : format_of new ≡ format_of old
+    format_stays =
+        let kind : byte_at new 0 3 ≡ byte_at old 0 3 = h.same_byte 0 3 (omega arith) (λ w. let inside = s.fits.inside 0 Duty.Key (is_key 0 3 (fields 0 3 (omega arith) w)) in omega (arith, inside.0)) in
+        rw kind refl
+
+    -- no data block is that of a key
+    data_stays : (file : ℕ) → HasFileKey old file → KeepsData old new file
+    data_stays file key =
+        let pointers : (b i : ℕ) → i < 72 → long new b (77 - i) ≡ long old b (77 - i) = λ b i l. front_stays b (77 - i) (omega arith) (omega (arith, l)) in
+        record {
+          blocks = data_blocks_stay old new link_stays pointers format_stays file (size_stays file);
+          extensions = extension_blocks_stay old new link_stays pointers format_stays file (size_stays file);
+          bytes = λ q i l m. h.same_byte (data_at old file q) i m (λ w.
+              let serves = data_serves old t s file (file_of_key old t s file key) q l in
+              let duty = s.fits.one_duty (data_at old file q) (Duty.Data file q) Duty.Key serves (is_key (data_at old file q) i (fields (data_at old file q) i m w)) in
+              cc duty);
+        }
+
+    untold_stays : KeepsUntold old new
+    untold_stays =
+        files_stay old new (record { pages = page_names_stay; bits = λ k has past. marks_stay k (omega (arith, has.0, has.1)) })
+        (λ file was is. data_stays file was)
+
+    pub keeps_fields : KeepsRest old new
+    keeps_fields = record {
+      kept = kept_fields;
+      lowest = none_taken old new takes_none;
+      freed = λ b i inside free entry l. h.same_byte b i l (λ w.
+          s.marked_free b (inside.0, omega (arith, inside.1, count_same old t s)) (sym (marks_stay b (omega (arith, inside.0, inside.1))) ∙ free) (Duty.Key, is_key b i (fields b i l w)));
+      untold = untold_stays;
     }
 
   -- ---- what tells of a node is part of a field
+
+  -- what tells of a node stands beside what tells of a file's data
+  pub telling_told : (key : ℕ) (after : Node) → IsName after.name → IsComment after.comment → (i : ℕ) → Telling t key after i → IsTold t key i
+  telling_told key after name short i (Telling.sum e) = inl e
+  telling_told key after name short i (Telling.date l m) = inr (omega (arith, l), omega (arith, m), λ z. omega (arith, l, z), λ _. l)
+  telling_told key after name short i (Telling.root_name e l m) = inr (omega (arith, l), omega (arith, m, name.short), λ z. omega (arith, l, z), λ _. omega (arith, l))
+  telling_told key after name short i (Telling.disk_date e l m) = inr (omega (arith, l), omega (arith, m), λ z. omega (arith, l, z), λ _. omega (arith, l))
+  telling_told key after name short i (Telling.bits n l m) = inr (l, omega (arith, m), λ z. omega (arith, m, z), λ e. absurd (n e))
+  telling_told key after name short i (Telling.comment n l m) = inr (omega (arith, l), omega (arith, m, short.short), λ z. omega (arith, l, z), λ e. absurd (n e))
 
   -- the sum or the disk date of the root
   pub disk_date_field : (b : ℕ) → b ≡ root t → (i : ℕ) → (i / 4 ≡ 5) ⊎ ((472 ≤ i) × (i < 484)) → IsKeyField old new t b i

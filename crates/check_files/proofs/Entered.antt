@@ -10,9 +10,9 @@ use Rattle.std.specs.BTreeMap.{is_at}
 use Rattle.std.specs.BTreeSet.{BTreeSet, contains}
 use Rattle.ados_tree.specs.Faults.{HasDuplicateName}
 use Rattle.check_marks.specs.declared.mark.Mark.{Mark}
-use Rattle.check_marks.specs.Marks.{AreReached, IsMarkedEntry}
+use Rattle.check_marks.specs.Marks.{AreReached, AreUnlike, IsMarkedEntry}
 use Rattle.check_files.specs.declared.names.EntryName.{EntryName}
-use Rattle.check_files.specs.Entries.{AreUnlike, upper_name}
+use Rattle.check_files.specs.Entries.{upper_name}
 use Rattle.check_files.proofs.Marked.{one_directory, entry_below}
 use Rattle.check_files.proofs.UpperNames.{upper_names_equal, entry_sound, duplicate_shown}
 

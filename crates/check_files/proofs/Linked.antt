@@ -102,7 +102,12 @@ module _ (image : List ℕ) (file count : ℕ) (r : IsReachedFile image file) (h
   pub sum_shown : IsOfs image → (sum : ℕ) → sum ≡ sum_by (held_count image) (take count (blocks_upto image file count)) → sum ≢ file_size image file → HasBadCount image file
   sum_shown ofs sum e n =
       let whole : take count (blocks_upto image file count) ≡ blocks_upto image file count = take_all count (blocks_upto image file count) (omega (arith, length-blocks_upto image file count)) in
-      wrong_sum ofs (are_data_blocks image file count r h) all_inside (λ z. n (e ∙ ap (sum_by (held_count image)) whole ∙ z))
+      wrong_sum ofs (record {
+        blocks = blocks_upto image file count;
+        of_file = are_data_blocks image file count r h;
+        inside = all_inside;
+        wrong = λ z. n (e ∙ ap (sum_by (held_count image)) whole ∙ z);
+      })
 
   -- ---- the sum
 

@@ -2,7 +2,7 @@
 use Rattle.std.specs.Prelude.{◌≡◌, ℕ, ◌-◌, List, ◌∷◌, ◌++◌, map, replicate, Option}
 use Rattle.adf_block.specs.Image.{byte_at}
 use Rattle.adf_block.specs.Fields.{secondary_type, file_type, text_at, name_byte}
-use Rattle.ados_name.specs.Name.{Same, upper}
+use Rattle.ados_name.specs.Name.{upper}
 use Rattle.check_marks.specs.declared.mark.Mark.{Mark}
 use Rattle.check_marks.specs.Marks.{IsMarkedEntry, IsSoundFile}
 
@@ -13,10 +13,6 @@ IsSoundIfFile image marks file = (dir : ℕ) → IsMarkedEntry marks file dir �
 -- this holds of each block
 abbrev pub AreSoundFiles : List ℕ → List (Option Mark) → Type 0
 AreSoundFiles image marks = (file : ℕ) → IsSoundIfFile image marks file
-
--- two marked entries of a directory with the same name are one block
-abbrev pub AreUnlike : List ℕ → List (Option Mark) → Type 0
-AreUnlike image marks = (block other dir : ℕ) → IsMarkedEntry marks block dir → IsMarkedEntry marks other dir → Same (text_at image block name_byte) (text_at image other name_byte) → block ≡ other
 
 -- the name of a block in 31 bytes: its length, its bytes in upper case, and zeros
 unfoldable pub upper_name : List ℕ → ℕ → List ℕ

@@ -4,8 +4,8 @@ ghost use Rattle.adf_block.specs.Image.{IsImage, block_count, byte_at};
 ghost use Rattle.adf_block.specs.Fields.{name_byte};
 ghost use Rattle.ados_tree.specs.declared.fault.FaultKind.TheVariants.{DuplicateName, NoMemory};
 ghost use Rattle.ados_tree.specs.Accepted.{IsRefusal};
-ghost use Rattle.check_marks.specs.Marks.{AreReached};
-ghost use Rattle.check_files.specs.Entries.{AreUnlike, upper_name};
+ghost use Rattle.check_marks.specs.Marks.{AreReached, AreUnlike};
+ghost use Rattle.check_files.specs.Entries.{upper_name};
 
 use crate::entries::directory_of;
 use adf_block::Image;

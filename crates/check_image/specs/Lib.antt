@@ -1,1 +1,2 @@
--- Nothing of its own: the contracts stand on ados_tree and check_marks.
+-- What the check answers; the rest of its contracts stands on ados_tree and check_marks.
+pub mod Answer

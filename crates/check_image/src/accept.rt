@@ -1,10 +1,10 @@
 //! What becomes of an image whose reached blocks and files are sound.
-ghost use Rattle.std.specs.Prelude.{IfOk, MatchResult};
+ghost use Rattle.std.specs.Prelude.{IfOk};
 ghost use Rattle.ados_tree.specs.Tree.{Tree};
 ghost use Rattle.ados_tree.specs.Stands.{Stands};
-ghost use Rattle.ados_tree.specs.Accepted.{Accepts, HandsBack};
 ghost use Rattle.ados_tree.specs.Rebuilt.{HasValidBitmap};
 ghost use Rattle.check_marks.specs.Marks.{IsChecked};
+ghost use Rattle.check_image.specs.Answer.{AcceptsOrHandsBack};
 
 use crate::bitmap::{has_valid_bitmap, mend, reached_and_free};
 use adf_block::Image;
@@ -34,7 +34,7 @@ pub fn accept_checked(
     marks: &[Option<Mark>],
 ) -> Result<Accepted, Rejected>
     requires { IsChecked image marks.now }
-    ensures answer { MatchResult result (λ accepted. Accepts image accepted.was_validated accepted.image) (λ rejected. HandsBack image rejected.image rejected.fault) }
+    ensures answer { AcceptsOrHandsBack image result }
     ensures stands { IfOk result (λ accepted. (t : Tree) × Stands accepted.image t) }
 {
     if has_valid_bitmap(&image) {
@@ -48,7 +48,7 @@ pub fn accept_checked(
 fn accept_valid(image: Image, marks: &[Option<Mark>]) -> Result<Accepted, Rejected>
     requires checked { IsChecked image marks.now }
     requires valid { HasValidBitmap image }
-    ensures answer { MatchResult result (λ accepted. Accepts image accepted.was_validated accepted.image) (λ rejected. HandsBack image rejected.image rejected.fault) }
+    ensures answer { AcceptsOrHandsBack image result }
     ensures stands { IfOk result (λ accepted. (t : Tree) × Stands accepted.image t) }
 {
     checked_is_accepted();
@@ -71,7 +71,7 @@ fn accept_valid(image: Image, marks: &[Option<Mark>]) -> Result<Accepted, Reject
 fn accept_mended(alloc: Global, image: Image, marks: &[Option<Mark>]) -> Result<Accepted, Rejected>
     requires checked { IsChecked image marks.now }
     requires not_valid { ¬ HasValidBitmap image }
-    ensures answer { MatchResult result (λ accepted. Accepts image accepted.was_validated accepted.image) (λ rejected. HandsBack image rejected.image rejected.fault) }
+    ensures answer { AcceptsOrHandsBack image result }
     ensures stands { IfOk result (λ accepted. (t : Tree) × Stands accepted.image t) }
 {
     mended_is_accepted();

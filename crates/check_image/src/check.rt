@@ -2,8 +2,9 @@
 ghost use Rattle.std.specs.Prelude.{IfOk, MatchResult};
 ghost use Rattle.ados_tree.specs.Tree.{Tree};
 ghost use Rattle.ados_tree.specs.Stands.{Stands};
-ghost use Rattle.ados_tree.specs.Accepted.{Accepts, HandsBack, IsRefusal};
+ghost use Rattle.ados_tree.specs.Accepted.{IsRefusal};
 ghost use Rattle.check_marks.specs.Marks.{IsChecked};
+ghost use Rattle.check_image.specs.Answer.{AcceptsOrHandsBack};
 
 use crate::accept::{Accepted, Rejected, accept_checked};
 use adf_block::Image;
@@ -18,7 +19,7 @@ use std::alloc::Global;
 /// An accepted image stands for a tree. Where its root says that the bitmap is valid it is the one that was handed in; else
 /// the bitmap was written anew. `NoMemory` says that a list of the check could not be made, before any change.
 pub fn check_image(alloc: Global, image: Image) -> Result<Accepted, Rejected>
-    ensures answer { MatchResult result (λ accepted. Accepts image accepted.was_validated accepted.image) (λ rejected. HandsBack image rejected.image rejected.fault) }
+    ensures answer { AcceptsOrHandsBack image result }
     ensures stands { IfOk result (λ accepted. (t : Tree) × Stands accepted.image t) }
 {
     match checked_marks(alloc, &image) {

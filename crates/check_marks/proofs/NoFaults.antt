@@ -115,7 +115,7 @@ module _ (image : List ℕ) (marks : List (Option Mark)) (im : IsImage image) (c
       (ap (λ (mark : Mark). mark.holder) same, ap (λ (mark : Mark). mark.long) same)
 
   none_used_twice : (block : ℕ) → Faults.IsUsedTwice image block → ⊥
-  none_used_twice block (Faults.IsUsedTwice.two_holders inside m n d) = d (one_holder m n).0
+  none_used_twice block (Faults.IsUsedTwice.two_holders inside m n d) = d (one_holder m.1 n.1).0
   none_used_twice block (Faults.IsUsedTwice.two_longs inside m n d) = d (one_holder m n).1
   none_used_twice block (Faults.IsUsedTwice.root_named {holder = holder} {i = i} e n) =
       let one = noted n in

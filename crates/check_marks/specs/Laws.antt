@@ -31,8 +31,12 @@ CheckedHasPages = (image : List ℕ) (marks : List (Option Mark)) → IsImage im
 
 -- a checked image with a valid bitmap, in which no marked block is free, is accepted as it is
 abbrev pub CheckedIsAccepted : Type 0
-CheckedIsAccepted = (image : List ℕ) (marks : List (Option Mark)) → IsImage image → IsChecked image marks → HasValidBitmap image → AreInUse image marks → Accepts image false image
+CheckedIsAccepted =
+    (image : List ℕ) (marks : List (Option Mark)) → IsImage image → IsChecked image marks → HasValidBitmap image → AreInUse image marks
+    → Accepts image false image
 
 -- a checked image whose bitmap is not valid is accepted once it is mended
 abbrev pub MendedIsAccepted : Type 0
-MendedIsAccepted = (old new : List ℕ) (marks : List (Option Mark)) → IsImage old → IsImage new → IsChecked old marks → ¬ HasValidBitmap old → IsMended old marks new → Accepts old true new
+MendedIsAccepted =
+    (old new : List ℕ) (marks : List (Option Mark)) → IsImage old → IsImage new → IsChecked old marks → ¬ HasValidBitmap old
+    → IsMended old marks new → Accepts old true new

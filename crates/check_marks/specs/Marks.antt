@@ -8,11 +8,19 @@ use Rattle.ados_tree.specs.declared.role.Role.{Role}
 use Rattle.ados_tree.specs.declared.role.Role.TheVariants.{Root, Page, Entry, Data, Extension}
 use Rattle.check_marks.specs.declared.mark.Mark.{Mark}
 use Rattle.ados_tree.specs.Stands.{kind_bytes}
-use Rattle.ados_tree.specs.Faults.{InImage, IsOfs, IsPlace, Reached, root_of}
+use Rattle.ados_tree.specs.Faults.{HasDirectoryType, HasFileType, IsOfs, IsPlace, LeadsInside, Reached, root_of}
 
 -- the mark of a block, if it has one
 abbrev pub mark_at : List (Option Mark) → ℕ → Option Mark
 mark_at marks block = option_and_then (λ mark. mark) (slice_get marks block)
+
+-- the block is marked in a role, for a long of its holder
+abbrev pub IsMarkedFor : List (Option Mark) → ℕ → Role → ℕ → ℕ → Type 0
+IsMarkedFor marks block role holder i = mark_at marks block ≡ Some (record { role = role; holder = holder; long = i })
+
+-- the header is that of a directory or file
+abbrev pub HasEntryType : List ℕ → ℕ → Type 0
+HasEntryType image block = HasDirectoryType image block ⊎ HasFileType image block
 
 -- the block has a valid name
 pub record HasValidName (image : List ℕ) (block : ℕ) : Type 0 where
@@ -31,7 +39,7 @@ pub record IsSoundRoot (image : List ℕ) (block : ℕ) : Type 0 where
 -- a directory or file with the right fields, in the chain of its slot
 pub record IsSoundEntry (image : List ℕ) (block dir s : ℕ) : Type 0 where
   pub primary : primary_type image block ≡ header_type
-  pub secondary : (secondary_type image block ≡ directory_type) ⊎ (secondary_type image block ≡ file_type)
+  pub secondary : HasEntryType image block
   pub key_field : own_key image block ≡ block
   pub parent : parent_key image block ≡ dir
   pub sum : block_sum image block ≡ 0
@@ -53,18 +61,39 @@ IsSound image block (Entry dir s) = IsSoundEntry image block dir s
 IsSound image block (Data file) = IsOfs image → IsSoundData image block file
 IsSound image block (Extension file) = HasExtension image file block
 
+-- each place of a marked block names a block of the image
+abbrev pub PlacesAreInside : List ℕ → List (Option Mark) → Type 0
+PlacesAreInside image marks =
+    (block i : ℕ) (mark : Mark) (next : Role) → mark_at marks block ≡ Some mark → IsPlace image block mark.role i next
+    → LeadsInside image block i
+
+-- each place of a marked block names a block that is marked for it
+abbrev pub PlacesAreMarked : List ℕ → List (Option Mark) → Type 0
+PlacesAreMarked image marks =
+    (block i : ℕ) (mark : Mark) (next : Role) → mark_at marks block ≡ Some mark → IsPlace image block mark.role i next
+    → IsMarkedFor marks (long image block i) next block i
+
 -- the marks are those of the blocks that are reached: each place of a marked block names a block that is marked for that place
 pub record AreReached (image : List ℕ) (marks : List (Option Mark)) : Type 0 where
   pub size : length marks ≡ block_count image
-  pub root : mark_at marks (root_of image) ≡ Some (record { role = Root; holder = 0; long = 0 })
+  pub root : IsMarkedFor marks (root_of image) Root 0 0
   pub reached : (block : ℕ) (mark : Mark) → mark_at marks block ≡ Some mark → Reached image block mark.role
-  pub inside : (block i : ℕ) (mark : Mark) (next : Role) → mark_at marks block ≡ Some mark → IsPlace image block mark.role i next → InImage image (long image block i)
-  pub marked : (block i : ℕ) (mark : Mark) (next : Role) → mark_at marks block ≡ Some mark → IsPlace image block mark.role i next → mark_at marks (long image block i) ≡ Some (record { role = next; holder = block; long = i })
+  pub inside : PlacesAreInside image marks
+  pub marked : PlacesAreMarked image marks
   pub sound : (block : ℕ) (mark : Mark) → mark_at marks block ≡ Some mark → IsSound image block mark.role
 
 -- the block is marked as an entry of a directory
 abbrev pub IsMarkedEntry : List (Option Mark) → ℕ → ℕ → Type 0
 IsMarkedEntry marks block dir = (mark : Mark) × (s : ℕ) × (mark_at marks block ≡ Some mark) × (mark.role ≡ Entry dir s)
+
+-- the two blocks have the same name
+abbrev pub HaveOneName : List ℕ → ℕ → ℕ → Type 0
+HaveOneName image block other = Same (text_at image block name_byte) (text_at image other name_byte)
+
+-- two marked entries of a directory with the same name are one block
+abbrev pub AreUnlike : List ℕ → List (Option Mark) → Type 0
+AreUnlike image marks =
+    (block other dir : ℕ) → IsMarkedEntry marks block dir → IsMarkedEntry marks other dir → HaveOneName image block other → block ≡ other
 
 -- a file whose blocks bear out its counts and its size
 abbrev pub IsSoundFile : List ℕ → ℕ → Type 0
@@ -75,5 +104,4 @@ pub record IsChecked (image : List ℕ) (marks : List (Option Mark)) : Type 0 wh
   pub boot : bytes_at image 0 0 4 ≡ kind_bytes (format_of image)
   pub reached : AreReached image marks
   pub files : (file dir : ℕ) → IsMarkedEntry marks file dir → secondary_type image file ≡ file_type → IsSoundFile image file
-  -- two entries of a directory with the same name are one block
-  pub unlike : (block other dir : ℕ) → IsMarkedEntry marks block dir → IsMarkedEntry marks other dir → Same (text_at image block name_byte) (text_at image other name_byte) → block ≡ other
+  pub unlike : AreUnlike image marks

@@ -189,7 +189,7 @@ module _ (image : List ℕ) (marks : List (Option Mark)) where
             } in
             elim (cases_eq mark.holder hand) [
               | inl z ↦ two_longs within (subst (λ (b : ℕ). PlaceNames image b mark.long (long image hand i)) z there) here (λ f. n.passed (inr (z, omega (arith, f))))
-              | inr ne ↦ two_holders within there here ne
+              | inr ne ↦ two_holders within (mark.long, there) (i, here) ne
             ]
       ]
 

@@ -1,11 +1,10 @@
 //! A look at one reached block: the fields that can be told to be right from the block alone.
-ghost use Rattle.std.specs.Prelude.{◌≡◌, ◌<◌, ◌⊎◌, MatchResult};
+ghost use Rattle.std.specs.Prelude.{◌≡◌, ◌<◌, MatchResult};
 ghost use Rattle.adf_block.specs.Image.{block_count, block_sum};
-ghost use Rattle.adf_block.specs.Fields.{secondary_type, file_type, directory_type};
 ghost use Rattle.ados_data.specs.File.{HasExtension};
 ghost use Rattle.ados_tree.specs.declared.role.Role.TheVariants.{Page, Entry, Data, Extension};
 ghost use Rattle.ados_tree.specs.Faults.{IsEntry, IsOfs, Reached, Shows, root_of};
-ghost use Rattle.check_marks.specs.Marks.{IsSound, IsSoundData, IsSoundEntry, IsSoundRoot};
+ghost use Rattle.check_marks.specs.Marks.{HasEntryType, IsSound, IsSoundData, IsSoundEntry, IsSoundRoot};
 
 use crate::naming::name_of;
 use adf_block::Image;
@@ -98,7 +97,7 @@ fn look_entry(image: &Image, block: u32, dir: u32, slot: u32) -> Result<(), Faul
 fn look_secondary(image: &Image, block: u32) -> Result<(), FaultKind>
     requires inside { block < block_count image.now }
     requires entry { IsEntry image.now block }
-    ensures { MatchResult result (λ _. (secondary_type image.now block ≡ directory_type) ⊎ (secondary_type image.now block ≡ file_type)) (λ kind. Shows image.now kind block) }
+    ensures { MatchResult result (λ _. HasEntryType image.now block) (λ kind. Shows image.now kind block) }
 {
     let kind = image.long(block, SECONDARY_TYPE);
     if kind == DIRECTORY_TYPE || kind == FILE_TYPE {

@@ -1,6 +1,6 @@
 -- Lists of outlets that change one at a time.
 use Rattle.std.proofs.Common.{◌≡◌, ◌≢◌, ℕ, zero, suc, ◌+◌, ◌<◌, ◌≤◌, ◌==◌, true, false, List, [], ◌∷◌, ◌++◌, length, set, take, length-append, Some, slice_get, sym, refl, ap, ◌∙◌, subst, arith, ⊎_elim, ◌⊎◌, inl, inr, append_assoc, append-nil}
-use Rattle.std.proofs.lemmas.List.{length-set, take_more_set}
+use Rattle.std.proofs.lemmas.List.{length-set, take_more_set, take-append-drop}
 use Rattle.std.proofs.lemmas.Option.{slice_get_within, slice_get-get_or, get_or_from_slice_get}
 use Rattle.std.proofs.Math.ListN.{get_or}
 use native.Mathlib.Decide.{ℕ_discrete}
@@ -8,8 +8,8 @@ use mathlib.Core.Logic.{dite}
 use Rattle.std.proofs.lemmas.List.Sums.{sum_by-set, sum_by_push, sum_by-cons, sum_by-take-le}
 use Rattle.port_history.specs.History.{packets_by}
 use Rattle.port_ends.specs.steps.Rule.{total}
-use Rattle.port_ends.specs.Rings.{OutView, Each, EachPosts, EachStaysPosted, Posts, StaysPosted, all_of, waiting_count}
-use Rattle.port_ends.specs.steps.Sending.{EachHasRoom, UsesOne, SendsTo}
+use Rattle.port_ends.specs.Rings.{OutView, Each, EachOffers, EachOffersFirst, EachStaysPosted, Offers, OffersFirst, StaysPosted, all_of, waiting_count}
+use Rattle.port_ends.specs.steps.Sending.{EachGetsRoom, EachHasRoom, GetsRoom, SameLooks, SendsTo, UsesOne}
 use Rattle.port_ends.proofs.Packets.{put_lists, same_number, other_number}
 
 same_or_not : (k i : ℕ) → (k ≡ i) ⊎ (k ≢ i)
@@ -49,18 +49,109 @@ module _ {T : Type 0} where
         (same_or_not k i),
   )
 
-  pub posts_refl : (o : OutView T) → Posts o o
-  posts_refl o = (refl, ([], refl, sym (append-nil o.posted)), omega arith)
+  -- of the outlets before the i-th R holds, and the others are as they were
+  abbrev pub DoneBelow : (OutView T → OutView T → Type 0) → ℕ → ℕ → OutView T → OutView T → Type 0
+  DoneBelow R i k old new = (k < i → R old new) × (i ≤ k → new ≡ old)
 
-  pub posts_posts : (a b c : OutView T) → Posts a b → Posts b c → Posts a c
-  posts_posts a b c h g = let x = h.2 in let y = g.2 in
-      (g.0 ∙ h.0, (h.1.0 ++ g.1.0, h.1.1 ∙ (ap (λ l. h.1.0 ++ l) g.1.1 ∙ sym (append_assoc h.1.0 g.1.0 c.waiting)), g.1.2 ∙ (ap (λ l. l ++ g.1.0) h.1.2 ∙ append_assoc a.posted h.1.0 g.1.0)), omega arith)
+  pub none_done : (R : OutView T → OutView T → Type 0) (xs : List (OutView T)) → Each (DoneBelow R 0) xs xs
+  none_done R xs = (refl, λ k o e. (o, e, (λ l. absurd (omega (arith, l)), λ _. refl)))
+
+  pub one_done : (R : OutView T → OutView T → Type 0) (xs ys : List (OutView T)) (i : ℕ) (o p : OutView T)
+      → Each (DoneBelow R i) xs ys → i < length ys → o ≡ get_or ys i o → R o p → Each (DoneBelow R (i + 1)) xs (set ys i p)
+  one_done R xs ys i o p h within at step = (
+    length-set ys i p ∙ h.0,
+    λ k a e. let b = h.1 k a e in ⊎_elim
+        (λ (here : k ≡ i).
+        let same : b.0 ≡ o = sym (get_or_from_slice_get ys i b.0 o (subst (λ (j : ℕ). slice_get ys j ≡ Some b.0) here b.1)) ∙ sym at in
+        let was : o ≡ a = sym same ∙ b.2.1 (omega (arith, here)) in
+        (p, subst (λ (j : ℕ). slice_get (set ys i p) j ≡ Some p) (sym here) (get_set_same ys i p within), (λ _. subst (λ (q : OutView T). R q p) was step, λ l. absurd (omega (arith, here, l)))))
+        (λ (other : k ≢ i). (b.0, get_set_other ys i k p other ∙ b.1, (λ l. b.2.0 (omega (arith, other, l)), λ l. b.2.1 (omega (arith, l)))))
+        (same_or_not k i),
+  )
+
+  pub all_done : (R : OutView T → OutView T → Type 0) (xs ys : List (OutView T)) (n : ℕ) → length ys ≤ n → Each (DoneBelow R n) xs ys → Each (λ _ o p. R o p) xs ys
+  all_done R xs ys n whole h = (h.0, λ k o e. let a = h.1 k o e in let within = slice_get_within ys k a.0 a.1 in (a.0, a.1, a.2.0 (omega (arith, whole, within))))
+
+  -- the first of what waited was posted, in order
+  abbrev pub Posts : OutView T → OutView T → Type 0
+  Posts old new = (xs : List T) × (old.waiting ≡ xs ++ new.waiting) × (new.posted ≡ old.posted ++ xs)
+
+  abbrev pub EachPosts : List (OutView T) → List (OutView T) → Type 0
+  EachPosts old new = Each (λ _ o p. (p.ring ≡ o.ring) × Posts o p) old new
+
+  offers_posts : (a b : OutView T) → Offers a b → Posts a b
+  offers_posts a b h =
+      let n = h.1.0 in
+      let f = h.1.1 in
+      (take n a.waiting, sym (take-append-drop n a.waiting) ∙ ap (λ l. take n a.waiting ++ l) (sym f.2), f.1)
+
+  gets_posts : (a b : OutView T) → GetsRoom a b → Posts a b
+  gets_posts a b h = ([], sym (ap (λ v. v.waiting) h.0), ap (λ v. v.posted) h.0 ∙ sym (append-nil a.posted))
+
+  pub each_offers_posts : (xs ys : List (OutView T)) → EachOffers xs ys → EachPosts xs ys
+  each_offers_posts xs ys h = (h.0, λ k o e. let a = h.1 k o e in (a.0, a.1, (a.2.0, offers_posts o a.0 a.2)))
+
+  gets_gets : (a b c : OutView T) → GetsRoom a b → GetsRoom b c → GetsRoom a c
+  gets_gets a b c h g = (g.0 ∙ ap (λ (v : OutView T). record v { room = c.room }) h.0, omega (arith, h.1, g.1))
+
+  -- one outlet more has room
+  pub each_gets : (xs ys : List (OutView T)) (i : ℕ) (o p : OutView T) → EachGetsRoom xs ys → i < length ys → o ≡ get_or ys i o → GetsRoom o p → EachGetsRoom xs (set ys i p)
+  each_gets xs ys i o p h within at step = each_set (λ _ o p. GetsRoom o p) (λ _ o p. GetsRoom o p) (λ _ a b c. gets_gets a b c) xs ys i o p h within at step
+
+  pub room_more : (more i : ℕ) (ys : List (OutView T)) (p : OutView T) → i < length ys → ((k : ℕ) (o : OutView T) → k < i → slice_get ys k ≡ Some o → more ≤ o.room) → more ≤ p.room
+      → (k : ℕ) (o : OutView T) → k < i + 1 → slice_get (set ys i p) k ≡ Some o → more ≤ o.room
+  room_more more i ys p within was here k o less at = ⊎_elim
+      (λ (same : k ≡ i).
+      let there = get_set_same ys i p within in
+      let one : p ≡ o = cc in
+      subst (λ (v : OutView T). more ≤ v.room) one here)
+      (λ (other : k ≢ i). was k o (omega (arith, other, less)) (sym (get_set_other ys i k p other) ∙ at))
+      (same_or_not k i)
+
+  pub each_gets_posts : (xs ys : List (OutView T)) → EachGetsRoom xs ys → EachPosts xs ys
+  each_gets_posts xs ys h = (h.0, λ k o e. let a = h.1 k o e in (a.0, a.1, (ap (λ v. v.ring) a.2.0, gets_posts o a.0 a.2)))
+
+  offers_room : (a b c : OutView T) → Offers a b → GetsRoom b c → Offers a c
+  offers_room a b c h g =
+      let f = h.1.1 in
+      (ap (λ v. v.ring) g.0 ∙ h.0, (h.1.0, (ap (λ v. v.looks) g.0 ∙ f.0, ap (λ v. v.posted) g.0 ∙ f.1, ap (λ v. v.waiting) g.0 ∙ f.2)), omega (arith, h.2, g.1))
+
+  -- what was offered to its ring stays offered where there is more room
+  pub each_offers_room : (xs ys zs : List (OutView T)) → EachOffers xs ys → EachGetsRoom ys zs → EachOffers xs zs
+  each_offers_room xs ys zs h g = each_then (λ _ o p. Offers o p) (λ _ o p. GetsRoom o p) (λ _ o p. Offers o p) (λ _ a b c. offers_room a b c) xs ys zs h g
+
+  offers_first : (a b c : OutView T) → Offers a b → StaysPosted b c → c.looks ≡ b.looks → OffersFirst a c
+  offers_first a b c h s l =
+      let f = h.1.1 in
+      (h.1.0, s.1.0, l ∙ f.0, s.1.1 ∙ ap (λ l. l ++ s.1.0) f.1)
+
+  each_both : (R P : ℕ → OutView T → OutView T → Type 0) (xs ys : List (OutView T)) → Each R xs ys → Each P xs ys → Each (λ k o p. R k o p × P k o p) xs ys
+  each_both R P xs ys h g = (
+    h.0,
+    λ k o e.
+        let a = h.1 k o e in
+        let b = g.1 k o e in
+        let same : b.0 ≡ a.0 = let x = a.1 in let y = b.1 in cc in
+        (a.0, a.1, (a.2, subst (λ (q : OutView T). P k o q) same b.2)),
+  )
+
+  -- what was offered comes before all that is posted afterwards
+  pub each_offers_first : (xs ys zs : List (OutView T)) → EachOffers xs ys → EachStaysPosted ys zs → SameLooks ys zs → EachOffersFirst xs zs
+  each_offers_first xs ys zs h s l =
+      each_then (λ _ o p. Offers o p) (λ _ o p. StaysPosted o p × (p.looks ≡ o.looks)) (λ _ o p. OffersFirst o p) (λ _ a b c f g. offers_first a b c f g.0 g.1) xs ys zs h
+      (each_both (λ _ o p. StaysPosted o p) (λ _ o p. p.looks ≡ o.looks) ys zs s l)
+
+  pub same_looks_refl : (xs : List (OutView T)) → SameLooks xs xs
+  same_looks_refl xs = each_refl (λ _ o p. p.looks ≡ o.looks) (λ _ _. refl) xs
+
+  pub same_looks : (xs ys zs : List (OutView T)) → SameLooks xs ys → SameLooks ys zs → SameLooks xs zs
+  same_looks xs ys zs h g = each_then (λ _ o p. p.looks ≡ o.looks) (λ _ o p. p.looks ≡ o.looks) (λ _ o p. p.looks ≡ o.looks) (λ _ _ _ _ e f. f ∙ e) xs ys zs h g
 
   posts_all : (a b : OutView T) → Posts a b → all_of b ≡ all_of a
-  posts_all a b h = rw h.1.2 (append_assoc a.posted h.1.0 b.waiting) ∙ ap (λ l. a.posted ++ l) (sym h.1.1)
+  posts_all a b h = rw h.2 (append_assoc a.posted h.0 b.waiting) ∙ ap (λ l. a.posted ++ l) (sym h.1)
 
   posts_fewer : (a b : OutView T) → Posts a b → length b.waiting ≤ length a.waiting
-  posts_fewer a b h = let e = ap (λ l. length l) h.1.1 in let l = length-append h.1.0 b.waiting in omega arith
+  posts_fewer a b h = let e = ap (λ l. length l) h.1 in let l = length-append h.0 b.waiting in omega arith
 
   pub stays_refl : (o : OutView T) → StaysPosted o o
   stays_refl o = (refl, ([], sym (append-nil o.posted)))
@@ -68,11 +159,8 @@ module _ {T : Type 0} where
   pub stays_stays : (a b c : OutView T) → StaysPosted a b → StaysPosted b c → StaysPosted a c
   stays_stays a b c h g = (g.0 ∙ h.0, (h.1.0 ++ g.1.0, g.1.1 ∙ (ap (λ l. l ++ g.1.0) h.1.1 ∙ append_assoc a.posted h.1.0 g.1.0)))
 
-  pub each_posts : (xs ys zs : List (OutView T)) → EachPosts xs ys → EachPosts ys zs → EachPosts xs zs
-  each_posts xs ys zs h g = each_then (λ _ o p. Posts o p) (λ _ o p. Posts o p) (λ _ o p. Posts o p) (λ _ a b c. posts_posts a b c) xs ys zs h g
-
   pub each_posts_stays : (xs ys : List (OutView T)) → EachPosts xs ys → EachStaysPosted xs ys
-  each_posts_stays xs ys h = (h.0, λ k o e. let a = h.1 k o e in (a.0, a.1, (a.2.0, (a.2.1.0, a.2.1.2))))
+  each_posts_stays xs ys h = (h.0, λ k o e. let a = h.1 k o e in let posts = a.2.1 in (a.0, a.1, (a.2.0, (posts.0, posts.2))))
 
   pub each_stays_refl : (xs : List (OutView T)) → EachStaysPosted xs xs
   each_stays_refl xs = each_refl (λ _ o p. StaysPosted o p) (λ _ o. stays_refl o) xs
@@ -91,21 +179,21 @@ module _ {T : Type 0} where
       let o = before xs ys k p h.0 at in
       let g = h.1 k o.0 o.1 in
       let same : g.0 ≡ p = let e = g.1 in cc in
-      posts_all o.0 p (subst (λ (q : OutView T). Posts o.0 q) same g.2) ∙ was k o.0 o.1
+      posts_all o.0 p (subst (λ (q : OutView T). Posts o.0 q) same g.2.1) ∙ was k o.0 o.1
 
   -- a reply was sent to one client
   pub each_send : (xs : List (OutView T)) (client i : ℕ) (x : T) (o p : OutView T) → client ≡ i + 1 → i < length xs → o ≡ get_or xs i o
-      → StaysPosted o p → all_of p ≡ all_of o ++ x ∷ [] → o.room ≤ p.room + 1 → Each (SendsTo client x) xs (set xs i p)
-  each_send xs client i x o p is within at stays sent room = (
+      → StaysPosted o p → all_of p ≡ all_of o ++ x ∷ [] → o.room ≤ p.room + 1 → p.looks ≡ o.looks → Each (SendsTo client x) xs (set xs i p)
+  each_send xs client i x o p is within at stays sent room looks = (
     length-set xs i p,
     λ k a e. ⊎_elim
         (λ (here : k ≡ i).
         let same : o ≡ a = at ∙ get_or_from_slice_get xs i a o (subst (λ (j : ℕ). slice_get xs j ≡ Some a) here e) in
         let test : (client == k + 1) ≡ true = same_number client (k + 1) (is ∙ ap (λ (j : ℕ). j + 1) (sym here)) in
-        (p, subst (λ (j : ℕ). slice_get (set xs i p) j ≡ Some p) (sym here) (get_set_same xs i p within), rw test (subst (λ (b : OutView T). StaysPosted b p × (all_of p ≡ all_of b ++ x ∷ []) × (b.room ≤ p.room + 1)) same (stays, sent, room))))
+        (p, subst (λ (j : ℕ). slice_get (set xs i p) j ≡ Some p) (sym here) (get_set_same xs i p within), rw test (subst (λ (b : OutView T). StaysPosted b p × (all_of p ≡ all_of b ++ x ∷ []) × (b.room ≤ p.room + 1) × (p.looks ≡ b.looks)) same (stays, sent, room, looks))))
         (λ (other : k ≢ i).
         let test : (client == k + 1) ≡ false = other_number client (k + 1) (λ same. other (omega arith)) in
-        (a, get_set_other xs i k p other ∙ e, rw test (stays_refl a, refl, omega arith)))
+        (a, get_set_other xs i k p other ∙ e, rw test (stays_refl a, refl, omega arith, refl)))
         (same_or_not k i),
   )
 
@@ -114,6 +202,9 @@ module _ {T : Type 0} where
 
   pub sends_one : (client : ℕ) (x : T) (xs ys : List (OutView T)) → Each (SendsTo client x) xs ys → UsesOne xs ys
   sends_one client x xs ys h = (h.0, λ k o e. let a = h.1 k o e in (a.0, a.1, a.2.2))
+
+  pub sends_looks : (client : ℕ) (x : T) (xs ys : List (OutView T)) → Each (SendsTo client x) xs ys → SameLooks xs ys
+  sends_looks client x xs ys h = (h.0, λ k o e. let a = h.1 k o e in (a.0, a.1, a.2.3))
 
   pub room_step : (n m : ℕ) (xs ys : List (OutView T)) → m + 1 ≤ n → UsesOne xs ys → EachHasRoom n xs → EachHasRoom m ys
   room_step n m xs ys less h room k p at =
@@ -128,12 +219,12 @@ module _ {T : Type 0} where
   has_room_less n m xs less room k o at = let r = room k o at in omega arith
 
   -- one outlet more posted what fits: the count of those that wait so far, and in all
-  pub waiting_step : (xs : List (OutView T)) (i n most : ℕ) (o p : OutView T) → n ≡ waiting_count (take i xs) → waiting_count xs ≤ most → i < length xs → o ≡ get_or xs i o → Posts o p
+  pub waiting_step : (xs : List (OutView T)) (i n most : ℕ) (o p : OutView T) → n ≡ waiting_count (take i xs) → waiting_count xs ≤ most → i < length xs → o ≡ get_or xs i o → Offers o p
       → (n + length p.waiting ≡ waiting_count (take (i + 1) (set xs i p))) × (waiting_count (set xs i p) ≤ most)
   waiting_step xs i n most o p was few within at h =
       let f : OutView T → ℕ = λ x. length x.waiting in
       let s = sum_by-set f xs i p o within in
-      let fewer = posts_fewer o p h in
+      let fewer = posts_fewer o p (offers_posts o p h) in
       let same = ap f at in (
         ap (λ (k : ℕ). k + length p.waiting) was ∙ (sym (sum_by_push f (take i xs) p) ∙ ap (λ l. waiting_count l) (sym (take_more_set xs i p within))),
         omega arith,

@@ -8,14 +8,15 @@ use Rattle.port_history.specs.History.{Serving, packets_of, packets_by}
 use Rattle.port_ends.proofs.Moves.{get_end}
 use Rattle.port_ends.proofs.Packets.{packets_by_append, packets_by_here, packets_by_past, same_number, other_number, lists_total, put_lists}
 use Rattle.port_ends.proofs.Runs.{meaning_none, meaning_one, meaning_append, all_at_append}
-use Rattle.port_ends.proofs.Eachs.{before, sends_stays, each_stays, each_stays_refl, each_posts_stays, waiting_few}
-use Rattle.port_ends.specs.Rings.{OutView, Each, EachPosts, all_of, waiting_count}
+use Rattle.port_ends.proofs.Eachs.{before, sends_stays, each_stays, each_stays_refl, each_posts_stays, each_offers_posts, EachPosts, waiting_few}
+use Rattle.port_ends.specs.Rings.{OutView, Each, EachOffers, all_of, waiting_count}
 use Rattle.port_ends.specs.steps.Sending.{SendsTo}
 use Rattle.port_ends.specs.steps.Desks.{DeskView}
 use Rattle.port_ends.specs.Ends.{OfClients}
 use Rattle.port_ends.specs.steps.Rule.{total}
 use Rattle.port_ends.specs.Ends.{replies_to, HandlerView, ClientView, IsEndOf, AreEnds, Serves}
 use Rattle.port_ends.specs.steps.QueueEnds.{TakeView}
+use Rattle.port_ends.specs.steps.Views.{handler_view}
 
 module _ {Q M A : Type 0} where
   replies_snoc : (k : ℕ) (xs : List (Serving Q M A)) (x : Serving Q M A)
@@ -78,9 +79,6 @@ module _ {T : Type 0} where
       (get_end os o p (length os) (subst (λ (l : List (OutView T)). slice_get l (length os) ≡ Some p) longer at))
 
 module _ {S Q M A : Type 0} where
-  abbrev pub view_of : TakeView Q → DeskView S Q M A → List (OutView (M × A)) → HandlerView S Q M A
-  view_of q d os = record { port = q.port; mark = d.mark; opening = d.opening; served = d.served; server = d.server; outlets = os; knows = d.knows }
-
   pub serves_none : (gives : S → Q → M → S → A → Type 0) (m : M) (h : HandlerView S Q M A) → Serves gives m h [] h
   serves_none gives m h = record { port = refl; mark = refl; opening = refl; served_more = sym (append-nil h.served); moments = tt; run = meaning_none gives h.server; rings = each_stays_refl h.outlets }
 
@@ -102,12 +100,16 @@ module _ {S Q M A : Type 0} where
       subst (λ (v : HandlerView S Q M A). Serves gives m a [] v) (sym is)
       (record { port = refl; mark = refl; opening = refl; served_more = sym (append-nil a.served); moments = tt; run = meaning_none gives a.server; rings = each_posts_stays a.outlets os posts })
 
+  -- what waited was offered to its rings, and nothing else changed
+  pub serves_offers : (gives : S → Q → M → S → A → Type 0) (m : M) (a b : HandlerView S Q M A) (os : List (OutView (M × A))) → b ≡ record a { outlets = os } → EachOffers a.outlets os → Serves gives m a [] b
+  serves_offers gives m a b os is offers = serves_posts gives m a b os is (each_offers_posts a.outlets os offers)
+
   -- one packet was served, and its reply sent
   pub serves_one : (gives : S → Q → M → S → A → Type 0) (q q' : TakeView Q) (d d' : DeskView S Q M A) (os os' : List (OutView (M × A))) (h : HandlerView S Q M A) (x : Serving Q M A)
-      → view_of q d os ≡ h → q'.port ≡ q.port → d'.opening ≡ d.opening → d'.mark ≡ d.mark → d'.served ≡ d.served ++ x ∷ [] → gives d.server x.packet x.moment d'.server x.answer
-      → Each (SendsTo x.client (x.moment, x.answer)) os os' → Serves gives x.moment h (x ∷ []) (view_of q' d' os')
+      → handler_view q d os ≡ h → q'.port ≡ q.port → d'.opening ≡ d.opening → d'.mark ≡ d.mark → d'.served ≡ d.served ++ x ∷ [] → gives d.server x.packet x.moment d'.server x.answer
+      → Each (SendsTo x.client (x.moment, x.answer)) os os' → Serves gives x.moment h (x ∷ []) (handler_view q' d' os')
   serves_one gives q q' d d' os os' h x is port opening mark served meaning sends =
-      subst (λ (v : HandlerView S Q M A). Serves gives x.moment v (x ∷ []) (view_of q' d' os')) is
+      subst (λ (v : HandlerView S Q M A). Serves gives x.moment v (x ∷ []) (handler_view q' d' os')) is
       (record {
         port = port;
         mark = mark;
@@ -119,15 +121,15 @@ module _ {S Q M A : Type 0} where
       })
 
   pub added_view : (q q' : TakeView Q) (d : DeskView S Q M A) (os os' : List (OutView (M × A))) (o : OutView (M × A)) (h : HandlerView S Q M A)
-      → view_of q d os ≡ h → q' ≡ record q { clients = q.clients + 1 } → os' ≡ os ++ o ∷ [] → view_of q' d os' ≡ record h { outlets = h.outlets ++ o ∷ [] }
+      → handler_view q d os ≡ h → q' ≡ record q { clients = q.clients + 1 } → os' ≡ os ++ o ∷ [] → handler_view q' d os' ≡ record h { outlets = h.outlets ++ o ∷ [] }
   added_view q q' d os os' o h is eq eos =
-      subst (λ (x : HandlerView S Q M A). view_of q' d os' ≡ record x { outlets = x.outlets ++ o ∷ [] }) is
+      subst (λ (x : HandlerView S Q M A). handler_view q' d os' ≡ record x { outlets = x.outlets ++ o ∷ [] }) is
       (λ i. record { port = (eq i).port; mark = d.mark; opening = d.opening; served = d.served; server = d.server; outlets = eos i; knows = d.knows })
 
   pub added_end : (q q' : TakeView Q) (d : DeskView S Q M A) (os os' : List (OutView (M × A))) (o : OutView (M × A)) (h : HandlerView S Q M A) (e : ClientView Q M A)
-      → view_of q d os ≡ h → q' ≡ record q { clients = q.clients + 1 } → os' ≡ os ++ o ∷ [] → length os ≡ q.clients
+      → handler_view q d os ≡ h → q' ≡ record q { clients = q.clients + 1 } → os' ≡ os ++ o ∷ [] → length os ≡ q.clients
       → e.port ≡ q.port → e.mark ≡ d.mark → e.number ≡ q.clients + 1 → e.ring ≡ o.ring
-      → IsEndOf (view_of q' d os') (length h.outlets) e
+      → IsEndOf (handler_view q' d os') (length h.outlets) e
   added_end q q' d os os' o h e is eq eos count p m n r =
       let len : length os ≡ length h.outlets = ap (λ (x : HandlerView S Q M A). length x.outlets) is in (
         p ∙ sym (ap (λ (x : TakeView Q). x.port) eq),

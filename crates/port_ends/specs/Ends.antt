@@ -1,27 +1,30 @@
 -- What contracts see of a port's ends.
 use Rattle.std.specs.Prelude.{◌≡◌, ◌⊎◌, ◌||◌, ℕ, ◌+◌, ◌≤◌, Bool, true, false, List, [], ◌∷◌, ◌++◌, length, map, Some, slice_get}
 use Rattle.std.specs.declared.alloc.Global.{Global}
+use Rattle.atomic_table.specs.Seated.{TableId}
 use Rattle.crossbeam_queue.specs.SegTies.{SegId}
 use Rattle.port_history.specs.declared.step.Reply.{Reply}
 use Rattle.port_history.specs.declared.step.PutRefused.{PutRefused}
 use Rattle.port_history.specs.declared.step.PutRefused.TheVariants.{Closed, NoRoom}
-use Rattle.port_history.specs.History.{Serving, MeaningRun, packets_by, packets_of}
+use Rattle.port_history.specs.History.{ServerMeaning, Serving, MeaningRun, packets_by, packets_of}
 use Rattle.port_ends.specs.Rings.{RingId, OutView, all_of, AreEmpty, EachStaysPosted}
 
--- a client's end: its port, mark and ring, its number, its put list, its taken list with the moments, and whether it knows of the close
+-- a client's end: its port, mark and ring, its number, its put list, its taken list with the moments, and whether it knows
+-- of the close
 pub record ClientView (Q M A : Type 0) : Type 0 where
   pub port : SegId Global
-  pub mark : ℕ
+  pub mark : TableId
   pub ring : RingId
   pub number : ℕ
   pub put : List Q
   pub taken : List (M × A)
   pub knows : Bool
 
--- the handler's end: its port and mark, the opening server, what was served, the server now, for each client what was posted and what waits, and whether the mark is known to be set
+-- the handler's end: its port and mark, the opening server, what was served, the server now, for each client what was posted
+-- and what waits, and whether the mark is known to be set
 pub record HandlerView (S Q M A : Type 0) : Type 0 where
   pub port : SegId Global
-  pub mark : ℕ
+  pub mark : TableId
   pub opening : S
   pub served : List (Serving Q M A)
   pub server : S
@@ -68,6 +71,10 @@ module _ {Q M A : Type 0} where
   abbrev pub AreFresh : List (ClientView Q M A) → Type 0
   AreFresh cs = (k : ℕ) (c : ClientView Q M A) → slice_get cs k ≡ Some c → IsFresh c
 
+  -- where any of these ends knows of the close, the server has died
+  abbrev pub CloseMeansDeath : List (ClientView Q M A) → Bool → Type 0
+  CloseMeansDeath cs died = (k : ℕ) (c : ClientView Q M A) → slice_get cs k ≡ Some c → c.knows ≡ true → died ≡ true
+
 module _ {S Q M A : Type 0} where
   -- this is the end of client k + 1
   abbrev pub IsEndOf : HandlerView S Q M A → ℕ → ClientView Q M A → Type 0
@@ -86,7 +93,7 @@ module _ {S Q M A : Type 0} where
   IsOpened server clients h cs = IsNew server h × AreEmpty h.outlets × AreEnds h cs × AreFresh cs × (length cs ≡ clients)
 
   -- what holds of a handler's end at every moment
-  pub record IsSound (gives : S → Q → M → S → A → Type 0) (has_died : S → Bool) (h : HandlerView S Q M A) : Type 0 where
+  pub record IsSound (gives : ServerMeaning S Q M A) (has_died : S → Bool) (h : HandlerView S Q M A) : Type 0 where
     -- what was served is a run from the opening server, and the server stands where it ends
     pub run : MeaningRun gives h.opening h.served h.server
     -- the mark is known to be set exactly where the server has died
@@ -97,7 +104,8 @@ module _ {S Q M A : Type 0} where
     pub clients : OfClients (length h.outlets) (packets_of h.served)
 
   -- these packets were served at this moment, by the server as it was and then is; what was posted stays posted
-  pub record Serves (gives : S → Q → M → S → A → Type 0) (moment : M) (old : HandlerView S Q M A) (served : List (Serving Q M A)) (new : HandlerView S Q M A) : Type 0 where
+  pub record Serves (gives : ServerMeaning S Q M A) (moment : M)
+      (old : HandlerView S Q M A) (served : List (Serving Q M A)) (new : HandlerView S Q M A) : Type 0 where
     pub port : new.port ≡ old.port
     pub mark : new.mark ≡ old.mark
     pub opening : new.opening ≡ old.opening

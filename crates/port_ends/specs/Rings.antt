@@ -1,5 +1,5 @@
 -- What contracts see of the sending ends of the reply rings.
-use Rattle.std.specs.Prelude.{◌≡◌, ℕ, ◌≤◌, List, ◌++◌, [], length, Some, slice_get}
+use Rattle.std.specs.Prelude.{◌≡◌, ℕ, ◌≤◌, List, [], ◌∷◌, ◌++◌, take, drop, length, Some, slice_get}
 use Rattle.std.specs.List.{sum_by}
 use Rattle.std.specs.declared.alloc.Global.{Global}
 use denote.RawPtr.{Ptr}
@@ -11,20 +11,33 @@ pub record RingId : Type 0 where
   pub names : ℕ × (ℕ × ℕ)
   pub heap : Global
 
--- what was posted to the ring, what waits beside it, and how many more the list beside it has room for
+-- what was posted to the ring, what waits beside it, how many more the list beside it has room for, and how many places each
+-- look at the ring found for what waited then
 pub record OutView (T : Type 0) : Type 0 where
   pub ring : RingId
   pub posted : List T
   pub waiting : List T
   pub room : ℕ
+  pub looks : List ℕ
 
 -- all that was sent: what was posted, and then what waits
 abbrev pub all_of : {T : Type 0} → OutView T → List T
 all_of o = o.posted ++ o.waiting
 
--- the first of what waited was posted, in order, and no room is lost
-abbrev pub Posts : {T : Type 0} → OutView T → OutView T → Type 0
-Posts {T} old new = (new.ring ≡ old.ring) × ((xs : List T) × (old.waiting ≡ xs ++ new.waiting) × (new.posted ≡ old.posted ++ xs)) × (old.room ≤ new.room)
+-- a look found so many places, and as many of what waited were posted, in order
+abbrev pub PostsFound : {T : Type 0} → ℕ → OutView T → OutView T → Type 0
+PostsFound found old new =
+    (new.looks ≡ old.looks ++ found ∷ []) × (new.posted ≡ old.posted ++ take found old.waiting) × (new.waiting ≡ drop found old.waiting)
+
+-- what waited was offered to its ring, and no room is lost
+abbrev pub Offers : {T : Type 0} → OutView T → OutView T → Type 0
+Offers old new = (new.ring ≡ old.ring) × ((found : ℕ) × PostsFound found old new) × (old.room ≤ new.room)
+
+-- what waited was offered to its ring, before anything else was posted
+abbrev pub OffersFirst : {T : Type 0} → OutView T → OutView T → Type 0
+OffersFirst {T} old new =
+    (found : ℕ) × (more : List T)
+    × (new.looks ≡ old.looks ++ found ∷ []) × (new.posted ≡ (old.posted ++ take found old.waiting) ++ more)
 
 -- the same ring, where all that was posted stays posted
 abbrev pub StaysPosted : {T : Type 0} → OutView T → OutView T → Type 0
@@ -34,9 +47,13 @@ StaysPosted {T} old new = (new.ring ≡ old.ring) × ((xs : List T) × (new.post
 abbrev pub Each : {T : Type 0} → (ℕ → OutView T → OutView T → Type 0) → List (OutView T) → List (OutView T) → Type 0
 Each {T} R old new = (length new ≡ length old) × ((k : ℕ) (o : OutView T) → slice_get old k ≡ Some o → (p : OutView T) × (slice_get new k ≡ Some p) × R k o p)
 
--- of each, the first of what waited was posted, in order
-abbrev pub EachPosts : {T : Type 0} → List (OutView T) → List (OutView T) → Type 0
-EachPosts old new = Each (λ _ o p. Posts o p) old new
+-- of each, what waited was offered to its ring
+abbrev pub EachOffers : {T : Type 0} → List (OutView T) → List (OutView T) → Type 0
+EachOffers old new = Each (λ _ o p. Offers o p) old new
+
+-- of each, what waited was offered to its ring before anything else was posted
+abbrev pub EachOffersFirst : {T : Type 0} → List (OutView T) → List (OutView T) → Type 0
+EachOffersFirst old new = Each (λ _ o p. OffersFirst o p) old new
 
 -- of each, what was posted stays posted
 abbrev pub EachStaysPosted : {T : Type 0} → List (OutView T) → List (OutView T) → Type 0

@@ -9,4 +9,5 @@ pub mod RingEnds
 pub mod Desks
 pub mod Entries
 pub mod HandlerEnds
+pub mod Views
 pub mod Rooms

@@ -1,10 +1,13 @@
 //! A client's end of a port.
-ghost use Rattle.std.specs.Prelude.{◌≡◌, ◌++◌, [], length, true, IfSome, IfNone, MatchResult, ◌<◌, ◌^◌, List};
+ghost use Rattle.std.specs.Prelude.{◌≡◌, ◌++◌, [], length, true, false, IfSome, IfNone, MatchResult, ◌<◌, ◌^◌, List};
 ghost use Rattle.port_ends.specs.Rings.{all_of};
 ghost use Rattle.port_ends.specs.steps.Rooms.{RoomFits, Left};
 ghost use Rattle.port_ends.specs.Ends.{ClientView, PutAccepted, PutIsRefused, TookReply};
+ghost use Rattle.port_ends.specs.steps.HandlerEnds.{Heard};
+ghost use Rattle.port_ends.specs.steps.Views.{client_view};
 
 use crate::closing_mark::CloseReader;
+use crate::desk::Desk;
 use crate::queue::PutEnd;
 use crate::ring::{Inlet, Outlet};
 use port_history::{PutRefused, Reply, Server};
@@ -24,13 +27,14 @@ pub struct ClientEnd<S: Server> {
 }
 
 impl<S: Server> Model for ClientEnd<S> {
-    ghost use Rattle.std.specs.Prelude.{◌≡◌, ◌||◌, length};
+    ghost use Rattle.std.specs.Prelude.{◌≡◌, length};
     ghost use Rattle.std.specs.List.{list_any};
     ghost use Rattle.port_ends.specs.Ends.{ClientView};
+    ghost use Rattle.port_ends.specs.steps.Views.{client_view};
 
     ghost Value = { ClientView S.Request S.Moment S.Reply };
 
-    ghost view = { λ e. record { port = e.queue.port; mark = e.mark.cell; ring = e.inlet.ring; number = e.queue.number; put = e.queue.put; taken = e.inlet.taken; knows = e.shut || e.mark.knows } };
+    ghost view = { λ e. client_view e.queue e.inlet e.mark e.shut };
 
     ghost invariant = { λ e. (e.count ≡ length e.inlet.taken) × (e.shut ≡ list_any (λ x. S.is_closing x.1) e.inlet.taken) };
 }
@@ -42,7 +46,7 @@ impl<S: Server> ClientEnd<S> {
         mark: CloseReader,
     ) -> ClientEnd<S>
         requires { inlet.taken ≡ [] }
-        ensures { result ≡ record { port = queue.port; mark = mark.cell; ring = inlet.ring; number = queue.number; put = queue.put; taken = []; knows = mark.knows } }
+        ensures { result ≡ client_view queue inlet mark false }
     {
         ClientEnd {
             queue,
@@ -117,6 +121,15 @@ impl<S: Server> ClientEnd<S> {
         ensures { result ≡ length self.now.put }
     {
         self.queue.count()
+    }
+
+    // Tells the handler's desk what this end knows of the close.
+    pub(crate) fn tell(&mut self, desk: &mut Desk<S>)
+        requires { self.old.mark ≡ desk.old.mark }
+        ensures same { (self.new ≡ self.old) × (desk.new ≡ desk.old) }
+        ensures heard { Heard S.is_closing (S.has_died desk.old.server) self.old }
+    {
+        desk.hear(&mut self.mark);
     }
 
     // How many replies were posted and not taken, with both ends in one hand.

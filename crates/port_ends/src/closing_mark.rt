@@ -1,94 +1,101 @@
-//! The mark that the handler sets once, as its server dies.
+//! The mark that the handler sets as its server dies, and the two kinds of end at it.
 ghost use Rattle.std.specs.Prelude.{◌≡◌, true, false, IfOk};
 ghost use Rattle.port_ends.specs.steps.ClosingMark.{CloseView};
 
-use once_cell::race::{Note, OnceBox};
+use crate::notice::{Copies, Enters, Hears, Heeds, Looks, Mark, MarkSeat, Sets};
 use std::alloc::{AllocError, Global};
 use std::marker::Model;
 use std::sync::Arc;
 
+const OPEN: u64 = 0;
+
+const CLOSED: u64 = 1;
+
 /// A reading end of the mark.
 #[derive(Drop)]
 pub struct CloseReader {
-    pub(crate) cell: Arc<OnceBox<u8>, Global>,
-    pub(crate) note: Note<u8>,
+    mark: Arc<Mark, Global>,
+    seat: MarkSeat,
 }
 
 impl Model for CloseReader {
-    ghost use Rattle.std.specs.Prelude.{◌≡◌, is_some};
+    ghost use Rattle.std.specs.Prelude.{◌≡◌, []};
     ghost use Rattle.std.specs.Arc.{arc_value};
-    ghost use Rattle.once_cell.specs.Once.{cell_name};
-    ghost use Rattle.port_ends.specs.steps.ClosingMark.{CloseView};
+    ghost use Rattle.port_ends.specs.steps.ClosingMark.{CloseView, reader};
 
     ghost Value = { CloseView };
 
-    ghost view = { λ m. record { cell = m.note.cell; knows = is_some m.note.known } };
+    ghost view = { λ m. record { mark = (arc_value m.mark).shared.table_id; knows = m.seat.me.0.knows } };
 
-    ghost invariant = { λ m. m.note.cell ≡ cell_name (arc_value m.cell) };
+    ghost invariant = { λ m. ((arc_value m.mark).shared.table_id.words ≡ 1) × (m.seat.table_id ≡ (arc_value m.mark).shared.table_id)
+        × (m.seat.me ≡ (reader m.seat.me.0.knows, [])) };
 }
 
 /// The setting end of the mark.
 #[derive(Drop)]
 pub struct CloseSetter {
-    cell: Arc<OnceBox<u8>, Global>,
-    note: Note<u8>,
-    unset: Option<Box<u8>>,
+    mark: Arc<Mark, Global>,
+    seat: MarkSeat,
 }
 
 impl Model for CloseSetter {
-    ghost use Rattle.std.specs.Prelude.{◌≡◌, is_some, not};
+    ghost use Rattle.std.specs.Prelude.{◌≡◌, []};
     ghost use Rattle.std.specs.Arc.{arc_value};
-    ghost use Rattle.once_cell.specs.Once.{cell_name};
-    ghost use Rattle.port_ends.specs.steps.ClosingMark.{CloseView};
+    ghost use Rattle.port_ends.specs.steps.ClosingMark.{CloseView, setter};
 
     ghost Value = { CloseView };
 
-    ghost view = { λ m. record { cell = m.note.cell; knows = is_some m.note.known } };
+    ghost view = { λ m. record { mark = (arc_value m.mark).shared.table_id; knows = m.seat.me.0.knows } };
 
-    ghost invariant = { λ m. (m.note.cell ≡ cell_name (arc_value m.cell)) × (is_some m.unset ≡ not (is_some m.note.known)) };
+    ghost invariant = { λ m. ((arc_value m.mark).shared.table_id.words ≡ 1) × (m.seat.table_id ≡ (arc_value m.mark).shared.table_id)
+        × (m.seat.me ≡ (setter m.seat.me.0.knows m.seat.me.0.heard, [])) };
 }
 
 impl CloseReader {
     /// Whether the mark is known to be set, after a look at it.
     pub fn look(&mut self) -> bool
-        ensures cell { self.new.cell ≡ self.old.cell }
+        ensures mark { self.new.mark ≡ self.old.mark }
         ensures knows { result ≡ self.new.knows }
         ensures stays { self.old.knows ≡ true → self.new.knows ≡ true }
     {
-        self.cell.get_as(&mut self.note).is_some()
+        self.mark.shared.load::<Looks>(&mut self.seat, 0) == CLOSED
     }
 }
 
 impl CloseSetter {
-    /// A mark that is not set. Its box is made here, so that nothing fails later.
+    /// A mark that is not set.
     pub fn new(alloc: Global) -> Result<CloseSetter, AllocError>
         ensures { IfOk result (λ m. m.knows ≡ false) }
     {
-        let unset = Box::new(alloc, 1u8)?;
-        let cell = Arc::new(alloc, OnceBox::new(alloc))?;
-        let note = cell.note();
-        Ok(CloseSetter {
-            cell,
-            note,
-            unset: Some(unset),
-        })
+        let (mark, seat) = Mark::of_words(alloc, &[OPEN], &())?;
+        let mark = Arc::new(alloc, mark)?;
+        Ok(CloseSetter { mark, seat })
     }
 
-    /// A reading end of this mark, whose note knows nothing.
+    /// A reading end of this mark, which knows of no close.
     pub fn reader(&self) -> Result<CloseReader, AllocError>
-        ensures { IfOk result (λ m. (m.cell ≡ self.now.cell) × (m.knows ≡ false)) }
+        ensures { IfOk result (λ m. (m.mark ≡ self.now.mark) × (m.knows ≡ false)) }
     {
-        let cell = Arc::try_clone(&self.cell)?;
-        let note = cell.note();
-        Ok(CloseReader { cell, note })
+        let mark = Arc::try_clone(&self.mark)?;
+        let (_, seat) = mark.shared.load_new_seat::<Enters>(0);
+        Ok(CloseReader { mark, seat })
     }
 
     /// Sets the mark. Nothing is wanted for it.
     pub fn set(&mut self)
-        ensures { self.new ≡ record { cell = self.old.cell; knows = true } }
+        ensures { self.new ≡ record { mark = self.old.mark; knows = true } }
     {
-        if let Some(value) = self.unset.take() {
-            self.cell.get_or_init_as(move || value, &mut self.note);
-        }
+        self.mark.shared.store::<Sets>(&mut self.seat, 0, CLOSED);
+    }
+
+    /// Hears a reader of this mark: it knows of the close only where the mark was set.
+    pub fn hear(&mut self, reader: &mut CloseReader)
+        requires { reader.old.mark ≡ self.old.mark }
+        ensures same { (self.new ≡ self.old) × (reader.new ≡ reader.old) }
+        ensures set { reader.old.knows ≡ true → self.old.knows ≡ true }
+    {
+        let seat = reader.mark.shared.split_seat::<Copies>(&mut reader.seat);
+        self.mark.shared.join_seat::<Hears>(&mut self.seat, seat);
+        self.mark.shared.load::<Heeds>(&mut self.seat, 0);
     }
 }

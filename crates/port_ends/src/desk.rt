@@ -1,5 +1,5 @@
 //! The server with the history of what it served.
-ghost use Rattle.std.specs.Prelude.{◌≡◌, ◌<◌, [], ◌∷◌, ◌++◌, length, false, IfOk};
+ghost use Rattle.std.specs.Prelude.{◌≡◌, ◌<◌, [], ◌∷◌, ◌++◌, length, true, false, IfOk};
 ghost use Rattle.port_history.specs.History.{Serving, MeaningRun};
 
 use crate::closing_mark::{CloseReader, CloseSetter};
@@ -37,15 +37,16 @@ impl<S: Server> Model for Desk<S> {
 
     ghost use Rattle.port_ends.specs.steps.Entries.{served_of};
 
-    ghost view = { λ d. record { opening = d.opening.value; server = d.server; served = served_of d.past; mark = d.mark.cell; knows = d.mark.knows } };
+    ghost view = { λ d. record { opening = d.opening.value; server = d.server; served = served_of d.past; mark = d.mark.mark; knows = d.mark.knows } };
 
-    ghost invariant = { λ d. MeaningRun S.gives d.opening.value (served_of d.past) d.server × (d.mark.knows ≡ S.has_died d.server) × (d.count ≡ length d.past) };
+    ghost invariant = { λ d. MeaningRun S.gives d.opening.value (served_of d.past) d.server
+        × (d.mark.knows ≡ S.has_died d.server) × (d.count ≡ length d.past) };
 }
 
 impl<S: Server> Desk<S> {
     pub fn new(server: S, mark: CloseSetter) -> Desk<S>
         requires { (S.has_died server ≡ false) × (mark.knows ≡ false) }
-        ensures { result ≡ record { opening = server; server = server; served = []; mark = mark.cell; knows = false } }
+        ensures { result ≡ record { opening = server; server = server; served = []; mark = mark.mark; knows = false } }
     {
         Desk {
             opening: Snapshot::of(&server),
@@ -77,9 +78,18 @@ impl<S: Server> Desk<S> {
 
     /// A reading end of the closing mark.
     pub fn reader(&self) -> Result<CloseReader, AllocError>
-        ensures { IfOk result (λ m. (m.cell ≡ self.now.mark) × (m.knows ≡ false)) }
+        ensures { IfOk result (λ m. (m.mark ≡ self.now.mark) × (m.knows ≡ false)) }
     {
         self.mark.reader()
+    }
+
+    /// Hears what a reading end knows: its mark was set only where the server has died.
+    pub fn hear(&mut self, reader: &mut CloseReader)
+        requires { reader.old.mark ≡ self.old.mark }
+        ensures same { (self.new ≡ self.old) × (reader.new ≡ reader.old) }
+        ensures died { reader.old.knows ≡ true → S.has_died self.old.server ≡ true }
+    {
+        self.mark.hear(reader);
     }
 
     /// What holds of every desk.

@@ -4,8 +4,9 @@ ghost use Rattle.port_history.specs.History.{Lawful};
 ghost use Rattle.port_ends.specs.Ends.{OfClients};
 ghost use Rattle.port_ends.specs.steps.Rule.{ArePutLists, total};
 ghost use Rattle.port_ends.specs.steps.Rooms.{OnlyElement, RoomsFit, HasRoomAt, AreOutletsOf, LeftAt, AllLeft};
+ghost use Rattle.port_ends.specs.steps.HandlerEnds.{AllHeard};
 ghost use Rattle.port_ends.specs.Gathering.{all_lists};
-ghost use Rattle.port_ends.specs.Ends.{AreEnds};
+ghost use Rattle.port_ends.specs.Ends.{AreEnds, CloseMeansDeath};
 
 use crate::client::ClientEnd;
 use crate::handler::HandlerEnd;
@@ -41,19 +42,19 @@ fn take_in_one<S: Server>(
     queue.gather_one(end);
 }
 
-// Takes the packets that are left.
+// Takes the packets that are left, in the order of the queue.
 fn take_rest<Q: Drop, R: Wait>(
     rt: &R,
-    queue: TakeEnd<Q>,
+    queue: &mut TakeEnd<Q>,
     unanswered: Vec<(usize, Q)>,
 ) -> Vec<(usize, Q)>
-    requires gathered { length queue.known ≡ queue.clients }
+    requires gathered { length queue.old.known ≡ queue.old.clients }
     requires empty { unanswered.items ≡ [] }
-    requires room { total queue.known ≤ length queue.taken + vec_capacity unanswered }
-    ensures clients { OfClients queue.clients (queue.taken ++ result.items) }
-    ensures puts { ArePutLists queue.known (queue.taken ++ result.items) }
+    requires room { total queue.old.known ≤ length queue.old.taken + vec_capacity unanswered }
+    ensures order { queue.new ≡ record queue.old { taken = queue.old.taken ++ result.items } }
+    ensures clients { OfClients queue.new.clients queue.new.taken }
+    ensures puts { ArePutLists queue.new.known queue.new.taken }
 {
-    let mut queue = queue;
     let mut unanswered = unanswered;
     for _ in rt.forever() {
         match queue.take(rt) {
@@ -150,6 +151,18 @@ fn room_for_packets<S: Server>(
     Vec::with_capacity(alloc, puts.saturating_sub(served) as usize).ok()
 }
 
+// Hears what each client knows of the close. No end changes.
+fn hear_all<S: Server>(handler: &mut HandlerEnd<S>, clients: &mut Vec<ClientEnd<S>>)
+    requires { AreEnds handler.old clients.old.items }
+    ensures same { (handler.new ≡ handler.old) × (clients.new.items ≡ clients.old.items) }
+    ensures heard { AllHeard S.is_closing (S.has_died handler.old.server) clients.old.items }
+{
+    for k in 0..clients.len() {
+        let client = &mut clients[k];
+        handler.hear(client);
+    }
+}
+
 // Takes all ends in, once there is room.
 fn finish<S: Server, R: Wait>(
     rt: &R,
@@ -162,14 +175,16 @@ fn finish<S: Server, R: Wait>(
     requires rooms { RoomsFit clients.items handler.outlets untaken.items }
     requires empty { unanswered.items ≡ [] }
     requires room { total (map (λ c. c.put) clients.items) ≤ length handler.served + vec_capacity unanswered }
+    requires heard { AllHeard S.is_closing (S.has_died handler.server) clients.items }
     ensures lawful { Lawful S.gives handler.opening (all_lists clients.items result.untaken.items) handler.served
         result.unanswered.items result.server }
     ensures clients { length result.untaken.items ≡ length clients.items }
+    ensures closed { CloseMeansDeath clients.items (S.has_died result.server) }
 {
     handler.witness();
     let (queue, outlets, server) = handler.into_parts();
-    let (queue, untaken) = take_in(queue, outlets, clients, untaken);
-    let unanswered = take_rest(rt, queue, unanswered);
+    let (mut queue, untaken) = take_in(queue, outlets, clients, untaken);
+    let unanswered = take_rest(rt, &mut queue, unanswered);
     Gathered {
         server,
         unanswered,
@@ -178,6 +193,8 @@ fn finish<S: Server, R: Wait>(
 }
 
 /// Gathers all ends of one port, in order of client, once their threads have handed them back.
+///
+/// Where an end knows of the close, the server that is handed back has died.
 ///
 /// All memory is got before the first change. A refusal is for want of it, and hands all ends back as they were, so that the call can be made again.
 pub fn gather<S: Server, R: Wait>(
@@ -190,6 +207,7 @@ pub fn gather<S: Server, R: Wait>(
     ensures lawful { IfOk result (λ r. Lawful S.gives handler.opening (all_lists clients.items r.untaken.items) handler.served
         r.unanswered.items r.server) }
     ensures clients { IfOk result (λ r. length r.untaken.items ≡ length clients.items) }
+    ensures closed { IfOk result (λ r. CloseMeansDeath clients.items (S.has_died r.server)) }
     ensures refused { IfErr result (λ e. (e.handler ≡ handler) × (e.clients.items ≡ clients.items)) }
 {
     let mut handler = handler;
@@ -197,6 +215,7 @@ pub fn gather<S: Server, R: Wait>(
     let Some(untaken) = room_for_replies(alloc, &mut handler, &mut clients) else {
         return Err(GatherRefused { handler, clients });
     };
+    hear_all(&mut handler, &mut clients);
     let Some(unanswered) = room_for_packets(alloc, handler.served_count(), &clients) else {
         return Err(GatherRefused { handler, clients });
     };

@@ -1,12 +1,12 @@
 //! The handler's end of a port.
 ghost use Rattle.std.specs.Prelude.{◌≡◌, ◌<◌, ◌≤◌, ◌^◌, ◌∷◌, [], length, false, IfOk, OnOk, OnErr, IsTrue, IsFalse, MatchResult, Some, slice_get};
 ghost use Rattle.port_history.specs.History.{Serving};
-ghost use Rattle.port_ends.specs.Rings.{EachPosts, waiting_count};
-ghost use Rattle.port_ends.specs.steps.Sending.{EachHasRoom, UsesOne};
-ghost use Rattle.port_ends.specs.steps.HandlerEnds.{AddsClientEnd, IsQueueOf};
+ghost use Rattle.port_ends.specs.Rings.{EachOffers, EachOffersFirst, waiting_count};
+ghost use Rattle.port_ends.specs.steps.Sending.{EachGetsRoom, EachHasRoom, SameLooks, UsesOne};
+ghost use Rattle.port_ends.specs.steps.HandlerEnds.{AddsClientEnd, Heard, IsQueueOf};
 ghost use Rattle.port_ends.specs.steps.Rooms.{HasUntaken};
 ghost use Rattle.port_ends.specs.Ends.{HandlerView, IsNew, IsSound, Serves};
-ghost use Rattle.port_ends.specs.Batches.{ServesSome, ServesSoMany, OnlyPosts, EndsAs};
+ghost use Rattle.port_ends.specs.Batches.{ServesSome, ServesSoMany, OnlyOffers, EndsAs};
 
 use crate::client::ClientEnd;
 use crate::closing_mark::CloseSetter;
@@ -50,10 +50,11 @@ impl<S: Server> Model for HandlerEnd<S> {
     ghost use Rattle.port_ends.specs.Rings.{all_of};
     ghost use Rattle.port_ends.specs.Ends.{OfClients};
     ghost use Rattle.port_ends.specs.Ends.{HandlerView, replies_to};
+    ghost use Rattle.port_ends.specs.steps.Views.{handler_view};
 
     ghost Value = { HandlerView S S.Request S.Moment S.Reply };
 
-    ghost view = { λ h. record { port = h.queue.port; mark = h.desk.mark; opening = h.desk.opening; served = h.desk.served; server = h.desk.server; outlets = h.outlets.items; knows = h.desk.knows } };
+    ghost view = { λ h. handler_view h.queue h.desk h.outlets.items };
 
     ghost invariant = { λ h. (packets_of h.desk.served ≡ h.queue.taken) × (h.queue.known ≡ []) × (length h.outlets.items ≡ h.queue.clients)
         × ((k : ℕ) (o : _) → slice_get h.outlets.items k ≡ Some o → all_of o ≡ replies_to (k + 1) h.desk.served)
@@ -78,14 +79,14 @@ impl<S: Server> HandlerEnd<S> {
     /// Posts of each client's waiting replies what its ring has places for, in order, and answers how many replies still wait, of all clients.
     pub fn post_waiting(&mut self) -> usize
         ensures same { self.new ≡ record self.old { outlets = self.new.outlets } }
-        ensures posts { EachPosts self.old.outlets self.new.outlets }
+        ensures offers { EachOffers self.old.outlets self.new.outlets }
         ensures count { result ≡ waiting_count self.new.outlets }
     {
         let _served = self.desk.count();
         post_all(&mut self.outlets)
     }
 
-    /// Posts what waits, takes at most `limit` packets, or fewer where a take finds nothing, and serves each at this moment. It answers how many.
+    /// Posts what waits, as `post_waiting` does, then takes at most `limit` packets, or fewer where a take finds nothing, and serves each at this moment. It answers how many.
     ///
     /// Where its ring is full, or other replies of its client still wait, a reply waits in the list beside that ring. `NoMemory` serves nothing; what was posted stays posted.
     pub fn serve_batch<R: Wait>(
@@ -95,7 +96,8 @@ impl<S: Server> HandlerEnd<S> {
         limit: usize,
     ) -> Result<usize, ServeFault>
         ensures ok { IfOk result (λ m. (m ≤ limit) × ServesSoMany S.gives moment self.old m self.new) }
-        ensures err { OnErr result (OnlyPosts self.old self.new) }
+        ensures err { OnErr result (OnlyOffers self.old self.new) }
+        ensures first { EachOffersFirst self.old.outlets self.new.outlets }
         ensures sound { IsSound S.gives S.has_died self.new }
     {
         self.post_waiting();
@@ -146,6 +148,7 @@ impl<S: Server> HandlerEnd<S> {
         ensures served { IsTrue result → (x : Serving S.Request S.Moment S.Reply) × Serves S.gives moment self.old (x ∷ []) self.new }
         ensures idle { IsFalse result → self.new ≡ self.old }
         ensures room { UsesOne self.old.outlets self.new.outlets }
+        ensures looks { SameLooks self.old.outlets self.new.outlets }
     {
         if self.desk.count() == u64::MAX {
             return false;
@@ -161,7 +164,7 @@ impl<S: Server> HandlerEnd<S> {
     // Gets room for this many more replies to each client.
     fn reserve(&mut self, more: usize) -> Result<(), AllocError>
         ensures same { self.new ≡ record self.old { outlets = self.new.outlets } }
-        ensures posts { EachPosts self.old.outlets self.new.outlets }
+        ensures same_outlets { EachGetsRoom self.old.outlets self.new.outlets }
         ensures room { OnOk result (EachHasRoom more self.new.outlets) }
     {
         reserve_all(&mut self.outlets, more)
@@ -172,6 +175,7 @@ impl<S: Server> HandlerEnd<S> {
         requires { EachHasRoom limit self.old.outlets }
         ensures few { result ≤ limit }
         ensures served { ServesSoMany S.gives moment self.old result self.new }
+        ensures looks { SameLooks self.old.outlets self.new.outlets }
     {
         let mut served = 0;
         for _ in 0..limit {
@@ -237,6 +241,15 @@ impl<S: Server> HandlerEnd<S> {
         let outlet = &mut self.outlets[k];
         let posted = client.count_beside(outlet);
         posted + outlet.waiting()
+    }
+
+    // Hears what a client knows of the close.
+    pub(crate) fn hear(&mut self, client: &mut ClientEnd<S>)
+        requires { client.old.mark ≡ self.old.mark }
+        ensures same { (self.new ≡ self.old) × (client.new ≡ client.old) }
+        ensures heard { Heard S.is_closing (S.has_died self.old.server) client.old }
+    {
+        client.tell(&mut self.desk);
     }
 
     // How many packets were served.

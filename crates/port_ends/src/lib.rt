@@ -6,6 +6,7 @@ mod closing_mark;
 mod desk;
 mod gathering;
 mod handler;
+mod notice;
 mod open;
 mod outlets;
 mod queue;

@@ -15,7 +15,7 @@ pub struct OpenRefused<S> {
 
 /// Opens a port over this server: the handler's end, and the ends of the clients 1, 2 and so on, each with a reply ring of `ring` places.
 ///
-/// The closing mark, and the box that sets it, are made here, so that nothing is wanted as the server dies.
+/// The closing mark is made here, so that nothing is wanted as the server dies.
 pub fn open_port<S: Server>(
     alloc: Global,
     server: S,

@@ -1,7 +1,7 @@
 //! All clients' outlets.
 ghost use Rattle.std.specs.Prelude.{◌≡◌, ◌+◌, ◌<◌, ◌≤◌, ◌^◌, length, OnOk};
-ghost use Rattle.port_ends.specs.Rings.{Each, EachPosts, waiting_count};
-ghost use Rattle.port_ends.specs.steps.Sending.{EachHasRoom, SendsTo};
+ghost use Rattle.port_ends.specs.Rings.{Each, EachOffers, waiting_count};
+ghost use Rattle.port_ends.specs.steps.Sending.{EachGetsRoom, EachHasRoom, SendsTo};
 
 use crate::ring::Outlet;
 use std::alloc::AllocError;
@@ -19,7 +19,7 @@ pub fn send_to<T: Drop>(outlets: &mut Vec<Outlet<T>>, client: usize, reply: T)
 /// Posts of each what fits, in order, and answers how many replies still wait.
 pub fn post_all<T: Drop>(outlets: &mut Vec<Outlet<T>>) -> usize
     requires few { waiting_count outlets.old.items < 2 ^ 64 }
-    ensures posts { EachPosts outlets.old.items outlets.new.items }
+    ensures offers { EachOffers outlets.old.items outlets.new.items }
     ensures count { result ≡ waiting_count outlets.new.items }
 {
     let mut waiting = 0;
@@ -32,7 +32,7 @@ pub fn post_all<T: Drop>(outlets: &mut Vec<Outlet<T>>) -> usize
 
 /// Gets room in each for this many more to wait.
 pub fn reserve_all<T: Drop>(outlets: &mut Vec<Outlet<T>>, more: usize) -> Result<(), AllocError>
-    ensures same { EachPosts outlets.old.items outlets.new.items }
+    ensures same { EachGetsRoom outlets.old.items outlets.new.items }
     ensures room { OnOk result (EachHasRoom more outlets.new.items) }
 {
     for i in 0..outlets.len() {

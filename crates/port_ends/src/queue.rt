@@ -32,15 +32,13 @@ impl<Q: Drop> Model for PutEnd<Q> {
     ghost use Rattle.std.specs.Prelude.{◌≡◌, ◌<◌, length};
     ghost use Rattle.std.specs.Arc.{arc_value};
     ghost use Rattle.crossbeam_queue.specs.SegTies.{IsSegPassOf};
-    ghost use Rattle.port_ends.specs.steps.QueueEnds.{PutView};
+    ghost use Rattle.port_ends.specs.steps.QueueEnds.{PutView, put_view, IsPutPass};
 
     ghost Value = { PutView Q };
 
-    ghost use Rattle.port_ends.specs.steps.Rule.{client};
+    ghost view = { λ e. put_view (arc_value e.port).queue e.number e.pass.me.view.client };
 
-    ghost view = { λ e. record { port = (arc_value e.port).queue; number = e.number; put = e.pass.me.view.client.put } };
-
-    ghost invariant = { λ e. IsSegPassOf (arc_value e.port).queue e.pass × (e.pass.me.view.client ≡ client e.number e.pass.me.view.client.put) × (0 < e.number) × (e.count ≡ length e.pass.me.view.client.put) };
+    ghost invariant = { λ e. IsSegPassOf (arc_value e.port).queue e.pass × IsPutPass e.number e.count e.pass.me.view.client };
 }
 
 impl<Q: Drop> PutEnd<Q> {
@@ -90,15 +88,13 @@ impl<Q: Drop> Model for TakeEnd<Q> {
     ghost use Rattle.std.specs.Prelude.{◌≡◌};
     ghost use Rattle.std.specs.Arc.{arc_value};
     ghost use Rattle.crossbeam_queue.specs.SegTies.{IsSegPassOf};
-    ghost use Rattle.port_ends.specs.steps.QueueEnds.{TakeView};
+    ghost use Rattle.port_ends.specs.steps.QueueEnds.{TakeView, take_view, IsTakePass};
 
     ghost Value = { TakeView Q };
 
-    ghost use Rattle.port_ends.specs.steps.Rule.{handler};
+    ghost view = { λ e. take_view (arc_value e.port).queue e.clients e.pass.me.view.client };
 
-    ghost view = { λ e. record { port = (arc_value e.port).queue; clients = e.clients; taken = e.pass.me.view.client.taken; known = e.pass.me.view.client.known } };
-
-    ghost invariant = { λ e. IsSegPassOf (arc_value e.port).queue e.pass × (e.pass.me.view.client ≡ handler e.clients e.pass.me.view.client.taken e.pass.me.view.client.known) };
+    ghost invariant = { λ e. IsSegPassOf (arc_value e.port).queue e.pass × IsTakePass e.clients e.pass.me.view.client };
 }
 
 /// A queue with no client yet.

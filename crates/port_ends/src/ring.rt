@@ -1,11 +1,13 @@
 //! The two ends of a reply ring, with a list beside the sending end.
 ghost use Rattle.std.specs.Prelude.{◌≡◌, ◌+◌, ◌-◌, ◌<◌, ◌≤◌, [], ◌∷◌, ◌++◌, length, IfOk, OnOk, IfSome, IfNone, ◌^◌, List, vec_len, vec_capacity};
-ghost use Rattle.rtrb.specs.Ring.{known_items};
+ghost use Rattle.rtrb.specs.Ring.{ProducerLooked, known_free, known_items};
 ghost use Rattle.port_history.specs.History.{numbered};
 ghost use Rattle.port_ends.specs.Gathering.{answers};
-ghost use Rattle.port_ends.specs.Rings.{OutView, Posts, StaysPosted, all_of};
+ghost use Rattle.port_ends.specs.Rings.{OutView, Offers, StaysPosted, all_of};
+ghost use Rattle.port_ends.specs.steps.Sending.{GetsRoom};
 ghost use Rattle.port_ends.specs.steps.Rooms.{FitIn};
 
+use crate::trail::Trail;
 use port_history::Reply;
 use rtrb::{Consumer, Producer, PushError, RingBuffer};
 use std::alloc::{AllocError, Global};
@@ -17,19 +19,24 @@ use std::marker::Model;
 pub struct Outlet<T: Drop> {
     producer: Producer<T>,
     waiting: VecDeque<T>,
+    looks: Trail<usize>,
 }
 
 impl<T: Drop> Model for Outlet<T> {
-    ghost use Rattle.std.specs.Prelude.{◌-◌};
-    ghost use Rattle.std.specs.VecDeque.{deque_len, deque_capacity};
     ghost use Rattle.rtrb.specs.Ring.{sent};
     ghost use Rattle.port_ends.specs.Rings.{OutView};
 
     ghost Value = { OutView T };
 
-    ghost use Rattle.port_ends.specs.steps.RingEnds.{ring_of};
+    ghost use Rattle.port_ends.specs.steps.RingEnds.{ring_of, room_in};
 
-    ghost view = { λ o. record { ring = ring_of o.producer.end; posted = sent o.producer; waiting = o.waiting.items; room = deque_capacity o.waiting - deque_len o.waiting } };
+    ghost view = { λ o. record {
+      ring = ring_of o.producer.end;
+      posted = sent o.producer;
+      waiting = o.waiting.items;
+      room = room_in o.waiting;
+      looks = o.looks;
+    } };
 }
 
 /// The receiving end.
@@ -54,15 +61,29 @@ pub fn open_ring<T: Drop>(alloc: Global, places: usize) -> Result<(Outlet<T>, In
     ensures { IfOk result (λ r. (r.0.ring ≡ r.1.ring) × (r.0.posted ≡ []) × (r.0.waiting ≡ []) × (r.1.taken ≡ [])) }
 {
     let (producer, consumer) = RingBuffer::new(alloc, places)?;
-    let waiting = VecDeque::new(alloc);
-    Ok((Outlet { producer, waiting }, Inlet { consumer }))
+    let outlet = Outlet {
+        producer,
+        waiting: VecDeque::new(alloc),
+        looks: Trail::new(),
+    };
+    Ok((outlet, Inlet { consumer }))
+}
+
+// How many places of the ring are free, by a look at it, which is noted.
+fn look<T: Drop>(producer: &mut Producer<T>, looks: &mut Trail<usize>) -> usize
+    ensures same { ProducerLooked producer.old producer.new }
+    ensures found { result ≡ known_free producer.new }
+    ensures noted { looks.new ≡ looks.old ++ result ∷ [] }
+{
+    let free = producer.slots();
+    looks.push(free);
+    free
 }
 
 impl<T: Drop> Outlet<T> {
     /// Gets room for `more` to wait.
     pub fn reserve(&mut self, more: usize) -> Result<(), AllocError>
-        ensures same { (self.new.ring ≡ self.old.ring) × (self.new.posted ≡ self.old.posted) × (self.new.waiting ≡ self.old.waiting) }
-        ensures room { self.old.room ≤ self.new.room }
+        ensures same { GetsRoom self.old self.new }
         ensures ok { OnOk result (more ≤ self.new.room) }
     {
         self.waiting.reserve(more)
@@ -70,10 +91,10 @@ impl<T: Drop> Outlet<T> {
 
     /// Posts what fits, in order, and answers how many still wait.
     pub fn post_waiting(&mut self) -> usize
-        ensures posts { Posts self.old self.new }
+        ensures offers { Offers self.old self.new }
         ensures count { result ≡ length self.new.waiting }
     {
-        let free = self.producer.slots();
+        let free = look(&mut self.producer, &mut self.looks);
         for _ in 0..free {
             let Some(reply) = self.waiting.pop_front() else {
                 break;
@@ -89,6 +110,7 @@ impl<T: Drop> Outlet<T> {
         ensures posted { StaysPosted self.old self.new }
         ensures sent { all_of self.new ≡ all_of self.old ++ reply ∷ [] }
         ensures room { self.old.room ≤ self.new.room + 1 }
+        ensures looks { self.new.looks ≡ self.old.looks }
     {
         let mut reply = reply;
         if self.waiting.is_empty() {

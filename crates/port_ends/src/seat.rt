@@ -1,6 +1,6 @@
 //! The rule of the port's queue, and the moves that keep it.
 ghost use Rattle.std.specs.Prelude.{◌≡◌, ◌+◌, ◌<◌, ◌≤◌, [], ◌∷◌, ◌++◌, length};
-ghost use Rattle.port_ends.specs.steps.Rule.{ArePutLists, client, handler, total};
+ghost use Rattle.port_ends.specs.steps.Rule.{ArePutLists, TakesOne, client};
 ghost use Rattle.port_ends.specs.Ends.{OfClients};
 
 use crossbeam_queue::protocol::{Join, Lesson, Outcome, Protocol, Split};
@@ -63,7 +63,7 @@ impl<Q> Outcome<(usize, Q), Seat<Q>> for Puts {
 pub struct Takes;
 
 impl<Q> Outcome<(usize, Q), Seat<Q>> for Takes {
-    ghost then = { λ v x w. (w ≡ handler v.number (v.taken ++ x ∷ []) v.known) × (1 ≤ x.0) × (x.0 ≤ v.number) × (length v.known ≡ v.number → length w.taken ≤ total v.known) };
+    ghost then = { λ v x w. TakesOne v x w };
 }
 
 impl<Q> Lesson<(usize, Q), Seat<Q>> for Takes {

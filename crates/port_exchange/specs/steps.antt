@@ -1,2 +1,2 @@
--- What only the calls inside speak of: a client's replies.
+-- What only the calls inside speak of: what a client has accepted, and its replies.
 pub mod Taking

@@ -18,7 +18,7 @@ pub(crate) struct Client<A> {
 }
 
 impl<A: Drop> Client<A> {
-    ghost use Rattle.port_exchange.specs.steps.Taking.{HasNoReply, HandsOut};
+    ghost use Rattle.port_exchange.specs.steps.Taking.{CountsOne, HasNoReply, HandsOut};
 
     pub(crate) fn new(alloc: Global) -> Self
         ensures accepted { result.accepted ≡ 0 }
@@ -38,7 +38,7 @@ impl<A: Drop> Client<A> {
     pub(crate) fn accept(&mut self) -> Option<u64>
         ensures replies { self.new.replies.items ≡ self.old.replies.items }
         ensures taken { self.new.taken ≡ self.old.taken }
-        ensures counts { MatchOption result (self.new.accepted ≡ self.old.accepted) (λ number. (number ≡ self.old.accepted + 1) × (self.new.accepted ≡ number)) }
+        ensures counts { MatchOption result (self.new.accepted ≡ self.old.accepted) (λ number. CountsOne self.old self.new number) }
         ensures waits { MatchOption result (self.new.waiting ≡ self.old.waiting) (λ number. self.new.waiting ≡ self.old.waiting + 1) }
     {
         if self.accepted == u64::MAX {

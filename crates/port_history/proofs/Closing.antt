@@ -1,15 +1,22 @@
 -- A server that died stays dead, and its port stays closed.
-use Rattle.std.proofs.Common.{◌≡◌, ℕ, zero, suc, ◌≤◌, Bool, true, List, [], ◌∷◌, take, slice_get, Some, arith, subst, MatchOption, sym}
+use Rattle.std.proofs.Common.{◌≡◌, ℕ, zero, suc, ◌+◌, ◌≤◌, Bool, true, List, [], ◌∷◌, take, drop, slice_get, Some, arith, subst, MatchOption, refl, sym, ap, ◌∙◌}
 use Rattle.port_history.specs.Port.{ClientState, PortState, client_state}
 use Rattle.port_history.specs.Serving.{Serving, Run, last_server}
 use Rattle.port_history.specs.History.{Event, events_of, client_now, PutFits, served_by, server_by, served_count, PortHistory}
-use Rattle.port_history.specs.Closing.{PutsAreClosed}
+use Rattle.port_history.specs.Closing.{ClosedOnceDead, PutsAreClosed}
 use Rattle.port_history.specs.declared.step.Step.{Step}
 use Rattle.port_history.specs.declared.step.Step.TheVariants.{Put}
 use Rattle.port_history.specs.declared.step.PutRefused.TheVariants.{Closed}
 use Rattle.port_history.specs.declared.step.Outcome.{Outcome}
 use Rattle.port_history.specs.declared.step.Outcome.TheVariants.{Refused, NoClient}
 use Rattle.port_history.proofs.Events.{served_count-take}
+
+slice_get-drop : {A : Type 0} (xs : List A) (n k : ℕ) → slice_get (drop n xs) k ≡ slice_get xs (n + k)
+slice_get-drop xs zero k = ap (slice_get xs) (omega arith)
+slice_get-drop [] (suc n) k = refl
+slice_get-drop (x ∷ xs) (suc n) k =
+    let e : suc (n + k) ≡ suc n + k = omega arith in
+    slice_get-drop xs n k ∙ ap (slice_get (x ∷ xs)) e
 
 module _ {S Q M A : Type 0} (gives : S → Q → M → S → A → Type 0) (has_died : S → Bool)
     (stays_dead : (old new : S) (packet : Q) (moment : M) (answer : A) → gives old packet moment new answer → has_died old ≡ true → has_died new ≡ true) where
@@ -39,11 +46,11 @@ module _ {S Q M A : Type 0} (gives : S → Q → M → S → A → Type 0) (has_
 
   module _ (opening : PortState S Q A) (steps : List (Step Q M)) (outcomes : List (Outcome Q A)) (closing : PortState S Q A) (h : PortHistory gives has_died opening steps outcomes closing) where
     -- once the server has died, each put by a client is refused as closed
-    pub closed_after_death : (i j client : ℕ) (packet : Q) (outcome : Outcome Q A) (c : ClientState A) → i ≤ j
+    closed_behind : (i j client : ℕ) (packet : Q) (outcome : Outcome Q A) (c : ClientState A) → i ≤ j
         → has_died (server_by (take i (events_of steps outcomes)) opening.server h.servers) ≡ true
         → slice_get (events_of steps outcomes) j ≡ Some (record { step = Put client packet; outcome = outcome })
         → client_state opening.clients client ≡ Some c → outcome ≡ Refused (Closed packet)
-    closed_after_death i j client packet outcome c before dead at_j found =
+    closed_behind i j client packet outcome c before dead at_j found =
         let events : List (Event Q M A) = events_of steps outcomes
         in let still : has_died (server_by (take j events) opening.server h.servers) ≡ true =
         dead_later opening.server h.served h.servers h.meaning (served_count (take i events)) (served_count (take j events)) (served_count-take events i j before) dead
@@ -52,9 +59,14 @@ module _ {S Q M A : Type 0} (gives : S → Q → M → S → A → Type 0) (has_
         (h.fits j (record { step = Put client packet; outcome = outcome }) at_j)
         in subst (λ b. PutFits b packet (client_now (served_by (take j events) h.served) (take j events) client c) outcome) still fits
 
+    -- once the server has died, its port is closed
+    pub closed_after_death : ClosedOnceDead h
+    closed_after_death count dead i client packet outcome c at_i found =
+        closed_behind count (count + i) client packet outcome c (omega arith) dead (sym (slice_get-drop (events_of steps outcomes) count i) ∙ at_i) found
+
     -- a port whose server has died is closed
     pub dead-closed : has_died opening.server ≡ true → PutsAreClosed opening (events_of steps outcomes)
-    dead-closed dead i client packet outcome c at_i found = closed_after_death 0 i client packet outcome c (omega arith) dead at_i found
+    dead-closed dead = closed_after_death 0 dead
 
     -- its server stays dead
     pub dead-closing : has_died opening.server ≡ true → has_died closing.server ≡ true

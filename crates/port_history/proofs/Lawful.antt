@@ -19,7 +19,13 @@ use Rattle.port_history.proofs.Numbers.{eq_false}
 use Rattle.port_history.proofs.Serving.{packets_by-append}
 use Rattle.port_history.proofs.Replies.{numbered-append, took_first}
 
-slice_get-replicate : {X : Type 0} (n k : ℕ) (x : X) → k < n → slice_get (replicate n x) k ≡ Some x
+-- a client by its place
+pub client_at : {A : Type 0} (clients : List (ClientState A)) (place : ℕ) → client_state clients (place + 1) ≡ slice_get clients place
+client_at clients place =
+    ap (λ b. cond b None (slice_get clients (place + 1 - 1))) (eq_false (place + 1) 0 (λ e. absurd (omega (arith, e))))
+    ∙ ap (slice_get clients) (omega arith)
+
+pub slice_get-replicate : {X : Type 0} (n k : ℕ) (x : X) → k < n → slice_get (replicate n x) k ≡ Some x
 slice_get-replicate zero k x h = absurd (omega (arith, h))
 slice_get-replicate (suc n) zero x h = refl
 slice_get-replicate (suc n) (suc k) x h = slice_get-replicate n k x (omega (arith, h))
@@ -49,9 +55,7 @@ module _ {S Q M A : Type 0} (gives : S → Q → M → S → A → Type 0) (has_
   events = events_of steps outcomes
 
   opened : (place : ℕ) → place < count → client_state (replicate count fresh) (place + 1) ≡ Some fresh
-  opened place below =
-      ap (λ b. cond b None (slice_get (replicate count fresh) (place + 1 - 1))) (eq_false (place + 1) 0 (λ e. absurd (omega (arith, e))))
-      ∙ ap (slice_get (replicate count fresh)) (omega arith) ∙ slice_get-replicate count place fresh below
+  opened place below = client_at (replicate count fresh) place ∙ slice_get-replicate count place fresh below
 
   numbers_in : (client : ℕ) (c : ClientState A) → client_state (replicate count fresh) client ≡ Some c → (1 ≤ client) × (client ≤ count)
   numbers_in client c found = elim (eqb_tells client 0) [

@@ -13,7 +13,7 @@ use Rattle.port_history.specs.declared.step.Outcome.{Outcome}
 use Rattle.port_history.specs.declared.step.Outcome.TheVariants.{Accepted, Refused, Served, Idle, Taken, Nothing, NoClient}
 -- the words of a history that stand in files of their own
 pub use Rattle.port_history.specs.Port.{client_state}
-pub use Rattle.port_history.specs.Serving.{Serving, packets_by, packets_of, answers_to, Run, last_server, MeaningRun}
+pub use Rattle.port_history.specs.Serving.{ServerMeaning, Serving, packets_by, packets_of, answers_to, Run, last_server, MeaningRun}
 pub use Rattle.port_history.specs.Lawful.{numbered, ClientLists, Lawful}
 pub use Rattle.port_history.specs.Steps.{PutGives, ServeGives, TakeGives, StepGives}
 
@@ -115,7 +115,8 @@ abbrev pub server_by : {S Q M A : Type 0} → List (Event Q M A) → S → List 
 server_by before opening servers = last_server opening (take (served_count before) servers)
 
 -- steps at a port had these outcomes, and left the port so
-pub record PortHistory {S Q M A : Type 0} (gives : S → Q → M → S → A → Type 0) (has_died : S → Bool) (opening : PortState S Q A) (steps : List (Step Q M)) (outcomes : List (Outcome Q A)) (closing : PortState S Q A) : Type 0 where
+pub record PortHistory {S Q M A : Type 0} (gives : ServerMeaning S Q M A) (has_died : S → Bool)
+    (opening : PortState S Q A) (steps : List (Step Q M)) (outcomes : List (Outcome Q A)) (closing : PortState S Q A) : Type 0 where
   -- each packet that was served, with its answer, and the server that it left
   pub served : List (Serving Q M A)
   pub servers : List S

@@ -1,6 +1,6 @@
 -- When the lists that the ends of a port keep belong to one history.
 use Rattle.std.specs.Prelude.{◌≡◌, ℕ, ◌+◌, ◌≤◌, List, [], ◌∷◌, ◌++◌, length, slice_get, Some}
-use Rattle.port_history.specs.Serving.{Serving, packets_by, packets_of, answers_to, MeaningRun}
+use Rattle.port_history.specs.Serving.{ServerMeaning, Serving, packets_by, packets_of, answers_to, MeaningRun}
 use Rattle.port_history.specs.declared.step.Reply.{Reply}
 
 -- the answers, numbered from this number on
@@ -15,7 +15,8 @@ pub record ClientLists (Q A : Type 0) : Type 0 where
   pub untaken : List (Reply A)
 
 -- the lists of all ends of a port belong to one history
-pub record Lawful {S Q M A : Type 0} (gives : S → Q → M → S → A → Type 0) (opening : S) (clients : List (ClientLists Q A)) (served : List (Serving Q M A)) (unanswered : List (ℕ × Q)) (closing : S) : Type 0 where
+pub record Lawful {S Q M A : Type 0} (gives : ServerMeaning S Q M A) (opening : S) (clients : List (ClientLists Q A))
+    (served : List (Serving Q M A)) (unanswered : List (ℕ × Q)) (closing : S) : Type 0 where
   -- the opening server may give these answers one after another, and is the closing server then
   pub meaning : MeaningRun gives opening served closing
   -- a client's packets, the served ones and then the unanswered ones, are those that it put
@@ -25,4 +26,5 @@ pub record Lawful {S Q M A : Type 0} (gives : S → Q → M → S → A → Type
   pub each_reply : (place : ℕ) (lists : ClientLists Q A) → slice_get clients place ≡ Some lists
       → lists.taken ++ lists.untaken ≡ numbered 1 (answers_to (place + 1) served)
   -- every packet is one of these clients'
-  pub known : (place : ℕ) (packet : ℕ × Q) → slice_get (packets_of served ++ unanswered) place ≡ Some packet → (1 ≤ packet.0) × (packet.0 ≤ length clients)
+  pub known : (place : ℕ) (packet : ℕ × Q) → slice_get (packets_of served ++ unanswered) place ≡ Some packet
+      → (1 ≤ packet.0) × (packet.0 ≤ length clients)

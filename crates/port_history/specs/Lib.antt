@@ -1,4 +1,4 @@
--- A port and what is served behind it, then its steps, one and in a history, and its death; at last when the lists of its ends are lawful.
+-- A port and what is served behind it, then its steps, one and in a history, and its death; at last the lists of its ends, and the laws.
 pub mod Port
 pub mod Serving
 pub mod Steps
@@ -6,3 +6,4 @@ pub mod History
 pub mod Closing
 pub mod Lawful
 pub mod Lists
+pub mod Laws

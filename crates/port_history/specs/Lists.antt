@@ -1,9 +1,11 @@
--- The lists of the clients of a port that is driven step by step.
-use Rattle.std.specs.Prelude.{◌≡◌, ℕ, ◌+◌, List, length, slice_get, Some}
-use Rattle.port_history.specs.Port.{ClientState, PortState, client_state}
-use Rattle.port_history.specs.Serving.{packets_by}
+-- The lists of a port's clients, and the histories that they come from.
+use Rattle.std.specs.Prelude.{◌≡◌, ℕ, ◌+◌, Bool, List, length, slice_get, Some}
+use Rattle.port_history.specs.Port.{ClientState, PortState, client_state, opening_port}
+use Rattle.port_history.specs.Serving.{ServerMeaning, Serving, packets_by}
 use Rattle.port_history.specs.Lawful.{ClientLists, numbered}
-use Rattle.port_history.specs.History.{Event, accepted_in, taken_in}
+use Rattle.port_history.specs.History.{Event, PortHistory, accepted_in, events_of, taken_in}
+use Rattle.port_history.specs.declared.step.Step.{Step}
+use Rattle.port_history.specs.declared.step.Outcome.{Outcome}
 
 -- so many clients have these lists: what these events put and took, and the replies that the port still has for them
 pub record ListsOf {S Q M A : Type 0} (count : ℕ) (events : List (Event Q M A)) (closing : PortState S Q A) (clients : List (ClientLists Q A)) : Type 0 where
@@ -12,3 +14,16 @@ pub record ListsOf {S Q M A : Type 0} (count : ℕ) (events : List (Event Q M A)
   pub each_taken : (place : ℕ) (lists : ClientLists Q A) → slice_get clients place ≡ Some lists → lists.taken ≡ packets_by (place + 1) (taken_in events)
   pub each_untaken : (place : ℕ) (lists : ClientLists Q A) (c : ClientState A) → slice_get clients place ≡ Some lists
       → client_state closing.clients (place + 1) ≡ Some c → lists.untaken ≡ numbered (c.taken + 1) c.untaken
+
+-- Some list of steps, run one after another at a port that is opened for these clients, has this history: each client put and
+-- took what its lists say, these packets were served with these answers, and the unanswered ones still wait
+pub record HasHistory {S Q M A : Type 0} (gives : ServerMeaning S Q M A) (has_died : S → Bool) (opening : S) (clients : List (ClientLists Q A))
+    (served : List (Serving Q M A)) (unanswered : List (ℕ × Q)) (closing : S) : Type 0 where
+  pub steps : List (Step Q M)
+  pub outcomes : List (Outcome Q A)
+  pub last : PortState S Q A
+  pub history : PortHistory gives has_died (opening_port opening (length clients)) steps outcomes last
+  pub lists : ListsOf (length clients) (events_of steps outcomes) last clients
+  pub all_served : history.served ≡ served
+  pub all_waiting : last.waiting ≡ unanswered
+  pub last_server : last.server ≡ closing

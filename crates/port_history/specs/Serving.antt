@@ -21,8 +21,12 @@ module _ {Q M A : Type 0} where
   abbrev pub answers_to : ℕ → List (Serving Q M A) → List A
   answers_to client served = packets_by client (map (λ s. (s.client, s.answer)) served)
 
+-- what a server means: serving a packet at a moment, the old server may become the new one and give this answer
+abbrev pub ServerMeaning : Type 0 → Type 0 → Type 0 → Type 0 → Type 1
+ServerMeaning S Q M A = S → Q → M → S → A → Type 0
+
 -- from the old server on, these packets may get these answers, and leave these servers one after another
-abbrev pub Run : {S Q M A : Type 0} → (S → Q → M → S → A → Type 0) → S → List (Serving Q M A) → List S → Type 0
+abbrev pub Run : {S Q M A : Type 0} → ServerMeaning S Q M A → S → List (Serving Q M A) → List S → Type 0
 Run gives old [] [] = Unit {0}
 Run gives old (s ∷ served) (new ∷ servers) = gives old s.packet s.moment new s.answer × Run gives new served servers
 Run gives old [] (new ∷ servers) = ⊥
@@ -34,5 +38,5 @@ last_server opening [] = opening
 last_server opening (server ∷ servers) = last_server server servers
 
 -- these packets may be served with these answers from the opening server, which then is the closing one
-abbrev pub MeaningRun : {S Q M A : Type 0} → (S → Q → M → S → A → Type 0) → S → List (Serving Q M A) → S → Type 0
+abbrev pub MeaningRun : {S Q M A : Type 0} → ServerMeaning S Q M A → S → List (Serving Q M A) → S → Type 0
 MeaningRun {S} gives opening served closing = (servers : List S) × Run gives opening served servers × (last_server opening servers ≡ closing)

@@ -2,6 +2,7 @@
 use Rattle.std.specs.Prelude.{◌≡◌, ◌⊎◌, ℕ, ◌+◌, ◌-◌, Bool, List, [], ◌∷◌, ◌++◌, slice_set, Some, None, MatchOption}
 use Rattle.std.specs.Bool.{MatchBool}
 use Rattle.port_history.specs.Port.{ClientState, PortState, client_state}
+use Rattle.port_history.specs.Serving.{ServerMeaning}
 use Rattle.port_history.specs.declared.step.Step.{Step}
 use Rattle.port_history.specs.declared.step.Step.TheVariants.{Put, Serve, Take}
 use Rattle.port_history.specs.declared.step.PutRefused.TheVariants.{Closed, NoRoom}
@@ -22,7 +23,7 @@ PutGives has_died old client packet outcome new =
     })) ⊎ ((outcome ≡ Refused (NoRoom packet)) × (new ≡ old))))
 
 -- what one serve comes to: nothing where no packet waits, and else the first one is served
-abbrev pub ServeGives : {S Q M A : Type 0} → (S → Q → M → S → A → Type 0) → PortState S Q A → M → Outcome Q A → PortState S Q A → Type 0
+abbrev pub ServeGives : {S Q M A : Type 0} → ServerMeaning S Q M A → PortState S Q A → M → Outcome Q A → PortState S Q A → Type 0
 ServeGives {S} {Q} {M} {A} gives old moment outcome new =
     ((old.waiting ≡ []) × (outcome ≡ Idle) × (new ≡ old))
     ⊎ ((first : ℕ × Q) × (rest : List (ℕ × Q)) × (old.waiting ≡ first ∷ rest) × (outcome ≡ Served)
@@ -45,7 +46,7 @@ TakeGives {S} {Q} {A} old client outcome new =
     × (new ≡ record old { clients = slice_set old.clients (client - 1) (record { accepted = c.accepted; taken = c.taken + 1; untaken = rest }) })))
 
 -- what one step comes to
-abbrev pub StepGives : {S Q M A : Type 0} → (S → Q → M → S → A → Type 0) → (S → Bool) → PortState S Q A → Step Q M → Outcome Q A → PortState S Q A → Type 0
+abbrev pub StepGives : {S Q M A : Type 0} → ServerMeaning S Q M A → (S → Bool) → PortState S Q A → Step Q M → Outcome Q A → PortState S Q A → Type 0
 StepGives gives has_died old (Put client packet) outcome new = PutGives has_died old client packet outcome new
 StepGives gives has_died old (Serve moment) outcome new = ServeGives gives old moment outcome new
 StepGives gives has_died old (Take client) outcome new = TakeGives old client outcome new

@@ -12,13 +12,22 @@ pub record Grown {Q M A : Type 0} (old new : ClientView Q M A) : Type 0 where
   pub taken : (ys : List (M × A)) × (new.taken ≡ old.taken ++ ys)
   pub knows : old.knows ≡ true → new.knows ≡ true
 
+-- what a job means: with a client's end as it was, it may leave the end so, and report this
+abbrev pub JobMeaning : Type 0 → Type 0 → Type 0 → Type 0 → Type 0 → Type 1
+JobMeaning J Q M A T = J → ClientView Q M A → ClientView Q M A → T → Type 0
+
 module _ {Q M A J T : Type 0} where
   -- a client did its job: its end has grown from its own, and it reports what the job says
-  abbrev pub Did : (J → ClientView Q M A → ClientView Q M A → T → Type 0) → J → ClientView Q M A → ClientView Q M A → T → Type 0
+  abbrev pub Did : JobMeaning J Q M A T → J → ClientView Q M A → ClientView Q M A → T → Type 0
   Did does job old new report = Grown old new × does job old new report
 
-  -- each client did its job: so many ends and reports there are, and those at a place are of the client and the job there
-  abbrev pub EachDid : (J → ClientView Q M A → ClientView Q M A → T → Type 0) → List J → List (ClientView Q M A) → List (ClientView Q M A) → List T → Type 0
+  -- the client at this place did the job there, and left the end and the report that stand there
+  abbrev pub DidAt : JobMeaning J Q M A T → ℕ → ClientView Q M A → List J → List (ClientView Q M A) → List T → Type 0
+  DidAt does k old jobs new reports =
+      (job : J) × (n : ClientView Q M A) × (report : T)
+      × (slice_get jobs k ≡ Some job) × (slice_get new k ≡ Some n) × (slice_get reports k ≡ Some report) × Did does job old n report
+
+  -- each client did its job, and there are no more ends and reports than clients
+  abbrev pub EachDid : JobMeaning J Q M A T → List J → List (ClientView Q M A) → List (ClientView Q M A) → List T → Type 0
   EachDid does jobs old new reports = (length new ≡ length old) × (length reports ≡ length old)
-      × ((k : ℕ) (o : ClientView Q M A) → slice_get old k ≡ Some o
-      → (job : J) × (n : ClientView Q M A) × (report : T) × (slice_get jobs k ≡ Some job) × (slice_get new k ≡ Some n) × (slice_get reports k ≡ Some report) × Did does job o n report)
+      × ((k : ℕ) (o : ClientView Q M A) → slice_get old k ≡ Some o → DidAt does k o jobs new reports)

@@ -83,6 +83,23 @@ module _ (t : Tree) (s : Session) where
   no : (error : DosError) (b : Bool) → is_mount_error error ≡ false → IsOther (refuse error b)
   no error b apart = other_error error b apart
 
+  -- the last checks of DELETE_OBJECT, of RENAME_OBJECT and of FIND_OUTPUT
+  undeletable : (type held full protected : Bool)
+      → AreOther (refuse ObjectWrongType type ∷ refuse ObjectInUse held ∷ refuse DirectoryNotEmpty full ∷ refuse DeleteProtected protected ∷ [])
+  unfolding AreOther
+  undeletable type held full protected =
+      (no ObjectWrongType type refl, (no ObjectInUse held refl, (no DirectoryNotEmpty full refl, (no DeleteProtected protected refl, tt))))
+
+  unmovable : (type there held under : Bool)
+      → AreOther (refuse ObjectWrongType type ∷ refuse ObjectExists there ∷ refuse ObjectInUse held ∷ refuse ObjectInUse under ∷ [])
+  unfolding AreOther
+  unmovable type there held under =
+      (no ObjectWrongType type refl, (no ObjectExists there refl, (no ObjectInUse held refl, (no ObjectInUse under refl, tt))))
+
+  unemptied : (delete write full : Bool) → AreOther (refuse DeleteProtected delete ∷ refuse WriteProtected write ∷ refuse DiskFull full ∷ [])
+  unfolding AreOther
+  unemptied delete write full = (no DeleteProtected delete refl, (no WriteProtected write refl, (no DiskFull full refl, tt)))
+
   -- no row of a packet has that error
   all_other : (packet : Packet) → AreOther (refusals t s packet)
   unfolding AreOther
@@ -90,8 +107,9 @@ module _ (t : Tree) (s : Session) where
   all_other (LocateObject lock path mode) = (no InvalidLock _ refl, (walked lock path, (no ObjectInUse _ refl, tt)))
   all_other (RenameDisk name) = (no InvalidComponentName _ refl, tt)
   all_other (FreeLock lock) = (no InvalidLock _ refl, tt)
-  all_other (DeleteObject lock path) = (no InvalidLock _ refl, (walked lock path, (no ObjectWrongType _ refl, (no ObjectInUse _ refl, (no DirectoryNotEmpty _ refl, (no DeleteProtected _ refl, tt))))))
-  all_other (RenameObject from_lock from to_lock to) = (no InvalidLock _ refl, (no InvalidLock _ refl, (walked from_lock from, (put_at to_lock to, (no ObjectWrongType _ refl, (no ObjectExists _ refl, (no ObjectInUse _ refl, (no ObjectInUse _ refl, tt))))))))
+  all_other (DeleteObject lock path) = (no InvalidLock _ refl, (walked lock path, undeletable _ _ _ _))
+  all_other (RenameObject from_lock from to_lock to) =
+      (no InvalidLock _ refl, (no InvalidLock _ refl, (walked from_lock from, (put_at to_lock to, unmovable _ _ _ _))))
   all_other (CopyDir lock) = (no InvalidLock _ refl, (no ObjectInUse _ refl, tt))
   all_other (SetProtect lock path bits) = (no InvalidLock _ refl, (walked lock path, (no ObjectWrongType _ refl, tt)))
   all_other (CreateDir lock path) = (no InvalidLock _ refl, (put_at lock path, (no ObjectExists _ refl, (no DiskFull _ refl, tt))))
@@ -107,7 +125,7 @@ module _ (t : Tree) (s : Session) where
   all_other (Write handle bytes) = (no InvalidLock _ refl, (no WriteProtected _ refl, (no DiskFull _ refl, tt)))
   all_other (FindUpdate lock path) = (no InvalidLock _ refl, (put_at lock path, (no ObjectWrongType _ refl, (no ObjectInUse _ refl, (no DiskFull _ refl, tt)))))
   all_other (FindInput lock path) = (no InvalidLock _ refl, (walked lock path, (no ObjectWrongType _ refl, (no ObjectInUse _ refl, tt))))
-  all_other (FindOutput lock path) = (no InvalidLock _ refl, (put_at lock path, (no ObjectWrongType _ refl, (no ObjectInUse _ refl, (no DeleteProtected _ refl, (no WriteProtected _ refl, (no DiskFull _ refl, tt)))))))
+  all_other (FindOutput lock path) = (no InvalidLock _ refl, (put_at lock path, (no ObjectWrongType _ refl, (no ObjectInUse _ refl, unemptied _ _ _))))
   all_other (End handle) = (no InvalidLock _ refl, tt)
   all_other (Seek handle offset mode) = (no InvalidLock _ refl, (no SeekError _ refl, tt))
   all_other (SetFileSize handle offset mode) = (no InvalidLock _ refl, (no WriteProtected _ refl, (no SeekError _ refl, (no DiskFull _ refl, tt))))
@@ -153,8 +171,8 @@ closing_is_dead t new_tree s new_session packet now answer meaning closing = go 
   where
     refused : (error : DosError) → (error ≡ DeviceNotMounted → s.died ≡ true) → IsRefused t s packet error new_tree new_session answer → new_session.died ≡ true
     refused error dead w =
-        let number = error_number error
-        in let told : nat_eq number (error_number DeviceNotMounted) ≡ true = or_false_right (nat_eq number (error_number DeviceNotMounted)) _ (refused_quiet packet) (ap is_closing (sym w.answered) ∙ closing)
+        let same = nat_eq (error_number error) (error_number DeviceNotMounted)
+        in let told : same ≡ true = or_false_right same _ (refused_quiet packet) (ap is_closing (sym w.answered) ∙ closing)
         in ap (λ u. u.died) w.session ∙ dead (by_number error told)
 
     go : (o : Option DosError) → refusal t s packet ≡ o
@@ -164,7 +182,8 @@ closing_is_dead t new_tree s new_session packet now answer meaning closing = go 
     go None e (inr w) = refused NoFreeStore (λ q. absurd (true_false (sym (ap is_mount_error q)))) w.1
     go None e (inl w) =
         let alive : is_number (error_number DeviceNotMounted) answer.res2 ≡ false = ap (λ z. is_number (error_number DeviceNotMounted) z) w.res2
-        in let shown : (is_number 5 answer.action && is_dos_true answer.res1) ≡ true = or_second (is_number (error_number DeviceNotMounted) answer.res2) _ alive closing
+        in let dies = is_number 5 answer.action && is_dos_true answer.res1
+        in let shown : dies ≡ true = or_second (is_number (error_number DeviceNotMounted) answer.res2) dies alive closing
         in served_dies t s packet now new_tree new_session answer.res1 answer.body (ap (λ z. is_number 5 z) (sym w.action) ∙ and_first _ _ shown) w.success
       where
         or_second : (a b : Bool) → a ≡ false → a || b ≡ true → b ≡ true
@@ -176,7 +195,9 @@ pub dead_stays : DeadStays
 dead_stays t new_tree s new_session packet now answer meaning dead = go s.died dead meaning
   where
     go : (b : Bool) → b ≡ true
-        → MatchOption (first_refusal (refuse DeviceNotMounted b ∷ refusals t s packet)) (ServedOrNoMemory t s packet now new_tree new_session answer) (λ error. IsRefused t s packet error new_tree new_session answer)
+        → MatchOption (first_refusal (refuse DeviceNotMounted b ∷ refusals t s packet))
+        (ServedOrNoMemory t s packet now new_tree new_session answer)
+        (λ error. IsRefused t s packet error new_tree new_session answer)
         → new_session.died ≡ true
     go true e refused = ap (λ (v : Session). v.died) refused.session ∙ dead
     go false e meaning = absurd (true_false (sym e))

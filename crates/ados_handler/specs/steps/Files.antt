@@ -1,5 +1,5 @@
 -- What a step that writes into a file or gives it another size leaves.
-use Rattle.std.specs.Prelude.{◌≡◌, ℕ, ◌+◌, ◌≤◌, true, false, List, length, max}
+use Rattle.std.specs.Prelude.{◌≡◌, ℕ, ◌+◌, ◌≤◌, true, false, List, length, max, Result, MatchResult}
 use Rattle.ados_name.specs.declared.Date3.{Date3}
 use Rattle.ados_tree.specs.Tree.{Tree, size_of}
 use Rattle.ados_tree.specs.Change.{written}
@@ -20,6 +20,11 @@ IsWritten old new key position bytes now end =
 abbrev pub IsUnwritten : Shown → Shown → ℕ → ℕ → List ℕ → Type 0
 IsUnwritten old new key position bytes =
     (new ≡ old) × ((t : Tree) → Stands old.image t → NeedsMore t key (max (size_of t key) (position + length bytes)))
+
+-- the bytes were written, and this is where they end, or there was no room for them
+abbrev pub WritesOrStays : {E : Type 0} → Shown → Shown → ℕ → ℕ → List ℕ → Date3 → Result ℕ E → Type 0
+WritesOrStays old new key position bytes now answer =
+    MatchResult answer (IsWritten old new key position bytes now) (λ _. IsUnwritten old new key position bytes)
 
 -- the file has the size: there was room for it
 abbrev pub IsResized : Shown → Shown → ℕ → ℕ → Date3 → Type 0

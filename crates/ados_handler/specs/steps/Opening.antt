@@ -2,10 +2,10 @@
 use Rattle.std.specs.Prelude.{◌≡◌, ◌⊎◌, ℕ, pos, Bool, true, false, not, List, [], ◌∷◌, Option, MatchOption}
 use Rattle.std.specs.Ordering.{nat_cmp}
 use Rattle.std.specs.FinMap as numbered
-use Rattle.adf_block.specs.Image.{bytes_at}
 use Rattle.ados_name.specs.Protection.{denies_delete, denies_write}
 use Rattle.ados_name.specs.declared.Date3.{Date3}
 use Rattle.ados_tree.specs.Change.{rewritten}
+use Rattle.ados_tree.specs.NewBlocks.{KeepsRest}
 use Rattle.ados_tree.specs.Tree.{Tree}
 use Rattle.ados_tree.specs.Stands.{Stands}
 use Rattle.ados_tree.specs.Walk.{is_file}
@@ -55,14 +55,18 @@ pub record IsOpened (gives : After → Type 0) (old new : HandlerState) (results
   pub stands : Stands new.image tree
   pub success : gives (after tree new.session results.res1 results.body)
   pub res2 : results.res2 ≡ pos 0
-  pub boot : bytes_at new.image 0 0 1024 ≡ bytes_at old.image 0 0 1024
+  pub keeps : KeepsRest old.image new.image
   pub validated : new.was_validated ≡ old.was_validated
+
+-- a handle, or none for want of memory
+abbrev pub OpenedOrNoMemory : (After → Type 0) → HandlerState → HandlerState → Results → Type 0
+OpenedOrNoMemory gives old new results = IsOpened gives old new results ⊎ IsUnopened NoFreeStore old new results
 
 -- a handle where none of these refuses it, but for want of memory
 pub record Opens (refusals : Tree → List (Option DosError)) (gives : Tree → After → Type 0) (old new : HandlerState) (results : Results) : Type 0 where
   pub tree : Tree
   pub stood : Stands old.image tree
-  pub means : MatchOption (first_refusal (refusals tree)) (IsOpened (gives tree) old new results ⊎ IsUnopened NoFreeStore old new results) (λ error. IsUnopened error old new results)
+  pub means : MatchOption (first_refusal (refusals tree)) (OpenedOrNoMemory (gives tree) old new results) (λ error. IsUnopened error old new results)
 
 -- a shared handle on an object that is there
 abbrev pub OpensShared : ℕ → HandlerState → HandlerState → Results → Type 0

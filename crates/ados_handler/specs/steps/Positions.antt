@@ -7,4 +7,5 @@ use Rattle.ados_handler.specs.declared.holds.HandleHold.{HandleHold}
 
 -- the handle under this number moved to this position; with no handle there, all of them as they were
 abbrev pub positioned : numbered.FinMap nat_cmp HandleHold → ℕ → ℕ → numbered.FinMap nat_cmp HandleHold
-positioned handles number position = option_map_or (λ hold. numbered.insert handles number (record hold { position = position })) (numbered.get handles number) handles
+positioned handles number position =
+    option_map_or (λ hold. numbered.insert handles number (record hold { position = position })) (numbered.get handles number) handles

@@ -8,6 +8,14 @@ use Rattle.ados_tree.specs.declared.role.Role.TheVariants.{Extension}
 use Rattle.ados_tree.specs.Faults.{InImage, IsDataAt, IsFile, IsOfs, IsPointer, Reached}
 use Rattle.check_marks.specs.Marks.{IsSoundData}
 
+-- pointer block q of the file has a pointer i
+abbrev pub HasPointer : List ℕ → ℕ → ℕ → ℕ → Type 0
+HasPointer image file q i = IsPointer image (pointer_block image file q) i
+
+-- the data block that pointer i of pointer block q of the file names
+abbrev pub pointed_block : List ℕ → ℕ → ℕ → ℕ → ℕ
+pointed_block image file q i = pointer image (pointer_block image file q) i
+
 -- a file of which each block is reached, inside the image and right by itself, with so many extension blocks, all different
 pub record IsReachedFile (image : List ℕ) (file : ℕ) : Type 0 where
   pub is_file : IsFile image file
@@ -17,8 +25,8 @@ pub record IsReachedFile (image : List ℕ) (file : ℕ) : Type 0 where
   pub once : (p q : ℕ) → p < q → q ≤ extensions → pointer_block image file p ≢ pointer_block image file q
   pub reached : (q : ℕ) → q < extensions → Reached image (pointer_block image file (suc q)) (Extension file)
   pub fields : (q : ℕ) → q < extensions → HasExtension image file (pointer_block image file (suc q))
-  pub data_inside : (q i : ℕ) → q ≤ extensions → IsPointer image (pointer_block image file q) i → InImage image (pointer image (pointer_block image file q) i)
-  pub data_fields : IsOfs image → (q i : ℕ) → q ≤ extensions → IsPointer image (pointer_block image file q) i → IsSoundData image (pointer image (pointer_block image file q) i) file
+  pub data_inside : (q i : ℕ) → q ≤ extensions → HasPointer image file q i → InImage image (pointed_block image file q i)
+  pub data_fields : IsOfs image → (q i : ℕ) → q ≤ extensions → HasPointer image file q i → IsSoundData image (pointed_block image file q i) file
 
 -- the count of a pointer block: at most what a table has, as many where another block follows, and not 0 but in a header
 pub record HasCount (image : List ℕ) (block : ℕ) (is_header : Bool) (count : ℕ) : Type 0 where

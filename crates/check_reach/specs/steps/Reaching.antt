@@ -3,9 +3,9 @@ use Rattle.std.specs.Prelude.{◌≡◌, ◌≢◌, ℕ, ◌+◌, ◌*◌, ◌�
 use Rattle.adf_block.specs.Image.{block_count, long}
 use Rattle.ados_tree.specs.declared.role.Role.{Role}
 use Rattle.ados_tree.specs.declared.role.Role.TheVariants.{Root}
-use Rattle.ados_tree.specs.Faults.{InImage, IsPlace, Reached, root_of}
+use Rattle.ados_tree.specs.Faults.{IsPlace, LeadsInside, Reached, root_of}
 use Rattle.check_marks.specs.declared.mark.Mark.{Mark}
-use Rattle.check_marks.specs.Marks.{mark_at, IsSound}
+use Rattle.check_marks.specs.Marks.{mark_at, IsMarkedFor, IsSound}
 
 -- the mark of the root
 abbrev pub root_mark : Mark
@@ -19,6 +19,18 @@ pub record IsNoted (image : List ℕ) (marks : List (Option Mark)) (left : ℕ �
   pub names : long image mark.holder mark.long ≡ block
   pub passed : ¬ left mark.holder mark.long
 
+-- each place of a marked block that is not left names a block of the image
+abbrev pub PassedAreInside : List ℕ → List (Option Mark) → (ℕ → ℕ → Type 0) → Type 0
+PassedAreInside image marks left =
+    (block i : ℕ) (mark : Mark) (next : Role) → mark_at marks block ≡ Some mark → IsPlace image block mark.role i next → ¬ left block i
+    → LeadsInside image block i
+
+-- each place of a marked block that is not left names a block that is marked for it
+abbrev pub PassedAreMarked : List ℕ → List (Option Mark) → (ℕ → ℕ → Type 0) → Type 0
+PassedAreMarked image marks left =
+    (block i : ℕ) (mark : Mark) (next : Role) → mark_at marks block ≡ Some mark → IsPlace image block mark.role i next → ¬ left block i
+    → IsMarkedFor marks (long image block i) next block i
+
 -- the marked blocks are reached and sound, and each place of theirs that is not left names a block that is marked for it
 pub record AreReachedBut (image : List ℕ) (marks : List (Option Mark)) (left : ℕ → ℕ → Type 0) : Type 0 where
   pub size : length marks ≡ block_count image
@@ -26,8 +38,8 @@ pub record AreReachedBut (image : List ℕ) (marks : List (Option Mark)) (left :
   pub reached : (block : ℕ) (mark : Mark) → mark_at marks block ≡ Some mark → Reached image block mark.role
   pub sound : (block : ℕ) (mark : Mark) → mark_at marks block ≡ Some mark → IsSound image block mark.role
   pub noted : (block : ℕ) (mark : Mark) → mark_at marks block ≡ Some mark → (block ≡ root_of image) ⊎ IsNoted image marks left block mark
-  pub inside : (block i : ℕ) (mark : Mark) (next : Role) → mark_at marks block ≡ Some mark → IsPlace image block mark.role i next → ¬ left block i → InImage image (long image block i)
-  pub marked : (block i : ℕ) (mark : Mark) (next : Role) → mark_at marks block ≡ Some mark → IsPlace image block mark.role i next → ¬ left block i → mark_at marks (long image block i) ≡ Some (record { role = next; holder = block; long = i })
+  pub inside : PassedAreInside image marks left
+  pub marked : PassedAreMarked image marks left
 
 -- how many blocks have no mark
 abbrev pub unmarked : List (Option Mark) → ℕ

@@ -1,16 +1,29 @@
--- What the handler's end gives to one more client, and what it leaves to a gathering.
-use Rattle.std.specs.Prelude.{◌≡◌, ℕ, [], ◌∷◌, ◌++◌, length}
+-- What the handler's end gives to one more client, what it hears of one, and what it leaves to a gathering.
+use Rattle.std.specs.Prelude.{◌≡◌, ◌⊎◌, ℕ, Bool, true, List, [], ◌∷◌, ◌++◌, length, Some, slice_get}
+use Rattle.std.specs.List.{list_any}
 use Rattle.port_history.specs.History.{packets_of}
 use Rattle.port_ends.specs.Rings.{OutView}
 use Rattle.port_ends.specs.Ends.{ClientView, HandlerView, IsFresh, IsEndOf}
 use Rattle.port_ends.specs.steps.QueueEnds.{TakeView}
 
+module _ {Q M A : Type 0} where
+  -- this end knows of the close only where the server has died, or where a reply that it took closes
+  abbrev pub Heard : (A → Bool) → Bool → ClientView Q M A → Type 0
+  Heard is_closing died c = c.knows ≡ true → (died ≡ true) ⊎ (list_any (λ x. is_closing x.1) c.taken ≡ true)
+
+  -- of all clients
+  abbrev pub AllHeard : (A → Bool) → Bool → List (ClientView Q M A) → Type 0
+  AllHeard is_closing died cs = (k : ℕ) (c : ClientView Q M A) → slice_get cs k ≡ Some c → Heard is_closing died c
+
 module _ {S Q M A : Type 0} where
-  -- one more client: its end is fresh, and its outlet is the last and empty
+  -- this outlet was added as the last one: it is empty, and this client's
+  abbrev pub AddsOutlet : HandlerView S Q M A → HandlerView S Q M A → ClientView Q M A → OutView (M × A) → Type 0
+  AddsOutlet old new end o =
+      (new ≡ record old { outlets = old.outlets ++ o ∷ [] }) × (o.posted ≡ []) × (o.waiting ≡ []) × IsEndOf new (length old.outlets) end
+
+  -- one more client: its end is fresh, and its outlet was added
   abbrev pub AddsClientEnd : HandlerView S Q M A → HandlerView S Q M A → ClientView Q M A → Type 0
-  AddsClientEnd old new end =
-      IsFresh end
-      × ((o : OutView (M × A)) × (new ≡ record old { outlets = old.outlets ++ o ∷ [] }) × (o.posted ≡ []) × (o.waiting ≡ []) × IsEndOf new (length old.outlets) end)
+  AddsClientEnd old new end = IsFresh end × ((o : OutView (M × A)) × AddsOutlet old new end o)
 
   -- this queue's end took the served packets, and no client is gathered
   abbrev pub IsQueueOf : HandlerView S Q M A → TakeView Q → Type 0

@@ -31,7 +31,8 @@ module _ {Q M A : Type 0} where
   -- for each client
   abbrev pub RoomsFit : List (ClientView Q M A) → List (OutView (M × A)) → List (Vec (Reply A) Global) → Type 0
   RoomsFit cs os rs = (length rs ≡ length cs)
-      × ((k : ℕ) (c : ClientView Q M A) (o : OutView (M × A)) (r : Vec (Reply A) Global) → slice_get cs k ≡ Some c → slice_get os k ≡ Some o → slice_get rs k ≡ Some r → RoomFits c o r)
+      × ((k : ℕ) (c : ClientView Q M A) (o : OutView (M × A)) (r : Vec (Reply A) Global)
+      → slice_get cs k ≡ Some c → slice_get os k ≡ Some o → slice_get rs k ≡ Some r → RoomFits c o r)
 
   -- what a client took, and then the untaken replies, are all that was sent to it, numbered in order
   abbrev pub Left : ClientView Q M A → List (M × A) → List (Reply A) → Type 0

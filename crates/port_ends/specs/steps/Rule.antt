@@ -20,13 +20,23 @@ module _ {Q : Type 0} where
   abbrev pub handler : ℕ → List (ℕ × Q) → List (List Q) → Seat Q
   handler n taken known = record { handles = true; number = n; put = []; taken = taken; known = known }
 
+  -- the handler's pass took this client's packet; where all clients are gathered, no more was taken than they put
+  abbrev pub TakesOne : Seat Q → ℕ × Q → Seat Q → Type 0
+  TakesOne v x w =
+      (w ≡ handler v.number (v.taken ++ x ∷ []) v.known)
+      × (1 ≤ x.0) × (x.0 ≤ v.number) × (length v.known ≡ v.number → length w.taken ≤ total v.known)
+
   -- a client's pass: its number, and what it put
   abbrev pub client : ℕ → List Q → Seat Q
   client k put = record { handles = false; number = k; put = put; taken = []; known = [] }
 
+  -- client k's own pass: it was not gathered, and its put list is its packets
+  abbrev pub IsClients : List (ℕ × Q) → ℕ → ℕ → Seat Q → Type 0
+  IsClients all gathered k v = (v.number ≡ k) × (gathered < k) × (v.put ≡ packets_by k all)
+
   -- the pass of client k. A spent one has number 0, and its client was gathered
   abbrev pub FitsClient : List (ℕ × Q) → ℕ → ℕ → Seat Q → Type 0
-  FitsClient all gathered k v = (v.handles ≡ false) × (0 < v.number → (v.number ≡ k) × (gathered < k) × (v.put ≡ packets_by k all)) × (v.number ≡ 0 → k ≤ gathered)
+  FitsClient all gathered k v = (v.handles ≡ false) × (0 < v.number → IsClients all gathered k v) × (v.number ≡ 0 → k ≤ gathered)
 
   -- the first pass is the handler's, and client k has pass k
   abbrev pub PortRule : List (ℕ × Q) → List (Seat Q) → Type 0

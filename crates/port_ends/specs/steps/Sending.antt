@@ -9,7 +9,10 @@ pub record InView (T : Type 0) : Type 0 where
 
 -- x was sent to this client, and nothing to the others. At most one more waits
 abbrev pub SendsTo : {T : Type 0} → ℕ → T → ℕ → OutView T → OutView T → Type 0
-SendsTo client x k old new = StaysPosted old new × (all_of new ≡ (if client == k + 1 then all_of old ++ x ∷ [] else all_of old)) × (old.room ≤ new.room + 1)
+SendsTo client x k old new =
+    StaysPosted old new
+    × (all_of new ≡ (if client == k + 1 then all_of old ++ x ∷ [] else all_of old)) × (old.room ≤ new.room + 1)
+    × (new.looks ≡ old.looks)
 
 -- each outlet has room for n more to wait
 abbrev pub EachHasRoom : {T : Type 0} → ℕ → List (OutView T) → Type 0
@@ -18,3 +21,15 @@ EachHasRoom {T} n os = (k : ℕ) (o : OutView T) → slice_get os k ≡ Some o �
 -- at most one more waits at each
 abbrev pub UsesOne : {T : Type 0} → List (OutView T) → List (OutView T) → Type 0
 UsesOne old new = Each (λ _ o p. o.room ≤ p.room + 1) old new
+
+-- no ring was looked at for what waits
+abbrev pub SameLooks : {T : Type 0} → List (OutView T) → List (OutView T) → Type 0
+SameLooks old new = Each (λ _ o p. p.looks ≡ o.looks) old new
+
+-- there may be room for more to wait, and nothing else changed
+abbrev pub GetsRoom : {T : Type 0} → OutView T → OutView T → Type 0
+GetsRoom old new = (new ≡ record old { room = new.room }) × (old.room ≤ new.room)
+
+-- at each
+abbrev pub EachGetsRoom : {T : Type 0} → List (OutView T) → List (OutView T) → Type 0
+EachGetsRoom old new = Each (λ _ o p. GetsRoom o p) old new

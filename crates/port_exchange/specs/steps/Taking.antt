@@ -1,7 +1,11 @@
--- What a take does to a client.
-use Rattle.std.specs.Prelude.{◌≡◌, ◌+◌, [], ◌∷◌}
+-- What a put and a take do to a client.
+use Rattle.std.specs.Prelude.{◌≡◌, ℕ, ◌+◌, [], ◌∷◌}
 use Rattle.port_history.specs.declared.step.Reply.{Reply}
 use Rattle.port_exchange.specs.declared.client.Client.{Client}
+
+-- one more packet was accepted, and this is its number
+abbrev pub CountsOne : {A : Type 0} → Client A → Client A → ℕ → Type 0
+CountsOne old new number = (number ≡ old.accepted + 1) × (new.accepted ≡ number)
 
 -- no reply is there, and none was taken
 abbrev pub HasNoReply : {A : Type 0} → Client A → Client A → Type 0

@@ -4,7 +4,7 @@ use Rattle.ados_tree.proofs.Nodes.{some_in}
 use Rattle.adf_listing.proofs.Directories.{told_directory}
 use Rattle.adf_listing.proofs.keys.describe.Goals as goal
 
-pub returns : goal.returns
-returns c = λ h t s.
+pub returns-clause-directory : goal.returns-clause-directory
+returns-clause-directory c = λ h t s.
     let n = some_in (t.nodes c.args.key) (c.requires t s) in
     told_directory t c.args.key n.0 n.1 (sym (ap (λ (info : FileInfo). info.entry_type) (c.examine.ensures t n.0 s n.1)) ∙ h)

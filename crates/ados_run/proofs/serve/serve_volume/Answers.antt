@@ -31,3 +31,4 @@ returns-in-Ok-gather g c =
     c.in_ok-ends.ensures.ends
     (ap (λ l. map (λ t. (t.0.items, t.1)) l) c.in_ok-ends.ensures.texts ∙ map-map (λ t. (t.0.items, t.1)) (λ d. (d.text, d.end)) done.clients.items)
     c.in_ok-handler.ensures.clients (subst (λ l. AreEnds done.handler l) (sym c.in_ok-ends.ensures.ends) c.in_ok-handler.ensures.all) c.in-Ok-gather.ensures.clients c.in-Ok-gather.ensures.lawful
+    c.in-Ok-gather.ensures.closed

@@ -6,7 +6,7 @@ use Rattle.ados_tree.specs.Tree.{free}
 use Rattle.ados_tree.specs.Stands.{format_byte}
 use Rattle.ados_tree.proofs.Standing.{count_same}
 use Rattle.ados_tree.proofs.Counting.{free_bits_count}
-use Rattle.change_bytes.proofs.Writable.{lawful_pages, format_is}
+use Rattle.ados_tree.proofs.Writable.{lawful_pages, format_is}
 use Rattle.ados_volume.proofs.info.info_of.Goals as goal
 
 pub count_free-requires : goal.count_free-requires

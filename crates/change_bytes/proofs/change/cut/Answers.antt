@@ -7,7 +7,7 @@ use Rattle.ados_tree.specs.Stands.{Stands}
 use Rattle.ados_tree.specs.Change.{rewritten}
 use Rattle.change_bytes.proofs.Calls.{of_cut}
 use Rattle.change_bytes.proofs.Relaid.{IsRewritten}
-use Rattle.change_bytes.proofs.Renewed.{bytes_in, size_in, mid_writable, same_contents, stands_rewritten, keeps_rest}
+use Rattle.change_bytes.proofs.Renewed.{bytes_in, size_in, mid_writable, same_contents, stands_rewritten, keeps_rest, inside_mid, marks_mid}
 use Rattle.change_bytes.proofs.change.cut.Goals as goal
 
 pub cut-requires-clause-writable : goal.cut-requires-clause-writable
@@ -21,7 +21,7 @@ cut-requires-clause-shorter c =
     omega (arith, same, size, c.requires.shorter c.requires.tree.0 c.requires.tree.1)
 
 -- the file is rewritten, in its first blocks
-cut_short : (c : goal.After-cut) → IsRewritten c.stamp.new.image c.args.file (data_blocks c.stamp.new.image c.args.file) (extension_blocks c.stamp.new.image c.args.file) c.cut.new.image (data_blocks c.cut.new.image c.args.file) (extension_blocks c.cut.new.image c.args.file) (contents c.cut.new.image c.args.file)
+cut_short : (c : goal.Else-prove-2) → IsRewritten c.stamp.new.image c.args.file (data_blocks c.stamp.new.image c.args.file) (extension_blocks c.stamp.new.image c.args.file) c.cut.new.image (data_blocks c.cut.new.image c.args.file) (extension_blocks c.cut.new.image c.args.file) (contents c.cut.new.image c.args.file)
 cut_short c =
     let e = c.cut.ensures in
     let count = data_count (format_of c.stamp.new.image) c.args.size in
@@ -34,7 +34,13 @@ returns-clause-stands c = λ t s.
     subst (λ (xs : List ℕ). Stands c.cut.new.image (rewritten c.args.moment c.args.file xs t)) bytes
     (stands_rewritten c.args.moment c.args.image.now c.stamp.new.image c.args.file c.requires.tree c.requires.file c.stamp.ensures c.cut.new.image (cut_short c) t s)
 
-pub returns-clause-rest : goal.returns-clause-rest
-returns-clause-rest c =
+pub returns-clause-keeps : goal.returns-clause-keeps
+returns-clause-keeps c =
     keeps_rest c.args.moment c.args.image.now c.stamp.new.image c.args.file c.requires.tree c.requires.file c.stamp.ensures c.cut.new.image (cut_short c) c.cut.ensures.keeps
+    (λ same. (c.blocks-2.ensures.image, c.blocks-3.ensures.image))
     (λ a b i two below was is. absurd (false≢true (sym is ∙ c.cut.ensures.free_stays b i was)))
+
+pub returns-clause-none : goal.returns-clause-none
+returns-clause-none c = λ b inside free.
+    c.cut.ensures.free_stays b (inside_mid c.args.moment c.args.image.now c.stamp.new.image c.args.file c.requires.tree c.requires.file c.stamp.ensures b inside)
+    (marks_mid c.args.moment c.args.image.now c.stamp.new.image c.args.file c.requires.tree c.requires.file c.stamp.ensures b inside ∙ free)

@@ -1,4 +1,4 @@
-use Rattle.std.proofs.Common.{◌≡◌, ℕ, ◌+◌, ◌-◌, ◌++◌, List, length, replicate, ap, ◌∙◌, subst, refl, arith}
+use Rattle.std.proofs.Common.{◌≡◌, ◌≢◌, ℕ, ◌+◌, ◌-◌, ◌++◌, List, length, replicate, ap, ◌∙◌, subst, refl, arith}
 use Rattle.std.proofs.lemmas.List.{length-append, length-replicate}
 use Rattle.adf_block.specs.Image.{free_bit_count}
 use Rattle.ados_data.specs.Cost.{block_cost}
@@ -29,24 +29,34 @@ pub extend-requires-clause-free : goal.extend-requires-clause-free
 extend-requires-clause-free c =
     same_room c.args.moment c.args.image.now c.stamp.new.image c.args.file c.requires.tree c.requires.file c.stamp.ensures c.args.size c.if-not-has_room.ensures
 
--- the file is rewritten, in as many blocks more as it needs
-grown_long : (c : goal.After-extend) → IsRewritten c.stamp.new.image c.args.file (data_blocks c.stamp.new.image c.args.file) (extension_blocks c.stamp.new.image c.args.file) c.extend.new.image (data_blocks c.extend.new.image c.args.file) (extension_blocks c.extend.new.image c.args.file) (contents c.extend.new.image c.args.file)
-grown_long c =
-    let e = c.extend.ensures in
+-- the file has the new size
+grown_length : (c : goal.After-extend) → length (contents c.extend.new.image c.args.file) ≡ c.args.size
+grown_length c =
     let same = ap length (same_contents c.args.moment c.args.image.now c.stamp.new.image c.args.file c.requires.tree c.requires.file c.stamp.ensures) in
     let size = size_in c.args.image.now c.requires.tree.0 c.requires.tree.1 c.args.file c.requires.file in
-    let lengths : length (contents c.extend.new.image c.args.file) ≡ c.args.size =
-    ap length e.bytes ∙ omega (
+    ap length c.extend.ensures.bytes ∙ omega (
       arith,
       length-append (contents c.stamp.new.image c.args.file) (replicate (c.args.size - length (contents c.stamp.new.image c.args.file)) 0),
       length-replicate {A = ℕ} (c.args.size - length (contents c.stamp.new.image c.args.file)) 0,
       same,
       size,
       c.requires.longer c.requires.tree.0 c.requires.tree.1,
-    ) in
-    let balance = ap (λ (n : ℕ). free_bit_count c.extend.new.image + block_cost (format_of c.stamp.new.image) n) lengths ∙ e.free in
+    )
+
+-- the file is rewritten, in as many blocks more as it needs
+grown_long : (c : goal.After-extend) → IsRewritten c.stamp.new.image c.args.file (data_blocks c.stamp.new.image c.args.file) (extension_blocks c.stamp.new.image c.args.file) c.extend.new.image (data_blocks c.extend.new.image c.args.file) (extension_blocks c.extend.new.image c.args.file) (contents c.extend.new.image c.args.file)
+grown_long c =
+    let e = c.extend.ensures in
+    let balance = ap (λ (n : ℕ). free_bit_count c.extend.new.image + block_cost (format_of c.stamp.new.image) n) (grown_length c) ∙ e.free in
     of_gains c.stamp.new.image c.extend.new.image c.args.file
     (mid_writable c.args.moment c.args.image.now c.stamp.new.image c.args.file c.requires.tree c.requires.file c.stamp.ensures) e.writable e.format e.leaves e.gains e.blocks e.extensions balance
+
+-- so it does not have the bytes that it had
+not_as_long : (c : goal.After-extend) → contents c.extend.new.image c.args.file ≢ contents c.stamp.new.image c.args.file
+not_as_long c same =
+    let before = ap length (same_contents c.args.moment c.args.image.now c.stamp.new.image c.args.file c.requires.tree c.requires.file c.stamp.ensures) in
+    let size = size_in c.args.image.now c.requires.tree.0 c.requires.tree.1 c.args.file c.requires.file in
+    omega (arith, grown_length c, ap length same, before, size, c.requires.longer c.requires.tree.0 c.requires.tree.1)
 
 pub returns-clause-done : goal.returns-clause-done
 returns-clause-done c = λ t s.
@@ -58,6 +68,7 @@ returns-clause-done c = λ t s.
           (stands_rewritten c.args.moment c.args.image.now c.stamp.new.image c.args.file c.requires.tree c.requires.file c.stamp.ensures c.extend.new.image (grown_long c) t s),
     )
 
-pub returns-clause-rest : goal.returns-clause-rest
-returns-clause-rest c =
-    keeps_rest c.args.moment c.args.image.now c.stamp.new.image c.args.file c.requires.tree c.requires.file c.stamp.ensures c.extend.new.image (grown_long c) c.extend.ensures.keeps c.extend.ensures.gains.lowest
+pub returns-clause-keeps : goal.returns-clause-keeps
+returns-clause-keeps c =
+    keeps_rest c.args.moment c.args.image.now c.stamp.new.image c.args.file c.requires.tree c.requires.file c.stamp.ensures c.extend.new.image (grown_long c) c.extend.ensures.keeps
+    (λ same. absurd (not_as_long c same)) c.extend.ensures.gains.lowest

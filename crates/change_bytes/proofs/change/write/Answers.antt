@@ -75,7 +75,7 @@ length-overlaid xs pos ys l =
     )
 
 -- the file is rewritten, in as many blocks more as it needs
-written_over : (c : goal.After-write_at) → IsRewritten c.stamp.new.image c.args.file (data_blocks c.stamp.new.image c.args.file) (extension_blocks c.stamp.new.image c.args.file) c.write_at.new.image (data_blocks c.write_at.new.image c.args.file) (extension_blocks c.write_at.new.image c.args.file) (contents c.write_at.new.image c.args.file)
+written_over : (c : goal.Else-prove-2) → IsRewritten c.stamp.new.image c.args.file (data_blocks c.stamp.new.image c.args.file) (extension_blocks c.stamp.new.image c.args.file) c.write_at.new.image (data_blocks c.write_at.new.image c.args.file) (extension_blocks c.write_at.new.image c.args.file) (contents c.write_at.new.image c.args.file)
 written_over c =
     let e = c.write_at.ensures in
     let same = ap length (same_contents c.args.moment c.args.image.now c.stamp.new.image c.args.file c.requires.tree c.requires.file c.stamp.ensures) in
@@ -99,6 +99,7 @@ returns-clause-done c = λ t s.
           (stands_rewritten c.args.moment c.args.image.now c.stamp.new.image c.args.file c.requires.tree c.requires.file c.stamp.ensures c.write_at.new.image (written_over c) t s)),
     )
 
-pub returns-clause-rest : goal.returns-clause-rest
-returns-clause-rest c =
-    keeps_rest c.args.moment c.args.image.now c.stamp.new.image c.args.file c.requires.tree c.requires.file c.stamp.ensures c.write_at.new.image (written_over c) c.write_at.ensures.keeps c.write_at.ensures.gains.lowest
+pub returns-clause-keeps : goal.returns-clause-keeps
+returns-clause-keeps c =
+    keeps_rest c.args.moment c.args.image.now c.stamp.new.image c.args.file c.requires.tree c.requires.file c.stamp.ensures c.write_at.new.image (written_over c) c.write_at.ensures.keeps
+    (λ same. (c.blocks-2.ensures.image, c.blocks-3.ensures.image)) c.write_at.ensures.gains.lowest

@@ -2,7 +2,7 @@ use Rattle.std.proofs.Common.{◌≡◌, ℕ, ◌≤◌, ◌+◌, leb, MatchBool
 use Rattle.std.proofs.lemmas.Bool.Decides.{leb_tells}
 use Rattle.ados_data.specs.Cost.{block_cost}
 use Rattle.ados_data.specs.File.{format_of, contents}
-use Rattle.change_bytes.proofs.Writable.{lawful_pages}
+use Rattle.ados_tree.proofs.Writable.{lawful_pages}
 use Rattle.change_bytes.proofs.Renewed.{size_in}
 use Rattle.change_bytes.proofs.space.has_room.Goals as goal
 

@@ -1,7 +1,7 @@
 use Rattle.std.proofs.Common.{subst, sym}
-use Rattle.ados_tree.specs.NewBlocks.{TakesLowest}
-use Rattle.change_entries.proofs.Created.{created, created_kept, created_lowest, insertable, pages_of_standing, room}
-use Rattle.change_entries.proofs.FirstFree.{takes_none}
+use Rattle.ados_tree.specs.NewBlocks.{KeepsRest}
+use Rattle.ados_tree.proofs.Keeping.{same_keeps}
+use Rattle.change_entries.proofs.Created.{created, created_keeps, insertable, pages_of_standing, room}
 use Rattle.change_entries.proofs.entry_made.create.Goals as goal
 
 pub take_first-requires : goal.take_first-requires
@@ -22,15 +22,10 @@ returns-clause-stands c = λ t s.
     created c.args.image.now c.take_first.new.image c.make_entry.new.image t s c.args.moment c.args.dir c.in-Some.key c.args.name.now c.args.kind (c.requires.can t s)
     c.in-Some.ensures.none.0 c.in-Some.ensures.none.1 c.make_entry.ensures.rest c.make_entry.ensures.entry c.insert_last.new.image c.insert_last.ensures.inserts c.touch.new.image c.stamp.new.image c.touch.ensures.dated c.stamp.ensures.dated
 
-pub returns-clause-kept : goal.returns-clause-kept
-returns-clause-kept c =
-    created_kept c.args.image.now c.take_first.new.image c.make_entry.new.image c.requires.tree.0 c.requires.tree.1 c.args.moment c.args.dir c.in-Some.key c.args.name.now c.args.kind (c.requires.can c.requires.tree.0 c.requires.tree.1)
+pub returns-clause-keeps : goal.returns-clause-keeps
+returns-clause-keeps c =
+    created_keeps c.args.image.now c.take_first.new.image c.make_entry.new.image c.requires.tree.0 c.requires.tree.1 c.args.moment c.args.dir c.in-Some.key c.args.name.now c.args.kind (c.requires.can c.requires.tree.0 c.requires.tree.1)
     c.in-Some.ensures.none.0 c.in-Some.ensures.none.1 c.make_entry.ensures.rest c.make_entry.ensures.entry c.insert_last.new.image c.insert_last.ensures.inserts c.touch.new.image c.stamp.new.image c.touch.ensures.dated c.stamp.ensures.dated
 
-pub returns-clause-lowest : goal.returns-clause-lowest
-returns-clause-lowest c =
-    created_lowest c.args.image.now c.take_first.new.image c.make_entry.new.image c.requires.tree.0 c.requires.tree.1 c.args.moment c.args.dir c.in-Some.key c.args.name.now c.args.kind (c.requires.can c.requires.tree.0 c.requires.tree.1)
-    c.in-Some.ensures.none.0 c.in-Some.ensures.none.1 c.make_entry.ensures.rest c.make_entry.ensures.entry c.insert_last.new.image c.insert_last.ensures.inserts c.touch.new.image c.stamp.new.image c.touch.ensures.dated c.stamp.ensures.dated
-
-pub returns-in_default-clause-lowest : goal.returns-in_default-clause-lowest
-returns-in_default-clause-lowest c = subst (TakesLowest c.args.image.now) (sym c.in_default.ensures.none.1) (takes_none c.args.image.now)
+pub returns-in_default-clause-keeps : goal.returns-in_default-clause-keeps
+returns-in_default-clause-keeps c = subst (KeepsRest c.args.image.now) (sym c.in_default.ensures.none.1) (same_keeps c.args.image.now)

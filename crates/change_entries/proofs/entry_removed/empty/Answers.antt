@@ -1,6 +1,7 @@
 use Rattle.std.proofs.Common.{◌≡◌, ◌≢◌, sym, ◌∙◌}
 use Rattle.adf_block.specs.Fields.{file_type, secondary_type}
 use Rattle.ados_tree.specs.Change.{shortened}
+use Rattle.ados_tree.proofs.Keeping.{same_keeps}
 use Rattle.change_entries.proofs.Emptier.{cut_to_nothing, is_file, kept_as_is, key_inside}
 use Rattle.change_entries.proofs.entry_removed.empty.Goals as goal
 
@@ -19,3 +20,6 @@ cut-requires-clause-file c = λ t s.
 
 pub returns-clause-empties : goal.returns-clause-empties
 returns-clause-empties c = λ t s. (shortened c.args.moment c.args.key 0 t, c.cut.ensures.stands t s, cut_to_nothing c.args.image.now t s c.args.key (c.requires.can t s) c.args.moment)
+
+pub returns-then-long-clause-keeps : goal.returns-then-long-clause-keeps
+returns-then-long-clause-keeps c = same_keeps c.args.image.now

@@ -1,4 +1,4 @@
-use Rattle.change_entries.proofs.Emptier.{each_can, each_empty, taken_away}
+use Rattle.change_entries.proofs.Emptier.{each_can, each_empty, keeps_away, taken_away, takes_none}
 use Rattle.change_entries.proofs.entry_removed.remove.Goals as goal
 
 pub remove_empty-requires-clause-tree : goal.remove_empty-requires-clause-tree
@@ -13,5 +13,16 @@ remove_empty-requires-clause-empty c = each_empty c.args.moment c.args.key c.arg
 pub returns-clause-stands : goal.returns-clause-stands
 returns-clause-stands c = λ t s. taken_away c.args.moment c.args.key c.args.image.now c.empty.new.image t s c.empty.ensures.empties c.remove_empty.new.image c.remove_empty.ensures.stands
 
-pub returns-clause-kept : goal.returns-clause-kept
-returns-clause-kept c = c.remove_empty.ensures.kept c.args.image.now c.empty.ensures.kept
+pub returns-clause-keeps : goal.returns-clause-keeps
+returns-clause-keeps c =
+    let t = c.requires.tree.0 in
+    let st = c.requires.tree.1 in
+    keeps_away c.args.key c.args.image.now c.empty.new.image c.remove_empty.new.image t st (c.requires.can t st) c.empty.ensures.keeps c.empty.ensures.none
+    (c.remove_empty.ensures.kept c.args.image.now c.empty.ensures.keeps.kept) c.remove_empty.ensures.gives c.args.moment c.empty.ensures.empties c.remove_empty.ensures.untold (returns-clause-stands c t st)
+
+pub returns-clause-none : goal.returns-clause-none
+returns-clause-none c =
+    let t = c.requires.tree.0 in
+    let st = c.requires.tree.1 in
+    takes_none c.args.key c.args.image.now c.empty.new.image c.remove_empty.new.image t st (c.requires.can t st) c.empty.ensures.keeps c.empty.ensures.none
+    (c.remove_empty.ensures.kept c.args.image.now c.empty.ensures.keeps.kept) c.remove_empty.ensures.gives

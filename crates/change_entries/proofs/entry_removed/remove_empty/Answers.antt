@@ -1,6 +1,6 @@
 use Rattle.std.proofs.Common.{refl}
 use Rattle.adf_block.specs.Fields.{parent_key}
-use Rattle.change_entries.proofs.Removed.{from_inside, gone, gone_kept_since, key_inside, key_still, pages_still, unlinkable}
+use Rattle.change_entries.proofs.Removed.{from_inside, gone, gone_gives, gone_kept_since, gone_untold, key_inside, key_still, pages_still, unlinkable}
 use Rattle.change_entries.proofs.entry_removed.remove_empty.Goals as goal
 
 pub long-dir-requires-clause-block : goal.long-dir-requires-clause-block
@@ -26,4 +26,14 @@ returns-clause-stands c = λ t s.
 pub returns-clause-kept : goal.returns-clause-kept
 returns-clause-kept c =
     gone_kept_since c.args.image.now c.requires.tree.0 c.requires.tree.1 c.args.moment c.args.key (c.requires.can c.requires.tree.0 c.requires.tree.1) (c.requires.empty c.requires.tree.0 c.requires.tree.1) c.long-dir.result c.long-dir.ensures c.unlink.new.image c.unlink.ensures.unlinks c.touch.new.image c.touch.ensures.dated
+    c.give_back.new.image c.stamp.new.image c.give_back.ensures.freed c.stamp.ensures.dated
+
+pub returns-clause-gives : goal.returns-clause-gives
+returns-clause-gives c =
+    gone_gives c.args.image.now c.requires.tree.0 c.requires.tree.1 c.args.moment c.args.key (c.requires.can c.requires.tree.0 c.requires.tree.1) (c.requires.empty c.requires.tree.0 c.requires.tree.1) c.long-dir.result c.long-dir.ensures c.unlink.new.image c.unlink.ensures.unlinks c.touch.new.image c.touch.ensures.dated
+    c.give_back.new.image c.stamp.new.image c.give_back.ensures.freed c.stamp.ensures.dated
+
+pub returns-clause-untold : goal.returns-clause-untold
+returns-clause-untold c =
+    gone_untold c.args.image.now c.requires.tree.0 c.requires.tree.1 c.args.moment c.args.key (c.requires.can c.requires.tree.0 c.requires.tree.1) (c.requires.empty c.requires.tree.0 c.requires.tree.1) c.long-dir.result c.long-dir.ensures c.unlink.new.image c.unlink.ensures.unlinks c.touch.new.image c.touch.ensures.dated
     c.give_back.new.image c.stamp.new.image c.give_back.ensures.freed c.stamp.ensures.dated

@@ -6,7 +6,7 @@ use Rattle.ados_tree.proofs.Standing.{root_is}
 use Rattle.change_fields.specs.Places.{Restamped}
 use Rattle.change_fields.specs.Told.{named}
 use Rattle.change_fields.proofs.Summing.{restamped}
-use Rattle.change_fields.proofs.Cases.{name_case, changed_node, kept_restamped}
+use Rattle.change_fields.proofs.Cases.{name_case, changed_node, keeps_restamped}
 use Rattle.change_fields.proofs.change.rename_disk.Goals as goal
 
 pub stamp_disk-requires : goal.stamp_disk-requires
@@ -19,13 +19,13 @@ returns-clause-rest c =
 pub returns-clause-stands : goal.returns-clause-stands
 returns-clause-stands c = λ t s. c.stamp_disk.ensures.stands (named c.args.name.now t) (c.put_disk_name.ensures.stands t s)
 
-pub returns-clause-kept : goal.returns-clause-kept
-returns-clause-kept c =
+pub returns-clause-keeps : goal.returns-clause-keeps
+returns-clause-keeps c =
     let t = c.requires.0 in
     let s = c.requires.1 in
     let m = s.proper.root_node in
     let valid = (c.put_disk_name.ensures.stands t s).proper.name (root t) _ (changed_node t (root t) m.0 m.1 (λ a. record a { name = c.args.name.now })) in
     let rest = subst (λ (b : ℕ). SameBut (Restamped (root_of c.args.image.now) b 432 (433 + length c.args.name.now)) c.args.image.now c.stamp_disk.new.image) (root_is c.args.image.now t s) (returns-clause-rest c) in
-    kept_restamped c.args.image.now c.stamp_disk.new.image t s (root t) m.0 m.1 432 (433 + length c.args.name.now) (λ a. record a { name = c.args.name.now })
+    keeps_restamped c.args.image.now c.stamp_disk.new.image t s (root t) m.0 m.1 432 (433 + length c.args.name.now) (λ a. record a { name = c.args.name.now })
     (name_case t s.proper (root t) m.0 m.1 c.args.name.now valid refl) c.args.moment (returns-clause-stands c t s)
     (root_of c.args.image.now) (root_is c.args.image.now t s) rest

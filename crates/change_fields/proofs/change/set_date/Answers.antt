@@ -3,7 +3,7 @@ use Rattle.ados_tree.proofs.Nodes.{some_in}
 use Rattle.ados_tree.proofs.Standing.{root_is}
 use Rattle.change_fields.specs.Told.{dated}
 use Rattle.change_fields.proofs.Summing.{restamped}
-use Rattle.change_fields.proofs.Cases.{date_case, kept_restamped}
+use Rattle.change_fields.proofs.Cases.{date_case, keeps_restamped}
 use Rattle.change_fields.proofs.change.set_date.Goals as goal
 
 pub stamp_disk-requires : goal.stamp_disk-requires
@@ -16,12 +16,12 @@ returns-clause-rest c =
 pub returns-clause-stands : goal.returns-clause-stands
 returns-clause-stands c = λ t s. c.stamp_disk.ensures.stands (dated c.args.key c.args.date t) (c.touch.ensures.stands t s)
 
-pub returns-clause-kept : goal.returns-clause-kept
-returns-clause-kept c =
+pub returns-clause-keeps : goal.returns-clause-keeps
+returns-clause-keeps c =
     let t = c.requires.tree.0 in
     let s = c.requires.tree.1 in
     let entry = c.requires.key t s in
     let n = some_in (t.nodes c.args.key) entry.0 in
-    kept_restamped c.args.image.now c.stamp_disk.new.image t s c.args.key n.0 n.1 420 432 (λ a. record a { date = c.args.date })
+    keeps_restamped c.args.image.now c.stamp_disk.new.image t s c.args.key n.0 n.1 420 432 (λ a. record a { date = c.args.date })
     (date_case t s.proper c.args.key n.0 n.1 c.args.date) c.args.moment (returns-clause-stands c t s)
     (root_of c.args.image.now) (root_is c.args.image.now t s) (returns-clause-rest c)

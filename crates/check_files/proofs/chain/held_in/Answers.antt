@@ -17,4 +17,4 @@ returns-then-held-gt-OFS_ROOM c =
 pub returns-then-place-count : goal.returns-then-place-count
 returns-then-place-count c =
     shown c.args.image.now c.bad_count-then-place-count.result BadCount c.args.block c.bad_count-then-place-count.ensures.kind c.bad_count-then-place-count.ensures.block
-    (held_not_full c.requires.ofs c.requires.of_file.at (omega (arith, c.if-place-count.true, c.requires.of_file.counted)) (λ z. omega (arith, c.long-held.ensures, c.if-held-lt-OFS_ROOM.true, z)))
+    (held_not_full c.requires.ofs (record { file = c.requires.of_file.file; i = c.args.place; blocks = c.requires.of_file.blocks; at = c.requires.of_file.at; followed = omega (arith, c.if-place-count.true, c.requires.of_file.counted) }) (λ z. omega (arith, c.long-held.ensures, c.if-held-lt-OFS_ROOM.true, z)))

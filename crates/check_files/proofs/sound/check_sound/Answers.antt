@@ -2,8 +2,7 @@ use Rattle.std.proofs.Common.{List, ℕ, Option, Result, Ok, Err, MatchResult}
 use Rattle.ados_tree.specs.declared.fault.VolumeFault.{VolumeFault}
 use Rattle.ados_tree.specs.Accepted.{IsRefusal}
 use Rattle.check_marks.specs.declared.mark.Mark.{Mark}
-use Rattle.check_marks.specs.Marks.{IsChecked}
-use Rattle.check_files.specs.Entries.{AreUnlike}
+use Rattle.check_marks.specs.Marks.{AreUnlike, IsChecked}
 use Rattle.check_files.proofs.sound.check_sound.Goals as goal
 
 mapped : {T : Type 0} (image : List ℕ) (marks : List (Option Mark)) (r : Result T VolumeFault) → (AreUnlike image marks → IsChecked image marks) → MatchResult r (λ _. AreUnlike image marks) (IsRefusal image) → MatchResult r (λ _. IsChecked image marks) (IsRefusal image)

@@ -1,7 +1,9 @@
 use Rattle.std.proofs.Common.{ap, sym, subst, ◌∙◌, ◌+◌, ◌++◌, ◌≡◌, Some, slice_get, length, arith}
+use Rattle.port_ends.proofs.Closes.{close_means_death}
 use Rattle.port_ends.proofs.Gathers.{replies_few, lawful_replies, get_map, is_lawful}
 use Rattle.port_history.specs.History.{MeaningRun, packets_by, packets_of}
 use Rattle.port_ends.specs.Ends.{OfClients}
+use Rattle.port_ends.specs.steps.HandlerEnds.{AllHeard}
 use Rattle.port_ends.proofs.gathering.finish.Goals as goal
 
 pub take_in-queue-requires-clause-ends : goal.take_in-queue-requires-clause-ends
@@ -28,13 +30,27 @@ returns-clause-lawful g c =
     let p = c.into_parts-queue.ensures in
     let t = c.take_in-queue.ensures in
     let rest = c.take_rest-unanswered.result.items in
-    let taken = ap (λ q. q.taken) t.queue ∙ p.queue.1 in
+    let e = c.take_rest-unanswered.ensures in
+    let all = ap (λ q. q.taken) e.order ∙ ap (λ l. l ++ rest) (ap (λ q. q.taken) t.queue ∙ p.queue.1) in
+    let known = ap (λ q. q.known) e.order ∙ ap (λ q. q.known) t.queue in
     is_lawful g.S.Server.gives c.args.handler.opening c.into_parts-queue.result.2 c.args.handler.served rest c.args.clients.items c.take_in-queue.result.1.items
     (subst (λ s. MeaningRun g.S.Server.gives c.args.handler.opening c.args.handler.served s) (sym p.server) c.witness.ensures.run)
     t.clients
     (λ k x at.
-    c.take_rest-unanswered.ensures.puts k x.put (subst (λ l. slice_get l k ≡ Some x.put) (sym (ap (λ q. q.known) t.queue)) (get_map (λ y. y.put) c.args.clients.items k x at))
-    ∙ ap (λ l. packets_by (k + 1) (l ++ rest)) taken)
+    e.puts k x.put (subst (λ l. slice_get l k ≡ Some x.put) (sym known) (get_map (λ y. y.put) c.args.clients.items k x at))
+    ∙ ap (λ l. packets_by (k + 1) l) all)
     (lawful_replies c.args.clients.items c.args.handler.outlets c.into_parts-queue.result.1.items c.take_in-queue.result.1.items c.args.handler.served c.requires.ends.0 p.outlets c.witness.ensures.replies t.replies)
-    (subst (λ n. OfClients n (packets_of c.args.handler.served ++ rest)) (ap (λ q. q.clients) t.queue ∙ (p.queue.3 ∙ sym c.requires.ends.0))
-    (subst (λ l. OfClients c.take_in-queue.result.0.clients (l ++ rest)) taken c.take_rest-unanswered.ensures.clients))
+    (subst (λ n. OfClients n (packets_of c.args.handler.served ++ rest)) (ap (λ q. q.clients) e.order ∙ (ap (λ q. q.clients) t.queue ∙ (p.queue.3 ∙ sym c.requires.ends.0)))
+    (subst (λ l. OfClients c.take_rest-unanswered.new.queue.clients l) all e.clients))
+
+pub returns-clause-closed : goal.returns-clause-closed
+returns-clause-closed g c =
+    let p = c.into_parts-queue.ensures in
+    let t = c.take_in-queue.ensures in
+    let server = g.S.Server in
+    close_means_death server.gives server.has_died server.is_closing g.met.S.Server.stays_dead g.met.S.Server.closes_dead
+    c.args.handler.opening c.into_parts-queue.result.2 c.args.handler.served c.args.clients.items c.take_in-queue.result.1.items
+    (subst (λ s. MeaningRun server.gives c.args.handler.opening c.args.handler.served s) (sym p.server) c.witness.ensures.run)
+    t.clients
+    (subst (λ s. AllHeard server.is_closing (server.has_died s) c.args.clients.items) (sym p.server) c.requires.heard)
+    (lawful_replies c.args.clients.items c.args.handler.outlets c.into_parts-queue.result.1.items c.take_in-queue.result.1.items c.args.handler.served c.requires.ends.0 p.outlets c.witness.ensures.replies t.replies)

@@ -1,13 +1,13 @@
-use Rattle.std.proofs.Common.{ap, sym, subst, ◌∙◌, ◌+◌, ◌≡◌, Some, slice_get}
-use Rattle.port_history.specs.History.{packets_by}
+use Rattle.std.proofs.Common.{sym, subst, ◌∙◌}
 use Rattle.port_ends.specs.Ends.{OfClients}
+use Rattle.port_ends.specs.steps.Rule.{ArePutLists}
 use Rattle.port_ends.proofs.gathering.take_rest.Goals as goal
 
+pub returns-in-None-take-clause-order : goal.returns-in-None-take-clause-order
+returns-in-None-take-clause-order g c = c.in-None-take.ensures.none.0 ∙ c.loop.invariant.queue
+
 pub returns-in-None-take-clause-clients : goal.returns-in-None-take-clause-clients
-returns-in-None-take-clause-clients g c = subst (λ q. OfClients q.clients q.taken) c.loop.invariant.queue c.in-None-take.ensures.none.1
+returns-in-None-take-clause-clients g c = let n = c.in-None-take.ensures.none in subst (λ q. OfClients q.clients q.taken) (sym n.0) n.1
 
 pub returns-in-None-take-clause-puts : goal.returns-in-None-take-clause-puts
-returns-in-None-take-clause-puts g c =
-    let e = c.loop.invariant.queue in
-    let n = c.in-None-take.ensures.none.2 in
-    λ k put at. n k put (subst (λ q. slice_get q.known k ≡ Some put) (sym e) at) ∙ ap (λ q. packets_by (k + 1) q.taken) e
+returns-in-None-take-clause-puts g c = let n = c.in-None-take.ensures.none in subst (λ q. ArePutLists q.known q.taken) (sym n.0) n.2

@@ -1,9 +1,9 @@
 use Rattle.std.proofs.Common.{◌≡◌, ◌≤◌, ◌<◌, ℕ, Some, slice_get}
-use Rattle.port_ends.specs.Rings.{EachPosts}
+use Rattle.port_ends.specs.steps.Sending.{EachGetsRoom}
 use Rattle.port_ends.proofs.outlets.reserve_all.Given as goal
 
 abbrev pub invariant-loop-i : goal.invariant-loop-i
 invariant-loop-i g l = record {
-  posts : EachPosts l.initial.outlets.items l.outlets.items;
+  same : EachGetsRoom l.initial.outlets.items l.outlets.items;
   room : (k : ℕ) (o : _) → k < l.i → slice_get l.outlets.items k ≡ Some o → l.more ≤ o.room;
 }

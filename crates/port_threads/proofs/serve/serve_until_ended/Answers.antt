@@ -1,5 +1,5 @@
 use Rattle.std.proofs.Common.{◌++◌, []}
-use Rattle.port_ends.proofs.Handling.{serves_none, serves_more, serves_posts}
+use Rattle.port_ends.proofs.Handling.{serves_none, serves_more, serves_offers}
 use Rattle.port_threads.proofs.serve.serve_until_ended.Goals as goal
 use Rattle.port_threads.proofs.serve.serve_until_ended.Goals.{in-None, in-Some+in-Ok-eq0+then-all}
 
@@ -16,11 +16,11 @@ loop-preserved-in-Ok g c =
 
 pub loop-preserved : goal.loop-preserved
 loop-preserved g c =
-    let h = c.loop.invariant in let e = c.in-Err.ensures.err in (h.0 ++ [], serves_more g.S.Server.gives _ _ _ _ _ _ h.1 (serves_posts g.S.Server.gives _ _ _ _ e.0 e.1))
+    let h = c.loop.invariant in let e = c.in-Err.ensures.err in (h.0 ++ [], serves_more g.S.Server.gives _ _ _ _ _ _ h.1 (serves_offers g.S.Server.gives _ _ _ _ e.0 e.1))
 
 pub returns-then-all-2 : goal.returns-then-all-2
 returns-then-all-2 g c =
-    let h = c.loop.invariant in let e = c.in-Err.ensures.err in (h.0 ++ [], serves_more g.S.Server.gives _ _ _ _ _ _ h.1 (serves_posts g.S.Server.gives _ _ _ _ e.0 e.1))
+    let h = c.loop.invariant in let e = c.in-Err.ensures.err in (h.0 ++ [], serves_more g.S.Server.gives _ _ _ _ _ _ h.1 (serves_offers g.S.Server.gives _ _ _ _ e.0 e.1))
 
 pub returns : goal.returns
 returns g c =

@@ -6,7 +6,7 @@ use Rattle.std.proofs.lemmas.Bool.{true≢false}
 use Rattle.ados_name.specs.Name.{IsName}
 use Rattle.ados_tree.specs.Tree.Content.{Directory}
 use Rattle.ados_tree.specs.Stands.{Stands}
-use Rattle.ados_tree.specs.Kept.{Kept}
+use Rattle.ados_tree.specs.NewBlocks.{KeepsRest}
 use Rattle.ados_tree.specs.Change.{made}
 use Rattle.ados_volume.specs.Shown.{Shown}
 use Rattle.ados_packet.specs.declared.packet.Packet.TheVariants.{CreateDir}
@@ -16,7 +16,7 @@ use Rattle.ados_handler.specs.declared.holds.LockHold.{LockHold}
 use Rattle.ados_handler.specs.Objects.{lacks}
 use Rattle.ados_handler.specs.Handler.{HandlerState}
 use Rattle.ados_handler.specs.steps.Methods.{MethodMeans}
-use Rattle.ados_handler.proofs.Leaving.{leaves_boot}
+use Rattle.ados_handler.proofs.Leaving.{leaves_rest}
 use Rattle.ados_handler.proofs.FreeBlock.{can_make_new, new_key, none_free_lacks, not_lacking}
 use Rattle.ados_handler.proofs.MakingDirectory.{create_dir_means, create_dir_passes, create_dir_sound}
 use Rattle.ados_handler.proofs.Moving.{no_memory_gives, refused_gives}
@@ -87,7 +87,7 @@ returns c =
     let more = c.insert_reserved-number.ensures.held ∙ ap (λ (m : FinMap nat_cmp LockHold). insert m number (record { key = key; exclusive = true })) locks in
     let is : new ≡ with_lock number key true s = λ i. record { locks = more i; handles = (kept i).handles; died = (kept i).died } in
     let u = made c.args.now there.0 key there.1 (Directory []) t in
-    let kept_image = subst (λ (v : Shown). Kept v.image c.create.new.self.image) c.child.ensures.same c.create.ensures.kept in
+    let keeps = subst (λ (v : Shown). KeepsRest v.image c.create.new.self.image) c.child.ensures.same c.create.ensures.keeps in
     record {
       old_tree = t;
       new_tree = u;
@@ -95,7 +95,7 @@ returns c =
       stands = c.in-Ok-create.ensures.done.1 t stands;
       means = subst (λ (r : Results). MethodMeans t s (CreateDir c.args.lock c.args.path) c.args.now u new r) (sym c.counted.ensures)
           (create_dir_means t s new c.args.now there key number fresh free is c.args.lock c.args.path alive place none room);
-      leaves = leaves_boot t c.args.self.now (CreateDir c.args.lock c.args.path) _ c.counted.result (subst (λ (h : HandlerState). Kept h.image c.create.new.self.image) same kept_image) (ap (λ (r : Results). r.res2) c.counted.ensures) refl;
+      leaves = leaves_rest t c.args.self.now (CreateDir c.args.lock c.args.path) _ c.counted.result (subst (λ (h : HandlerState). KeepsRest h.image c.create.new.self.image) same keeps) (ap (λ (r : Results). r.res2) c.counted.ensures) refl;
       validated = c.create.ensures.validated ∙ ap (λ (v : Shown). v.was_validated) c.child.ensures.same ∙ ap (λ (h : HandlerState). h.was_validated) same;
     }
 

@@ -1,7 +1,7 @@
 use Rattle.std.proofs.Common.{◌≡◌, ◌≢◌, [], ◌∷◌, sym, ap, ◌∙◌, subst, refl}
 use Rattle.ados_tree.specs.Tree.{entries, root}
 use Rattle.ados_tree.specs.Stands.{Stands}
-use Rattle.ados_tree.specs.Kept.{Kept}
+use Rattle.ados_tree.specs.NewBlocks.{KeepsRest}
 use Rattle.ados_tree.specs.Change.{removed}
 use Rattle.ados_tree.proofs.Nodes.{some_in}
 use Rattle.ados_packet.specs.declared.dos_error.DosError.TheVariants.{DeleteProtected}
@@ -12,7 +12,7 @@ use Rattle.ados_handler.specs.Refusals.{first_refusal, is_empty, refuse}
 use Rattle.ados_handler.specs.Handler.{HandlerState, IsSoundHandler}
 use Rattle.ados_handler.specs.steps.Methods.{MethodMeans, answer_to}
 use Rattle.ados_handler.proofs.Reading.{from_not}
-use Rattle.ados_handler.proofs.Leaving.{leaves_all, leaves_boot}
+use Rattle.ados_handler.proofs.Leaving.{leaves_all, leaves_rest}
 use Rattle.ados_handler.proofs.Meant.{sound_after}
 use Rattle.ados_handler.proofs.Placed.{refused_means}
 use Rattle.ados_handler.proofs.Deleting.{can_remove, delete_means, delete_refusal, denial_told}
@@ -78,7 +78,7 @@ returns c =
       stands = c.remove.ensures.stands t opened;
       means = subst (λ (r : Results). MethodMeans t c.args.self.now.session (DeleteObject c.args.lock c.args.path) c.args.now (removed c.args.now key t) held r) (sym c.done.ensures)
           (delete_means t c.args.self.now.session c.args.lock c.args.path key alive walk other free empty c.args.now held allowed kept);
-      leaves = leaves_boot t c.args.self.now (DeleteObject c.args.lock c.args.path) _ c.done.result (subst (λ (h : HandlerState). Kept h.image c.remove.new.self.image) same c.remove.ensures.kept) (ap (λ (r : Results). r.res2) c.done.ensures) refl;
+      leaves = leaves_rest t c.args.self.now (DeleteObject c.args.lock c.args.path) _ c.done.result (subst (λ (h : HandlerState). KeepsRest h.image c.remove.new.self.image) same c.remove.ensures.keeps) (ap (λ (r : Results). r.res2) c.done.ensures) refl;
       validated = c.remove.ensures.validated ∙ ap (λ (h : HandlerState). h.was_validated) same;
     }
 

@@ -32,4 +32,4 @@ returns c =
     let room : lacks sound.tree 1 ≡ false = not_lacking _ (sym (c.has_room.ensures sound.tree (subst (λ (h : HandlerState). Stands h.image sound.tree) c.self.view_is sound.stands)) ∙ c.if-not-has_room.false) in
     let brings : BringsHandle c.in-Ok.key c.args.exclusive c.reserve.new.self.held c.opened.new.handles.held c.opened.result = search rules in
     made_opens _ _ c.args.dir c.args.name c.args.now c.in-Ok.key c.in-Ok.ensures.done.0 _ c.in-Ok.ensures.done.1 c.args.exclusive _ _ _ brings c.reserve.ensures.held c.args.self.now _ c.self.view_is
-    sound.tree sound.stands room c.create.ensures.kept _ c.create.ensures.validated
+    sound.tree sound.stands room c.create.ensures.keeps _ c.create.ensures.validated

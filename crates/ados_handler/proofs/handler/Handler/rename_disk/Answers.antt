@@ -1,7 +1,7 @@
 use Rattle.std.proofs.Common.{◌≡◌, ℕ, List, Some, sym, ap, ◌∙◌, subst, refl}
 use Rattle.ados_name.specs.Name.{IsName, first_fault}
 use Rattle.ados_tree.specs.Stands.{Stands}
-use Rattle.ados_tree.specs.Kept.{Kept}
+use Rattle.ados_tree.specs.NewBlocks.{KeepsRest}
 use Rattle.ados_tree.specs.Change.{disk_renamed}
 use Rattle.ados_packet.specs.declared.dos_error.DosError.TheVariants.{InvalidComponentName}
 use Rattle.ados_packet.specs.declared.packet.Packet.TheVariants.{RenameDisk}
@@ -10,7 +10,7 @@ use Rattle.ados_handler.specs.Session.{Session}
 use Rattle.ados_handler.specs.Handler.{HandlerState, IsSoundHandler}
 use Rattle.ados_handler.specs.steps.Methods.{MethodMeans}
 use Rattle.ados_handler.proofs.Telling.{rename_disk_keeps}
-use Rattle.ados_handler.proofs.Leaving.{leaves_boot}
+use Rattle.ados_handler.proofs.Leaving.{leaves_rest}
 use Rattle.ados_handler.proofs.Meant.{sound_after}
 use Rattle.ados_handler.proofs.Moving.{refused_gives}
 use Rattle.ados_handler.proofs.DiskNamed.{no_name_refused, rename_disk_means}
@@ -40,7 +40,7 @@ returns c =
       stands = subst (λ (x : List ℕ). Stands c.rename_disk.new.self.image (disk_renamed c.args.now x t)) text (c.rename_disk.ensures.stands t c.self.invariant.stands);
       means = subst (λ (r : Results). MethodMeans t c.args.self.now.session (RenameDisk c.args.name) c.args.now (disk_renamed c.args.now c.args.name t) held r) (sym c.done.ensures)
           (rename_disk_means t c.args.self.now.session held c.args.name c.args.now alive is kept);
-      leaves = leaves_boot t c.args.self.now (RenameDisk c.args.name) _ c.done.result (subst (λ (h : HandlerState). Kept h.image c.rename_disk.new.self.image) c.self.view_is c.rename_disk.ensures.kept) (ap (λ (r : Results). r.res2) c.done.ensures) refl;
+      leaves = leaves_rest t c.args.self.now (RenameDisk c.args.name) _ c.done.result (subst (λ (h : HandlerState). KeepsRest h.image c.rename_disk.new.self.image) c.self.view_is c.rename_disk.ensures.keeps) (ap (λ (r : Results). r.res2) c.done.ensures) refl;
       validated = c.rename_disk.ensures.validated ∙ ap (λ (h : HandlerState). h.was_validated) c.self.view_is;
     }
 

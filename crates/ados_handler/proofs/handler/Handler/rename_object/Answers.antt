@@ -3,7 +3,7 @@ use Rattle.ados_name.specs.Name.{IsName}
 use Rattle.ados_tree.specs.Tree.{Tree}
 use Rattle.ados_tree.specs.Stands.{Stands}
 use Rattle.ados_tree.specs.Keys.{HasDirectory, HasKey}
-use Rattle.ados_tree.specs.Kept.{Kept}
+use Rattle.ados_tree.specs.NewBlocks.{KeepsRest}
 use Rattle.ados_tree.specs.Change.{renamed}
 use Rattle.ados_packet.specs.Numbers.{error_number}
 use Rattle.ados_packet.specs.declared.packet.Packet.{Packet}
@@ -15,7 +15,7 @@ use Rattle.ados_handler.specs.Handler.{HandlerState, IsSoundHandler}
 use Rattle.ados_handler.specs.steps.Methods.{MethodMeans}
 use Rattle.ados_handler.specs.steps.Moves.{move_refusal}
 use Rattle.ados_handler.proofs.Unlisting.{rename_keeps}
-use Rattle.ados_handler.proofs.Leaving.{leaves_boot}
+use Rattle.ados_handler.proofs.Leaving.{leaves_rest}
 use Rattle.ados_handler.proofs.Meant.{sound_after}
 use Rattle.ados_handler.proofs.Moving.{can_rename, move_refused, refused_gives, rename_object_means, source_refused}
 use Rattle.ados_handler.proofs.handler.Handler.rename_object.Goals as goal
@@ -79,7 +79,7 @@ returns c =
       stands = c.rename.ensures.stands t (subst (λ (h : HandlerState). Stands h.image t) (sym same) stood);
       means = subst (λ (r : Results). MethodMeans t old.session packet c.args.now moved held r) (sym c.done.ensures)
           (rename_object_means t old.session c.args.from_lock c.args.from c.args.to_lock c.args.to alive c.in-Ok.found.0 c.in-Ok.found.1 found c.args.now held free kept);
-      leaves = leaves_boot t old packet _ c.done.result (subst (λ (h : HandlerState). Kept h.image c.rename.new.self.image) same c.rename.ensures.kept) (ap (λ (r : Results). r.res2) c.done.ensures) refl;
+      leaves = leaves_rest t old packet _ c.done.result (subst (λ (h : HandlerState). KeepsRest h.image c.rename.new.self.image) same c.rename.ensures.keeps) (ap (λ (r : Results). r.res2) c.done.ensures) refl;
       validated = c.rename.ensures.validated ∙ ap (λ (h : HandlerState). h.was_validated) same;
     }
 

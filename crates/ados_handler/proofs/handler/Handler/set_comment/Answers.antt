@@ -1,8 +1,8 @@
 use Rattle.ados_name.specs.Name.{IsComment}
-use Rattle.std.proofs.Common.{ℕ, List, refl, ◌≡◌, ◌≢◌, sym, ap, ◌∙◌, subst, refl}
+use Rattle.std.proofs.Common.{rules, ℕ, List, refl, ◌≡◌, ◌≢◌, sym, ap, ◌∙◌, subst, refl}
 use Rattle.ados_tree.specs.Tree.{root}
 use Rattle.ados_tree.specs.Stands.{Stands}
-use Rattle.ados_tree.specs.Kept.{Kept}
+use Rattle.ados_tree.specs.NewBlocks.{KeepsRest}
 use Rattle.ados_tree.specs.Change.{with_comment}
 use Rattle.ados_packet.specs.declared.packet.Packet.TheVariants.{SetComment}
 use Rattle.ados_packet.specs.declared.results.Results.{Results}
@@ -10,9 +10,23 @@ use Rattle.ados_handler.specs.Session.{Session}
 use Rattle.ados_handler.specs.Handler.{HandlerState, IsSoundHandler}
 use Rattle.ados_handler.specs.steps.Methods.{MethodMeans}
 use Rattle.ados_handler.proofs.Telling.{set_comment_keeps}
-use Rattle.ados_handler.proofs.Leaving.{leaves_boot}
+use Rattle.ados_handler.proofs.Leaving.{leaves_all, leaves_rest}
 use Rattle.ados_handler.proofs.Meant.{set_comment_means, sound_after}
 use Rattle.ados_handler.proofs.handler.Handler.set_comment.Goals as goal
+
+pub returns-in-Err-new : goal.returns-in-Err-new
+returns-in-Err-new c =
+    let t = c.self.invariant.tree in
+    let same = c.walked.ensures.same in
+    record {
+      old_tree = t;
+      new_tree = t;
+      stood = subst (λ (h : HandlerState). Stands h.image t) c.self.view_is c.self.invariant.stands;
+      stands = subst (λ (h : HandlerState). Stands h.image t) (c.self.view_is ∙ sym same) c.self.invariant.stands;
+      means = search rules;
+      leaves = leaves_all t c.args.self.now (SetComment c.args.lock c.args.path c.args.comment) _ c.refused-in-Err-new.result (ap (λ (h : HandlerState). h.image) same);
+      validated = ap (λ (h : HandlerState). h.was_validated) same;
+    }
 
 pub returns : goal.returns
 returns c =
@@ -33,7 +47,7 @@ returns c =
       stands = subst (λ (x : List ℕ). Stands c.set_comment.new.self.image (with_comment c.args.now c.in-Ok.key x t)) text (c.set_comment.ensures.stands t c.self-2.invariant.stands);
       means = subst (λ (r : Results). MethodMeans t c.args.self.now.session (SetComment c.args.lock c.args.path c.args.comment) c.args.now (with_comment c.args.now c.in-Ok.key c.args.comment t) held r) (sym c.done.ensures)
           (set_comment_means t c.args.self.now.session c.args.lock c.args.path c.args.comment c.args.now c.in-Ok.key alive walk held other kept is);
-      leaves = leaves_boot t c.args.self.now (SetComment c.args.lock c.args.path c.args.comment) _ c.done.result (subst (λ (h : HandlerState). Kept h.image c.set_comment.new.self.image) same c.set_comment.ensures.kept) (ap (λ (r : Results). r.res2) c.done.ensures) refl;
+      leaves = leaves_rest t c.args.self.now (SetComment c.args.lock c.args.path c.args.comment) _ c.done.result (subst (λ (h : HandlerState). KeepsRest h.image c.set_comment.new.self.image) same c.set_comment.ensures.keeps) (ap (λ (r : Results). r.res2) c.done.ensures) refl;
       validated = c.set_comment.ensures.validated ∙ ap (λ (h : HandlerState). h.was_validated) same;
     }
 

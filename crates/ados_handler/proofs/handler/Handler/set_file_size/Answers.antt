@@ -49,7 +49,7 @@ returns c =
     sized_gives _ c.args.self.now c.self.view_is t stands c.args.handle c.args.offset c.args.mode c.args.now c.in-Some.hold (sym c.hold_of.ensures.hold ∙ c.in-Some.is) c.if-self.false free
     c.file_size-held.result (c.file_size-held.ensures.size t shown) c.in-Some-number_within.size
     (ap (is_bad_target 2147483647) (sym target) ∙ c.in-Some-number_within.ensures.0) (c.in-Some-number_within.ensures.1 ∙ ap target_number target)
-    new c.done.result sized.0 sized.1 c.in-Ok.ensures.kept (c.in-Ok.ensures.same t stands) c.in-Ok.ensures.validated
+    new c.done.result sized.0 sized.1 c.in-Ok.ensures.keeps (c.in-Ok.ensures.same t stands) c.in-Ok.ensures.validated
     (λ i. record { locks = c.self.inside.locks.held; handles = c.keep_within.ensures i; died = c.self.inside.died }) c.done.ensures
 
 pub invariant_of-self-2 : goal.invariant_of-self-2

@@ -1,7 +1,7 @@
 use Rattle.std.proofs.Common.{◌≡◌, ◌≢◌, sym, ap, ◌∙◌, subst, refl}
 use Rattle.ados_tree.specs.Tree.{root}
 use Rattle.ados_tree.specs.Stands.{Stands}
-use Rattle.ados_tree.specs.Kept.{Kept}
+use Rattle.ados_tree.specs.NewBlocks.{KeepsRest}
 use Rattle.ados_tree.specs.Change.{with_protection}
 use Rattle.ados_packet.specs.declared.packet.Packet.TheVariants.{SetProtect}
 use Rattle.ados_packet.specs.declared.results.Results.{Results}
@@ -9,7 +9,7 @@ use Rattle.ados_handler.specs.Session.{Session}
 use Rattle.ados_handler.specs.Handler.{HandlerState, IsSoundHandler}
 use Rattle.ados_handler.specs.steps.Methods.{MethodMeans}
 use Rattle.ados_handler.proofs.Telling.{set_protect_keeps}
-use Rattle.ados_handler.proofs.Leaving.{leaves_boot}
+use Rattle.ados_handler.proofs.Leaving.{leaves_rest}
 use Rattle.ados_handler.proofs.Meant.{set_protect_means, sound_after}
 use Rattle.ados_handler.proofs.handler.Handler.set_protect.Goals as goal
 
@@ -30,7 +30,7 @@ returns c =
       stands = c.set_protect.ensures.stands t c.self-2.invariant.stands;
       means = subst (λ (r : Results). MethodMeans t c.args.self.now.session (SetProtect c.args.lock c.args.path c.args.bits) c.args.now (with_protection c.args.now c.in-Ok.key c.args.bits t) held r) (sym c.done.ensures)
           (set_protect_means t c.args.self.now.session held c.args.lock c.args.path c.args.now c.in-Ok.key alive walk other kept c.args.bits);
-      leaves = leaves_boot t c.args.self.now (SetProtect c.args.lock c.args.path c.args.bits) _ c.done.result (subst (λ (h : HandlerState). Kept h.image c.set_protect.new.self.image) same c.set_protect.ensures.kept) (ap (λ (r : Results). r.res2) c.done.ensures) refl;
+      leaves = leaves_rest t c.args.self.now (SetProtect c.args.lock c.args.path c.args.bits) _ c.done.result (subst (λ (h : HandlerState). KeepsRest h.image c.set_protect.new.self.image) same c.set_protect.ensures.keeps) (ap (λ (r : Results). r.res2) c.done.ensures) refl;
       validated = c.set_protect.ensures.validated ∙ ap (λ (h : HandlerState). h.was_validated) same;
     }
 

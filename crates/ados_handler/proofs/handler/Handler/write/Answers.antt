@@ -18,7 +18,7 @@ returns c =
     let writable = ap denies_write (sym (c.file_protection.ensures t shown)) ∙ sym c.denies_write.ensures ∙ c.if-denies_write.false in
     write_gives _ c.args.self.now c.self.view_is t stands c.args.handle c.in-Some.hold (sym c.hold_of.ensures.hold ∙ c.in-Some.is) c.args.now c.args.bytes c.bytes.result.now c.bytes.ensures
     wrote.new.volume.image wrote.new.volume.was_validated c.set_position.new.self.held c.in-Ok.end c.counted.result c.if-self.false writable
-    c.in-Ok.ensures.done.0 (c.in-Ok.ensures.done.2 t stands) wrote.ensures.boot (λ e. ap (λ (v : Shown). v.image) (wrote.ensures.none e)) wrote.ensures.validated
+    c.in-Ok.ensures.done.0 (c.in-Ok.ensures.done.2 t stands) wrote.ensures.keeps (λ e. ap (λ (v : Shown). v.image) (wrote.ensures.none e)) wrote.ensures.validated
     c.set_position.ensures.held c.counted.ensures
 
 pub invariant_of-self-2 : goal.invariant_of-self-2

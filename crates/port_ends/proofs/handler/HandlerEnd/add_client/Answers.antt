@@ -21,16 +21,18 @@ returns-clause-ok g c =
     let q = c.in_ok-queue.ensures.ok in
     let n = c.new.ensures in
     let items = c.push_reserved.ensures.items ∙ ap (λ l. l ++ c.in_ok-outlet.outlet ∷ []) c.reserve.ensures.items in (
-      (ap (λ v. v.put) n ∙ ap (λ v. v.put) q.0, ap (λ v. v.taken) n, ap (λ v. v.knows) n ∙ c.in_ok-mark.ensures.1),
+      (ap (λ v. v.put) n ∙ ap (λ v. v.put) q.0, ap (λ v. v.taken) n ∙ c.in_ok-outlet.ensures.3, ap (λ v. v.knows) n ∙ c.in_ok-mark.ensures.1),
       (
         c.in_ok-outlet.outlet,
-        added_view _ _ _ _ _ _ _ c.self.view_is q.1 items,
-        c.in_ok-outlet.ensures.1,
-        c.in_ok-outlet.ensures.2,
-        added_end _ _ _ _ _ _ _ c.new.result c.self.view_is q.1 items c.self.invariant.2
-            (ap (λ v. v.port) n ∙ ap (λ v. v.port) q.0)
-            (ap (λ v. v.mark) n ∙ c.in_ok-mark.ensures.0)
-            (ap (λ v. v.number) n ∙ ap (λ v. v.number) q.0)
-            (ap (λ v. v.ring) n ∙ sym c.in_ok-outlet.ensures.0),
+        (
+          added_view _ _ _ _ _ _ _ c.self.view_is q.1 items,
+          c.in_ok-outlet.ensures.1,
+          c.in_ok-outlet.ensures.2,
+          added_end _ _ _ _ _ _ _ c.new.result c.self.view_is q.1 items c.self.invariant.2
+              (ap (λ v. v.port) n ∙ ap (λ v. v.port) q.0)
+              (ap (λ v. v.mark) n ∙ c.in_ok-mark.ensures.0)
+              (ap (λ v. v.number) n ∙ ap (λ v. v.number) q.0)
+              (ap (λ v. v.ring) n ∙ sym c.in_ok-outlet.ensures.0),
+        ),
       ),
     )

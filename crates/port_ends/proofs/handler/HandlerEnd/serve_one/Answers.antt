@@ -1,9 +1,9 @@
 use Rattle.std.proofs.Common.{ap, sym, subst, ◌∙◌, ◌++◌, ◌∷◌, []}
-use Rattle.port_ends.specs.steps.Sending.{EachHasRoom, UsesOne}
+use Rattle.port_ends.specs.steps.Sending.{EachHasRoom, SameLooks, UsesOne}
 use Rattle.port_ends.specs.Ends.{OfClients}
 use Rattle.port_history.specs.History.{Serving, packets_of}
 use Rattle.port_ends.proofs.Handling.{packets_snoc, replies_step, serves_one}
-use Rattle.port_ends.proofs.Eachs.{sends_one}
+use Rattle.port_ends.proofs.Eachs.{sends_looks, sends_one}
 use Rattle.port_ends.proofs.Packets.{of_clients_snoc}
 use Rattle.port_ends.proofs.handler.HandlerEnd.serve_one.Goals as goal
 
@@ -18,6 +18,9 @@ returns-clause-served g c =
 
 pub returns-clause-room : goal.returns-clause-room
 returns-clause-room g c = subst (λ v. UsesOne v.outlets c.send_to.new.outlets.items) c.self.view_is (sends_one _ _ _ _ c.send_to.ensures)
+
+pub returns-clause-looks : goal.returns-clause-looks
+returns-clause-looks g c = subst (λ v. SameLooks v.outlets c.send_to.new.outlets.items) c.self.view_is (sends_looks _ _ _ _ c.send_to.ensures)
 
 pub invariant_of-self-2 : goal.invariant_of-self-2
 invariant_of-self-2 g c =

@@ -1,5 +1,5 @@
 use Rattle.std.proofs.Common.{◌∙◌, ◌++◌, [], arith, ap, sym, refl, inl, inr}
-use Rattle.port_ends.proofs.Handling.{serves_none, serves_more, serves_posts}
+use Rattle.port_ends.proofs.Handling.{serves_none, serves_more, serves_offers}
 use Rattle.port_ends.proofs.handler.HandlerEnd.serve_until_closed.Goals as goal
 
 pub loop-init : goal.loop-init
@@ -9,7 +9,7 @@ pub returns-in_err-serve_batch-clause-served : goal.returns-in_err-serve_batch-c
 returns-in_err-serve_batch-clause-served g c =
     let h = c.loop.invariant.served in
     let e = c.in_err-serve_batch.ensures.err in
-    (h.0 ++ [], serves_more g.S.Server.gives _ _ _ _ _ _ h.1 (serves_posts g.S.Server.gives _ _ _ _ e.0 e.1))
+    (h.0 ++ [], serves_more g.S.Server.gives _ _ _ _ _ _ h.1 (serves_offers g.S.Server.gives _ _ _ _ e.0 e.1))
 
 pub loop-preserved-then-branch-gt0 : goal.loop-preserved-then-branch-gt0
 loop-preserved-then-branch-gt0 g c =

@@ -1,0 +1,72 @@
+#!/bin/sh
+# Prints one table of this program beside ADFlib in process (built from Debian's source of `unadf`, which is fetched), `unadf`
+# where the machine has it, and `cat` of the image's file as the limit: full images that are listed, checked and read, files
+# that are made in ten directories and in the root, and one file of 819,200 bytes, in both kinds. The word is the size of the
+# full images in blocks, 1,760 if there is none. Each time is the best of 5 runs. It needs the machine's rustc and cc,
+# `apt-get`, and dpkg-source of Debian's dpkg-dev.
+. "$(dirname "$0")/setup.sh"
+runs=5
+blocks=${1:-1760}
+serve=$(program adf_serve)
+bench=$(program bench)
+tools full_image best_of
+build adf_serve
+build bench changes
+
+# ADFlib's library and the driver over it, in the room, from a list of packages of its own.
+build_peer() {
+    mkdir -p "$room/apt/lists/partial" "$room/adflib"
+    . /etc/os-release
+    echo "deb-src http://deb.debian.org/debian $VERSION_CODENAME main" > "$room/apt/sources"
+    set -- -o "Dir::Etc::sourcelist=$room/apt/sources" -o Dir::Etc::sourceparts=/dev/null -o "Dir::State::lists=$room/apt/lists"
+    apt-get "$@" update
+    (cd "$room/adflib" && apt-get "$@" source unadf && make -C unadf-*/Lib)
+    cc -O2 -std=c11 -w -I "$(echo "$room"/adflib/unadf-*/Lib)" -I "$(echo "$room"/adflib/unadf-*/Lib/Generic)" \
+        -o "$room/peer" "$here/adflib_peer.c" "$(echo "$room"/adflib/unadf-*/Lib/libadf.a)"
+}
+build_peer > "$room/log" 2>&1 || { cat "$room/log" >&2; exit 1; }
+
+# Microseconds, with the start of the command.
+best() { "$room/best_of" $runs "$@" 2> /dev/null; }
+
+# The least of each figure that a command tells on standard error in a line that begins with this word, in some runs.
+least() {
+    word=$1
+    shift
+    for run in $(seq $runs); do "$@" 2>&1 > /dev/null | grep "^$word "; done |
+        awk '{ for (i = 2; i <= NF; i++) if (NR == 1 || $i < best[i]) best[i] = $i }
+            END { for (i = 2; i <= NF; i++) printf "%d ", best[i] }'
+}
+
+row() { printf '%-4s %-34s %10s %10s %10s %10s\n' "$@"; }
+
+# The figure before the first, and what the second took behind the first.
+first() { echo "$1"; }
+second() { echo "$(($2 - $1))"; }
+
+echo "Microseconds, best of $runs; full images of $blocks blocks with the start of the program, changes in a volume's memory"
+echo "(this program) or image file (ADFlib) without it."
+echo
+row kind what adf_serve ADFlib unadf cat
+for kind in ofs ffs; do
+    file=$room/$kind.adf
+    "$room/full_image" $kind "$blocks" "$file" > "$room/written"
+    for told in "$("$bench" volume "$file" 2> /dev/null)" "$("$room/peer" read "$file" 2> /dev/null)"; do
+        [ "$told" = "$(cat "$room/written")" ] || { echo "$file: '$told' were read" >&2; exit 1; }
+    done
+    unadf=-
+    if command -v unadf > /dev/null; then unadf=$(best unadf -lr "$file"); fi
+    cat=$(best cat "$file")
+    row $kind list "$(best "$serve" list "$file")" "$(best "$room/peer" list "$file")" "$unadf" "$cat"
+    row $kind check "$(best "$serve" check "$file")" - - "$cat"
+    row $kind 'read of all files' "$(best "$bench" volume "$file")" "$(best "$room/peer" read "$file")" - "$cat"
+    for dirs in 10 0; do
+        where=$([ $dirs = 0 ] && echo 'in the root' || echo 'in ten directories')
+        row $kind "1,000 files made $where" "$(first $(least small "$bench" changes 1000 $dirs $kind))" \
+            "$(first $(least small "$room/peer" changes "$room/new" $kind 1000 $dirs))" - -
+    done
+    ours=$(least large "$bench" changes 20 2 $kind)
+    theirs=$(least large "$room/peer" changes "$room/new" $kind 20 2)
+    row $kind '819,200 bytes in one call' "$(first $ours)" "$(first $theirs)" - -
+    row $kind '819,200 bytes in calls of 512' "$(second $ours)" "$(second $theirs)" - -
+done

@@ -1,0 +1,47 @@
+-- Where a list of a volume stands.
+use Rattle.std.specs.Prelude.{◌≡◌, ℕ, suc, ◌+◌, ◌*◌, ◌≤◌, List, [], ◌∷◌, ◌++◌, length, flat_map, All, Some}
+use Rattle.ados_tree.specs.Change.{entries_after}
+use Rattle.ados_tree.specs.Keys.{HasDirectory}
+use Rattle.ados_tree.specs.Tree.{Tree, LeadsToRoot, name_of}
+use Rattle.adf_listing.specs.declared.listing.Level.{Level}
+use Rattle.adf_listing.specs.Listing.{Listed, below, listing}
+
+-- each level is of a directory of the tree that the image stands for
+abbrev pub AreDirectories : List ℕ → List Level → Type 0
+AreDirectories image levels = All (λ level. HasDirectory image level.dir) levels
+
+-- an entry with this path
+abbrev pub entry_at : List ℕ → ℕ → Listed
+entry_at path key = record { path = path; key = key }
+
+-- an entry with all that is below it, so many levels down
+abbrev pub with_below : Tree → ℕ → List ℕ → ℕ → List Listed
+with_below t levels before key = entry_at (before ++ name_of t key) key ∷ below t levels (before ++ name_of t key ++ 47 ∷ []) key
+
+-- a directory that stands open: what stands before its names begins the path, and these keys of it are left
+pub record IsOpen (t : Tree) (level : Level) (path : List ℕ) : Type 0 where
+  pub before : List ℕ
+  pub tail : List ℕ
+  pub begins : path ≡ before ++ tail
+  pub place : level.path ≡ length before
+  pub keys : List ℕ
+  pub behind : entries_after t level.dir level.last ≡ Some keys
+  pub rooted : LeadsToRoot t level.dir
+
+-- of the directories that stand open this is left: what the last one has left, with so many levels below it, and then what those before it have
+pub data IsLeft (t : Tree) : List Level → List ℕ → List Listed → ℕ → Type 0 where
+  none : {path : List ℕ} → IsLeft t [] path [] t.blocks
+  more : {levels lower : List Level} {level : Level} {path : List ℕ} {left later : List Listed} {depth : ℕ}
+      → levels ≡ lower ++ level ∷ [] → (o : IsOpen t level path) → IsLeft t lower o.before later (suc depth)
+      → left ≡ flat_map (with_below t depth o.before) o.keys ++ later → IsLeft t levels path left depth
+
+-- a list so far: these entries came, this is left of the directories that stand open, and no more of them stand open than came
+pub record IsSoFar (t : Tree) (levels : List Level) (path : List ℕ) (first left : List Listed) : Type 0 where
+  pub depth : ℕ
+  pub split : listing t ≡ first ++ left
+  pub is_left : IsLeft t levels path left depth
+  pub high : length levels ≤ length first + 1
+
+-- how much is left to be done
+abbrev pub work : List Level → List Listed → ℕ
+work levels left = 2 * length left + length levels

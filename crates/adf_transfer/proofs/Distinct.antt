@@ -1,0 +1,42 @@
+-- Lists in which no number stands twice.
+use Rattle.std.proofs.Common.{◌≡◌, ◌≢◌, ℕ, inl, inr, List, [], ◌∷◌, ◌++◌, reverse, Contains, sym, subst, arith}
+use Rattle.std.proofs.lemmas.List.{reverse-append}
+use Rattle.std.proofs.lemmas.List.Elements.{Contains-append_cases, Contains-get_or}
+use Rattle.std.proofs.lemmas.List.Kept.{AllPairs-cons}
+use Rattle.ados_chain.proofs.Lists.{Once, Once-tail, Once-head, Contains-cases, Contains-here, Contains-later, Contains-nil}
+
+pub Once-nil : Once []
+Once-nil i j d l m = absurd (omega arith)
+
+pub Once-one : (x : ℕ) → Once (x ∷ [])
+Once-one x i j d l m = absurd (omega arith)
+
+pub Once-append : (xs ys : List ℕ) → Once xs → Once ys → ((x : ℕ) → Contains xs x → ¬ Contains ys x) → Once (xs ++ ys)
+Once-append [] ys a b apart = b
+Once-append (x ∷ xs) ys a b apart =
+    let rest = Once-append xs ys (Once-tail x xs a) b (λ z m. apart z (Contains-later x xs z m)) in
+    AllPairs-cons (λ j k. j ≢ k) x (xs ++ ys)
+    (λ k d l same. elim (Contains-append_cases xs ys x (subst (Contains (xs ++ ys)) (sym same) (Contains-get_or (xs ++ ys) k d l))) [
+      | inl m ↦ Once-head x xs a m
+      | inr m ↦ apart x (Contains-here x xs) m
+    ])
+    rest
+
+pub Contains-one : (x y : ℕ) → Contains (x ∷ []) y → x ≡ y
+Contains-one x y m = elim (Contains-cases x [] y m) [ inl same ↦ same | inr none ↦ absurd (Contains-nil y none) ]
+
+pub Contains-reverse : (xs : List ℕ) (x : ℕ) → Contains (reverse xs) x → Contains xs x
+Contains-reverse [] x m = m
+Contains-reverse (y ∷ ys) x m =
+    let split : reverse (y ∷ ys) ≡ reverse ys ++ y ∷ [] = reverse-append (y ∷ []) ys in
+    elim (Contains-append_cases (reverse ys) (y ∷ []) x (subst (λ (zs : List ℕ). Contains zs x) split m)) [
+      | inl n ↦ Contains-later y ys x (Contains-reverse ys x n)
+      | inr n ↦ subst (Contains (y ∷ ys)) (Contains-one y x n) (Contains-here y ys)
+    ]
+
+pub Once-reverse : (xs : List ℕ) → Once xs → Once (reverse xs)
+Once-reverse [] h = h
+Once-reverse (x ∷ xs) h =
+    let split : reverse (x ∷ xs) ≡ reverse xs ++ x ∷ [] = reverse-append (x ∷ []) xs in
+    subst Once (sym split) (Once-append (reverse xs) (x ∷ []) (Once-reverse xs (Once-tail x xs h)) (Once-one x)
+    (λ z m n. Once-head x xs h (subst (Contains xs) (sym (Contains-one x z n)) (Contains-reverse xs z m))))

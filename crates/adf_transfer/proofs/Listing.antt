@@ -1,0 +1,74 @@
+-- How far a directory is listed.
+use Rattle.std.proofs.Common.{◌≡◌, ◌≢◌, ℕ, ◌<◌, ◌≤◌, inl, inr, List, [], ◌∷◌, ◌++◌, length, Contains, Some, refl, sym, ap, ◌∙◌, subst, arith, append_assoc, length-append, eq-eqb}
+use Rattle.std.proofs.lemmas.Option.{same_Some}
+use Rattle.std.proofs.lemmas.List.{append-nil}
+use Rattle.std.proofs.lemmas.List.Elements.{Contains-append_right}
+use Rattle.ados_chain.specs.Behind.{behind}
+use Rattle.ados_chain.specs.Look.{first_left}
+use Rattle.ados_chain.specs.declared.read.Next.TheVariants.{Entry}
+use Rattle.ados_chain.proofs.Lists.{Once, Once-before, Contains-cases, Contains-here, length-once}
+use Rattle.ados_chain.proofs.Order.{behind-found, first-entry}
+use Rattle.ados_tree.specs.Tree.{Tree, Proper, entries, parent_of}
+use Rattle.ados_tree.specs.Change.{entries_after}
+use Rattle.ados_tree.proofs.Nodes.{entry_node}
+use Rattle.change_entries.specs.Conditions.IsUnder.{itself}
+use Rattle.adf_transfer.proofs.Loops.{no_loop}
+
+-- these keys of a directory were listed, and those behind the last of them are left
+pub record IsListed (t : Tree) (dir last : ℕ) (keys : List ℕ) : Type 0 where
+  pub left : List ℕ
+  pub all : entries t dir ≡ keys ++ left
+  pub behind_last : entries_after t dir last ≡ Some left
+
+pub listing_starts : (t : Tree) (dir : ℕ) → IsListed t dir dir []
+listing_starts t dir = record { left = entries t dir; all = refl; behind_last = rw (eq-eqb dir dir refl) refl }
+
+-- a listing that has come to its end has all entries
+pub listing_ends : (t : Tree) (dir last : ℕ) (keys : List ℕ) → ((key : ℕ) → first_left (entries_after t dir last) ≢ Entry key) → IsListed t dir last keys → keys ≡ entries t dir
+listing_ends t dir last keys none l = go l.left l.all l.behind_last
+  where
+    go : (left : List ℕ) → entries t dir ≡ keys ++ left → entries_after t dir last ≡ Some left → keys ≡ entries t dir
+    go [] all behind_last = sym (all ∙ append-nil keys)
+    go (key ∷ rest) all behind_last = absurd (none key (ap first_left behind_last))
+
+module _ (t : Tree) (proper : Proper t) (dir : ℕ) where
+  -- an entry is not its own directory
+  own_entry : (key : ℕ) → Contains (entries t dir) key → dir ≢ key
+  own_entry key c same =
+      let n = entry_node t proper dir key c in
+      let up : parent_of t key ≡ Some dir = rw n.1 n.2 in
+      no_loop t proper key dir (proper.rooted key n.0 n.1) up (itself same)
+
+  -- no directory has more entries than the volume has blocks
+  pub entries_few : length (entries t dir) ≤ t.blocks
+  entries_few = length-once (entries t dir) t.blocks (proper.once dir) (λ x c. let n = entry_node t proper dir x c in (proper.inside x n.0 n.1).1)
+
+  module _ (last key : ℕ) (keys : List ℕ) (l : IsListed t dir last keys) (next : Entry key ≡ first_left (entries_after t dir last)) where
+    rest : List ℕ
+    rest = (first-entry (entries_after t dir last) key (sym next)).0
+
+    left_is : l.left ≡ key ∷ rest
+    unfolding rest
+    left_is = same_Some l.left (key ∷ rest) (sym l.behind_last ∙ (first-entry (entries_after t dir last) key (sym next)).1)
+
+    all_is : entries t dir ≡ keys ++ key ∷ rest
+    all_is = l.all ∙ ap (λ (xs : List ℕ). keys ++ xs) left_is
+
+    pub listed_entry : Contains (entries t dir) key
+    listed_entry = subst (λ (xs : List ℕ). Contains xs key) (sym all_is) (Contains-append_right keys (key ∷ rest) key (Contains-here key rest))
+
+    not_before : ¬ Contains (dir ∷ keys) key
+    not_before c = elim (Contains-cases dir keys key c) [
+      | inl same ↦ own_entry key listed_entry same
+      | inr m ↦ Once-before keys key rest (subst Once all_is (proper.once dir)) m
+    ]
+
+    pub listing_goes_on : IsListed t dir key (keys ++ key ∷ [])
+    listing_goes_on = record {
+      left = rest;
+      all = all_is ∙ sym (append_assoc keys (key ∷ []) rest);
+      behind_last = ap (λ (xs : List ℕ). behind key (dir ∷ xs)) all_is ∙ behind-found (dir ∷ keys) key rest not_before;
+    }
+
+    pub listing_small : length keys < t.blocks
+    listing_small = let few = entries_few in omega (arith, few, ap length all_is, length-append keys (key ∷ rest))

@@ -1,0 +1,18 @@
+-- Keys that are taken off a list, the last first, and put on a stack.
+use Rattle.std.proofs.Common.{◌≡◌, ℕ, List, [], ◌∷◌, ◌++◌, map, reverse, Contains, sym, ap, ◌∙◌, subst, append_assoc}
+use Rattle.std.proofs.lemmas.List.{reverse-append}
+use Rattle.std.proofs.lemmas.List.Elements.{Contains-append_left, Contains-append_right}
+use Rattle.ados_chain.proofs.Lists.{Contains-here}
+
+-- the last of a list is in it
+pub last_is_in : (all keys rest taken : List ℕ) (key : ℕ) → all ≡ keys ++ taken → keys ≡ rest ++ key ∷ [] → Contains all key
+last_is_in all keys rest taken key e f =
+    subst (λ (xs : List ℕ). Contains xs key) (sym e) (Contains-append_left keys taken key (subst (λ (xs : List ℕ). Contains xs key) (sym f) (Contains-append_right rest (key ∷ []) key (Contains-here key []))))
+
+pub taken_more : (all keys rest taken : List ℕ) (key : ℕ) → all ≡ keys ++ taken → keys ≡ rest ++ key ∷ [] → all ≡ rest ++ key ∷ taken
+taken_more all keys rest taken key e f = e ∙ ap (λ (xs : List ℕ). xs ++ taken) f ∙ append_assoc rest (key ∷ []) taken
+
+pub pushed_more : {X : Type 0} (f : ℕ → X) (new old first : List X) (key : ℕ) (taken : List ℕ) (x : X) → old ≡ first ++ reverse (map f taken) → new ≡ old ++ x ∷ [] → x ≡ f key → new ≡ first ++ reverse (map f (key ∷ taken))
+pushed_more {X} f new old first key taken x e g is =
+    let turned : reverse (f key ∷ map f taken) ≡ reverse (map f taken) ++ f key ∷ [] = reverse-append (f key ∷ []) (map f taken) in
+    g ∙ ap (λ (y : X). old ++ y ∷ []) is ∙ ap (λ (xs : List X). xs ++ f key ∷ []) e ∙ append_assoc first (reverse (map f taken)) (f key ∷ []) ∙ ap (λ (xs : List X). first ++ xs) (sym turned)

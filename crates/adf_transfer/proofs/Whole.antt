@@ -1,0 +1,18 @@
+-- A read into a buffer of a file's size gives all of it.
+use Rattle.std.proofs.Common.{◌≡◌, ℕ, ◌-◌, List, [], ◌++◌, length, take, drop, min, ap, ap₂, ◌∙◌, arith}
+use Rattle.std.proofs.Math.ListN.{drop_of_length-le}
+use Rattle.std.proofs.Math.Seq.{take-length}
+use Rattle.std.proofs.lemmas.List.{append-nil}
+
+pub read_whole : (file old new : List ℕ) (n size : ℕ) → length old ≡ size → size ≡ length file → n ≡ min (length old) (length file - 0) → new ≡ take n (drop 0 file) ++ drop n old → new ≡ file
+read_whole file old new n size room whole count is =
+    let all : n ≡ length file = omega (arith, room, whole, count) in
+    let none : drop n old ≡ [] = drop_of_length-le old (omega (arith, room, whole, all)) in
+    is ∙ ap₂ (λ (xs ys : List ℕ). xs ++ ys) (ap (λ (m : ℕ). take m file) all ∙ take-length file) none ∙ append-nil file
+
+-- and that is what the buffer holds
+pub written_back : (file new old : List ℕ) (len : ℕ) → new ≡ file → length old ≡ length file → len ≡ length file → take len (new ++ drop (length new) old) ≡ file
+written_back file new old len is room count =
+    let none : drop (length file) old ≡ [] = drop_of_length-le old (omega (arith, room)) in
+    ap (λ (xs : List ℕ). take len (xs ++ drop (length xs) old)) is
+    ∙ ap (λ (xs : List ℕ). take len (file ++ xs)) none ∙ ap (λ (xs : List ℕ). take len xs) (append-nil file) ∙ ap (λ (m : ℕ). take m file) count ∙ take-length file

@@ -1,0 +1,49 @@
+use Rattle.std.proofs.Common.{◌≡◌, false, [], is_some, rules, sym, ap, ◌∙◌, subst, arith, le-ltb, lt-ltb}
+use Rattle.ados_name.specs.Name.{IsName}
+use Rattle.ados_packet.specs.declared.dos_error.DosError.TheVariants.{DiskFull, ObjectExists}
+use Rattle.ados_tree.specs.Tree.{free as free_of}
+use Rattle.ados_tree.specs.Stands.{Stands}
+use Rattle.ados_tree.specs.Walk.{child_of}
+use Rattle.ados_volume.specs.Shown.{Shown}
+use Rattle.ados_handler.specs.Objects.{lacks}
+use Rattle.ados_handler.proofs.FreeBlock.{none_free_lacks}
+use Rattle.ados_handler.proofs.Holding.{true_false}
+use Rattle.ados_handler.proofs.Making.{none_there}
+use Rattle.ados_handler.proofs.MakingFile.{can_make_in}
+use Rattle.ados_handler.proofs.Placed.{passed}
+use Rattle.adf_transfer.proofs.Rows.{stops}
+use Rattle.adf_transfer.proofs.entries.make_directory.Goals as goal
+
+pub create-requires : goal.create-requires
+create-requires c =
+    let valid : IsName c.args.name = search rules in
+    can_make_in c.args.volume.now.image c.args.dir c.args.name c.requires valid
+    (λ t s. none_there (child_of t c.args.dir c.args.name) (ap is_some (sym (c.child.ensures.child t s)) ∙ sym c.is_some.ensures ∙ c.if-is_some.false))
+    c.child.new.self.image (ap (λ (v : Shown). v.image) c.child.ensures.same)
+
+pub unreachable-requires : goal.unreachable-requires
+unreachable-requires c =
+    let t = c.image.ensures.stands.0 in
+    let s = subst (λ (v : Shown). Stands v.image t) (sym c.child.ensures.same) c.image.ensures.stands.1 in
+    let free = c.free_blocks-free.ensures t s in
+    let room : lacks t 1 ≡ false = le-ltb (free_of t) 1 (omega (arith, free, c.if-free-lt1.false)) in
+    true_false (sym (none_free_lacks c.child.new.self.image t s c.in_default.ensures.done.0) ∙ room)
+
+pub returns-then-free-lt1 : goal.returns-then-free-lt1
+returns-then-free-lt1 c = (
+  c.child.ensures.same,
+  λ t s.
+      let there = subst (λ (v : Shown). Stands v.image t) (sym c.child.ensures.same) s in
+      let absent = ap is_some (sym (c.child.ensures.child t s)) ∙ sym c.is_some.ensures ∙ c.if-is_some.false in
+      let free = c.free_blocks-free.ensures t there in
+      passed ObjectExists (is_some (child_of t c.args.dir c.args.name)) _ absent ∙ stops DiskFull (lacks t 1) [] (lt-ltb (free_of t) 1 (omega (arith, free, c.if-free-lt1.true))),
+)
+
+pub returns : goal.returns
+returns c = λ t s.
+    let there = subst (λ (v : Shown). Stands v.image t) (sym c.child.ensures.same) s in
+    let absent = ap is_some (sym (c.child.ensures.child t s)) ∙ sym c.is_some.ensures ∙ c.if-is_some.false in
+    let free = c.free_blocks-free.ensures t there in (
+      passed ObjectExists (is_some (child_of t c.args.dir c.args.name)) _ absent ∙ passed DiskFull (lacks t 1) [] (le-ltb (free_of t) 1 (omega (arith, free, c.if-free-lt1.false))),
+      c.in-Ok.ensures.done.1 t there,
+    )

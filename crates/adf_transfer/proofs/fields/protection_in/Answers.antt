@@ -1,0 +1,10 @@
+use Rattle.std.proofs.Common.{sym, ap, ◌∙◌}
+use Rattle.ados_packet.specs.declared.info.FileInfo.{FileInfo}
+use Rattle.ados_tree.proofs.Nodes.{some_in}
+use Rattle.ados_handler.specs.Objects.{protection_in}
+use Rattle.adf_transfer.proofs.fields.protection_in.Goals as goal
+
+pub returns : goal.returns
+returns c = λ t s.
+    let n = some_in (t.nodes c.args.key) (c.requires t s) in
+    ap (λ (info : FileInfo). info.protection.0) (c.examine.ensures t n.0 s n.1) ∙ sym (ap protection_in n.1)

@@ -1,0 +1,25 @@
+-- Where a path leads from the root, and where its walk stops.
+use Rattle.std.specs.Prelude.{◌≡◌, ◌++◌, ◌∷◌, List, ℕ, Result, Ok, Err}
+use Rattle.ados_name.specs.Path.{Step, steps}
+use Rattle.ados_tree.specs.Tree.{Tree, root}
+use Rattle.ados_tree.specs.Walk.{missing_before, step_from, walk_steps}
+use Rattle.ados_tree.specs.declared.path_fault.WalkFault.{WalkFault}
+use Rattle.ados_handler.specs.Objects.{walk_error}
+use Rattle.adf_transfer.specs.declared.paths.Stopped.{Stopped}
+
+-- the first steps of the path lead from the root to this object, the next one fails there, and so does the whole walk, with this error
+pub record StopsAt (t : Tree) (path : List ℕ) (last : WalkFault) (stopped : Stopped) : Type 0 where
+  pub done : List Step
+  pub step : Step
+  pub rest : List Step
+  pub spelled : steps path ≡ done ++ step ∷ rest
+  pub reached : walk_steps t (root t) done last ≡ Ok stopped.at
+  pub fault : WalkFault
+  pub fails : step_from t stopped.at step (missing_before rest last) ≡ Err fault
+  pub walked : walk_steps t (root t) (steps path) last ≡ Err fault
+  pub error : stopped.error ≡ walk_error fault
+
+-- where the path leads, or where it stops; a missing child at the last step is the fault `last`
+abbrev pub Leads : Tree → List ℕ → WalkFault → Result ℕ Stopped → Type 0
+Leads t path last (Ok key) = walk_steps t (root t) (steps path) last ≡ Ok key
+Leads t path last (Err stopped) = StopsAt t path last stopped

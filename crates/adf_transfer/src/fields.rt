@@ -1,0 +1,59 @@
+//! Changes of what is told of an object, and of the volume's name.
+
+ghost use Rattle.std.specs.Prelude.{◌≡◌};
+ghost use Rattle.ados_tree.specs.Change.{disk_renamed, with_comment};
+ghost use Rattle.ados_tree.specs.Keys.{HasKey};
+ghost use Rattle.ados_tree.specs.Stands.{Stands};
+ghost use Rattle.ados_tree.specs.Tree.{Tree};
+ghost use Rattle.ados_handler.specs.Objects.{protection_of};
+ghost use Rattle.adf_transfer.specs.Changes.{Changes, protected};
+ghost use Rattle.adf_transfer.specs.Refusals.{root_refusal};
+
+use ados_name::{Comment, Date3, Name, Protect};
+use ados_packet::DosError;
+use ados_volume::Volume;
+
+/// Sets the low eight protection bits of an entry; the others stay. The disk date becomes the moment.
+///
+/// Error: 212 of the root.
+pub fn protect(volume: &mut Volume, key: u32, bits: Protect, moment: Date3) -> Result<(), DosError>
+    requires { HasKey volume.old.image key }
+    ensures { Changes (root_refusal key) (λ _ t. protected moment key bits.0 t) volume.old volume.new result }
+{
+    if key == volume.root() {
+        return Err(DosError::ObjectWrongType);
+    }
+    let old = protection_in(volume, key);
+    let new = 256 * (old.0 / 256) + bits.0 % 256;
+    volume.set_protect(key, Protect(new), moment);
+    Ok(())
+}
+
+/// The protection bits of an object.
+pub(crate) fn protection_in(volume: &Volume, key: u32) -> Protect
+    requires { HasKey volume.now.image key }
+    ensures { (t : Tree) → Stands volume.now.image t → result.0 ≡ protection_of t key }
+{
+    volume.examine(key).protection
+}
+
+/// Sets the comment of an entry. The disk date becomes the moment.
+///
+/// Error: 212 of the root.
+pub fn comment(volume: &mut Volume, key: u32, text: &Comment, moment: Date3) -> Result<(), DosError>
+    requires { HasKey volume.old.image key }
+    ensures { Changes (root_refusal key) (λ _ t. with_comment moment key text.now t) volume.old volume.new result }
+{
+    if key == volume.root() {
+        return Err(DosError::ObjectWrongType);
+    }
+    volume.set_comment(key, text, moment);
+    Ok(())
+}
+
+/// Gives the volume another name. The disk date becomes the moment.
+pub fn relabel(volume: &mut Volume, name: Name, moment: Date3)
+    ensures { (t : Tree) → Stands volume.old.image t → Stands volume.new.image (disk_renamed moment name t) }
+{
+    volume.rename_disk(name, moment);
+}

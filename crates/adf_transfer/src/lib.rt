@@ -1,0 +1,18 @@
+//! The work on a volume that moves files, over values: going through it, paths of any length, and changes that are
+//! made whole or not at all.
+#![tactic(auto)]
+
+mod below;
+mod contents;
+mod directory;
+mod entries;
+mod fields;
+mod paths;
+mod room;
+
+pub use below::{Below, entries_below};
+pub use contents::read_file;
+pub use entries::{delete, make_directory, move_entry};
+pub use fields::{comment, protect, relabel};
+pub use paths::{Stopped, locate, place};
+pub use room::free_blocks;

@@ -1,0 +1,43 @@
+-- A text that tells of the close tells of the server's death, where the end knows of the one only by the other.
+use Rattle.std.proofs.Common.{◌≡◌, ℕ, ◌+◌, inl, inr, ⊎_elim, Bool, true, false, List, [], ◌++◌, length}
+use Rattle.std.specs.Prelude.{IsTrue}
+use Rattle.std.specs.Bool.{MatchBool}
+use Rattle.ados_packet.specs.declared.packet.Packet.{Packet}
+use Rattle.ados_packet.specs.declared.answer.Answer.{Answer}
+use Rattle.ados_port.specs.Lawful.{numbered}
+use Rattle.ados_port.specs.Reply.{Reply}
+use Rattle.adf_script.specs.declared.ending.ClientEnding.{ClientEnding}
+use Rattle.adf_script.specs.declared.ending.ClientEnding.TheVariants.{Done, Script, Tries}
+use Rattle.adf_script.specs.Lines.{kept_lines, is_too_long}
+use Rattle.adf_script.specs.Values.{answer_values}
+use Rattle.adf_script.specs.Text.{reply_lines, closed_line, fault_line}
+use Rattle.adf_script.specs.Packets.{ArePackets, NextPuts, NoneIsLeft}
+use Rattle.adf_script.specs.Spoken.{SpokenEnd, Spoken}
+
+end_closed : (client : ℕ) (lines : List (ℕ × List ℕ)) (answers : List Answer) (puts : ℕ) (knows died : Bool) (text : List ℕ) (ending : ClientEnding) → (knows ≡ true → died ≡ true)
+    → SpokenEnd client lines answers puts knows text ending → SpokenEnd client lines answers puts died text ending
+end_closed client lines answers puts knows died text Done dies said = (
+  said.0,
+  ⊎_elim
+      (λ (e : NoneIsLeft lines puts × (text ≡ [])). inl e)
+      (λ (e : (packet : Packet) × NextPuts lines (answer_values answers) puts packet × IsTrue knows × (text ≡ closed_line client (puts + 1))). inr (e.0, e.1, dies e.2, e.3))
+      said.1,
+)
+end_closed client lines answers puts knows died text Script dies said = said
+end_closed client lines answers puts knows died text Tries dies said = said
+
+module _ (client : ℕ) (script : List ℕ) (puts : List Packet) (taken : List (Reply Answer)) (text : List ℕ) (ending : ClientEnding) where
+  abbrev TooLong : Type 0
+  TooLong = (puts ≡ []) × (taken ≡ []) × (text ≡ fault_line client 0) × (ending ≡ Script)
+
+  abbrev Runs : Bool → Type 0
+  Runs knows = (answers : List Answer) × (taken ≡ numbered 1 answers) × ArePackets (kept_lines script) answers puts
+      × (last : List ℕ) × SpokenEnd client (kept_lines script) answers (length puts) knows last ending × (text ≡ reply_lines client 1 answers ++ last)
+
+  closed_of : (long knows died : Bool) → (knows ≡ true → died ≡ true) → MatchBool long TooLong (Runs knows) → MatchBool long TooLong (Runs died)
+  closed_of true knows died dies said = said
+  closed_of false knows died dies said =
+      (said.0, said.1, said.2, said.3, end_closed client (kept_lines script) said.0 (length puts) knows died said.3 ending dies said.4, said.5)
+
+  pub spoken_closed : (knows died : Bool) → (knows ≡ true → died ≡ true) → Spoken client script puts taken knows text ending → Spoken client script puts taken died text ending
+  spoken_closed = closed_of (is_too_long script)

@@ -1,0 +1,3 @@
+-- Two small images, written out.
+pub mod Written
+pub mod Small

@@ -1,0 +1,32 @@
+-- What contracts see of a client's end and of the handler's, by what they see of its parts.
+use Rattle.std.specs.Prelude.{◌||◌, Bool, List}
+use Rattle.port_ends.specs.Rings.{OutView}
+use Rattle.port_ends.specs.Ends.{ClientView, HandlerView}
+use Rattle.port_ends.specs.steps.ClosingMark.{CloseView}
+use Rattle.port_ends.specs.steps.QueueEnds.{PutView, TakeView}
+use Rattle.port_ends.specs.steps.Sending.{InView}
+use Rattle.port_ends.specs.steps.Desks.{DeskView}
+
+-- a client's end has its ends of the queue, of a ring and of the mark, and notes whether it took a reply that closes
+abbrev pub client_view : {Q M A : Type 0} → PutView Q → InView (M × A) → CloseView → Bool → ClientView Q M A
+client_view queue inlet mark shut = record {
+  port = queue.port;
+  mark = mark.mark;
+  ring = inlet.ring;
+  number = queue.number;
+  put = queue.put;
+  taken = inlet.taken;
+  knows = shut || mark.knows;
+}
+
+-- the handler's end has its end of the queue, the server with its history and the mark, and the outlets of all clients
+abbrev pub handler_view : {S Q M A : Type 0} → TakeView Q → DeskView S Q M A → List (OutView (M × A)) → HandlerView S Q M A
+handler_view queue desk outlets = record {
+  port = queue.port;
+  mark = desk.mark;
+  opening = desk.opening;
+  served = desk.served;
+  server = desk.server;
+  outlets = outlets;
+  knows = desk.knows;
+}
