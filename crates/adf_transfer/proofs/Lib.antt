@@ -4,7 +4,7 @@ pub mod Listing
 pub mod Distinct
 pub mod Waiting
 pub mod Going
-pub mod Steps
+pub mod Walks
 pub mod Taking
 pub mod Whole
 pub mod LastName

@@ -4,7 +4,7 @@ use Rattle.ados_packet.specs.declared.dos_error.DosError.{DosError}
 use Rattle.ados_tree.specs.Tree.{root}
 use Rattle.ados_tree.specs.Walk.{walk_steps}
 use Rattle.ados_tree.specs.declared.path_fault.WalkFault.TheVariants.{DirectoryNotFound}
-use Rattle.adf_transfer.proofs.Steps.{no_place}
+use Rattle.adf_transfer.proofs.Walks.{no_place}
 use Rattle.adf_transfer.proofs.paths.place.Goals as goal
 
 pub returns-in-Err-clause-place : goal.returns-in-Err-clause-place

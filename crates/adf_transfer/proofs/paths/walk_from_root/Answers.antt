@@ -6,7 +6,7 @@ use Rattle.ados_tree.specs.Keys.{HasKey}
 use Rattle.ados_tree.specs.Walk.{missing_before}
 use Rattle.ados_volume.specs.Shown.{Shown}
 use Rattle.ados_volume.specs.steps.PathStep.{found_or}
-use Rattle.adf_transfer.proofs.Steps.{HasCome, comes_on}
+use Rattle.adf_transfer.proofs.Walks.{HasCome, comes_on}
 use Rattle.adf_transfer.proofs.paths.walk_from_root.Goals as goal
 
 pub loop-step-preserved : goal.loop-step-preserved

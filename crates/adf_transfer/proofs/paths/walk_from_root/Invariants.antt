@@ -3,7 +3,7 @@ use Rattle.ados_name.specs.Path.{steps}
 use Rattle.ados_tree.specs.Tree.{Tree}
 use Rattle.ados_tree.specs.Stands.{Stands}
 use Rattle.ados_tree.specs.Keys.{HasKey}
-use Rattle.adf_transfer.proofs.Steps.{HasCome}
+use Rattle.adf_transfer.proofs.Walks.{HasCome}
 use Rattle.adf_transfer.proofs.paths.walk_from_root.Given as goal
 
 abbrev pub invariant-loop-step : goal.invariant-loop-step
