@@ -1,5 +1,12 @@
 //! The commands on image files.
-ghost use Rattle.adf_block.specs.Image.{IsSize};
+ghost use Rattle.std.specs.Prelude.{◌≡◌, ◌∷◌, [], MatchResult, IfErr, OnOk, OnErr, IfOk};
+ghost use Rattle.std.specs.Io.KnownBytes.{Appends};
+ghost use Rattle.ados_tree.specs.Accepted.{Accepts};
+ghost use Rattle.ados_tree.specs.Blank.{IsBlank};
+ghost use Rattle.adf_files.specs.Load.{ReadsAll};
+ghost use Rattle.adf_listing.specs.Fronts.{WritesFront};
+ghost use Rattle.adf_serve.specs.Commands.{IsBlankFault, IsNoImage, IsNoRefusal, IsRefusedFor, DoesJob, TellsJob, TellsOf};
+ghost use Rattle.adf_serve.specs.Commands.{BeginsListText, IsCheckText, IsInfoText, IsListText, check_line, disk_info_steps};
 
 use crate::fault::CommandFault;
 use crate::refusal::Refusal;
@@ -12,7 +19,7 @@ use adf_words::ImageJob;
 use ados_name::{Date3, Name};
 use ados_packet::Packet;
 use ados_port::{Outcome, Step};
-use ados_run::{RunFault, run_volume};
+use ados_run::run_volume;
 use ados_volume::{Volume, blank, check};
 use std::alloc::{AllocError, Global};
 use std::fs;
@@ -31,12 +38,17 @@ pub(crate) fn run_job<'a, R, W>(
 where
     R: Files + Threads + Wait + Copy + Send + Drop + 'static,
     W: Write,
+    ensures { TellsJob job.entry (W.contents writer.old) (W.contents writer.new) result }
 {
-    let done = do_job(rt, alloc, job, writer);
-    if let Err(CommandFault::Refused(refusal)) = &done {
-        refusal.print(alloc, writer)?;
-    }
-    done
+    let fault = match do_job(rt, alloc, job, writer) {
+        Ok(()) => return Ok(()),
+        Err(fault) => fault,
+    };
+    let Some(refusal) = fault.refusal() else {
+        return Err(fault);
+    };
+    refusal.print(alloc, writer)?;
+    Err(fault)
 }
 
 /// Does a job on image files, and tells nothing of an image that is refused.
@@ -49,6 +61,7 @@ fn do_job<'a, R, W>(
 where
     R: Files + Threads + Wait + Copy + Send + Drop + 'static,
     W: Write,
+    ensures { DoesJob job.entry (W.contents writer.old) (W.contents writer.new) result }
 {
     match job {
         ImageJob::Blank {
@@ -58,44 +71,33 @@ where
             name,
             file,
         } => {
-            let Ok(label) = Name::new(name.as_bytes()) else {
-                return Err(CommandFault::Name(name));
-            };
-            if !size_ok(blocks) {
-                return Err(CommandFault::Blocks(blocks));
-            }
-            write_blank(rt, alloc, format, blocks, label, moment, file)
+            let volume = blank_volume(alloc, format, blocks, name, moment)?;
+            write_image(rt, volume.image(), file)
         }
-        ImageJob::Info { file } => {
-            let image = read_image(rt, alloc, file)?;
-            tell_info(alloc, image, writer)
-        }
-        ImageJob::Check { file } => {
-            let volume = open_volume(rt, alloc, file)?;
-            tell(writer, accepted(&volume).as_bytes())
-        }
-        ImageJob::List { file } => {
-            let volume = open_volume(rt, alloc, file)?;
-            Ok(write_list(alloc, &volume, writer)?)
-        }
+        ImageJob::Info { file } => tell_info(alloc, read_image(rt, alloc, file)?, writer),
+        ImageJob::Check { file } => tell_check(alloc, read_image(rt, alloc, file)?, writer),
+        ImageJob::List { file } => tell_list(alloc, read_image(rt, alloc, file)?, writer),
         ImageJob::Serve(job) => serve(rt, alloc, job, writer),
     }
 }
 
-/// Writes a blank image. A file that is there already stays as it is where there is no memory for the image.
-fn write_blank<'a, R: Files>(
-    rt: &R,
+/// A blank volume, whose image is what `blank` writes to its file.
+fn blank_volume<'a>(
     alloc: Global,
     format: Format,
     blocks: u32,
-    name: Name,
+    name: &'a str,
     moment: Date3,
-    file: &'a str,
-) -> Result<(), CommandFault<'a>>
-    requires { IsSize blocks }
+) -> Result<Volume, CommandFault<'a>>
+    ensures { MatchResult result (λ volume. IsBlank format blocks name.now moment volume.image) (IsBlankFault blocks name.now) }
 {
-    let volume = blank(alloc, format, blocks, name, moment)?;
-    write_image(rt, volume.image(), file)
+    let Ok(label) = Name::new(name.as_bytes()) else {
+        return Err(CommandFault::Name(name));
+    };
+    if !size_ok(blocks) {
+        return Err(CommandFault::Blocks(blocks));
+    }
+    Ok(blank(alloc, format, blocks, label, moment)?)
 }
 
 /// Writes an image whole. A file that is there already stays as it is where it cannot be opened to be written.
@@ -103,7 +105,9 @@ pub(crate) fn write_image<'a, R: Files>(
     rt: &R,
     image: &Image,
     file: &'a str,
-) -> Result<(), CommandFault<'a>> {
+) -> Result<(), CommandFault<'a>>
+    ensures { IfErr result IsNoRefusal }
+{
     let Ok(mut writer) = fs::create(rt, file) else {
         return Err(CommandFault::Write(file));
     };
@@ -118,7 +122,9 @@ fn read_image<'a, R: Files>(
     rt: &R,
     alloc: Global,
     file: &'a str,
-) -> Result<Image, CommandFault<'a>> {
+) -> Result<Image, CommandFault<'a>>
+    ensures { IfErr result IsNoImage }
+{
     let Ok(mut reader) = fs::open(rt, file) else {
         return Err(CommandFault::Read(file));
     };
@@ -140,9 +146,43 @@ pub(crate) fn open_volume<'a, R: Files>(
     file: &'a str,
 ) -> Result<Volume, CommandFault<'a>> {
     let image = read_image(rt, alloc, file)?;
+    accept(alloc, image)
+}
+
+/// The volume of an image, if it is accepted.
+fn accept<'a>(alloc: Global, image: Image) -> Result<Volume, CommandFault<'a>>
+    ensures { MatchResult result (λ volume. Accepts image volume.was_validated volume.image) (IsRefusedFor image) }
+{
     match check(alloc, image) {
         Ok(volume) => Ok(volume),
         Err(rejected) => Err(CommandFault::from(rejected.fault)),
+    }
+}
+
+/// Tells whether an image is accepted.
+fn tell_check<'a, W: Write>(
+    alloc: Global,
+    image: Image,
+    writer: &mut W,
+) -> Result<(), CommandFault<'a>>
+    ensures { TellsOf IsCheckText IsCheckText image (W.contents writer.old) (W.contents writer.new) result }
+{
+    let volume = accept(alloc, image)?;
+    tell(writer, accepted(&volume).as_bytes())
+}
+
+/// Tells the directories and files of an image.
+fn tell_list<'a, W: Write>(
+    alloc: Global,
+    image: Image,
+    writer: &mut W,
+) -> Result<(), CommandFault<'a>>
+    ensures { TellsOf IsListText BeginsListText image (W.contents writer.old) (W.contents writer.new) result }
+{
+    let volume = accept(alloc, image)?;
+    match write_list(alloc, &volume, writer) {
+        Ok(()) => Ok(()),
+        Err(fault) => Err(CommandFault::from(fault)),
     }
 }
 
@@ -151,22 +191,26 @@ fn tell_info<'a, W: Write>(
     alloc: Global,
     image: Image,
     writer: &mut W,
-) -> Result<(), CommandFault<'a>> {
-    match run_volume(alloc, image, 1, disk_info(alloc)?) {
-        Ok(done) => match done.outcomes.last() {
-            Some(Outcome::Taken(reply)) => {
-                let image = done.exchange.server().volume().image();
-                Ok(write_info(alloc, &reply.answer, image, writer)?)
+) -> Result<(), CommandFault<'a>>
+    ensures { TellsOf IsInfoText IsInfoText image (W.contents writer.old) (W.contents writer.new) result }
+{
+    let done = run_volume(alloc, image, 1, disk_info(alloc)?)?;
+    match done.outcomes.last() {
+        Some(Outcome::Taken(reply)) => {
+            let image = done.exchange.server().volume().image();
+            match write_info(alloc, &reply.answer, image, writer) {
+                Ok(()) => Ok(()),
+                Err(fault) => Err(CommandFault::from(fault)),
             }
-            _ => Err(CommandFault::Memory),
-        },
-        Err(RunFault::Rejected(rejected)) => Err(CommandFault::from(rejected.fault)),
-        Err(RunFault::NoMemory(_)) => Err(CommandFault::Memory),
+        }
+        _ => Err(CommandFault::Memory),
     }
 }
 
 /// A DISK_INFO that is put, served and taken by the one client.
-fn disk_info(alloc: Global) -> Result<Vec<Step<Packet, Date3>>, AllocError> {
+fn disk_info(alloc: Global) -> Result<Vec<Step<Packet, Date3>>, AllocError>
+    ensures { IfOk result (λ steps. steps.items ≡ disk_info_steps) }
+{
     let mut steps = Vec::new(alloc);
     steps.push(Step::Put {
         client: 1,
@@ -180,7 +224,9 @@ fn disk_info(alloc: Global) -> Result<Vec<Step<Packet, Date3>>, AllocError> {
 }
 
 /// What `check` prints of an image that is accepted.
-fn accepted(volume: &Volume) -> &'static str {
+fn accepted(volume: &Volume) -> &'static str
+    ensures { result.now ≡ check_line volume.now.was_validated }
+{
     if volume.was_validated() {
         "ok validated\n"
     } else {
@@ -189,7 +235,11 @@ fn accepted(volume: &Volume) -> &'static str {
 }
 
 /// Writes a text to standard output.
-pub(crate) fn tell<'a, W: Write>(writer: &mut W, text: &[u8]) -> Result<(), CommandFault<'a>> {
+pub(crate) fn tell<'a, W: Write>(writer: &mut W, text: &[u8]) -> Result<(), CommandFault<'a>>
+    ensures ok { OnOk result (Appends (W.contents writer.old) (W.contents writer.new) text.now) }
+    ensures front { OnErr result (WritesFront (W.contents writer.old) (W.contents writer.new) text.now) }
+    ensures no_refusal { IfErr result IsNoRefusal }
+{
     match write_output(text, writer) {
         Ok(()) => Ok(()),
         Err(_) => Err(CommandFault::Output),

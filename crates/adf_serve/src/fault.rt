@@ -1,9 +1,13 @@
 //! Why a command is not done.
+ghost use Rattle.std.specs.Prelude.{◌≡◌, MatchOption};
+ghost use Rattle.adf_serve.specs.Commands.{IsNoRefusal, status_of};
+
 use crate::refusal::Refusal;
 use adf_clients::ScriptsFault;
 use adf_input::InputFault;
 use adf_listing::PrintFault;
 use adf_script::TryFault;
+use ados_run::RunFault;
 use ados_volume::VolumeFault;
 use std::alloc::AllocError;
 use thiserror::Error;
@@ -49,8 +53,20 @@ impl<'a> CommandFault<'a> {
         }
     }
 
+    /// The refusal of an image that it tells of, if it does.
+    pub(crate) fn refusal(&self) -> Option<Refusal>
+        ensures { MatchOption result (IsNoRefusal self.now) (λ refusal. self.now ≡ CommandFault.Refused refusal) }
+    {
+        match self {
+            CommandFault::Refused(refusal) => Some(*refusal),
+            _ => None,
+        }
+    }
+
     /// The program's exit status: 1 for a wrong number of blocks, 3 for what is refused, 2 for any other fault.
-    pub(crate) fn status(&self) -> u8 {
+    pub(crate) fn status(&self) -> u8
+        ensures { result ≡ status_of self.now }
+    {
         match self {
             CommandFault::Blocks(_) => 1,
             CommandFault::Name(_) | CommandFault::Refused(_) | CommandFault::Script => 3,
@@ -60,12 +76,21 @@ impl<'a> CommandFault<'a> {
 }
 
 impl From<AllocError> for CommandFault<'_> {
+    ghost use Rattle.std.specs.Prelude.{◌≡◌};
+    ghost use Rattle.adf_serve.specs.declared.fault.CommandFault.TheVariants as faults;
+
+    ghost from_gives = { λ _ fault. fault ≡ faults.Memory };
+
     fn from(_error: AllocError) -> Self {
         CommandFault::Memory
     }
 }
 
 impl From<PrintFault> for CommandFault<'_> {
+    ghost use Rattle.adf_serve.specs.Commands.{IsNoRefusal};
+
+    ghost from_gives = { λ _ fault. IsNoRefusal fault };
+
     fn from(fault: PrintFault) -> Self {
         match fault {
             PrintFault::Write => CommandFault::Output,
@@ -84,10 +109,29 @@ impl From<ScriptsFault> for CommandFault<'_> {
 }
 
 impl From<VolumeFault> for CommandFault<'_> {
-    fn from(fault: VolumeFault) -> Self {
+    ghost use Rattle.adf_serve.specs.Commands.{IsToldAs};
+
+    ghost from_gives = { λ fault told. IsToldAs fault told };
+
+    fn from(fault: VolumeFault) -> Self
+        ensures { IsToldAs fault result }
+    {
         match Refusal::of_volume(fault) {
             Some(refusal) => CommandFault::Refused(refusal),
             None => CommandFault::Memory,
+        }
+    }
+}
+
+impl From<RunFault> for CommandFault<'_> {
+    ghost use Rattle.adf_serve.specs.Commands.{IsToldRun};
+
+    ghost from_gives = { λ fault told. IsToldRun fault told };
+
+    fn from(fault: RunFault) -> Self {
+        match fault {
+            RunFault::Rejected(rejected) => CommandFault::from(rejected.fault),
+            RunFault::NoMemory(_) => CommandFault::Memory,
         }
     }
 }

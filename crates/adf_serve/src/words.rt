@@ -1,5 +1,6 @@
 //! The program's words.
-ghost use Rattle.std.specs.Prelude.{◌≡◌, [], true, false};
+ghost use Rattle.std.specs.Prelude.{◌≡◌, ◌≢◌, [], true, false};
+ghost use Rattle.adf_serve.specs.Commands.{RunsCommand, exit_status};
 ghost use Rattle.adf_serve.specs.Script.{RunsScript};
 
 use crate::commands::run_job;
@@ -34,16 +35,23 @@ where
         RunsScript (R.remaining reader.old) (R.remaining reader.new) (W.contents writer.old) (W.contents writer.new) true }
     ensures faulty { words.now ≡ [] → result ≡ 3 →
         RunsScript (R.remaining reader.old) (R.remaining reader.new) (W.contents writer.old) (W.contents writer.new) false }
+    ensures command { words.now ≢ [] → RunsCommand result (W.contents writer.old) (W.contents writer.new) }
 {
-    let done = match read_words(alloc, words) {
-        Ok(Job::Script) => return run_script(alloc, reader, writer, faults),
-        Ok(Job::OnImage(job)) => run_job(rt, alloc, job, writer),
+    match read_words(alloc, words) {
+        Ok(Job::Script) => run_script(alloc, reader, writer, faults),
+        Ok(Job::OnImage(job)) => status_of(run_job(rt, alloc, job, writer), faults),
         Err(WordsFault::Usage(text)) => {
             let _ = faults.write_all(text.as_bytes());
-            return 1;
+            1
         }
-        Err(WordsFault::Memory) => Err(CommandFault::Memory),
-    };
+        Err(WordsFault::Memory) => status_of(Err(CommandFault::Memory), faults),
+    }
+}
+
+/// The exit status of a command, which tells a person of its fault.
+fn status_of<F: Write>(done: Result<(), CommandFault<'_>>, faults: &mut F) -> u8
+    ensures { result ≡ exit_status done.entry }
+{
     match done {
         Ok(()) => 0,
         Err(fault) => {
