@@ -4,6 +4,9 @@ pub mod Listing
 pub mod Distinct
 pub mod Waiting
 pub mod Going
+pub mod Under
+pub mod Pruning
+pub mod Denying
 pub mod Walks
 pub mod Taking
 pub mod Whole

@@ -4,4 +4,5 @@ pub mod Below
 pub mod Paths
 pub mod Changes
 pub mod Refusals
+pub mod Pruned
 pub mod steps

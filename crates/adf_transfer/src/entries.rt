@@ -115,7 +115,7 @@ fn has_entries(volume: &Volume, key: u32) -> bool
 }
 
 /// Whether the bits of an entry deny that it is deleted without force.
-fn is_denied(volume: &Volume, key: u32, force: bool) -> bool
+pub(crate) fn is_denied(volume: &Volume, key: u32, force: bool) -> bool
     requires { HasKey volume.now.image key }
     ensures { (t : Tree) → Stands volume.now.image t → result ≡ not force && denies_delete (protection_of t key) }
 {

@@ -8,6 +8,7 @@ mod directory;
 mod entries;
 mod fields;
 mod paths;
+mod prune;
 mod room;
 
 pub use below::{Below, entries_below};
@@ -15,4 +16,5 @@ pub use contents::read_file;
 pub use entries::{delete, make_directory, move_entry};
 pub use fields::{comment, protect, relabel};
 pub use paths::{Stopped, locate, place};
+pub use prune::delete_all;
 pub use room::free_blocks;

@@ -1,0 +1,60 @@
+-- Whether bits deny that an entry is deleted with all that lies below it.
+use Rattle.std.proofs.Common.{◌≡◌, ℕ, zero, suc, ◌<◌, inl, inr, Bool, true, false, not, List, [], ◌∷◌, length, get_or, Contains, IsSome, is_some, refl, sym, ap, ap₂, ◌∙◌, subst, arith}
+use Rattle.std.specs.Prelude.{◌&&◌}
+use Rattle.std.proofs.lemmas.Bool.{false≢true, true≢false}
+use Rattle.ados_chain.proofs.Lists.{Contains-cases, Contains-here, Contains-later, Contains-nil}
+use Rattle.ados_name.specs.Protection.{denies_delete}
+use Rattle.ados_tree.specs.Tree.{Tree, Proper, entries}
+use Rattle.ados_tree.proofs.Nodes.{parent_in}
+use Rattle.change_entries.specs.Conditions.IsUnder.{itself}
+use Rattle.ados_handler.specs.Objects.{protection_of}
+use Rattle.adf_transfer.specs.Located.{Located}
+use Rattle.adf_transfer.specs.Below.{AreBelow}
+use Rattle.adf_transfer.specs.Pruned.{IsDenied}
+use Rattle.adf_transfer.proofs.Going.{keys_of}
+use Rattle.adf_transfer.proofs.Under.{among_held, among_under, under_among}
+
+-- a test of bits that force passes over
+unforced : (force denies : Bool) → not force && denies ≡ true → (force ≡ false) × (denies ≡ true)
+unforced true denies h = absurd (false≢true h)
+unforced false denies h = (refl, h)
+
+-- an entry of a list has its key among the list's
+key_among : (es : List Located) (i : ℕ) (e : Located) → i < length es → e ≡ get_or es i e → Contains (keys_of es) e.key
+key_among [] i e inside is = absurd (omega arith)
+key_among (x ∷ xs) zero e inside is = subst (λ (y : Located). Contains (keys_of (x ∷ xs)) y.key) (sym is) (Contains-here x.key (keys_of xs))
+key_among (x ∷ xs) (suc i) e inside is = Contains-later x.key (keys_of xs) e.key (key_among xs i e (omega arith) is)
+
+-- a test that no entry of a list passes
+none_passes : (es : List Located) (test : ℕ → Bool) → ((i : ℕ) → i < length es → (d : Located) → test (get_or es i d).key ≡ false) → (k : ℕ) → Contains (keys_of es) k → test k ≡ false
+none_passes [] test each k c = absurd (Contains-nil k c)
+none_passes (x ∷ xs) test each k c = elim (Contains-cases x.key (keys_of xs) k c) [
+  | inl same ↦ ap test (sym same) ∙ each 0 (omega arith) x
+  | inr later ↦ none_passes xs test (λ i l d. each (suc i) (omega arith) d) k later
+]
+
+-- without force, the bits of an object deny that it is deleted
+abbrev pub denies : Tree → Bool → ℕ → Bool
+denies t force k = not force && denies_delete (protection_of t k)
+
+module _ (t : Tree) (proper : Proper t) (key : ℕ) (force : Bool) (es : List Located) (below : AreBelow t [] (entries t key) es) where
+  module _ (e : Located) (i : ℕ) (inside : i < length es) (is : e ≡ get_or es i e) where
+    pub below_there : IsSome (t.nodes e.key)
+    below_there =
+        let h = among_held t proper key es e.key below (key_among es i e inside is) in
+        let n = parent_in (t.nodes e.key) h.0 h.1 in
+        ap is_some n.1
+
+    pub below_denied : denies t force e.key ≡ true → IsDenied t key force
+    below_denied h = let p = unforced force _ h in (p.0, (e.key, among_under t proper key es e.key below (key_among es i e inside is), p.1))
+
+  pub itself_denied : denies t force key ≡ true → IsDenied t key force
+  itself_denied h = let p = unforced force _ h in (p.0, (key, itself refl, p.1))
+
+  pub none_denied : ((i : ℕ) → i < length es → (d : Located) → denies t force (get_or es i d).key ≡ false) → denies t force key ≡ false → ¬ IsDenied t key force
+  none_denied each own d =
+      let told : denies t force d.1.0 ≡ true = ap₂ (λ (f b : Bool). not f && b) d.0 d.1.2 in
+      elim (Contains-cases key (keys_of es) d.1.0 (under_among t proper key es d.1.0 below d.1.1)) [
+        | inl same ↦ true≢false (sym told ∙ ap (denies t force) (sym same) ∙ own)
+        | inr c ↦ true≢false (sym told ∙ none_passes es (denies t force) each d.1.0 c)
+      ]

@@ -1,0 +1,14 @@
+use Rattle.std.proofs.Common.{vec_len}
+use Rattle.ados_tree.specs.Tree.{Tree}
+use Rattle.ados_tree.specs.Stands.{Stands}
+use Rattle.adf_transfer.proofs.Going.{keys_of}
+use Rattle.adf_transfer.proofs.Pruning.{IsPruning}
+use Rattle.adf_transfer.proofs.prune.remove_all.Given as goal
+
+-- these entries are left
+abbrev pub invariant-loop-entry : goal.invariant-loop-entry
+invariant-loop-entry l =
+    (t : Tree) → Stands l.initial.volume.image t → IsPruning t l.key (keys_of l.initial.below.items) l.volume.image (keys_of l.below.items)
+
+abbrev pub decreases-loop-entry : goal.decreases-loop-entry
+decreases-loop-entry l = vec_len l.below

@@ -1,0 +1,74 @@
+//! Deleting an entry with all that lies below it.
+
+ghost use Rattle.std.specs.Prelude.{◌≡◌, ◌≢◌, [], AllPairs, IsTrue, map};
+ghost use Rattle.std.specs.Bool.{IsFalse};
+ghost use Rattle.ados_tree.specs.Tree.{Tree, entries};
+ghost use Rattle.ados_tree.specs.Stands.{Stands};
+ghost use Rattle.ados_tree.specs.Keys.{HasEntryKey, HasKey};
+ghost use Rattle.adf_transfer.specs.Below.{AreBelow};
+ghost use Rattle.adf_transfer.specs.Pruned.{IsDenied, Prunes, pruned};
+
+use crate::below::{Below, entries_below};
+use crate::entries::is_denied;
+use ados_name::Date3;
+use ados_packet::DosError;
+use ados_volume::Volume;
+use std::alloc::Global;
+
+/// Deletes an entry with all that lies below it, and nothing else; by force also what bits deny. The moment becomes the date of
+/// its directory and the disk date.
+///
+/// Errors: 212 of the root, 103 where there is no memory for the list of what lies below it, 222 where its bits or those of
+/// an entry below it deny it.
+pub fn delete_all(
+    alloc: Global,
+    volume: &mut Volume,
+    key: u32,
+    force: bool,
+    moment: Date3,
+) -> Result<(), DosError>
+    requires { HasKey volume.old.image key }
+    ensures { Prunes moment key force volume.old volume.new result }
+{
+    if key == volume.root() {
+        return Err(DosError::ObjectWrongType);
+    }
+    let below = match entries_below(alloc, volume, key) {
+        Ok(below) => below,
+        Err(_) => return Err(DosError::NoFreeStore),
+    };
+    if is_any_denied(volume, key, below.as_slice(), force) {
+        return Err(DosError::DeleteProtected);
+    }
+    remove_all(volume, key, below, moment);
+    Ok(())
+}
+
+/// Whether the bits of an entry, or of one of these, which lie below it, deny that it is deleted without force.
+fn is_any_denied(volume: &Volume, key: u32, below: &[Below], force: bool) -> bool
+    requires key { HasKey volume.now.image key }
+    requires below { (t : Tree) → Stands volume.now.image t → AreBelow t [] (entries t key) below.now }
+    ensures denied { IsTrue result → (t : Tree) → Stands volume.now.image t → IsDenied t key force }
+    ensures allowed { IsFalse result → (t : Tree) → Stands volume.now.image t → ¬ IsDenied t key force }
+{
+    for entry in below {
+        if is_denied(volume, entry.key(), force) {
+            return true;
+        }
+    }
+    is_denied(volume, key, force)
+}
+
+/// Removes entries from the last to the first, and then the one below which they lie.
+fn remove_all(volume: &mut Volume, key: u32, mut below: Vec<Below>, moment: Date3)
+    requires entry { HasEntryKey volume.old.image key }
+    requires below { (t : Tree) → Stands volume.old.image t → AreBelow t [] (entries t key) below.items }
+    requires once { AllPairs (λ j k. j ≢ k) (map (λ entry. entry.key) below.items) }
+    ensures { (t : Tree) → Stands volume.old.image t → Stands volume.new.image (pruned moment key t) }
+{
+    prove!(volume.image().blocks() >= 16);
+    while let Some(entry) = below.pop() {
+        volume.remove(entry.key(), moment);
+    }
+    volume.remove(key, moment);
+}
