@@ -39,6 +39,7 @@ first_answer (suc k) s reply client e = of_taken (e ∙ ap (take_outcome 0) (her
     here : (k : ℕ) → answers_to 1 (take (suc k) (s ∷ [])) ≡ s.answer ∷ []
     here zero = rw (eq-eqb s.client 1 client) refl
     here (suc k) = rw (eq-eqb s.client 1 client) refl
+
     of_taken : taken reply ≡ Taken (record { number = 1; answer = s.answer }) → reply.answer ≡ s.answer
     of_taken f = let same : reply ≡ record { number = 1; answer = s.answer } = cc f in ap (λ (r : Reply Answer). r.answer) same
 

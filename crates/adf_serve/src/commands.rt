@@ -118,11 +118,7 @@ pub(crate) fn write_image<'a, R: Files>(
 }
 
 /// The image of a file.
-fn read_image<'a, R: Files>(
-    rt: &R,
-    alloc: Global,
-    file: &'a str,
-) -> Result<Image, CommandFault<'a>>
+fn read_image<'a, R: Files>(rt: &R, alloc: Global, file: &'a str) -> Result<Image, CommandFault<'a>>
     ensures { IfErr result IsNoImage }
 {
     let Ok(mut reader) = fs::open(rt, file) else {
