@@ -13,3 +13,5 @@ pub mod Whole
 pub mod LastName
 pub mod Rows
 pub mod Moving
+pub mod Filling
+pub mod Rooms

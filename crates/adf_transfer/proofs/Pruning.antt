@@ -11,7 +11,7 @@ use Rattle.ados_tree.specs.Tree.{Node, Tree, Proper, entries, entries_in, parent
 use Rattle.ados_tree.proofs.Nodes.{directory_node, parent_in}
 use Rattle.ados_tree.proofs.OneTree.{one_tree}
 use Rattle.ados_tree.specs.Stands.{Stands}
-use Rattle.ados_tree.specs.Change.{left, listed, removed, with_node}
+use Rattle.ados_tree.specs.Change.{left, listed, removed}
 use Rattle.change_entries.specs.Conditions.{CanRemove, IsUnder}
 use Rattle.change_entries.specs.Conditions.IsUnder.{itself, by_parent as under_parent}
 use Rattle.change_entries.proofs.Changed.{nodes_here, nodes_other, relisted, listed_parents}

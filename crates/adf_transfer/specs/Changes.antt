@@ -1,15 +1,16 @@
 -- Changes that are made whole or not at all, and what they make of a tree.
-use Rattle.std.specs.Prelude.{◌≡◌, ◌+◌, ◌*◌, ◌/◌, ◌%◌, ℕ, Option, None, Some, Result, MatchResult}
+use Rattle.std.specs.Prelude.{◌≡◌, ◌+◌, ◌*◌, ◌/◌, ◌%◌, ℕ, List, [], Option, None, Some, Result, MatchResult}
 use Rattle.ados_name.specs.declared.Date3.{Date3}
-use Rattle.ados_packet.specs.declared.dos_error.DosError.{DosError}
 use Rattle.ados_tree.specs.Tree.{Tree}
+use Rattle.ados_tree.specs.Tree.Content.{File}
 use Rattle.ados_tree.specs.Stands.{Stands}
-use Rattle.ados_tree.specs.Change.{with_protection}
+use Rattle.ados_tree.specs.Change.{made, rewritten, with_comment, with_date, with_protection}
 use Rattle.ados_volume.specs.Shown.{Shown}
 use Rattle.ados_handler.specs.Objects.{protection_of}
+use Rattle.adf_transfer.specs.declared.put.NewFile.{NewFile}
 
 -- nothing refuses the change, and the new image stands for the changed tree; or this error refuses it, and the volume is as it was
-abbrev pub Changes : {A : Type 0} → (Tree → Option DosError) → (A → Tree → Tree) → Shown → Shown → Result A DosError → Type 0
+abbrev pub Changes : {A E : Type 0} → (Tree → Option E) → (A → Tree → Tree) → Shown → Shown → Result A E → Type 0
 Changes refusal change old new result =
     MatchResult result
     (λ a. (t : Tree) → Stands old.image t → (refusal t ≡ None) × Stands new.image (change a t))
@@ -22,3 +23,15 @@ with_low_bits bits low = 256 * (bits / 256) + low % 256
 -- the low eight protection bits of an object are set, and the others stay
 abbrev pub protected : Date3 → ℕ → ℕ → Tree → Tree
 protected moment key low t = with_protection moment key (with_low_bits (protection_of t key) low) t
+
+-- these protection bits, this comment and this date are told of a file
+abbrev pub described : Date3 → ℕ → NewFile → Tree → Tree
+described moment key file t = with_date moment key file.date (with_comment moment key file.comment (with_protection moment key file.protection.0 t))
+
+-- a file holds these bytes, whatever it held, and all of this is told of it
+abbrev pub filled : Date3 → ℕ → NewFile → Tree → Tree
+filled moment key file t = described moment key file (rewritten moment key file.bytes.now t)
+
+-- a new file of a directory
+abbrev pub added : Date3 → ℕ → ℕ → List ℕ → NewFile → Tree → Tree
+added moment dir key name file t = filled moment key file (made moment dir key name (File []) t)

@@ -1,12 +1,15 @@
 -- What each change is refused with, in this order.
-use Rattle.std.specs.Prelude.{ℕ, Bool, not, ◌&&◌, ◌==◌, List, [], ◌∷◌, Option, is_some}
-use Rattle.ados_name.specs.Protection.{denies_delete}
+use Rattle.std.specs.Prelude.{ℕ, ◌+◌, ◌-◌, nat_lt, Bool, not, ◌&&◌, ◌==◌, if◌then◌else◌, List, [], ◌∷◌, Option, None, Some, is_some}
+use Rattle.ados_data.specs.Cost.{block_cost}
+use Rattle.ados_name.specs.Protection.{denies_delete, denies_write}
 use Rattle.ados_packet.specs.declared.dos_error.DosError.{DosError}
-use Rattle.ados_packet.specs.declared.dos_error.DosError.TheVariants.{DeleteProtected, DirectoryNotEmpty, DiskFull, ObjectExists, ObjectInUse, ObjectWrongType}
-use Rattle.ados_tree.specs.Tree.{Tree, entries, root}
-use Rattle.ados_tree.specs.Walk.{child_of}
+use Rattle.ados_packet.specs.declared.dos_error.DosError.TheVariants.{DeleteProtected, DirectoryNotEmpty, DiskFull, ObjectExists, ObjectInUse, ObjectWrongType, WriteProtected}
+use Rattle.ados_tree.specs.Tree.{Tree, entries, free, root, size_of}
+use Rattle.ados_tree.specs.Walk.{child_of, is_file}
 use Rattle.ados_handler.specs.Objects.{is_under, lacks, protection_of}
 use Rattle.ados_handler.specs.Refusals.{first_refusal, is_empty, is_some_and, refuse}
+use Rattle.adf_transfer.specs.declared.put.NotPut.{NotPut}
+use Rattle.adf_transfer.specs.declared.put.NotPut.TheVariants.{NoRoom, Refused}
 
 -- the root is no entry
 abbrev pub root_refusal : ℕ → Tree → Option DosError
@@ -35,3 +38,35 @@ move_refusal key dir name t =
     ∷ refuse ObjectInUse (is_under t key dir)
     ∷ []
     )
+
+-- the error, if there is one; without one, that more blocks are needed than are free
+abbrev pub or_no_room : Option DosError → ℕ → ℕ → Option NotPut
+or_no_room (Some error) needed room = Some (Refused error)
+or_no_room None needed room = if nat_lt room needed then Some (NoRoom needed room) else None
+
+-- a new file of this many bytes is put into a directory: it needs a block of its own, and those of its bytes
+abbrev pub add_refusal : ℕ → List ℕ → ℕ → Tree → Option NotPut
+add_refusal dir name size t =
+    or_no_room (first_refusal (refuse ObjectExists (is_some (child_of t dir name)) ∷ [])) (1 + block_cost t.format size) (free t)
+
+-- the blocks that a file needs for this size beyond those that it has
+abbrev pub more_blocks : Tree → ℕ → ℕ → ℕ
+more_blocks t key size = block_cost t.format size - block_cost t.format (size_of t key)
+
+-- a file gets this many bytes in place of its own, by force also where its bits deny it
+abbrev pub replace_refusal : ℕ → ℕ → Bool → Tree → Option NotPut
+replace_refusal key size force t =
+    or_no_room
+    (first_refusal (
+    refuse ObjectWrongType (not (is_file t key))
+    ∷ refuse DeleteProtected (not force && denies_delete (protection_of t key))
+    ∷ refuse WriteProtected (not force && denies_write (protection_of t key))
+    ∷ []
+    ))
+    (more_blocks t key size)
+    (free t)
+
+-- the DOS error that is meant
+abbrev pub put_error : NotPut → DosError
+put_error (Refused error) = error
+put_error (NoRoom needed room) = DiskFull

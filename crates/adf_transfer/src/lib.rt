@@ -9,6 +9,7 @@ mod entries;
 mod fields;
 mod paths;
 mod prune;
+mod put;
 mod room;
 
 pub use below::{Below, entries_below};
@@ -17,4 +18,5 @@ pub use entries::{delete, make_directory, move_entry};
 pub use fields::{comment, protect, relabel};
 pub use paths::{Stopped, locate, place};
 pub use prune::delete_all;
+pub use put::{NewFile, NotPut, add_file, replace_file};
 pub use room::free_blocks;

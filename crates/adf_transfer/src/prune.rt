@@ -1,6 +1,6 @@
 //! Deleting an entry with all that lies below it.
 
-ghost use Rattle.std.specs.Prelude.{◌≡◌, ◌≢◌, [], AllPairs, IsTrue, map};
+ghost use Rattle.std.specs.Prelude.{◌≢◌, [], AllPairs, IsTrue, map};
 ghost use Rattle.std.specs.Bool.{IsFalse};
 ghost use Rattle.ados_tree.specs.Tree.{Tree, entries};
 ghost use Rattle.ados_tree.specs.Stands.{Stands};

@@ -1,4 +1,4 @@
-use Rattle.std.proofs.Common.{◌≡◌, ℕ, ◌<◌, true, false, get_or, IsSome, sym, ap, ◌∙◌, subst, arith, below_more}
+use Rattle.std.proofs.Common.{◌≡◌, ℕ, true, false, get_or, IsSome, sym, ap, ◌∙◌, subst, arith, below_more}
 use Rattle.std.proofs.lemmas.List.{get_or_default}
 use Rattle.adf_transfer.specs.Located.{Located}
 use Rattle.adf_transfer.proofs.Denying.{below_denied, below_there, denies, itself_denied, none_denied}

@@ -1,0 +1,39 @@
+use Rattle.std.proofs.Common.{length, subst}
+use Rattle.ados_tree.specs.Stands.{Stands}
+use Rattle.ados_tree.specs.Change.{written}
+use Rattle.adf_transfer.specs.steps.CutBack.{cut_back}
+use Rattle.adf_transfer.proofs.Filling.{IsEntry, IsFileKey, after_change, content_held, filled_is, held_entry, holds_its_own, holds_put, holds_written}
+use Rattle.adf_transfer.proofs.Rooms.{fits_in}
+use Rattle.adf_transfer.proofs.put.fill.Goals as goal
+
+pub unreachable-requires : goal.unreachable-requires
+unreachable-requires c =
+    let t = c.image.ensures.stands.0 in
+    let s = c.image.ensures.stands.1 in
+    fits_in t c.args.key c.args.file.now.bytes.now (c.requires.room t s) (c.in_default.ensures.done.1 t s)
+
+pub cut_behind-requires : goal.cut_behind-requires
+cut_behind-requires c =
+    let t = c.image.ensures.stands.0 in
+    let s = c.image.ensures.stands.1 in
+    let old = c.requires.key t s in
+    let hold = holds_written t t c.args.key old.0 (holds_its_own t c.args.key old.0 old.1) c.args.moment c.args.file.now.bytes.now in
+    after_change (IsFileKey c.args.key) (written c.args.moment c.args.key 0 c.args.file.now.bytes.now) c.args.volume.now.image c.write.new.self.image t s (λ v q. (c.in-Ok.ensures.done v q).1)
+    (_, content_held t _ c.args.key _ hold)
+
+pub describe-requires : goal.describe-requires
+describe-requires c =
+    let t = c.image.ensures.stands.0 in
+    let s = c.image.ensures.stands.1 in
+    let old = c.requires.key t s in
+    let u = written c.args.moment c.args.key 0 c.args.file.now.bytes.now t in
+    let at_u = (c.in-Ok.ensures.done t s).1 in
+    let hold = holds_put t c.args.moment c.args.key old.0 c.args.file.now.bytes.now old.1 in
+    after_change (IsEntry c.args.key) (cut_back c.args.moment c.args.key (length c.args.file.now.bytes.now)) c.write.new.self.image c.cut_behind.new.volume.image u at_u c.cut_behind.ensures
+    (held_entry t _ c.args.key _ hold (c.cut_behind.ensures u at_u).proper)
+
+pub returns : goal.returns
+returns c = λ t s.
+    let old = c.requires.key t s in
+    subst (Stands c.describe.new.volume.image) (filled_is t c.args.moment c.args.key c.args.file.now old.0 old.1)
+    (c.describe.ensures _ (c.cut_behind.ensures _ ((c.in-Ok.ensures.done t s).1)))
