@@ -1,5 +1,5 @@
 //! The program's words.
-ghost use Rattle.std.specs.Prelude.{◌≡◌, ◌≢◌, [], true, false};
+ghost use Rattle.std.specs.Prelude.{◌≡◌, ◌≢◌, ◌⊎◌, [], true, false};
 ghost use Rattle.adf_serve.specs.Commands.{RunsCommand, exit_status};
 ghost use Rattle.adf_serve.specs.Script.{RunsScript};
 
@@ -40,11 +40,23 @@ where
     match read_words(alloc, words) {
         Ok(Job::Script) => run_script(alloc, reader, writer, faults),
         Ok(Job::OnImage(job)) => status_of(run_job(rt, alloc, job, writer), faults),
-        Err(WordsFault::Usage(text)) => {
+        Err(fault) => tell_wrong_words(fault, faults),
+    }
+}
+
+/// Tells a person why words ask for no job, and answers the exit status: 1, or 2 where there is no memory to read them.
+pub fn tell_wrong_words<F: Write>(fault: WordsFault, faults: &mut F) -> u8
+    ensures { (result ≡ 1) ⊎ (result ≡ 2) }
+{
+    match fault {
+        WordsFault::Usage(text) => {
             let _ = faults.write_all(text.as_bytes());
             1
         }
-        Err(WordsFault::Memory) => status_of(Err(CommandFault::Memory), faults),
+        WordsFault::Memory => {
+            tell_fault(&CommandFault::Memory, faults);
+            2
+        }
     }
 }
 
