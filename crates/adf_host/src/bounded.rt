@@ -1,8 +1,8 @@
 //! Input of which no more is read than a bound.
-ghost use Rattle.std.specs.Prelude.{IfOk};
+ghost use Rattle.std.specs.Prelude.{IfOk, length};
 ghost use Rattle.std.specs.Io.KnownBytes.{ReadConsumes};
 ghost use Rattle.std.specs.Io.{ReadsAtMost};
-ghost use Rattle.adf_host.specs.Bounded.{ReadsUpTo};
+ghost use Rattle.adf_host.specs.Bounded.{ReadsUpTo, ReadsPart};
 
 use std::alloc::{AllocError, Global};
 use std::io::{Error, ErrorKind, Read, Result as IoResult};
@@ -44,13 +44,25 @@ pub fn read_bounded<R: Read>(
     let mut chunk = [0u8; CHUNK];
     while bytes.len() < most {
         let room = CHUNK.min(most - bytes.len());
-        let count = read_some(reader, &mut chunk[..room])?;
+        let count = read_onto(reader, &mut bytes, &mut chunk[..room])?;
         if count == 0 {
             return Ok(bytes);
         }
-        bytes.extend_from_slice(&chunk[..count])?;
     }
     Ok(bytes)
+}
+
+/// Appends what one read gives, and answers how many bytes that is.
+fn read_onto<R: Read>(
+    reader: &mut R,
+    bytes: &mut Vec<u8>,
+    chunk: &mut [u8],
+) -> Result<usize, BoundedFault>
+    ensures { IfOk result (ReadsPart (length chunk.old) (R.remaining reader.old) (R.remaining reader.new) bytes.old.items bytes.new.items) }
+{
+    let count = read_some(reader, chunk)?;
+    bytes.extend_from_slice(&chunk[..count])?;
+    Ok(count)
 }
 
 /// One read, which is tried again where it was interrupted.

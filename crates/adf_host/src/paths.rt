@@ -25,7 +25,7 @@ impl Model for HostPath {
 
     ghost view = { λ path. string_bytes path.text };
 
-    ghost invariant = { IsBelow };
+    ghost invariant = { λ path. IsBelow (string_bytes path.text) };
 }
 
 impl HostPath {

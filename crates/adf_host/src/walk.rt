@@ -1,5 +1,6 @@
 //! Files and directories of the host, gone through.
-ghost use Rattle.std.specs.Prelude.{IsPermutation, IsSorted, IfOk};
+ghost use Rattle.std.specs.Prelude.{IsPermutation, IsSorted};
+ghost use Rattle.std.specs.String.{string_cmp};
 
 use crate::dates::date_of_time;
 use crate::notes::{note_name, noted_name};
@@ -152,11 +153,12 @@ fn visit<R: Files>(
     match look_at(rt, alloc, next.path.as_str())? {
         Look::Directory(found) => {
             let path = String::from_str(alloc, next.path.as_str())?;
+            let place = tree.entries.len();
             let parent = if next.name.is_empty() {
                 None
             } else {
                 add_entry(rt, alloc, next, HostKind::Directory, &found, tree)?;
-                Some(tree.entries.len() - 1)
+                Some(place)
             };
             wait_for_names(rt, alloc, path.as_str(), parent, waiting)
         }
@@ -299,7 +301,10 @@ fn wait_for_names<R: Files>(
 }
 
 /// Puts names in the order of their bytes.
-fn sort_names(names: &mut Vec<String>) {
+fn sort_names(names: &mut Vec<String>)
+    ensures same { IsPermutation names.old.items names.new.items }
+    ensures sorted { IsSorted string_cmp names.new.items }
+{
     names.sort_unstable();
 }
 

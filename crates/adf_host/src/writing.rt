@@ -170,8 +170,7 @@ fn refuse_what_stands<R: Files>(
         let Ok(path) = target_path(alloc, directory, &item.path) else {
             return Err(fault_at(alloc, directory, WriteWhy::Memory, 0));
         };
-        let front = path.len() - item.path.as_str().len();
-        refuse_way(rt, alloc, path.as_str(), front)?;
+        refuse_way(rt, alloc, path.as_str(), directory.len().max(1))?;
         if let Err(why) = refuse_item(rt, path.as_str(), &item.content, force) {
             return Err(fault_at(alloc, path.as_str(), why, 0));
         }

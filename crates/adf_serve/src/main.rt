@@ -10,9 +10,9 @@ mod words;
 
 pub use ados_run::{RunFault, run_volume};
 pub use script::try_script;
+use adf_words::given_words;
 use std::process::ExitCode;
-use std::{env, io};
-pub use words::run_words;
+pub use words::{run_words, tell_wrong_words};
 
 #[cfg(test)]
 mod command_tests;
@@ -21,16 +21,19 @@ mod script_tests;
 #[cfg(test)]
 mod stream_tests;
 
-fn main(rt: HostRuntime) -> io::Result<ExitCode> {
+fn main(rt: HostRuntime) -> ExitCode {
     let alloc = rt.alloc();
-    let words: Vec<String> = env::args(&rt)?.skip(1).collect(alloc)?;
-    let status = run_words(
-        &rt,
-        alloc,
-        words.as_slice(),
-        &mut rt.stdin(),
-        &mut rt.stdout(),
-        &mut rt.stderr(),
-    );
-    Ok(ExitCode::from(status))
+    let (mut reader, mut writer, mut faults) = (rt.stdin(), rt.stdout(), rt.stderr());
+    let status = match given_words(&rt, alloc) {
+        Ok(words) => run_words(
+            &rt,
+            alloc,
+            words.as_slice(),
+            &mut reader,
+            &mut writer,
+            &mut faults,
+        ),
+        Err(fault) => tell_wrong_words(fault, &mut faults),
+    };
+    ExitCode::from(status)
 }

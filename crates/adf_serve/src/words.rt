@@ -1,5 +1,5 @@
 //! The program's words.
-ghost use Rattle.std.specs.Prelude.{◌≡◌, [], true, false};
+ghost use Rattle.std.specs.Prelude.{◌≡◌, ◌⊎◌, [], true, false};
 ghost use Rattle.adf_serve.specs.Script.{RunsScript};
 
 use crate::commands::run_job;
@@ -38,17 +38,29 @@ where
     let done = match read_words(alloc, words) {
         Ok(Job::Script) => return run_script(alloc, reader, writer, faults),
         Ok(Job::OnImage(job)) => run_job(rt, alloc, job, writer),
-        Err(WordsFault::Usage(text)) => {
-            let _ = faults.write_all(text.as_bytes());
-            return 1;
-        }
-        Err(WordsFault::Memory) => Err(CommandFault::Memory),
+        Err(fault) => return tell_wrong_words(fault, faults),
     };
     match done {
         Ok(()) => 0,
         Err(fault) => {
             tell_fault(&fault, faults);
             fault.status()
+        }
+    }
+}
+
+/// Tells a person why words ask for no job, and answers the exit status: 1, or 2 where there is no memory to read them.
+pub fn tell_wrong_words<F: Write>(fault: WordsFault, faults: &mut F) -> u8
+    ensures { (result ≡ 1) ⊎ (result ≡ 2) }
+{
+    match fault {
+        WordsFault::Usage(text) => {
+            let _ = faults.write_all(text.as_bytes());
+            1
+        }
+        WordsFault::Memory => {
+            tell_fault(&CommandFault::Memory, faults);
+            2
         }
     }
 }

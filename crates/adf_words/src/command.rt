@@ -3,7 +3,7 @@ ghost use Rattle.std.specs.Prelude.{◌<◌, length};
 
 use adf_block::Format;
 use ados_name::Date3;
-use std::alloc::AllocError;
+use std::alloc::{AllocError, AllocFailed};
 
 /// A job of the program.
 #[derive(Debug, Drop)]
@@ -65,7 +65,18 @@ pub enum WordsFault {
 }
 
 impl From<AllocError> for WordsFault {
+    ghost use Rattle.std.specs.Prelude.{◌≡◌};
+    ghost use Rattle.adf_words.specs.declared.command.WordsFault.TheVariants.{Memory};
+
+    ghost from_gives = { λ _ fault. fault ≡ Memory };
+
     fn from(_error: AllocError) -> WordsFault {
+        WordsFault::Memory
+    }
+}
+
+impl<T: Drop> From<AllocFailed<T>> for WordsFault {
+    fn from(_error: AllocFailed<T>) -> WordsFault {
         WordsFault::Memory
     }
 }

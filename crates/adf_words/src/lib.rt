@@ -3,7 +3,9 @@
 
 mod command;
 mod commands;
+mod given;
 mod reading;
 
 pub use command::{ImageJob, Job, ServeJob, WordsFault};
+pub use given::{given_words, word_of};
 pub use reading::read_words;
