@@ -32,7 +32,14 @@ IsHostName-note name is = record {
 }
 
 -- a note is below a directory where what it notes is
-pub IsBelow-note : (path : List ℕ) → IsBelow path → IsBelow (note_of path)
+IsBelow-note : (path : List ℕ) → IsBelow path → IsBelow (note_of path)
 IsBelow-note path (one is) = one (IsHostName-note path is)
 IsBelow-note _ (more {path} {name} outer is) =
     subst IsBelow (sym (append_assoc (path ++ codes "/") name (codes ".uaem"))) (more outer (IsHostName-note name is))
+
+-- what is spelled so is below a directory
+pub IsBelow-child : (path name text : List ℕ) → IsBelow path → IsHostName name → text ≡ below path name → IsBelow text
+IsBelow-child path name text outer is spelled = subst IsBelow (sym spelled) (more outer is)
+
+pub IsBelow-noted : (path text : List ℕ) → IsBelow path → text ≡ note_of path → IsBelow text
+IsBelow-noted path text outer spelled = subst IsBelow (sym spelled) (IsBelow-note path outer)

@@ -11,6 +11,10 @@ pub data IsBelow : List ℕ → Type 0 where
   one : {name : List ℕ} → IsHostName name → IsBelow name
   more : {path name : List ℕ} → IsBelow path → IsHostName name → IsBelow (below path name)
 
--- the path of a host's file below a directory; an empty one is the working directory
+-- the path of a directory; an empty one is the working directory
+abbrev pub top_of : List ℕ → List ℕ
+top_of directory = if length directory == 0 then codes "." else directory
+
+-- the path of a host's file below a directory
 abbrev pub target : List ℕ → List ℕ → List ℕ
-target directory path = below (if length directory == 0 then codes "." else directory) path
+target directory path = below (top_of directory) path

@@ -1,8 +1,8 @@
 //! Paths below a directory of the host, which lead nowhere else.
-ghost use Rattle.std.specs.Prelude.{◌≡◌, ◌++◌, IfOk, if◌then◌else◌};
+ghost use Rattle.std.specs.Prelude.{◌≡◌, IfOk};
 ghost use Rattle.std.specs.String.{string_bytes};
 ghost use Rattle.adf_text.specs.HostNames.{host_name};
-ghost use Rattle.adf_host.specs.Paths.{IsBelow, below, target};
+ghost use Rattle.adf_host.specs.Paths.{IsBelow, below, target, top_of};
 ghost use Rattle.adf_host.specs.Notes.{note_of};
 
 use adf_text::host_name;
@@ -67,6 +67,12 @@ impl HostPath {
 pub fn target_path(alloc: Global, directory: &str, path: &HostPath) -> Result<String, AllocError>
     ensures { IfOk result (λ text. string_bytes text ≡ target directory.now path.now) }
 {
-    let front = if directory.is_empty() { "." } else { directory };
-    format!(in alloc; "{front}/{}", path.as_str())
+    format!(in alloc; "{}/{}", top_of(directory), path.as_str())
+}
+
+/// The path of a directory; an empty one is `.`.
+fn top_of(directory: &str) -> &str
+    ensures { result.now ≡ top_of directory.now }
+{
+    if directory.is_empty() { "." } else { directory }
 }

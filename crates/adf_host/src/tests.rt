@@ -113,7 +113,7 @@ fn sizes_of_images(rt: HostRuntime) -> Result<(), Fail> {
     for (length, fault) in [
         (511, SizeFault::NotWholeBlocks),
         (7_680, SizeFault::TooFewBlocks),
-        (1_099_511_627_776, SizeFault::TooManyBlocks),
+        (4_294_967_296, SizeFault::TooManyBlocks),
     ] {
         file.set_len(length)?;
         let refused = read_image_file(&rt, alloc, "/tmp/adf_host.d/one");
@@ -211,6 +211,10 @@ fn written_below(rt: HostRuntime) -> Result<(), Fail> {
     fresh(&rt, alloc, "/tmp/adf_host.f")?;
     let (old, new) = (two_items(alloc, b"old")?, two_items(alloc, b"new")?);
     assert!(rt; write_tree(&rt, alloc, "/tmp/adf_host.f/top/in", &old, false).is_ok());
+    let Ok(tree) = host_tree(&rt, alloc, &["/tmp/adf_host.f/top/in/d"]) else {
+        return Err(Fail::from("it is not gone through"));
+    };
+    assert!(rt; tree.entries.len() == 2 && tree.entries.iter().all(|entry| entry.date == DATE));
     let again = write_tree(&rt, alloc, "/tmp/adf_host.f/top/in", &new, false);
     assert!(rt; matches!(&again, Err(fault) if matches!(fault.why, WriteWhy::Exists)));
     assert_eq!(rt;
@@ -222,10 +226,6 @@ fn written_below(rt: HostRuntime) -> Result<(), Fail> {
         fs::read_to_string(&rt, "/tmp/adf_host.f/top/in/d/f")?.as_str(),
         "new"
     );
-    let Ok(tree) = host_tree(&rt, alloc, &["/tmp/adf_host.f/top/in/d"]) else {
-        return Err(Fail::from("it is not gone through"));
-    };
-    assert!(rt; tree.entries.len() == 2 && tree.entries.iter().all(|entry| entry.date == DATE));
     symlink(&rt, "top/in", "/tmp/adf_host.f/link")?;
     assert!(rt; write_tree(&rt, alloc, "/tmp/adf_host.f/link", &new, true).is_ok());
     symlink(&rt, "top/in/d", "/tmp/adf_host.f/d")?;

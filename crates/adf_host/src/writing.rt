@@ -182,7 +182,7 @@ fn refuse_what_stands<R: Files>(
 fn refuse_way<R: Files>(rt: &R, alloc: Global, path: &str, front: usize) -> Result<(), WriteFault>
     ensures { IfErr result (λ fault. fault.written ≡ 0) }
 {
-    for end in front..path.len() {
+    for end in front.saturating_add(1)..path.len() {
         if let Some((above, rest)) = path.split_at_checked(end) {
             if rest.starts_with('/') {
                 if let Err(why) = refuse_item(rt, above, &Content::Directory, false) {
