@@ -13,8 +13,8 @@ pub record ReadSome (most : ℕ) (old new : Option (List ℕ)) (bytes : List ℕ
   pub consumed : Consumes old new bytes
   pub within : length bytes ≤ most
 
-pub read_none : (most : ℕ) (a : Option (List ℕ)) → ReadSome most a a []
-read_none most a = record { consumed = Consumes-nil a; within = omega arith }
+pub read_none : (most : ℕ) (a : Option (List ℕ)) (bytes : List ℕ) → bytes ≡ [] → ReadSome most a a bytes
+read_none most a bytes none = subst (ReadSome most a a) (sym none) (record { consumed = Consumes-nil a; within = omega arith })
 
 pub read_more : (most room : ℕ) (a b c : Option (List ℕ)) (bytes new : List ℕ) (count : ℕ) → ReadSome most a b bytes → ReadsPart room b c bytes new count
     → length bytes + room ≤ most → ReadSome most a c new

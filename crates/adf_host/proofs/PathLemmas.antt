@@ -1,5 +1,5 @@
 -- Paths below a directory.
-use Rattle.std.proofs.Common.{◌≡◌, ◌≢◌, ℕ, ◌≤◌, List, ◌++◌, length, All, ap, sym, subst, ◌∙◌, append_assoc, length-append, arith}
+use Rattle.std.proofs.Common.{◌≡◌, ◌≢◌, ℕ, ◌≤◌, List, [], ◌∷◌, ◌++◌, length, All, ap, sym, subst, ◌∙◌, append_assoc, length-append, arith}
 use Rattle.std.specs.Prelude.{codes}
 use Rattle.std.proofs.lemmas.List.Elements.{All-append, All-cons, All-nil}
 use Rattle.adf_text.specs.HostNames.{IsHostName}
@@ -13,11 +13,11 @@ IsPlain c = (c ≢ 0) × (c ≢ 47)
 
 ending_plain : All IsPlain (codes ".uaem")
 ending_plain =
-    All-cons IsPlain 46 _ (λ e. omega (arith, e), λ e. omega (arith, e))
-    (All-cons IsPlain 117 _ (λ e. omega (arith, e), λ e. omega (arith, e))
-    (All-cons IsPlain 97 _ (λ e. omega (arith, e), λ e. omega (arith, e))
-    (All-cons IsPlain 101 _ (λ e. omega (arith, e), λ e. omega (arith, e))
-    (All-cons IsPlain 109 _ (λ e. omega (arith, e), λ e. omega (arith, e)) (All-nil IsPlain)))))
+    All-cons IsPlain 46 (117 ∷ 97 ∷ 101 ∷ 109 ∷ []) (λ e. omega (arith, e), λ e. omega (arith, e))
+    (All-cons IsPlain 117 (97 ∷ 101 ∷ 109 ∷ []) (λ e. omega (arith, e), λ e. omega (arith, e))
+    (All-cons IsPlain 97 (101 ∷ 109 ∷ []) (λ e. omega (arith, e), λ e. omega (arith, e))
+    (All-cons IsPlain 101 (109 ∷ []) (λ e. omega (arith, e), λ e. omega (arith, e))
+    (All-cons IsPlain 109 [] (λ e. omega (arith, e), λ e. omega (arith, e)) (All-nil IsPlain)))))
 
 -- a text is no shorter one
 not_short : (name short : List ℕ) → length short ≤ 2 → note_of name ≢ short
