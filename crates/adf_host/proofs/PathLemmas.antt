@@ -35,7 +35,7 @@ IsHostName-note name is = record {
 IsBelow-note : (path : List ℕ) → IsBelow path → IsBelow (note_of path)
 IsBelow-note path (one is) = one (IsHostName-note path is)
 IsBelow-note _ (more {path} {name} outer is) =
-    subst IsBelow (sym (append_assoc (path ++ codes "/") name (codes ".uaem"))) (more outer (IsHostName-note name is))
+    subst IsBelow (sym (append_assoc path (47 ∷ name) (codes ".uaem"))) (more outer (IsHostName-note name is))
 
 -- what is spelled so is below a directory
 pub IsBelow-child : (path name text : List ℕ) → IsBelow path → IsHostName name → text ≡ below path name → IsBelow text

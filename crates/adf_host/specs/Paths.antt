@@ -1,10 +1,11 @@
 -- Paths below a directory of the host.
-use Rattle.std.specs.Prelude.{ℕ, ◌==◌, List, ◌++◌, length, codes, if◌then◌else◌}
+use Rattle.std.specs.Prelude.{ℕ, ◌==◌, List, ◌∷◌, ◌++◌, length, codes, if◌then◌else◌}
+use Rattle.std.specs.Path.{slash}
 use Rattle.adf_text.specs.HostNames.{IsHostName}
 
 -- the path of a name in the directory at a path
 abbrev pub below : List ℕ → List ℕ → List ℕ
-below path name = path ++ codes "/" ++ name
+below path name = path ++ slash ∷ name
 
 -- a path leads to something below where it begins: it is a name that a host's file can have, or such a name behind such a path
 pub data IsBelow : List ℕ → Type 0 where
