@@ -16,6 +16,7 @@ pub enum Step {
 }
 
 /// The files of a host; a step of this kind fails.
+#[derive(Drop)]
 pub struct Faulty<'a, R> {
     pub files: &'a R,
     pub fails: Step,
