@@ -1,9 +1,13 @@
-/* What `bench` times, by ADFlib in the same process: adflib_peer list FILE | read FILE | changes FILE ofs|ffs FILES DIRS.
- * What was done goes to standard output, and microseconds from the start on, after each step, to standard error. */
+/* What `bench` times, by ADFlib in the same process: adflib_peer list FILE | read FILE | changes FILE ofs|ffs FILES DIRS |
+ * add FILE DIRECTORY. What was done goes to standard output, and microseconds from the start on, after each step, to standard
+ * error. */
+#define _XOPEN_SOURCE 700
+#include <dirent.h>
 #include <stdint.h>
 #include <stdio.h>
 #include <stdlib.h>
 #include <string.h>
+#include <sys/stat.h>
 #include <time.h>
 
 #include "adflib.h"
@@ -179,6 +183,51 @@ static void change(char *path, int kind, long files, long dirs) {
     adfUnMountDev(device);
 }
 
+/* The host's file as a new file in the volume's directory; it has at most `LARGE` bytes. */
+static void add_file(struct Volume *volume, const char *path, char *name, struct found *found) {
+    FILE *host = fopen(path, "rb");
+    if (host == NULL) fail("a file of the host cannot be read");
+    size_t bytes = fread(buffer, 1, LARGE, host);
+    fclose(host);
+    write_file(volume, name, (long)bytes, bytes == 0 ? 1 : (long)bytes);
+    found->files += 1;
+    found->bytes += (long long)bytes;
+}
+
+/* All that is in a directory of the host, into the directory of this number. */
+static void add_all(struct Volume *volume, SECTNUM directory, const char *path, struct found *found) {
+    struct dirent **entries;
+    int count = scandir(path, &entries, NULL, alphasort);
+    if (count < 0) fail("a directory of the host cannot be read");
+    for (int n = 0; n < count; n++) {
+        char *name = entries[n]->d_name;
+        char below[4096];
+        struct stat told;
+        if (strcmp(name, ".") == 0 || strcmp(name, "..") == 0) continue;
+        snprintf(below, sizeof below, "%s/%s", path, name);
+        if (stat(below, &told) != 0) fail("a file of the host cannot be looked at");
+        volume->curDirPtr = directory;
+        if (!S_ISDIR(told.st_mode)) {
+            add_file(volume, below, name, found);
+            continue;
+        }
+        if (adfCreateDir(volume, directory, name) != RC_OK || adfChangeDir(volume, name) != RC_OK) fail("a directory cannot be made");
+        add_all(volume, volume->curDirPtr, below, found);
+    }
+}
+
+static void add(char *image, const char *path) {
+    struct found found = {0, 0};
+    long long start = micros();
+    struct Device *device = adfMountDev(image, FALSE);
+    struct Volume *volume = mount(device, FALSE);
+    add_all(volume, volume->curDirPtr, path, &found);
+    adfUnMount(volume);
+    adfUnMountDev(device);
+    fprintf(stderr, "add %lld\n", micros() - start);
+    printf("%ld files, %lld bytes\n", found.files, found.bytes);
+}
+
 /* ADFlib tells of each step on standard output; nothing of that is wanted. */
 static void quiet(char *text) {
     (void)text;
@@ -195,8 +244,10 @@ int main(int count, char **words) {
     } else if (count == 6 && strcmp(words[1], "changes") == 0) {
         int kind = strcmp(words[3], "ofs") == 0 ? 0 : FSMASK_FFS;
         change(words[2], kind, strtol(words[4], NULL, 10), strtol(words[5], NULL, 10));
+    } else if (count == 4 && strcmp(words[1], "add") == 0) {
+        add(words[2], words[3]);
     } else {
-        fail("list FILE | read FILE | changes FILE ofs|ffs FILES DIRS");
+        fail("list FILE | read FILE | changes FILE ofs|ffs FILES DIRS | add FILE DIRECTORY");
     }
     adfEnvCleanUp();
     return 0;

@@ -3,10 +3,10 @@ use Rattle.std.proofs.Common.{◌≡◌, ◌≢◌, ℕ, zero, suc, ◌+◌, ◌
 use Rattle.std.specs.Prelude.{option_and_then}
 use Rattle.std.specs.List.{flat_map}
 use Rattle.ados_chain.proofs.Lists.{Once, Contains-cases, Contains-nil, length-once}
-use Rattle.ados_tree.specs.Tree.{Tree, Proper, LeadsToRoot, entries, name_of, parent_of, root}
+use Rattle.ados_tree.specs.Tree.{Node, Tree, Proper, LeadsToRoot, entries, name_of, parent_of, root}
 use Rattle.ados_tree.specs.Tree.LeadsToRoot.{at_root, by_parent}
 use Rattle.ados_tree.proofs.Nodes.{parent_in}
-use Rattle.adf_listing.specs.Listing.{below, listing}
+use Rattle.adf_listing.specs.Listing.{below, front, listing}
 use Rattle.adf_listing.specs.steps.Levels.{with_below}
 use Rattle.adf_listing.proofs.Lists.{Once-cons, Once-joined, in_joined, length-joined}
 
@@ -122,18 +122,18 @@ module _ (t : Tree) (proper : Proper t) where
       let n = parent_in (t.nodes key) p.0 p.1 in
       (proper.inside key n.0 n.1).1
 
-  -- the entries of a list are fewer than the blocks
-  pub listing_short : length (listing t) + 1 ≤ t.blocks
-  listing_short =
-      let keys = keys_below t t.blocks (root t) in
-      let m = proper.root_node in
-      let once = Once-cons (root t) keys (λ c. not_below_itself (root t) (at_root refl) (keys_are_below t.blocks (root t) (root t) c)) (keys_once t.blocks (root t) (at_root refl)) in
-      let short = length-once (root t ∷ keys) t.blocks once
-      (λ x c. elim (Contains-cases (root t) keys x c) [
-        | inl same ↦ subst (λ (k : ℕ). k < t.blocks) same (proper.inside (root t) m.0 m.1).1
-        | inr later ↦ key_inside (root t) x (keys_are_below t.blocks (root t) x later)
+  -- the entries below an object are fewer than the blocks
+  pub listing_short : (dir : ℕ) (node : Node) → t.nodes dir ≡ Some node → length (listing t dir) + 1 ≤ t.blocks
+  listing_short dir node is =
+      let keys = keys_below t t.blocks dir in
+      let rooted = proper.rooted dir node is in
+      let once = Once-cons dir keys (λ c. not_below_itself dir rooted (keys_are_below t.blocks dir dir c)) (keys_once t.blocks dir rooted) in
+      let short = length-once (dir ∷ keys) t.blocks once
+      (λ x c. elim (Contains-cases dir keys x c) [
+        | inl same ↦ subst (λ (k : ℕ). k < t.blocks) same (proper.inside dir node is).1
+        | inr later ↦ key_inside dir x (keys_are_below t.blocks dir x later)
       ]) in
-      omega (arith, short, same_length t t.blocks [] (root t))
+      omega (arith, short, same_length t t.blocks (front t t.blocks dir) dir)
 
   -- a directory is none of its own entries
   pub entries_once : (dir : ℕ) → LeadsToRoot t dir → Once (dir ∷ entries t dir)

@@ -1,12 +1,12 @@
 -- What is told to be a directory is one.
-use Rattle.std.proofs.Common.{◌≡◌, ℕ, pos, List, [], Option, Some, None, option_map, refl, ap, ◌∙◌}
+use Rattle.std.proofs.Common.{◌≡◌, ℕ, pos, List, [], Option, Some, None, IsSome, option_map, refl, ap, ◌∙◌}
 use Rattle.ados_tree.specs.Tree.{Content, Node, Tree, Proper, content_at, entries, entries_in}
 use Rattle.ados_tree.specs.Tree.Content.{Directory, File}
 use Rattle.ados_chain.specs.Look.{first_left}
 use Rattle.ados_chain.specs.declared.read.Next.TheVariants.{Entry}
 use Rattle.ados_chain.proofs.Order.{behind-later, first-entry}
 use Rattle.ados_tree.specs.Change.{entries_after}
-use Rattle.ados_tree.proofs.Nodes.{entry_node}
+use Rattle.ados_tree.proofs.Nodes.{content_in, entry_node}
 use Rattle.ados_volume.specs.Examined.{entry_type}
 
 type-directory : (parent : Option ℕ) (content : Content) → entry_type parent content ≡ pos 2 → (keys : List ℕ) × (content ≡ Directory keys)
@@ -19,6 +19,13 @@ pub told_directory : (t : Tree) (key : ℕ) (node : Node) → t.nodes key ≡ So
 told_directory t key node e h =
     let d = type-directory node.parent node.content h in
     (d.0, rw e (ap Some d.1))
+
+-- a directory is a node
+pub node_of : (t : Tree) (dir : ℕ) → (keys : List ℕ) × (content_at t dir ≡ Some (Directory keys)) → (node : Node) × (t.nodes dir ≡ Some node)
+node_of t dir h = let n = content_in (t.nodes dir) (Directory h.0) h.1 in (n.0, n.1)
+
+pub node_there : (t : Tree) (dir : ℕ) → (keys : List ℕ) × (content_at t dir ≡ Some (Directory keys)) → IsSome (t.nodes dir)
+node_there t dir h = let n = node_of t dir h in rw n.1 refl
 
 -- what is told to be no directory but the root has no entries
 pub told_file : (t : Tree) (key dir : ℕ) (node : Node) → t.nodes key ≡ Some node → node.parent ≡ Some dir → ¬ (entry_type node.parent node.content ≡ pos 2) → entries t key ≡ []

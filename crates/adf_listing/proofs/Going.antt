@@ -1,23 +1,23 @@
 -- What one step of a list comes to.
-use Rattle.std.proofs.Common.{◌≡◌, ℕ, ◌<◌, true, List, [], ◌∷◌, ◌++◌, Some, append-nil, refl, sym, ◌∙◌, subst}
+use Rattle.std.proofs.Common.{◌≡◌, ℕ, ◌<◌, Bool, true, List, [], ◌∷◌, ◌++◌, Some, append-nil, refl, sym, ◌∙◌, subst}
 use Rattle.ados_tree.specs.Tree.{Node, Tree}
 use Rattle.ados_volume.specs.Examined.{file_info}
 use Rattle.adf_listing.specs.declared.listing.Listing.{Listing}
-use Rattle.adf_listing.specs.Listing.{Listed, IsLine}
+use Rattle.adf_listing.specs.Listing.{Listed, IsLine, shown}
 use Rattle.adf_listing.specs.steps.Levels.{IsSoFar, entry_at, work}
 use Rattle.adf_listing.specs.steps.Going.{GoesOn}
 use Rattle.adf_listing.proofs.Left.{Lists}
 use Rattle.adf_listing.proofs.InOrder.{line_alone}
 
-module _ (t : Tree) (old new : Listing) (first left : List Listed) where
+module _ (t : Tree) (dir : ℕ) (s : Bool) (old new : Listing) (first left : List Listed) where
   -- an entry came, with its line
-  pub goes_to_entry : (own line : List ℕ) (key : ℕ) (node : Node) → t.nodes key ≡ Some node → IsLine (file_info t.format key node) own line → new.text.items ≡ old.text.items ++ line
-      → Lists t old.levels.items new.levels.items new.path.items first left own key → GoesOn t old new first left true
+  pub goes_to_entry : (own line : List ℕ) (key : ℕ) (node : Node) → t.nodes key ≡ Some node → IsLine (file_info t.format key node) (shown s own) line → new.text.items ≡ old.text.items ++ line
+      → Lists t dir old.levels.items new.levels.items new.path.items first left own key → GoesOn t dir s old new first left true
   goes_to_entry own line key node is is_line text l =
-      (entry_at own key ∷ [], l.rest, line, l.split, line_alone t own key node line is is_line, text, l.so_far, l.less)
+      (entry_at own key ∷ [], l.rest, line, l.split, line_alone t s own key node line is is_line, text, l.so_far, l.less)
 
   -- the directory at hand came to its end
-  pub goes_up : new.text.items ≡ old.text.items → IsSoFar t new.levels.items new.path.items first left × (work new.levels.items left < work old.levels.items left) → GoesOn t old new first left true
+  pub goes_up : new.text.items ≡ old.text.items → IsSoFar t dir new.levels.items new.path.items first left × (work new.levels.items left < work old.levels.items left) → GoesOn t dir s old new first left true
   goes_up text ended = (
     [],
     left,
@@ -25,6 +25,6 @@ module _ (t : Tree) (old new : Listing) (first left : List Listed) where
     refl,
     refl,
     text ∙ sym (append-nil old.text.items),
-    subst (λ (ls : List Listed). IsSoFar t new.levels.items new.path.items ls left) (sym (append-nil first)) ended.0,
+    subst (λ (ls : List Listed). IsSoFar t dir new.levels.items new.path.items ls left) (sym (append-nil first)) ended.0,
     ended.1,
   )

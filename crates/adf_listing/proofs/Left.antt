@@ -6,10 +6,10 @@ use Rattle.ados_chain.specs.Look.{first_left}
 use Rattle.ados_chain.specs.declared.read.Next.TheVariants.{Entry}
 use Rattle.ados_chain.proofs.Order.{behind-later}
 use Rattle.ados_tree.specs.Change.{entries_after}
-use Rattle.ados_tree.specs.Tree.{Tree, Proper, LeadsToRoot, entries, name_of, root}
-use Rattle.ados_tree.specs.Tree.LeadsToRoot.{at_root, by_parent}
+use Rattle.ados_tree.specs.Tree.{Node, Tree, Proper, LeadsToRoot, entries, name_of}
+use Rattle.ados_tree.specs.Tree.LeadsToRoot.{by_parent}
 use Rattle.adf_listing.specs.declared.listing.Level.{Level}
-use Rattle.adf_listing.specs.Listing.{Listed, below, listing}
+use Rattle.adf_listing.specs.Listing.{Listed, below, front, listing}
 use Rattle.adf_listing.specs.steps.Levels.{IsOpen, IsLeft, IsSoFar, entry_at, with_below, work}
 use Rattle.adf_listing.specs.steps.Levels.IsLeft.{none, more}
 use Rattle.adf_listing.proofs.Behind.{behind_next, behind_first, none_behind, next_behind}
@@ -58,7 +58,7 @@ none_left : {t : Tree} {levels : List Level} {path : List ℕ} {left : List List
 none_left e none = refl
 none_left e (more {lower = lower} {level = level} f o rest split) = absurd (omega (arith, ap length e, ap length f, length_push lower level))
 
-pub none_so_far : {t : Tree} {levels : List Level} {path : List ℕ} {first left : List Listed} → levels ≡ [] → IsSoFar t levels path first left → left ≡ []
+pub none_so_far : {t : Tree} {dir : ℕ} {levels : List Level} {path : List ℕ} {first left : List Listed} → levels ≡ [] → IsSoFar t dir levels path first left → left ≡ []
 none_so_far e so = none_left e so.is_left
 
 -- an object with no entries has nothing below it
@@ -95,43 +95,49 @@ record IsNext (t : Tree) (lower : List Level) (level : Level) (path : List ℕ) 
   goes_on : (tail : List ℕ) → IsLeft t (lower ++ (record level { last = key }) ∷ []) (before ++ tail) after depth
 
 -- the list after a step: this entry came
-pub record Lists (t : Tree) (levels new : List Level) (path : List ℕ) (first left : List Listed) (own : List ℕ) (key : ℕ) : Type 0 where
+pub record Lists (t : Tree) (dir : ℕ) (levels new : List Level) (path : List ℕ) (first left : List Listed) (own : List ℕ) (key : ℕ) : Type 0 where
   pub rest : List Listed
   pub split : left ≡ entry_at own key ∷ rest
-  pub so_far : IsSoFar t new path (first ++ entry_at own key ∷ []) rest
+  pub so_far : IsSoFar t dir new path (first ++ entry_at own key ∷ []) rest
   pub less : work new rest < work levels left
 
 module _ (t : Tree) (proper : Proper t) where
-  -- the root stands open, and all is left
-  pub starts : (level : Level) (levels : List Level) (path : List ℕ) → levels ≡ level ∷ [] → path ≡ [] → level.dir ≡ root t → level.last ≡ root t → level.path ≡ 0
-      → IsSoFar t levels path [] (listing t) × (work levels (listing t) < 2 * t.blocks)
-  starts level levels path e at dir last place =
-      let short = listing_short t proper in
+  -- the directory stands open, and all is left
+  pub starts : (top : ℕ) (node : Node) (level : Level) (levels : List Level) (path : List ℕ) → t.nodes top ≡ Some node → levels ≡ level ∷ [] → path ≡ front t t.blocks top
+      → level.dir ≡ top → level.last ≡ top → level.path ≡ length path
+      → IsSoFar t top levels path [] (listing t top) × (work levels (listing t top) < 2 * t.blocks)
+  starts top node level levels path is e at dir last place =
+      let short = listing_short t proper top node is in
       let depth = t.blocks - 1 in
       let deep : t.blocks ≡ suc depth = omega (arith, short) in
-      let all = open_directory [] level [] [] depth (root t) dir last place (at_root refl) (subst (IsLeft t [] [] []) deep none) in
-      let whole : below t (suc depth) [] (root t) ++ [] ≡ listing t = append-nil (below t (suc depth) [] (root t)) ∙ ap (λ (n : ℕ). below t n [] (root t)) (sym deep) in (
+      let all = open_directory [] level path [] depth top dir last place (proper.rooted top node is) (subst (IsLeft t [] path []) deep none) in
+      let whole : below t (suc depth) path top ++ [] ≡ listing t top =
+      append-nil (below t (suc depth) path top)
+      ∙ ap (λ (n : ℕ). below t n path top) (sym deep)
+      ∙ ap (λ (p : List ℕ). below t t.blocks p top) at in (
         record {
           depth = depth;
+          few = short;
           split = refl;
-          is_left = subst (λ (ls : List Level). IsLeft t ls path (listing t) depth) (sym e)
-              (subst (λ (p : List ℕ). IsLeft t (level ∷ []) p (listing t) depth) (sym at) (subst (λ (ls : List Listed). IsLeft t (level ∷ []) [] ls depth) whole all));
+          is_left = subst (λ (ls : List Level). IsLeft t ls path (listing t top) depth) (sym e)
+              (subst (λ (ls : List Listed). IsLeft t (level ∷ []) path ls depth) whole all);
           high = omega (arith, ap length e);
         },
         omega (arith, short, ap length e),
       )
 
   -- the directory at hand has no entry left
-  pub ends : (levels lower : List Level) (level : Level) (path : List ℕ) (first left : List Listed) → levels ≡ lower ++ level ∷ []
-      → ((key : ℕ) → first_left (entries_after t level.dir level.last) ≢ Entry key) → IsSoFar t levels path first left
-      → IsSoFar t lower path first left × (work lower left < work levels left)
-  ends levels lower level path first left e no_key so =
+  pub ends : (top : ℕ) (levels lower : List Level) (level : Level) (path : List ℕ) (first left : List Listed) → levels ≡ lower ++ level ∷ []
+      → ((key : ℕ) → first_left (entries_after t level.dir level.last) ≢ Entry key) → IsSoFar t top levels path first left
+      → IsSoFar t top lower path first left × (work lower left < work levels left)
+  ends top levels lower level path first left e no_key so =
       let last = last_left lower level e so.is_left in
       let o = last.opened in
       let no_keys : o.keys ≡ [] = none_behind o.keys (λ key f. no_key key (ap first_left o.behind ∙ f)) in
       let same : left ≡ last.later = last.split ∙ ap (λ (ks : List ℕ). flat_map (with_below t so.depth o.before) ks ++ last.later) no_keys in (
         record {
           depth = suc so.depth;
+          few = so.few;
           split = so.split;
           is_left = subst (λ (p : List ℕ). IsLeft t lower p left (suc so.depth)) (sym o.begins)
               (left_longer o.tail (subst (λ (ls : List Listed). IsLeft t lower o.before ls (suc so.depth)) (sym same) last.rest));
@@ -171,10 +177,10 @@ module _ (t : Tree) (proper : Proper t) where
       }
 
   -- the next entry is a file
-  pub lists_file : (levels lower new : List Level) (level : Level) (path own : List ℕ) (first left : List Listed) (key : ℕ) → levels ≡ lower ++ level ∷ []
-      → first_left (entries_after t level.dir level.last) ≡ Entry key → entries t key ≡ [] → IsSoFar t levels path first left
-      → own ≡ take level.path path ++ name_of t key → new ≡ lower ++ (record level { last = key }) ∷ [] → Lists t levels new own first left own key
-  lists_file levels lower new level path own first left key e next no_keys so own_is new_is =
+  pub lists_file : (top : ℕ) (levels lower new : List Level) (level : Level) (path own : List ℕ) (first left : List Listed) (key : ℕ) → levels ≡ lower ++ level ∷ []
+      → first_left (entries_after t level.dir level.last) ≡ Entry key → entries t key ≡ [] → IsSoFar t top levels path first left
+      → own ≡ take level.path path ++ name_of t key → new ≡ lower ++ (record level { last = key }) ∷ [] → Lists t top levels new own first left own key
+  lists_file top levels lower new level path own first left key e next no_keys so own_is new_is =
       let x = next_entry levels lower level path left so.depth key e next so.is_left in
       let own_at : own ≡ x.before ++ name_of t key = own_is ∙ ap (λ (b : List ℕ). b ++ name_of t key) x.place in
       let nothing = below_file t so.depth (x.before ++ name_of t key ++ 47 ∷ []) key no_keys in
@@ -187,6 +193,7 @@ module _ (t : Tree) (proper : Proper t) where
         split = split;
         so_far = record {
           depth = so.depth;
+          few = so.few;
           split = so.split ∙ ap (λ (ls : List Listed). first ++ ls) split ∙ sym (append_assoc first (entry_at own key ∷ []) x.after);
           is_left = subst (λ (ls : List Level). IsLeft t ls own x.after so.depth) (sym new_is)
               (subst (λ (p : List ℕ). IsLeft t (lower ++ (record level { last = key }) ∷ []) p x.after so.depth) (sym own_at) (x.goes_on (name_of t key)));
@@ -196,19 +203,19 @@ module _ (t : Tree) (proper : Proper t) where
       }
 
   -- the next entry is a directory, which stands open then
-  pub lists_directory : (levels lower new : List Level) (level child : Level) (path own longer : List ℕ) (first left : List Listed) (key : ℕ) → levels ≡ lower ++ level ∷ []
-      → first_left (entries_after t level.dir level.last) ≡ Entry key → IsSoFar t levels path first left
+  pub lists_directory : (top : ℕ) (levels lower new : List Level) (level child : Level) (path own longer : List ℕ) (first left : List Listed) (key : ℕ) → levels ≡ lower ++ level ∷ []
+      → first_left (entries_after t level.dir level.last) ≡ Entry key → IsSoFar t top levels path first left
       → own ≡ take level.path path ++ name_of t key → longer ≡ own ++ 47 ∷ []
       → child.dir ≡ key → child.last ≡ key → child.path ≡ length longer
-      → new ≡ lower ++ (record level { last = key }) ∷ [] ++ child ∷ [] → Lists t levels new longer first left own key
-  lists_directory levels lower new level child path own longer first left key e next so own_is longer_is dir last place new_is =
+      → new ≡ lower ++ (record level { last = key }) ∷ [] ++ child ∷ [] → Lists t top levels new longer first left own key
+  lists_directory top levels lower new level child path own longer first left key e next so own_is longer_is dir last place new_is =
       let x = next_entry levels lower level path left so.depth key e next so.is_left in
       let own_at : own ≡ x.before ++ name_of t key = own_is ∙ ap (λ (b : List ℕ). b ++ name_of t key) x.place in
       let longer_at : longer ≡ x.before ++ name_of t key ++ 47 ∷ [] = longer_is ∙ ap (λ (p : List ℕ). p ++ 47 ∷ []) own_at in
       let open_levels = lower ++ (record level { last = key }) ∷ [] in
       let depth = so.depth - 1 in
       let deep : so.depth ≡ suc depth =
-      omega (arith, levels_deep so.is_left, so.high, listing_short t proper, ap length so.split, length-append first left, ap length x.split) in
+      omega (arith, levels_deep so.is_left, so.high, so.few, ap length so.split, length-append first left, ap length x.split) in
       let rest = below t (suc depth) longer key ++ x.after in
       let split : left ≡ entry_at own key ∷ rest =
       x.split
@@ -223,6 +230,7 @@ module _ (t : Tree) (proper : Proper t) where
         split = split;
         so_far = record {
           depth = depth;
+          few = so.few;
           split = so.split ∙ ap (λ (ls : List Listed). first ++ ls) split ∙ sym (append_assoc first (entry_at own key ∷ []) rest);
           is_left = subst (λ (ls : List Level). IsLeft t ls longer rest depth) (sym new_is)
               (open_directory open_levels child longer x.after depth key dir last place x.rooted lower_left);

@@ -7,6 +7,7 @@ pub mod Left
 pub mod Directories
 pub mod InOrder
 pub mod Fronts
+pub mod Fronting
 pub mod Padding
 pub mod Going
 pub mod Written

@@ -1,12 +1,14 @@
--- What is printed of all directories and files of a volume.
-use Rattle.std.specs.Prelude.{◌≡◌, ℕ, zero, suc, ◌-◌, negsuc, if◌then◌else◌, List, [], ◌∷◌, ◌++◌, length, replicate, flat_map, decimal, codes, Some}
+-- What is printed of the directories and files below a directory of a volume.
+use Rattle.std.specs.Prelude.{◌≡◌, ℕ, zero, suc, ◌-◌, negsuc, Bool, if◌then◌else◌, List, [], ◌∷◌, ◌++◌, length, replicate, flat_map, decimal, codes, Some}
+use Rattle.std.specs.Option.{option_map_or}
 use Rattle.std.specs.Ordering.{int_eq}
 use Rattle.ados_name.specs.Date.{IsTextOf}
 use Rattle.ados_name.specs.Protection.{letters}
 use Rattle.ados_packet.specs.declared.info.FileInfo.{FileInfo}
-use Rattle.ados_tree.specs.Tree.{Node, Tree, root, entries, name_of}
+use Rattle.ados_tree.specs.Tree.{Node, Tree, root, entries, name_of, parent_of}
 use Rattle.ados_volume.specs.Examined.{file_info}
 use Rattle.adf_script.specs.Text.{line, spaced}
+use Rattle.adf_text.specs.Letters.{letters as letter_text}
 
 -- an entry as it is listed: its path from the root, with `/` between names, and its key
 pub record Listed : Type 0 where
@@ -19,9 +21,19 @@ below t zero before dir = []
 below t (suc levels) before dir =
     flat_map (λ key. record { path = before ++ name_of t key; key = key } ∷ below t levels (before ++ name_of t key ++ 47 ∷ []) key) (entries t dir)
 
--- the entries of the tree in the order of a list; no path has more names than there are blocks
-abbrev pub listing : Tree → List Listed
-listing t = below t t.blocks [] (root t)
+-- what stands before the names in a directory, so many directories deep at most: in the root nothing, and else what stands before
+-- its own name, that name and `/`
+unfoldable pub front : Tree → ℕ → ℕ → List ℕ
+front t zero dir = []
+front t (suc depth) dir = option_map_or (λ above. front t depth above ++ (name_of t dir ++ 47 ∷ [])) (parent_of t dir) []
+
+-- the entries below a directory in the order of a list; no path has more names than there are blocks
+abbrev pub listing : Tree → ℕ → List Listed
+listing t dir = below t t.blocks (front t t.blocks dir) dir
+
+-- names as they are printed: their bytes, or the letters that these stand for
+abbrev pub shown : Bool → List ℕ → List ℕ
+shown as_letters names = if as_letters then letter_text names else names
 
 -- the bytes of a file as a number, or `dir`
 abbrev pub size_text : FileInfo → List ℕ
@@ -38,23 +50,23 @@ IsLine info path text =
     × (text ≡ line (right_in 8 (size_text info) ++ spaced (letters info.protection.0) ++ spaced date ++ spaced path))
 
 -- these are the lines of the entries, one after another
-abbrev pub AreLines : Tree → List Listed → List ℕ → Type 0
-AreLines t [] text = text ≡ []
-AreLines t (entry ∷ rest) text =
+abbrev pub AreLines : Tree → Bool → List Listed → List ℕ → Type 0
+AreLines t as_letters [] text = text ≡ []
+AreLines t as_letters (entry ∷ rest) text =
     (node : Node) × (t.nodes entry.key ≡ Some node)
     × (first : List ℕ) × (later : List ℕ)
-    × IsLine (file_info t.format entry.key node) entry.path first × AreLines t rest later × (text ≡ first ++ later)
+    × IsLine (file_info t.format entry.key node) (shown as_letters entry.path) first × AreLines t as_letters rest later × (text ≡ first ++ later)
 
 -- the volume's own line
-abbrev pub volume_line : Tree → List ℕ
-volume_line t = line (codes "Volume " ++ name_of t (root t))
+abbrev pub volume_line : Tree → Bool → List ℕ
+volume_line t as_letters = line (codes "Volume " ++ shown as_letters (name_of t (root t)))
 
--- the list of a tree: the volume's line, and a line for each entry
-abbrev pub IsList : Tree → List ℕ → Type 0
-IsList t text = (lines : List ℕ) × AreLines t (listing t) lines × (text ≡ volume_line t ++ lines)
+-- the list of a directory of the tree: the volume's line, and a line for each entry below it
+abbrev pub IsList : Tree → ℕ → Bool → List ℕ → Type 0
+IsList t dir as_letters text = (lines : List ℕ) × AreLines t as_letters (listing t dir) lines × (text ≡ volume_line t as_letters ++ lines)
 
--- the beginning of the list of a tree: the volume's line, and the lines of the first entries
-abbrev pub BeginsList : Tree → List ℕ → Type 0
-BeginsList t text =
+-- the beginning of such a list: the volume's line, and the lines of the first entries
+abbrev pub BeginsList : Tree → ℕ → Bool → List ℕ → Type 0
+BeginsList t dir as_letters text =
     (first : List Listed) × (rest : List Listed) × (lines : List ℕ)
-    × (listing t ≡ first ++ rest) × AreLines t first lines × (text ≡ volume_line t ++ lines)
+    × (listing t dir ≡ first ++ rest) × AreLines t as_letters first lines × (text ≡ volume_line t as_letters ++ lines)

@@ -2,6 +2,7 @@
 #![tactic(auto)]
 
 mod fault;
+mod front;
 mod info;
 mod keys;
 mod lines;

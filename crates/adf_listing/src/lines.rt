@@ -3,9 +3,10 @@ ghost use Rattle.std.specs.Prelude.{◌≡◌, ◌++◌, IfOk, OnOk};
 ghost use Rattle.std.specs.String.{string_bytes};
 ghost use Rattle.ados_name.specs.Protection.{letters};
 ghost use Rattle.adf_script.specs.Text.{line, spaced};
-ghost use Rattle.adf_listing.specs.Listing.{right_in, size_text};
+ghost use Rattle.adf_listing.specs.Listing.{right_in, shown, size_text};
 ghost use Rattle.adf_listing.specs.steps.Going.{PushesLine};
 
+use adf_text::letter_text;
 use ados_packet::FileInfo;
 use std::alloc::{AllocError, Global};
 
@@ -21,17 +22,36 @@ pub(crate) fn push_entry(
     text: &mut Vec<u8>,
     info: &FileInfo,
     path: &[u8],
+    letters: bool,
 ) -> Result<(), AllocError>
-    ensures { OnOk result (PushesLine text.old.items text.new.items info.now path.now) }
+    ensures { OnOk result (PushesLine letters text.old.items text.new.items info.now path.now) }
 {
     let size = size_text(alloc, info)?;
     let date = info.date.text(alloc)?;
     push_right(text, size.as_bytes())?;
     push_spaced(text, &info.protection.letters())?;
     push_spaced(text, date.as_bytes())?;
-    push_spaced(text, path)?;
+    text.push(b' ')?;
+    push_names(alloc, text, path, letters)?;
     text.push(b'\n')?;
     Ok(())
+}
+
+/// Appends names: their bytes, or the letters that these stand for.
+pub(crate) fn push_names(
+    alloc: Global,
+    text: &mut Vec<u8>,
+    names: &[u8],
+    letters: bool,
+) -> Result<(), AllocError>
+    ensures { OnOk result (text.new.items ≡ text.old.items ++ shown letters names.now) }
+{
+    if letters {
+        let letters = letter_text(alloc, names)?;
+        text.extend_from_slice(letters.as_bytes())
+    } else {
+        text.extend_from_slice(names)
+    }
 }
 
 /// The bytes of a file as a number, or `dir`.

@@ -1,6 +1,7 @@
-//! All directories and files of a volume.
-ghost use Rattle.std.specs.Prelude.{◌≡◌, [], List, IfOk, OnOk, OnErr};
+//! The directories and files below a directory of a volume.
+ghost use Rattle.std.specs.Prelude.{◌≡◌, ℕ, [], List, IfOk, OnOk, OnErr};
 ghost use Rattle.std.specs.Io.KnownBytes.{Appends};
+ghost use Rattle.ados_tree.specs.Keys.{HasDirectory};
 ghost use Rattle.ados_tree.specs.Stands.{Stands};
 ghost use Rattle.ados_tree.specs.Tree.{Tree};
 ghost use Rattle.adf_script.specs.Streams.{Writes};
@@ -10,8 +11,9 @@ ghost use Rattle.adf_listing.specs.steps.Levels.{AreDirectories, IsSoFar};
 ghost use Rattle.adf_listing.specs.steps.Going.{GoesOn, Passes, Starts};
 
 use crate::fault::PrintFault;
+use crate::front::front_of;
 use crate::keys::{describe, entry_behind, is_directory};
-use crate::lines::push_entry;
+use crate::lines::{push_entry, push_names};
 use crate::output::write_text;
 use ados_volume::Volume;
 use std::alloc::{AllocError, Global};
@@ -28,7 +30,7 @@ pub struct Level {
     path: usize,
 }
 
-/// The directories from the root to the one that is being listed, the path of its entry that was listed last, and the
+/// The directories from the first to the one that is being listed, the path of its entry that was listed last, and the
 /// text that is not written yet.
 #[derive(Drop)]
 pub struct Listing {
@@ -37,20 +39,25 @@ pub struct Listing {
     text: Vec<u8>,
 }
 
-/// Writes the volume's name, and a line for each entry, a directory directly before its contents.
+/// Writes the volume's name, and a line for each entry below a directory, with its path from the root and a directory
+/// directly before its contents. Names are written as their bytes stand, or with `letters` as the letters of these bytes.
 ///
 /// Where the writer fails, or there is no memory, it has taken a front of that text.
 pub fn write_list<W: Write>(
     alloc: Global,
     volume: &Volume,
+    dir: u32,
+    letters: bool,
     writer: &mut W,
 ) -> Result<(), PrintFault>
-    ensures ok { OnOk result ((t : Tree) → Stands volume.now.image t → Writes (W.contents writer.old) (W.contents writer.new) (IsList t)) }
-    ensures front { OnErr result ((t : Tree) → Stands volume.now.image t → WritesFrontOf (W.contents writer.old) (W.contents writer.new) (BeginsList t)) }
+    requires { HasDirectory volume.now.image dir }
+    ensures ok { OnOk result ((t : Tree) → Stands volume.now.image t → Writes (W.contents writer.old) (W.contents writer.new) (IsList t dir letters)) }
+    ensures front { OnErr result ((t : Tree) → Stands volume.now.image t
+        → WritesFrontOf (W.contents writer.old) (W.contents writer.new) (BeginsList t dir letters)) }
 {
-    let mut listing = Listing::start(alloc, volume)?;
+    let mut listing = Listing::start(alloc, volume, dir, letters)?;
     for _ in 0..2 * volume.image().blocks() as u64 {
-        if !listing.go_on(alloc, volume)? {
+        if !listing.go_on(alloc, volume, letters)? {
             break;
         }
         listing.write_when_long(writer)?;
@@ -59,36 +66,34 @@ pub fn write_list<W: Write>(
 }
 
 impl Listing {
-    /// The line of the volume, before the first entry of the root.
-    fn start(alloc: Global, volume: &Volume) -> Result<Listing, AllocError>
+    /// The line of the volume, before the first entry of a directory.
+    fn start(alloc: Global, volume: &Volume, dir: u32, letters: bool) -> Result<Listing, AllocError>
+        requires { HasDirectory volume.now.image dir }
         ensures directories { IfOk result (λ made. AreDirectories volume.now.image made.levels.items) }
-        ensures starts { IfOk result (λ made. (t : Tree) → Stands volume.now.image t → Starts t made) }
+        ensures starts { IfOk result (λ made. (t : Tree) → Stands volume.now.image t → Starts t dir letters made) }
     {
-        let root = volume.root();
         let mut text = Vec::new(alloc);
         text.extend_from_slice(b"Volume ")?;
-        text.extend_from_slice(volume.examine(root).name.bytes())?;
+        let volume_name = volume.examine(volume.root()).name;
+        push_names(alloc, &mut text, volume_name.bytes(), letters)?;
         text.push(b'\n')?;
+        let path = front_of(alloc, volume, dir)?;
         let mut levels = Vec::new(alloc);
         levels.push(Level {
-            dir: root,
-            last: root,
-            path: 0,
+            dir,
+            last: dir,
+            path: path.len(),
         })?;
-        Ok(Listing {
-            levels,
-            path: Vec::new(alloc),
-            text,
-        })
+        Ok(Listing { levels, path, text })
     }
 
     /// Goes on to the next entry of the directory at hand, or back to the directory that holds it. False where no
     /// directory is left.
-    fn go_on(&mut self, alloc: Global, volume: &Volume) -> Result<bool, AllocError>
+    fn go_on(&mut self, alloc: Global, volume: &Volume, letters: bool) -> Result<bool, AllocError>
         requires { AreDirectories volume.now.image self.old.levels.items }
         ensures directories { OnOk result (AreDirectories volume.now.image self.new.levels.items) }
-        ensures goes { IfOk result (λ goes. (t : Tree) → Stands volume.now.image t → (first left : List Listed)
-            → IsSoFar t self.old.levels.items self.old.path.items first left → GoesOn t self.old self.new first left goes) }
+        ensures goes { IfOk result (λ goes. (t : Tree) (dir : ℕ) → Stands volume.now.image t → (first left : List Listed)
+            → IsSoFar t dir self.old.levels.items self.old.path.items first left → GoesOn t dir letters self.old self.new first left goes) }
     {
         let Some(level) = self.levels.pop() else {
             return Ok(false);
@@ -100,7 +105,7 @@ impl Listing {
         let info = describe(volume, key);
         self.path.truncate(level.path);
         self.path.extend_from_slice(info.name.bytes())?;
-        push_entry(alloc, &mut self.text, &info, self.path.as_slice())?;
+        push_entry(alloc, &mut self.text, &info, self.path.as_slice(), letters)?;
         if is_directory(&info) {
             self.path.push(b'/')?;
             self.levels.push(Level {

@@ -3,3 +3,4 @@ pub mod Blank
 pub mod Telling
 pub mod Printing
 pub mod Answering
+pub mod Sizes

@@ -1,13 +1,18 @@
--- What is printed of an image that is refused.
-use Rattle.std.specs.Prelude.{◌≡◌, ◌⊎◌, ℕ, List, [], ◌++◌, length, codes, decimal}
+-- What is printed of an image that is refused, and of what AmigaDOS refuses.
+use Rattle.std.specs.Prelude.{◌≡◌, ◌⊎◌, ℕ, List, [], ◌++◌, length, codes, decimal, Option, Some, None}
+use Rattle.std.specs.String.{string_bytes}
 use Rattle.adf_block.specs.Size.{IsSizeFault}
 use Rattle.adf_block.specs.declared.volume_size.SizeFault.{SizeFault}
 use Rattle.adf_block.specs.declared.volume_size.SizeFault.TheVariants as sizes
+use Rattle.ados_packet.specs.Numbers.{error_number}
 use Rattle.ados_tree.specs.Faults.{Shows}
 use Rattle.ados_tree.specs.declared.fault.FaultKind.{FaultKind}
 use Rattle.ados_tree.specs.declared.fault.FaultKind.TheVariants as kinds
 use Rattle.adf_script.specs.Text.{line, spaced}
+use Rattle.adf_serve.specs.declared.fault.CommandFault.{CommandFault}
+use Rattle.adf_serve.specs.declared.fault.CommandFault.TheVariants.{Refused, Dos}
 use Rattle.adf_serve.specs.declared.refusal.Refusal.{Refusal}
+use Rattle.adf_serve.specs.declared.refusal.DosRefusal.{DosRefusal}
 
 -- the word for a fault of the size
 abbrev pub size_word : SizeFault → List ℕ
@@ -53,3 +58,17 @@ IsImageRefusal image text = (kind : FaultKind) × (block : ℕ) × Shows image k
 -- the line of bytes that are refused
 abbrev pub IsRefusalText : List ℕ → List ℕ → Type 0
 IsRefusalText bytes text = IsSizeRefusal bytes text ⊎ IsImageRefusal bytes text
+
+-- `refused NUMBER PATH`
+abbrev pub dos_line : DosRefusal → List ℕ
+dos_line refusal = line (codes "refused " ++ decimal (error_number refusal.refused.error) ++ spaced (string_bytes refusal.refused.path))
+
+-- the line of some request that AmigaDOS refuses
+abbrev pub IsDosText : List ℕ → Type 0
+IsDosText text = (refusal : DosRefusal) × (text ≡ dos_line refusal)
+
+-- the line that is printed of a fault: of what is refused one, and else none
+abbrev pub told_line : CommandFault → Option (List ℕ)
+told_line (Refused refusal) = Some (refusal_line refusal)
+told_line (Dos refusal) = Some (dos_line refusal)
+told_line fault = None

@@ -3,8 +3,9 @@ use crate::run_words;
 use adf_words::read_words;
 use std::alloc::Global;
 use std::fs;
+use std::fs::File;
 use std::process::Abort;
-use std::rt::Files;
+use std::rt::{Clock, Files};
 use std::str::from_utf8;
 use std::sync::Wait;
 use std::test::Fail;
@@ -21,7 +22,7 @@ fn words_of(alloc: Global, line: &str) -> Result<Vec<String>, Fail> {
 
 /// Runs the words of a line, with a script on standard input; they are to end with this status, to print this, and to
 /// tell of a fault in a text that begins so, or of none.
-fn expect<R: Files + Threads + Wait + Copy + Send + Drop + Abort + 'static>(
+fn expect<R: Files<File = File> + Clock + Threads + Wait + Copy + Send + Drop + Abort + 'static>(
     rt: &R,
     alloc: Global,
     line: &str,
@@ -50,44 +51,39 @@ fn expect<R: Files + Threads + Wait + Copy + Send + Drop + Abort + 'static>(
 fn two_scripts_and_info_of_blank(rt: HostRuntime) -> Result<(), Fail> {
     let alloc = rt.alloc();
     let script = b"output 0 \"f\"\nwrite $1 \"x\"\nend $1\n";
-    fs::write(&rt, "/tmp/adf_serve.a", script.as_slice())?;
-    fs::write(&rt, "/tmp/adf_serve.b", b"other 999\n".as_slice())?;
+    fs::write(&rt, "command_tests.a", script.as_slice())?;
+    fs::write(&rt, "command_tests.b", b"other 999\n".as_slice())?;
     for (line, status, printed, told) in [
         ("", 3, "1.1 0 209\n1 fault line 2\n", ""),
-        ("blank --ffs Work /tmp/adf_serve.adf", 0, "", ""),
+        ("blank --ffs Work command_tests.adf", 0, "", ""),
         (
-            "info /tmp/adf_serve.adf",
+            "info command_tests.adf",
             0,
             "-1 0 82 1758 2 512 444f5301\nboot no\n",
             "",
         ),
         (
-            "serve --out /tmp/adf_serve.adf /tmp/adf_serve.adf /tmp/adf_serve.a /tmp/adf_serve.b",
+            "serve --out command_tests.adf command_tests.adf command_tests.a command_tests.b",
             0,
             "1.1 -1 0\n1.2 1 0\n1.3 -1 0\n2.1 0 209\n",
             "",
         ),
-        ("check /tmp/adf_serve.adf", 0, "ok\n", ""),
+        ("check command_tests.adf", 0, "ok\n", ""),
         (
-            "list /tmp/adf_serve.adf",
+            "list command_tests.adf",
             0,
             "Volume Work\n       1 ---rwed 1978-01-01 00:00:00.00 f\n",
             "",
         ),
+        ("check command_tests.a", 3, "refused NotWholeBlocks 0\n", ""),
         (
-            "check /tmp/adf_serve.a",
-            3,
-            "refused NotWholeBlocks 0\n",
-            "",
-        ),
-        (
-            "check /tmp/adf_serve.none",
+            "check command_tests.none",
             2,
             "",
-            "adf_serve: '/tmp/adf_serve.none' cannot be read\n",
+            "adf_serve: 'command_tests.none' cannot be read\n",
         ),
         (
-            "blank a/b /tmp/adf_serve.none",
+            "blank a/b command_tests.none",
             3,
             "",
             "adf_serve: 'a/b' is no name of a volume",
@@ -96,9 +92,9 @@ fn two_scripts_and_info_of_blank(rt: HostRuntime) -> Result<(), Fail> {
     ] {
         expect(&rt, alloc, line, status, printed, told)?;
     }
-    fs::remove_file(&rt, "/tmp/adf_serve.a")?;
-    fs::remove_file(&rt, "/tmp/adf_serve.b")?;
-    Ok(fs::remove_file(&rt, "/tmp/adf_serve.adf")?)
+    fs::remove_file(&rt, "command_tests.a")?;
+    fs::remove_file(&rt, "command_tests.b")?;
+    Ok(fs::remove_file(&rt, "command_tests.adf")?)
 }
 
 /// The jobs of command lines. Options may stand behind and between the files.
@@ -110,11 +106,11 @@ fn jobs(rt: HostRuntime) -> Result<(), Fail> {
         ("info a.adf", r#"OnImage(Info { file: "a.adf" })"#),
         (
             "blank Work a.adf",
-            r#"OnImage(Blank { format: Ofs, blocks: 1760, moment: Date3 { days: 0, minutes: 0, ticks: 0 }, name: "Work", file: "a.adf" })"#,
+            r#"OnImage(Blank { format: Ofs, blocks: 1760, moment: Date3 { days: 0, minutes: 0, ticks: 0 }, name: "Work", letters: false, file: "a.adf" })"#,
         ),
         (
             "blank --ffs --hd --days 1 --minutes 2 --ticks 3 Work a.adf",
-            r#"OnImage(Blank { format: Ffs, blocks: 3520, moment: Date3 { days: 1, minutes: 2, ticks: 3 }, name: "Work", file: "a.adf" })"#,
+            r#"OnImage(Blank { format: Ffs, blocks: 3520, moment: Date3 { days: 1, minutes: 2, ticks: 3 }, name: "Work", letters: false, file: "a.adf" })"#,
         ),
         (
             "serve a.adf one",

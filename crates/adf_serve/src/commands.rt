@@ -1,66 +1,74 @@
 //! The commands on image files.
-ghost use Rattle.std.specs.Prelude.{◌≡◌, ◌∷◌, [], MatchResult, IfErr, OnOk, OnErr, IfOk};
+ghost use Rattle.std.specs.Prelude.{◌≡◌, ℕ, List, ◌∷◌, [], MatchResult, IfErr, OnOk, OnErr, IfOk};
 ghost use Rattle.std.specs.Io.KnownBytes.{Appends};
-ghost use Rattle.ados_tree.specs.Accepted.{Accepts};
 ghost use Rattle.ados_tree.specs.Blank.{IsBlank};
-ghost use Rattle.adf_files.specs.Load.{ReadsAll};
 ghost use Rattle.adf_listing.specs.Fronts.{WritesFront};
-ghost use Rattle.adf_serve.specs.Commands.{IsBlankFault, IsNoImage, IsNoRefusal, IsRefusedFor, DoesJob, TellsJob, TellsOf};
-ghost use Rattle.adf_serve.specs.Commands.{BeginsListText, IsCheckText, IsInfoText, IsListText, check_line, disk_info_steps};
+ghost use Rattle.ados_name.specs.Name.{IsName};
+ghost use Rattle.adf_serve.specs.Commands.{IsBlankFault, IsNameFault, IsNamed, IsNoRefusal, DoesJob, TellsJob, TellsOf};
+ghost use Rattle.adf_serve.specs.Commands.{IsCheckText, IsInfoText, check_line, disk_info_steps};
 
+use crate::changing::{boot, change};
 use crate::fault::CommandFault;
-use crate::refusal::Refusal;
+use crate::images::{accept, hold_out, read_image, write_image};
+use crate::moving::{take_out, tell_bytes, tell_list};
 use crate::script::FIRST_MOMENT;
 use crate::serving::serve;
 use adf_block::{Format, Image, size_ok};
-use adf_files::{LoadFault, load_image, store_image, write_output};
-use adf_listing::{write_info, write_list};
-use adf_words::ImageJob;
+use adf_files::write_output;
+use adf_jobs::ImageJob;
+use adf_listing::write_info;
+use adf_text::{LettersFault, letter_bytes};
 use ados_name::{Date3, Name};
 use ados_packet::Packet;
 use ados_port::{Outcome, Step};
 use ados_run::run_volume;
-use ados_volume::{Volume, blank, check};
+use ados_volume::{Volume, blank};
 use std::alloc::{AllocError, Global};
-use std::fs;
+use std::fs::File;
 use std::io::Write;
-use std::rt::Files;
+use std::rt::{Clock, Files};
 use std::sync::Wait;
 use std::thread::Threads;
 
-/// Does a job on image files. What it tells of an image goes to the writer, and why one is refused.
-pub(crate) fn run_job<'a, R, W>(
+/// Does a job on image files. What it tells of an image goes to the writer, and what is refused; what is passed over is
+/// told on `faults`.
+pub(crate) fn run_job<'a, R, W, F>(
     rt: &R,
     alloc: Global,
     job: ImageJob<'a>,
     writer: &mut W,
+    faults: &mut F,
 ) -> Result<(), CommandFault<'a>>
 where
-    R: Files + Threads + Wait + Copy + Send + Drop + 'static,
+    R: Files<File = File> + Clock + Threads + Wait + Copy + Send + Drop + 'static,
     W: Write,
+    F: Write,
     ensures { TellsJob job.entry (W.contents writer.old) (W.contents writer.new) result }
 {
-    let fault = match do_job(rt, alloc, job, writer) {
+    let fault = match do_job(rt, alloc, job, writer, faults) {
         Ok(()) => return Ok(()),
         Err(fault) => fault,
     };
-    let Some(refusal) = fault.refusal() else {
+    let line = fault.line(alloc)?;
+    let Some(text) = line else {
         return Err(fault);
     };
-    refusal.print(alloc, writer)?;
+    tell(writer, text.as_bytes())?;
     Err(fault)
 }
 
-/// Does a job on image files, and tells nothing of an image that is refused.
-fn do_job<'a, R, W>(
+/// Does a job on image files, and tells nothing of what is refused.
+fn do_job<'a, R, W, F>(
     rt: &R,
     alloc: Global,
     job: ImageJob<'a>,
     writer: &mut W,
+    faults: &mut F,
 ) -> Result<(), CommandFault<'a>>
 where
-    R: Files + Threads + Wait + Copy + Send + Drop + 'static,
+    R: Files<File = File> + Clock + Threads + Wait + Copy + Send + Drop + 'static,
     W: Write,
+    F: Write,
     ensures { DoesJob job.entry (W.contents writer.old) (W.contents writer.new) result }
 {
     match job {
@@ -69,14 +77,25 @@ where
             blocks,
             moment,
             name,
+            letters,
             file,
         } => {
-            let volume = blank_volume(alloc, format, blocks, name, moment)?;
-            write_image(rt, volume.image(), file)
+            let volume = blank_volume(alloc, format, blocks, name, letters, moment)?;
+            let _held = hold_out(rt, file)?;
+            write_image(rt, alloc, volume.image(), file)
         }
         ImageJob::Info { file } => tell_info(alloc, read_image(rt, alloc, file)?, writer),
         ImageJob::Check { file } => tell_check(alloc, read_image(rt, alloc, file)?, writer),
-        ImageJob::List { file } => tell_list(alloc, read_image(rt, alloc, file)?, writer),
+        ImageJob::List(job) => {
+            let image = read_image(rt, alloc, job.image)?;
+            tell_list(alloc, image, job.path, job.letters, writer)
+        }
+        ImageJob::Print { image, path } => {
+            tell_bytes(alloc, read_image(rt, alloc, image)?, path, writer)
+        }
+        ImageJob::Extract(job) => take_out(rt, alloc, &job),
+        ImageJob::Change(job) => change(rt, alloc, job, faults),
+        ImageJob::Boot { image, out, file } => boot(rt, alloc, image, out, file),
         ImageJob::Serve(job) => serve(rt, alloc, job, writer),
     }
 }
@@ -86,72 +105,45 @@ fn blank_volume<'a>(
     alloc: Global,
     format: Format,
     blocks: u32,
-    name: &'a str,
+    word: &'a str,
+    letters: bool,
     moment: Date3,
 ) -> Result<Volume, CommandFault<'a>>
-    ensures { MatchResult result (λ volume. IsBlank format blocks name.now moment volume.image) (IsBlankFault blocks name.now) }
+    ensures { MatchResult result
+        (λ volume. (name : List ℕ) × IsNamed letters word.now name × IsBlank format blocks name moment volume.image)
+        (IsBlankFault letters blocks word.now) }
 {
-    let Ok(label) = Name::new(name.as_bytes()) else {
-        return Err(CommandFault::Name(name));
-    };
+    let label = volume_name(alloc, word, letters)?;
     if !size_ok(blocks) {
         return Err(CommandFault::Blocks(blocks));
     }
     Ok(blank(alloc, format, blocks, label, moment)?)
 }
 
-/// Writes an image whole. A file that is there already stays as it is where it cannot be opened to be written.
-pub(crate) fn write_image<'a, R: Files>(
-    rt: &R,
-    image: &Image,
-    file: &'a str,
-) -> Result<(), CommandFault<'a>>
-    ensures { IfErr result IsNoRefusal }
+/// The name of a volume that a word stands for, by its bytes or by its letters.
+fn volume_name<'a>(alloc: Global, word: &'a str, letters: bool) -> Result<Name, CommandFault<'a>>
+    ensures { MatchResult result (IsNamed letters word.now) (IsNameFault letters word.now) }
 {
-    let Ok(mut writer) = fs::create(rt, file) else {
-        return Err(CommandFault::Write(file));
-    };
-    match store_image(image, &mut writer) {
-        Ok(()) => Ok(()),
-        Err(_) => Err(CommandFault::Write(file)),
+    if !letters {
+        return named(word.as_bytes(), word);
+    }
+    match letter_bytes(alloc, word) {
+        Ok(bytes) => named(&bytes, word),
+        Err(LettersFault::NoByte { .. }) => Err(CommandFault::Letter(String::from_str(
+            alloc, word,
+        )?)),
+        Err(LettersFault::Memory) => Err(CommandFault::Memory),
     }
 }
 
-/// The image of a file.
-fn read_image<'a, R: Files>(rt: &R, alloc: Global, file: &'a str) -> Result<Image, CommandFault<'a>>
-    ensures { IfErr result IsNoImage }
+/// The name of a volume with these bytes, which the word stands for.
+fn named<'a>(bytes: &[u8], word: &'a str) -> Result<Name, CommandFault<'a>>
+    ensures ok { IfOk result (λ name. name ≡ bytes.now) }
+    ensures fault { IfErr result (λ fault. (fault ≡ CommandFault.Name word.entry) × ¬ IsName bytes.now) }
 {
-    let Ok(mut reader) = fs::open(rt, file) else {
-        return Err(CommandFault::Read(file));
-    };
-    match load_image(alloc, &mut reader) {
-        Ok(image) => Ok(image),
-        Err(LoadFault::Read) => Err(CommandFault::Read(file)),
-        Err(LoadFault::Memory) => Err(CommandFault::Memory),
-        Err(LoadFault::TurnLimit) => Err(CommandFault::Endless(file)),
-        Err(LoadFault::Size(refused)) => {
-            Err(CommandFault::Refused(Refusal::of_size(refused.fault)))
-        }
-    }
-}
-
-/// The volume of an image file.
-pub(crate) fn open_volume<'a, R: Files>(
-    rt: &R,
-    alloc: Global,
-    file: &'a str,
-) -> Result<Volume, CommandFault<'a>> {
-    let image = read_image(rt, alloc, file)?;
-    accept(alloc, image)
-}
-
-/// The volume of an image, if it is accepted.
-fn accept<'a>(alloc: Global, image: Image) -> Result<Volume, CommandFault<'a>>
-    ensures { MatchResult result (λ volume. Accepts image volume.was_validated volume.image) (IsRefusedFor image) }
-{
-    match check(alloc, image) {
-        Ok(volume) => Ok(volume),
-        Err(rejected) => Err(CommandFault::from(rejected.fault)),
+    match Name::new(bytes) {
+        Ok(name) => Ok(name),
+        Err(_) => Err(CommandFault::Name(word)),
     }
 }
 
@@ -165,21 +157,6 @@ fn tell_check<'a, W: Write>(
 {
     let volume = accept(alloc, image)?;
     tell(writer, accepted(&volume).as_bytes())
-}
-
-/// Tells the directories and files of an image.
-fn tell_list<'a, W: Write>(
-    alloc: Global,
-    image: Image,
-    writer: &mut W,
-) -> Result<(), CommandFault<'a>>
-    ensures { TellsOf IsListText BeginsListText image (W.contents writer.old) (W.contents writer.new) result }
-{
-    let volume = accept(alloc, image)?;
-    match write_list(alloc, &volume, writer) {
-        Ok(()) => Ok(()),
-        Err(fault) => Err(CommandFault::from(fault)),
-    }
 }
 
 /// Tells what DISK_INFO answers over an image, and whether its boot blocks run.

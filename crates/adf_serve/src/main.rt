@@ -1,8 +1,11 @@
 //! An AmigaDOS file system handler for floppy images, as a program.
 #![tactic(auto)]
 
+mod changing;
 mod commands;
 mod fault;
+mod images;
+mod moving;
 mod refusal;
 mod script;
 mod serving;

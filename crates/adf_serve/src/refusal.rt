@@ -1,17 +1,14 @@
-//! Why an image is refused.
-ghost use Rattle.std.specs.Prelude.{◌≡◌, ◌≢◌, ◌↔◌, IfSome, IfNone, OnOk, OnErr, IfErr};
-ghost use Rattle.std.specs.Io.KnownBytes.{Appends};
+//! Why an image is refused, and what AmigaDOS refuses.
+ghost use Rattle.std.specs.Prelude.{◌≡◌, ◌≢◌, IfSome, IfNone, IfOk};
+ghost use Rattle.std.specs.String.{string_bytes};
 ghost use Rattle.ados_tree.specs.declared.fault.FaultKind.TheVariants.{NoMemory};
-ghost use Rattle.adf_listing.specs.Fronts.{WritesFront};
-ghost use Rattle.adf_serve.specs.Commands.{IsNoRefusal};
-ghost use Rattle.adf_serve.specs.Refusals.{kind_word, refusal_line, size_word};
+ghost use Rattle.adf_serve.specs.Refusals.{dos_line, kind_word, refusal_line, size_word};
 
-use crate::commands::tell;
-use crate::fault::CommandFault;
 use adf_block::SizeFault;
+use adf_transfer::Refused;
 use ados_volume::{FaultKind, VolumeFault};
-use std::alloc::Global;
-use std::io::Write;
+use std::alloc::{AllocError, Global};
+use std::fmt;
 use thiserror::Error;
 
 /// Why an image is refused: the word for its fault, and the block that shows it, which is 0 for a fault of the size.
@@ -48,19 +45,53 @@ impl Refusal {
         })
     }
 
-    /// Prints it as a line of standard output.
-    pub(crate) fn print<'a, W: Write>(
-        self,
-        alloc: Global,
-        writer: &mut W,
-    ) -> Result<(), CommandFault<'a>>
-        ensures ok { OnOk result (Appends (W.contents writer.old) (W.contents writer.new) (refusal_line self)) }
-        ensures front { OnErr result (WritesFront (W.contents writer.old) (W.contents writer.new) (refusal_line self)) }
-        ensures no_refusal { IfErr result IsNoRefusal }
+    /// Its line of standard output.
+    pub(crate) fn line(&self, alloc: Global) -> Result<String, AllocError>
+        ensures { IfOk result (λ line. string_bytes line ≡ refusal_line self.now) }
     {
-        let Refusal { kind, block } = self;
+        let Refusal { kind, block } = *self;
         let line = format!(in alloc; "refused {kind} {block}\n")?;
-        tell(writer, line.as_bytes())
+        Ok(line)
+    }
+}
+
+/// What AmigaDOS refuses. As text it is the words for the error.
+#[derive(Debug, Drop)]
+pub struct DosRefusal {
+    /// The error, and the path that it is told of.
+    pub refused: Refused,
+    /// What is wanting where the disk is full.
+    pub room: Option<Room>,
+}
+
+/// How many blocks are needed, and how many are free.
+#[derive(Clone, Copy, Debug)]
+pub struct Room {
+    pub needed: u64,
+    pub free: u32,
+}
+
+impl DosRefusal {
+    /// Its line of standard output.
+    pub(crate) fn line(&self, alloc: Global) -> Result<String, AllocError>
+        ensures { IfOk result (λ line. string_bytes line ≡ dos_line self.now) }
+    {
+        let number = self.refused.error.number();
+        let line = format!(in alloc; "refused {number} {}\n", self.refused.path.as_str())?;
+        Ok(line)
+    }
+}
+
+impl fmt::Display for DosRefusal {
+    fn fmt<W: fmt::Write>(&self, f: &mut fmt::Formatter<W>) -> fmt::Result {
+        match self.room {
+            None => write!(f, "{}", self.refused),
+            Some(Room { needed, free }) => write!(
+                f,
+                "{}: {needed} blocks are needed and {free} are free",
+                self.refused
+            ),
+        }
     }
 }
 

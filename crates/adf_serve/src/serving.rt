@@ -1,14 +1,16 @@
 //! The command `serve`: scripts over an image, each as a client on a thread of its own.
 ghost use Rattle.std.specs.Prelude.{◌≡◌, length, IfOk};
 
-use crate::commands::{open_volume, tell, write_image};
+use crate::commands::tell;
 use crate::fault::CommandFault;
+use crate::images::{hold_out, open_volume, write_image};
 use adf_clients::{ClientEnding, OpenGate};
+use adf_jobs::ServeJob;
 use adf_script::read_script;
-use adf_words::ServeJob;
 use ados_run::{VolumeServed, serve_volume};
 use std::alloc::Global;
 use std::fs;
+use std::fs::File;
 use std::io::Write;
 use std::rt::Files;
 use std::sync::Wait;
@@ -27,9 +29,13 @@ pub(crate) fn serve<'a, R, W>(
     writer: &mut W,
 ) -> Result<(), CommandFault<'a>>
 where
-    R: Files + Threads + Wait + Copy + Send + Drop + 'static,
+    R: Files<File = File> + Threads + Wait + Copy + Send + Drop + 'static,
     W: Write,
 {
+    let _held = match job.out {
+        Some(file) => hold_out(rt, file)?,
+        None => None,
+    };
     let volume = open_volume(rt, alloc, job.image)?;
     let scripts = read_scripts(rt, alloc, job.scripts.as_slice())?;
     let VolumeServed { handler, texts } = serve_volume(
@@ -37,7 +43,7 @@ where
     )?;
     let told = tell_all(&texts, writer);
     if let Some(file) = job.out {
-        write_image(rt, handler.volume().image(), file)?;
+        write_image(rt, alloc, handler.volume().image(), file)?;
     }
     told?;
     judge(&texts)

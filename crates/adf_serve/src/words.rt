@@ -6,17 +6,19 @@ ghost use Rattle.adf_serve.specs.Script.{RunsScript};
 use crate::commands::run_job;
 use crate::fault::CommandFault;
 use crate::script::try_script;
+use adf_jobs::Job;
 use adf_script::TryFault;
-use adf_words::{Job, WordsFault, read_words};
+use adf_words::{WordsFault, read_words};
 use std::alloc::Global;
+use std::fs::File;
 use std::io::{Read, Write};
-use std::rt::Files;
+use std::rt::{Clock, Files};
 use std::sync::Wait;
 use std::thread::Threads;
 
 /// Runs the program on the words behind its own name, and answers its exit status: 0 done, 1 a wrong command line,
 /// 2 a file or stream that cannot be read or written, no memory, no thread, or a client that ran out of tries, 3 an
-/// image, a name or a script that is refused. What went wrong with the words, the files or the streams is told on
+/// image, a name, a script or a change that is refused. What went wrong with the words, the files or the streams is told on
 /// `faults`.
 pub fn run_words<T, R, W, F>(
     rt: &T,
@@ -27,7 +29,7 @@ pub fn run_words<T, R, W, F>(
     faults: &mut F,
 ) -> u8
 where
-    T: Files + Threads + Wait + Copy + Send + Drop + 'static,
+    T: Files<File = File> + Clock + Threads + Wait + Copy + Send + Drop + 'static,
     R: Read,
     W: Write,
     F: Write,
@@ -39,7 +41,10 @@ where
 {
     match read_words(alloc, words) {
         Ok(Job::Script) => run_script(alloc, reader, writer, faults),
-        Ok(Job::OnImage(job)) => status_of(run_job(rt, alloc, job, writer), faults),
+        Ok(Job::OnImage(job)) => {
+            let done = run_job(rt, alloc, job, writer, faults);
+            status_of(done, faults)
+        }
         Err(fault) => tell_wrong_words(fault, faults),
     }
 }
@@ -93,7 +98,7 @@ fn run_script<R: Read, W: Write, F: Write>(
     }
 }
 
-/// Tells a person of a fault, but of a refused image and a faulty script, of which standard output tells.
+/// Tells a person of a fault, but of a refused image and a faulty script, of which standard output tells all.
 fn tell_fault<F: Write>(fault: &CommandFault<'_>, faults: &mut F) {
     if !matches!(fault, CommandFault::Refused(_) | CommandFault::Script) {
         let _ = write!(faults, "adf_serve: {fault}\n");

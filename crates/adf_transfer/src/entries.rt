@@ -1,12 +1,13 @@
 //! Changes of a directory's entries.
 
-ghost use Rattle.std.specs.Prelude.{◌≡◌, ◌==◌, ◌&&◌, not, []};
+ghost use Rattle.std.specs.Prelude.{◌≡◌, ◌==◌, ◌&&◌, not, [], IfOk};
 ghost use Rattle.ados_tree.specs.Tree.{Tree, entries};
 ghost use Rattle.ados_tree.specs.Tree.Content.{Directory};
 ghost use Rattle.ados_tree.specs.Stands.{Stands};
 ghost use Rattle.ados_tree.specs.Change.{made, removed, renamed};
 ghost use Rattle.ados_tree.specs.Keys.{HasDirectory, HasKey};
 ghost use Rattle.ados_name.specs.Protection.{denies_delete};
+ghost use Rattle.change_entries.specs.Conditions.{IsUnused};
 ghost use Rattle.ados_handler.specs.Objects.{is_under, protection_of};
 ghost use Rattle.ados_handler.specs.Refusals.{is_empty, is_some_and};
 ghost use Rattle.ados_tree.specs.Walk.{child_of};
@@ -29,7 +30,8 @@ pub fn make_directory(
     moment: Date3,
 ) -> Result<u32, DosError>
     requires { HasDirectory volume.old.image dir }
-    ensures { Changes (make_refusal dir name) (λ key t. made moment dir key name (Directory []) t) volume.old volume.new result }
+    ensures made { Changes (make_refusal dir name) (λ key t. made moment dir key name (Directory []) t) volume.old volume.new result }
+    ensures unused { IfOk result (λ key. (t : Tree) → Stands volume.old.image t → IsUnused t key) }
 {
     prove!(volume.image().blocks() >= 16);
     if volume.child(dir, &name).is_some() {

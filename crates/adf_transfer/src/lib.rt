@@ -10,6 +10,7 @@ mod fields;
 mod paths;
 mod prune;
 mod put;
+mod refused;
 mod room;
 
 pub use below::{Below, entries_below};
@@ -19,4 +20,5 @@ pub use fields::{comment, protect, relabel};
 pub use paths::{Stopped, locate, place};
 pub use prune::delete_all;
 pub use put::{NewFile, NotPut, add_file, replace_file};
+pub use refused::{Refused, error_words};
 pub use room::free_blocks;

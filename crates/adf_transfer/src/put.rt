@@ -1,10 +1,11 @@
 //! Putting files: new ones, and others in place of what is there.
 
-ghost use Rattle.std.specs.Prelude.{◌≡◌, ◌<◌, ◌≤◌, ◌&&◌, not, length, MatchResult};
+ghost use Rattle.std.specs.Prelude.{◌≡◌, ◌<◌, ◌≤◌, ◌&&◌, not, length, IfOk, MatchResult};
 ghost use Rattle.ados_name.specs.Protection.{denies_write};
 ghost use Rattle.ados_tree.specs.Tree.{Tree, free};
 ghost use Rattle.ados_tree.specs.Stands.{Stands};
 ghost use Rattle.ados_tree.specs.Keys.{HasDirectory, HasEntryKey, HasFileKey, HasKey};
+ghost use Rattle.change_entries.specs.Conditions.{IsUnused};
 ghost use Rattle.ados_handler.specs.Objects.{protection_of};
 ghost use Rattle.adf_transfer.specs.Changes.{Changes, added, described, filled};
 ghost use Rattle.adf_transfer.specs.Refusals.{add_refusal, more_blocks, replace_refusal};
@@ -62,7 +63,8 @@ pub fn add_file(
     moment: Date3,
 ) -> Result<u32, NotPut>
     requires { HasDirectory volume.old.image dir }
-    ensures { Changes (add_refusal dir name (length file.now.bytes.now)) (λ key t. added moment dir key name file.now t) volume.old volume.new result }
+    ensures added { Changes (add_refusal dir name (length file.now.bytes.now)) (λ key t. added moment dir key name file.now t) volume.old volume.new result }
+    ensures unused { IfOk result (λ key. (t : Tree) → Stands volume.old.image t → IsUnused t key) }
 {
     prove!(volume.image().blocks() >= 16);
     if volume.child(dir, &name).is_some() {

@@ -1,8 +1,8 @@
 -- Words that are no text.
 use Rattle.std.specs.Prelude.{ℕ, List, ⊤}
 use Rattle.std.specs.Str.{IsUtf8}
-use Rattle.adf_words.specs.declared.command.WordsFault.{WordsFault}
-use Rattle.adf_words.specs.declared.command.WordsFault.TheVariants.{Usage, Memory}
+use Rattle.adf_words.specs.declared.fault.WordsFault.{WordsFault}
+use Rattle.adf_words.specs.declared.fault.WordsFault.TheVariants.{Usage, Memory}
 
 -- a wrong command line is told of only where the word is not UTF-8
 abbrev pub TellsForeign : List ℕ → WordsFault → Type 0

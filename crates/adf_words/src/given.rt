@@ -4,7 +4,7 @@ ghost use Rattle.std.specs.Str.{IsUtf8};
 ghost use Rattle.std.specs.String.{string_bytes};
 ghost use Rattle.adf_words.specs.Given.{TellsForeign};
 
-use crate::command::WordsFault;
+use crate::fault::WordsFault;
 use std::alloc::Global;
 use std::env::FillError;
 use std::rt::Env;

@@ -1,11 +1,17 @@
 //! The command line: from the words after the program's name to the job that they ask for.
 #![tactic(auto)]
 
-mod command;
+mod changing;
 mod commands;
+mod fault;
 mod given;
+mod letters;
+mod numbers;
+mod parts;
 mod reading;
+mod taking;
+mod wanted;
 
-pub use command::{ImageJob, Job, ServeJob, WordsFault};
+pub use fault::WordsFault;
 pub use given::{given_words, word_of};
 pub use reading::read_words;

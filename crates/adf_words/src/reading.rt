@@ -1,11 +1,16 @@
 //! From words to a job.
-ghost use Rattle.std.specs.Prelude.{◌≡◌, ◌≤◌, [], IfOk};
+ghost use Rattle.std.specs.Prelude.{◌≡◌, []};
 
-use crate::command::{ImageJob, Job, ServeJob, WordsFault};
+use crate::changing::{boot_job, change_job};
 use crate::commands::program;
+use crate::fault::WordsFault;
+use crate::letters::letters_of;
+use crate::numbers::{moment_of, number_of};
+use crate::taking::{extract_job, list_job, print_job};
+use crate::wanted::{missing, word_for, words_for};
 use adf_block::Format;
 use adf_block::layout::{FEWEST_BLOCKS, MOST_BLOCKS};
-use ados_name::Date3;
+use adf_jobs::{ImageJob, Job, ServeJob};
 use clap::ArgMatches;
 use std::alloc::Global;
 
@@ -13,9 +18,6 @@ use std::alloc::Global;
 const DOUBLE_DENSITY: u32 = 1_760;
 
 const HIGH_DENSITY: u32 = 3_520;
-
-/// The largest number of a moment.
-const LARGEST: u64 = 4_294_967_295;
 
 /// The job that these words ask for, which stand behind the program's own name.
 pub fn read_words<'a>(alloc: Global, words: &'a [String]) -> Result<Job<'a>, WordsFault>
@@ -46,30 +48,26 @@ fn job_of<'a>(
     name: &str,
     words: &ArgMatches<'a>,
 ) -> Result<Option<ImageJob<'a>>, WordsFault> {
-    if name == "serve" {
-        return serve_job(alloc, words);
-    }
-    let Some(file) = words.get_str("FILE") else {
-        return Ok(None);
+    let job = match name {
+        "blank" => blank_job(alloc, words)?,
+        "info" => ImageJob::Info {
+            file: word_for(alloc, words, "FILE")?,
+        },
+        "check" => ImageJob::Check {
+            file: word_for(alloc, words, "FILE")?,
+        },
+        "list" => list_job(alloc, words)?,
+        "print" => print_job(alloc, words)?,
+        "extract" => extract_job(alloc, words)?,
+        "boot" => boot_job(alloc, words)?,
+        "serve" => serve_job(alloc, words)?,
+        _ => return change_job(alloc, name, words),
     };
-    match name {
-        "blank" => blank_job(alloc, words, file),
-        "info" => Ok(Some(ImageJob::Info { file })),
-        "check" => Ok(Some(ImageJob::Check { file })),
-        "list" => Ok(Some(ImageJob::List { file })),
-        _ => Ok(None),
-    }
+    Ok(Some(job))
 }
 
 /// The job of `blank`.
-fn blank_job<'a>(
-    alloc: Global,
-    words: &ArgMatches<'a>,
-    file: &'a str,
-) -> Result<Option<ImageJob<'a>>, WordsFault> {
-    let Some(name) = words.get_str("NAME") else {
-        return Ok(None);
-    };
+fn blank_job<'a>(alloc: Global, words: &ArgMatches<'a>) -> Result<ImageJob<'a>, WordsFault> {
     let (fewest, most) = (u64::from(FEWEST_BLOCKS), u64::from(MOST_BLOCKS));
     let given = match words.get_str("blocks") {
         Some(_) => Some(number_of(alloc, words, "blocks", fewest, most)? as u32),
@@ -85,64 +83,31 @@ fn blank_job<'a>(
     } else {
         Format::Ofs
     };
-    Ok(Some(ImageJob::Blank {
+    let (name, letters) = (word_for(alloc, words, "NAME")?, words.get_flag("letters"));
+    if letters {
+        letters_of(alloc, name)?;
+    }
+    Ok(ImageJob::Blank {
         format,
         blocks: given.unwrap_or(usual),
         moment: moment_of(alloc, words)?,
         name,
-        file,
-    }))
+        letters,
+        file: word_for(alloc, words, "FILE")?,
+    })
 }
 
 /// The job of `serve`.
-fn serve_job<'a>(
-    alloc: Global,
-    words: &ArgMatches<'a>,
-) -> Result<Option<ImageJob<'a>>, WordsFault> {
-    let Some(image) = words.get_str("IMAGE") else {
-        return Ok(None);
-    };
-    let scripts = Vec::from_slice(alloc, words.get_strs("SCRIPT").unwrap_or(&[]))?;
+fn serve_job<'a>(alloc: Global, words: &ArgMatches<'a>) -> Result<ImageJob<'a>, WordsFault> {
+    let scripts = words_for(alloc, words, "SCRIPT")?;
     if scripts.is_empty() {
-        return Ok(None);
+        return Err(missing(alloc, "SCRIPT")?);
     }
-    Ok(Some(ImageJob::Serve(ServeJob {
-        image,
+    Ok(ImageJob::Serve(ServeJob {
+        image: word_for(alloc, words, "IMAGE")?,
         scripts,
         out: words.get_str("out"),
         turns: number_of(alloc, words, "turns", 0, u64::MAX)?,
         moment: moment_of(alloc, words)?,
-    })))
-}
-
-/// The moment of a command.
-fn moment_of(alloc: Global, words: &ArgMatches<'_>) -> Result<Date3, WordsFault> {
-    Ok(Date3 {
-        days: number_of(alloc, words, "days", 0, LARGEST)? as u32,
-        minutes: number_of(alloc, words, "minutes", 0, LARGEST)? as u32,
-        ticks: number_of(alloc, words, "ticks", 0, LARGEST)? as u32,
-    })
-}
-
-/// The value of a number's option, which is digits alone: a parse by `clap` would take a sign too.
-fn number_of(
-    alloc: Global,
-    words: &ArgMatches<'_>,
-    id: &str,
-    least: u64,
-    most: u64,
-) -> Result<u64, WordsFault>
-    ensures { IfOk result (λ number. (least ≤ number) × (number ≤ most)) }
-{
-    let text = words.get_str(id).unwrap_or("");
-    if text.as_bytes().iter().all(|byte| byte.is_ascii_digit()) {
-        if let Ok(number) = text.parse::<u64>() {
-            if least <= number && number <= most {
-                return Ok(number);
-            }
-        }
-    }
-    Err(WordsFault::Usage(format!(in alloc;
-        "error: invalid value '{text}' for '--{id} <N>': a decimal number from {least} to {most} is expected\n\nFor more information, try '--help'.\n"
-    )?))
+    }))
 }

@@ -4,26 +4,27 @@ use Rattle.ados_packet.specs.declared.info.FileInfo.{FileInfo}
 use Rattle.ados_tree.specs.Tree.{Tree}
 use Rattle.adf_script.specs.Streams.{Writes}
 use Rattle.adf_listing.specs.declared.listing.Listing.{Listing}
-use Rattle.adf_listing.specs.Listing.{Listed, listing, AreLines, IsLine, volume_line}
+use Rattle.adf_listing.specs.Listing.{Listed, listing, AreLines, IsLine, shown, volume_line}
 use Rattle.adf_listing.specs.steps.Levels.{IsSoFar, work}
 
 -- a line is appended, that of the entry with this path
-abbrev pub PushesLine : List ℕ → List ℕ → FileInfo → List ℕ → Type 0
-PushesLine old new info path = (line : List ℕ) × IsLine info path line × (new ≡ old ++ line)
+abbrev pub PushesLine : Bool → List ℕ → List ℕ → FileInfo → List ℕ → Type 0
+PushesLine as_letters old new info path = (line : List ℕ) × IsLine info (shown as_letters path) line × (new ≡ old ++ line)
 
 -- the front of a text is written, and the rest of it is kept
 abbrev pub Passes : Option (List ℕ) → Option (List ℕ) → List ℕ → List ℕ → Type 0
 Passes old new text rest = Writes old new (λ written. text ≡ written ++ rest)
 
 -- the volume's line is there, and no entry came
-abbrev pub Starts : Tree → Listing → Type 0
-Starts t new =
-    (new.text.items ≡ volume_line t) × IsSoFar t new.levels.items new.path.items [] (listing t) × (work new.levels.items (listing t) < 2 * t.blocks)
+abbrev pub Starts : Tree → ℕ → Bool → Listing → Type 0
+Starts t dir as_letters new =
+    (new.text.items ≡ volume_line t as_letters)
+    × IsSoFar t dir new.levels.items new.path.items [] (listing t dir) × (work new.levels.items (listing t dir) < 2 * t.blocks)
 
 -- one step goes on: some entries came with their lines, and less is left to be done; or, where nothing was left, nothing changes
-abbrev pub GoesOn : Tree → Listing → Listing → List Listed → List Listed → Bool → Type 0
-GoesOn t old new first left true =
+abbrev pub GoesOn : Tree → ℕ → Bool → Listing → Listing → List Listed → List Listed → Bool → Type 0
+GoesOn t dir as_letters old new first left true =
     (came : List Listed) × (rest : List Listed) × (lines : List ℕ)
-    × (left ≡ came ++ rest) × AreLines t came lines × (new.text.items ≡ old.text.items ++ lines)
-    × IsSoFar t new.levels.items new.path.items (first ++ came) rest × (work new.levels.items rest < work old.levels.items left)
-GoesOn t old new first left false = (left ≡ []) × (new.text.items ≡ old.text.items)
+    × (left ≡ came ++ rest) × AreLines t as_letters came lines × (new.text.items ≡ old.text.items ++ lines)
+    × IsSoFar t dir new.levels.items new.path.items (first ++ came) rest × (work new.levels.items rest < work old.levels.items left)
+GoesOn t dir as_letters old new first left false = (left ≡ []) × (new.text.items ≡ old.text.items)

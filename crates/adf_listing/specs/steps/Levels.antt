@@ -1,5 +1,5 @@
 -- Where a list of a volume stands.
-use Rattle.std.specs.Prelude.{◌≡◌, ℕ, suc, ◌+◌, ◌*◌, ◌≤◌, List, [], ◌∷◌, ◌++◌, length, flat_map, All, Some}
+use Rattle.std.specs.Prelude.{◌≡◌, ℕ, suc, ◌+◌, ◌*◌, ◌<◌, ◌≤◌, List, [], ◌∷◌, ◌++◌, length, flat_map, All, Some}
 use Rattle.ados_tree.specs.Change.{entries_after}
 use Rattle.ados_tree.specs.Keys.{HasDirectory}
 use Rattle.ados_tree.specs.Tree.{Tree, LeadsToRoot, name_of}
@@ -35,10 +35,12 @@ pub data IsLeft (t : Tree) : List Level → List ℕ → List Listed → ℕ →
       → levels ≡ lower ++ level ∷ [] → (o : IsOpen t level path) → IsLeft t lower o.before later (suc depth)
       → left ≡ flat_map (with_below t depth o.before) o.keys ++ later → IsLeft t levels path left depth
 
--- a list so far: these entries came, this is left of the directories that stand open, and no more of them stand open than came
-pub record IsSoFar (t : Tree) (levels : List Level) (path : List ℕ) (first left : List Listed) : Type 0 where
+-- a list so far: these entries came, this is left of the directories that stand open, no more of them stand open than came, and
+-- all entries are fewer than the blocks
+pub record IsSoFar (t : Tree) (dir : ℕ) (levels : List Level) (path : List ℕ) (first left : List Listed) : Type 0 where
   pub depth : ℕ
-  pub split : listing t ≡ first ++ left
+  pub few : length (listing t dir) + 1 ≤ t.blocks
+  pub split : listing t dir ≡ first ++ left
   pub is_left : IsLeft t levels path left depth
   pub high : length levels ≤ length first + 1
 

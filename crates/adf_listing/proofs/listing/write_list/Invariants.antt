@@ -7,4 +7,4 @@ use Rattle.adf_listing.proofs.listing.write_list.Given as goal
 -- the levels are directories of the volume, and the list is written so far
 abbrev pub invariant-loop : goal.invariant-loop
 invariant-loop g l = AreDirectories l.volume.image l.listing.levels.items
-    × ((t : Tree) → Stands l.volume.image t → IsWritten t (g.W.Write.contents l.initial.writer) (g.W.Write.contents l.writer) l.listing l.counter)
+    × ((t : Tree) → Stands l.volume.image t → IsWritten t l.dir l.letters (g.W.Write.contents l.initial.writer) (g.W.Write.contents l.writer) l.listing l.counter)

@@ -6,6 +6,7 @@ use Rattle.ados_tree.specs.Stands.{Stands}
 use Rattle.ados_tree.specs.Walk.{child_of}
 use Rattle.ados_volume.specs.Shown.{Shown}
 use Rattle.ados_handler.specs.Objects.{lacks}
+use Rattle.change_entries.proofs.Making.{unused}
 use Rattle.ados_handler.proofs.FreeBlock.{none_free_lacks}
 use Rattle.ados_handler.proofs.Holding.{true_false}
 use Rattle.ados_handler.proofs.Making.{none_there}
@@ -29,8 +30,8 @@ unreachable-requires c =
     let room : lacks t 1 ≡ false = le-ltb (free_of t) 1 (omega (arith, free, c.if-free-lt1.false)) in
     true_false (sym (none_free_lacks c.child.new.self.image t s c.in_default.ensures.done.0) ∙ room)
 
-pub returns-then-free-lt1 : goal.returns-then-free-lt1
-returns-then-free-lt1 c = (
+pub returns-then-free-lt1-clause-made : goal.returns-then-free-lt1-clause-made
+returns-then-free-lt1-clause-made c = (
   c.child.ensures.same,
   λ t s.
       let there = subst (λ (v : Shown). Stands v.image t) (sym c.child.ensures.same) s in
@@ -39,8 +40,11 @@ returns-then-free-lt1 c = (
       passed ObjectExists (is_some (child_of t c.args.dir c.args.name)) _ absent ∙ stops DiskFull (lacks t 1) [] (lt-ltb (free_of t) 1 (omega (arith, free, c.if-free-lt1.true))),
 )
 
-pub returns : goal.returns
-returns c = λ t s.
+pub returns-clause-unused : goal.returns-clause-unused
+returns-clause-unused c = λ t s. unused c.child.new.self.image t (subst (λ (v : Shown). Stands v.image t) (sym c.child.ensures.same) s) c.in-Ok.key c.in-Ok.ensures.done.0
+
+pub returns-clause-made : goal.returns-clause-made
+returns-clause-made c = λ t s.
     let there = subst (λ (v : Shown). Stands v.image t) (sym c.child.ensures.same) s in
     let absent = ap is_some (sym (c.child.ensures.child t s)) ∙ sym c.is_some.ensures ∙ c.if-is_some.false in
     let free = c.free_blocks-free.ensures t there in (

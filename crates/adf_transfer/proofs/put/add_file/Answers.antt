@@ -21,16 +21,16 @@ use Rattle.adf_transfer.proofs.Rooms.{as_told, has_room, new_is_empty, no_room, 
 use Rattle.adf_transfer.proofs.Rows.{stops}
 use Rattle.adf_transfer.proofs.put.add_file.Goals as goal
 
-pub returns-then-is_some : goal.returns-then-is_some
-returns-then-is_some c = (
+pub returns-then-is_some-clause-added : goal.returns-then-is_some-clause-added
+returns-then-is_some-clause-added c = (
   c.child.ensures.same,
   λ t s.
       let there = ap is_some (sym (c.child.ensures.child t s)) ∙ sym c.is_some.ensures ∙ c.if-is_some.true in
       ap (λ (o : Option DosError). or_no_room o (1 + block_cost t.format (length c.args.file.now.bytes.now)) (free_of t)) (stops ObjectExists (is_some (child_of t c.args.dir c.args.name)) [] there),
 )
 
-pub returns-in-Err : goal.returns-in-Err
-returns-in-Err c = (
+pub returns-in-Err-clause-added : goal.returns-in-Err-clause-added
+returns-in-Err-clause-added c = (
   c.child.ensures.same,
   λ t s.
       let there = subst (λ (v : Shown). Stands v.image t) (sym c.child.ensures.same) s in
@@ -74,8 +74,11 @@ fill-requires-clause-room c =
     after_change (λ (v : Tree). more_blocks v c.in-Ok.key size ≤ free_of v) (made c.args.moment c.args.dir c.in-Ok.key c.args.name (File [])) c.child.new.self.image c.create.new.self.image t there c.in-Ok.ensures.done.1
     (room_in_new t c.args.moment c.args.dir c.in-Ok.key c.args.name (c.requires t s) fresh size enough)
 
-pub returns : goal.returns
-returns c = λ t s.
+pub returns-clause-unused : goal.returns-clause-unused
+returns-clause-unused c = λ t s. unused c.child.new.self.image t (subst (λ (v : Shown). Stands v.image t) (sym c.child.ensures.same) s) c.in-Ok.key c.in-Ok.ensures.done.0
+
+pub returns-clause-added : goal.returns-clause-added
+returns-clause-added c = λ t s.
     let there = subst (λ (v : Shown). Stands v.image t) (sym c.child.ensures.same) s in
     let absent = ap is_some (sym (c.child.ensures.child t s)) ∙ sym c.is_some.ensures ∙ c.if-is_some.false in
     let needed : ℕ = 1 + block_cost t.format (length c.args.file.now.bytes.now) in (

@@ -1,0 +1,448 @@
+/* An AmigaDOS handler for floppy images: a program hands it DOS packets, and it answers them as it changes the image.
+ *
+ * WHAT THE CALLER GUARANTEES. Nothing in a C program can be proved from here, so each call stands on these:
+ *
+ *  1. A pointer that is not null leads to as many bytes as the length beside it says, or to one whole struct of its type. They
+ *     are aligned as C asks, stay allocated until the call returns, and no one else writes or reads them before that.
+ *  2. What two pointers of one call lead to does not overlap, but where both are only read. No pointer leads to what stands
+ *     behind a handle.
+ *  3. All bytes of a handle, of a packet and of what a call reads or fills have been written before the call, also of a buffer
+ *     that READ fills. An answer, a fault and a count need not have been.
+ *  4. A jip_handle is JIP_CLOSED before it is first used. Only the calls here change it, and its pointer is never followed.
+ *     A copy of it is not used once the handle, or another copy, was: a handle has one owner.
+ *  5. A handle is used by one call at a time, and only on the thread that opened it, which closes it too. Any number of handles
+ *     may be used side by side, on any threads.
+ *  6. malloc, realloc and free come from one allocator, and align a block to each power of two up to 16 that divides its size.
+ *  7. No call is made from a signal handler, nor in the forked child of a process with threads.
+ *
+ * WHAT IS LOOKED AT. A null pointer where bytes or a struct are needed, a length that no memory has, a text past 255 bytes, a
+ * name, a size or a format that there is not, and a handle that is closed, or open where it is to be opened: the call answers
+ * JIP_WRONG_ARGUMENT and has changed nothing. A null pointer with the length 0 is an empty text or buffer.
+ */
+#ifndef JIPONUWHA_H
+#define JIPONUWHA_H
+
+#include <stddef.h>
+#include <stdint.h>
+#include <string.h>
+
+#ifdef __cplusplus
+extern "C" {
+#endif
+
+/* What a call comes to. A packet that is refused is answered all the same: its results say so, and the status is JIP_DONE. */
+enum jip_status {
+    JIP_DONE = 0,
+    JIP_NOT_AN_IMAGE = 1,
+    JIP_NO_MEMORY = 2,
+    JIP_WRONG_ARGUMENT = 3
+};
+
+/* The old and the fast file system. */
+enum jip_format { JIP_OFS = 0, JIP_FFS = 1 };
+
+/* The blocks of a floppy of double and of high density. */
+enum jip_size { JIP_DOUBLE_DENSITY = 1760, JIP_HIGH_DENSITY = 3520 };
+
+/* Why bytes are no image. */
+enum jip_fault_kind {
+    JIP_FAULT_NONE = 0,
+    JIP_FAULT_NOT_A_DOS_DISK = 1,
+    JIP_FAULT_UNSUPPORTED_KIND = 2,
+    JIP_FAULT_BAD_SUM = 3,
+    JIP_FAULT_BAD_TYPE = 4,
+    JIP_FAULT_BAD_OWN_KEY = 5,
+    JIP_FAULT_BAD_PARENT = 6,
+    JIP_FAULT_BAD_POINTER = 7,
+    JIP_FAULT_BLOCK_USED_TWICE = 8,
+    JIP_FAULT_WRONG_CHAIN = 9,
+    JIP_FAULT_BAD_NAME = 10,
+    JIP_FAULT_DUPLICATE_NAME = 11,
+    JIP_FAULT_BAD_COMMENT = 12,
+    JIP_FAULT_BAD_COUNT = 13,
+    JIP_FAULT_BAD_SEQUENCE = 14,
+    JIP_FAULT_LINK_ENTRY = 15,
+    JIP_FAULT_MARKED_FREE = 17,
+    JIP_FAULT_NOT_WHOLE_BLOCKS = 101,
+    JIP_FAULT_TOO_FEW_BLOCKS = 102,
+    JIP_FAULT_TOO_MANY_BLOCKS = 103
+};
+
+/* The actions that are served, by their numbers in the AmigaDOS Technical Reference. */
+enum jip_action {
+    JIP_ACTION_DIE = 5,
+    JIP_ACTION_LOCATE_OBJECT = 8,
+    JIP_ACTION_RENAME_DISK = 9,
+    JIP_ACTION_FREE_LOCK = 15,
+    JIP_ACTION_DELETE_OBJECT = 16,
+    JIP_ACTION_RENAME_OBJECT = 17,
+    JIP_ACTION_COPY_DIR = 19,
+    JIP_ACTION_SET_PROTECT = 21,
+    JIP_ACTION_CREATE_DIR = 22,
+    JIP_ACTION_EXAMINE_OBJECT = 23,
+    JIP_ACTION_EXAMINE_NEXT = 24,
+    JIP_ACTION_DISK_INFO = 25,
+    JIP_ACTION_INFO = 26,
+    JIP_ACTION_SET_COMMENT = 28,
+    JIP_ACTION_PARENT = 29,
+    JIP_ACTION_SET_DATE = 34,
+    JIP_ACTION_SAME_LOCK = 40,
+    JIP_ACTION_READ = 82,
+    JIP_ACTION_WRITE = 87,
+    JIP_ACTION_FINDUPDATE = 1004,
+    JIP_ACTION_FINDINPUT = 1005,
+    JIP_ACTION_FINDOUTPUT = 1006,
+    JIP_ACTION_END = 1007,
+    JIP_ACTION_SEEK = 1008,
+    JIP_ACTION_SET_FILE_SIZE = 1022
+};
+
+/* The second result of a packet that is refused. */
+enum jip_error {
+    JIP_ERROR_NO_FREE_STORE = 103,
+    JIP_ERROR_OBJECT_IN_USE = 202,
+    JIP_ERROR_OBJECT_EXISTS = 203,
+    JIP_ERROR_DIR_NOT_FOUND = 204,
+    JIP_ERROR_OBJECT_NOT_FOUND = 205,
+    JIP_ERROR_ACTION_NOT_KNOWN = 209,
+    JIP_ERROR_INVALID_COMPONENT_NAME = 210,
+    JIP_ERROR_INVALID_LOCK = 211,
+    JIP_ERROR_OBJECT_WRONG_TYPE = 212,
+    JIP_ERROR_DIRECTORY_NOT_EMPTY = 216,
+    JIP_ERROR_DEVICE_NOT_MOUNTED = 218,
+    JIP_ERROR_SEEK_ERROR = 219,
+    JIP_ERROR_COMMENT_TOO_BIG = 220,
+    JIP_ERROR_DISK_FULL = 221,
+    JIP_ERROR_DELETE_PROTECTED = 222,
+    JIP_ERROR_WRITE_PROTECTED = 223,
+    JIP_ERROR_READ_PROTECTED = 224,
+    JIP_ERROR_NOT_A_DOS_DISK = 225,
+    JIP_ERROR_NO_MORE_ENTRIES = 232
+};
+
+/* DOSTRUE and DOSFALSE; the modes of a lock, and of SEEK and SET_FILE_SIZE; the types of an entry; the states of a disk. */
+enum jip_result { JIP_DOSFALSE = 0, JIP_DOSTRUE = -1 };
+enum jip_lock_mode { JIP_SHARED_LOCK = -2, JIP_EXCLUSIVE_LOCK = -1 };
+enum jip_seek_mode { JIP_OFFSET_BEGINNING = -1, JIP_OFFSET_CURRENT = 0, JIP_OFFSET_END = 1 };
+enum jip_entry_type { JIP_ROOT = 1, JIP_DIRECTORY = 2, JIP_FILE = -3 };
+enum jip_disk_state { JIP_WRITE_PROTECTED = 80, JIP_VALIDATING = 81, JIP_VALIDATED = 82 };
+
+/* The most bytes of a name, of a comment and of a path. */
+enum jip_limit { JIP_NAME_BYTES = 30, JIP_COMMENT_BYTES = 79, JIP_PATH_BYTES = 255 };
+
+/* A handler over an image of its own, or none. */
+typedef struct jip_handle {
+    void *behind;
+} jip_handle;
+
+#define JIP_CLOSED {NULL}
+
+/* Days since 1 January 1978, minutes past midnight, ticks of 1/50 second past the minute. */
+typedef struct jip_date {
+    uint32_t days;
+    uint32_t minutes;
+    uint32_t ticks;
+} jip_date;
+
+/* Why bytes are no image, by jip_fault_kind, and the block that shows it. */
+typedef struct jip_fault {
+    int32_t kind;
+    uint32_t block;
+} jip_fault;
+
+/* A packet. An action reads those fields alone that it takes; the inline functions below fill them. */
+typedef struct jip_packet {
+    int32_t action;
+    uint32_t lock;    /* 0 stands for the root */
+    uint32_t to_lock; /* the lock of RENAME_OBJECT's new place, or the second one of SAME_LOCK */
+    uint32_t handle;
+    uint32_t key;
+    uint32_t bits;
+    int32_t offset;
+    int32_t mode;
+    jip_date date;
+    jip_date moment; /* the time at which the packet is served */
+    const uint8_t *path; /* a path, or the new name of RENAME_DISK */
+    size_t path_length;
+    const uint8_t *text; /* the path of RENAME_OBJECT's new place, or a comment */
+    size_t text_length;
+    uint8_t *buffer; /* the bytes that READ fills or WRITE reads */
+    size_t buffer_length;
+} jip_packet;
+
+/* What EXAMINE_OBJECT and EXAMINE_NEXT tell. A text has zeros behind it. */
+typedef struct jip_entry {
+    uint32_t key;
+    int32_t entry_type;
+    uint32_t protection;
+    uint32_t size;
+    uint32_t blocks;
+    jip_date date;
+    uint32_t name_length;
+    uint32_t comment_length;
+    uint8_t name[32];
+    uint8_t comment[80];
+} jip_entry;
+
+/* What DISK_INFO and INFO tell. */
+typedef struct jip_disk {
+    uint32_t state;
+    uint32_t blocks;
+    uint32_t used;
+    uint32_t bytes_per_block;
+    uint32_t disk_type;
+} jip_disk;
+
+/* The answer to a packet. What it does not bring is zeros. */
+typedef struct jip_answer {
+    int32_t res1;
+    int32_t res2;    /* 0, or a jip_error */
+    uint32_t handle; /* the new file handle of FINDINPUT, FINDOUTPUT and FINDUPDATE */
+    jip_entry entry;
+    jip_disk disk;
+} jip_answer;
+
+/* The library's own functions, which need every pointer and every length to be as item 1 says. Call those below instead. */
+int32_t jip_lib_open(const uint8_t *bytes, size_t length, jip_handle *handle, jip_fault *fault);
+int32_t jip_lib_blank(int32_t format, uint32_t blocks, const uint8_t *name, size_t length, const jip_date *moment, jip_handle *handle);
+int32_t jip_lib_close(jip_handle *handle);
+int32_t jip_lib_serve(jip_handle *handle, const jip_packet *packet, const uint8_t *path, size_t path_length, const uint8_t *text,
+                      size_t text_length, uint8_t *buffer, size_t buffer_length, jip_answer *answer);
+size_t jip_lib_image_length(jip_handle *handle);
+int32_t jip_lib_copy_image(jip_handle *handle, uint8_t *to, size_t length);
+uint64_t jip_lib_changes(jip_handle *handle);
+int32_t jip_lib_copy_changed(jip_handle *handle, uint8_t *copy, size_t length, uint32_t *numbers, size_t room, size_t *count);
+
+/* Whether there may be so many bytes at a pointer. */
+static inline int jip_may_hold(const void *at, size_t length) {
+    return length == 0 || (at != NULL && length <= (size_t)PTRDIFF_MAX);
+}
+
+/* Opens a closed handle on a copy of an image's bytes, once they are checked. The bytes stay the caller's, and are not looked at
+   afterwards. The handle owns memory then, until jip_close. JIP_NOT_AN_IMAGE: the fault says why. JIP_NO_MEMORY,
+   JIP_WRONG_ARGUMENT: the fault stays as it was. What is refused leaves the handle closed, or open as it was. A bitmap that is
+   marked as not valid is made anew: the image then differs from the bytes. */
+static inline int32_t jip_open(const void *bytes, size_t length, jip_handle *handle, jip_fault *fault) {
+    const uint8_t none = 0;
+    jip_fault told = {0, 0};
+    int32_t status;
+    if (!jip_may_hold(bytes, length) || handle == NULL || fault == NULL) return JIP_WRONG_ARGUMENT;
+    status = jip_lib_open(length == 0 ? &none : (const uint8_t *)bytes, length, handle, &told);
+    if (status == JIP_NOT_AN_IMAGE) *fault = told;
+    return status;
+}
+
+/* Opens a closed handle on a blank volume of 16 to 101,602 blocks of 512 bytes, whose three dates are the moment. The name has 1 to
+   30 bytes, and neither `/` nor `:`. JIP_NO_MEMORY, JIP_WRONG_ARGUMENT: the handle is as it was. */
+static inline int32_t jip_blank(int32_t format, uint32_t blocks, const void *name, size_t length, jip_date moment, jip_handle *handle) {
+    const uint8_t none = 0;
+    if (!jip_may_hold(name, length) || handle == NULL) return JIP_WRONG_ARGUMENT;
+    return jip_lib_blank(format, blocks, length == 0 ? &none : (const uint8_t *)name, length, &moment, handle);
+}
+
+/* Gives a handle up with all that stands behind it; locks and file handles of its packets are gone too. One that is closed stays
+   so. It is the only call that gives memory back. */
+static inline int32_t jip_close(jip_handle *handle) {
+    return handle == NULL ? (int32_t)JIP_WRONG_ARGUMENT : jip_lib_close(handle);
+}
+
+/* Serves one packet, and answers it. JIP_DONE: the answer is written, and its two results say what the packet came to, also where
+   it is refused; an action that is not known is answered 209. READ fills the buffer, from its first byte, with res1 bytes, and
+   leaves the rest; no other action changes it. Texts and buffer stay the caller's. JIP_NO_MEMORY (for a copy of the buffer),
+   JIP_WRONG_ARGUMENT: nothing is served or written. */
+static inline int32_t jip_serve(jip_handle *handle, const jip_packet *packet, jip_answer *answer) {
+    uint8_t none[3] = {0, 0, 0};
+    jip_answer told;
+    int32_t status;
+    if (handle == NULL || packet == NULL || answer == NULL || !jip_may_hold(packet->path, packet->path_length) ||
+        !jip_may_hold(packet->text, packet->text_length) || !jip_may_hold(packet->buffer, packet->buffer_length))
+        return JIP_WRONG_ARGUMENT;
+    memset(&told, 0, sizeof told);
+    status = jip_lib_serve(handle, packet, packet->path_length == 0 ? none : packet->path, packet->path_length,
+                           packet->text_length == 0 ? none + 1 : packet->text, packet->text_length,
+                           packet->buffer_length == 0 ? none + 2 : packet->buffer, packet->buffer_length, &told);
+    if (status == JIP_DONE) *answer = told;
+    return status;
+}
+
+/* The bytes that the image has; 0 where the handle is closed. */
+static inline size_t jip_image_length(jip_handle *handle) { return handle == NULL ? 0 : jip_lib_image_length(handle); }
+
+/* Copies the image to as many bytes as it has; another length is JIP_WRONG_ARGUMENT. The bytes are all of the image, as they are to
+   stand in its file. */
+static inline int32_t jip_copy_image(jip_handle *handle, void *to, size_t length) {
+    uint8_t none = 0;
+    if (handle == NULL || !jip_may_hold(to, length)) return JIP_WRONG_ARGUMENT;
+    return jip_lib_copy_image(handle, length == 0 ? &none : (uint8_t *)to, length);
+}
+
+/* A count that grows with every packet that changed the image; 0 where the handle is closed. Where it is the same as before, the
+   image is; a packet that wrote what was there already may count too. */
+static inline uint64_t jip_changes(jip_handle *handle) { return handle == NULL ? 0 : jip_lib_changes(handle); }
+
+/* Tells which blocks changed since the last call, and brings the caller's own copy of the image up to date, so that only these
+   blocks have to be written. `copy` is what jip_open was given, or what jip_copy_image or the last call here left, and has as many
+   bytes as the image. `numbers` gets the blocks that differ, the lowest first, and `*count` how many; room for one number for each
+   512 bytes of the image is always enough, and too little room is JIP_WRONG_ARGUMENT. Block b stands at byte 512 * b of the copy.
+   Where jip_changes has not changed since, no block has, and no call is needed. What is refused changes nothing. */
+static inline int32_t jip_copy_changed(jip_handle *handle, void *copy, size_t length, uint32_t *numbers, size_t room, size_t *count) {
+    uint8_t none = 0;
+    uint32_t no_number = 0;
+    size_t told = 0;
+    int32_t status;
+    if (handle == NULL || count == NULL || !jip_may_hold(copy, length) || room > (size_t)PTRDIFF_MAX / sizeof *numbers ||
+        !jip_may_hold(numbers, room))
+        return JIP_WRONG_ARGUMENT;
+    status = jip_lib_copy_changed(handle, length == 0 ? &none : (uint8_t *)copy, length, room == 0 ? &no_number : numbers, room, &told);
+    if (status == JIP_DONE) *count = told;
+    return status;
+}
+
+/* A packet of an action with no arguments, at a moment. */
+static inline void jip_begin(jip_packet *packet, int32_t action, jip_date moment) {
+    memset(packet, 0, sizeof *packet);
+    packet->action = action;
+    packet->moment = moment;
+}
+
+/* A null pointer is the empty text. */
+static inline void jip_put_path(jip_packet *packet, const char *path) {
+    packet->path = (const uint8_t *)path;
+    packet->path_length = path == NULL ? 0 : strlen(path);
+}
+
+static inline void jip_put_text(jip_packet *packet, const char *text) {
+    packet->text = (const uint8_t *)text;
+    packet->text_length = text == NULL ? 0 : strlen(text);
+}
+
+static inline void jip_on_lock(jip_packet *packet, int32_t action, jip_date moment, uint32_t lock, const char *path) {
+    jip_begin(packet, action, moment);
+    packet->lock = lock;
+    jip_put_path(packet, path);
+}
+
+static inline void jip_on_handle(jip_packet *packet, int32_t action, jip_date moment, uint32_t handle) {
+    jip_begin(packet, action, moment);
+    packet->handle = handle;
+}
+
+/* One function for each packet. A path or a comment is a C string; for bytes with a zero among them fill the fields yourself. */
+static inline void jip_die(jip_packet *packet, jip_date moment) { jip_begin(packet, JIP_ACTION_DIE, moment); }
+
+static inline void jip_locate_object(jip_packet *packet, jip_date moment, uint32_t lock, const char *path, int32_t mode) {
+    jip_on_lock(packet, JIP_ACTION_LOCATE_OBJECT, moment, lock, path);
+    packet->mode = mode;
+}
+
+static inline void jip_rename_disk(jip_packet *packet, jip_date moment, const char *name) {
+    jip_on_lock(packet, JIP_ACTION_RENAME_DISK, moment, 0, name);
+}
+
+static inline void jip_free_lock(jip_packet *packet, jip_date moment, uint32_t lock) {
+    jip_on_lock(packet, JIP_ACTION_FREE_LOCK, moment, lock, NULL);
+}
+
+static inline void jip_delete_object(jip_packet *packet, jip_date moment, uint32_t lock, const char *path) {
+    jip_on_lock(packet, JIP_ACTION_DELETE_OBJECT, moment, lock, path);
+}
+
+static inline void jip_rename_object(jip_packet *packet, jip_date moment, uint32_t lock, const char *path, uint32_t to_lock,
+                                     const char *to) {
+    jip_on_lock(packet, JIP_ACTION_RENAME_OBJECT, moment, lock, path);
+    packet->to_lock = to_lock;
+    jip_put_text(packet, to);
+}
+
+static inline void jip_copy_dir(jip_packet *packet, jip_date moment, uint32_t lock) {
+    jip_on_lock(packet, JIP_ACTION_COPY_DIR, moment, lock, NULL);
+}
+
+static inline void jip_set_protect(jip_packet *packet, jip_date moment, uint32_t lock, const char *path, uint32_t bits) {
+    jip_on_lock(packet, JIP_ACTION_SET_PROTECT, moment, lock, path);
+    packet->bits = bits;
+}
+
+static inline void jip_create_dir(jip_packet *packet, jip_date moment, uint32_t lock, const char *path) {
+    jip_on_lock(packet, JIP_ACTION_CREATE_DIR, moment, lock, path);
+}
+
+static inline void jip_examine_object(jip_packet *packet, jip_date moment, uint32_t lock) {
+    jip_on_lock(packet, JIP_ACTION_EXAMINE_OBJECT, moment, lock, NULL);
+}
+
+/* The key of the directory itself asks for its first entry. */
+static inline void jip_examine_next(jip_packet *packet, jip_date moment, uint32_t lock, uint32_t key) {
+    jip_on_lock(packet, JIP_ACTION_EXAMINE_NEXT, moment, lock, NULL);
+    packet->key = key;
+}
+
+static inline void jip_disk_info(jip_packet *packet, jip_date moment) { jip_begin(packet, JIP_ACTION_DISK_INFO, moment); }
+
+static inline void jip_info(jip_packet *packet, jip_date moment, uint32_t lock) {
+    jip_on_lock(packet, JIP_ACTION_INFO, moment, lock, NULL);
+}
+
+static inline void jip_set_comment(jip_packet *packet, jip_date moment, uint32_t lock, const char *path, const char *comment) {
+    jip_on_lock(packet, JIP_ACTION_SET_COMMENT, moment, lock, path);
+    jip_put_text(packet, comment);
+}
+
+static inline void jip_parent(jip_packet *packet, jip_date moment, uint32_t lock) {
+    jip_on_lock(packet, JIP_ACTION_PARENT, moment, lock, NULL);
+}
+
+static inline void jip_set_date(jip_packet *packet, jip_date moment, uint32_t lock, const char *path, jip_date date) {
+    jip_on_lock(packet, JIP_ACTION_SET_DATE, moment, lock, path);
+    packet->date = date;
+}
+
+static inline void jip_same_lock(jip_packet *packet, jip_date moment, uint32_t first, uint32_t second) {
+    jip_on_lock(packet, JIP_ACTION_SAME_LOCK, moment, first, NULL);
+    packet->to_lock = second;
+}
+
+static inline void jip_read(jip_packet *packet, jip_date moment, uint32_t handle, void *buffer, size_t length) {
+    jip_on_handle(packet, JIP_ACTION_READ, moment, handle);
+    packet->buffer = (uint8_t *)buffer;
+    packet->buffer_length = length;
+}
+
+/* The bytes are not changed, but must not be const: they are the caller's own buffer, which comes back as it was. */
+static inline void jip_write(jip_packet *packet, jip_date moment, uint32_t handle, void *bytes, size_t length) {
+    jip_read(packet, moment, handle, bytes, length);
+    packet->action = JIP_ACTION_WRITE;
+}
+
+static inline void jip_findupdate(jip_packet *packet, jip_date moment, uint32_t lock, const char *path) {
+    jip_on_lock(packet, JIP_ACTION_FINDUPDATE, moment, lock, path);
+}
+
+static inline void jip_findinput(jip_packet *packet, jip_date moment, uint32_t lock, const char *path) {
+    jip_on_lock(packet, JIP_ACTION_FINDINPUT, moment, lock, path);
+}
+
+static inline void jip_findoutput(jip_packet *packet, jip_date moment, uint32_t lock, const char *path) {
+    jip_on_lock(packet, JIP_ACTION_FINDOUTPUT, moment, lock, path);
+}
+
+static inline void jip_end(jip_packet *packet, jip_date moment, uint32_t handle) {
+    jip_on_handle(packet, JIP_ACTION_END, moment, handle);
+}
+
+static inline void jip_seek(jip_packet *packet, jip_date moment, uint32_t handle, int32_t offset, int32_t mode) {
+    jip_on_handle(packet, JIP_ACTION_SEEK, moment, handle);
+    packet->offset = offset;
+    packet->mode = mode;
+}
+
+static inline void jip_set_file_size(jip_packet *packet, jip_date moment, uint32_t handle, int32_t offset, int32_t mode) {
+    jip_seek(packet, moment, handle, offset, mode);
+    packet->action = JIP_ACTION_SET_FILE_SIZE;
+}
+
+#ifdef __cplusplus
+}
+#endif
+
+#endif

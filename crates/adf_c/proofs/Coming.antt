@@ -1,0 +1,83 @@
+-- What a call comes to, by what its parts do.
+use Rattle.std.proofs.Common.{◌≡◌, ℕ, ℤ, pos, Bool, true, false, List, Option, Some, None, Result, Ok, Err, inl, inr, refl, sym, ap, ◌∙◌, subst}
+use Rattle.std.proofs.lemmas.Bool.{false≢true, true≢false}
+use Rattle.std.specs.Prelude.{is_some}
+use Rattle.adf_block.specs.Image.{IsImage, IsSize}
+use Rattle.adf_block.specs.declared.Format.{Format}
+use Rattle.ados_name.specs.declared.Date3.{Date3}
+use Rattle.ados_name.specs.Name.{IsName}
+use Rattle.ados_packet.specs.declared.packet.Packet.{Packet}
+use Rattle.ados_tree.specs.Accepted.{Accepts}
+use Rattle.ados_tree.specs.Blank.{IsBlank}
+use Rattle.ados_handler.specs.Handler.{HandlerState}
+use Rattle.ados_handler.specs.Session.{opening_session}
+use Rattle.adf_c.specs.Calls.{Comes, IsOpen, Seats, Opens, RefusesOpen, Blanks, RefusesBlank, format_number, SpellsFitting, ServedBy, Serves, CopiesBytes, RefusesBytes, CopiesImage, RefusesCopy}
+use Rattle.adf_c.specs.Spelling.{date_of}
+use Rattle.adf_c.specs.declared.answer.JipAnswer.{JipAnswer}
+use Rattle.adf_c.specs.declared.desk.Desk.{Desk}
+use Rattle.adf_c.specs.declared.open.JipFault.{JipFault}
+use Rattle.adf_c.specs.declared.packet.JipPacket.{JipPacket}
+use Rattle.adf_c.specs.declared.refusal.Refusal.{Refusal}
+use Rattle.adf_c.specs.declared.refusal.Refusal.TheVariants.{NoMemory}
+
+-- whether a handle is open, by whether it holds a desk
+pub some_is_open : (held : Option Desk) → is_some held ≡ true → IsOpen held
+some_is_open (Some desk) t = (desk, refl)
+some_is_open None t = absurd (false≢true t)
+
+pub none_is_closed : (held : Option Desk) → is_some held ≡ false → held ≡ None
+none_is_closed (Some desk) t = absurd (true≢false t)
+none_is_closed None t = refl
+
+-- a new desk is seated
+pub seats : (new : Option Desk) (desk : Desk) (handler : HandlerState) (image : List ℕ) (validated : Bool) → new ≡ Some desk → desk ≡ record { handler = handler; changes = 0 }
+    → handler.image ≡ image → handler.was_validated ≡ validated → handler.session ≡ opening_session → Seats image validated new
+seats new desk handler image validated is made i v s = (record { handler = handler; changes = 0 }, is ∙ ap Some made, (i, v, s, refl))
+
+-- what a seat that was not taken comes to
+abbrev Unseated : Option Desk → Option Desk → Refusal → Type 0
+Unseated same new refusal = (refusal ≡ NoMemory) × (new ≡ same)
+
+-- a handle is opened on bytes that were checked
+pub opens : (r : Result (Unit {0}) Refusal) (bytes got image : List ℕ) (validated : Bool) (old same new : Option Desk) (fault : JipFault) → old ≡ None → same ≡ old → got ≡ bytes → IsImage got
+    → Accepts got validated image → Comes (Seats image validated new) (Unseated same new) r → Comes (Opens bytes old new × (fault ≡ fault)) (RefusesOpen bytes old new fault fault) r
+opens (Ok x) bytes got image validated old same new fault closed kept is whole accepted seated =
+    ((closed, subst IsImage is whole, (image, validated, subst (λ b. Accepts b validated image) is accepted, seated)), refl)
+opens (Err refusal) bytes got image validated old same new fault closed kept is whole accepted why =
+    subst (RefusesOpen bytes old new fault fault) (sym why.0) (why.1 ∙ kept, closed, refl)
+
+-- a handle is opened on a blank volume
+pub blanks : (r : Result (Unit {0}) Refusal) (format : Format) (number : ℤ) (blocks : ℕ) (name given : List ℕ) (moment : Date3) (image : List ℕ) (validated : Bool) (old same new : Option Desk)
+    → number ≡ pos (format_number format) → IsSize blocks → IsName name → given ≡ name → old ≡ None → same ≡ old → IsBlank format blocks given moment image → validated ≡ false
+    → Comes (Seats image validated new) (Unseated same new) r → Comes (Blanks number blocks name moment old new) (RefusesBlank number blocks name old new) r
+blanks (Ok x) format number blocks name given moment image validated old same new n size named is closed kept blank v seated = record {
+  format = format;
+  image = image;
+  numbered = n;
+  size = size;
+  named = named;
+  closed = closed;
+  blank = subst (λ g. IsBlank format blocks g moment image) is blank;
+  seated = subst (λ w. Seats image w new) v seated;
+}
+blanks (Err refusal) format number blocks name given moment image validated old same new n size named is closed kept blank v why =
+    subst (RefusesBlank number blocks name old new) (sym why.0) (why.1 ∙ kept, closed)
+
+-- the desk that was lent serves the packet that was spelled
+pub serves : (held new : Option Desk) (c : JipPacket) (path text before after : List ℕ) (told : JipAnswer) (was lent is : Desk) (packet : Packet) (now : Date3) → held ≡ Some was → lent ≡ was
+    → new ≡ Some is → now ≡ date_of c.moment → SpellsFitting c path text before packet → ServedBy lent is packet now before after told → Serves held new c path text before after told
+serves held new c path text before after told was lent is packet now holds lends keeps moment spelled served = record {
+  old_desk = was;
+  new_desk = is;
+  packet = packet;
+  was = holds;
+  is = keeps;
+  spelled = spelled;
+  served = subst (λ m. ServedBy was is packet m before after told) moment (subst (λ d. ServedBy d is packet now before after told) lends served);
+}
+
+-- the bytes that are copied are those of the handle's image
+pub copies : (r : Result (Unit {0}) Refusal) (held : Option Desk) (desk : Desk) (bytes before after : List ℕ) → held ≡ Some desk → bytes ≡ desk.handler.image
+    → Comes (CopiesBytes bytes before after) (RefusesBytes bytes before after) r → Comes (CopiesImage held before after) (RefusesCopy held before after) r
+copies (Ok x) held desk bytes before after holds is copied = (desk, holds, subst (λ b. CopiesBytes b before after) is copied)
+copies (Err refusal) held desk bytes before after holds is why = inr (desk, holds, subst (λ b. RefusesBytes b before after refusal) is why)

@@ -1,0 +1,130 @@
+-- What each call comes to. A handle is seen as the desk that it holds, or as none.
+use Rattle.std.specs.Prelude.{◌≡◌, ◌≢◌, ◌⊎◌, ⊤, ℕ, ℤ, pos, List, length, Bool, false, Option, Some, None, Result, MatchResult}
+use Rattle.adf_block.specs.Image.{IsImage, IsSize}
+use Rattle.adf_block.specs.declared.Format.{Format}
+use Rattle.adf_block.specs.declared.Format.TheVariants.{Ofs, Ffs}
+use Rattle.ados_name.specs.declared.Date3.{Date3}
+use Rattle.ados_name.specs.Name.{IsName}
+use Rattle.ados_name.specs.Path.{IsPathText}
+use Rattle.ados_packet.specs.declared.answer.Answer.{Answer}
+use Rattle.ados_packet.specs.declared.packet.Packet.{Packet}
+use Rattle.ados_tree.specs.Accepted.{Accepts}
+use Rattle.ados_tree.specs.Blank.{IsBlank}
+use Rattle.ados_handler.specs.Session.{opening_session}
+use Rattle.adf_c.specs.Desk.{ServesPacket}
+use Rattle.adf_c.specs.Faults.{IsFaultOf}
+use Rattle.adf_c.specs.Spelling.{Spells, date_of}
+use Rattle.adf_c.specs.Status.{refusal_number}
+use Rattle.adf_c.specs.Telling.{told_of, buffer_after}
+use Rattle.adf_c.specs.declared.answer.JipAnswer.{JipAnswer}
+use Rattle.adf_c.specs.declared.desk.Desk.{Desk}
+use Rattle.adf_c.specs.declared.open.JipFault.{JipFault}
+use Rattle.adf_c.specs.declared.packet.JipDate.{JipDate}
+use Rattle.adf_c.specs.declared.packet.JipPacket.{JipPacket}
+use Rattle.adf_c.specs.declared.refusal.Refusal.{Refusal}
+use Rattle.adf_c.specs.declared.refusal.Refusal.TheVariants.{NotAnImage, NoMemory, WrongArgument}
+
+-- a call is done, or refused for one of the reasons that there are
+abbrev pub Comes : Type 0 → (Refusal → Type 0) → Result (Unit {0}) Refusal → Type 0
+Comes done refused outcome = MatchResult outcome (λ _. done) refused
+
+-- the same by the status: 0 where the call is done, else the number of the refusal
+abbrev pub ComesTo : Type 0 → (Refusal → Type 0) → ℤ → Type 0
+ComesTo done refused status = ((status ≡ pos 0) × done) ⊎ ((refusal : Refusal) × (status ≡ pos (refusal_number refusal)) × refused refusal)
+
+-- the handle holds a desk already
+abbrev pub IsOpen : Option Desk → Type 0
+IsOpen held = (desk : Desk) × (held ≡ Some desk)
+
+-- a new desk over an image: no holds, and nothing counted
+abbrev pub IsNewDesk : List ℕ → Bool → Desk → Type 0
+IsNewDesk image was_validated desk =
+    (desk.handler.image ≡ image) × (desk.handler.was_validated ≡ was_validated) × (desk.handler.session ≡ opening_session) × (desk.changes ≡ 0)
+
+-- the handle holds a new desk over the image
+abbrev pub Seats : List ℕ → Bool → Option Desk → Type 0
+Seats image was_validated new = (desk : Desk) × (new ≡ Some desk) × IsNewDesk image was_validated desk
+
+-- a closed handle is opened on bytes that are an image which the check accepts
+abbrev pub Opens : List ℕ → Option Desk → Option Desk → Type 0
+Opens bytes old new =
+    (old ≡ None) × IsImage bytes × ((image : List ℕ) × (was_validated : Bool) × Accepts bytes was_validated image × Seats image was_validated new)
+
+-- why a handle is not opened on bytes; it stays as it was, and so does the fault where the bytes are not at fault
+abbrev pub RefusesOpen : List ℕ → Option Desk → Option Desk → JipFault → JipFault → Refusal → Type 0
+RefusesOpen bytes old new fault_before fault NotAnImage = (new ≡ old) × (old ≡ None) × IsFaultOf bytes fault
+RefusesOpen bytes old new fault_before fault NoMemory = (new ≡ old) × (old ≡ None) × (fault ≡ fault_before)
+RefusesOpen bytes old new fault_before fault WrongArgument = (new ≡ old) × IsOpen old × (fault ≡ fault_before)
+
+-- the number of a format
+abbrev pub format_number : Format → ℕ
+format_number Ofs = 0
+format_number Ffs = 1
+
+-- a closed handle is opened on a blank volume
+pub record Blanks (number : ℤ) (blocks : ℕ) (name : List ℕ) (moment : Date3) (old new : Option Desk) : Type 0 where
+  pub format : Format
+  pub image : List ℕ
+  pub numbered : number ≡ pos (format_number format)
+  pub size : IsSize blocks
+  pub named : IsName name
+  pub closed : old ≡ None
+  pub blank : IsBlank format blocks name moment image
+  pub seated : Seats image false new
+
+-- why a handle is not opened on a blank volume; it stays as it was
+abbrev pub RefusesBlank : ℤ → ℕ → List ℕ → Option Desk → Option Desk → Refusal → Type 0
+RefusesBlank number blocks name old new NotAnImage = ⊥
+RefusesBlank number blocks name old new NoMemory = (new ≡ old) × (old ≡ None)
+RefusesBlank number blocks name old new WrongArgument =
+    (new ≡ old) × (((number ≢ pos 0) × (number ≢ pos 1)) ⊎ (¬ IsName name) ⊎ (¬ IsSize blocks) ⊎ IsOpen old)
+
+-- a desk serves a packet, and the caller sees the answer with the bytes that it hands back
+abbrev pub ServedBy : Desk → Desk → Packet → Date3 → List ℕ → List ℕ → JipAnswer → Type 0
+ServedBy old new packet now before after told =
+    (answer : Answer) × ServesPacket old packet now new answer × (told ≡ told_of answer) × (after ≡ buffer_after before answer.body)
+
+-- a struct, two texts and a buffer spell a packet
+abbrev pub SpellsFitting : JipPacket → List ℕ → List ℕ → List ℕ → Packet → Type 0
+SpellsFitting c path text buffer packet = IsPathText path × IsPathText text × Spells c path text buffer packet
+
+-- the desk of a handle serves the packet that the struct spells
+pub record Serves (old new : Option Desk) (c : JipPacket) (path text before after : List ℕ) (told : JipAnswer) : Type 0 where
+  pub old_desk : Desk
+  pub new_desk : Desk
+  pub packet : Packet
+  pub was : old ≡ Some old_desk
+  pub is : new ≡ Some new_desk
+  pub spelled : SpellsFitting c path text before packet
+  pub served : ServedBy old_desk new_desk packet (date_of c.moment) before after told
+
+-- why a packet is not served; handle and buffer stay as they were
+abbrev pub RefusesServe : Option Desk → Option Desk → List ℕ → List ℕ → List ℕ → List ℕ → Refusal → Type 0
+RefusesServe old new path text before after NotAnImage = ⊥
+RefusesServe old new path text before after NoMemory = (new ≡ old) × (after ≡ before)
+RefusesServe old new path text before after WrongArgument =
+    (new ≡ old) × (after ≡ before) × ((¬ IsPathText path) ⊎ (¬ IsPathText text) ⊎ (old ≡ None))
+
+-- bytes are copied to where there is room for as many
+abbrev pub CopiesBytes : List ℕ → List ℕ → List ℕ → Type 0
+CopiesBytes bytes before after = (length before ≡ length bytes) × (after ≡ bytes)
+
+-- they are not, since there is room for another number of bytes
+abbrev pub RefusesBytes : List ℕ → List ℕ → List ℕ → Refusal → Type 0
+RefusesBytes bytes before after refusal = (refusal ≡ WrongArgument) × (after ≡ before) × (length bytes ≢ length before)
+
+-- the bytes of the handle's image are copied
+abbrev pub CopiesImage : Option Desk → List ℕ → List ℕ → Type 0
+CopiesImage held before after = (desk : Desk) × (held ≡ Some desk) × CopiesBytes desk.handler.image before after
+
+-- why they are not: the handle is closed, or there is room for another number of bytes
+abbrev pub RefusesCopy : Option Desk → List ℕ → List ℕ → Refusal → Type 0
+RefusesCopy held before after refusal =
+    ((refusal ≡ WrongArgument) × (after ≡ before) × (held ≡ None))
+    ⊎ ((desk : Desk) × (held ≡ Some desk) × RefusesBytes desk.handler.image before after refusal)
+
+-- they spell none: a text is too long, or there is no memory for the bytes
+abbrev pub SpellsNone : List ℕ → List ℕ → Refusal → Type 0
+SpellsNone path text NotAnImage = ⊥
+SpellsNone path text NoMemory = ⊤
+SpellsNone path text WrongArgument = (¬ IsPathText path) ⊎ (¬ IsPathText text)

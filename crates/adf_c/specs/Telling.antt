@@ -1,0 +1,84 @@
+-- What C is told of an answer.
+use Rattle.std.specs.Prelude.{◌≡◌, ℕ, ◌-◌, ℤ, pos, List, [], ◌++◌, length, replicate, if◌then◌else◌, ◌==◌}
+use Rattle.ados_name.specs.declared.Date3.{Date3}
+use Rattle.ados_packet.specs.declared.answer.Answer.{Answer}
+use Rattle.ados_packet.specs.declared.answer.Body.{Body}
+use Rattle.ados_packet.specs.declared.answer.Body.TheVariants.{Empty, Buffer, Handle, Entry, Disk}
+use Rattle.ados_packet.specs.declared.info.FileInfo.{FileInfo}
+use Rattle.ados_packet.specs.declared.info.DiskInfo.{DiskInfo}
+use Rattle.adf_c.specs.declared.packet.JipDate.{JipDate}
+use Rattle.adf_c.specs.declared.answer.JipAnswer.{JipAnswer}
+use Rattle.adf_c.specs.declared.answer.JipEntry.{JipEntry}
+use Rattle.adf_c.specs.declared.answer.JipDisk.{JipDisk}
+
+-- n cells with a text, and zeros behind it
+abbrev pub cells_of : ℕ → List ℕ → List ℕ
+cells_of n text = text ++ replicate (n - length text) 0
+
+-- the same date
+abbrev pub told_date : Date3 → JipDate
+told_date d = record { days = d.days; minutes = d.minutes; ticks = d.ticks }
+
+-- the same, with its texts in cells
+abbrev pub entry_of : FileInfo → JipEntry
+entry_of e = record {
+  key = e.key;
+  entry_type = e.entry_type;
+  protection = e.protection.0;
+  size = e.size;
+  blocks = e.blocks;
+  date = told_date e.date;
+  name_length = length e.name;
+  comment_length = length e.comment;
+  name = cells_of 32 e.name;
+  comment = cells_of 80 e.comment;
+}
+
+abbrev pub disk_of : DiskInfo → JipDisk
+disk_of d = record { state = d.state; blocks = d.blocks; used = d.used; bytes_per_block = d.bytes_per_block; disk_type = d.disk_type }
+
+-- zeros
+abbrev pub no_entry : JipEntry
+no_entry = record {
+  key = 0;
+  entry_type = pos 0;
+  protection = 0;
+  size = 0;
+  blocks = 0;
+  date = record { days = 0; minutes = 0; ticks = 0 };
+  name_length = 0;
+  comment_length = 0;
+  name = replicate 32 0;
+  comment = replicate 80 0;
+}
+
+abbrev pub no_disk : JipDisk
+no_disk = record { state = 0; blocks = 0; used = 0; bytes_per_block = 0; disk_type = 0 }
+
+-- what a body brings of each kind, and zeros where it is of another
+abbrev pub told_handle : Body → ℕ
+told_handle (Handle number) = number
+told_handle _ = 0
+
+abbrev pub told_entry : Body → JipEntry
+told_entry (Entry info) = entry_of info
+told_entry _ = no_entry
+
+abbrev pub told_disk : Body → JipDisk
+told_disk (Disk info) = disk_of info
+told_disk _ = no_disk
+
+-- the answer as C sees it, but for the bytes of a buffer
+abbrev pub told_of : Answer → JipAnswer
+told_of answer = record {
+  res1 = answer.res1;
+  res2 = answer.res2;
+  handle = told_handle answer.body;
+  entry = told_entry answer.body;
+  disk = told_disk answer.body;
+}
+
+-- the caller's buffer after the answer: the bytes that it hands back, which are as many
+abbrev pub buffer_after : List ℕ → Body → List ℕ
+buffer_after before (Buffer bytes) = if length bytes == length before then bytes else before
+buffer_after before _ = before

@@ -1,0 +1,110 @@
+//! Which blocks of a handle's image C has to write: those that differ from its own copy.
+
+ghost use Rattle.std.specs.Prelude.{◌≡◌, ◌<◌, length, IfOk, MatchResult};
+ghost use Rattle.adf_block.specs.Image.{block_count};
+ghost use Rattle.adf_c.specs.Calls.{ComesTo};
+ghost use Rattle.adf_c.specs.Changed.{CopiesChanged, RefusesChanged, RefusesTaking, TakesOver, changed_blocks as changed_of, differs as differs_in};
+
+use crate::handle::JipHandle;
+use crate::refusal::Refusal;
+use adf_block::Image;
+use std::alloc::{AllocError, Global};
+
+/// The bytes of a block.
+const BLOCK: usize = 512;
+
+/// Tells which blocks of the image differ from those of C's copy, lowest first, and brings the copy up to date: the status 0.
+///
+/// A copy of another length than the image's, room for fewer numbers than there are, and a closed handle are the status 3; no
+/// memory is the status 2. The copy, the numbers and their count are then as they were.
+#[unsafe(no_mangle)]
+pub extern "C" fn jip_lib_copy_changed(
+    alloc: Global,
+    handle: &mut JipHandle,
+    copy: &mut [u8],
+    numbers: &mut [u32],
+    count: &mut usize,
+) -> i32
+    ensures copies { ComesTo
+        (CopiesChanged handle.old.held copy.old copy.new numbers.old numbers.new count.new)
+        (λ refusal. RefusesChanged handle.old.held copy.old numbers.old refusal
+        × (copy.new ≡ copy.old) × (numbers.new ≡ numbers.old) × (count.new ≡ count.old))
+        result }
+    ensures same { handle.new.held ≡ handle.old.held }
+{
+    match copy_changed(alloc, handle, copy, numbers) {
+        Ok(told) => {
+            *count = told;
+            0
+        }
+        Err(refusal) => refusal.number(),
+    }
+}
+
+fn copy_changed(
+    alloc: Global,
+    handle: &mut JipHandle,
+    copy: &mut [u8],
+    numbers: &mut [u32],
+) -> Result<usize, Refusal>
+    ensures copies { MatchResult result
+        (λ count. CopiesChanged handle.old.held copy.old copy.new numbers.old numbers.new count)
+        (λ refusal. RefusesChanged handle.old.held copy.old numbers.old refusal × (copy.new ≡ copy.old) × (numbers.new ≡ numbers.old)) }
+    ensures same { handle.new.held ≡ handle.old.held }
+{
+    let Some(desk) = handle.take(alloc) else {
+        return Err(Refusal::WrongArgument);
+    };
+    let outcome = take_over(alloc, desk.handler.volume().image(), copy, numbers);
+    handle.put(desk);
+    outcome
+}
+
+/// Brings the copy up to date, and tells the numbers of the blocks that were not.
+fn take_over(
+    alloc: Global,
+    image: &Image,
+    copy: &mut [u8],
+    numbers: &mut [u32],
+) -> Result<usize, Refusal>
+    ensures { MatchResult result
+        (λ count. TakesOver image.now copy.old copy.new numbers.old numbers.new count)
+        (λ refusal. RefusesTaking image.now copy.old numbers.old refusal × (copy.new ≡ copy.old) × (numbers.new ≡ numbers.old)) }
+{
+    if copy.len() != image.as_bytes().len() {
+        return Err(Refusal::WrongArgument);
+    }
+    let Ok(changed) = changed_blocks(alloc, copy, image) else {
+        return Err(Refusal::NoMemory);
+    };
+    if numbers.len() < changed.len() {
+        return Err(Refusal::WrongArgument);
+    }
+    numbers[..changed.len()].copy_from_slice(&changed);
+    copy.copy_from_slice(image.as_bytes());
+    Ok(changed.len())
+}
+
+/// The numbers of the blocks that differ from those of a copy of the same length.
+fn changed_blocks(alloc: Global, copy: &[u8], image: &Image) -> Result<Vec<u32>, AllocError>
+    requires { length copy.now ≡ length image.now }
+    ensures { IfOk result (λ numbers. numbers.items ≡ changed_of copy.now image.now) }
+{
+    let mut numbers = Vec::new(alloc);
+    for block in 0..image.blocks() {
+        if differs(copy, image, block) {
+            numbers.push(block)?;
+        }
+    }
+    Ok(numbers)
+}
+
+#[tactic(auto, unfolding(adf_block::specs::Image::bytes_at))]
+fn differs(copy: &[u8], image: &Image, block: u32) -> bool
+    requires block { block < block_count image.now }
+    requires length { length copy.now ≡ length image.now }
+    ensures { result ≡ differs_in copy.now image.now block }
+{
+    let at = block as usize * BLOCK;
+    &copy[at..at + BLOCK] != image.block(block)
+}

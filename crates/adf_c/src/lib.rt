@@ -1,0 +1,23 @@
+//! An AmigaDOS handler for programs in C and C++: the functions that `bindings/c/jiponuwha.h` declares as `jip_lib_..`.
+//!
+//! Each is a thin layer over the crates below, and its contract is theirs. The header's inline functions look at what no
+//! reference may be, null pointers and lengths beyond memory, and then call these.
+#![tactic(auto)]
+
+pub mod answer;
+pub mod changed;
+pub mod desk;
+pub mod handle;
+pub mod image;
+pub mod loose;
+pub mod open;
+pub mod packet;
+pub mod refusal;
+pub mod serve;
+
+pub use answer::{JipAnswer, JipDisk, JipEntry};
+pub use desk::Desk;
+pub use handle::JipHandle;
+pub use open::JipFault;
+pub use packet::{JipDate, JipPacket};
+pub use refusal::Refusal;

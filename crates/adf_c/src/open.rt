@@ -1,0 +1,215 @@
+//! Handles are made from the bytes of an image or from nothing, and given up.
+
+ghost use Rattle.std.specs.Prelude.{◌≡◌, ◌≢◌, pos, None};
+ghost use Rattle.std.specs.Option.{MatchOption};
+ghost use Rattle.adf_c.specs.Calls.{ComesTo, Blanks, Comes, Opens, Seats, RefusesBlank, RefusesOpen, format_number};
+ghost use Rattle.adf_c.specs.Spelling.{date_of};
+ghost use Rattle.adf_c.specs.Faults.{fault_number, size_fault_number};
+
+use crate::desk::Desk;
+use crate::handle::JipHandle;
+use crate::packet::JipDate;
+use crate::refusal::{Refusal, status};
+use adf_block::{Format, Image, SizeFault, size_ok};
+use ados_handler::Handler;
+use ados_name::{Date3, Name};
+use ados_tree::{FaultKind, VolumeFault};
+use ados_volume::{Volume, blank, check};
+use std::alloc::Global;
+
+/// Why bytes are no image, and the block that shows it.
+#[repr(C)]
+#[derive(Clone, Copy, Debug, PartialEq, Eq)]
+pub struct JipFault {
+    /// 1 to 17 as the header names them; 101 to 103 for a length that no image has.
+    pub kind: i32,
+    pub block: u32,
+}
+
+/// Opens a handle on a copy of these bytes, where they are an image that the check accepts: the status 0. The bytes are not
+/// looked at afterwards.
+///
+/// Where they are no such image, the status is 1, and the fault is one that they show; no memory is the status 2; a handle
+/// that is open already is the status 3. The handle is then as it was, and so is the fault but for the status 1.
+#[unsafe(no_mangle)]
+pub extern "C" fn jip_lib_open(
+    alloc: Global,
+    bytes: &[u8],
+    handle: &mut JipHandle,
+    fault: &mut JipFault,
+) -> i32
+    ensures { ComesTo
+        (Opens bytes.now handle.old.held handle.new.held × (fault.new ≡ fault.old))
+        (RefusesOpen bytes.now handle.old.held handle.new.held fault.old fault.new)
+        result }
+{
+    status(open(alloc, bytes, handle, fault))
+}
+
+fn open(
+    alloc: Global,
+    bytes: &[u8],
+    handle: &mut JipHandle,
+    fault: &mut JipFault,
+) -> Result<(), Refusal>
+    ensures { Comes
+        (Opens bytes.now handle.old.held handle.new.held × (fault.new ≡ fault.old))
+        (RefusesOpen bytes.now handle.old.held handle.new.held fault.old fault.new)
+        result }
+{
+    if handle.is_open(alloc) {
+        return Err(Refusal::WrongArgument);
+    }
+    let Ok(copy) = Vec::from_slice(alloc, bytes) else {
+        return Err(Refusal::NoMemory);
+    };
+    let image = match Image::from_bytes(copy) {
+        Ok(image) => image,
+        Err(refused) => {
+            *fault = JipFault::of_size(refused.fault);
+            return Err(Refusal::NotAnImage);
+        }
+    };
+    let volume = match check(alloc, image) {
+        Ok(volume) => volume,
+        Err(rejected) => {
+            if rejected.fault.kind == FaultKind::NoMemory {
+                return Err(Refusal::NoMemory);
+            }
+            *fault = JipFault::of_volume(rejected.fault);
+            return Err(Refusal::NotAnImage);
+        }
+    };
+    seat(alloc, handle, volume)
+}
+
+/// Opens a handle on a blank volume, as `ados_volume::blank` makes it: the status 0. The format is 0 for the old file system
+/// and 1 for the fast one.
+///
+/// No memory is the status 2. Another format, fewer than 16 or more than 101,602 blocks, a name that is none, and a handle that
+/// is open already are the status 3. The handle is then as it was.
+#[unsafe(no_mangle)]
+pub extern "C" fn jip_lib_blank(
+    alloc: Global,
+    format: i32,
+    blocks: u32,
+    name: &[u8],
+    moment: &JipDate,
+    handle: &mut JipHandle,
+) -> i32
+    ensures { ComesTo
+        (Blanks format blocks name.now (date_of moment.now) handle.old.held handle.new.held)
+        (RefusesBlank format blocks name.now handle.old.held handle.new.held)
+        result }
+{
+    status(open_blank(alloc, format, blocks, name, moment.date(), handle))
+}
+
+fn open_blank(
+    alloc: Global,
+    format: i32,
+    blocks: u32,
+    name: &[u8],
+    moment: Date3,
+    handle: &mut JipHandle,
+) -> Result<(), Refusal>
+    ensures { Comes
+        (Blanks format blocks name.now moment handle.old.held handle.new.held)
+        (RefusesBlank format blocks name.now handle.old.held handle.new.held)
+        result }
+{
+    let Some(format) = format_of_number(format) else {
+        return Err(Refusal::WrongArgument);
+    };
+    let Ok(name) = Name::new(name) else {
+        return Err(Refusal::WrongArgument);
+    };
+    if !size_ok(blocks) {
+        return Err(Refusal::WrongArgument);
+    }
+    if handle.is_open(alloc) {
+        return Err(Refusal::WrongArgument);
+    }
+    let Ok(volume) = blank(alloc, format, blocks, name, moment) else {
+        return Err(Refusal::NoMemory);
+    };
+    seat(alloc, handle, volume)
+}
+
+/// The format of a number: 0 is the old file system, 1 the fast one.
+fn format_of_number(number: i32) -> Option<Format>
+    ensures { MatchOption result ((number ≢ pos 0) × (number ≢ pos 1)) (λ format. number ≡ pos (format_number format)) }
+{
+    match number {
+        0 => Some(Format::Ofs),
+        1 => Some(Format::Ffs),
+        _ => None,
+    }
+}
+
+/// Puts a desk over the volume behind the handle.
+fn seat(alloc: Global, handle: &mut JipHandle, volume: Volume) -> Result<(), Refusal>
+    ensures { Comes (Seats volume.image volume.was_validated handle.new.held)
+        (λ refusal. (refusal ≡ Refusal.NoMemory) × (handle.new.held ≡ handle.old.held)) result }
+{
+    let desk = Desk {
+        handler: Handler::new(alloc, volume),
+        changes: 0,
+    };
+    let Ok(desk) = Box::new(alloc, desk) else {
+        return Err(Refusal::NoMemory);
+    };
+    handle.put(desk);
+    Ok(())
+}
+
+/// Gives the handle up with all that it holds; a closed handle stays closed. The status is 0.
+#[unsafe(no_mangle)]
+pub extern "C" fn jip_lib_close(alloc: Global, handle: &mut JipHandle) -> i32
+    ensures status { result ≡ pos 0 }
+    ensures closed { handle.new.held ≡ None }
+{
+    drop(handle.take(alloc));
+    0
+}
+
+impl JipFault {
+    fn of_size(fault: SizeFault) -> JipFault
+        ensures { result ≡ record { kind = pos (size_fault_number fault); block = 0 } }
+    {
+        let kind = match fault {
+            SizeFault::NotWholeBlocks => 101,
+            SizeFault::TooFewBlocks => 102,
+            SizeFault::TooManyBlocks => 103,
+        };
+        JipFault { kind, block: 0 }
+    }
+
+    fn of_volume(fault: VolumeFault) -> JipFault
+        ensures { result ≡ record { kind = pos (fault_number fault.kind); block = fault.block } }
+    {
+        let kind = match fault.kind {
+            FaultKind::NotADosDisk => 1,
+            FaultKind::UnsupportedKind => 2,
+            FaultKind::BadSum => 3,
+            FaultKind::BadType => 4,
+            FaultKind::BadOwnKey => 5,
+            FaultKind::BadParent => 6,
+            FaultKind::BadPointer => 7,
+            FaultKind::BlockUsedTwice => 8,
+            FaultKind::WrongChain => 9,
+            FaultKind::BadName => 10,
+            FaultKind::DuplicateName => 11,
+            FaultKind::BadComment => 12,
+            FaultKind::BadCount => 13,
+            FaultKind::BadSequence => 14,
+            FaultKind::LinkEntry => 15,
+            FaultKind::MarkedFree => 17,
+            FaultKind::NoMemory => 19,
+        };
+        JipFault {
+            kind,
+            block: fault.block,
+        }
+    }
+}

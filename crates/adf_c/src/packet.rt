@@ -1,0 +1,160 @@
+//! What C asks.
+
+ghost use Rattle.std.specs.Prelude.{◌≡◌};
+ghost use Rattle.adf_c.specs.Spelling.{IsActionOf, date_of, packet_of};
+
+use ados_name::{Date3, PathText};
+use ados_packet::{Action, Buffer, Packet};
+
+/// A date as C has it: days since 1 January 1978, minutes past midnight, ticks of 1/50 second past the minute.
+#[repr(C)]
+#[derive(Clone, Copy, Debug, PartialEq, Eq)]
+pub struct JipDate {
+    pub days: u32,
+    pub minutes: u32,
+    pub ticks: u32,
+}
+
+impl JipDate {
+    /// The same date to the crates below.
+    pub(crate) fn date(self) -> Date3
+        ensures { result ≡ date_of self }
+    {
+        Date3 {
+            days: self.days,
+            minutes: self.minutes,
+            ticks: self.ticks,
+        }
+    }
+}
+
+/// A packet as C has it: the number of its action, one field for each kind of argument, and the moment at which it is served.
+/// An action reads those fields alone that it takes.
+///
+/// What the three pointers lead to comes beside the struct, as slices; here they are not looked at.
+#[repr(C)]
+#[derive(Drop)]
+pub struct JipPacket {
+    pub action: i32,
+    pub lock: u32,
+    /// The lock of RENAME_OBJECT's new place, or the second one of SAME_LOCK.
+    pub to_lock: u32,
+    pub handle: u32,
+    pub key: u32,
+    pub bits: u32,
+    pub offset: i32,
+    pub mode: i32,
+    pub date: JipDate,
+    pub moment: JipDate,
+    /// A path, or the new name of RENAME_DISK.
+    pub path: *const u8,
+    pub path_length: usize,
+    /// The path of RENAME_OBJECT's new place, or a comment.
+    pub text: *const u8,
+    pub text_length: usize,
+    /// The bytes that READ fills or WRITE reads.
+    pub buffer: *mut u8,
+    pub buffer_length: usize,
+}
+
+impl JipPacket {
+    /// The packet of this action with the struct's arguments, these texts and these bytes.
+    pub(crate) fn packet(
+        &self,
+        action: Action,
+        path: PathText,
+        text: PathText,
+        buffer: Buffer,
+    ) -> Packet
+        ensures { result ≡ packet_of action self.now path text buffer }
+    {
+        let (lock, to_lock, handle) = (self.lock, self.to_lock, self.handle);
+        let (key, bits, offset, mode) = (self.key, self.bits, self.offset, self.mode);
+        let date = self.date.date();
+        match action {
+            Action::Die => Packet::Die,
+            Action::LocateObject => Packet::LocateObject { lock, path, mode },
+            Action::RenameDisk => Packet::RenameDisk { name: path },
+            Action::FreeLock => Packet::FreeLock { lock },
+            Action::DeleteObject => Packet::DeleteObject { lock, path },
+            Action::RenameObject => Packet::RenameObject {
+                from_lock: lock,
+                from: path,
+                to_lock,
+                to: text,
+            },
+            Action::CopyDir => Packet::CopyDir { lock },
+            Action::SetProtect => Packet::SetProtect { lock, path, bits },
+            Action::CreateDir => Packet::CreateDir { lock, path },
+            Action::ExamineObject => Packet::ExamineObject { lock },
+            Action::ExamineNext => Packet::ExamineNext { lock, key },
+            Action::DiskInfo => Packet::DiskInfo,
+            Action::Info => Packet::Info { lock },
+            Action::SetComment => Packet::SetComment {
+                lock,
+                path,
+                comment: text,
+            },
+            Action::Parent => Packet::Parent { lock },
+            Action::SetDate => Packet::SetDate { lock, path, date },
+            Action::SameLock => Packet::SameLock {
+                first: lock,
+                second: to_lock,
+            },
+            Action::Read => Packet::Read { handle, buffer },
+            Action::Write => Packet::Write {
+                handle,
+                bytes: buffer,
+            },
+            Action::FindUpdate => Packet::FindUpdate { lock, path },
+            Action::FindInput => Packet::FindInput { lock, path },
+            Action::FindOutput => Packet::FindOutput { lock, path },
+            Action::End => Packet::End { handle },
+            Action::Seek => Packet::Seek {
+                handle,
+                offset,
+                mode,
+            },
+            Action::SetFileSize => Packet::SetFileSize {
+                handle,
+                offset,
+                mode,
+            },
+            Action::Other(number) => Packet::Other { action: number },
+        }
+    }
+}
+
+/// The action of a number of the AmigaDOS Technical Reference, and `Other` for a number that none has.
+pub(crate) fn action_of_number(number: i32) -> Action
+    ensures { IsActionOf number result }
+{
+    match number {
+        5 => Action::Die,
+        8 => Action::LocateObject,
+        9 => Action::RenameDisk,
+        15 => Action::FreeLock,
+        16 => Action::DeleteObject,
+        17 => Action::RenameObject,
+        19 => Action::CopyDir,
+        21 => Action::SetProtect,
+        22 => Action::CreateDir,
+        23 => Action::ExamineObject,
+        24 => Action::ExamineNext,
+        25 => Action::DiskInfo,
+        26 => Action::Info,
+        28 => Action::SetComment,
+        29 => Action::Parent,
+        34 => Action::SetDate,
+        40 => Action::SameLock,
+        82 => Action::Read,
+        87 => Action::Write,
+        1004 => Action::FindUpdate,
+        1005 => Action::FindInput,
+        1006 => Action::FindOutput,
+        1007 => Action::End,
+        1008 => Action::Seek,
+        1022 => Action::SetFileSize,
+        _ => Action::Other(number),
+    }
+}

@@ -1,0 +1,4 @@
+-- Lemmas on input that is read up to a bound, on dates, and on paths below a directory.
+mod Bounds
+mod DateLemmas
+mod PathLemmas

@@ -1,0 +1,96 @@
+//! Readers and writers that fail in mid-stream. The built program shows the rest, on real files.
+mod faulty;
+
+use crate::tests::faulty::{Faulty, Halting, Step};
+use crate::{Content, HostItem, HostPath, ImageFault, load_bounded, replace_file, write_tree};
+use ados_name::{Date3, Name};
+use std::alloc::Global;
+use std::fs;
+use std::rt::Files;
+use std::test::Fail;
+
+/// A directory with nothing in it.
+fn fresh<R: Files>(rt: &R, alloc: Global, path: &str) -> Result<(), Fail> {
+    if fs::metadata(rt, path).is_ok() {
+        rt.remove_dir_all(alloc, path)?;
+    }
+    Ok(fs::create_dir(rt, path)?)
+}
+
+/// How many names a directory has.
+fn count_in<R: Files>(rt: &R, alloc: Global, path: &str) -> Result<usize, Fail> {
+    let mut count: usize = 0;
+    for entry in fs::read_dir(&(rt, alloc), path)? {
+        let _ = entry?;
+        count = count.saturating_add(1);
+    }
+    Ok(count)
+}
+
+#[test]
+fn replaced_whole(rt: HostRuntime) -> Result<(), Fail> {
+    let alloc = rt.alloc();
+    fresh(&rt, alloc, "replaced_whole")?;
+    fs::write(&rt, "replaced_whole/one", b"old".as_slice())?;
+    for fails in [
+        Step::Open,
+        Step::Write,
+        Step::Permissions,
+        Step::Sync,
+        Step::Rename,
+    ] {
+        let faulty = Faulty { files: &rt, fails };
+        assert!(rt; replace_file(&faulty, alloc, "replaced_whole/one", b"new").is_err());
+        let left = fs::read_to_string(&rt, "replaced_whole/one")?;
+        assert_eq!(rt; left.as_str(), "old");
+        assert_eq!(rt; count_in(&rt, alloc, "replaced_whole")?, 1);
+    }
+    Ok(rt.remove_dir_all(alloc, "replaced_whole")?)
+}
+
+#[test]
+fn written_in_part(rt: HostRuntime) -> Result<(), Fail> {
+    let alloc = rt.alloc();
+    fresh(&rt, alloc, "written_in_part")?;
+    let items = two_items(alloc)?;
+    let faulty = Faulty {
+        files: &rt,
+        fails: Step::Write,
+    };
+    let half = write_tree(&faulty, alloc, "written_in_part", &items, false);
+    assert!(rt; matches!(&half, Err(fault) if fault.written == 1));
+    assert_eq!(rt; count_in(&rt, alloc, "written_in_part/d")?, 0);
+    Ok(rt.remove_dir_all(alloc, "written_in_part")?)
+}
+
+#[test]
+fn read_in_part(rt: HostRuntime) {
+    let mut reader = Halting { reads: 40 };
+    assert!(rt; matches!(load_bounded(rt.alloc(), &mut reader), Err(ImageFault::Read)));
+}
+
+/// A directory `d`, and in it a file `f`.
+fn two_items(alloc: Global) -> Result<Vec<HostItem>, Fail> {
+    let (Ok(outer), Ok(inner)) = (Name::new(b"d"), Name::new(b"f")) else {
+        return Err(Fail::from("a name"));
+    };
+    let date = Date3 {
+        days: 3_000,
+        minutes: 61,
+        ticks: 51,
+    };
+    let directory = HostPath::of_name(alloc, &outer)?;
+    let file = HostItem {
+        path: directory.child(alloc, &inner)?,
+        content: Content::File(Vec::from_slice(alloc, b"new")?),
+        date,
+    };
+    let mut items = Vec::new(alloc);
+    items.push(HostItem {
+        path: directory,
+        content: Content::Directory,
+        date,
+    })?;
+    items.push(file)?;
+    Ok(items)
+}

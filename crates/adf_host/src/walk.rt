@@ -1,0 +1,343 @@
+//! Files and directories of the host, gone through.
+ghost use Rattle.std.specs.Prelude.{IsPermutation, IsSorted};
+ghost use Rattle.std.specs.String.{string_cmp};
+
+use crate::dates::date_of_time;
+use crate::notes::{note_name, noted_name};
+use ados_name::Date3;
+use std::alloc::{AllocError, AllocFailed, Global};
+use std::fmt::{Display, Formatter};
+use std::fs::Metadata;
+use std::io::{Error, ErrorKind};
+use std::path::Path;
+use std::rt::Files;
+use std::{fmt, fs};
+use thiserror::Error;
+
+/// What the words of a command lead to on the host.
+#[derive(Debug, Drop)]
+pub struct HostTree {
+    /// The files and directories, a directory before what is in it, and that in the order of the bytes of its names.
+    pub entries: Vec<HostEntry>,
+    /// What is there and is none of them.
+    pub passed_over: Vec<PassedOver>,
+}
+
+/// A file or a directory of the host.
+#[derive(Debug, Drop)]
+pub struct HostEntry {
+    pub path: String,
+    /// The last name of the path.
+    pub name: String,
+    /// The place in the list of the directory that it was found in; none for what a word names.
+    pub parent: Option<usize>,
+    pub kind: HostKind,
+    /// When it was changed.
+    pub date: Date3,
+    /// The path of the file that notes what an Amiga knows of it, if there is one.
+    pub note: Option<String>,
+}
+
+/// What an entry of the host is.
+#[derive(Clone, Copy, Debug, PartialEq, Eq)]
+pub enum HostKind {
+    Directory,
+    /// A regular file of so many bytes, or a link to one.
+    File { length: u64 },
+}
+
+/// What is there on the host and is passed over.
+#[derive(Debug, Drop)]
+pub struct PassedOver {
+    pub path: String,
+    pub why: PassedWhy,
+}
+
+impl Display for PassedOver {
+    fn fmt<W: fmt::Write>(&self, f: &mut Formatter<W>) -> fmt::Result {
+        write!(
+            f,
+            "'{}' {}, and is passed over",
+            self.path.as_str(),
+            self.why
+        )
+    }
+}
+
+/// Why something is passed over.
+#[derive(Clone, Copy, Debug, PartialEq, Eq, Error)]
+pub enum PassedWhy {
+    #[error("is a symbolic link to a directory")]
+    LinkToDirectory,
+    #[error("is a symbolic link that leads nowhere")]
+    DeadLink,
+    #[error("is neither a file nor a directory")]
+    NeitherKind,
+    #[error("belongs to no file")]
+    NoteOfNothing,
+}
+
+/// Why the host's files were not gone through.
+#[derive(Debug, Drop, Error)]
+pub enum WalkFault {
+    #[error("'{path}' cannot be read: {error}")]
+    Read { path: String, error: Error },
+    #[error("a name in '{path}' is not UTF-8")]
+    Name { path: String },
+    #[error("there are more files than any image holds")]
+    Many,
+    #[error("there is not enough memory")]
+    Memory,
+}
+
+impl From<AllocError> for WalkFault {
+    fn from(_error: AllocError) -> WalkFault {
+        WalkFault::Memory
+    }
+}
+
+impl<T: Drop> From<AllocFailed<T>> for WalkFault {
+    fn from(_error: AllocFailed<T>) -> WalkFault {
+        WalkFault::Memory
+    }
+}
+
+/// How many files and directories are looked at: more than ten times as many as the blocks of the largest image.
+const MOST_LOOKS: usize = 1_048_576;
+
+/// What is to be looked at.
+#[derive(Debug, Drop)]
+struct Waiting {
+    path: String,
+    /// The last name of the path; empty for `/` and for what ends in `.` or `..`, which stand for what is in them.
+    name: String,
+    parent: Option<usize>,
+}
+
+/// What stands at a path.
+enum Look {
+    File(Metadata),
+    Directory(Metadata),
+    Other(PassedWhy),
+}
+
+/// The files and directories that these words name, each with all that is in it.
+///
+/// A symbolic link to a regular file is taken for that file. Any other link, and what is neither file nor directory, is
+/// passed over. A file whose name ends in `.uaem` belongs to the one beside it and is no entry.
+pub fn host_tree<R: Files>(rt: &R, alloc: Global, words: &[&str]) -> Result<HostTree, WalkFault> {
+    let mut tree = HostTree {
+        entries: Vec::new(alloc),
+        passed_over: Vec::new(alloc),
+    };
+    let mut waiting = waiting_words(alloc, words)?;
+    for _ in 0..MOST_LOOKS {
+        let Some(next) = waiting.pop() else {
+            return Ok(tree);
+        };
+        visit(rt, alloc, next, &mut tree, &mut waiting)?;
+    }
+    Err(WalkFault::Many)
+}
+
+/// The words of a command, the first on top.
+fn waiting_words(alloc: Global, words: &[&str]) -> Result<Vec<Waiting>, AllocError> {
+    let mut waiting = Vec::new(alloc);
+    for word in words.iter().rev() {
+        waiting.push(Waiting {
+            path: String::from_str(alloc, *word)?,
+            name: String::from_str(alloc, name_of(*word))?,
+            parent: None,
+        })?;
+    }
+    Ok(waiting)
+}
+
+/// The name that a word gives to its entry; none where it is `/` or ends in `.` or `..`.
+fn name_of(word: &str) -> &str {
+    let path = word.trim_end_matches('/');
+    let last = match path.rsplit_once('/') {
+        Some((_, last)) => last,
+        None => path,
+    };
+    match last {
+        "." | ".." => "",
+        _ => last,
+    }
+}
+
+/// Looks at one path: it becomes an entry, or what is in it waits too, or it is passed over.
+fn visit<R: Files>(
+    rt: &R,
+    alloc: Global,
+    next: Waiting,
+    tree: &mut HostTree,
+    waiting: &mut Vec<Waiting>,
+) -> Result<(), WalkFault> {
+    match look_at(rt, alloc, next.path.as_str())? {
+        Look::Directory(found) => {
+            let path = String::from_str(alloc, next.path.as_str())?;
+            let place = tree.entries.len();
+            let parent = if next.name.is_empty() {
+                None
+            } else {
+                add_entry(rt, alloc, next, HostKind::Directory, &found, tree)?;
+                Some(place)
+            };
+            wait_for_names(rt, alloc, path.as_str(), parent, waiting)
+        }
+        Look::File(found) => {
+            let length = found.len();
+            add_file(rt, alloc, next, length, &found, tree)
+        }
+        Look::Other(why) => pass_over(next, why, tree),
+    }
+}
+
+fn pass_over(next: Waiting, why: PassedWhy, tree: &mut HostTree) -> Result<(), WalkFault> {
+    tree.passed_over.push(PassedOver {
+        path: next.path,
+        why,
+    })?;
+    Ok(())
+}
+
+/// What stands at a path, with links followed to regular files alone.
+fn look_at<R: Files>(rt: &R, alloc: Global, path: &str) -> Result<Look, WalkFault> {
+    let found = match fs::symlink_metadata(rt, path) {
+        Ok(found) => found,
+        Err(error) => return Err(read_fault(alloc, path, error)),
+    };
+    if found.is_dir() {
+        return Ok(Look::Directory(found));
+    }
+    if found.is_file() {
+        return Ok(Look::File(found));
+    }
+    if !found.is_symlink() {
+        return Ok(Look::Other(PassedWhy::NeitherKind));
+    }
+    match fs::metadata(rt, path) {
+        Ok(behind) if behind.is_file() => Ok(Look::File(behind)),
+        Ok(behind) if behind.is_dir() => Ok(Look::Other(PassedWhy::LinkToDirectory)),
+        Ok(_) => Ok(Look::Other(PassedWhy::NeitherKind)),
+        Err(_) => Ok(Look::Other(PassedWhy::DeadLink)),
+    }
+}
+
+fn read_fault(alloc: Global, path: &str, error: Error) -> WalkFault {
+    match String::from_str(alloc, path) {
+        Ok(path) if error.kind() == ErrorKind::InvalidFilename => WalkFault::Name { path },
+        Ok(path) => WalkFault::Read { path, error },
+        Err(_) => WalkFault::Memory,
+    }
+}
+
+/// A regular file is an entry, if it notes nothing of the one beside it.
+fn add_file<R: Files>(
+    rt: &R,
+    alloc: Global,
+    next: Waiting,
+    length: u64,
+    found: &Metadata,
+    tree: &mut HostTree,
+) -> Result<(), WalkFault> {
+    let Some(noted) = noted_name(next.name.as_str()) else {
+        return add_entry(rt, alloc, next, HostKind::File { length }, found, tree);
+    };
+    let path = Path::new(next.path.as_str()).with_file_name(alloc, noted)?;
+    if !noted.is_empty() && fs::symlink_metadata(rt, path.as_str()).is_ok() {
+        return Ok(());
+    }
+    pass_over(next, PassedWhy::NoteOfNothing, tree)
+}
+
+fn add_entry<R: Files>(
+    rt: &R,
+    alloc: Global,
+    next: Waiting,
+    kind: HostKind,
+    found: &Metadata,
+    tree: &mut HostTree,
+) -> Result<(), WalkFault> {
+    let note = note_beside(rt, alloc, next.path.as_str(), next.name.as_str())?;
+    tree.entries.push(HostEntry {
+        path: next.path,
+        name: next.name,
+        parent: next.parent,
+        kind,
+        date: date_of(found),
+        note,
+    })?;
+    Ok(())
+}
+
+/// The path of the regular file beside another that notes what an Amiga knows of it.
+fn note_beside<R: Files>(
+    rt: &R,
+    alloc: Global,
+    path: &str,
+    name: &str,
+) -> Result<Option<String>, AllocError> {
+    let note = note_name(alloc, name)?;
+    let path = Path::new(path).with_file_name(alloc, note.as_str())?;
+    match fs::metadata(rt, path.as_str()) {
+        Ok(found) if found.is_file() => Ok(Some(String::from_str(alloc, path.as_str())?)),
+        _ => Ok(None),
+    }
+}
+
+/// When a file was changed. A time before 1970 is the first date of all.
+fn date_of(found: &Metadata) -> Date3 {
+    match found.modified() {
+        Ok(time) => date_of_time(time),
+        Err(_) => Date3 {
+            days: 0,
+            minutes: 0,
+            ticks: 0,
+        },
+    }
+}
+
+/// Puts what is in a directory on the stack, the first name on top.
+fn wait_for_names<R: Files>(
+    rt: &R,
+    alloc: Global,
+    path: &str,
+    parent: Option<usize>,
+    waiting: &mut Vec<Waiting>,
+) -> Result<(), WalkFault> {
+    let mut names = match names_in(rt, alloc, path) {
+        Ok(names) => names,
+        Err(error) if error.kind() == ErrorKind::OutOfMemory => return Err(WalkFault::Memory),
+        Err(error) => return Err(read_fault(alloc, path, error)),
+    };
+    sort_names(&mut names);
+    while let Some(name) = names.pop() {
+        let path = Path::new(path).join(alloc, name.as_str())?;
+        waiting.push(Waiting {
+            path: String::from_str(alloc, path.as_str())?,
+            name,
+            parent,
+        })?;
+    }
+    Ok(())
+}
+
+/// Puts names in the order of their bytes.
+fn sort_names(names: &mut Vec<String>)
+    ensures same { IsPermutation names.old.items names.new.items }
+    ensures sorted { IsSorted string_cmp names.new.items }
+{
+    names.sort_unstable();
+}
+
+/// The names in a directory, in no order.
+fn names_in<R: Files>(rt: &R, alloc: Global, path: &str) -> Result<Vec<String>, Error> {
+    let mut names = Vec::new(alloc);
+    for entry in fs::read_dir(&(rt, alloc), path)? {
+        let entry = entry?;
+        names.push(String::from_str(alloc, entry.file_name())?)?;
+    }
+    Ok(names)
+}

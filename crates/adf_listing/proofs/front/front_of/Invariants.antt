@@ -1,0 +1,17 @@
+use Rattle.std.proofs.Common.{◌≡◌, ◌++◌, All, vec_len}
+use Rattle.ados_tree.specs.Keys.{HasKey}
+use Rattle.ados_tree.specs.Stands.{Stands}
+use Rattle.ados_tree.specs.Tree.{Tree}
+use Rattle.adf_listing.specs.Listing.{front}
+use Rattle.adf_listing.specs.steps.Fronting.{names_down}
+use Rattle.adf_listing.proofs.front.front_of.Given as goal
+
+-- the text, and then the names of the directories that are left
+abbrev pub invariant-loop-key : goal.invariant-loop-key
+invariant-loop-key l = record {
+  keys : All (HasKey l.volume.image) l.keys.items;
+  names : (t : Tree) → Stands l.volume.image t → l.text.items ++ names_down t l.keys.items ≡ front t t.blocks l.dir;
+}
+
+abbrev pub decreases-loop-key : goal.decreases-loop-key
+decreases-loop-key l = vec_len l.keys

@@ -1,0 +1,36 @@
+//! Words whose letters stand for an Amiga's bytes.
+ghost use Rattle.std.specs.Prelude.{◌≡◌, IfOk, OnOk, All};
+ghost use Rattle.std.specs.Str.{chars};
+ghost use Rattle.adf_text.specs.Letters.{IsByte};
+ghost use Rattle.adf_text.specs.ProtectionLetters.{AreLetters};
+
+use crate::fault::WordsFault;
+use adf_text::{LettersFault, letter_bytes, protection_of_letters};
+use std::alloc::Global;
+
+/// This word, if each of its letters stands for a byte. One with a letter past U+00FF is a wrong command line.
+pub(crate) fn letters_of<'a>(alloc: Global, word: &'a str) -> Result<&'a str, WordsFault>
+    ensures same { IfOk result (λ text. text.now ≡ word.now) }
+    ensures letters { OnOk result (All IsByte (chars word.now)) }
+{
+    match letter_bytes(alloc, word) {
+        Ok(_) => Ok(word),
+        Err(LettersFault::Memory) => Err(WordsFault::Memory),
+        Err(LettersFault::NoByte { letter, .. }) => Err(WordsFault::Usage(format!(in alloc;
+            "error: the letter '{letter}' of '{word}' stands for no byte: names, paths and comments have letters up to U+00FF\n\nFor more information, try '--help'.\n"
+        )?)),
+    }
+}
+
+/// This word, if it spells protection bits. Any other is a wrong command line.
+pub(crate) fn protection_word<'a>(alloc: Global, word: &'a str) -> Result<&'a str, WordsFault>
+    ensures same { IfOk result (λ text. text.now ≡ word.now) }
+    ensures letters { OnOk result (AreLetters word.now) }
+{
+    match protection_of_letters(word.as_bytes()) {
+        Some(_) => Ok(word),
+        None => Err(WordsFault::Usage(format!(in alloc;
+            "error: invalid value '{word}' for '<LETTERS>': some letters of 'hsparwed', or these eight with a dash for each that is not there, are expected\n\nFor more information, try '--help'.\n"
+        )?)),
+    }
+}

@@ -1,0 +1,54 @@
+//! The words of a command, as `clap` found them.
+use crate::fault::WordsFault;
+use crate::letters::letters_of;
+use clap::ArgMatches;
+use std::alloc::{AllocError, Global};
+
+/// The word of a command that has to be there.
+pub(crate) fn word_for<'a>(
+    alloc: Global,
+    words: &ArgMatches<'a>,
+    id: &str,
+) -> Result<&'a str, WordsFault> {
+    match words.get_str(id) {
+        Some(word) => Ok(word),
+        None => Err(missing(alloc, id)?),
+    }
+}
+
+/// That a word is missing.
+pub(crate) fn missing(alloc: Global, id: &str) -> Result<WordsFault, AllocError> {
+    Ok(WordsFault::Usage(format!(in alloc;
+        "error: <{id}> is missing\n\nFor more information, try '--help'.\n"
+    )?))
+}
+
+/// The words of a command that may be many.
+pub(crate) fn words_for<'a>(
+    alloc: Global,
+    words: &ArgMatches<'a>,
+    id: &str,
+) -> Result<Vec<&'a str>, WordsFault> {
+    Ok(Vec::from_slice(alloc, words.get_strs(id).unwrap_or(&[]))?)
+}
+
+/// A word that has to be there, whose letters stand for bytes.
+pub(crate) fn letters_for<'a>(
+    alloc: Global,
+    words: &ArgMatches<'a>,
+    id: &str,
+) -> Result<&'a str, WordsFault> {
+    letters_of(alloc, word_for(alloc, words, id)?)
+}
+
+/// The paths of a command.
+pub(crate) fn paths_for<'a>(
+    alloc: Global,
+    words: &ArgMatches<'a>,
+) -> Result<Vec<&'a str>, WordsFault> {
+    let paths = words_for(alloc, words, "PATH")?;
+    for path in paths.iter() {
+        letters_of(alloc, *path)?;
+    }
+    Ok(paths)
+}

@@ -1,0 +1,14 @@
+-- What was noted for later is there still once more is put.
+use Rattle.std.proofs.Common.{List, ℕ}
+use Rattle.std.proofs.lemmas.List.Elements.{All-weaker}
+use Rattle.ados_tree.specs.Keys.{HasDirectory, HasEntryKey}
+use Rattle.files_in.specs.declared.progress.Made.{Made}
+use Rattle.files_in.specs.declared.progress.Progress.{Progress}
+use Rattle.files_in.specs.Progress.{IsProgress}
+use Rattle.files_in.specs.Put.{KeepsKeys}
+
+pub progress_kept : (old new : List ℕ) (progress : Progress) → KeepsKeys old new → IsProgress old progress → IsProgress new progress
+progress_kept old new progress kept was = record {
+  dirs = All-weaker (HasDirectory old) (HasDirectory new) kept.directory progress.dirs.items was.dirs;
+  made = All-weaker (λ (made : Made). HasEntryKey old made.key) (λ (made : Made). HasEntryKey new made.key) (λ made is. kept.entry made.key is) progress.made.items was.made;
+}

@@ -1,0 +1,105 @@
+//! Why a change was not made.
+
+use adf_host::WalkFault;
+use adf_text::UaemFault;
+use adf_transfer::Refused;
+use ados_packet::DosError;
+use std::alloc::{AllocError, AllocFailed, Global};
+use std::{error, fmt};
+use thiserror::Error;
+
+/// Why a change was not made. The volume may be changed in part, so that its image is not to be written.
+#[derive(Debug, Drop, Error)]
+pub enum InFault {
+    /// Any error of AmigaDOS but 221.
+    #[error("{0}")]
+    Refused(Refused),
+    /// 221: a file or a directory needs so many blocks more, and so many are free.
+    #[error("disk is full: {needed} blocks are needed and {free} are free")]
+    NoRoom {
+        path: String,
+        needed: u64,
+        free: u32,
+    },
+    /// A word has a letter past U+00FF.
+    #[error("'{0}' has a letter that no byte of an Amiga's text stands for")]
+    Letter(String),
+    /// A word is no protection bits.
+    #[error("'{0}' is no protection: some of the letters hsparwed, or eight places with a letter or a dash each")]
+    Bits(String),
+    /// Files of the host were not gone through.
+    #[error("{0}")]
+    Host(WalkFault),
+    /// A file of the host cannot be read.
+    #[error("'{0}' cannot be read")]
+    Read(String),
+    /// A file beside another does not tell what an Amiga knows of that one.
+    #[error("'{path}' {fault}")]
+    Note {
+        path: String,
+        fault: NoteFault,
+    },
+    #[error("there is not enough memory")]
+    Memory,
+}
+
+impl From<AllocError> for InFault {
+    fn from(_error: AllocError) -> InFault {
+        InFault::Memory
+    }
+}
+
+impl<T: Drop> From<AllocFailed<T>> for InFault {
+    fn from(_error: AllocFailed<T>) -> InFault {
+        InFault::Memory
+    }
+}
+
+impl From<WalkFault> for InFault {
+    fn from(fault: WalkFault) -> InFault {
+        match fault {
+            WalkFault::Memory => InFault::Memory,
+            other => InFault::Host(other),
+        }
+    }
+}
+
+/// What is wrong with a file beside another.
+#[derive(Clone, Copy, Debug)]
+pub struct NoteFault(pub UaemFault);
+
+impl fmt::Display for NoteFault {
+    fn fmt<W: fmt::Write>(&self, f: &mut fmt::Formatter<W>) -> fmt::Result {
+        match self.0 {
+            UaemFault::NotUtf8 { .. } => write!(f, "is not UTF-8"),
+            UaemFault::NoByte { .. } => write!(f, "has a letter that no byte stands for"),
+            UaemFault::Control { .. } => write!(
+                f,
+                "has more than one line, or a letter without a picture"
+            ),
+            UaemFault::NoProtection => write!(
+                f,
+                "does not begin with eight protection letters and a space"
+            ),
+            UaemFault::NoDate => write!(f, "has no date behind the protection letters"),
+            UaemFault::LongComment { length } => write!(
+                f,
+                "has a comment of {length} bytes, and 79 are the most"
+            ),
+            UaemFault::Memory => write!(f, "was not read: there is not enough memory"),
+        }
+    }
+}
+
+impl error::Error for NoteFault {}
+
+/// An error of AmigaDOS, told of a path.
+pub(crate) fn refused(alloc: Global, path: &str, error: DosError) -> InFault {
+    if error == DosError::NoFreeStore {
+        return InFault::Memory;
+    }
+    match String::from_str(alloc, path) {
+        Ok(path) => InFault::Refused(Refused { error, path }),
+        Err(_) => InFault::Memory,
+    }
+}

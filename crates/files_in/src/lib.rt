@@ -1,0 +1,17 @@
+//! What a command changes in a volume that is in memory: its entries and what is told of them, files of the host that
+//! are put in, and the boot block of an image.
+#![tactic(auto)]
+
+mod adding;
+mod boot;
+mod change;
+mod fault;
+mod host_files;
+mod paths;
+mod progress;
+mod put;
+mod words;
+
+pub use boot::{LongBoot, boot_image};
+pub use change::change_volume;
+pub use fault::{InFault, NoteFault};

@@ -1,0 +1,190 @@
+//! Changes of what stands at a path from the root.
+
+ghost use Rattle.std.specs.Prelude.{◌≡◌, [], IfOk, Result};
+ghost use Rattle.ados_tree.specs.Tree.{Tree};
+ghost use Rattle.ados_tree.specs.Tree.Content.{Directory};
+ghost use Rattle.ados_tree.specs.Stands.{Stands};
+ghost use Rattle.ados_tree.specs.Change.{disk_renamed, made, removed, renamed, with_comment};
+ghost use Rattle.ados_tree.specs.Keys.{HasDirectory, HasKey};
+ghost use Rattle.adf_transfer.specs.Changes.{Changes, protected};
+ghost use Rattle.adf_transfer.specs.Pruned.{Prunes};
+ghost use Rattle.adf_transfer.specs.Refusals.{delete_refusal, make_refusal, root_refusal};
+ghost use Rattle.files_in.specs.Paths.{ChangesAt, comment_refusal, entry_move_refusal, move_ends, move_fault, object_at, place_at, relabel_refusal};
+
+use adf_transfer::{
+    comment, delete, delete_all, locate, make_directory, move_entry, place, protect, relabel,
+};
+use ados_name::{Comment, Date3, Name, Protect};
+use ados_packet::DosError;
+use ados_volume::Volume;
+use std::alloc::Global;
+
+/// Makes a directory, and answers its key.
+///
+/// Errors: those of a place (204, 205, 210, 212), and 203 and 221.
+pub(crate) fn make_at(volume: &mut Volume, path: &[u8], moment: Date3) -> Result<u32, DosError>
+    ensures { ChangesAt (place_at path.now) (λ to. Changes (make_refusal to.0 to.1) (λ key t. made moment to.0 key to.1 (Directory []) t)) volume.old volume.new result }
+{
+    let (dir, name) = place(volume, path)?;
+    make_directory(volume, dir, name, moment)
+}
+
+/// Deletes a file or an empty directory.
+///
+/// Errors: those of a walk (204, 205, 212), and 212, 216 and 222.
+pub(crate) fn delete_at(
+    volume: &mut Volume,
+    path: &[u8],
+    force: bool,
+    moment: Date3,
+) -> Result<(), DosError>
+    ensures { ChangesAt (object_at path.now) (λ key. Changes (delete_refusal key force) (λ _ t. removed moment key t)) volume.old volume.new result }
+{
+    let key = object_at(volume, path)?;
+    delete(volume, key, force, moment)
+}
+
+/// Deletes an entry with all that lies below it.
+///
+/// Errors: those of a walk (204, 205, 212), and 212, 222 and 103.
+pub(crate) fn delete_all_at(
+    alloc: Global,
+    volume: &mut Volume,
+    path: &[u8],
+    force: bool,
+    moment: Date3,
+) -> Result<(), DosError>
+    ensures { ChangesAt (object_at path.now) (λ key. Prunes moment key force) volume.old volume.new result }
+{
+    let key = object_at(volume, path)?;
+    delete_all(alloc, volume, key, force, moment)
+}
+
+/// Why an entry is not moved, told of its old path or of its new one.
+#[derive(Clone, Copy, Debug, PartialEq, Eq)]
+pub(crate) enum MoveFault {
+    Old(DosError),
+    New(DosError),
+}
+
+/// Moves an entry to another place.
+///
+/// Errors: of the old path those of a walk (204, 205, 212), 212 and 202; of the new one those of a place, and 203.
+pub(crate) fn move_at(
+    volume: &mut Volume,
+    old: &[u8],
+    new: &[u8],
+    moment: Date3,
+) -> Result<(), MoveFault>
+    ensures { ChangesAt (move_ends old.now new.now) (λ m. Changes (entry_move_refusal m) (λ _ t. renamed moment m.0 m.1.0 m.1.1 t)) volume.old volume.new result }
+{
+    let key = match object_at(volume, old) {
+        Ok(key) => key,
+        Err(error) => return Err(MoveFault::Old(error)),
+    };
+    match place(volume, new) {
+        Ok(to) => move_found(volume, key, to, moment),
+        Err(error) => Err(MoveFault::New(error)),
+    }
+}
+
+/// Moves an entry into a directory, under a name.
+fn move_found(
+    volume: &mut Volume,
+    key: u32,
+    to: (u32, Name),
+    moment: Date3,
+) -> Result<(), MoveFault>
+    requires key { HasKey volume.old.image key }
+    requires directory { HasDirectory volume.old.image to.0 }
+    ensures { Changes (entry_move_refusal (key, to)) (λ _ t. renamed moment key to.0 to.1 t) volume.old volume.new result }
+{
+    match move_entry(volume, key, to.0, to.1, moment) {
+        Ok(()) => Ok(()),
+        Err(error) => Err(move_fault(error)),
+    }
+}
+
+/// Of which path an error of a move is told: that another entry has the name, of the new one.
+fn move_fault(error: DosError) -> MoveFault
+    ensures { result ≡ move_fault error }
+{
+    match error {
+        DosError::ObjectExists => MoveFault::New(error),
+        _ => MoveFault::Old(error),
+    }
+}
+
+/// Sets the low eight protection bits of an entry.
+///
+/// Errors: those of a walk (204, 205, 212), and 212 of the root.
+pub(crate) fn protect_at(
+    volume: &mut Volume,
+    path: &[u8],
+    bits: Protect,
+    moment: Date3,
+) -> Result<(), DosError>
+    ensures { ChangesAt (object_at path.now) (λ key. Changes (root_refusal key) (λ _ t. protected moment key bits.0 t)) volume.old volume.new result }
+{
+    let key = object_at(volume, path)?;
+    protect(volume, key, bits, moment)
+}
+
+/// Sets the comment of an entry.
+///
+/// Errors: those of a walk (204, 205, 212), 220 of more than 79 bytes, and 212 of the root.
+pub(crate) fn comment_at(
+    volume: &mut Volume,
+    path: &[u8],
+    text: &[u8],
+    moment: Date3,
+) -> Result<(), DosError>
+    ensures { ChangesAt (object_at path.now) (λ key. Changes (comment_refusal key text.now) (λ _ t. with_comment moment key text.now t)) volume.old volume.new result }
+{
+    let key = object_at(volume, path)?;
+    let Ok(text) = Comment::new(text) else {
+        return Err(DosError::CommentTooBig);
+    };
+    comment(volume, key, &text, moment)
+}
+
+/// Gives the volume another name.
+///
+/// Error: 210 of what is no name.
+pub(crate) fn relabel_as(volume: &mut Volume, name: &[u8], moment: Date3) -> Result<(), DosError>
+    ensures { Changes (relabel_refusal name.now) (λ _ t. disk_renamed moment name.now t) volume.old volume.new result }
+{
+    let Ok(name) = Name::new(name) else {
+        return Err(DosError::InvalidComponentName);
+    };
+    relabel(volume, name, moment);
+    Ok(())
+}
+
+/// The directory at a path.
+///
+/// Errors: those of a walk (204, 205, 212), and 212 of a file.
+pub(crate) fn directory_at(volume: &mut Volume, path: &[u8]) -> Result<u32, DosError>
+    ensures directory { IfOk result (HasDirectory volume.old.image) }
+    ensures same { volume.new ≡ volume.old }
+{
+    let key = object_at(volume, path)?;
+    if volume.is_file(key) {
+        return Err(DosError::ObjectWrongType);
+    }
+    Ok(key)
+}
+
+/// The object at a path.
+///
+/// Errors: those of a walk (204, 205, 212).
+fn object_at(volume: &mut Volume, path: &[u8]) -> Result<u32, DosError>
+    ensures object { (t : Tree) → Stands volume.old.image t → result ≡ object_at path.now t }
+    ensures key { IfOk result (HasKey volume.old.image) }
+    ensures same { volume.new ≡ volume.old }
+{
+    match locate(volume, path) {
+        Ok(key) => Ok(key),
+        Err(stopped) => Err(stopped.error),
+    }
+}

@@ -1,0 +1,2 @@
+-- What only the calls inside speak of: entries under a directory's path.
+pub mod Behind

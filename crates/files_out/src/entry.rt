@@ -1,0 +1,77 @@
+//! One entry as it goes out.
+ghost use Rattle.std.specs.Prelude.{◌≡◌, ◌++◌, List, Some, IfOk, OnOk, All};
+ghost use Rattle.ados_name.specs.Name.{IsName};
+ghost use Rattle.ados_tree.specs.Tree.{Node, Tree};
+ghost use Rattle.ados_tree.specs.Stands.{Stands};
+ghost use Rattle.ados_tree.specs.Keys.{HasKey};
+ghost use Rattle.adf_host.specs.declared.writing.HostItem.{HostItem as Item};
+ghost use Rattle.files_out.specs.Items.{names_in, Holds, HasLine, GoesOut, noted};
+
+use crate::paths::host_path;
+use adf_host::{Content, HostItem, HostPath};
+use adf_text::{Uaem, uaem_line};
+use adf_transfer::read_file;
+use ados_packet::FileInfo;
+use ados_volume::Volume;
+use std::alloc::{AllocError, Global};
+
+/// Puts the item of an entry behind others, and where notes are wanted the note of it.
+pub(crate) fn push_entry(
+    alloc: Global,
+    volume: &Volume,
+    key: u32,
+    path: &[u8],
+    meta: bool,
+    items: &mut Vec<HostItem>,
+) -> Result<(), AllocError>
+    requires key { HasKey volume.now.image key }
+    requires names { All IsName (names_in path.now) }
+    ensures { OnOk result ((t : Tree) → Stands volume.now.image t
+        → (more : List Item) × (items.new.items ≡ items.old.items ++ more) × GoesOut t meta (record { key = key; path = path.now }) more) }
+{
+    let told = volume.examine(key);
+    let path = host_path(alloc, path)?;
+    let note = path.note(alloc)?;
+    let content = content_of(alloc, volume, key)?;
+    items.push(HostItem {
+        path,
+        content,
+        date: told.date,
+    })?;
+    if !meta {
+        return Ok(());
+    }
+    let content = note_content(alloc, &told)?;
+    items.push(HostItem {
+        path: note,
+        content,
+        date: told.date,
+    })?;
+    Ok(())
+}
+
+/// What an object holds.
+fn content_of(alloc: Global, volume: &Volume, key: u32) -> Result<Content, AllocError>
+    requires { HasKey volume.now.image key }
+    ensures { IfOk result (λ content. (t : Tree) (node : Node) → Stands volume.now.image t → t.nodes key ≡ Some node → Holds node.content content) }
+{
+    if !volume.is_file(key) {
+        return Ok(Content::Directory);
+    }
+    Ok(Content::File(read_file(alloc, volume, key)?))
+}
+
+/// The line of a note.
+fn note_content(alloc: Global, told: &FileInfo) -> Result<Content, AllocError>
+    ensures { IfOk result (HasLine (noted told.now)) }
+{
+    let line = uaem_line(
+        alloc,
+        &Uaem {
+            protect: told.protection,
+            date: told.date,
+            comment: told.comment,
+        },
+    )?;
+    Ok(Content::File(line.into_bytes()))
+}

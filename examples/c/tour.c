@@ -1,0 +1,92 @@
+/* A tour: a blank floppy, a directory, a file that is written and read back, the list of the root, and the image saved.
+ *
+ *   cc tour.c $(pkg-config --cflags --libs jiponuwha) -o tour && ./tour floppy.adf
+ */
+#include <jiponuwha.h>
+#include <stdio.h>
+#include <stdlib.h>
+
+static const jip_date START = {0, 0, 0};
+
+/* Serves a packet; a packet that is refused ends the program with its DOS error. */
+static jip_answer serve(jip_handle *handle, const jip_packet *packet) {
+    jip_answer answer;
+    int32_t status = jip_serve(handle, packet, &answer);
+    if (status != JIP_DONE || answer.res2 != 0) {
+        fprintf(stderr, "tour: action %d: status %d, error %d\n", (int)packet->action, (int)status, (int)answer.res2);
+        exit(1);
+    }
+    return answer;
+}
+
+static void make_directory(jip_handle *handle, const char *name) {
+    jip_packet packet;
+    jip_create_dir(&packet, START, 0, name);
+    jip_answer made = serve(handle, &packet);
+    jip_free_lock(&packet, START, (uint32_t)made.res1);
+    serve(handle, &packet);
+}
+
+static void write_file(jip_handle *handle, const char *name, char *bytes, size_t length) {
+    jip_packet packet;
+    jip_findoutput(&packet, START, 0, name);
+    uint32_t file = serve(handle, &packet).handle;
+    jip_write(&packet, START, file, bytes, length);
+    serve(handle, &packet);
+    jip_end(&packet, START, file);
+    serve(handle, &packet);
+}
+
+static void print_file(jip_handle *handle, const char *name) {
+    char bytes[64] = {0};
+    jip_packet packet;
+    jip_findinput(&packet, START, 0, name);
+    uint32_t file = serve(handle, &packet).handle;
+    jip_read(&packet, START, file, bytes, sizeof bytes);
+    int32_t length = serve(handle, &packet).res1;
+    printf("%s: %.*s\n", name, (int)length, bytes);
+    jip_end(&packet, START, file);
+    serve(handle, &packet);
+}
+
+/* Each entry leads to the next by its key; the key of the root itself leads to the first. */
+static void list_root(jip_handle *handle) {
+    jip_packet packet;
+    jip_answer answer;
+    jip_examine_object(&packet, START, 0);
+    answer = serve(handle, &packet);
+    printf("Volume %s\n", (const char *)answer.entry.name);
+    for (;;) {
+        jip_examine_next(&packet, START, 0, answer.entry.key);
+        if (jip_serve(handle, &packet, &answer) != JIP_DONE || answer.res2 != 0) break;
+        if (answer.entry.entry_type == JIP_FILE)
+            printf("%8u %s\n", (unsigned)answer.entry.size, (const char *)answer.entry.name);
+        else
+            printf("     dir %s\n", (const char *)answer.entry.name);
+    }
+}
+
+static int save(jip_handle *handle, const char *path) {
+    size_t length = jip_image_length(handle);
+    uint8_t *bytes = calloc(length, 1);
+    FILE *file = fopen(path, "wb");
+    int done = bytes != NULL && file != NULL && jip_copy_image(handle, bytes, length) == JIP_DONE &&
+               fwrite(bytes, 1, length, file) == length;
+    if (file != NULL && fclose(file) != 0) done = 0;
+    free(bytes);
+    return done;
+}
+
+int main(int count, char **words) {
+    jip_handle handle = JIP_CLOSED;
+    char hello[] = "Hi Amiga";
+    if (jip_blank(JIP_FFS, JIP_DOUBLE_DENSITY, "Work", 4, START, &handle) != JIP_DONE) return 1;
+    make_directory(&handle, "tools");
+    write_file(&handle, "hello", hello, sizeof hello - 1);
+    print_file(&handle, "HELLO");
+    list_root(&handle);
+    int done = count < 2 || save(&handle, words[1]);
+    jip_close(&handle);
+    if (!done) fprintf(stderr, "tour: the image was not saved\n");
+    return done ? 0 : 1;
+}

@@ -1,0 +1,113 @@
+#!/usr/bin/env bash
+# Packs what was built here into one archive for machines of this kind: the program, the library for C with its header, the
+# mount, pages for `man`, completions, the pages on how to use them, the notices of what is linked into them, the commit and
+# the gate that it stands on, and the sums of its files.
+#
+#   tools/dist.sh [TO]
+#
+# TO is the archive to write, out/jiponuwha-COMMIT-KIND.tar.gz if it is left out. Nothing is proved or built but the mount: run
+# `./test`, or `./adf_serve` and bindings/c/build.sh, before. GATE is a file with what `./test` printed, out/test.log if it is
+# left out. LIBRARY names another folder with the library, as bindings/c/build.sh makes it, and PROGRAM another program.
+set -euo pipefail
+top=$(cd "$(dirname "$0")/.." && pwd)
+room=$(mktemp -d)
+trap 'rm -rf "$room"' EXIT
+program=${PROGRAM:-$top/crates/adf_serve/out/adf_serve}
+gate=${GATE:-$top/out/test.log}
+rt=$(command -v rt) || { echo "dist.sh: the Rattle kit's command 'rt' is not on the path" >&2; exit 2; }
+kit=$(dirname "$(dirname "$(readlink -f "$rt")")")
+commit=$(git -C "$top" rev-parse --short=12 HEAD)
+kind=$(uname -s | tr '[:upper:]' '[:lower:]')-$(uname -m)
+name=jiponuwha-$commit-$kind
+to=$(realpath -m "${1:-$top/out/$name.tar.gz}")
+dist=$room/$name
+
+# need FILE WHAT: the file is to be there.
+need() { [ -e "$1" ] || { echo "dist.sh: there is no $1; $2" >&2; exit 2; }; }
+
+# The library, which pkg-config finds wherever it is unpacked.
+library() {
+    mkdir -p "$dist/lib" "$dist/include"
+    if [ -n "${LIBRARY:-}" ]; then
+        cp -r "$LIBRARY/lib/." "$dist/lib/"
+        cp -r "$LIBRARY/include/." "$dist/include/"
+    else
+        "$top/bindings/c/build.sh" --built "$dist"
+    fi
+    # shellcheck disable=SC2016 # pkg-config reads the name
+    sed 's|@PREFIX@|${pcfiledir}/../..|' "$top/bindings/c/jiponuwha.pc.in" >"$dist/lib/pkgconfig/jiponuwha.pc"
+}
+
+pages() {
+    local page
+    mkdir -p "$dist/share/man/man1" "$dist/share/doc/jiponuwha/docs"
+    for page in "$top"/docs/*.1; do gzip -9n <"$page" >"$dist/share/man/man1/${page##*/}.gz"; done
+    cp "$top/README.md" "$dist/share/doc/jiponuwha/"
+    cp "$top/docs/COMMANDS.md" "$dist/share/doc/jiponuwha/docs/"
+}
+
+completions() {
+    "$top/tools/completions/make" "$room/completions"
+    mkdir -p "$dist/share/bash-completion/completions" "$dist/share/zsh/site-functions" "$dist/share/fish/vendor_completions.d"
+    cp "$room/completions/bash/"* "$dist/share/bash-completion/completions/"
+    cp "$room/completions/zsh/"* "$dist/share/zsh/site-functions/"
+    cp "$room/completions/fish/"* "$dist/share/fish/vendor_completions.d/"
+}
+
+# The crates of the kit that the program and the library stand on, with those below them.
+kit_crates() {
+    awk '
+        /^[[:space:]]*(#|$)/ { next }
+        { split($0, parts, ":"); split(parts[1], head, " "); name[++count] = head[1]; stands_on[head[1]] = parts[2] }
+        END {
+            needed["adf_serve"] = needed["adf_c"] = 1
+            for (k = count; k >= 1; k--)
+                if (name[k] in needed) {
+                    many = split(stands_on[name[k]], below, " ")
+                    for (j = 1; j <= many; j++) needed[below[j]] = 1
+                }
+            for (k = 1; k <= count; k++) delete needed[name[k]]
+            delete needed["adf_serve"]
+            delete needed["adf_c"]
+            for (crate in needed) print crate
+        }' "$top/crates.txt" |
+        while read -r crate; do
+            echo "$crate"
+            if [ -d "$kit/rlibs/$crate.rlib/below" ]; then ls "$kit/rlibs/$crate.rlib/below"; fi
+        done | sort -u
+}
+
+# Each crate's licences and notices under its own name.
+notices() {
+    local crate file
+    while read -r crate; do
+        for file in "$kit/rattle/$crate"/{LICENSE,LICENCE,NOTICE,COPYING,COPYRIGHT,UNLICENSE}*; do
+            [ -f "$file" ] || continue
+            mkdir -p "$dist/share/doc/jiponuwha/notices/$crate"
+            cp "$file" "$dist/share/doc/jiponuwha/notices/$crate/"
+        done
+    done
+}
+
+build_file() {
+    echo "commit $(git -C "$top" rev-parse HEAD)"
+    [ -z "$(git -C "$top" status --porcelain --untracked-files=no)" ] || echo 'with changes that are in no commit'
+    echo "kit $("$rt" version)"
+    echo "machine $kind"
+    if [ -f "$gate" ]; then echo "gate $(tail -n 1 "$gate")"; else echo 'gate not told'; fi
+}
+
+need "$program" './adf_serve builds it'
+mkdir -p "$dist/bin" "$(dirname "$to")"
+install -m 755 "$program" "$dist/bin/adf_serve"
+library
+"$top/bindings/fuse/build.sh" "$dist/bin/adf_mount" "$dist"
+pages
+completions
+kit_crates | notices
+build_file >"$dist/BUILD"
+(cd "$dist" && find . -type f -printf '%P\n' | sort | tee "$room/files" | xargs -d '\n' sha256sum >"$room/sums")
+cp "$room/sums" "$dist/SHA256SUMS"
+when=$(git -C "$top" log -1 --format=%ct)
+tar -C "$room" --sort=name --owner=0 --group=0 --numeric-owner --mtime="@$when" -cf - "$name" | gzip -9n >"$to"
+echo "$to"
