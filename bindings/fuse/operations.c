@@ -700,7 +700,7 @@ static int write_at(struct open_file *file, const char *bytes, size_t size, off_
         if (error == 0) error = seek(file->handle, (int32_t)offset);
     }
     if (error != 0) return errno_of(error);
-    jip_write(&packet, now(), file->handle, (void *)(uintptr_t)bytes, size);
+    jip_write(&packet, now(), file->handle, bytes, size);
     file->is_changed = true;
     return errno_of(ask_on_open(file->node->lock, &packet, &answer));
 }

@@ -27,7 +27,7 @@ static void make_directory(jip_handle *handle, const char *name) {
     serve(handle, &packet);
 }
 
-static void write_file(jip_handle *handle, const char *name, char *bytes, size_t length) {
+static void write_file(jip_handle *handle, const char *name, const char *bytes, size_t length) {
     jip_packet packet;
     jip_findoutput(&packet, START, 0, name);
     uint32_t file = serve(handle, &packet).handle;
@@ -79,10 +79,9 @@ static int save(jip_handle *handle, const char *path) {
 
 int main(int count, char **words) {
     jip_handle handle = JIP_CLOSED;
-    char hello[] = "Hi Amiga";
     if (jip_blank(JIP_FFS, JIP_DOUBLE_DENSITY, "Work", 4, START, &handle) != JIP_DONE) return 1;
     make_directory(&handle, "tools");
-    write_file(&handle, "hello", hello, sizeof hello - 1);
+    write_file(&handle, "hello", "Hi Amiga", 8);
     print_file(&handle, "HELLO");
     list_root(&handle);
     int done = count < 2 || save(&handle, words[1]);
