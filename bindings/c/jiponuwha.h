@@ -10,8 +10,8 @@
  *     that READ fills. An answer, a fault and a count need not have been.
  *  4. A jip_handle is JIP_CLOSED before it is first used. Only the calls here change it, and its pointer is never followed.
  *     A copy of it is not used once the handle, or another copy, was: a handle has one owner.
- *  5. A handle is used by one call at a time, and only on the thread that opened it, which closes it too. Any number of handles
- *     may be used side by side, on any threads.
+ *  5. A handle is used by one call at a time. It may go to another thread, where a lock, a thread's start or join, or an atomic
+ *     of memory_order_seq_cst puts the calls in order. Any number of handles may be used side by side, on any threads.
  *  6. malloc, realloc and free come from one allocator, and align a block to each power of two up to 16 that divides its size.
  *  7. No call is made from a signal handler, nor in the forked child of a process with threads.
  *
@@ -128,8 +128,15 @@ enum jip_seek_mode { JIP_OFFSET_BEGINNING = -1, JIP_OFFSET_CURRENT = 0, JIP_OFFS
 enum jip_entry_type { JIP_ROOT = 1, JIP_DIRECTORY = 2, JIP_FILE = -3 };
 enum jip_disk_state { JIP_WRITE_PROTECTED = 80, JIP_VALIDATING = 81, JIP_VALIDATED = 82 };
 
-/* The most bytes of a name, of a comment and of a path. */
-enum jip_limit { JIP_NAME_BYTES = 30, JIP_COMMENT_BYTES = 79, JIP_PATH_BYTES = 255 };
+/* The most bytes of a name, of a comment and of a path; the bytes of a block; the fewest and the most blocks of an image. */
+enum jip_limit {
+    JIP_NAME_BYTES = 30,
+    JIP_COMMENT_BYTES = 79,
+    JIP_PATH_BYTES = 255,
+    JIP_BLOCK_BYTES = 512,
+    JIP_FEWEST_BLOCKS = 16,
+    JIP_MOST_BLOCKS = 101602
+};
 
 /* A handler over an image of its own, or none where it is closed: JIP_CLOSED, or all zeros. */
 typedef struct jip_handle {
@@ -151,7 +158,8 @@ typedef struct jip_fault {
     uint32_t block;
 } jip_fault;
 
-/* A packet. An action reads those fields alone that it takes; the inline functions below fill them. */
+/* A packet. An action reads those fields alone that it takes; the inline functions below fill them. Texts are bytes as an Amiga has
+   them, which are letters of ISO 8859-1; they end at their lengths, of at most JIP_PATH_BYTES. */
 typedef struct jip_packet {
     int32_t action;
     uint32_t lock;    /* 0 stands for the root */
@@ -187,7 +195,7 @@ typedef struct jip_entry {
 
 /* What DISK_INFO and INFO tell. */
 typedef struct jip_disk {
-    uint32_t state;           /* a jip_disk_state */
+    uint32_t state;           /* a jip_disk_state: here always JIP_VALIDATED */
     uint32_t blocks;          /* behind the two boot blocks */
     uint32_t used;            /* of these */
     uint32_t bytes_per_block; /* that a file has in a block: 488 or 512 */
@@ -271,15 +279,17 @@ static inline int32_t jip_open(const void *bytes, size_t length, jip_handle *han
     jip_fault told = {0, 0};
     int32_t status;
     if (!jip_may_hold(bytes, length) || !jip_may_be_handle(handle, bytes, length)) return JIP_WRONG_ARGUMENT;
-    if (!jip_may_stand(fault, JIP_ALIGNMENT(jip_fault)) || !jip_may_be_handle(handle, fault, sizeof *fault)) return JIP_WRONG_ARGUMENT;
-    if (!jip_apart(fault, sizeof *fault, bytes, length)) return JIP_WRONG_ARGUMENT;
+    if (!jip_may_stand(fault, JIP_ALIGNMENT(jip_fault)) || !jip_may_be_handle(handle, fault, sizeof *fault) ||
+        !jip_apart(fault, sizeof *fault, bytes, length))
+        return JIP_WRONG_ARGUMENT;
     status = jip_lib_open(length == 0 ? &none : (const uint8_t *)bytes, length, handle, &told);
     if (status == JIP_NOT_AN_IMAGE) *fault = told;
     return status;
 }
 
-/* Opens a closed handle on a blank volume of 16 to 101,602 blocks of 512 bytes, whose three dates are the moment. The name has 1 to
-   30 bytes, and neither `/` nor `:`. JIP_NO_MEMORY, JIP_WRONG_ARGUMENT: the handle is as it was. */
+/* Opens a closed handle on a blank volume of JIP_FEWEST_BLOCKS to JIP_MOST_BLOCKS, as a jip_size, of 512 bytes each, in a
+   jip_format. Its three dates are the moment. The name has 1 to 30 bytes, and neither `/` nor `:`. The handle owns memory then,
+   until jip_close. JIP_NO_MEMORY, JIP_WRONG_ARGUMENT: the handle is as it was. */
 static inline int32_t jip_blank(int32_t format, uint32_t blocks, const void *name, size_t length, jip_date moment, jip_handle *handle) {
     const uint8_t none = 0;
     if (!jip_may_hold(name, length) || !jip_may_be_handle(handle, name, length)) return JIP_WRONG_ARGUMENT;

@@ -1,6 +1,7 @@
 //! `jip_lib_serve`: one packet, one answer.
 
-ghost use Rattle.std.specs.Prelude.{◌≡◌};
+ghost use Rattle.std.specs.Prelude.{◌≡◌, ◌↔◌, IsTrue};
+ghost use Rattle.ados_name.specs.Path.{IsPathText};
 ghost use Rattle.adf_c.specs.Calls.{ServeComes, ServeEnds, ServedBy, SpellComes};
 ghost use Rattle.adf_c.specs.Spelling.{carried};
 ghost use Rattle.adf_c.specs.Telling.{fills as fills_buffer, handed_back};
@@ -73,17 +74,24 @@ fn spell(
 ) -> Result<Packet, Refusal>
     ensures { SpellComes packet.now path.now text.now bytes.now buffer.now result }
 {
-    let Ok(path) = PathText::new(path) else {
+    if !fits(path) {
         return Err(Refusal::WrongArgument);
-    };
-    let Ok(text) = PathText::new(text) else {
+    }
+    if !fits(text) {
         return Err(Refusal::WrongArgument);
-    };
+    }
     let action = action_of_number(packet.action);
     let Ok(carried) = Vec::from_slice(alloc, carried_by(action, bytes, buffer)) else {
         return Err(Refusal::NoMemory);
     };
     Ok(packet.packet(action, path, text, Buffer::from_vec(carried)))
+}
+
+/// Whether a text is no longer than that of a packet may be.
+fn fits(text: &[u8]) -> bool
+    ensures { IsTrue result ↔ IsPathText text.now }
+{
+    text.len() <= PathText::MAX_LEN
 }
 
 /// The bytes that a packet of this action carries: a READ takes the buffer, and any other the bytes.
