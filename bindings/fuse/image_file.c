@@ -52,6 +52,12 @@ int image_file_read(const struct image_file *file, size_t most, uint8_t **bytes,
     return 0;
 }
 
+bool image_file_may_be_replaced(const struct image_file *file) {
+    char folder[PATH_MAX];
+    memcpy(folder, file->path, strlen(file->path) + 1);
+    return access(file->path, W_OK) == 0 && access(dirname(folder), W_OK | X_OK) == 0;
+}
+
 static int write_all(int to, const uint8_t *bytes, size_t length) {
     while (length > 0) {
         const ssize_t count = write(to, bytes, length);

@@ -1112,7 +1112,8 @@ static int open_image(const char *path) {
     int error = image_file_hold(&volume.file, path);
     if (error == EWOULDBLOCK) return tell(STATUS_HOST, path, "it is mounted, or another program has it locked");
     if (error == EINVAL) return tell(STATUS_HOST, path, "it is no regular file");
-    if (error == 0 && !volume.is_read_only && access(volume.file.path, W_OK) != 0) error = errno;
+    if (error == 0 && !volume.is_read_only && !image_file_may_be_replaced(&volume.file))
+        return tell(STATUS_HOST, path, "it, or its folder, may not be written; -o ro only reads it");
     if (error == 0) error = image_file_read(&volume.file, (size_t)JIP_MOST_BLOCKS * JIP_BLOCK_BYTES, &volume.bytes, &volume.length);
     if (error == EFBIG) return tell_refused(path, (jip_fault){JIP_FAULT_TOO_MANY_BLOCKS, 0});
     if (error != 0) return tell(STATUS_HOST, path, strerror(error));
