@@ -31,9 +31,10 @@ int image_file_hold(struct image_file *file, const char *path) {
     return 0;
 }
 
-int image_file_read(const struct image_file *file, uint8_t **bytes, size_t *length) {
+int image_file_read(const struct image_file *file, size_t most, uint8_t **bytes, size_t *length) {
     struct stat stat;
     if (fstat(file->held, &stat) != 0) return errno;
+    if ((uintmax_t)stat.st_size > most) return EFBIG;
     *length = (size_t)stat.st_size;
     *bytes = malloc(*length + 1);
     if (*bytes == NULL) return ENOMEM;
@@ -49,6 +50,12 @@ int image_file_read(const struct image_file *file, uint8_t **bytes, size_t *leng
         done += (size_t)count;
     }
     return 0;
+}
+
+bool image_file_may_be_replaced(const struct image_file *file) {
+    char folder[PATH_MAX];
+    memcpy(folder, file->path, strlen(file->path) + 1);
+    return access(file->path, W_OK) == 0 && access(dirname(folder), W_OK | X_OK) == 0;
 }
 
 static int write_all(int to, const uint8_t *bytes, size_t length) {

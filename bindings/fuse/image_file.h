@@ -3,6 +3,7 @@
 #define ADF_MOUNT_IMAGE_FILE_H
 
 #include <limits.h>
+#include <stdbool.h>
 #include <stddef.h>
 #include <stdint.h>
 
@@ -14,8 +15,11 @@ struct image_file {
 /* Finds the file, and locks it. EWOULDBLOCK where someone else has it locked; EINVAL where it is no regular file. */
 int image_file_hold(struct image_file *file, const char *path);
 
-/* Reads it whole to memory that the caller frees. */
-int image_file_read(const struct image_file *file, uint8_t **bytes, size_t *length);
+/* Reads it whole to memory that the caller frees. EFBIG where it has more bytes than these. */
+int image_file_read(const struct image_file *file, size_t most, uint8_t **bytes, size_t *length);
+
+/* Whether it may be replaced: it may be written, and so may its folder. */
+bool image_file_may_be_replaced(const struct image_file *file);
 
 /* Puts another file with these bytes in its place, which has its mode and is locked before it gets there. After a failure the
    file is as it was. */

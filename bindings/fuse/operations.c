@@ -700,7 +700,7 @@ static int write_at(struct open_file *file, const char *bytes, size_t size, off_
         if (error == 0) error = seek(file->handle, (int32_t)offset);
     }
     if (error != 0) return errno_of(error);
-    jip_write(&packet, now(), file->handle, (void *)(uintptr_t)bytes, size);
+    jip_write(&packet, now(), file->handle, bytes, size);
     file->is_changed = true;
     return errno_of(ask_on_open(file->node->lock, &packet, &answer));
 }
@@ -1099,6 +1099,11 @@ static int tell(int status, const char *what, const char *why) {
     return status;
 }
 
+static int tell_refused(const char *path, jip_fault fault) {
+    (void)fprintf(stderr, "adf_mount: %s: it is refused: fault %d, block %u\n", path, fault.kind, fault.block);
+    return STATUS_IMAGE;
+}
+
 /* Holds, reads and opens the image. Answers a status. */
 static int open_image(const char *path) {
     jip_fault fault = {0, 0};
@@ -1107,15 +1112,14 @@ static int open_image(const char *path) {
     int error = image_file_hold(&volume.file, path);
     if (error == EWOULDBLOCK) return tell(STATUS_HOST, path, "it is mounted, or another program has it locked");
     if (error == EINVAL) return tell(STATUS_HOST, path, "it is no regular file");
-    if (error == 0 && !volume.is_read_only && access(volume.file.path, W_OK) != 0) error = errno;
-    if (error == 0) error = image_file_read(&volume.file, &volume.bytes, &volume.length);
+    if (error == 0 && !volume.is_read_only && !image_file_may_be_replaced(&volume.file))
+        return tell(STATUS_HOST, path, "it, or its folder, may not be written; -o ro only reads it");
+    if (error == 0) error = image_file_read(&volume.file, (size_t)JIP_MOST_BLOCKS * JIP_BLOCK_BYTES, &volume.bytes, &volume.length);
+    if (error == EFBIG) return tell_refused(path, (jip_fault){JIP_FAULT_TOO_MANY_BLOCKS, 0});
     if (error != 0) return tell(STATUS_HOST, path, strerror(error));
     const int32_t status = jip_open(volume.bytes, volume.length, &volume.handle, &fault);
     if (status == JIP_NO_MEMORY) return tell(STATUS_HOST, path, strerror(ENOMEM));
-    if (status != JIP_DONE) {
-        (void)fprintf(stderr, "adf_mount: %s: it is refused: fault %d, block %u\n", path, fault.kind, fault.block);
-        return STATUS_IMAGE;
-    }
+    if (status != JIP_DONE) return tell_refused(path, fault);
     volume.saved = jip_changes(&volume.handle);
     jip_examine_object(&packet, now(), 0);
     if (ask(&packet, &answer) != 0) return tell(STATUS_HOST, path, "its root cannot be examined");
@@ -1159,7 +1163,10 @@ int main(int count, char *words[]) {
     openlog("adf_mount", LOG_PERROR, LOG_DAEMON);
     volume.file.held = -1;
     if (fuse_opt_parse(&args, &own, options, take_word) == 0 && fuse_parse_cmdline(&args, &shared) == 0) {
-        if (own.image == NULL || shared.mountpoint == NULL || shared.show_help || shared.show_version) {
+        if (shared.show_help || shared.show_version) {
+            (void)fputs(usage, stdout);
+            status = STATUS_DONE;
+        } else if (own.image == NULL || shared.mountpoint == NULL) {
             (void)fputs(usage, stderr);
         } else {
             volume.is_read_only = own.is_read_only;

@@ -7,15 +7,14 @@
  */
 #include <jiponuwha.h>
 #include <stdio.h>
+#include <time.h>
 
 enum { MEMORY_BYTES = 65536 };
+static uint8_t memory[MEMORY_BYTES];
 
 /* Places in DosPacket, FileHandle, FileInfoBlock and InfoData, in bytes. */
 enum { PACKET_TYPE = 8, PACKET_RES1 = 12, PACKET_RES2 = 16, PACKET_ARG1 = 20, HANDLE_ARG1 = 36 };
-enum { INFO_KEY = 0, INFO_TYPE = 4, INFO_NAME = 8, INFO_BITS = 116, INFO_ENTRY_TYPE = 120, INFO_SIZE = 124, INFO_BLOCKS = 128 };
-enum { INFO_DATE = 132, INFO_COMMENT = 144, DISK_STATE = 8, DISK_BLOCKS = 12, DISK_USED = 16, DISK_BYTES = 20, DISK_TYPE = 24 };
-
-static uint8_t memory[MEMORY_BYTES];
+enum { INFO_KEY = 0, INFO_NAME = 8, INFO_BITS = 116, INFO_SIZE = 124, INFO_COMMENT = 144, DISK_STATE = 8 };
 
 /* Whether so many bytes lie in the emulated memory. */
 static int lies_in(uint32_t at, uint32_t length) { return at <= MEMORY_BYTES && length <= MEMORY_BYTES - at; }
@@ -30,8 +29,11 @@ static void put_long(uint32_t at, uint32_t value) {
     for (int k = 0; k < 4; k++) memory[at + (uint32_t)k] = (uint8_t)(value >> (24 - 8 * k));
 }
 
-static uint32_t arg(uint32_t packet, uint32_t number) { return get_long(packet + PACKET_ARG1 + 4 * (number - 1)); }
+static void put_longs(uint32_t at, const uint32_t *values, uint32_t count) {
+    for (uint32_t k = 0; k < count; k++) put_long(at + 4 * k, values[k]);
+}
 
+static uint32_t arg(uint32_t packet, uint32_t number) { return get_long(packet + PACKET_ARG1 + 4 * (number - 1)); }
 static uint32_t address(uint32_t bcpl_pointer) { return bcpl_pointer << 2; }
 
 /* The bytes of a BCPL string; one that does not lie in memory is empty. */
@@ -49,57 +51,61 @@ static void put_text(uint32_t at, const uint8_t *text, uint32_t length) {
     memcpy(memory + at + 1, text, length);
 }
 
+/* The host's clock, as a packet's moment. */
+static jip_date moment(void) {
+    const uint64_t seconds = (uint64_t)time(NULL) - 252460800; /* from 1970 to 1978 */
+    return (jip_date){(uint32_t)(seconds / 86400), (uint32_t)(seconds % 86400 / 60), (uint32_t)(seconds % 60 * 50)};
+}
+
 static void put_entry(uint32_t at, const jip_entry *entry) {
-    put_long(at + INFO_KEY, entry->key);
-    put_long(at + INFO_TYPE, (uint32_t)entry->entry_type);
+    const uint32_t type = (uint32_t)entry->entry_type, key[] = {entry->key, type};
+    const uint32_t rest[] = {entry->protection, type, entry->size, entry->blocks, entry->date.days, entry->date.minutes, entry->date.ticks};
+    put_longs(at + INFO_KEY, key, 2);
     put_text(at + INFO_NAME, entry->name, entry->name_length);
-    put_long(at + INFO_BITS, entry->protection);
-    put_long(at + INFO_ENTRY_TYPE, (uint32_t)entry->entry_type);
-    put_long(at + INFO_SIZE, entry->size);
-    put_long(at + INFO_BLOCKS, entry->blocks);
-    put_long(at + INFO_DATE, entry->date.days);
-    put_long(at + INFO_DATE + 4, entry->date.minutes);
-    put_long(at + INFO_DATE + 8, entry->date.ticks);
+    put_longs(at + INFO_BITS, rest, 7);
     put_text(at + INFO_COMMENT, entry->comment, entry->comment_length);
 }
 
 static void put_disk(uint32_t at, const jip_disk *disk) {
-    put_long(at + DISK_STATE, disk->state);
-    put_long(at + DISK_BLOCKS, disk->blocks);
-    put_long(at + DISK_USED, disk->used);
-    put_long(at + DISK_BYTES, disk->bytes_per_block);
-    put_long(at + DISK_TYPE, disk->disk_type);
+    const uint32_t longs[] = {disk->state, disk->blocks, disk->used, disk->bytes_per_block, disk->disk_type};
+    put_longs(at + DISK_STATE, longs, 5);
+}
+
+/* The arguments of each action, from arg1 on: l a lock, L a second one, h a file handle's number, p a path, t a text, b bits,
+ * m a mode, o an offset, d a DateStamp, i a FileInfoBlock, a the address of bytes, n their number, and - one that is not read. */
+static const struct { int32_t action; const char *arguments; } rows[] = {
+    {JIP_ACTION_LOCATE_OBJECT, "lpm"}, {JIP_ACTION_RENAME_DISK, "p"}, {JIP_ACTION_FREE_LOCK, "l"}, {JIP_ACTION_DELETE_OBJECT, "lp"},
+    {JIP_ACTION_RENAME_OBJECT, "lpLt"}, {JIP_ACTION_COPY_DIR, "l"}, {JIP_ACTION_SET_PROTECT, "-lpb"}, {JIP_ACTION_CREATE_DIR, "lp"},
+    {JIP_ACTION_EXAMINE_OBJECT, "l"}, {JIP_ACTION_EXAMINE_NEXT, "li"}, {JIP_ACTION_INFO, "l"}, {JIP_ACTION_SET_COMMENT, "-lpt"},
+    {JIP_ACTION_PARENT, "l"}, {JIP_ACTION_SET_DATE, "-lpd"}, {JIP_ACTION_SAME_LOCK, "lL"}, {JIP_ACTION_READ, "han"},
+    {JIP_ACTION_WRITE, "han"}, {JIP_ACTION_FINDUPDATE, "-lp"}, {JIP_ACTION_FINDINPUT, "-lp"}, {JIP_ACTION_FINDOUTPUT, "-lp"},
+    {JIP_ACTION_END, "h"}, {JIP_ACTION_SEEK, "hom"}, {JIP_ACTION_SET_FILE_SIZE, "hom"},
+};
+
+/* Takes one argument. Bytes that do not lie in memory are none. */
+static void take(jip_packet *packet, char kind, uint32_t value) {
+    switch (kind) {
+    case 'l': packet->lock = value; break;
+    case 'L': packet->to_lock = value; break;
+    case 'h': packet->handle = value; break;
+    case 'p': packet->path = text_at(value, &packet->path_length); break;
+    case 't': packet->text = text_at(value, &packet->text_length); break;
+    case 'b': packet->bits = value; break;
+    case 'm': packet->mode = (int32_t)value; break;
+    case 'o': packet->offset = (int32_t)value; break;
+    case 'd': packet->date = (jip_date){get_long(value), get_long(value + 4), get_long(value + 8)}; break;
+    case 'i': packet->key = get_long(address(value) + INFO_KEY); break;
+    case 'a': packet->buffer = value < MEMORY_BYTES ? memory + value : NULL; break;
+    case 'n': packet->buffer_length = packet->buffer != NULL && lies_in((uint32_t)(packet->buffer - memory), value) ? value : 0;
+    }
 }
 
 /* Fills a packet from the emulated one. An action that is not known keeps its number and no arguments: it is answered 209. */
 static void read_packet(uint32_t at, jip_packet *packet) {
-    jip_begin(packet, (int32_t)get_long(at + PACKET_TYPE), (jip_date){0, 0, 0});
-    switch (packet->action) {
-    case JIP_ACTION_FINDINPUT:
-    case JIP_ACTION_FINDOUTPUT:
-    case JIP_ACTION_FINDUPDATE:
-        packet->lock = arg(at, 2);
-        packet->path = text_at(arg(at, 3), &packet->path_length);
-        break;
-    case JIP_ACTION_READ:
-    case JIP_ACTION_WRITE:
-        packet->handle = arg(at, 1);
-        packet->buffer_length = lies_in(arg(at, 2), arg(at, 3)) ? arg(at, 3) : 0;
-        packet->buffer = packet->buffer_length == 0 ? NULL : memory + arg(at, 2);
-        break;
-    case JIP_ACTION_END:
-        packet->handle = arg(at, 1);
-        break;
-    case JIP_ACTION_EXAMINE_OBJECT:
-    case JIP_ACTION_EXAMINE_NEXT:
-        packet->lock = arg(at, 1);
-        packet->key = get_long(address(arg(at, 2)) + INFO_KEY);
-        break;
-    default:
-        packet->lock = arg(at, 1);
-        packet->path = text_at(arg(at, 2), &packet->path_length);
-        packet->mode = (int32_t)arg(at, 3);
-    }
+    jip_begin(packet, (int32_t)get_long(at + PACKET_TYPE), moment());
+    for (size_t k = 0; k < sizeof rows / sizeof rows[0]; k++)
+        for (uint32_t n = 0; rows[k].action == packet->action && rows[k].arguments[n] != 0; n++)
+            take(packet, rows[k].arguments[n], arg(at, n + 1));
 }
 
 /* Serves the packet at this address, and puts its results into it and into the struct that it names. */
@@ -107,11 +113,7 @@ static void trap(jip_handle *handle, uint32_t at) {
     jip_packet packet;
     jip_answer answer;
     read_packet(at, &packet);
-    if (jip_serve(handle, &packet, &answer) != JIP_DONE) {
-        put_long(at + PACKET_RES1, JIP_DOSFALSE);
-        put_long(at + PACKET_RES2, JIP_ERROR_NO_FREE_STORE);
-        return;
-    }
+    if (jip_serve(handle, &packet, &answer) != JIP_DONE) answer = (jip_answer){.res2 = JIP_ERROR_NO_FREE_STORE};
     put_long(at + PACKET_RES1, (uint32_t)answer.res1);
     put_long(at + PACKET_RES2, (uint32_t)answer.res2);
     if (answer.handle != 0) put_long(address(arg(at, 1)) + HANDLE_ARG1, answer.handle);
@@ -131,11 +133,12 @@ static void ask(jip_handle *handle, uint32_t action, uint32_t arg1, uint32_t arg
 
 int main(void) {
     jip_handle handle = JIP_CLOSED;
-    if (jip_blank(JIP_FFS, JIP_DOUBLE_DENSITY, "Work", 4, (jip_date){0, 0, 0}, &handle) != JIP_DONE) return 1;
+    if (jip_blank(JIP_FFS, JIP_DOUBLE_DENSITY, "Work", 4, moment(), &handle) != JIP_DONE) return 1;
     put_text(0x200, (const uint8_t *)"hello", 5);
     memcpy(memory + 0x300, "Hi Amiga", 8);
     ask(&handle, JIP_ACTION_FINDOUTPUT, 0x400 >> 2, 0, 0x200 >> 2);
     ask(&handle, JIP_ACTION_WRITE, get_long(0x400 + HANDLE_ARG1), 0x300, 8);
+    ask(&handle, JIP_ACTION_SEEK, get_long(0x400 + HANDLE_ARG1), 2, (uint32_t)JIP_OFFSET_BEGINNING);
     ask(&handle, JIP_ACTION_END, get_long(0x400 + HANDLE_ARG1), 0, 0);
     ask(&handle, JIP_ACTION_EXAMINE_OBJECT, 0, 0x500 >> 2, 0);
     ask(&handle, JIP_ACTION_EXAMINE_NEXT, 0, 0x500 >> 2, 0);

@@ -1,4 +1,5 @@
-/* A tour: a blank floppy, a directory, a file that is written and read back, the list of the root, and the image saved.
+/* A tour: an image is opened, or a blank one made; a directory is made, a file written and read back, the root listed, and the
+ * image saved.
  *
  *   cc tour.c $(pkg-config --cflags --libs jiponuwha) -o tour && ./tour floppy.adf
  */
@@ -19,15 +20,32 @@ static jip_answer serve(jip_handle *handle, const jip_packet *packet) {
     return answer;
 }
 
+/* Opens the image that a file has; where there is no file, a blank one. */
+static int open_image(jip_handle *handle, const char *path) {
+    enum { MOST_BYTES = JIP_MOST_BLOCKS * JIP_BLOCK_BYTES };
+    jip_fault fault = {JIP_FAULT_NONE, 0};
+    FILE *file = fopen(path, "rb");
+    if (file == NULL) return jip_blank(JIP_FFS, JIP_DOUBLE_DENSITY, "Work", 4, START, handle) == JIP_DONE;
+    uint8_t *bytes = malloc(MOST_BYTES + 1);
+    size_t length = bytes == NULL ? 0 : fread(bytes, 1, MOST_BYTES + 1, file);
+    int32_t status = jip_open(bytes, length, handle, &fault);
+    if (status != JIP_DONE) fprintf(stderr, "tour: status %d, fault %d at block %u\n", (int)status, (int)fault.kind, (unsigned)fault.block);
+    free(bytes);
+    fclose(file);
+    return status == JIP_DONE;
+}
+
+/* Makes a directory, if it is not there. A lock on it is given, and has to be freed. */
 static void make_directory(jip_handle *handle, const char *name) {
     jip_packet packet;
+    jip_answer made;
     jip_create_dir(&packet, START, 0, name);
-    jip_answer made = serve(handle, &packet);
+    if (jip_serve(handle, &packet, &made) != JIP_DONE || made.res2 == JIP_ERROR_OBJECT_EXISTS) return;
     jip_free_lock(&packet, START, (uint32_t)made.res1);
     serve(handle, &packet);
 }
 
-static void write_file(jip_handle *handle, const char *name, char *bytes, size_t length) {
+static void write_file(jip_handle *handle, const char *name, const char *bytes, size_t length) {
     jip_packet packet;
     jip_findoutput(&packet, START, 0, name);
     uint32_t file = serve(handle, &packet).handle;
@@ -79,13 +97,12 @@ static int save(jip_handle *handle, const char *path) {
 
 int main(int count, char **words) {
     jip_handle handle = JIP_CLOSED;
-    char hello[] = "Hi Amiga";
-    if (jip_blank(JIP_FFS, JIP_DOUBLE_DENSITY, "Work", 4, START, &handle) != JIP_DONE) return 1;
+    if (count != 2 || !open_image(&handle, words[1])) return 1;
     make_directory(&handle, "tools");
-    write_file(&handle, "hello", hello, sizeof hello - 1);
+    write_file(&handle, "hello", "Hi Amiga", 8);
     print_file(&handle, "HELLO");
     list_root(&handle);
-    int done = count < 2 || save(&handle, words[1]);
+    int done = save(&handle, words[1]);
     jip_close(&handle);
     if (!done) fprintf(stderr, "tour: the image was not saved\n");
     return done ? 0 : 1;

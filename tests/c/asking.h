@@ -83,7 +83,7 @@ static inline jip_answer same_lock(jip_handle *h, uint32_t first, uint32_t secon
 static inline jip_answer read_bytes(jip_handle *h, uint32_t file, void *to, size_t length) {
     ASK(h, jip_read(&p, now, file, to, length));
 }
-static inline jip_answer write_bytes(jip_handle *h, uint32_t file, void *from, size_t length) {
+static inline jip_answer write_bytes(jip_handle *h, uint32_t file, const void *from, size_t length) {
     ASK(h, jip_write(&p, now, file, from, length));
 }
 static inline jip_answer find_update(jip_handle *h, const char *path) { ASK(h, jip_findupdate(&p, now, 0, path)); }

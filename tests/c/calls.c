@@ -42,6 +42,55 @@ static void wrong_arguments(void) {
     EXPECT("close", jip_close(&closed) == JIP_DONE && jip_close(&h) == JIP_DONE && h.behind == NULL && jip_close(&h) == JIP_DONE);
 }
 
+/* What is not aligned, and what overlaps that a call writes. */
+static void places(void) {
+    static union { jip_packet packet; jip_answer answer; uint8_t bytes[512]; } room;
+    static uint8_t copy[901120];
+    jip_handle h = blank(JIP_FFS, JIP_DOUBLE_DENSITY), closed = JIP_CLOSED;
+    jip_packet packet;
+    jip_answer answer;
+    jip_fault fault;
+    size_t count;
+    uint8_t *const odd = room.bytes + 1;
+    void *const at = odd;
+    jip_disk_info(&packet, now);
+    EXPECT("odd", jip_serve((jip_handle *)at, &packet, &answer) == JIP_WRONG_ARGUMENT);
+    EXPECT("odd", jip_serve(&h, (const jip_packet *)at, &answer) == JIP_WRONG_ARGUMENT);
+    EXPECT("odd", jip_serve(&h, &packet, (jip_answer *)at) == JIP_WRONG_ARGUMENT);
+    EXPECT("odd", jip_open(copy, sizeof copy, &closed, (jip_fault *)at) == JIP_WRONG_ARGUMENT);
+    EXPECT("odd", jip_close((jip_handle *)at) == JIP_WRONG_ARGUMENT && jip_changes((jip_handle *)at) == 0);
+    EXPECT("odd", jip_copy_changed(&h, copy, sizeof copy, (uint32_t *)at, 1, &count) == JIP_WRONG_ARGUMENT);
+    room.packet = packet;
+    EXPECT("overlap", jip_serve(&h, &room.packet, &room.answer) == JIP_WRONG_ARGUMENT);
+    jip_read(&room.packet, now, 1, room.bytes + 8, 8);
+    EXPECT("overlap", jip_serve(&h, &room.packet, &answer) == JIP_WRONG_ARGUMENT);
+    jip_write(&room.packet, now, 1, room.bytes + 8, 8);
+    RESULTS("both are read", asked(&h, &room.packet), -1, JIP_ERROR_INVALID_LOCK);
+    jip_read(&packet, now, 1, &h, sizeof h);
+    EXPECT("overlap", jip_serve(&h, &packet, &answer) == JIP_WRONG_ARGUMENT);
+    jip_read(&packet, now, 1, &answer, 1);
+    EXPECT("overlap", jip_serve(&h, &packet, &answer) == JIP_WRONG_ARGUMENT);
+    EXPECT("overlap", jip_open(&closed, sizeof closed, &closed, &fault) == JIP_WRONG_ARGUMENT && closed.behind == NULL);
+    EXPECT("overlap", jip_copy_image(&h, &h, sizeof h) == JIP_WRONG_ARGUMENT && h.behind != NULL);
+    EXPECT("overlap", jip_copy_changed(&h, copy, sizeof copy, (uint32_t *)(void *)copy, 1, &count) == JIP_WRONG_ARGUMENT);
+    jip_read(&packet, now, 1, (void *)UINTPTR_MAX, 2);
+    EXPECT("past memory", jip_serve(&h, &packet, &answer) == JIP_WRONG_ARGUMENT);
+    jip_close(&h);
+}
+
+/* What WRITE reads may lie where nothing can be written. */
+static void constant_bytes(void) {
+    static const char constant[] = "constant";
+    jip_handle h = blank(JIP_OFS, JIP_DOUBLE_DENSITY);
+    char into[8] = {0};
+    uint32_t file = find_update(&h, "f").handle;
+    RESULTS("constant", write_bytes(&h, file, constant, 8), 8, 0);
+    RESULTS("constant", seek(&h, file, 0, JIP_OFFSET_BEGINNING), 8, 0);
+    RESULTS("constant", read_bytes(&h, file, into, 8), 8, 0);
+    EXPECT("constant", memcmp(into, constant, 8) == 0);
+    jip_close(&h);
+}
+
 static int is_refused(const uint8_t *bytes, size_t length, int32_t kind, uint32_t block) {
     jip_handle h = JIP_CLOSED;
     jip_fault fault = {JIP_FAULT_NONE, 0};
@@ -127,6 +176,8 @@ static void changed_blocks(void) {
 
 int main(void) {
     wrong_arguments();
+    places();
+    constant_bytes();
     images();
     changes();
     changed_blocks();

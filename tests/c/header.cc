@@ -11,6 +11,10 @@ int main() {
     jip_answer answer;
     jip_examine_object(&packet, moment, 0);
     bool served = jip_serve(&handle, &packet, &answer) == JIP_DONE && answer.entry.entry_type == JIP_ROOT;
+    jip_findoutput(&packet, moment, 0, "f");
+    served = served && jip_serve(&handle, &packet, &answer) == JIP_DONE;
+    jip_write(&packet, moment, answer.handle, "constant", 8);
+    served = served && jip_serve(&handle, &packet, &answer) == JIP_DONE && answer.res1 == 8;
     std::vector<unsigned char> bytes(jip_image_length(&handle));
     bool copied = jip_copy_image(&handle, bytes.data(), bytes.size()) == JIP_DONE && bytes[0] == 'D';
     jip_close(&handle);

@@ -1,4 +1,4 @@
-/* Two handles on two threads, each opened, used and closed on its own. */
+/* Two handles on two threads, each opened, used and closed on its own; and one that goes from thread to thread. */
 #include "asking.h"
 #include <pthread.h>
 
@@ -44,6 +44,28 @@ static void *serve_files(void *at) {
     return NULL;
 }
 
+/* Makes a directory by a handle that another thread opened. */
+static void *make_one(void *at) {
+    struct work *work = at;
+    jip_packet packet;
+    jip_answer answer;
+    char name[16];
+    snprintf(name, sizeof name, "d%u", (unsigned)work->used++);
+    jip_create_dir(&packet, now, 0, name);
+    if (ask(work, &packet, &answer) != 0) work->faults++;
+    return NULL;
+}
+
+static void handed_on(void) {
+    struct work work = {blank(JIP_FFS, JIP_DOUBLE_DENSITY), JIP_FFS, 0, 0};
+    for (int k = 0; k < 4; k++) {
+        pthread_t thread;
+        EXPECT("handed on", pthread_create(&thread, NULL, make_one, &work) == 0 && pthread_join(thread, NULL) == 0);
+    }
+    EXPECT("handed on", work.faults == 0 && disk_info(&work.handle).disk.used == 2 + 4);
+    EXPECT("handed on", jip_close(&work.handle) == JIP_DONE);
+}
+
 int main(void) {
     struct work works[2] = {{JIP_CLOSED, JIP_OFS, 0, 0}, {JIP_CLOSED, JIP_FFS, 0, 0}};
     pthread_t threads[2];
@@ -54,5 +76,6 @@ int main(void) {
         EXPECT("used", works[k].used == 2 + 2 * 200);
         EXPECT("closed", works[k].handle.behind == NULL);
     }
+    handed_on();
     return summed_up();
 }

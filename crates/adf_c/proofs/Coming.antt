@@ -64,9 +64,9 @@ blanks (Err refusal) format number blocks name given moment image validated old 
     subst (RefusesBlank number blocks name old new) (sym why.0) (why.1 ∙ kept, closed)
 
 -- the desk that was lent serves the packet that was spelled
-pub serves : (held new : Option Desk) (c : JipPacket) (path text before after : List ℕ) (told : JipAnswer) (was lent is : Desk) (packet : Packet) (now : Date3) → held ≡ Some was → lent ≡ was
-    → new ≡ Some is → now ≡ date_of c.moment → SpellsFitting c path text before packet → ServedBy lent is packet now before after told → Serves held new c path text before after told
-serves held new c path text before after told was lent is packet now holds lends keeps moment spelled served = record {
+pub serves : (held new : Option Desk) (c : JipPacket) (path text bytes before after : List ℕ) (told : JipAnswer) (was lent is : Desk) (packet : Packet) (now : Date3) → held ≡ Some was → lent ≡ was
+    → new ≡ Some is → now ≡ date_of c.moment → SpellsFitting c path text bytes before packet → ServedBy lent is packet now before after told → Serves held new c path text bytes before after told
+serves held new c path text bytes before after told was lent is packet now holds lends keeps moment spelled served = record {
   old_desk = was;
   new_desk = is;
   packet = packet;

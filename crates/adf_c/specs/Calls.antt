@@ -56,6 +56,15 @@ RefusesOpen bytes old new fault_before fault NotAnImage = (new ≡ old) × (old 
 RefusesOpen bytes old new fault_before fault NoMemory = (new ≡ old) × (old ≡ None) × (fault ≡ fault_before)
 RefusesOpen bytes old new fault_before fault WrongArgument = (new ≡ old) × IsOpen old × (fault ≡ fault_before)
 
+-- what an opening comes to, and the same by the status
+abbrev pub OpenComes : List ℕ → Option Desk → Option Desk → JipFault → JipFault → Result (Unit {0}) Refusal → Type 0
+OpenComes bytes old new fault_before fault =
+    Comes (Opens bytes old new × (fault ≡ fault_before)) (RefusesOpen bytes old new fault_before fault)
+
+abbrev pub OpenEnds : List ℕ → Option Desk → Option Desk → JipFault → JipFault → ℤ → Type 0
+OpenEnds bytes old new fault_before fault =
+    ComesTo (Opens bytes old new × (fault ≡ fault_before)) (RefusesOpen bytes old new fault_before fault)
+
 -- the number of a format
 abbrev pub format_number : Format → ℕ
 format_number Ofs = 0
@@ -79,23 +88,34 @@ RefusesBlank number blocks name old new NoMemory = (new ≡ old) × (old ≡ Non
 RefusesBlank number blocks name old new WrongArgument =
     (new ≡ old) × (((number ≢ pos 0) × (number ≢ pos 1)) ⊎ (¬ IsName name) ⊎ (¬ IsSize blocks) ⊎ IsOpen old)
 
--- a desk serves a packet, and the caller sees the answer with the bytes that it hands back
+-- what the opening of a blank volume comes to, and the same by the status
+abbrev pub BlankComes : ℤ → ℕ → List ℕ → Date3 → Option Desk → Option Desk → Result (Unit {0}) Refusal → Type 0
+BlankComes number blocks name moment old new = Comes (Blanks number blocks name moment old new) (RefusesBlank number blocks name old new)
+
+abbrev pub BlankEnds : ℤ → ℕ → List ℕ → Date3 → Option Desk → Option Desk → ℤ → Type 0
+BlankEnds number blocks name moment old new = ComesTo (Blanks number blocks name moment old new) (RefusesBlank number blocks name old new)
+
+-- a desk is seated over an image; without memory the handle stays as it was
+abbrev pub SeatComes : List ℕ → Bool → Option Desk → Option Desk → Result (Unit {0}) Refusal → Type 0
+SeatComes image was_validated old new = Comes (Seats image was_validated new) (λ refusal. (refusal ≡ NoMemory) × (new ≡ old))
+
+-- a desk serves a packet, and the caller sees the answer with the bytes that a READ hands back
 abbrev pub ServedBy : Desk → Desk → Packet → Date3 → List ℕ → List ℕ → JipAnswer → Type 0
 ServedBy old new packet now before after told =
-    (answer : Answer) × ServesPacket old packet now new answer × (told ≡ told_of answer) × (after ≡ buffer_after before answer.body)
+    (answer : Answer) × ServesPacket old packet now new answer × (told ≡ told_of answer) × (after ≡ buffer_after packet before answer.body)
 
--- a struct, two texts and a buffer spell a packet
-abbrev pub SpellsFitting : JipPacket → List ℕ → List ℕ → List ℕ → Packet → Type 0
-SpellsFitting c path text buffer packet = IsPathText path × IsPathText text × Spells c path text buffer packet
+-- a struct, two texts, bytes and a buffer spell a packet
+abbrev pub SpellsFitting : JipPacket → List ℕ → List ℕ → List ℕ → List ℕ → Packet → Type 0
+SpellsFitting c path text bytes buffer packet = IsPathText path × IsPathText text × Spells c path text bytes buffer packet
 
 -- the desk of a handle serves the packet that the struct spells
-pub record Serves (old new : Option Desk) (c : JipPacket) (path text before after : List ℕ) (told : JipAnswer) : Type 0 where
+pub record Serves (old new : Option Desk) (c : JipPacket) (path text bytes before after : List ℕ) (told : JipAnswer) : Type 0 where
   pub old_desk : Desk
   pub new_desk : Desk
   pub packet : Packet
   pub was : old ≡ Some old_desk
   pub is : new ≡ Some new_desk
-  pub spelled : SpellsFitting c path text before packet
+  pub spelled : SpellsFitting c path text bytes before packet
   pub served : ServedBy old_desk new_desk packet (date_of c.moment) before after told
 
 -- why a packet is not served; handle and buffer stay as they were
@@ -104,6 +124,17 @@ RefusesServe old new path text before after NotAnImage = ⊥
 RefusesServe old new path text before after NoMemory = (new ≡ old) × (after ≡ before)
 RefusesServe old new path text before after WrongArgument =
     (new ≡ old) × (after ≡ before) × ((¬ IsPathText path) ⊎ (¬ IsPathText text) ⊎ (old ≡ None))
+
+-- what a serve comes to, with the answer that C is told
+abbrev pub ServeComes : Option Desk → Option Desk → JipPacket → List ℕ → List ℕ → List ℕ → List ℕ → List ℕ → Result JipAnswer Refusal → Type 0
+ServeComes old new c path text bytes before after result =
+    MatchResult result (λ told. Serves old new c path text bytes before after told) (λ refusal. RefusesServe old new path text before after refusal)
+
+-- the same by the status; where the packet is not served, the answer stays as it was
+abbrev pub ServeEnds : Option Desk → Option Desk → JipPacket → List ℕ → List ℕ → List ℕ → List ℕ → List ℕ → JipAnswer → JipAnswer → ℤ → Type 0
+ServeEnds old new c path text bytes before after answer_before answer =
+    ComesTo (Serves old new c path text bytes before after answer)
+    (λ refusal. RefusesServe old new path text before after refusal × (answer ≡ answer_before))
 
 -- bytes are copied to where there is room for as many
 abbrev pub CopiesBytes : List ℕ → List ℕ → List ℕ → Type 0
@@ -123,8 +154,20 @@ RefusesCopy held before after refusal =
     ((refusal ≡ WrongArgument) × (after ≡ before) × (held ≡ None))
     ⊎ ((desk : Desk) × (held ≡ Some desk) × RefusesBytes desk.handler.image before after refusal)
 
+-- what a copy of the image comes to, and the same by the status
+abbrev pub CopyComes : Option Desk → List ℕ → List ℕ → Result (Unit {0}) Refusal → Type 0
+CopyComes held before after = Comes (CopiesImage held before after) (RefusesCopy held before after)
+
+abbrev pub CopyEnds : Option Desk → List ℕ → List ℕ → ℤ → Type 0
+CopyEnds held before after = ComesTo (CopiesImage held before after) (RefusesCopy held before after)
+
 -- they spell none: a text is too long, or there is no memory for the bytes
 abbrev pub SpellsNone : List ℕ → List ℕ → Refusal → Type 0
 SpellsNone path text NotAnImage = ⊥
 SpellsNone path text NoMemory = ⊤
 SpellsNone path text WrongArgument = (¬ IsPathText path) ⊎ (¬ IsPathText text)
+
+-- what the spelling of a packet comes to
+abbrev pub SpellComes : JipPacket → List ℕ → List ℕ → List ℕ → List ℕ → Result Packet Refusal → Type 0
+SpellComes c path text bytes buffer result =
+    MatchResult result (λ packet. SpellsFitting c path text bytes buffer packet) (λ refusal. SpellsNone path text refusal)

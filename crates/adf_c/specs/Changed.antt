@@ -1,7 +1,8 @@
 -- Which blocks of an image differ from those of the copy that C has.
-use Rattle.std.specs.Prelude.{◌≡◌, ◌≢◌, ◌<◌, ◌⊎◌, ⊤, ℕ, Bool, not, List, ◌++◌, length, drop, filter, Option, Some, None, bytes_eq}
+use Rattle.std.specs.Prelude.{◌≡◌, ◌≢◌, ◌<◌, ◌⊎◌, ⊤, ℕ, ℤ, Bool, not, List, ◌++◌, length, drop, filter, Option, Some, None, Result, MatchResult, bytes_eq}
 use Rattle.std.specs.List.{range_with_len}
 use Rattle.adf_block.specs.Image.{block_count, bytes_at}
+use Rattle.adf_c.specs.Calls.{ComesTo}
 use Rattle.adf_c.specs.declared.desk.Desk.{Desk}
 use Rattle.adf_c.specs.declared.refusal.Refusal.{Refusal}
 use Rattle.adf_c.specs.declared.refusal.Refusal.TheVariants.{NotAnImage, NoMemory, WrongArgument}
@@ -27,6 +28,12 @@ RefusesTaking image copy numbers NotAnImage = ⊥
 RefusesTaking image copy numbers NoMemory = ⊤
 RefusesTaking image copy numbers WrongArgument = (length copy ≢ length image) ⊎ (length numbers < length (changed_blocks copy image))
 
+-- what the taking over comes to; where it is refused, copy and numbers stay as they were
+abbrev pub TakingComes : List ℕ → List ℕ → List ℕ → List ℕ → List ℕ → Result ℕ Refusal → Type 0
+TakingComes image copy_before copy_after numbers_before numbers_after result =
+    MatchResult result (λ count. TakesOver image copy_before copy_after numbers_before numbers_after count)
+    (λ refusal. RefusesTaking image copy_before numbers_before refusal × (copy_after ≡ copy_before) × (numbers_after ≡ numbers_before))
+
 -- the changed blocks of the handle's image are told
 abbrev pub CopiesChanged : Option Desk → List ℕ → List ℕ → List ℕ → List ℕ → ℕ → Type 0
 CopiesChanged held copy_before copy_after numbers_before numbers_after count =
@@ -36,3 +43,16 @@ CopiesChanged held copy_before copy_after numbers_before numbers_after count =
 abbrev pub RefusesChanged : Option Desk → List ℕ → List ℕ → Refusal → Type 0
 RefusesChanged held copy numbers refusal =
     ((refusal ≡ WrongArgument) × (held ≡ None)) ⊎ ((desk : Desk) × (held ≡ Some desk) × RefusesTaking desk.handler.image copy numbers refusal)
+
+-- what the telling comes to; where it is refused, copy and numbers stay as they were
+abbrev pub ChangedComes : Option Desk → List ℕ → List ℕ → List ℕ → List ℕ → Result ℕ Refusal → Type 0
+ChangedComes held copy_before copy_after numbers_before numbers_after result =
+    MatchResult result (λ count. CopiesChanged held copy_before copy_after numbers_before numbers_after count)
+    (λ refusal. RefusesChanged held copy_before numbers_before refusal × (copy_after ≡ copy_before) × (numbers_after ≡ numbers_before))
+
+-- the same by the status, with the count that C is told
+abbrev pub ChangedEnds : Option Desk → List ℕ → List ℕ → List ℕ → List ℕ → ℕ → ℕ → ℤ → Type 0
+ChangedEnds held copy_before copy_after numbers_before numbers_after count_before count =
+    ComesTo (CopiesChanged held copy_before copy_after numbers_before numbers_after count)
+    (λ refusal. RefusesChanged held copy_before numbers_before refusal
+    × (copy_after ≡ copy_before) × (numbers_after ≡ numbers_before) × (count ≡ count_before))

@@ -25,7 +25,12 @@ abbrev pub IsActionOf : ℤ → Action → Type 0
 IsActionOf n (action.Other k) = (k ≡ n) × HasNoName n
 IsActionOf n named = action_number named ≡ n
 
--- the packet of an action, with the struct's arguments, two texts and the buffer's bytes
+-- the bytes that a packet of an action carries: a READ takes the caller's buffer, any other what it brings
+abbrev pub carried : Action → List ℕ → List ℕ → List ℕ
+carried action.Read bytes buffer = buffer
+carried _ bytes buffer = bytes
+
+-- the packet of an action, with the struct's arguments, two texts and the bytes that it carries
 abbrev pub packet_of : Action → JipPacket → List ℕ → List ℕ → List ℕ → Packet
 packet_of action.Die c path text buffer = Die
 packet_of action.LocateObject c path text buffer = LocateObject c.lock path c.mode
@@ -54,6 +59,7 @@ packet_of action.Seek c path text buffer = Seek c.handle c.offset c.mode
 packet_of action.SetFileSize c path text buffer = SetFileSize c.handle c.offset c.mode
 packet_of (action.Other n) c path text buffer = Other n
 
--- the struct, with these texts and bytes, spells the packet
-abbrev pub Spells : JipPacket → List ℕ → List ℕ → List ℕ → Packet → Type 0
-Spells c path text buffer packet = (kind : Action) × IsActionOf c.action kind × (packet ≡ packet_of kind c path text buffer)
+-- the struct, with these texts, the bytes that it brings and the caller's buffer, spells the packet
+abbrev pub Spells : JipPacket → List ℕ → List ℕ → List ℕ → List ℕ → Packet → Type 0
+Spells c path text bytes buffer packet =
+    (kind : Action) × IsActionOf c.action kind × (packet ≡ packet_of kind c path text (carried kind bytes buffer))

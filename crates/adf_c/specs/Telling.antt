@@ -1,7 +1,9 @@
 -- What C is told of an answer.
-use Rattle.std.specs.Prelude.{◌≡◌, ℕ, ◌-◌, ℤ, pos, List, [], ◌++◌, length, replicate, if◌then◌else◌, ◌==◌}
+use Rattle.std.specs.Prelude.{◌≡◌, ℕ, ◌-◌, ℤ, pos, Bool, true, false, List, [], ◌++◌, length, replicate, if◌then◌else◌, ◌==◌}
 use Rattle.ados_name.specs.declared.Date3.{Date3}
 use Rattle.ados_packet.specs.declared.answer.Answer.{Answer}
+use Rattle.ados_packet.specs.declared.packet.Packet.{Packet}
+use Rattle.ados_packet.specs.declared.packet.Packet.TheVariants.{Read}
 use Rattle.ados_packet.specs.declared.answer.Body.{Body}
 use Rattle.ados_packet.specs.declared.answer.Body.TheVariants.{Empty, Buffer, Handle, Entry, Disk}
 use Rattle.ados_packet.specs.declared.info.FileInfo.{FileInfo}
@@ -78,7 +80,16 @@ told_of answer = record {
   disk = told_disk answer.body;
 }
 
--- the caller's buffer after the answer: the bytes that it hands back, which are as many
-abbrev pub buffer_after : List ℕ → Body → List ℕ
-buffer_after before (Buffer bytes) = if length bytes == length before then bytes else before
-buffer_after before _ = before
+-- the caller's buffer with the bytes that a body hands back, which are as many
+abbrev pub handed_back : List ℕ → Body → List ℕ
+handed_back before (Buffer bytes) = if length bytes == length before then bytes else before
+handed_back before _ = before
+
+-- a packet that fills the buffer: no other than READ
+abbrev pub fills : Packet → Bool
+fills (Read handle buffer) = true
+fills _ = false
+
+-- the caller's buffer after the answer
+abbrev pub buffer_after : Packet → List ℕ → Body → List ℕ
+buffer_after packet before body = if fills packet then handed_back before body else before

@@ -1,9 +1,8 @@
 //! Which blocks of a handle's image C has to write: those that differ from its own copy.
 
-ghost use Rattle.std.specs.Prelude.{◌≡◌, ◌<◌, length, IfOk, MatchResult};
+ghost use Rattle.std.specs.Prelude.{◌≡◌, ◌<◌, length, IfOk};
 ghost use Rattle.adf_block.specs.Image.{block_count};
-ghost use Rattle.adf_c.specs.Calls.{ComesTo};
-ghost use Rattle.adf_c.specs.Changed.{CopiesChanged, RefusesChanged, RefusesTaking, TakesOver, changed_blocks as changed_of, differs as differs_in};
+ghost use Rattle.adf_c.specs.Changed.{ChangedComes, ChangedEnds, TakingComes, changed_blocks as changed_of, differs as differs_in};
 
 use crate::handle::JipHandle;
 use crate::refusal::Refusal;
@@ -25,11 +24,7 @@ pub extern "C" fn jip_lib_copy_changed(
     numbers: &mut [u32],
     count: &mut usize,
 ) -> i32
-    ensures copies { ComesTo
-        (CopiesChanged handle.old.held copy.old copy.new numbers.old numbers.new count.new)
-        (λ refusal. RefusesChanged handle.old.held copy.old numbers.old refusal
-        × (copy.new ≡ copy.old) × (numbers.new ≡ numbers.old) × (count.new ≡ count.old))
-        result }
+    ensures copies { ChangedEnds handle.old.held copy.old copy.new numbers.old numbers.new count.old count.new result }
     ensures same { handle.new.held ≡ handle.old.held }
 {
     match copy_changed(alloc, handle, copy, numbers) {
@@ -47,9 +42,7 @@ fn copy_changed(
     copy: &mut [u8],
     numbers: &mut [u32],
 ) -> Result<usize, Refusal>
-    ensures copies { MatchResult result
-        (λ count. CopiesChanged handle.old.held copy.old copy.new numbers.old numbers.new count)
-        (λ refusal. RefusesChanged handle.old.held copy.old numbers.old refusal × (copy.new ≡ copy.old) × (numbers.new ≡ numbers.old)) }
+    ensures copies { ChangedComes handle.old.held copy.old copy.new numbers.old numbers.new result }
     ensures same { handle.new.held ≡ handle.old.held }
 {
     let Some(desk) = handle.take(alloc) else {
@@ -67,9 +60,7 @@ fn take_over(
     copy: &mut [u8],
     numbers: &mut [u32],
 ) -> Result<usize, Refusal>
-    ensures { MatchResult result
-        (λ count. TakesOver image.now copy.old copy.new numbers.old numbers.new count)
-        (λ refusal. RefusesTaking image.now copy.old numbers.old refusal × (copy.new ≡ copy.old) × (numbers.new ≡ numbers.old)) }
+    ensures { TakingComes image.now copy.old copy.new numbers.old numbers.new result }
 {
     if copy.len() != image.as_bytes().len() {
         return Err(Refusal::WrongArgument);

@@ -28,6 +28,9 @@ impl Model for JipHandle {
     ghost also_owns = { λ h. holds the_row h.alloc h.at h.held };
 }
 
+// What it owns is a desk's box, and a desk may go to another thread.
+unsafe impl Send for JipHandle {}
+
 impl JipHandle {
     /// A handle that holds nothing.
     fn closed(alloc: Global) -> JipHandle

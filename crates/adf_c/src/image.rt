@@ -2,7 +2,7 @@
 
 ghost use Rattle.std.specs.Prelude.{◌≡◌, length};
 ghost use Rattle.std.specs.Option.{MatchOption};
-ghost use Rattle.adf_c.specs.Calls.{Comes, ComesTo, CopiesBytes, CopiesImage, RefusesBytes, RefusesCopy};
+ghost use Rattle.adf_c.specs.Calls.{Comes, CopiesBytes, CopyComes, CopyEnds, RefusesBytes};
 
 use crate::handle::JipHandle;
 use crate::refusal::{Refusal, status};
@@ -41,14 +41,14 @@ pub extern "C" fn jip_lib_changes(alloc: Global, handle: &mut JipHandle) -> u64
 /// is then as it was.
 #[unsafe(no_mangle)]
 pub extern "C" fn jip_lib_copy_image(alloc: Global, handle: &mut JipHandle, to: &mut [u8]) -> i32
-    ensures copies { ComesTo (CopiesImage handle.old.held to.old to.new) (RefusesCopy handle.old.held to.old to.new) result }
+    ensures copies { CopyEnds handle.old.held to.old to.new result }
     ensures same { handle.new.held ≡ handle.old.held }
 {
     status(copy_image(alloc, handle, to))
 }
 
 fn copy_image(alloc: Global, handle: &mut JipHandle, to: &mut [u8]) -> Result<(), Refusal>
-    ensures copies { Comes (CopiesImage handle.old.held to.old to.new) (RefusesCopy handle.old.held to.old to.new) result }
+    ensures copies { CopyComes handle.old.held to.old to.new result }
     ensures same { handle.new.held ≡ handle.old.held }
 {
     let Some(desk) = handle.take(alloc) else {

@@ -2,7 +2,7 @@
 
 ghost use Rattle.std.specs.Prelude.{◌≡◌, ◌≢◌, pos, None};
 ghost use Rattle.std.specs.Option.{MatchOption};
-ghost use Rattle.adf_c.specs.Calls.{ComesTo, Blanks, Comes, Opens, Seats, RefusesBlank, RefusesOpen, format_number};
+ghost use Rattle.adf_c.specs.Calls.{BlankComes, BlankEnds, OpenComes, OpenEnds, SeatComes, format_number};
 ghost use Rattle.adf_c.specs.Spelling.{date_of};
 ghost use Rattle.adf_c.specs.Faults.{fault_number, size_fault_number};
 
@@ -38,10 +38,7 @@ pub extern "C" fn jip_lib_open(
     handle: &mut JipHandle,
     fault: &mut JipFault,
 ) -> i32
-    ensures { ComesTo
-        (Opens bytes.now handle.old.held handle.new.held × (fault.new ≡ fault.old))
-        (RefusesOpen bytes.now handle.old.held handle.new.held fault.old fault.new)
-        result }
+    ensures { OpenEnds bytes.now handle.old.held handle.new.held fault.old fault.new result }
 {
     status(open(alloc, bytes, handle, fault))
 }
@@ -52,10 +49,7 @@ fn open(
     handle: &mut JipHandle,
     fault: &mut JipFault,
 ) -> Result<(), Refusal>
-    ensures { Comes
-        (Opens bytes.now handle.old.held handle.new.held × (fault.new ≡ fault.old))
-        (RefusesOpen bytes.now handle.old.held handle.new.held fault.old fault.new)
-        result }
+    ensures { OpenComes bytes.now handle.old.held handle.new.held fault.old fault.new result }
 {
     if handle.is_open(alloc) {
         return Err(Refusal::WrongArgument);
@@ -97,10 +91,7 @@ pub extern "C" fn jip_lib_blank(
     moment: &JipDate,
     handle: &mut JipHandle,
 ) -> i32
-    ensures { ComesTo
-        (Blanks format blocks name.now (date_of moment.now) handle.old.held handle.new.held)
-        (RefusesBlank format blocks name.now handle.old.held handle.new.held)
-        result }
+    ensures { BlankEnds format blocks name.now (date_of moment.now) handle.old.held handle.new.held result }
 {
     status(open_blank(alloc, format, blocks, name, moment.date(), handle))
 }
@@ -113,10 +104,7 @@ fn open_blank(
     moment: Date3,
     handle: &mut JipHandle,
 ) -> Result<(), Refusal>
-    ensures { Comes
-        (Blanks format blocks name.now moment handle.old.held handle.new.held)
-        (RefusesBlank format blocks name.now handle.old.held handle.new.held)
-        result }
+    ensures { BlankComes format blocks name.now moment handle.old.held handle.new.held result }
 {
     let Some(format) = format_of_number(format) else {
         return Err(Refusal::WrongArgument);
@@ -149,8 +137,7 @@ fn format_of_number(number: i32) -> Option<Format>
 
 /// Puts a desk over the volume behind the handle.
 fn seat(alloc: Global, handle: &mut JipHandle, volume: Volume) -> Result<(), Refusal>
-    ensures { Comes (Seats volume.image volume.was_validated handle.new.held)
-        (λ refusal. (refusal ≡ Refusal.NoMemory) × (handle.new.held ≡ handle.old.held)) result }
+    ensures { SeatComes volume.image volume.was_validated handle.old.held handle.new.held result }
 {
     let desk = Desk {
         handler: Handler::new(alloc, volume),

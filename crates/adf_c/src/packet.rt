@@ -1,6 +1,7 @@
 //! What C asks.
 
 ghost use Rattle.std.specs.Prelude.{◌≡◌};
+ghost use Rattle.ados_name.specs.Path.{IsPathText};
 ghost use Rattle.adf_c.specs.Spelling.{IsActionOf, date_of, packet_of};
 
 use ados_name::{Date3, PathText};
@@ -58,45 +59,60 @@ pub struct JipPacket {
 }
 
 impl JipPacket {
-    /// The packet of this action with the struct's arguments, these texts and these bytes.
-    pub(crate) fn packet(
-        &self,
-        action: Action,
-        path: PathText,
-        text: PathText,
-        buffer: Buffer,
-    ) -> Packet
-        ensures { result ≡ packet_of action self.now path text buffer }
+    /// The packet of this action with the struct's arguments, these texts and these bytes. Only the texts that it takes are
+    /// copied.
+    pub(crate) fn packet(&self, action: Action, path: &[u8], text: &[u8], buffer: Buffer) -> Packet
+        requires path { IsPathText path.now }
+        requires text { IsPathText text.now }
+        ensures { result ≡ packet_of action self.now path.now text.now buffer }
     {
         let (lock, to_lock, handle) = (self.lock, self.to_lock, self.handle);
         let (key, bits, offset, mode) = (self.key, self.bits, self.offset, self.mode);
         let date = self.date.date();
         match action {
             Action::Die => Packet::Die,
-            Action::LocateObject => Packet::LocateObject { lock, path, mode },
-            Action::RenameDisk => Packet::RenameDisk { name: path },
+            Action::LocateObject => Packet::LocateObject {
+                lock,
+                path: copied(path),
+                mode,
+            },
+            Action::RenameDisk => Packet::RenameDisk { name: copied(path) },
             Action::FreeLock => Packet::FreeLock { lock },
-            Action::DeleteObject => Packet::DeleteObject { lock, path },
+            Action::DeleteObject => Packet::DeleteObject {
+                lock,
+                path: copied(path),
+            },
             Action::RenameObject => Packet::RenameObject {
                 from_lock: lock,
-                from: path,
+                from: copied(path),
                 to_lock,
-                to: text,
+                to: copied(text),
             },
             Action::CopyDir => Packet::CopyDir { lock },
-            Action::SetProtect => Packet::SetProtect { lock, path, bits },
-            Action::CreateDir => Packet::CreateDir { lock, path },
+            Action::SetProtect => Packet::SetProtect {
+                lock,
+                path: copied(path),
+                bits,
+            },
+            Action::CreateDir => Packet::CreateDir {
+                lock,
+                path: copied(path),
+            },
             Action::ExamineObject => Packet::ExamineObject { lock },
             Action::ExamineNext => Packet::ExamineNext { lock, key },
             Action::DiskInfo => Packet::DiskInfo,
             Action::Info => Packet::Info { lock },
             Action::SetComment => Packet::SetComment {
                 lock,
-                path,
-                comment: text,
+                path: copied(path),
+                comment: copied(text),
             },
             Action::Parent => Packet::Parent { lock },
-            Action::SetDate => Packet::SetDate { lock, path, date },
+            Action::SetDate => Packet::SetDate {
+                lock,
+                path: copied(path),
+                date,
+            },
             Action::SameLock => Packet::SameLock {
                 first: lock,
                 second: to_lock,
@@ -106,9 +122,18 @@ impl JipPacket {
                 handle,
                 bytes: buffer,
             },
-            Action::FindUpdate => Packet::FindUpdate { lock, path },
-            Action::FindInput => Packet::FindInput { lock, path },
-            Action::FindOutput => Packet::FindOutput { lock, path },
+            Action::FindUpdate => Packet::FindUpdate {
+                lock,
+                path: copied(path),
+            },
+            Action::FindInput => Packet::FindInput {
+                lock,
+                path: copied(path),
+            },
+            Action::FindOutput => Packet::FindOutput {
+                lock,
+                path: copied(path),
+            },
             Action::End => Packet::End { handle },
             Action::Seek => Packet::Seek {
                 handle,
@@ -123,6 +148,17 @@ impl JipPacket {
             Action::Other(number) => Packet::Other { action: number },
         }
     }
+}
+
+/// A text of a packet, which fits.
+fn copied(text: &[u8]) -> PathText
+    requires { IsPathText text.now }
+    ensures { result ≡ text.now }
+{
+    let Ok(text) = PathText::new(text) else {
+        unreachable!()
+    };
+    text
 }
 
 /// The action of a number of the AmigaDOS Technical Reference, and `Other` for a number that none has.

@@ -1,8 +1,10 @@
 //! `jip_lib_serve`: one packet, one answer.
 
-ghost use Rattle.std.specs.Prelude.{◌≡◌, MatchResult};
-ghost use Rattle.adf_c.specs.Calls.{ComesTo, RefusesServe, Serves, ServedBy, SpellsFitting, SpellsNone};
-ghost use Rattle.adf_c.specs.Telling.{buffer_after};
+ghost use Rattle.std.specs.Prelude.{◌≡◌, ◌↔◌, IsTrue};
+ghost use Rattle.ados_name.specs.Path.{IsPathText};
+ghost use Rattle.adf_c.specs.Calls.{ServeComes, ServeEnds, ServedBy, SpellComes};
+ghost use Rattle.adf_c.specs.Spelling.{carried};
+ghost use Rattle.adf_c.specs.Telling.{fills as fills_buffer, handed_back};
 
 use crate::answer::JipAnswer;
 use crate::desk::Desk;
@@ -10,15 +12,15 @@ use crate::handle::JipHandle;
 use crate::packet::{JipPacket, action_of_number};
 use crate::refusal::Refusal;
 use ados_name::{Date3, PathText};
-use ados_packet::{Body, Buffer, Packet};
+use ados_packet::{Action, Body, Buffer, Packet};
 use std::alloc::Global;
 
-/// Serves the packet that the struct spells with these texts and this buffer, at the struct's moment, and answers it: the
-/// status 0. The answer's two results say what the packet came to, also where it is refused, as 209 for an action that is
-/// not known.
+/// Serves the packet that the struct spells with these texts, these bytes for a WRITE and this buffer for a READ, at the
+/// struct's moment, and answers it: the status 0. The answer's two results say what the packet came to, also where it is
+/// refused, as 209 for an action that is not known. The buffer stays as it was but behind a READ.
 ///
-/// No memory for the buffer's bytes is the status 2; a text past 255 bytes and a closed handle are the status 3. The handle,
-/// the buffer and the answer are then as they were.
+/// No memory for a copy of the bytes or the buffer is the status 2; a text past 255 bytes and a closed handle are the status
+/// 3. The handle, the buffer and the answer are then as they were.
 #[unsafe(no_mangle)]
 pub extern "C" fn jip_lib_serve(
     alloc: Global,
@@ -26,15 +28,13 @@ pub extern "C" fn jip_lib_serve(
     packet: &JipPacket,
     path: &[u8],
     text: &[u8],
+    bytes: &[u8],
     buffer: &mut [u8],
     answer: &mut JipAnswer,
 ) -> i32
-    ensures { ComesTo
-        (Serves handle.old.held handle.new.held packet.now path.now text.now buffer.old buffer.new answer.new)
-        (λ refusal. RefusesServe handle.old.held handle.new.held path.now text.now buffer.old buffer.new refusal × (answer.new ≡ answer.old))
-        result }
+    ensures { ServeEnds handle.old.held handle.new.held packet.now path.now text.now bytes.now buffer.old buffer.new answer.old answer.new result }
 {
-    match serve(alloc, handle, packet, path, text, buffer) {
+    match serve(alloc, handle, packet, path, text, bytes, buffer) {
         Ok(told) => {
             *answer = told;
             0
@@ -49,13 +49,12 @@ fn serve(
     packet: &JipPacket,
     path: &[u8],
     text: &[u8],
+    bytes: &[u8],
     buffer: &mut [u8],
 ) -> Result<JipAnswer, Refusal>
-    ensures { MatchResult result
-        (λ told. Serves handle.old.held handle.new.held packet.now path.now text.now buffer.old buffer.new told)
-        (λ refusal. RefusesServe handle.old.held handle.new.held path.now text.now buffer.old buffer.new refusal) }
+    ensures { ServeComes handle.old.held handle.new.held packet.now path.now text.now bytes.now buffer.old buffer.new result }
 {
-    let spelled = spell(alloc, packet, path, text, buffer)?;
+    let spelled = spell(alloc, packet, path, text, bytes, buffer)?;
     let Some(mut desk) = handle.take(alloc) else {
         return Err(Refusal::WrongArgument);
     };
@@ -64,41 +63,68 @@ fn serve(
     Ok(told)
 }
 
-/// The packet that the struct spells, with a copy of the buffer's bytes.
+/// The packet that the struct spells, with a copy of the bytes that it carries.
 fn spell(
     alloc: Global,
     packet: &JipPacket,
     path: &[u8],
     text: &[u8],
+    bytes: &[u8],
     buffer: &[u8],
 ) -> Result<Packet, Refusal>
-    ensures { MatchResult result
-        (λ spelled. SpellsFitting packet.now path.now text.now buffer.now spelled) (λ refusal. SpellsNone path.now text.now refusal) }
+    ensures { SpellComes packet.now path.now text.now bytes.now buffer.now result }
 {
-    let Ok(path) = PathText::new(path) else {
+    if !fits(path) {
         return Err(Refusal::WrongArgument);
-    };
-    let Ok(text) = PathText::new(text) else {
+    }
+    if !fits(text) {
         return Err(Refusal::WrongArgument);
-    };
-    let Ok(bytes) = Vec::from_slice(alloc, buffer) else {
+    }
+    let action = action_of_number(packet.action);
+    let Ok(carried) = Vec::from_slice(alloc, carried_by(action, bytes, buffer)) else {
         return Err(Refusal::NoMemory);
     };
-    let action = action_of_number(packet.action);
-    Ok(packet.packet(action, path, text, Buffer::from_vec(bytes)))
+    Ok(packet.packet(action, path, text, Buffer::from_vec(carried)))
 }
 
-/// Serves a packet at a desk, and puts the bytes that its answer hands back into the buffer.
+/// Whether a text is no longer than that of a packet may be.
+fn fits(text: &[u8]) -> bool
+    ensures { IsTrue result ↔ IsPathText text.now }
+{
+    text.len() <= PathText::MAX_LEN
+}
+
+/// The bytes that a packet of this action carries: a READ takes the buffer, and any other the bytes.
+fn carried_by<'a>(action: Action, bytes: &'a [u8], buffer: &'a [u8]) -> &'a [u8]
+    ensures { result.now ≡ carried action bytes.now buffer.now }
+{
+    match action {
+        Action::Read => buffer,
+        _ => bytes,
+    }
+}
+
+/// Serves a packet at a desk, and puts the bytes that a READ's answer hands back into the buffer.
 fn serve_at(desk: &mut Desk, packet: Packet, moment: Date3, buffer: &mut [u8]) -> JipAnswer
     ensures { ServedBy desk.old desk.new packet moment buffer.old buffer.new result }
 {
+    let fills = fills(&packet);
     let answer = desk.serve(packet, moment);
-    hand_back(&answer.body, buffer);
+    if fills {
+        hand_back(&answer.body, buffer);
+    }
     JipAnswer::of(&answer)
 }
 
+/// Whether the packet fills the buffer.
+fn fills(packet: &Packet) -> bool
+    ensures { result ≡ fills_buffer packet.now }
+{
+    matches!(packet, Packet::Read { .. })
+}
+
 fn hand_back(body: &Body, buffer: &mut [u8])
-    ensures { buffer.new ≡ buffer_after buffer.old body.now }
+    ensures { buffer.new ≡ handed_back buffer.old body.now }
 {
     if let Body::Buffer(bytes) = body {
         let bytes = bytes.bytes();
