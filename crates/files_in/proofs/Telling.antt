@@ -1,5 +1,5 @@
 -- How moves and protections that are refused are told.
-use Rattle.std.proofs.Common.{◌≡◌, ℕ, Err, List, [], ◌∷◌, refl, sym, subst}
+use Rattle.std.proofs.Common.{ℕ, Err, List, [], ◌∷◌, refl, sym, subst}
 use Rattle.std.specs.Str.{chars}
 use Rattle.ados_name.specs.declared.Date3.{Date3}
 use Rattle.ados_packet.specs.declared.dos_error.DosError.{DosError}

@@ -2,7 +2,6 @@
 use Rattle.std.proofs.Common.{◌≡◌, Bor, ℕ, ◌+◌, ◌<◌, Result, Ok, Err, List, [], ◌∷◌, ◌++◌, length, get_or, map, take, drop, Contains, refl, sym, ap, ◌∙◌, subst, arith}
 use Rattle.std.specs.Prelude.{⊤, OnOk}
 use Rattle.std.specs.Str.{chars}
-use Rattle.std.specs.String.{string_bytes}
 use Rattle.std.proofs.lemmas.List.{drop_more, get_or-map, length-map, map-append, take-append-drop, take_more}
 use Rattle.std.proofs.lemmas.List.Elements.{Contains-get_or}
 use Rattle.ados_packet.specs.declared.dos_error.DosError.{DosError}
@@ -12,7 +11,7 @@ use Rattle.files_in.specs.declared.fault.InFault.{InFault}
 use Rattle.files_in.specs.declared.fault.InFault.TheVariants.{Bits, Host, Letter, Memory, NoRoom, Note, Read, Refused}
 use Rattle.files_in.specs.Commands.{without_answer}
 use Rattle.files_in.specs.Turns.{AreDone, EndsAt, EndsInTurn, ReadsFirst}
-use Rattle.files_in.specs.Turns.AreDone.{none, one_more}
+use Rattle.files_in.specs.Turns.AreDone.{one_more}
 use Rattle.files_in.specs.Words.{IsForeign, IsLetterFault, IsLetterFaultIn, IsRefusal}
 
 -- the text of a word of the command line, and one in place of a word that is not there

@@ -1,5 +1,4 @@
-use Rattle.std.proofs.Common.{List, ℕ, [], ◌∷◌, Err, Ok}
-use Rattle.ados_volume.specs.Shown.{Shown}
+use Rattle.std.proofs.Common.{[], ◌∷◌, Err, Ok}
 use Rattle.files_in.specs.Commands.{EndsMove, Moves}
 use Rattle.files_in.specs.Turns.{ReadsFirst}
 use Rattle.files_in.proofs.Telling.{move_refused}

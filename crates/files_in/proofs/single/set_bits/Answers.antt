@@ -1,6 +1,5 @@
 use Rattle.std.proofs.Common.{List, ℕ, [], ◌∷◌, Err, Ok, subst}
 use Rattle.std.specs.Str.{chars}
-use Rattle.adf_text.specs.ProtectionLetters.{protection_of}
 use Rattle.files_in.specs.Commands.{EndsProtect, Protects}
 use Rattle.files_in.specs.Turns.{ReadsFirst}
 use Rattle.files_in.proofs.Telling.{bits_refused, no_bits}

@@ -1,4 +1,4 @@
-use Rattle.std.proofs.Common.{List, ℕ, [], ◌∷◌, Err, Ok}
+use Rattle.std.proofs.Common.{[], ◌∷◌, Err, Ok}
 use Rattle.std.specs.Str.{chars}
 use Rattle.files_in.specs.Commands.{Comments}
 use Rattle.files_in.specs.Turns.{EndsAt, ReadsFirst}
