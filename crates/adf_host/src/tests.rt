@@ -57,8 +57,12 @@ fn written_in_part(rt: HostRuntime) -> Result<(), Fail> {
         files: &rt,
         fails: Step::Write,
     };
-    let half = write_tree(&faulty, alloc, "written_in_part", &items, false);
-    assert!(rt; matches!(&half, Err(fault) if fault.written == 1));
+    let Err(half) = write_tree(&faulty, alloc, "written_in_part", &items, false) else {
+        return Err(Fail::from("all is written"));
+    };
+    assert_eq!(rt; half.written, 1);
+    let told = format!(in alloc; "{half}")?;
+    assert!(rt; told.as_str().ends_with("; one file or directory was written before it"));
     assert_eq!(rt; count_in(&rt, alloc, "written_in_part/d")?, 0);
     Ok(rt.remove_dir_all(alloc, "written_in_part")?)
 }

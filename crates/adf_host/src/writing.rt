@@ -7,11 +7,12 @@ use crate::paths::{HostPath, target_path};
 use crate::replacing::{ReplaceFault, write_beside};
 use ados_name::Date3;
 use std::alloc::{AllocError, Global};
-use std::fs;
+use std::fmt::{Display, Formatter};
 use std::fs::{File, FileTimes, OpenFile};
 use std::io::{Error, ErrorKind, Write};
 use std::rt::Files;
 use std::time::SystemTime;
+use std::{error, fmt, fs};
 use thiserror::Error;
 
 /// What is to be written below a directory of the host.
@@ -31,14 +32,26 @@ pub enum Content {
 }
 
 /// Why what was to be written is not, and where that was seen.
-#[derive(Debug, Drop, Error)]
-#[error("'{path}' {why}")]
+#[derive(Debug, Drop)]
 pub struct WriteFault {
     pub path: String,
     pub why: WriteWhy,
     /// How many of the items, from the first one on, were written before; of a refusal none.
     pub written: usize,
 }
+
+impl Display for WriteFault {
+    fn fmt<W: fmt::Write>(&self, f: &mut Formatter<W>) -> fmt::Result {
+        write!(f, "'{}' {}", self.path.as_str(), self.why)?;
+        match self.written {
+            0 => Ok(()),
+            1 => write!(f, "; one file or directory was written before it"),
+            many => write!(f, "; {many} files and directories were written before it"),
+        }
+    }
+}
+
+impl error::Error for WriteFault {}
 
 /// Why something is not written.
 #[derive(Clone, Copy, Debug, Error)]

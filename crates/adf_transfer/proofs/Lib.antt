@@ -1,4 +1,5 @@
 -- Why going through a directory, and through all that lies below one, comes to its end with each entry once.
+pub mod Turns
 pub mod Loops
 pub mod Listing
 pub mod Distinct

@@ -3,6 +3,7 @@ pub mod Located
 pub mod Below
 pub mod Paths
 pub mod Changes
+pub mod InTurn
 pub mod Refusals
 pub mod Pruned
 pub mod steps

@@ -6,6 +6,7 @@ ghost use Rattle.ados_tree.specs.Tree.Content.{Directory};
 ghost use Rattle.ados_tree.specs.Stands.{Stands};
 ghost use Rattle.ados_tree.specs.Change.{made, removed, renamed};
 ghost use Rattle.ados_tree.specs.Keys.{HasDirectory, HasKey};
+ghost use Rattle.ados_tree.specs.NewBlocks.{KeepsRest};
 ghost use Rattle.ados_name.specs.Protection.{denies_delete};
 ghost use Rattle.change_entries.specs.Conditions.{IsUnused};
 ghost use Rattle.ados_handler.specs.Objects.{is_under, protection_of};
@@ -32,6 +33,8 @@ pub fn make_directory(
     requires { HasDirectory volume.old.image dir }
     ensures made { Changes (make_refusal dir name) (λ key t. made moment dir key name (Directory []) t) volume.old volume.new result }
     ensures unused { IfOk result (λ key. (t : Tree) → Stands volume.old.image t → IsUnused t key) }
+    ensures keeps { KeepsRest volume.old.image volume.new.image }
+    ensures validated { volume.new.was_validated ≡ volume.old.was_validated }
 {
     prove!(volume.image().blocks() >= 16);
     if volume.child(dir, &name).is_some() {
@@ -51,9 +54,12 @@ pub fn make_directory(
 /// directory and the disk date.
 ///
 /// Errors: 212 of the root, 216 where it has entries, 222 where its bits deny it.
+#[tactic(auto, using(ados_tree::proofs::Keeping::same_keeps))]
 pub fn delete(volume: &mut Volume, key: u32, force: bool, moment: Date3) -> Result<(), DosError>
     requires { HasKey volume.old.image key }
-    ensures { Changes (delete_refusal key force) (λ _ t. removed moment key t) volume.old volume.new result }
+    ensures done { Changes (delete_refusal key force) (λ _ t. removed moment key t) volume.old volume.new result }
+    ensures keeps { KeepsRest volume.old.image volume.new.image }
+    ensures validated { volume.new.was_validated ≡ volume.old.was_validated }
 {
     if key == volume.root() {
         return Err(DosError::ObjectWrongType);
@@ -81,7 +87,9 @@ pub fn move_entry(
 ) -> Result<(), DosError>
     requires key { HasKey volume.old.image key }
     requires directory { HasDirectory volume.old.image dir }
-    ensures { Changes (move_refusal key dir name) (λ _ t. renamed moment key dir name t) volume.old volume.new result }
+    ensures done { Changes (move_refusal key dir name) (λ _ t. renamed moment key dir name t) volume.old volume.new result }
+    ensures keeps { KeepsRest volume.old.image volume.new.image }
+    ensures validated { volume.new.was_validated ≡ volume.old.was_validated }
 {
     if key == volume.root() {
         return Err(DosError::ObjectWrongType);

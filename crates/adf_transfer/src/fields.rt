@@ -3,6 +3,7 @@
 ghost use Rattle.std.specs.Prelude.{◌≡◌};
 ghost use Rattle.ados_tree.specs.Change.{disk_renamed, with_comment};
 ghost use Rattle.ados_tree.specs.Keys.{HasKey};
+ghost use Rattle.ados_tree.specs.NewBlocks.{KeepsRest};
 ghost use Rattle.ados_tree.specs.Stands.{Stands};
 ghost use Rattle.ados_tree.specs.Tree.{Tree};
 ghost use Rattle.ados_handler.specs.Objects.{protection_of};
@@ -16,9 +17,12 @@ use ados_volume::Volume;
 /// Sets the low eight protection bits of an entry; the others stay. The disk date becomes the moment.
 ///
 /// Error: 212 of the root.
+#[tactic(auto, using(ados_tree::proofs::Keeping::same_keeps))]
 pub fn protect(volume: &mut Volume, key: u32, bits: Protect, moment: Date3) -> Result<(), DosError>
     requires { HasKey volume.old.image key }
-    ensures { Changes (root_refusal key) (λ _ t. protected moment key bits.0 t) volume.old volume.new result }
+    ensures done { Changes (root_refusal key) (λ _ t. protected moment key bits.0 t) volume.old volume.new result }
+    ensures keeps { KeepsRest volume.old.image volume.new.image }
+    ensures validated { volume.new.was_validated ≡ volume.old.was_validated }
 {
     if key == volume.root() {
         return Err(DosError::ObjectWrongType);
@@ -40,9 +44,12 @@ pub(crate) fn protection_in(volume: &Volume, key: u32) -> Protect
 /// Sets the comment of an entry. The disk date becomes the moment.
 ///
 /// Error: 212 of the root.
+#[tactic(auto, using(ados_tree::proofs::Keeping::same_keeps))]
 pub fn comment(volume: &mut Volume, key: u32, text: &Comment, moment: Date3) -> Result<(), DosError>
     requires { HasKey volume.old.image key }
-    ensures { Changes (root_refusal key) (λ _ t. with_comment moment key text.now t) volume.old volume.new result }
+    ensures done { Changes (root_refusal key) (λ _ t. with_comment moment key text.now t) volume.old volume.new result }
+    ensures keeps { KeepsRest volume.old.image volume.new.image }
+    ensures validated { volume.new.was_validated ≡ volume.old.was_validated }
 {
     if key == volume.root() {
         return Err(DosError::ObjectWrongType);
@@ -53,7 +60,9 @@ pub fn comment(volume: &mut Volume, key: u32, text: &Comment, moment: Date3) -> 
 
 /// Gives the volume another name. The disk date becomes the moment.
 pub fn relabel(volume: &mut Volume, name: Name, moment: Date3)
-    ensures { (t : Tree) → Stands volume.old.image t → Stands volume.new.image (disk_renamed moment name t) }
+    ensures stands { (t : Tree) → Stands volume.old.image t → Stands volume.new.image (disk_renamed moment name t) }
+    ensures keeps { KeepsRest volume.old.image volume.new.image }
+    ensures validated { volume.new.was_validated ≡ volume.old.was_validated }
 {
     volume.rename_disk(name, moment);
 }

@@ -1,11 +1,12 @@
 //! Deleting an entry with all that lies below it.
 
-ghost use Rattle.std.specs.Prelude.{◌≢◌, [], AllPairs, IsTrue, map};
+ghost use Rattle.std.specs.Prelude.{◌≡◌, ◌≢◌, [], AllPairs, IsTrue, map};
 ghost use Rattle.std.specs.Bool.{IsFalse};
 ghost use Rattle.ados_tree.specs.Tree.{Tree, entries};
 ghost use Rattle.ados_tree.specs.Stands.{Stands};
 ghost use Rattle.ados_tree.specs.Keys.{HasEntryKey, HasKey};
 ghost use Rattle.adf_transfer.specs.Below.{AreBelow};
+ghost use Rattle.adf_transfer.specs.InTurn.{KeepsInTurn};
 ghost use Rattle.adf_transfer.specs.Pruned.{IsDenied, Prunes, pruned};
 
 use crate::below::{Below, entries_below};
@@ -28,7 +29,9 @@ pub fn delete_all(
     moment: Date3,
 ) -> Result<(), DosError>
     requires { HasKey volume.old.image key }
-    ensures { Prunes moment key force volume.old volume.new result }
+    ensures done { Prunes moment key force volume.old volume.new result }
+    ensures keeps { KeepsInTurn volume.old.image volume.new.image }
+    ensures validated { volume.new.was_validated ≡ volume.old.was_validated }
 {
     if key == volume.root() {
         return Err(DosError::ObjectWrongType);
@@ -64,7 +67,9 @@ fn remove_all(volume: &mut Volume, key: u32, mut below: Vec<Below>, moment: Date
     requires entry { HasEntryKey volume.old.image key }
     requires below { (t : Tree) → Stands volume.old.image t → AreBelow t [] (entries t key) below.items }
     requires once { AllPairs (λ j k. j ≢ k) (map (λ entry. entry.key) below.items) }
-    ensures { (t : Tree) → Stands volume.old.image t → Stands volume.new.image (pruned moment key t) }
+    ensures stands { (t : Tree) → Stands volume.old.image t → Stands volume.new.image (pruned moment key t) }
+    ensures keeps { KeepsInTurn volume.old.image volume.new.image }
+    ensures validated { volume.new.was_validated ≡ volume.old.was_validated }
 {
     prove!(volume.image().blocks() >= 16);
     while let Some(entry) = below.pop() {

@@ -5,9 +5,11 @@ ghost use Rattle.ados_name.specs.Protection.{denies_write};
 ghost use Rattle.ados_tree.specs.Tree.{Tree, free};
 ghost use Rattle.ados_tree.specs.Stands.{Stands};
 ghost use Rattle.ados_tree.specs.Keys.{HasDirectory, HasEntryKey, HasFileKey, HasKey};
+ghost use Rattle.ados_tree.specs.NewBlocks.{KeepsRest};
 ghost use Rattle.change_entries.specs.Conditions.{IsUnused};
 ghost use Rattle.ados_handler.specs.Objects.{protection_of};
 ghost use Rattle.adf_transfer.specs.Changes.{Changes, added, described, filled};
+ghost use Rattle.adf_transfer.specs.InTurn.{KeepsInTurn};
 ghost use Rattle.adf_transfer.specs.Refusals.{add_refusal, more_blocks, replace_refusal};
 ghost use Rattle.adf_transfer.specs.steps.CutBack.{cut_back};
 ghost use Rattle.adf_transfer.specs.declared.put.NotPut.TheVariants.{NoRoom};
@@ -65,6 +67,8 @@ pub fn add_file(
     requires { HasDirectory volume.old.image dir }
     ensures added { Changes (add_refusal dir name (length file.now.bytes.now)) (λ key t. added moment dir key name file.now t) volume.old volume.new result }
     ensures unused { IfOk result (λ key. (t : Tree) → Stands volume.old.image t → IsUnused t key) }
+    ensures keeps { KeepsInTurn volume.old.image volume.new.image }
+    ensures validated { volume.new.was_validated ≡ volume.old.was_validated }
 {
     prove!(volume.image().blocks() >= 16);
     if volume.child(dir, &name).is_some() {
@@ -94,7 +98,9 @@ pub fn replace_file(
     moment: Date3,
 ) -> Result<(), NotPut>
     requires { HasKey volume.old.image key }
-    ensures { Changes (replace_refusal key (length file.now.bytes.now) force) (λ _ t. filled moment key file.now t) volume.old volume.new result }
+    ensures done { Changes (replace_refusal key (length file.now.bytes.now) force) (λ _ t. filled moment key file.now t) volume.old volume.new result }
+    ensures keeps { KeepsInTurn volume.old.image volume.new.image }
+    ensures validated { volume.new.was_validated ≡ volume.old.was_validated }
 {
     if !volume.is_file(key) {
         return Err(NotPut::Refused(DosError::ObjectWrongType));
@@ -138,7 +144,9 @@ fn need_free(volume: &Volume, needed: u64) -> Result<(), NotPut>
 fn fill(volume: &mut Volume, key: u32, file: &NewFile<'_>, moment: Date3)
     requires key { HasFileKey volume.old.image key }
     requires room { (t : Tree) → Stands volume.old.image t → more_blocks t key (length file.now.bytes.now) ≤ free t }
-    ensures { (t : Tree) → Stands volume.old.image t → Stands volume.new.image (filled moment key file.now t) }
+    ensures stands { (t : Tree) → Stands volume.old.image t → Stands volume.new.image (filled moment key file.now t) }
+    ensures keeps { KeepsInTurn volume.old.image volume.new.image }
+    ensures validated { volume.new.was_validated ≡ volume.old.was_validated }
 {
     prove!(volume.image().blocks() >= 16);
     let Ok(()) = volume.write(key, 0, file.bytes, moment) else {
@@ -149,9 +157,12 @@ fn fill(volume: &mut Volume, key: u32, file: &NewFile<'_>, moment: Date3)
 }
 
 /// Cuts a file that is longer than this.
+#[tactic(auto, using(ados_tree::proofs::Keeping::same_keeps))]
 fn cut_behind(volume: &mut Volume, key: u32, size: usize, moment: Date3)
     requires { HasFileKey volume.old.image key }
-    ensures { (t : Tree) → Stands volume.old.image t → Stands volume.new.image (cut_back moment key size t) }
+    ensures stands { (t : Tree) → Stands volume.old.image t → Stands volume.new.image (cut_back moment key size t) }
+    ensures keeps { KeepsRest volume.old.image volume.new.image }
+    ensures validated { volume.new.was_validated ≡ volume.old.was_validated }
 {
     if volume.examine(key).size as usize <= size {
         return;
@@ -162,7 +173,9 @@ fn cut_behind(volume: &mut Volume, key: u32, size: usize, moment: Date3)
 /// Sets what is told of a file.
 fn describe(volume: &mut Volume, key: u32, file: &NewFile<'_>, moment: Date3)
     requires { HasEntryKey volume.old.image key }
-    ensures { (t : Tree) → Stands volume.old.image t → Stands volume.new.image (described moment key file.now t) }
+    ensures stands { (t : Tree) → Stands volume.old.image t → Stands volume.new.image (described moment key file.now t) }
+    ensures keeps { KeepsInTurn volume.old.image volume.new.image }
+    ensures validated { volume.new.was_validated ≡ volume.old.was_validated }
 {
     prove!(volume.image().blocks() >= 16);
     volume.set_protect(key, file.protection, moment);

@@ -168,3 +168,6 @@ keeps_keys old new change has stands keeps =
 
 pub keeps_same : (image : List ℕ) → KeepsKeys image image
 keeps_same image = record { directory = λ key is. is; entry = λ key is. is }
+
+pub keeps_both : (old between last : List ℕ) → KeepsKeys old between → KeepsKeys between last → KeepsKeys old last
+keeps_both old between last first then = record { directory = λ key is. then.directory key (first.directory key is); entry = λ key is. then.entry key (first.entry key is) }

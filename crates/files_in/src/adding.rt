@@ -40,7 +40,9 @@ pub(crate) fn add<R: Files>(
     files: &[&str],
     to: &str,
     how: How,
-) -> Result<Vec<PassedOver>, InFault> {
+) -> Result<Vec<PassedOver>, InFault>
+    ensures { OnOk result (KeepsKeys volume.old.image volume.new.image) }
+{
     let word = Word::new(alloc, to)?;
     let top = match directory_at(volume, word.bytes()) {
         Ok(top) => top,
@@ -71,6 +73,7 @@ fn put_entries<R: Files>(
     how: How,
 ) -> Result<(), InFault>
     requires { HasDirectory volume.old.image top }
+    ensures { OnOk result (KeepsKeys volume.old.image volume.new.image) }
 {
     let mut progress = Progress::new(alloc, volume.image().blocks())?;
     for entry in entries {

@@ -1,15 +1,14 @@
 //! The changes of a volume that commands ask for.
 
+ghost use Rattle.files_in.specs.Commands.{ChangesVolume, without_answer};
+
 use crate::adding::{How, add};
+use crate::each::{Each, change_each};
 use crate::fault::InFault;
-use crate::paths::{
-    MoveFault, comment_at, delete_all_at, delete_at, make_at, move_at, protect_at, relabel_as,
-};
-use crate::words::{Word, words_of};
+use crate::single::{rename, set_bits, set_comment, set_name};
 use adf_host::PassedOver;
 use adf_jobs::Change;
 use ados_name::Date3;
-use ados_packet::DosError;
 use ados_volume::Volume;
 use std::alloc::Global;
 use std::rt::Files;
@@ -23,7 +22,9 @@ pub fn change_volume<R: Files>(
     volume: &mut Volume,
     change: &Change<'_>,
     moment: Date3,
-) -> Result<Vec<PassedOver>, InFault> {
+) -> Result<Vec<PassedOver>, InFault>
+    ensures { ChangesVolume change.now moment volume.old volume.new (without_answer result) }
+{
     match change {
         Change::Add { files, to, force } => {
             let how = How {
@@ -32,10 +33,10 @@ pub fn change_volume<R: Files>(
             };
             add(rt, alloc, volume, files.as_slice(), *to, how)
         }
-        other => {
-            change_entries(alloc, volume, other, moment)?;
-            Ok(Vec::new(alloc))
-        }
+        other => match change_entries(alloc, volume, other, moment) {
+            Ok(()) => Ok(Vec::new(alloc)),
+            Err(fault) => Err(fault),
+        },
     }
 }
 
@@ -45,119 +46,24 @@ fn change_entries(
     volume: &mut Volume,
     change: &Change<'_>,
     moment: Date3,
-) -> Result<(), InFault> {
+) -> Result<(), InFault>
+    ensures { ChangesVolume change.now moment volume.old volume.new result }
+{
     match change {
         Change::Add { .. } => Ok(()),
-        Change::MakeDirectories { paths } => make_all(alloc, volume, paths.as_slice(), moment),
+        Change::MakeDirectories { paths } => {
+            change_each(alloc, volume, paths.as_slice(), Each::Make, moment)
+        }
         Change::Delete { paths, all, force } => {
-            delete_each(alloc, volume, paths.as_slice(), *all, *force, moment)
+            let each = Each::Delete {
+                all: *all,
+                force: *force,
+            };
+            change_each(alloc, volume, paths.as_slice(), each, moment)
         }
         Change::Rename { old, new } => rename(alloc, volume, *old, *new, moment),
         Change::Protect { path, letters } => set_bits(alloc, volume, *path, *letters, moment),
         Change::Comment { path, text } => set_comment(alloc, volume, *path, *text, moment),
         Change::Relabel { name } => set_name(alloc, volume, *name, moment),
-    }
-}
-
-/// Makes directories, one after another.
-fn make_all(
-    alloc: Global,
-    volume: &mut Volume,
-    paths: &[&str],
-    moment: Date3,
-) -> Result<(), InFault> {
-    let words = words_of(alloc, paths)?;
-    for word in words.iter() {
-        if let Err(error) = make_at(volume, word.bytes(), moment) {
-            return Err(word.refused(alloc, error));
-        }
-    }
-    Ok(())
-}
-
-/// Deletes entries, one after another; with `all` each with what lies below it.
-fn delete_each(
-    alloc: Global,
-    volume: &mut Volume,
-    paths: &[&str],
-    all: bool,
-    force: bool,
-    moment: Date3,
-) -> Result<(), InFault> {
-    let words = words_of(alloc, paths)?;
-    for word in words.iter() {
-        if let Err(error) = delete_one(alloc, volume, word.bytes(), all, force, moment) {
-            return Err(word.refused(alloc, error));
-        }
-    }
-    Ok(())
-}
-
-fn delete_one(
-    alloc: Global,
-    volume: &mut Volume,
-    path: &[u8],
-    all: bool,
-    force: bool,
-    moment: Date3,
-) -> Result<(), DosError> {
-    if all {
-        delete_all_at(alloc, volume, path, force, moment)
-    } else {
-        delete_at(volume, path, force, moment)
-    }
-}
-
-fn rename(
-    alloc: Global,
-    volume: &mut Volume,
-    old: &str,
-    new: &str,
-    moment: Date3,
-) -> Result<(), InFault> {
-    let old = Word::new(alloc, old)?;
-    let new = Word::new(alloc, new)?;
-    match move_at(volume, old.bytes(), new.bytes(), moment) {
-        Ok(()) => Ok(()),
-        Err(MoveFault::Old(error)) => Err(old.refused(alloc, error)),
-        Err(MoveFault::New(error)) => Err(new.refused(alloc, error)),
-    }
-}
-
-fn set_bits(
-    alloc: Global,
-    volume: &mut Volume,
-    path: &str,
-    letters: &str,
-    moment: Date3,
-) -> Result<(), InFault> {
-    let path = Word::new(alloc, path)?;
-    let bits = Word::new(alloc, letters)?.protection(alloc)?;
-    match protect_at(volume, path.bytes(), bits, moment) {
-        Ok(()) => Ok(()),
-        Err(error) => Err(path.refused(alloc, error)),
-    }
-}
-
-fn set_comment(
-    alloc: Global,
-    volume: &mut Volume,
-    path: &str,
-    text: &str,
-    moment: Date3,
-) -> Result<(), InFault> {
-    let path = Word::new(alloc, path)?;
-    let text = Word::new(alloc, text)?;
-    match comment_at(volume, path.bytes(), text.bytes(), moment) {
-        Ok(()) => Ok(()),
-        Err(error) => Err(path.refused(alloc, error)),
-    }
-}
-
-fn set_name(alloc: Global, volume: &mut Volume, name: &str, moment: Date3) -> Result<(), InFault> {
-    let name = Word::new(alloc, name)?;
-    match relabel_as(volume, name.bytes(), moment) {
-        Ok(()) => Ok(()),
-        Err(error) => Err(name.refused(alloc, error)),
     }
 }

@@ -1,5 +1,7 @@
 //! Why a change was not made.
 
+ghost use Rattle.files_in.specs.Words.{IsRefusal};
+
 use adf_host::WalkFault;
 use adf_text::UaemFault;
 use adf_transfer::Refused;
@@ -44,12 +46,22 @@ pub enum InFault {
 }
 
 impl From<AllocError> for InFault {
+    ghost use Rattle.std.specs.Prelude.{◌≡◌};
+    ghost use Rattle.files_in.specs.declared.fault.InFault.TheVariants.{Memory};
+
+    ghost from_gives = { λ _ fault. fault ≡ Memory };
+
     fn from(_error: AllocError) -> InFault {
         InFault::Memory
     }
 }
 
 impl<T: Drop> From<AllocFailed<T>> for InFault {
+    ghost use Rattle.std.specs.Prelude.{◌≡◌};
+    ghost use Rattle.files_in.specs.declared.fault.InFault.TheVariants.{Memory};
+
+    ghost from_gives = { λ _ fault. fault ≡ Memory };
+
     fn from(_error: AllocFailed<T>) -> InFault {
         InFault::Memory
     }
@@ -94,7 +106,9 @@ impl fmt::Display for NoteFault {
 impl error::Error for NoteFault {}
 
 /// An error of AmigaDOS, told of a path.
-pub(crate) fn refused(alloc: Global, path: &str, error: DosError) -> InFault {
+pub(crate) fn refused(alloc: Global, path: &str, error: DosError) -> InFault
+    ensures { IsRefusal error path.now result }
+{
     if error == DosError::NoFreeStore {
         return InFault::Memory;
     }

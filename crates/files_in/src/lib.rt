@@ -5,11 +5,13 @@
 mod adding;
 mod boot;
 mod change;
+mod each;
 mod fault;
 mod host_files;
 mod paths;
 mod progress;
 mod put;
+mod single;
 mod words;
 
 pub use boot::{LongBoot, boot_image};

@@ -1,15 +1,14 @@
 //! Changes of what stands at a path from the root.
 
-ghost use Rattle.std.specs.Prelude.{◌≡◌, [], IfOk, Result};
+ghost use Rattle.std.specs.Prelude.{◌≡◌, IfOk, Result, false, true};
 ghost use Rattle.ados_tree.specs.Tree.{Tree};
-ghost use Rattle.ados_tree.specs.Tree.Content.{Directory};
 ghost use Rattle.ados_tree.specs.Stands.{Stands};
-ghost use Rattle.ados_tree.specs.Change.{disk_renamed, made, removed, renamed, with_comment};
+ghost use Rattle.ados_tree.specs.Change.{renamed};
 ghost use Rattle.ados_tree.specs.Keys.{HasDirectory, HasKey};
-ghost use Rattle.adf_transfer.specs.Changes.{Changes, protected};
-ghost use Rattle.adf_transfer.specs.Pruned.{Prunes};
-ghost use Rattle.adf_transfer.specs.Refusals.{delete_refusal, make_refusal, root_refusal};
-ghost use Rattle.files_in.specs.Paths.{ChangesAt, comment_refusal, entry_move_refusal, move_ends, move_fault, object_at, place_at, relabel_refusal};
+ghost use Rattle.change_entries.specs.Conditions.{IsUnused};
+ghost use Rattle.adf_transfer.specs.Changes.{Changes};
+ghost use Rattle.files_in.specs.Commands.{Comments, Deletes, MakesAt, Moves, Protects, Relabels};
+ghost use Rattle.files_in.specs.Paths.{entry_move_refusal, move_fault, object_at};
 
 use adf_transfer::{
     comment, delete, delete_all, locate, make_directory, move_entry, place, protect, relabel,
@@ -23,7 +22,8 @@ use std::alloc::Global;
 ///
 /// Errors: those of a place (204, 205, 210, 212), and 203 and 221.
 pub(crate) fn make_at(volume: &mut Volume, path: &[u8], moment: Date3) -> Result<u32, DosError>
-    ensures { ChangesAt (place_at path.now) (λ to. Changes (make_refusal to.0 to.1) (λ key t. made moment to.0 key to.1 (Directory []) t)) volume.old volume.new result }
+    ensures done { MakesAt moment path.now volume.old volume.new result }
+    ensures unused { IfOk result (λ key. (t : Tree) → Stands volume.old.image t → IsUnused t key) }
 {
     let (dir, name) = place(volume, path)?;
     make_directory(volume, dir, name, moment)
@@ -38,7 +38,7 @@ pub(crate) fn delete_at(
     force: bool,
     moment: Date3,
 ) -> Result<(), DosError>
-    ensures { ChangesAt (object_at path.now) (λ key. Changes (delete_refusal key force) (λ _ t. removed moment key t)) volume.old volume.new result }
+    ensures { Deletes moment false force path.now volume.old volume.new result }
 {
     let key = object_at(volume, path)?;
     delete(volume, key, force, moment)
@@ -54,7 +54,7 @@ pub(crate) fn delete_all_at(
     force: bool,
     moment: Date3,
 ) -> Result<(), DosError>
-    ensures { ChangesAt (object_at path.now) (λ key. Prunes moment key force) volume.old volume.new result }
+    ensures { Deletes moment true force path.now volume.old volume.new result }
 {
     let key = object_at(volume, path)?;
     delete_all(alloc, volume, key, force, moment)
@@ -76,7 +76,7 @@ pub(crate) fn move_at(
     new: &[u8],
     moment: Date3,
 ) -> Result<(), MoveFault>
-    ensures { ChangesAt (move_ends old.now new.now) (λ m. Changes (entry_move_refusal m) (λ _ t. renamed moment m.0 m.1.0 m.1.1 t)) volume.old volume.new result }
+    ensures { Moves moment old.now new.now volume.old volume.new result }
 {
     let key = match object_at(volume, old) {
         Ok(key) => key,
@@ -124,7 +124,7 @@ pub(crate) fn protect_at(
     bits: Protect,
     moment: Date3,
 ) -> Result<(), DosError>
-    ensures { ChangesAt (object_at path.now) (λ key. Changes (root_refusal key) (λ _ t. protected moment key bits.0 t)) volume.old volume.new result }
+    ensures { Protects moment path.now bits.0 volume.old volume.new result }
 {
     let key = object_at(volume, path)?;
     protect(volume, key, bits, moment)
@@ -139,7 +139,7 @@ pub(crate) fn comment_at(
     text: &[u8],
     moment: Date3,
 ) -> Result<(), DosError>
-    ensures { ChangesAt (object_at path.now) (λ key. Changes (comment_refusal key text.now) (λ _ t. with_comment moment key text.now t)) volume.old volume.new result }
+    ensures { Comments moment path.now text.now volume.old volume.new result }
 {
     let key = object_at(volume, path)?;
     let Ok(text) = Comment::new(text) else {
@@ -152,7 +152,7 @@ pub(crate) fn comment_at(
 ///
 /// Error: 210 of what is no name.
 pub(crate) fn relabel_as(volume: &mut Volume, name: &[u8], moment: Date3) -> Result<(), DosError>
-    ensures { Changes (relabel_refusal name.now) (λ _ t. disk_renamed moment name.now t) volume.old volume.new result }
+    ensures { Relabels moment name.now volume.old volume.new result }
 {
     let Ok(name) = Name::new(name) else {
         return Err(DosError::InvalidComponentName);

@@ -3,6 +3,7 @@
 ghost use Rattle.std.specs.Prelude.{◌≡◌, List, ℕ, IfOk, OnOk};
 ghost use Rattle.ados_tree.specs.Keys.{HasDirectory, HasEntryKey};
 ghost use Rattle.files_in.specs.Progress.{IsProgress};
+ghost use Rattle.files_in.specs.Put.{KeepsKeys};
 
 use crate::put::note_directory;
 use adf_text::Uaem;
@@ -89,6 +90,7 @@ impl Progress {
     /// Sets what is noted of the directories that were made.
     pub fn note_directories(self, volume: &mut Volume, moment: Date3)
         requires { IsProgress volume.old.image self }
+        ensures { KeepsKeys volume.old.image volume.new.image }
     {
         for made in self.made.iter() {
             note_directory(volume, made.key, &made.noted, moment);

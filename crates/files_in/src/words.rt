@@ -1,7 +1,13 @@
 //! Words of the command line, as bytes of an Amiga's text.
 
+ghost use Rattle.std.specs.Prelude.{◌≡◌, IfErr, IfOk, OnOk, All, map};
+ghost use Rattle.std.specs.Str.{chars};
+ghost use Rattle.adf_text.specs.Letters.{letters};
+ghost use Rattle.adf_text.specs.ProtectionLetters.{AreLetters, protection_of};
+ghost use Rattle.files_in.specs.Words.{IsBitsFault, IsLetterFault, IsLetterFaultIn, IsRefusal, IsSpelled};
+
 use crate::fault::{InFault, refused};
-use adf_text::{LettersFault, letter_bytes, protection_of_letters};
+use adf_text::{LettersFault, letter_bytes, letters_come_back, protection_of_letters};
 use ados_name::Protect;
 use ados_packet::DosError;
 use std::alloc::Global;
@@ -15,7 +21,11 @@ pub(crate) struct Word<'a> {
 
 impl<'a> Word<'a> {
     /// A word without a letter past U+00FF.
-    pub fn new(alloc: Global, text: &'a str) -> Result<Word<'a>, InFault> {
+    pub fn new(alloc: Global, text: &'a str) -> Result<Word<'a>, InFault>
+        ensures same { IfOk result (λ word. word.text.now ≡ text.now) }
+        ensures spelled { IfOk result IsSpelled }
+        ensures fault { IfErr result (IsLetterFault text.now) }
+    {
         match letter_bytes(alloc, text) {
             Ok(bytes) => Ok(Word { text, bytes }),
             Err(LettersFault::NoByte { .. }) => {
@@ -25,18 +35,29 @@ impl<'a> Word<'a> {
         }
     }
 
-    /// The bytes.
-    pub fn bytes(&self) -> &[u8] {
+    /// The bytes that its letters stand for.
+    pub fn bytes(&self) -> &[u8]
+        requires { IsSpelled self.now }
+        ensures { result.now ≡ chars self.now.text.now }
+    {
+        are_bytes_of(self.bytes.as_slice(), self.text);
         self.bytes.as_slice()
     }
 
     /// An error of AmigaDOS, told of this word.
-    pub fn refused(&self, alloc: Global, error: DosError) -> InFault {
+    pub fn refused(&self, alloc: Global, error: DosError) -> InFault
+        ensures { IsRefusal error self.now.text.now result }
+    {
         refused(alloc, self.text, error)
     }
 
     /// The protection bits that the word spells.
-    pub fn protection(&self, alloc: Global) -> Result<Protect, InFault> {
+    pub fn protection(&self, alloc: Global) -> Result<Protect, InFault>
+        requires { IsSpelled self.now }
+        ensures letters { OnOk result (AreLetters (chars self.now.text.now)) }
+        ensures bits { IfOk result (λ bits. bits.0 ≡ protection_of (chars self.now.text.now)) }
+        ensures fault { IfErr result (IsBitsFault self.now.text.now) }
+    {
         match protection_of_letters(self.bytes()) {
             Some(bits) => Ok(bits),
             None => Err(InFault::Bits(String::from_str(alloc, self.text)?)),
@@ -44,11 +65,27 @@ impl<'a> Word<'a> {
     }
 }
 
+/// That these are the bytes that the letters of a text stand for.
+fn are_bytes_of(bytes: &[u8], text: &str)
+    requires { letters bytes.now ≡ text.now }
+    ensures { bytes.now ≡ chars text.now }
+{
+    letters_come_back();
+}
+
 /// Words without a letter past U+00FF.
-pub(crate) fn words_of<'a>(alloc: Global, texts: &[&'a str]) -> Result<Vec<Word<'a>>, InFault> {
+pub(crate) fn words_of<'a>(alloc: Global, texts: &[&'a str]) -> Result<Vec<Word<'a>>, InFault>
+    ensures texts { IfOk result (λ words. map (λ word. word.text.now) words.items ≡ map (λ text. text.now) texts.now) }
+    ensures spelled { IfOk result (λ words. All IsSpelled words.items) }
+    ensures fault { IfErr result (IsLetterFaultIn (map (λ text. text.now) texts.now)) }
+{
     let mut words = Vec::new(alloc);
     for text in texts {
-        words.push(Word::new(alloc, *text)?)?;
+        let word = match Word::new(alloc, *text) {
+            Ok(word) => word,
+            Err(fault) => return Err(fault),
+        };
+        words.push(word)?;
     }
     Ok(words)
 }

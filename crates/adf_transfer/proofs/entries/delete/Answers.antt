@@ -11,8 +11,8 @@ use Rattle.ados_handler.proofs.Reading.{from_not}
 use Rattle.adf_transfer.proofs.Rows.{stops}
 use Rattle.adf_transfer.proofs.entries.delete.Goals as goal
 
-pub returns-then-is_denied : goal.returns-then-is_denied
-returns-then-is_denied c = (
+pub returns-then-is_denied-clause-done : goal.returns-then-is_denied-clause-done
+returns-then-is_denied-clause-done c = (
   refl,
   λ t s.
       let other : c.args.key ≢ root t = λ e. c.if-key-root.false (e ∙ sym (c.root.ensures.root t s)) in
@@ -27,8 +27,8 @@ remove-requires c = λ t s.
     let empty : not (is_empty (entries t c.args.key)) ≡ false = sym (c.has_entries.ensures t s) ∙ c.if-has_entries.false in
     can_remove t s.proper c.args.key (c.requires t s) other (from_not (is_empty (entries t c.args.key)) empty)
 
-pub returns : goal.returns
-returns c = λ t s.
+pub returns-clause-done : goal.returns-clause-done
+returns-clause-done c = λ t s.
     let other : c.args.key ≢ root t = λ e. c.if-key-root.false (e ∙ sym (c.root.ensures.root t s)) in
     let empty : not (is_empty (entries t c.args.key)) ≡ false = sym (c.has_entries.ensures t s) ∙ c.if-has_entries.false in
     let allowed : not c.args.force && denies_delete (protection_of t c.args.key) ≡ false = sym (c.is_denied.ensures t s) ∙ c.if-is_denied.false in (

@@ -13,6 +13,7 @@ use Rattle.ados_handler.proofs.Making.{none_there}
 use Rattle.ados_handler.proofs.MakingFile.{can_make_in}
 use Rattle.ados_handler.proofs.Placed.{passed}
 use Rattle.adf_transfer.proofs.Rows.{stops}
+use Rattle.adf_transfer.proofs.Turns.{kept_as_it_was, kept_looked}
 use Rattle.adf_transfer.proofs.entries.make_directory.Goals as goal
 
 pub create-requires : goal.create-requires
@@ -51,3 +52,12 @@ returns-clause-made c = λ t s.
       passed ObjectExists (is_some (child_of t c.args.dir c.args.name)) _ absent ∙ passed DiskFull (lacks t 1) [] (le-ltb (free_of t) 1 (omega (arith, free, c.if-free-lt1.false))),
       c.in-Ok.ensures.done.1 t there,
     )
+
+pub returns-then-is_some-clause-keeps : goal.returns-then-is_some-clause-keeps
+returns-then-is_some-clause-keeps c = kept_as_it_was c.args.volume.now c.child.new.self c.child.ensures.same
+
+pub returns-then-free-lt1-clause-keeps : goal.returns-then-free-lt1-clause-keeps
+returns-then-free-lt1-clause-keeps c = kept_as_it_was c.args.volume.now c.child.new.self c.child.ensures.same
+
+pub returns-clause-keeps : goal.returns-clause-keeps
+returns-clause-keeps c = kept_looked c.args.volume.now c.child.new.self c.create.new.self c.child.ensures.same c.create.ensures.keeps

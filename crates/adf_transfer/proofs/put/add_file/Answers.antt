@@ -19,6 +19,7 @@ use Rattle.adf_transfer.specs.Refusals.{more_blocks, or_no_room}
 use Rattle.adf_transfer.proofs.Filling.{IsFileKey, after_change}
 use Rattle.adf_transfer.proofs.Rooms.{as_told, has_room, new_is_empty, no_room, room_in_new, some_room}
 use Rattle.adf_transfer.proofs.Rows.{stops}
+use Rattle.adf_transfer.proofs.Turns.{in_turn_as_it_was, in_turn_both, in_turn_one, kept_looked}
 use Rattle.adf_transfer.proofs.put.add_file.Goals as goal
 
 pub returns-then-is_some-clause-added : goal.returns-then-is_some-clause-added
@@ -84,5 +85,19 @@ returns-clause-added c = λ t s.
     let needed : ℕ = 1 + block_cost t.format (length c.args.file.now.bytes.now) in (
       ap (λ (o : Option DosError). or_no_room o needed (free_of t)) (passed ObjectExists (is_some (child_of t c.args.dir c.args.name)) [] absent)
           ∙ has_room needed (free_of t) c.new_file_blocks-needed.result (c.new_file_blocks-needed.ensures t there) (c.in_default.ensures t there),
-      c.fill.ensures _ (c.in-Ok.ensures.done.1 t there),
+      c.fill.ensures.stands _ (c.in-Ok.ensures.done.1 t there),
     )
+
+pub returns-then-is_some-clause-keeps : goal.returns-then-is_some-clause-keeps
+returns-then-is_some-clause-keeps c = in_turn_as_it_was c.args.volume.now c.child.new.self c.child.ensures.same
+
+pub returns-in-Err-clause-keeps : goal.returns-in-Err-clause-keeps
+returns-in-Err-clause-keeps c = in_turn_as_it_was c.args.volume.now c.child.new.self c.child.ensures.same
+
+pub returns-clause-keeps : goal.returns-clause-keeps
+returns-clause-keeps c =
+    let t = c.image.ensures.stands.0 in
+    let there = subst (λ (v : Shown). Stands v.image t) (sym c.child.ensures.same) c.image.ensures.stands.1 in
+    let made_keeps = kept_looked c.args.volume.now c.child.new.self c.create.new.self c.child.ensures.same c.create.ensures.keeps in
+    in_turn_both c.args.volume.now.image c.create.new.self.image c.fill.new.volume.image
+    (in_turn_one c.args.volume.now.image c.create.new.self.image made_keeps (_, c.in-Ok.ensures.done.1 t there)) c.fill.ensures.keeps

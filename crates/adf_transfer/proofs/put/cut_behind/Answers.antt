@@ -16,11 +16,11 @@ told image key file t s info is = let n = content_in (t.nodes key) _ (file t s).
 pub examine-requires : goal.examine-requires
 examine-requires c = λ t s. let n = content_in (t.nodes c.args.key) _ (c.requires t s).1 in ap is_some n.1
 
-pub returns-then-examine-size : goal.returns-then-examine-size
-returns-then-examine-size c = λ t s. subst (Stands c.args.volume.now.image) (is_not_cut t c.args.moment c.args.key c.args.size (omega (arith, told c.args.volume.now.image c.args.key c.requires t s c.examine.result (λ n e. c.examine.ensures t n s e)))) s
+pub returns-then-examine-size-clause-stands : goal.returns-then-examine-size-clause-stands
+returns-then-examine-size-clause-stands c = λ t s. subst (Stands c.args.volume.now.image) (is_not_cut t c.args.moment c.args.key c.args.size (omega (arith, told c.args.volume.now.image c.args.key c.requires t s c.examine.result (λ n e. c.examine.ensures t n s e)))) s
 
 pub cut-requires-clause-shorter : goal.cut-requires-clause-shorter
 cut-requires-clause-shorter c = λ t s. omega (arith, told c.args.volume.now.image c.args.key c.requires t s c.examine.result (λ n e. c.examine.ensures t n s e))
 
-pub returns : goal.returns
-returns c = λ t s. subst (Stands c.cut.new.self.image) (is_cut t c.args.moment c.args.key c.args.size (omega (arith, told c.args.volume.now.image c.args.key c.requires t s c.examine.result (λ n e. c.examine.ensures t n s e)))) (c.cut.ensures.stands t s)
+pub returns-clause-stands : goal.returns-clause-stands
+returns-clause-stands c = λ t s. subst (Stands c.cut.new.self.image) (is_cut t c.args.moment c.args.key c.args.size (omega (arith, told c.args.volume.now.image c.args.key c.requires t s c.examine.result (λ n e. c.examine.ensures t n s e)))) (c.cut.ensures.stands t s)

@@ -1,6 +1,7 @@
 use Rattle.ados_tree.specs.Tree.{Node}
 use Rattle.ados_tree.specs.Change.{with_comment, with_protection}
 use Rattle.adf_transfer.proofs.Filling.{IsEntry, after_change, entry_changed}
+use Rattle.adf_transfer.specs.InTurn.KeepsInTurn.{none, one_more}
 use Rattle.adf_transfer.proofs.put.describe.Goals as goal
 
 pub set_comment-requires : goal.set_comment-requires
@@ -19,5 +20,13 @@ set_date-requires c =
     (entry_changed u c.args.key (λ (node : Node). record node { comment = c.args.file.now.comment })
     (entry_changed t c.args.key (λ (node : Node). record node { protection = c.args.file.now.protection.0 }) (c.requires t s)))
 
-pub returns : goal.returns
-returns c = λ t s. c.set_date.ensures.stands _ (c.set_comment.ensures.stands _ (c.set_protect.ensures.stands t s))
+pub returns-clause-stands : goal.returns-clause-stands
+returns-clause-stands c = λ t s. c.set_date.ensures.stands _ (c.set_comment.ensures.stands _ (c.set_protect.ensures.stands t s))
+
+pub returns-clause-keeps : goal.returns-clause-keeps
+returns-clause-keeps c =
+    let t = c.image.ensures.stands.0 in
+    let bits = c.set_protect.ensures.stands t c.image.ensures.stands.1 in
+    let text = c.set_comment.ensures.stands _ bits in
+    let date = c.set_date.ensures.stands _ text in
+    one_more (one_more (one_more none c.set_protect.ensures.keeps (_, bits)) c.set_comment.ensures.keeps (_, text)) c.set_date.ensures.keeps (_, date)

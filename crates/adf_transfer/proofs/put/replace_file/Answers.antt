@@ -12,6 +12,7 @@ use Rattle.adf_transfer.specs.declared.put.NotPut.{NotPut}
 use Rattle.adf_transfer.specs.Refusals.{more_blocks, or_no_room}
 use Rattle.adf_transfer.proofs.Rooms.{as_told, has_room, no_room}
 use Rattle.adf_transfer.proofs.Rows.{stops}
+use Rattle.adf_transfer.specs.InTurn.KeepsInTurn.{none}
 use Rattle.adf_transfer.proofs.put.replace_file.Goals as goal
 
 -- the bits of the file, and what they refuse
@@ -31,16 +32,16 @@ allowed : (key : ℕ) (force : Bool) (t : Tree) → is_file t key ≡ true → n
 allowed key force t file deletes writes =
     a_file key force t file ∙ passed DeleteProtected _ (refuse WriteProtected (not force && denies_write (protection_of t key)) ∷ []) deletes ∙ passed WriteProtected _ [] writes
 
-pub returns-then-not-is_file : goal.returns-then-not-is_file
-returns-then-not-is_file c = (
+pub returns-then-not-is_file-clause-done : goal.returns-then-not-is_file-clause-done
+returns-then-not-is_file-clause-done c = (
   refl,
   λ t s.
       ap (room_of c.args.key (length c.args.file.now.bytes.now) t)
       (stops ObjectWrongType (not (is_file t c.args.key)) (bits_refuse c.args.key c.args.force t) (ap not (sym (c.is_file.ensures.file t s) ∙ c.if-not-is_file.true))),
 )
 
-pub returns-then-is_denied : goal.returns-then-is_denied
-returns-then-is_denied c = (
+pub returns-then-is_denied-clause-done : goal.returns-then-is_denied-clause-done
+returns-then-is_denied-clause-done c = (
   refl,
   λ t s.
       ap (room_of c.args.key (length c.args.file.now.bytes.now) t)
@@ -48,8 +49,8 @@ returns-then-is_denied c = (
       ∙ stops DeleteProtected _ (refuse WriteProtected (not c.args.force && denies_write (protection_of t c.args.key)) ∷ []) (sym (c.is_denied.ensures t s) ∙ c.if-is_denied.true)),
 )
 
-pub returns-then-is_write_denied : goal.returns-then-is_write_denied
-returns-then-is_write_denied c = (
+pub returns-then-is_write_denied-clause-done : goal.returns-then-is_write_denied-clause-done
+returns-then-is_write_denied-clause-done c = (
   refl,
   λ t s.
       ap (room_of c.args.key (length c.args.file.now.bytes.now) t)
@@ -58,8 +59,8 @@ returns-then-is_write_denied c = (
       ∙ stops WriteProtected _ [] (sym (c.is_write_denied.ensures t s) ∙ c.if-is_write_denied.true)),
 )
 
-pub returns-in-Err : goal.returns-in-Err
-returns-in-Err c = (
+pub returns-in-Err-clause-done : goal.returns-in-Err-clause-done
+returns-in-Err-clause-done c = (
   refl,
   λ t s.
       let size : ℕ = length c.args.file.now.bytes.now in
@@ -73,11 +74,23 @@ pub fill-requires-clause-room : goal.fill-requires-clause-room
 fill-requires-clause-room c = λ t s.
     as_told c.more_blocks-needed.result (more_blocks t c.args.key (length c.args.file.now.bytes.now)) (free_of t) (c.more_blocks-needed.ensures t s) (c.in_default.ensures t s)
 
-pub returns : goal.returns
-returns c = λ t s.
+pub returns-clause-done : goal.returns-clause-done
+returns-clause-done c = λ t s.
     let size : ℕ = length c.args.file.now.bytes.now in (
       ap (room_of c.args.key size t)
           (allowed c.args.key c.args.force t (sym (c.is_file.ensures.file t s) ∙ c.if-not-is_file.false) (sym (c.is_denied.ensures t s) ∙ c.if-is_denied.false) (sym (c.is_write_denied.ensures t s) ∙ c.if-is_write_denied.false))
           ∙ has_room (more_blocks t c.args.key size) (free_of t) c.more_blocks-needed.result (c.more_blocks-needed.ensures t s) (c.in_default.ensures t s),
-      c.fill.ensures t s,
+      c.fill.ensures.stands t s,
     )
+
+pub returns-then-not-is_file-clause-keeps : goal.returns-then-not-is_file-clause-keeps
+returns-then-not-is_file-clause-keeps c = none
+
+pub returns-then-is_denied-clause-keeps : goal.returns-then-is_denied-clause-keeps
+returns-then-is_denied-clause-keeps c = none
+
+pub returns-then-is_write_denied-clause-keeps : goal.returns-then-is_write_denied-clause-keeps
+returns-then-is_write_denied-clause-keeps c = none
+
+pub returns-in-Err-clause-keeps : goal.returns-in-Err-clause-keeps
+returns-in-Err-clause-keeps c = none

@@ -1,10 +1,12 @@
 use Rattle.ados_tree.specs.Keys.{HasDirectory}
 use Rattle.files_in.specs.Progress.{IsProgress}
+use Rattle.files_in.specs.Put.{KeepsKeys}
 use Rattle.files_in.proofs.adding.put_entries.Given as goal
 
--- the top directory is one still, and what was noted is there
+-- every directory and entry is one still, the top directory too, and what was noted is there
 abbrev pub invariant-loop-entry : goal.invariant-loop-entry
 invariant-loop-entry g l = record {
   top : HasDirectory l.volume.image l.fn.top;
   progress : IsProgress l.volume.image l.progress;
+  keeps : KeepsKeys l.initial.volume.image l.volume.image;
 }

@@ -8,4 +8,4 @@ use Rattle.files_in.proofs.paths.delete_at.Goals as goal
 pub returns : goal.returns
 returns c = λ t s.
     at_found _ _ (object_at c.args.path.now t) c.in_ok-key.key (sym (c.object_at.ensures.object t s) ∙ c.in_ok-key.was)
-    (changed_from (delete_refusal c.in_ok-key.key c.args.force) (λ _ t. removed c.args.moment c.in_ok-key.key t) c.args.volume.now c.object_at.new.volume c.delete.new.volume c.delete.result c.object_at.ensures.same c.delete.ensures)
+    (changed_from (delete_refusal c.in_ok-key.key c.args.force) (λ _ t. removed c.args.moment c.in_ok-key.key t) c.args.volume.now c.object_at.new.volume c.delete.new.volume c.delete.result c.object_at.ensures.same c.delete.ensures.done)

@@ -10,5 +10,5 @@ use Rattle.files_in.proofs.paths.relabel_as.Goals as goal
 pub returns : goal.returns
 returns c = λ t s. (
   passed InvalidComponentName (not (is_name c.args.name.now)) [] (ap not (is_named c.args.name.now (c.in-Ok.ensures.valid.0 refl))),
-  subst (λ (name : List ℕ). Stands c.relabel.new.volume.image (disk_renamed c.args.moment name t)) c.in-Ok.ensures.ok (c.relabel.ensures t s),
+  subst (λ (name : List ℕ). Stands c.relabel.new.volume.image (disk_renamed c.args.moment name t)) c.in-Ok.ensures.ok (c.relabel.ensures.stands t s),
 )

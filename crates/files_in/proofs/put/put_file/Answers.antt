@@ -36,7 +36,7 @@ returns-in-Ok-clause-put c = λ t s.
     let size : ℕ = length c.args.file.now.bytes.now in
     let is : child_of t c.args.dir c.args.name ≡ Some c.in-Some.key = sym (c.child.ensures.child t s) ∙ c.in-Some.is in
     let after = subst (λ (v : Shown). Stands v.image t) (sym c.child.ensures.same) s in
-    let done = c.in-Ok.ensures t after in (
+    let done = c.in-Ok.ensures.done t after in (
       put_over t c.args.dir c.args.name c.in-Some.key is size c.args.force c.if-force.true ∙ done.0,
       subst (Stands c.replace_file.new.volume.image) (sym (put_over_tree t c.args.dir c.args.name c.in-Some.key is c.args.moment c.args.file.now c.in-Some.key)) done.1,
     )
@@ -45,4 +45,4 @@ pub returns-in-Ok-clause-keeps : goal.returns-in-Ok-clause-keeps
 returns-in-Ok-clause-keeps c =
     let size : ℕ = length c.args.file.now.bytes.now in
     subst (λ (v : Shown). KeepsKeys v.image c.replace_file.new.volume.image) c.child.ensures.same
-    (replace_keeps c.args.moment c.in-Some.key size false c.args.file.now c.child.new.self.image c.replace_file.new.volume.image (subst (λ (v : Shown). HasTree v.image) (sym c.child.ensures.same) c.image.ensures.stands) c.in-Ok.ensures)
+    (replace_keeps c.args.moment c.in-Some.key size false c.args.file.now c.child.new.self.image c.replace_file.new.volume.image (subst (λ (v : Shown). HasTree v.image) (sym c.child.ensures.same) c.image.ensures.stands) c.in-Ok.ensures.done)

@@ -1,7 +1,11 @@
 use Rattle.std.specs.Prelude.{All}
 use Rattle.ados_tree.specs.Keys.{HasEntryKey}
+use Rattle.files_in.specs.Put.{KeepsKeys}
 use Rattle.files_in.proofs.progress.Progress.note_directories.Given as goal
 
--- each directory that was made is an entry still
+-- each directory that was made is an entry still, and every entry and directory of the volume is one
 abbrev pub invariant-loop-made : goal.invariant-loop-made
-invariant-loop-made l = All (λ made. HasEntryKey l.volume.image made.key) l.fn.self.made.items
+invariant-loop-made l = record {
+  made : All (λ made. HasEntryKey l.volume.image made.key) l.fn.self.made.items;
+  keeps : KeepsKeys l.initial.volume.image l.volume.image;
+}
