@@ -15,7 +15,7 @@ use Rattle.adf_script.specs.Streams.{Writes}
 use Rattle.adf_listing.specs.Fronts.{WritesFront, WritesFrontOf}
 use Rattle.adf_listing.specs.Listing.{BeginsList, IsList}
 use Rattle.adf_jobs.specs.declared.job.ImageJob.{ImageJob}
-use Rattle.adf_jobs.specs.declared.job.ImageJob.TheVariants.{Blank, Boot, Change, Extract, Serve}
+use Rattle.adf_jobs.specs.declared.job.ImageJob.TheVariants.{Blank}
 use Rattle.files_out.specs.declared.fault.OutFault.{OutFault}
 use Rattle.files_out.specs.declared.fault.OutFault.TheVariants as out
 use Rattle.files_out.specs.Printing.{IsPrinted, IsPrintFault}
@@ -24,10 +24,11 @@ use Rattle.adf_commands.specs.declared.fault.CommandFault.{CommandFault}
 use Rattle.adf_commands.specs.declared.fault.CommandFault.TheVariants.{Dos, Memory, Output, Refused}
 use Rattle.adf_commands.specs.declared.refusal.Refusal.{Refusal}
 use Rattle.adf_commands.specs.declared.refusal.DosRefusal.{DosRefusal}
-use Rattle.adf_commands.specs.Texts.{BeginsJobText, BeginsListText, check_line, IsCheckText, IsListed, IsListText, IsPrintText}
+use Rattle.adf_commands.specs.Texts.{BeginsJobText, BeginsListText, check_line, IsCheckText, IsJobText, IsListed, IsListText, IsPrintText}
 use Rattle.adf_commands.specs.Faults.{IsBlankFault, IsNoImage, IsNoImageRefusal, IsNoRefusal, IsRefusedFor, IsToldAs, IsToldOut, IsToldRun}
-use Rattle.adf_commands.specs.Commands.{DoesJob, Ending, LeavesOff, TellsFault, TellsJob, TellsOf}
-use Rattle.adf_commands.specs.Refusals.{dos_line, refusal_line, told_line}
+use Rattle.adf_commands.specs.Commands.{Does, DoesJob, Ending, EndsOff, LeavesOff, Prints, Tells, TellsFault, TellsJob, TellsOf, TellsSome}
+use Rattle.adf_commands.specs.Commands.Prints.{OnlyFaults, OfBytes, Unsaid}
+use Rattle.adf_commands.specs.Refusals.{dos_line, IsDosText, IsRefusalText, refusal_line, told_line}
 
 -- an image is refused as the fault says
 pub refused_for : (image : List ℕ) (fault : VolumeFault) (told : CommandFault) → IsRefusal image fault → IsToldAs fault told → IsRefusedFor image told
@@ -92,6 +93,11 @@ no_image BeginsText w (Refused refusal) (bytes, is) = (bytes, (inl is, Keeps-ref
 no_image BeginsText w (Dos refusal) is = ([], Keeps-refl w)
 no_image BeginsText w fault is = ([], inl (Keeps-refl w))
 
+pub tells_no_image : (IsText BeginsText : List ℕ → List ℕ → Type 0) (w : Option (List ℕ)) (fault : CommandFault) (done : Ending) → IsNoImage fault
+    → IsErrAnd done (λ told. told ≡ fault) → TellsSome IsText BeginsText w w done
+tells_no_image IsText BeginsText w fault (Ok x) is same = absurd same
+tells_no_image IsText BeginsText w fault (Err told) is same = no_image BeginsText w told (subst IsNoImage (sym same) is)
+
 -- a blank image that is not made is no refused one
 pub blank_no_refusal : (s : Bool) (blocks : ℕ) (word : List ℕ) (fault : CommandFault) → IsBlankFault s blocks word fault → IsNoRefusal fault
 blank_no_refusal s blocks word (Refused refusal) e = absurd (cc e)
@@ -143,15 +149,6 @@ kept_appends (Some x) None c bytes k w = absurd k
 kept_appends (Some x) (Some y) None bytes k w = absurd w
 kept_appends (Some x) (Some y) (Some z) bytes k w = w ∙ ap (λ (l : List ℕ). l ++ bytes) k
 
--- a job ends where no image was read
-pub job_without_image : (job : ImageJob) (w : Option (List ℕ)) (fault : CommandFault) (done : Ending) → IsNoImage fault → IsErrAnd done (λ told. told ≡ fault) → DoesJob job w w done
-job_without_image job w fault (Ok x) is same = absurd same
-job_without_image (Extract job) w fault (Err told) is same = Keeps-refl w
-job_without_image (Change job) w fault (Err told) is same = Keeps-refl w
-job_without_image (Boot image other file) w fault (Err told) is same = Keeps-refl w
-job_without_image (Serve job) w fault (Err told) is same = tt
-job_without_image job w fault (Err told) is same = no_image (BeginsJobText job) w told (subst IsNoImage (sym same) is)
-
 -- a job that prints nothing where it is done
 abbrev pub PrintsNothing : ImageJob → Type 0
 PrintsNothing (Blank format blocks moment name as_letters file) = ⊤
@@ -167,19 +164,6 @@ pub job_silent_fault : (job : ImageJob) (w : Option (List ℕ)) (fault : Command
 job_silent_fault job w fault (Ok x) silent plain same = absurd same
 job_silent_fault job w fault (Err told) silent plain same = job_silent job w (Err told) silent (subst IsNoRefusal (sym same) plain)
 
--- a job that prints nothing but the line of its fault
-abbrev pub IsQuiet : ImageJob → Type 0
-IsQuiet (Extract job) = ⊤
-IsQuiet (Change job) = ⊤
-IsQuiet (Boot image other file) = ⊤
-IsQuiet job = ⊥
-
-pub job_quiet : (job : ImageJob) (w : Option (List ℕ)) (done : Ending) → IsQuiet job → DoesJob job w w done
-job_quiet (Extract job) w done quiet = Keeps-refl w
-job_quiet (Change job) w done quiet = Keeps-refl w
-job_quiet (Boot image other file) w done quiet = Keeps-refl w
-job_quiet job w done quiet = absurd quiet
-
 -- what an option without a value tells, and one with a value
 pub none_told : {A : Type 0} (f : A → List ℕ) (o : Option A) (told : Option (List ℕ)) → option_map f o ≡ told → o ≡ None → told ≡ None
 none_told f o told e is = sym e ∙ ap (option_map f) is
@@ -187,99 +171,114 @@ none_told f o told e is = sym e ∙ ap (option_map f) is
 pub some_told : {A : Type 0} (f : A → List ℕ) (o : Option A) (x : A) (told : Option (List ℕ)) → option_map f o ≡ told → o ≡ Some x → told ≡ Some (f x)
 some_told f o x told e is = sym e ∙ ap (option_map f) is
 
--- a job is done
-pub job_done : (job : ImageJob) (old new : Option (List ℕ)) (x : Unit {0}) → DoesJob job old new (Ok x) → TellsJob job old new (Ok x)
-job_done (Extract job) old new x h = h
-job_done (Change job) old new x h = h
-job_done (Boot image other file) old new x h = h
-job_done (Serve job) old new x h = tt
-job_done job old new x h = h
+-- of jobs that print such texts of bytes
+module _ (IsText BeginsText : List ℕ → List ℕ → Type 0) where
+  -- a job is done
+  done : (p : Prints) (old new : Option (List ℕ)) (x : Unit {0}) → Does p IsText BeginsText old new (Ok x) → Tells p IsText BeginsText old new (Ok x)
+  done OnlyFaults old new x h = h
+  done OfBytes old new x h = h
+  done Unsaid old new x h = tt
 
-module _ (old mid new : Option (List ℕ)) where
-  -- a refused image is told
-  told_refused : (job : ImageJob) (refusal : Refusal) → DoesJob job old mid (Err (Refused refusal)) → Appends mid new (refusal_line refusal) → TellsJob job old new (Err (Refused refusal))
-  told_refused (Extract job) refusal keeps w = (refusal_line refusal, kept_appends old mid new (refusal_line refusal) keeps w, refl)
-  told_refused (Change job) refusal keeps w = (refusal_line refusal, kept_appends old mid new (refusal_line refusal) keeps w, refl)
-  told_refused (Boot image other file) refusal keeps w = (refusal_line refusal, kept_appends old mid new (refusal_line refusal) keeps w, refl)
-  told_refused (Serve job) refusal d w = tt
-  told_refused job refusal (bytes, (is, keeps)) w = (bytes, (refusal_line refusal, kept_appends old mid new (refusal_line refusal) keeps w, is))
+  -- a job whose fault no line tells of
+  failed : (p : Prints) (old new : Option (List ℕ)) (fault : CommandFault) → Does p IsText BeginsText old new (Err fault) → IsNoRefusal fault
+      → Tells p IsText BeginsText old new (Err fault)
+  failed OnlyFaults old new fault keeps plain = rw plain (inl keeps)
+  failed Unsaid old new fault h plain = tt
+  failed OfBytes old new (Refused refusal) h plain = absurd (cc plain)
+  failed OfBytes old new (Dos refusal) h plain = absurd (cc plain)
+  failed OfBytes old new fault (bytes, inl keeps) plain = (bytes, inl keeps)
+  failed OfBytes old new fault (bytes, inr (text, is, front)) plain = (bytes, inr (text, inl is, front))
 
-  -- what AmigaDOS refuses is told
-  told_dos : (job : ImageJob) (refusal : DosRefusal) → DoesJob job old mid (Err (Dos refusal)) → Appends mid new (dos_line refusal) → TellsJob job old new (Err (Dos refusal))
-  told_dos (Extract job) refusal keeps w = (dos_line refusal, kept_appends old mid new (dos_line refusal) keeps w, refl)
-  told_dos (Change job) refusal keeps w = (dos_line refusal, kept_appends old mid new (dos_line refusal) keeps w, refl)
-  told_dos (Boot image other file) refusal keeps w = (dos_line refusal, kept_appends old mid new (dos_line refusal) keeps w, refl)
-  told_dos (Serve job) refusal d w = tt
-  told_dos job refusal (bytes, keeps) w = (bytes, (dos_line refusal, kept_appends old mid new (dos_line refusal) keeps w, refl))
+  -- a job for whose line there is no memory
+  unsaid : (p : Prints) (old new : Option (List ℕ)) (fault : CommandFault) → Does p IsText BeginsText old new (Err fault) → Tells p IsText BeginsText old new (Err Memory)
+  unsaid OnlyFaults old new fault keeps = inl keeps
+  unsaid Unsaid old new fault h = tt
+  unsaid OfBytes old new (Refused refusal) d = (d.0, inl d.1.1)
+  unsaid OfBytes old new (Dos refusal) d = (d.0, inl d.1)
+  unsaid OfBytes old new fault (bytes, inl keeps) = (bytes, inl keeps)
+  unsaid OfBytes old new fault (bytes, inr (text, is, front)) = (bytes, inr (text, inl is, front))
 
-  -- the line of a fault is told
-  pub job_told : (job : ImageJob) (fault : CommandFault) (line : List ℕ) → told_line fault ≡ Some line → DoesJob job old mid (Err fault) → Appends mid new line → TellsJob job old new (Err fault)
-  job_told job (Refused refusal) line tells h w =
-      let same : line ≡ refusal_line refusal = cc tells in told_refused job refusal h (subst (λ (l : List ℕ). Appends mid new l) same w)
-  job_told job (Dos refusal) line tells h w =
-      let same : line ≡ dos_line refusal = cc tells in told_dos job refusal h (subst (λ (l : List ℕ). Appends mid new l) same w)
-  job_told job fault line tells h w = absurd (cc tells)
+  module _ (old mid new : Option (List ℕ)) where
+    -- a refused image is told
+    told_refused : (p : Prints) (refusal : Refusal) → Does p IsText BeginsText old mid (Err (Refused refusal)) → Appends mid new (refusal_line refusal)
+        → Tells p IsText BeginsText old new (Err (Refused refusal))
+    told_refused OnlyFaults refusal keeps w = (refusal_line refusal, kept_appends old mid new (refusal_line refusal) keeps w, refl)
+    told_refused Unsaid refusal d w = tt
+    told_refused OfBytes refusal (bytes, (is, keeps)) w = (bytes, (refusal_line refusal, kept_appends old mid new (refusal_line refusal) keeps w, is))
 
-  -- a front of what is written after nothing
-  kept_front : (text : List ℕ) → Keeps old mid → WritesFront mid new text → WritesFront old new text
-  kept_front text keeps (written, appends, rest) = (written, kept_appends old mid new written keeps appends, rest)
+    -- what AmigaDOS refuses is told
+    told_dos : (p : Prints) (refusal : DosRefusal) → Does p IsText BeginsText old mid (Err (Dos refusal)) → Appends mid new (dos_line refusal)
+        → Tells p IsText BeginsText old new (Err (Dos refusal))
+    told_dos OnlyFaults refusal keeps w = (dos_line refusal, kept_appends old mid new (dos_line refusal) keeps w, refl)
+    told_dos Unsaid refusal d w = tt
+    told_dos OfBytes refusal (bytes, keeps) w = (bytes, (dos_line refusal, kept_appends old mid new (dos_line refusal) keeps w, refl))
 
-  -- a job that wrote nothing, whose line is told as far as the writer takes it
-  broken_quiet : (fault last : CommandFault) (line : List ℕ) → told_line fault ≡ Some line → IsNoRefusal last → Keeps old mid → WritesFront mid new line → TellsFault old new (Err last)
-  broken_quiet fault last line tells plain keeps front = rw plain (inr (line, (fault, tells), kept_front line keeps front))
+    -- a front of what is written after nothing
+    kept_front : (text : List ℕ) → Keeps old mid → WritesFront mid new text → WritesFront old new text
+    kept_front text keeps (written, appends, rest) = (written, kept_appends old mid new written keeps appends, rest)
 
-  broken_refused : (job : ImageJob) (refusal : Refusal) (last : CommandFault) → IsNoRefusal last → DoesJob job old mid (Err (Refused refusal)) → WritesFront mid new (refusal_line refusal) → TellsJob job old new (Err last)
-  broken_refused (Extract job) refusal last plain keeps front = broken_quiet (Refused refusal) last (refusal_line refusal) refl plain keeps front
-  broken_refused (Change job) refusal last plain keeps front = broken_quiet (Refused refusal) last (refusal_line refusal) refl plain keeps front
-  broken_refused (Boot image other file) refusal last plain keeps front = broken_quiet (Refused refusal) last (refusal_line refusal) refl plain keeps front
-  broken_refused (Serve job) refusal last plain d front = tt
-  broken_refused job refusal (Refused r) plain d front = absurd (cc plain)
-  broken_refused job refusal (Dos r) plain d front = absurd (cc plain)
-  broken_refused job refusal last plain (bytes, (is, keeps)) front = (bytes, inr (refusal_line refusal, inr (inl is), kept_front (refusal_line refusal) keeps front))
+    -- a job that wrote nothing, whose line is told as far as the writer takes it
+    broken_quiet : (fault last : CommandFault) (line : List ℕ) → told_line fault ≡ Some line → IsNoRefusal last → Keeps old mid → WritesFront mid new line → TellsFault old new (Err last)
+    broken_quiet fault last line tells plain keeps front = rw plain (inr (line, (fault, tells), kept_front line keeps front))
 
-  broken_dos : (job : ImageJob) (refusal : DosRefusal) (last : CommandFault) → IsNoRefusal last → DoesJob job old mid (Err (Dos refusal)) → WritesFront mid new (dos_line refusal) → TellsJob job old new (Err last)
-  broken_dos (Extract job) refusal last plain keeps front = broken_quiet (Dos refusal) last (dos_line refusal) refl plain keeps front
-  broken_dos (Change job) refusal last plain keeps front = broken_quiet (Dos refusal) last (dos_line refusal) refl plain keeps front
-  broken_dos (Boot image other file) refusal last plain keeps front = broken_quiet (Dos refusal) last (dos_line refusal) refl plain keeps front
-  broken_dos (Serve job) refusal last plain d front = tt
-  broken_dos job refusal (Refused r) plain d front = absurd (cc plain)
-  broken_dos job refusal (Dos r) plain d front = absurd (cc plain)
-  broken_dos job refusal last plain (bytes, keeps) front = (bytes, inr (dos_line refusal, inr (inr (refusal, refl)), kept_front (dos_line refusal) keeps front))
+    -- a line of a refusal of bytes, as far as the writer takes it
+    ends_front : (bytes : List ℕ) (last : CommandFault) → IsNoRefusal last → WritesFrontOf old new (λ text. BeginsText bytes text ⊎ (IsRefusalText bytes text ⊎ IsDosText text))
+        → EndsOff (BeginsText bytes) bytes old new last
+    ends_front bytes (Refused r) plain front = absurd (cc plain)
+    ends_front bytes (Dos r) plain front = absurd (cc plain)
+    ends_front bytes last plain front = inr front
 
-  -- the line of a fault is told as far as the writer takes it
-  pub job_broken : (job : ImageJob) (fault : CommandFault) (line : List ℕ) (printed : CommandFault) (done : Ending) → told_line fault ≡ Some line → DoesJob job old mid (Err fault)
-      → WritesFront mid new line → IsNoRefusal printed → IsErrAnd done (λ told. told ≡ printed) → TellsJob job old new done
-  job_broken job fault line printed (Ok x) tells h front plain same = absurd same
-  job_broken job (Refused refusal) line printed (Err last) tells h front plain is =
+    broken_refused : (p : Prints) (refusal : Refusal) (last : CommandFault) → IsNoRefusal last → Does p IsText BeginsText old mid (Err (Refused refusal))
+        → WritesFront mid new (refusal_line refusal) → Tells p IsText BeginsText old new (Err last)
+    broken_refused OnlyFaults refusal last plain keeps front = broken_quiet (Refused refusal) last (refusal_line refusal) refl plain keeps front
+    broken_refused Unsaid refusal last plain d front = tt
+    broken_refused OfBytes refusal last plain (bytes, (is, keeps)) front =
+        (bytes, ends_front bytes last plain (refusal_line refusal, inr (inl is), kept_front (refusal_line refusal) keeps front))
+
+    broken_dos : (p : Prints) (refusal : DosRefusal) (last : CommandFault) → IsNoRefusal last → Does p IsText BeginsText old mid (Err (Dos refusal))
+        → WritesFront mid new (dos_line refusal) → Tells p IsText BeginsText old new (Err last)
+    broken_dos OnlyFaults refusal last plain keeps front = broken_quiet (Dos refusal) last (dos_line refusal) refl plain keeps front
+    broken_dos Unsaid refusal last plain d front = tt
+    broken_dos OfBytes refusal last plain (bytes, keeps) front =
+        (bytes, ends_front bytes last plain (dos_line refusal, inr (inr (refusal, refl)), kept_front (dos_line refusal) keeps front))
+
+-- the fault of a job that is told by this line
+module _ (job : ImageJob) (old mid new : Option (List ℕ)) (line : List ℕ) where
+  -- it is told
+  pub job_told : (fault : CommandFault) → told_line fault ≡ Some line → DoesJob job old mid (Err fault) → Appends mid new line → TellsJob job old new (Err fault)
+  job_told (Refused refusal) tells h w =
       let same : line ≡ refusal_line refusal = cc tells in
-      broken_refused job refusal last (subst IsNoRefusal (sym is) plain) h (subst (λ (l : List ℕ). WritesFront mid new l) same front)
-  job_broken job (Dos refusal) line printed (Err last) tells h front plain is =
+      told_refused (IsJobText job) (BeginsJobText job) old mid new (prints job) refusal h (subst (λ (l : List ℕ). Appends mid new l) same w)
+  job_told (Dos refusal) tells h w =
       let same : line ≡ dos_line refusal = cc tells in
-      broken_dos job refusal last (subst IsNoRefusal (sym is) plain) h (subst (λ (l : List ℕ). WritesFront mid new l) same front)
-  job_broken job fault line printed (Err last) tells h front plain is = absurd (cc tells)
+      told_dos (IsJobText job) (BeginsJobText job) old mid new (prints job) refusal h (subst (λ (l : List ℕ). Appends mid new l) same w)
+  job_told fault tells h w = absurd (cc tells)
+
+  broken : (fault last : CommandFault) → told_line fault ≡ Some line → DoesJob job old mid (Err fault) → WritesFront mid new line → IsNoRefusal last → TellsJob job old new (Err last)
+  broken (Refused refusal) last tells h front plain =
+      let same : line ≡ refusal_line refusal = cc tells in
+      broken_refused (IsJobText job) (BeginsJobText job) old mid new (prints job) refusal last plain h (subst (λ (l : List ℕ). WritesFront mid new l) same front)
+  broken (Dos refusal) last tells h front plain =
+      let same : line ≡ dos_line refusal = cc tells in
+      broken_dos (IsJobText job) (BeginsJobText job) old mid new (prints job) refusal last plain h (subst (λ (l : List ℕ). WritesFront mid new l) same front)
+  broken fault last tells h front plain = absurd (cc tells)
+
+  -- it is told as far as the writer takes it
+  pub job_broken : (fault printed : CommandFault) (ended : Ending) → told_line fault ≡ Some line → DoesJob job old mid (Err fault)
+      → WritesFront mid new line → IsNoRefusal printed → IsErrAnd ended (λ told. told ≡ printed) → TellsJob job old new ended
+  job_broken fault printed (Ok x) tells h front plain same = absurd same
+  job_broken fault printed (Err last) tells h front plain is = broken fault last tells h front (subst IsNoRefusal (sym is) plain)
 
 -- a job whose fault no line tells of
 pub job_failed : (job : ImageJob) (old new : Option (List ℕ)) (fault : CommandFault) → DoesJob job old new (Err fault) → IsNoRefusal fault → TellsJob job old new (Err fault)
-job_failed (Extract job) old new fault keeps plain = rw plain (inl keeps)
-job_failed (Change job) old new fault keeps plain = rw plain (inl keeps)
-job_failed (Boot image other file) old new fault keeps plain = rw plain (inl keeps)
-job_failed (Serve job) old new fault h plain = tt
-job_failed job old new (Refused refusal) h plain = absurd (cc plain)
-job_failed job old new (Dos refusal) h plain = absurd (cc plain)
-job_failed job old new fault (bytes, inl keeps) plain = (bytes, inl keeps)
-job_failed job old new fault (bytes, inr (text, is, front)) plain = (bytes, inr (text, inl is, front))
+job_failed job old new fault h plain = failed (IsJobText job) (BeginsJobText job) (prints job) old new fault h plain
 
 -- a job for whose line there is no memory
-pub job_unsaid : (job : ImageJob) (old new : Option (List ℕ)) (fault : CommandFault) (done : Ending) → DoesJob job old new (Err fault) → IsErrAnd done (λ told. told ≡ Memory) → TellsJob job old new done
+pub job_unsaid : (job : ImageJob) (old new : Option (List ℕ)) (fault : CommandFault) (ended : Ending) → DoesJob job old new (Err fault) → IsErrAnd ended (λ told. told ≡ Memory) → TellsJob job old new ended
 job_unsaid job old new fault (Ok x) h same = absurd same
-job_unsaid job old new fault (Err told) h same = subst (λ (f : CommandFault). TellsJob job old new (Err f)) (sym same) (go job fault h)
-  where
-    go : (j : ImageJob) (f : CommandFault) → DoesJob j old new (Err f) → TellsJob j old new (Err Memory)
-    go (Extract job) f keeps = inl keeps
-    go (Change job) f keeps = inl keeps
-    go (Boot image other file) f keeps = inl keeps
-    go (Serve job) f d = tt
-    go j (Refused refusal) d = (d.0, inl d.1.1)
-    go j (Dos refusal) d = (d.0, inl d.1)
-    go j f (bytes, inl keeps) = (bytes, inl keeps)
-    go j f (bytes, inr (text, is, front)) = (bytes, inr (text, inl is, front))
+job_unsaid job old new fault (Err told) h same =
+    subst (λ (f : CommandFault). TellsJob job old new (Err f)) (sym same) (unsaid (IsJobText job) (BeginsJobText job) (prints job) old new fault h)
+
+-- a job that is done
+pub job_done : (job : ImageJob) (old new : Option (List ℕ)) (x : Unit {0}) → DoesJob job old new (Ok x) → TellsJob job old new (Ok x)
+job_done job old new x h = done (IsJobText job) (BeginsJobText job) (prints job) old new x h

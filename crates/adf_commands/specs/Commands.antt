@@ -7,6 +7,8 @@ use Rattle.adf_jobs.specs.declared.job.ImageJob.{ImageJob}
 use Rattle.adf_jobs.specs.declared.job.ImageJob.TheVariants.{Extract, Change, Boot, Serve}
 use Rattle.adf_commands.specs.declared.fault.CommandFault.{CommandFault}
 use Rattle.adf_commands.specs.declared.fault.CommandFault.TheVariants.{Dos, Refused}
+use Rattle.adf_commands.specs.Texts.{BeginsJobText, IsJobText}
+use Rattle.adf_commands.specs.Faults.{status_of}
 use Rattle.adf_commands.specs.Refusals.{IsDosText, IsRefusalText, dos_line, refusal_line, told_line}
 
 -- how a command ends: done, or with a fault
@@ -24,14 +26,31 @@ abbrev pub TellsOf : (IsText BeginsText : List ℕ → List ℕ → Type 0) → 
 TellsOf IsText BeginsText bytes old new result =
     MatchResult result (λ _. Writes old new (IsText bytes)) (LeavesOff (BeginsText bytes) bytes old new)
 
--- what a job comes to before a refusal is printed, by some bytes of its file: those that extract, change and boot print nothing, and
--- of `serve` nothing is said
+-- what is told of some bytes
+abbrev pub TellsSome : (IsText BeginsText : List ℕ → List ℕ → Type 0) → Option (List ℕ) → Option (List ℕ) → Ending → Type 0
+TellsSome IsText BeginsText old new result = (bytes : List ℕ) × TellsOf IsText BeginsText bytes old new result
+
+-- what a job prints: nothing but the line of its fault, a text of the bytes of its file, or what nothing is said of
+pub data Prints : Type 0 where
+  OnlyFaults : Prints
+  OfBytes : Prints
+  Unsaid : Prints
+
+abbrev pub prints : ImageJob → Prints
+prints (Extract job) = OnlyFaults
+prints (Change job) = OnlyFaults
+prints (Boot image out file) = OnlyFaults
+prints (Serve job) = Unsaid
+prints job = OfBytes
+
+-- what such a job comes to before a refusal is printed
+abbrev pub Does : Prints → (IsText BeginsText : List ℕ → List ℕ → Type 0) → Option (List ℕ) → Option (List ℕ) → Ending → Type 0
+Does OnlyFaults IsText BeginsText old new result = Keeps old new
+Does OfBytes IsText BeginsText old new result = TellsSome IsText BeginsText old new result
+Does Unsaid IsText BeginsText old new result = ⊤
+
 abbrev pub DoesJob : ImageJob → Option (List ℕ) → Option (List ℕ) → Ending → Type 0
-DoesJob (Extract job) old new result = Keeps old new
-DoesJob (Change job) old new result = Keeps old new
-DoesJob (Boot image out file) old new result = Keeps old new
-DoesJob (Serve job) old new result = ⊤
-DoesJob job old new result = (bytes : List ℕ) × TellsOf (IsJobText job) (BeginsJobText job) bytes old new result
+DoesJob job = Does (prints job) (IsJobText job) (BeginsJobText job)
 
 -- a fault ends a command: bytes that are refused are told as such; else nothing is written, or a front of its text or of a refusal's
 abbrev pub EndsOff : (List ℕ → Type 0) → List ℕ → Option (List ℕ) → Option (List ℕ) → CommandFault → Type 0
@@ -49,14 +68,20 @@ TellsFault old new (Ok done) = Keeps old new
 TellsFault old new (Err fault) =
     MatchOption (told_line fault) (Keeps old new ⊎ WritesFrontOf old new IsToldLine) (λ line. Writes old new (λ text. text ≡ line))
 
--- what a job comes to, by some bytes of its file; of `serve` nothing is said
+-- a text of bytes, or their refusal, or how a fault ends that
+abbrev pub EndsSome : (IsText BeginsText : List ℕ → List ℕ → Type 0) → Option (List ℕ) → Option (List ℕ) → Ending → Type 0
+EndsSome IsText BeginsText old new result =
+    (bytes : List ℕ) × MatchResult result (λ _. Writes old new (IsText bytes)) (EndsOff (BeginsText bytes) bytes old new)
+
+-- what a job that prints so comes to
+abbrev pub Tells : Prints → (IsText BeginsText : List ℕ → List ℕ → Type 0) → Option (List ℕ) → Option (List ℕ) → Ending → Type 0
+Tells OnlyFaults IsText BeginsText old new result = TellsFault old new result
+Tells OfBytes IsText BeginsText old new result = EndsSome IsText BeginsText old new result
+Tells Unsaid IsText BeginsText old new result = ⊤
+
+-- what a job comes to
 abbrev pub TellsJob : ImageJob → Option (List ℕ) → Option (List ℕ) → Ending → Type 0
-TellsJob (Extract job) old new result = TellsFault old new result
-TellsJob (Change job) old new result = TellsFault old new result
-TellsJob (Boot image out file) old new result = TellsFault old new result
-TellsJob (Serve job) old new result = ⊤
-TellsJob job old new result =
-    (bytes : List ℕ) × MatchResult result (λ _. Writes old new (IsJobText job bytes)) (EndsOff (BeginsJobText job bytes) bytes old new)
+TellsJob job = Tells (prints job) (IsJobText job) (BeginsJobText job)
 
 abbrev pub exit_status : Ending → ℕ
 exit_status (Ok done) = 0

@@ -20,6 +20,7 @@ use Rattle.adf_listing.specs.Info.{info_text}
 use Rattle.adf_listing.specs.Listing.{BeginsList, IsList}
 use Rattle.adf_jobs.specs.declared.job.ImageJob.{ImageJob}
 use Rattle.adf_jobs.specs.declared.job.ImageJob.TheVariants.{Info, Check, List as ListOf, Print}
+use Rattle.adf_jobs.specs.declared.reading.ListJob.{ListJob}
 use Rattle.files_out.specs.Words.{LeadsTo}
 
 -- 1 January 1978
@@ -59,6 +60,13 @@ IsListText path as_letters = OfAccepted (λ was_validated checked t text. (dir :
 abbrev pub BeginsListText : Option (List ℕ) → Bool → List ℕ → List ℕ → Type 0
 BeginsListText path as_letters = OfAccepted (λ was_validated checked t text. (dir : ℕ) × IsListed t path dir × BeginsList t dir as_letters text)
 
+-- the list that is asked for
+abbrev pub IsListOf : ListJob → List ℕ → List ℕ → Type 0
+IsListOf job = IsListText (option_map (λ word. word.now) job.path) job.letters
+
+abbrev pub BeginsListOf : ListJob → List ℕ → List ℕ → Type 0
+BeginsListOf job = BeginsListText (option_map (λ word. word.now) job.path) job.letters
+
 -- the bytes of the file to which a word leads
 abbrev pub IsPrintText : List ℕ → List ℕ → List ℕ → Type 0
 IsPrintText word = OfAccepted (λ was_validated checked t text. (key : ℕ) × LeadsTo t word key × (is_file t key ≡ true) × (text ≡ bytes_of t key))
@@ -67,12 +75,12 @@ IsPrintText word = OfAccepted (λ was_validated checked t text. (key : ℕ) × L
 abbrev pub IsJobText : ImageJob → List ℕ → List ℕ → Type 0
 IsJobText (Info file) = IsInfoText
 IsJobText (Check file) = IsCheckText
-IsJobText (ListOf job) = IsListText (option_map (λ word. word.now) job.path) job.letters
+IsJobText (ListOf job) = IsListOf job
 IsJobText (Print image path) = IsPrintText path.now
 IsJobText job = λ bytes text. text ≡ []
 
 abbrev pub BeginsJobText : ImageJob → List ℕ → List ℕ → Type 0
-BeginsJobText (ListOf job) = BeginsListText (option_map (λ word. word.now) job.path) job.letters
+BeginsJobText (ListOf job) = BeginsListOf job
 BeginsJobText job = IsJobText job
 
 -- a DISK_INFO that is put, served at the first moment, and taken by client 1

@@ -1,10 +1,10 @@
 //! The commands `info` and `check`.
 ghost use Rattle.std.specs.Prelude.{◌≡◌, IfOk};
 ghost use Rattle.adf_commands.specs.Texts.{check_line, disk_info_steps, IsCheckText, IsInfoText};
-ghost use Rattle.adf_commands.specs.Commands.{TellsOf};
+ghost use Rattle.adf_commands.specs.Commands.{TellsOf, TellsSome};
 
 use crate::fault::CommandFault;
-use crate::images::accept;
+use crate::images::{accept, read_image};
 use crate::output::tell;
 use adf_block::Image;
 use adf_listing::write_info;
@@ -15,6 +15,7 @@ use ados_run::run_volume;
 use ados_volume::Volume;
 use std::alloc::{AllocError, Global};
 use std::io::Write;
+use std::rt::Files;
 
 /// 1 January 1978.
 pub const FIRST_MOMENT: Date3 = Date3 {
@@ -23,8 +24,21 @@ pub const FIRST_MOMENT: Date3 = Date3 {
     ticks: 0,
 };
 
+/// Tells whether the image of a file is accepted.
+pub(crate) fn print_check<'a, R: Files, W: Write>(
+    rt: &R,
+    alloc: Global,
+    file: &'a str,
+    writer: &mut W,
+) -> Result<(), CommandFault<'a>>
+    ensures { TellsSome IsCheckText IsCheckText (W.contents writer.old) (W.contents writer.new) result }
+{
+    let image = read_image(rt, alloc, file)?;
+    tell_check(alloc, image, writer)
+}
+
 /// Tells whether an image is accepted.
-pub(crate) fn tell_check<'a, W: Write>(
+fn tell_check<'a, W: Write>(
     alloc: Global,
     image: Image,
     writer: &mut W,
@@ -46,8 +60,21 @@ fn accepted(volume: &Volume) -> &'static str
     }
 }
 
+/// Tells what DISK_INFO answers over the image of a file, and whether its boot blocks run.
+pub(crate) fn print_info<'a, R: Files, W: Write>(
+    rt: &R,
+    alloc: Global,
+    file: &'a str,
+    writer: &mut W,
+) -> Result<(), CommandFault<'a>>
+    ensures { TellsSome IsInfoText IsInfoText (W.contents writer.old) (W.contents writer.new) result }
+{
+    let image = read_image(rt, alloc, file)?;
+    tell_info(alloc, image, writer)
+}
+
 /// Tells what DISK_INFO answers over an image, and whether its boot blocks run.
-pub(crate) fn tell_info<'a, W: Write>(
+fn tell_info<'a, W: Write>(
     alloc: Global,
     image: Image,
     writer: &mut W,

@@ -4,9 +4,8 @@ ghost use Rattle.adf_commands.specs.Commands.{DoesJob, TellsJob};
 use crate::blank::{blank_volume, write_new};
 use crate::changing::{boot, change};
 use crate::fault::CommandFault;
-use crate::images::read_image;
-use crate::info::{tell_check, tell_info};
-use crate::moving::{take_out, tell_bytes, tell_list};
+use crate::info::{print_check, print_info};
+use crate::moving::{print_bytes, print_list, take_out};
 use crate::output::tell;
 use crate::serving::serve;
 use adf_jobs::ImageJob;
@@ -70,15 +69,10 @@ where
             let volume = blank_volume(alloc, format, blocks, name, letters, moment)?;
             write_new(rt, alloc, &volume, file)
         }
-        ImageJob::Info { file } => tell_info(alloc, read_image(rt, alloc, file)?, writer),
-        ImageJob::Check { file } => tell_check(alloc, read_image(rt, alloc, file)?, writer),
-        ImageJob::List(job) => {
-            let image = read_image(rt, alloc, job.image)?;
-            tell_list(alloc, image, job.path, job.letters, writer)
-        }
-        ImageJob::Print { image, path } => {
-            tell_bytes(alloc, read_image(rt, alloc, image)?, path, writer)
-        }
+        ImageJob::Info { file } => print_info(rt, alloc, file, writer),
+        ImageJob::Check { file } => print_check(rt, alloc, file, writer),
+        ImageJob::List(job) => print_list(rt, alloc, &job, writer),
+        ImageJob::Print { image, path } => print_bytes(rt, alloc, image, path, writer),
         ImageJob::Extract(job) => take_out(rt, alloc, &job),
         ImageJob::Change(job) => change(rt, alloc, job, faults),
         ImageJob::Boot { image, out, file } => boot(rt, alloc, image, out, file),

@@ -3,12 +3,12 @@ ghost use Rattle.std.specs.Prelude.{◌≡◌, IfErr, IfOk, option_map};
 ghost use Rattle.ados_tree.specs.Keys.{HasDirectory};
 ghost use Rattle.ados_tree.specs.Stands.{Stands};
 ghost use Rattle.ados_tree.specs.Tree.{Tree};
-ghost use Rattle.adf_commands.specs.Texts.{BeginsListText, IsListed, IsListText, IsPrintText};
+ghost use Rattle.adf_commands.specs.Texts.{BeginsListOf, IsListed, IsListOf, IsPrintText};
 ghost use Rattle.adf_commands.specs.Faults.{IsNoImageRefusal};
-ghost use Rattle.adf_commands.specs.Commands.{TellsOf};
+ghost use Rattle.adf_commands.specs.Commands.{TellsOf, TellsSome};
 
 use crate::fault::CommandFault;
-use crate::images::{accept, open_volume};
+use crate::images::{accept, open_volume, read_image};
 use crate::refusal::DosRefusal;
 use adf_block::Image;
 use adf_jobs::{ExtractJob, ListJob};
@@ -21,19 +21,31 @@ use std::alloc::Global;
 use std::io::Write;
 use std::rt::Files;
 
-/// Tells the directories and files below a directory of an image.
-pub(crate) fn tell_list<'a, W: Write>(
+/// Tells the directories and files below a directory of the image of a file.
+pub(crate) fn print_list<'a, R: Files, W: Write>(
+    rt: &R,
     alloc: Global,
-    image: Image,
-    path: Option<&'a str>,
-    letters: bool,
+    job: &ListJob<'a>,
     writer: &mut W,
 ) -> Result<(), CommandFault<'a>>
-    ensures { TellsOf (IsListText (option_map (λ word. word.now) path.entry) letters) (BeginsListText (option_map (λ word. word.now) path.entry) letters) image (W.contents writer.old) (W.contents writer.new) result }
+    ensures { TellsSome (IsListOf job.now) (BeginsListOf job.now) (W.contents writer.old) (W.contents writer.new) result }
+{
+    let image = read_image(rt, alloc, job.image)?;
+    tell_list(alloc, image, job, writer)
+}
+
+/// Tells the directories and files below a directory of an image.
+fn tell_list<'a, W: Write>(
+    alloc: Global,
+    image: Image,
+    job: &ListJob<'a>,
+    writer: &mut W,
+) -> Result<(), CommandFault<'a>>
+    ensures { TellsOf (IsListOf job.now) (BeginsListOf job.now) image (W.contents writer.old) (W.contents writer.new) result }
 {
     let mut volume = accept(alloc, image)?;
-    let dir = listed_directory(alloc, &mut volume, path)?;
-    match write_list(alloc, &volume, dir, letters, writer) {
+    let dir = listed_directory(alloc, &mut volume, job.path)?;
+    match write_list(alloc, &volume, dir, job.letters, writer) {
         Ok(()) => Ok(()),
         Err(fault) => Err(CommandFault::from(fault)),
     }
@@ -79,8 +91,22 @@ fn no_directory<'a>(alloc: Global, word: &'a str) -> CommandFault<'a>
     }
 }
 
+/// Tells the bytes of a file of the image of a file.
+pub(crate) fn print_bytes<'a, R: Files, W: Write>(
+    rt: &R,
+    alloc: Global,
+    image: &'a str,
+    path: &'a str,
+    writer: &mut W,
+) -> Result<(), CommandFault<'a>>
+    ensures { TellsSome (IsPrintText path.now) (IsPrintText path.now) (W.contents writer.old) (W.contents writer.new) result }
+{
+    let image = read_image(rt, alloc, image)?;
+    tell_bytes(alloc, image, path, writer)
+}
+
 /// Tells the bytes of a file of an image.
-pub(crate) fn tell_bytes<'a, W: Write>(
+fn tell_bytes<'a, W: Write>(
     alloc: Global,
     image: Image,
     path: &'a str,

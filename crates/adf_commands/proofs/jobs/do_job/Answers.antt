@@ -1,26 +1,6 @@
 use Rattle.std.proofs.Common.{subst, sym}
-use Rattle.adf_commands.proofs.Printing.{PrintsNothing, blank_no_refusal, job_silent, job_silent_fault, job_without_image}
+use Rattle.adf_commands.proofs.Printing.{PrintsNothing, blank_no_refusal, job_silent, job_silent_fault}
 use Rattle.adf_commands.proofs.jobs.do_job.Goals as goal
-
-pub returns-in_err-read_image-in-Info : goal.returns-in_err-read_image-in-Info
-returns-in_err-read_image-in-Info g c =
-    let told = c.from_residual-in_err-read_image-in-Info.ensures.1 in
-    job_without_image c.args.job _ c.in_err-read_image-in-Info.field-0.0 _ c.in_err-read_image-in-Info.ensures told
-
-pub returns-in_err-read_image-in-Check : goal.returns-in_err-read_image-in-Check
-returns-in_err-read_image-in-Check g c =
-    let told = c.from_residual-in_err-read_image-in-Check.ensures.1 in
-    job_without_image c.args.job _ c.in_err-read_image-in-Check.field-0.0 _ c.in_err-read_image-in-Check.ensures told
-
-pub returns-in_err-image-in-List : goal.returns-in_err-image-in-List
-returns-in_err-image-in-List g c =
-    let told = c.from_residual-in_err-image-in-List.ensures.1 in
-    job_without_image c.args.job _ c.in_err-image-in-List.field-0.0 _ c.in_err-image-in-List.ensures told
-
-pub returns-in_err-read_image-in-Print : goal.returns-in_err-read_image-in-Print
-returns-in_err-read_image-in-Print g c =
-    let told = c.from_residual-in_err-read_image-in-Print.ensures.1 in
-    job_without_image c.args.job _ c.in_err-read_image-in-Print.field-0.0 _ c.in_err-read_image-in-Print.ensures told
 
 pub returns-in_err-volume-in-Blank : goal.returns-in_err-volume-in-Blank
 returns-in_err-volume-in-Blank g c =

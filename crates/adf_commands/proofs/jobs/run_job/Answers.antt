@@ -15,11 +15,11 @@ pub returns-in_err-tell : goal.returns-in_err-tell
 returns-in_err-tell g c =
     let tells = some_told string_bytes _ c.in-Some.text _ c.in_ok-line.ensures c.in-Some.is in
     let front = subst (λ (l : List ℕ). WritesFront (g.W.Write.contents c.do_job.new.writer) (g.W.Write.contents c.tell.new.writer) l) c.as_bytes.ensures.value c.in_err-tell.ensures.front in
-    job_broken _ _ _ c.args.job c.in-Err.fault (string_bytes c.in-Some.text) c.in_err-tell.field-0.0 _ tells c.in-Err.ensures front
+    job_broken c.args.job _ _ _ (string_bytes c.in-Some.text) c.in-Err.fault c.in_err-tell.field-0.0 _ tells c.in-Err.ensures front
     c.in_err-tell.ensures.no_refusal c.from_residual-in_err-tell.ensures.1
 
 pub returns : goal.returns
 returns g c =
     let tells = some_told string_bytes _ c.in-Some.text _ c.in_ok-line.ensures c.in-Some.is in
     let told = subst (λ (l : List ℕ). Appends (g.W.Write.contents c.do_job.new.writer) (g.W.Write.contents c.tell.new.writer) l) c.as_bytes.ensures.value c.in_ok-tell.ensures.ok in
-    job_told _ _ _ c.args.job c.in-Err.fault (string_bytes c.in-Some.text) tells c.in-Err.ensures told
+    job_told c.args.job _ _ _ (string_bytes c.in-Some.text) c.in-Err.fault tells c.in-Err.ensures told
