@@ -17,7 +17,8 @@ use Rattle.adf_script.specs.Streams.{ReadsAndWrites}
 use Rattle.adf_script.specs.Text.{fault_line}
 use Rattle.adf_script.specs.Told.{LinesTell, Told}
 use Rattle.adf_script.specs.Told.LinesTell.{ended, answered, closed, faulty}
-use Rattle.adf_serve.specs.Script.{RunsScript, first_moment}
+use Rattle.adf_commands.specs.Texts.{first_moment}
+use Rattle.adf_serve.specs.Script.{RunsScript}
 use Rattle.adf_serve.proofs.Blank.{work_stands}
 
 lines_follow_trees : {port : PortState HandlerState Packet Answer} {lines : List (ℕ × List ℕ)} {values : List (Option ℕ)} {next : ℕ} {text : List ℕ} {whole : Bool}

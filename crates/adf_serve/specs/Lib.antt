@@ -1,4 +1,3 @@
--- Over which floppy the program runs a script, and what it then tells; what its commands print of images, and how they end.
+-- Over which floppy the program runs a script, and what it then tells; how a command line ends.
 pub mod Script
-pub mod Refusals
 pub mod Commands

@@ -1,17 +1,13 @@
 -- What the program tells of a script.
 use Rattle.std.specs.Prelude.{ℕ, Bool, List, Option, codes}
 use Rattle.adf_block.specs.declared.Format.TheVariants.{Ffs}
-use Rattle.ados_name.specs.declared.Date3.{Date3}
 use Rattle.ados_tree.specs.Blank.{blank_tree}
 use Rattle.ados_port.specs.Port.{opening_port}
 use Rattle.ados_handler.specs.Session.{opening_session}
 use Rattle.ados_run.specs.TreePort.{TreeState, means, tree_died}
 use Rattle.adf_script.specs.Streams.{ReadsAndWrites}
 use Rattle.adf_script.specs.Told.{Told}
-
--- 1 January 1978
-abbrev pub first_moment : Date3
-first_moment = record { days = 0; minutes = 0; ticks = 0 }
+use Rattle.adf_commands.specs.Texts.{first_moment}
 
 -- a blank double-density floppy of the Fast File System with the name `Work`, made at the first moment, with nothing held
 abbrev pub work_floppy : TreeState

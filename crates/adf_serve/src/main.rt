@@ -1,14 +1,7 @@
 //! An AmigaDOS file system handler for floppy images, as a program.
 #![tactic(auto)]
 
-mod changing;
-mod commands;
-mod fault;
-mod images;
-mod moving;
-mod refusal;
 mod script;
-mod serving;
 mod words;
 
 use adf_words::given_words;

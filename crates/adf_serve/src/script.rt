@@ -3,22 +3,17 @@ ghost use Rattle.std.specs.Prelude.{◌≡◌, true, false, codes, IfOk, OnOk};
 ghost use Rattle.adf_block.specs.declared.Format.TheVariants.{Ffs};
 ghost use Rattle.ados_tree.specs.Blank.{IsBlank};
 ghost use Rattle.ados_handler.specs.Session.{opening_session};
-ghost use Rattle.adf_serve.specs.Script.{RunsScript, first_moment};
+ghost use Rattle.adf_commands.specs.Texts.{first_moment};
+ghost use Rattle.adf_serve.specs.Script.{RunsScript};
 
 use adf_block::Format;
+use adf_commands::FIRST_MOMENT;
 use adf_script::{TryFault, run_script};
 use ados_handler::Handler;
-use ados_name::{Date3, Name};
+use ados_name::Name;
 use ados_volume::blank;
 use std::alloc::{AllocError, Global};
 use std::io::{Read, Write};
-
-/// 1 January 1978.
-pub(crate) const FIRST_MOMENT: Date3 = Date3 {
-    days: 0,
-    minutes: 0,
-    ticks: 0,
-};
 
 /// The blocks of a double-density floppy.
 const BLOCKS: u32 = 1_760;

@@ -60,118 +60,75 @@ fn want_of_memory(rt: HostRuntime) {
     }
 }
 
-/// Scripts, how each ends and what it prints.
-const SMALL: [(&str, Result<(), TryFault>, &str); 23] = [
-    ("", WHOLE, ""),
-    (
-        "diskinfo\nfoo\ndiskinfo\n",
-        FAULTY,
-        "1.1 -1 0 82 1758 2 512 444f5301\n1 fault line 2\n",
-    ),
-    ("other 5", WHOLE, "1.1 0 209\n"),
-    // Lines that are passed over.
-    ("\n\n# remark\n", WHOLE, ""),
-    ("\n#\n\nother 7\n", WHOLE, "1.1 0 209\n"),
-    ("# one\n\nfoo", FAULTY, "1 fault line 3\n"),
-    (" # remark\n", FAULTY, "1 fault line 1\n"),
-    ("die\r\n", FAULTY, "1 fault line 1\n"),
-    // Behind a DIE.
-    ("die", WHOLE, "1.1 -1 0\n"),
-    ("die\n\n# end\n", WHOLE, "1.1 -1 0\n"),
-    ("die\nfoo\n", FAULTY, "1.1 -1 0\n1 fault line 2\n"),
-    ("die\ndie\nfoo\n", WHOLE, "1.1 -1 0\n1.2 closed\n"),
-    // Numbers at their ends, with zeros in front and with a sign.
-    ("other -0", WHOLE, "1.1 0 209\n"),
-    ("other 0005", WHOLE, "1.1 0 209\n"),
-    ("other -0005", WHOLE, "1.1 0 209\n"),
-    ("other 2147483647", WHOLE, "1.1 0 209\n"),
-    ("other -2147483648", WHOLE, "1.1 0 209\n"),
-    ("other 00000000000000000000000000001", WHOLE, "1.1 0 209\n"),
-    ("free 4294967295", WHOLE, "1.1 0 211\n"),
-    // The values of replies: a first result that is negative is none.
-    (
-        "other 5\nfree $1\nfree $01\n",
-        WHOLE,
-        "1.1 0 209\n1.2 -1 0\n1.3 -1 0\n",
-    ),
-    ("free 0\nfree $1\n", FAULTY, "1.1 -1 0\n1 fault line 2\n"),
-    // The longest buffer.
-    ("read 1 1048576\n", WHOLE, "1.1 -1 211\n"),
-    ("read 1 1048577\n", FAULTY, "1 fault line 1\n"),
-];
+/// Scripts, each behind how it ends and before what it prints, with `~` for the end of a line.
+const SMALL: &str = "\
+whole||
+fault|diskinfo~foo~diskinfo~|1.1 -1 0 82 1758 2 512 444f5301~1 fault line 2~
+whole|other 5|1.1 0 209~
+whole|~~# remark~|
+whole|~#~~other 7~|1.1 0 209~
+fault|# one~~foo|1 fault line 3~
+fault| # remark~|1 fault line 1~
+fault|die\r~|1 fault line 1~
+whole|die|1.1 -1 0~
+whole|die~~# end~|1.1 -1 0~
+fault|die~foo~|1.1 -1 0~1 fault line 2~
+whole|die~die~foo~|1.1 -1 0~1.2 closed~
+whole|other -0|1.1 0 209~
+whole|other 0005|1.1 0 209~
+whole|other -0005|1.1 0 209~
+whole|other 2147483647|1.1 0 209~
+whole|other -2147483648|1.1 0 209~
+whole|other 00000000000000000000000000001|1.1 0 209~
+whole|free 4294967295|1.1 0 211~
+whole|other 5~free $1~free $01~|1.1 0 209~1.2 -1 0~1.3 -1 0~
+fault|free 0~free $1~|1.1 -1 0~1 fault line 2~
+whole|read 1 1048576~|1.1 -1 211~
+fault|read 1 1048577~|1 fault line 1~";
 
+/// Lines that are passed over or stand behind a DIE, numbers at their ends, with zeros in front and with a sign, values of
+/// replies (a first result that is negative is none), and the longest buffer.
 #[test]
 fn small_scripts(rt: HostRuntime) -> Result<(), Fail> {
-    for (script, ending, text) in SMALL {
-        tells(&rt, rt.alloc(), script, ending, text)?;
+    for row in SMALL.split('\n') {
+        tells_row(&rt, rt.alloc(), row)?;
     }
     Ok(())
 }
 
-/// Lines that spell no packet behind a reply with the value 0.
-const FAULTY_LINES: [&str; 56] = [
-    "other",
-    "other ",
-    "other -",
-    "other --5",
-    "other +5",
-    "other 2147483648",
-    "other -2147483649",
-    "other 5 ",
-    "other  5",
-    "other 5 6",
-    "other 0x5",
-    "other $1",
-    "other \"5\"",
-    "other \u{665}",
-    " other 5",
-    "Other 5",
-    "others 5",
-    "die ",
-    "die 1",
-    "\t",
-    "free",
-    "free -1",
-    "free +1",
-    "free 4294967296",
-    "free 1 2",
-    "free \"1\"",
-    "free $",
-    "free $0",
-    "free $2",
-    "free $-1",
-    "free $$1",
-    "free $ 1",
-    "next 1",
-    "same 1 2 3",
-    "locate 1 \"a\"",
-    "locate 1 -2147483649 \"a\"",
-    "locate 1 $1 \"a\"",
-    "locate 1 -1 \"a\" ",
-    "delete 1 a",
-    "delete 1 \"a",
-    "delete 1 \"a\"b",
-    "delete 1 \"a\"\"",
-    "delete 1\"a\"",
-    "delete \"a\"",
-    "rename 1 \"a\" \"b\"",
-    "protect 1 \"a\" -1",
-    "protect 1 \"a\" $1",
-    "date 1 \"a\" 1 2",
-    "date 1 \"a\" 1 2 3 4",
-    "seek 1 2",
-    "size 1 2 3 4",
-    "read 1 -1",
-    "read 1 $1",
-    "write 1 2",
-    "rename-disk",
-    "rename-disk a",
-];
+/// Runs the script of a row.
+fn tells_row(rt: &impl Abort, alloc: Global, row: &str) -> Result<(), Fail> {
+    let mut parts = row.split('|');
+    let (Some(ending), Some(script), Some(text)) = (parts.next(), parts.next(), parts.next()) else {
+        return Err(Fail::from("a row without three parts"));
+    };
+    let ending = if ending == "whole" { WHOLE } else { FAULTY };
+    let (script, text) = (unfolded(alloc, script)?, unfolded(alloc, text)?);
+    tells(rt, alloc, &script, ending, &text)
+}
+
+/// A text with ends of lines in place of `~`.
+fn unfolded(alloc: Global, text: &str) -> Result<String, Fail> {
+    let mut lines = String::new(alloc);
+    for letter in text.chars() {
+        lines.push(if letter == '~' { '\n' } else { letter })?;
+    }
+    Ok(lines)
+}
+
+/// Lines that spell no packet behind a reply with the value 0, with `|` between them.
+const FAULTY_LINES: &str = "\
+other|other |other -|other --5|other +5|other 2147483648|other -2147483649|other 5 |other  5|other 5 6|other 0x5|\
+other $1|other \"5\"|other \u{665}| other 5|Other 5|others 5|die |die 1|\t|free|free -1|free +1|free 4294967296|free 1 2|\
+free \"1\"|free $|free $0|free $2|free $-1|free $$1|free $ 1|next 1|same 1 2 3|locate 1 \"a\"|locate 1 -2147483649 \"a\"|\
+locate 1 $1 \"a\"|locate 1 -1 \"a\" |delete 1 a|delete 1 \"a|delete 1 \"a\"b|delete 1 \"a\"\"|delete 1\"a\"|delete \"a\"|\
+rename 1 \"a\" \"b\"|protect 1 \"a\" -1|protect 1 \"a\" $1|date 1 \"a\" 1 2|date 1 \"a\" 1 2 3 4|seek 1 2|size 1 2 3 4|\
+read 1 -1|read 1 $1|write 1 2|rename-disk|rename-disk a";
 
 #[test]
 fn faulty_lines(rt: HostRuntime) -> Result<(), Fail> {
     let alloc = rt.alloc();
-    for line in FAULTY_LINES {
+    for line in FAULTY_LINES.split('|') {
         let script = format!(in alloc; "other 5\n{line}\nother 5\n")?;
         let text = "1.1 0 209\n1 fault line 2\n";
         tells(&rt, alloc, &script, FAULTY, text)?;

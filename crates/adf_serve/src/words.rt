@@ -1,11 +1,10 @@
 //! The program's words.
 ghost use Rattle.std.specs.Prelude.{◌≡◌, ◌≢◌, ◌⊎◌, [], true, false};
-ghost use Rattle.adf_serve.specs.Commands.{RunsCommand, exit_status};
+ghost use Rattle.adf_serve.specs.Commands.{RunsCommand};
 ghost use Rattle.adf_serve.specs.Script.{RunsScript};
 
-use crate::commands::run_job;
-use crate::fault::CommandFault;
 use crate::script::try_script;
+use adf_commands::{run_job, status_of};
 use adf_jobs::Job;
 use adf_script::TryFault;
 use adf_words::{WordsFault, read_words};
@@ -59,21 +58,8 @@ pub fn tell_wrong_words<F: Write>(fault: WordsFault, faults: &mut F) -> u8
             1
         }
         WordsFault::Memory => {
-            tell_fault(&CommandFault::Memory, faults);
+            tell_fault(TryFault::Memory, faults);
             2
-        }
-    }
-}
-
-/// The exit status of a command, which tells a person of its fault.
-fn status_of<F: Write>(done: Result<(), CommandFault<'_>>, faults: &mut F) -> u8
-    ensures { result ≡ exit_status done.entry }
-{
-    match done {
-        Ok(()) => 0,
-        Err(fault) => {
-            tell_fault(&fault, faults);
-            fault.status()
         }
     }
 }
@@ -92,15 +78,20 @@ fn run_script<R: Read, W: Write, F: Write>(
         Ok(()) => 0,
         Err(TryFault::Script) => 3,
         Err(fault) => {
-            tell_fault(&CommandFault::from(fault), faults);
+            tell_fault(fault, faults);
             2
         }
     }
 }
 
-/// Tells a person of a fault, but of a refused image and a faulty script, of which standard output tells all.
-fn tell_fault<F: Write>(fault: &CommandFault<'_>, faults: &mut F) {
-    if !matches!(fault, CommandFault::Refused(_) | CommandFault::Script) {
-        let _ = write!(faults, "adf_serve: {fault}\n");
-    }
+/// Tells a person why a script was not run, but of a faulty one, of which standard output tells all.
+fn tell_fault<F: Write>(fault: TryFault, faults: &mut F) {
+    let text = match fault {
+        TryFault::Script => return,
+        TryFault::Read => "standard input cannot be read",
+        TryFault::Write => "standard output cannot be written",
+        TryFault::Memory => "there is not enough memory",
+        TryFault::TurnLimit => "standard input does not end",
+    };
+    let _ = write!(faults, "adf_serve: {text}\n");
 }

@@ -1,0 +1,284 @@
+-- What is told of an image, whole or as far as it goes.
+use Rattle.std.proofs.Common.{◌≡◌, ℕ, inl, inr, Bool, true, false, List, [], ◌++◌, Option, Some, None, option_map, Ok, Err, OnOk, OnErr, IfErr, IsErrAnd, refl, sym, ap, ◌∙◌, subst}
+use Rattle.std.specs.Prelude.{⊤}
+use Rattle.std.specs.Io.KnownBytes.{Appends, Keeps}
+use Rattle.std.proofs.KnownBytes.{Appends-nil, Keeps-refl}
+use Rattle.ados_tree.specs.Accepted.{Accepts, IsRefusal}
+use Rattle.ados_tree.specs.Faults.{Shows}
+use Rattle.ados_tree.specs.Stands.{Stands}
+use Rattle.ados_tree.specs.Tree.{Tree, bytes_of}
+use Rattle.ados_tree.specs.declared.fault.VolumeFault.{VolumeFault}
+use Rattle.ados_run.specs.Runs.{IsRunFault}
+use Rattle.ados_run.specs.declared.run.RunFault.{RunFault}
+use Rattle.ados_run.specs.declared.run.RunFault.TheVariants as of_run
+use Rattle.adf_script.specs.Streams.{Writes}
+use Rattle.adf_listing.specs.Fronts.{WritesFront, WritesFrontOf}
+use Rattle.adf_listing.specs.Listing.{BeginsList, IsList}
+use Rattle.adf_jobs.specs.declared.job.ImageJob.{ImageJob}
+use Rattle.adf_jobs.specs.declared.job.ImageJob.TheVariants.{Blank}
+use Rattle.files_out.specs.declared.fault.OutFault.{OutFault}
+use Rattle.files_out.specs.declared.fault.OutFault.TheVariants as out
+use Rattle.files_out.specs.Printing.{IsPrinted, IsPrintFault}
+use Rattle.adf_listing.proofs.Fronts.{writes_first}
+use Rattle.adf_commands.specs.declared.fault.CommandFault.{CommandFault}
+use Rattle.adf_commands.specs.declared.fault.CommandFault.TheVariants.{Dos, Memory, Output, Refused}
+use Rattle.adf_commands.specs.declared.refusal.Refusal.{Refusal}
+use Rattle.adf_commands.specs.declared.refusal.DosRefusal.{DosRefusal}
+use Rattle.adf_commands.specs.Texts.{BeginsJobText, BeginsListText, check_line, IsCheckText, IsJobText, IsListed, IsListText, IsPrintText}
+use Rattle.adf_commands.specs.Faults.{IsBlankFault, IsNoImage, IsNoImageRefusal, IsNoRefusal, IsRefusedFor, IsToldAs, IsToldOut, IsToldRun}
+use Rattle.adf_commands.specs.Commands.{Does, DoesJob, Ending, EndsOff, LeavesOff, Prints, Tells, TellsFault, TellsJob, TellsOf, TellsSome}
+use Rattle.adf_commands.specs.Commands.Prints.{OnlyFaults, OfBytes, Unsaid}
+use Rattle.adf_commands.specs.Refusals.{dos_line, IsDosText, IsRefusalText, refusal_line, told_line}
+
+-- an image is refused as the fault says
+pub refused_for : (image : List ℕ) (fault : VolumeFault) (told : CommandFault) → IsRefusal image fault → IsToldAs fault told → IsRefusedFor image told
+refused_for image fault (Refused refusal) refused (no_want, line) = (fault.kind, fault.block, shown refused, line)
+  where
+    shown : IsRefusal image fault → Shows image fault.kind fault.block
+    shown (inl shows) = shows
+    shown (inr want) = absurd (no_want want.0)
+refused_for image fault told refused t = t.0
+
+-- and so is one that a run hands back
+pub refused_run : (image : List ℕ) (run : RunFault) (told : CommandFault) → IsRunFault image run → IsToldRun run told → IsRefusedFor image told
+refused_run image (of_run.Rejected rejected) told handed t = refused_for image rejected.fault told handed.1 t
+refused_run image (of_run.NoMemory accepted) told handed t = subst (λ (f : CommandFault). IsRefusedFor image f) (sym t) refl
+
+-- nothing is told of an image that is refused
+pub leaves_refused : (IsText : List ℕ → Type 0) (image : List ℕ) (w : Option (List ℕ)) (fault : CommandFault) → IsRefusedFor image fault → LeavesOff IsText image w w fault
+leaves_refused IsText image w (Refused refusal) h = (inr h, Keeps-refl w)
+leaves_refused IsText image w (Dos refusal) h = Keeps-refl w
+leaves_refused IsText image w fault h = inl (Keeps-refl w)
+
+-- nothing is told where a run was not begun
+pub tells_no_run : (IsText BeginsText : List ℕ → List ℕ → Type 0) (image : List ℕ) (w : Option (List ℕ)) (run : RunFault) (done : Ending) → IsRunFault image run
+    → IsErrAnd done (λ told. IsToldRun run told) → TellsOf IsText BeginsText image w w done
+tells_no_run IsText BeginsText image w run (Ok x) handed t = absurd t
+tells_no_run IsText BeginsText image w run (Err told) handed t = leaves_refused (BeginsText image) image w told (refused_run image run told handed t)
+
+-- a front of a text is told
+pub leaves_front : (IsText : List ℕ → Type 0) (image : List ℕ) (old new : Option (List ℕ)) (fault : CommandFault) → WritesFrontOf old new IsText → IsNoRefusal fault → LeavesOff IsText image old new fault
+leaves_front IsText image old new (Refused refusal) front plain = absurd (cc plain)
+leaves_front IsText image old new (Dos refusal) front plain = absurd (cc plain)
+leaves_front IsText image old new fault front plain = inr front
+
+-- a text is told whole, or a front of it
+pub tells_text : (IsText BeginsText : List ℕ → List ℕ → Type 0) (bytes text : List ℕ) (old new : Option (List ℕ)) (result : Ending)
+    → IsText bytes text → BeginsText bytes text → OnOk result (Appends old new text) → OnErr result (WritesFront old new text) → IfErr result IsNoRefusal
+    → TellsOf IsText BeginsText bytes old new result
+tells_text IsText BeginsText bytes text old new (Ok done) is begins ok front plain = (text, ok, is)
+tells_text IsText BeginsText bytes text old new (Err fault) is begins ok front plain = leaves_front (BeginsText bytes) bytes old new fault (text, begins, front) plain
+
+-- nothing is told
+pub leaves_nothing : (IsText : List ℕ → Type 0) (image : List ℕ) (w : Option (List ℕ)) (fault : CommandFault) → IsNoRefusal fault → LeavesOff IsText image w w fault
+leaves_nothing IsText image w (Refused refusal) plain = absurd (cc plain)
+leaves_nothing IsText image w (Dos refusal) plain = Keeps-refl w
+leaves_nothing IsText image w fault plain = inl (Keeps-refl w)
+
+-- what is no refused image leaves what was written
+pub leaves_kept : (IsText : List ℕ → Type 0) (image : List ℕ) (old new : Option (List ℕ)) (fault : CommandFault) → IsNoImageRefusal fault → Keeps old new → LeavesOff IsText image old new fault
+leaves_kept IsText image old new (Refused refusal) plain keeps = absurd plain
+leaves_kept IsText image old new (Dos refusal) plain keeps = keeps
+leaves_kept IsText image old new fault plain keeps = inl keeps
+
+-- nothing is told of a path that leads nowhere
+pub tells_unlisted : (IsText BeginsText : List ℕ → List ℕ → Type 0) (image : List ℕ) (w : Option (List ℕ)) (fault : CommandFault) (done : Ending) → IsNoImageRefusal fault
+    → IsErrAnd done (λ told. told ≡ fault) → TellsOf IsText BeginsText image w w done
+tells_unlisted IsText BeginsText image w fault (Ok x) plain same = absurd same
+tells_unlisted IsText BeginsText image w fault (Err told) plain same = leaves_kept (BeginsText image) image w w told (subst IsNoImageRefusal (sym same) plain) (Keeps-refl w)
+
+-- nothing is told where no image was read
+no_image : (BeginsText : List ℕ → List ℕ → Type 0) (w : Option (List ℕ)) (fault : CommandFault) → IsNoImage fault → (bytes : List ℕ) × LeavesOff (BeginsText bytes) bytes w w fault
+no_image BeginsText w (Refused refusal) (bytes, is) = (bytes, (inl is, Keeps-refl w))
+no_image BeginsText w (Dos refusal) is = ([], Keeps-refl w)
+no_image BeginsText w fault is = ([], inl (Keeps-refl w))
+
+pub tells_no_image : (IsText BeginsText : List ℕ → List ℕ → Type 0) (w : Option (List ℕ)) (fault : CommandFault) (done : Ending) → IsNoImage fault
+    → IsErrAnd done (λ told. told ≡ fault) → TellsSome IsText BeginsText w w done
+tells_no_image IsText BeginsText w fault (Ok x) is same = absurd same
+tells_no_image IsText BeginsText w fault (Err told) is same = no_image BeginsText w told (subst IsNoImage (sym same) is)
+
+-- a blank image that is not made is no refused one
+pub blank_no_refusal : (s : Bool) (blocks : ℕ) (word : List ℕ) (fault : CommandFault) → IsBlankFault s blocks word fault → IsNoRefusal fault
+blank_no_refusal s blocks word (Refused refusal) e = absurd (cc e)
+blank_no_refusal s blocks word (Dos refusal) e = absurd (cc e)
+blank_no_refusal s blocks word fault e = refl
+
+accepted_tree : (image : List ℕ) (was_validated : Bool) (checked : List ℕ) → Accepts image was_validated checked → (t : Tree) × Stands checked t
+accepted_tree image false checked a = (a.3.0, a.3.1)
+accepted_tree image true checked a = (a.2.0, a.2.1)
+
+-- of an image that is accepted
+module _ (image : List ℕ) (was_validated : Bool) (checked : List ℕ) (a : Accepts image was_validated checked) where
+  pub check_text : (text : List ℕ) → text ≡ check_line was_validated → IsCheckText image text
+  check_text text e = let s = accepted_tree image was_validated checked a in (was_validated, checked, s.0, a, s.1, e)
+
+  pub list_text : (path : Option (List ℕ)) (b : Bool) (dir : ℕ) (old new : Option (List ℕ)) → ((t : Tree) → Stands checked t → IsListed t path dir)
+      → ((t : Tree) → Stands checked t → Writes old new (IsList t dir b)) → Writes old new (IsListText path b image)
+  list_text path b dir old new listed h =
+      let s = accepted_tree image was_validated checked a in
+      let w = h s.0 s.1 in (w.0, w.1, (was_validated, checked, s.0, a, s.1, (dir, listed s.0 s.1, w.2)))
+
+  pub list_front : (path : Option (List ℕ)) (b : Bool) (dir : ℕ) (old new : Option (List ℕ)) → ((t : Tree) → Stands checked t → IsListed t path dir)
+      → ((t : Tree) → Stands checked t → WritesFrontOf old new (BeginsList t dir b)) → WritesFrontOf old new (BeginsListText path b image)
+  list_front path b dir old new listed h =
+      let s = accepted_tree image was_validated checked a in
+      let w = h s.0 s.1 in (w.0, (was_validated, checked, s.0, a, s.1, (dir, listed s.0 s.1, w.1)), w.2)
+
+  pub print_text : (word : List ℕ) (old new : Option (List ℕ)) → ((t : Tree) → Stands checked t → IsPrinted t word old new) → Writes old new (IsPrintText word image)
+  print_text word old new h =
+      let s = accepted_tree image was_validated checked a in
+      let w = h s.0 s.1 in (bytes_of s.0 w.0, w.3, (was_validated, checked, s.0, a, s.1, (w.0, w.1, w.2, refl)))
+
+  pub print_fault : (word : List ℕ) (old new : Option (List ℕ)) (fault : OutFault) (told : CommandFault) → ((t : Tree) → Stands checked t → IsPrintFault t word old new fault)
+      → IsToldOut fault told → LeavesOff (IsPrintText word image) image old new told
+  print_fault word old new out.Output told h same =
+      let s = accepted_tree image was_validated checked a in
+      let w = h s.0 s.1 in
+      let bytes = bytes_of s.0 w.0 in
+      subst (λ (f : CommandFault). LeavesOff (IsPrintText word image) image old new f) (sym same)
+      (inr (bytes, (was_validated, checked, s.0, a, s.1, (w.0, w.1, w.2, refl)), writes_first old new w.3.0 bytes w.3.1))
+  print_fault word old new fault told h plain =
+      let s = accepted_tree image was_validated checked a in
+      leaves_kept (IsPrintText word image) image old new told plain (h s.0 s.1).0
+
+-- what is written after nothing
+kept_appends : (a b c : Option (List ℕ)) (bytes : List ℕ) → Keeps a b → Appends b c bytes → Appends a c bytes
+kept_appends None b c bytes k w = tt
+kept_appends (Some x) None c bytes k w = absurd k
+kept_appends (Some x) (Some y) None bytes k w = absurd w
+kept_appends (Some x) (Some y) (Some z) bytes k w = w ∙ ap (λ (l : List ℕ). l ++ bytes) k
+
+-- a job that prints nothing where it is done
+abbrev pub PrintsNothing : ImageJob → Type 0
+PrintsNothing (Blank format blocks moment name as_letters file) = ⊤
+PrintsNothing job = ⊥
+
+pub job_silent : (job : ImageJob) (w : Option (List ℕ)) (done : Ending) → PrintsNothing job → IfErr done IsNoRefusal → DoesJob job w w done
+job_silent (Blank format blocks moment name as_letters file) w (Ok x) silent plain = ([], ([], Appends-nil w, refl))
+job_silent (Blank format blocks moment name as_letters file) w (Err fault) silent plain = ([], leaves_nothing (λ text. text ≡ []) [] w fault plain)
+job_silent job w done silent plain = absurd silent
+
+pub job_silent_fault : (job : ImageJob) (w : Option (List ℕ)) (fault : CommandFault) (done : Ending) → PrintsNothing job → IsNoRefusal fault
+    → IsErrAnd done (λ told. told ≡ fault) → DoesJob job w w done
+job_silent_fault job w fault (Ok x) silent plain same = absurd same
+job_silent_fault job w fault (Err told) silent plain same = job_silent job w (Err told) silent (subst IsNoRefusal (sym same) plain)
+
+-- what an option without a value tells, and one with a value
+pub none_told : {A : Type 0} (f : A → List ℕ) (o : Option A) (told : Option (List ℕ)) → option_map f o ≡ told → o ≡ None → told ≡ None
+none_told f o told e is = sym e ∙ ap (option_map f) is
+
+pub some_told : {A : Type 0} (f : A → List ℕ) (o : Option A) (x : A) (told : Option (List ℕ)) → option_map f o ≡ told → o ≡ Some x → told ≡ Some (f x)
+some_told f o x told e is = sym e ∙ ap (option_map f) is
+
+-- of jobs that print such texts of bytes
+module _ (IsText BeginsText : List ℕ → List ℕ → Type 0) where
+  -- a job is done
+  done : (p : Prints) (old new : Option (List ℕ)) (x : Unit {0}) → Does p IsText BeginsText old new (Ok x) → Tells p IsText BeginsText old new (Ok x)
+  done OnlyFaults old new x h = h
+  done OfBytes old new x h = h
+  done Unsaid old new x h = tt
+
+  -- a job whose fault no line tells of
+  failed : (p : Prints) (old new : Option (List ℕ)) (fault : CommandFault) → Does p IsText BeginsText old new (Err fault) → IsNoRefusal fault
+      → Tells p IsText BeginsText old new (Err fault)
+  failed OnlyFaults old new fault keeps plain = rw plain (inl keeps)
+  failed Unsaid old new fault h plain = tt
+  failed OfBytes old new (Refused refusal) h plain = absurd (cc plain)
+  failed OfBytes old new (Dos refusal) h plain = absurd (cc plain)
+  failed OfBytes old new fault (bytes, inl keeps) plain = (bytes, inl keeps)
+  failed OfBytes old new fault (bytes, inr (text, is, front)) plain = (bytes, inr (text, inl is, front))
+
+  -- a job for whose line there is no memory
+  unsaid : (p : Prints) (old new : Option (List ℕ)) (fault : CommandFault) → Does p IsText BeginsText old new (Err fault) → Tells p IsText BeginsText old new (Err Memory)
+  unsaid OnlyFaults old new fault keeps = inl keeps
+  unsaid Unsaid old new fault h = tt
+  unsaid OfBytes old new (Refused refusal) d = (d.0, inl d.1.1)
+  unsaid OfBytes old new (Dos refusal) d = (d.0, inl d.1)
+  unsaid OfBytes old new fault (bytes, inl keeps) = (bytes, inl keeps)
+  unsaid OfBytes old new fault (bytes, inr (text, is, front)) = (bytes, inr (text, inl is, front))
+
+  module _ (old mid new : Option (List ℕ)) where
+    -- a refused image is told
+    told_refused : (p : Prints) (refusal : Refusal) → Does p IsText BeginsText old mid (Err (Refused refusal)) → Appends mid new (refusal_line refusal)
+        → Tells p IsText BeginsText old new (Err (Refused refusal))
+    told_refused OnlyFaults refusal keeps w = (refusal_line refusal, kept_appends old mid new (refusal_line refusal) keeps w, refl)
+    told_refused Unsaid refusal d w = tt
+    told_refused OfBytes refusal (bytes, (is, keeps)) w = (bytes, (refusal_line refusal, kept_appends old mid new (refusal_line refusal) keeps w, is))
+
+    -- what AmigaDOS refuses is told
+    told_dos : (p : Prints) (refusal : DosRefusal) → Does p IsText BeginsText old mid (Err (Dos refusal)) → Appends mid new (dos_line refusal)
+        → Tells p IsText BeginsText old new (Err (Dos refusal))
+    told_dos OnlyFaults refusal keeps w = (dos_line refusal, kept_appends old mid new (dos_line refusal) keeps w, refl)
+    told_dos Unsaid refusal d w = tt
+    told_dos OfBytes refusal (bytes, keeps) w = (bytes, (dos_line refusal, kept_appends old mid new (dos_line refusal) keeps w, refl))
+
+    -- a front of what is written after nothing
+    kept_front : (text : List ℕ) → Keeps old mid → WritesFront mid new text → WritesFront old new text
+    kept_front text keeps (written, appends, rest) = (written, kept_appends old mid new written keeps appends, rest)
+
+    -- a job that wrote nothing, whose line is told as far as the writer takes it
+    broken_quiet : (fault last : CommandFault) (line : List ℕ) → told_line fault ≡ Some line → IsNoRefusal last → Keeps old mid → WritesFront mid new line → TellsFault old new (Err last)
+    broken_quiet fault last line tells plain keeps front = rw plain (inr (line, (fault, tells), kept_front line keeps front))
+
+    -- a line of a refusal of bytes, as far as the writer takes it
+    ends_front : (bytes : List ℕ) (last : CommandFault) → IsNoRefusal last → WritesFrontOf old new (λ text. BeginsText bytes text ⊎ (IsRefusalText bytes text ⊎ IsDosText text))
+        → EndsOff (BeginsText bytes) bytes old new last
+    ends_front bytes (Refused r) plain front = absurd (cc plain)
+    ends_front bytes (Dos r) plain front = absurd (cc plain)
+    ends_front bytes last plain front = inr front
+
+    broken_refused : (p : Prints) (refusal : Refusal) (last : CommandFault) → IsNoRefusal last → Does p IsText BeginsText old mid (Err (Refused refusal))
+        → WritesFront mid new (refusal_line refusal) → Tells p IsText BeginsText old new (Err last)
+    broken_refused OnlyFaults refusal last plain keeps front = broken_quiet (Refused refusal) last (refusal_line refusal) refl plain keeps front
+    broken_refused Unsaid refusal last plain d front = tt
+    broken_refused OfBytes refusal last plain (bytes, (is, keeps)) front =
+        (bytes, ends_front bytes last plain (refusal_line refusal, inr (inl is), kept_front (refusal_line refusal) keeps front))
+
+    broken_dos : (p : Prints) (refusal : DosRefusal) (last : CommandFault) → IsNoRefusal last → Does p IsText BeginsText old mid (Err (Dos refusal))
+        → WritesFront mid new (dos_line refusal) → Tells p IsText BeginsText old new (Err last)
+    broken_dos OnlyFaults refusal last plain keeps front = broken_quiet (Dos refusal) last (dos_line refusal) refl plain keeps front
+    broken_dos Unsaid refusal last plain d front = tt
+    broken_dos OfBytes refusal last plain (bytes, keeps) front =
+        (bytes, ends_front bytes last plain (dos_line refusal, inr (inr (refusal, refl)), kept_front (dos_line refusal) keeps front))
+
+-- the fault of a job that is told by this line
+module _ (job : ImageJob) (old mid new : Option (List ℕ)) (line : List ℕ) where
+  -- it is told
+  pub job_told : (fault : CommandFault) → told_line fault ≡ Some line → DoesJob job old mid (Err fault) → Appends mid new line → TellsJob job old new (Err fault)
+  job_told (Refused refusal) tells h w =
+      let same : line ≡ refusal_line refusal = cc tells in
+      told_refused (IsJobText job) (BeginsJobText job) old mid new (prints job) refusal h (subst (λ (l : List ℕ). Appends mid new l) same w)
+  job_told (Dos refusal) tells h w =
+      let same : line ≡ dos_line refusal = cc tells in
+      told_dos (IsJobText job) (BeginsJobText job) old mid new (prints job) refusal h (subst (λ (l : List ℕ). Appends mid new l) same w)
+  job_told fault tells h w = absurd (cc tells)
+
+  broken : (fault last : CommandFault) → told_line fault ≡ Some line → DoesJob job old mid (Err fault) → WritesFront mid new line → IsNoRefusal last → TellsJob job old new (Err last)
+  broken (Refused refusal) last tells h front plain =
+      let same : line ≡ refusal_line refusal = cc tells in
+      broken_refused (IsJobText job) (BeginsJobText job) old mid new (prints job) refusal last plain h (subst (λ (l : List ℕ). WritesFront mid new l) same front)
+  broken (Dos refusal) last tells h front plain =
+      let same : line ≡ dos_line refusal = cc tells in
+      broken_dos (IsJobText job) (BeginsJobText job) old mid new (prints job) refusal last plain h (subst (λ (l : List ℕ). WritesFront mid new l) same front)
+  broken fault last tells h front plain = absurd (cc tells)
+
+  -- it is told as far as the writer takes it
+  pub job_broken : (fault printed : CommandFault) (ended : Ending) → told_line fault ≡ Some line → DoesJob job old mid (Err fault)
+      → WritesFront mid new line → IsNoRefusal printed → IsErrAnd ended (λ told. told ≡ printed) → TellsJob job old new ended
+  job_broken fault printed (Ok x) tells h front plain same = absurd same
+  job_broken fault printed (Err last) tells h front plain is = broken fault last tells h front (subst IsNoRefusal (sym is) plain)
+
+-- a job whose fault no line tells of
+pub job_failed : (job : ImageJob) (old new : Option (List ℕ)) (fault : CommandFault) → DoesJob job old new (Err fault) → IsNoRefusal fault → TellsJob job old new (Err fault)
+job_failed job old new fault h plain = failed (IsJobText job) (BeginsJobText job) (prints job) old new fault h plain
+
+-- a job for whose line there is no memory
+pub job_unsaid : (job : ImageJob) (old new : Option (List ℕ)) (fault : CommandFault) (ended : Ending) → DoesJob job old new (Err fault) → IsErrAnd ended (λ told. told ≡ Memory) → TellsJob job old new ended
+job_unsaid job old new fault (Ok x) h same = absurd same
+job_unsaid job old new fault (Err told) h same =
+    subst (λ (f : CommandFault). TellsJob job old new (Err f)) (sym same) (unsaid (IsJobText job) (BeginsJobText job) (prints job) old new fault h)
+
+-- a job that is done
+pub job_done : (job : ImageJob) (old new : Option (List ℕ)) (x : Unit {0}) → DoesJob job old new (Ok x) → TellsJob job old new (Ok x)
+job_done job old new x h = done (IsJobText job) (BeginsJobText job) (prints job) old new x h

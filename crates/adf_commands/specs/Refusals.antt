@@ -1,0 +1,74 @@
+-- What is printed of an image that is refused, and of what AmigaDOS refuses.
+use Rattle.std.specs.Prelude.{◌≡◌, ◌⊎◌, ℕ, List, [], ◌++◌, length, codes, decimal, Option, Some, None}
+use Rattle.std.specs.String.{string_bytes}
+use Rattle.adf_block.specs.Size.{IsSizeFault}
+use Rattle.adf_block.specs.declared.volume_size.SizeFault.{SizeFault}
+use Rattle.adf_block.specs.declared.volume_size.SizeFault.TheVariants as sizes
+use Rattle.ados_packet.specs.Numbers.{error_number}
+use Rattle.ados_tree.specs.Faults.{Shows}
+use Rattle.ados_tree.specs.declared.fault.FaultKind.{FaultKind}
+use Rattle.ados_tree.specs.declared.fault.FaultKind.TheVariants as kinds
+use Rattle.adf_script.specs.Text.{line, spaced}
+use Rattle.adf_commands.specs.declared.fault.CommandFault.{CommandFault}
+use Rattle.adf_commands.specs.declared.fault.CommandFault.TheVariants.{Refused, Dos}
+use Rattle.adf_commands.specs.declared.refusal.Refusal.{Refusal}
+use Rattle.adf_commands.specs.declared.refusal.DosRefusal.{DosRefusal}
+
+-- the word for a fault of the size
+abbrev pub size_word : SizeFault → List ℕ
+size_word sizes.NotWholeBlocks = codes "NotWholeBlocks"
+size_word sizes.TooFewBlocks = codes "TooFewBlocks"
+size_word sizes.TooManyBlocks = codes "TooManyBlocks"
+
+-- the word for a fault of a volume; want of memory, for which no image is refused, has none
+abbrev pub kind_word : FaultKind → List ℕ
+kind_word kinds.NotADosDisk = codes "NotADosDisk"
+kind_word kinds.UnsupportedKind = codes "UnsupportedKind"
+kind_word kinds.BadSum = codes "BadSum"
+kind_word kinds.BadType = codes "BadType"
+kind_word kinds.BadOwnKey = codes "BadOwnKey"
+kind_word kinds.BadParent = codes "BadParent"
+kind_word kinds.BadPointer = codes "BadPointer"
+kind_word kinds.BlockUsedTwice = codes "BlockUsedTwice"
+kind_word kinds.WrongChain = codes "WrongChain"
+kind_word kinds.BadName = codes "BadName"
+kind_word kinds.DuplicateName = codes "DuplicateName"
+kind_word kinds.BadComment = codes "BadComment"
+kind_word kinds.BadCount = codes "BadCount"
+kind_word kinds.BadSequence = codes "BadSequence"
+kind_word kinds.LinkEntry = codes "LinkEntry"
+kind_word kinds.MarkedFree = codes "MarkedFree"
+kind_word kinds.NoMemory = []
+
+-- `refused KIND BLOCK`
+abbrev pub refused_line : List ℕ → ℕ → List ℕ
+refused_line word block = line (codes "refused " ++ word ++ spaced (decimal block))
+
+abbrev pub refusal_line : Refusal → List ℕ
+refusal_line refusal = refused_line refusal.kind.now refusal.block
+
+-- the line of bytes that are no image: the fault of their number, and block 0
+abbrev pub IsSizeRefusal : List ℕ → List ℕ → Type 0
+IsSizeRefusal bytes text = (fault : SizeFault) × IsSizeFault (length bytes) fault × (text ≡ refused_line (size_word fault) 0)
+
+-- the line of an image that is refused: a fault that it shows, and the block that shows it
+abbrev pub IsImageRefusal : List ℕ → List ℕ → Type 0
+IsImageRefusal image text = (kind : FaultKind) × (block : ℕ) × Shows image kind block × (text ≡ refused_line (kind_word kind) block)
+
+-- the line of bytes that are refused
+abbrev pub IsRefusalText : List ℕ → List ℕ → Type 0
+IsRefusalText bytes text = IsSizeRefusal bytes text ⊎ IsImageRefusal bytes text
+
+-- `refused NUMBER PATH`
+abbrev pub dos_line : DosRefusal → List ℕ
+dos_line refusal = line (codes "refused " ++ decimal (error_number refusal.refused.error) ++ spaced (string_bytes refusal.refused.path))
+
+-- the line of some request that AmigaDOS refuses
+abbrev pub IsDosText : List ℕ → Type 0
+IsDosText text = (refusal : DosRefusal) × (text ≡ dos_line refusal)
+
+-- the line that is printed of a fault: of what is refused one, and else none
+abbrev pub told_line : CommandFault → Option (List ℕ)
+told_line (Refused refusal) = Some (refusal_line refusal)
+told_line (Dos refusal) = Some (dos_line refusal)
+told_line fault = None

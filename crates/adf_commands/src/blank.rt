@@ -1,0 +1,75 @@
+//! The command `blank`.
+ghost use Rattle.std.specs.Prelude.{◌≡◌, List, ℕ, MatchResult, IfErr, IfOk};
+ghost use Rattle.ados_name.specs.Name.{IsName};
+ghost use Rattle.ados_tree.specs.Blank.{IsBlank};
+ghost use Rattle.adf_commands.specs.Faults.{IsBlankFault, IsNamed, IsNameFault, IsNoRefusal};
+
+use crate::fault::CommandFault;
+use crate::images::{hold_out, write_image};
+use adf_block::{Format, size_ok};
+use adf_text::{LettersFault, letter_bytes};
+use ados_name::{Date3, Name};
+use ados_volume::{Volume, blank};
+use std::alloc::Global;
+use std::fs::File;
+use std::rt::Files;
+
+/// A blank volume, whose image is what `blank` writes to its file.
+pub(crate) fn blank_volume<'a>(
+    alloc: Global,
+    format: Format,
+    blocks: u32,
+    word: &'a str,
+    letters: bool,
+    moment: Date3,
+) -> Result<Volume, CommandFault<'a>>
+    ensures { MatchResult result
+        (λ volume. (name : List ℕ) × IsNamed letters word.now name × IsBlank format blocks name moment volume.image)
+        (IsBlankFault letters blocks word.now) }
+{
+    let label = volume_name(alloc, word, letters)?;
+    if !size_ok(blocks) {
+        return Err(CommandFault::Blocks(blocks));
+    }
+    Ok(blank(alloc, format, blocks, label, moment)?)
+}
+
+/// The name of a volume that a word stands for, by its bytes or by its letters.
+fn volume_name<'a>(alloc: Global, word: &'a str, letters: bool) -> Result<Name, CommandFault<'a>>
+    ensures { MatchResult result (IsNamed letters word.now) (IsNameFault letters word.now) }
+{
+    if !letters {
+        return named(word.as_bytes(), word);
+    }
+    match letter_bytes(alloc, word) {
+        Ok(bytes) => named(&bytes, word),
+        Err(LettersFault::NoByte { .. }) => Err(CommandFault::Letter(String::from_str(
+            alloc, word,
+        )?)),
+        Err(LettersFault::Memory) => Err(CommandFault::Memory),
+    }
+}
+
+/// The name of a volume with these bytes, which the word stands for.
+fn named<'a>(bytes: &[u8], word: &'a str) -> Result<Name, CommandFault<'a>>
+    ensures ok { IfOk result (λ name. name ≡ bytes.now) }
+    ensures fault { IfErr result (λ fault. (fault ≡ CommandFault.Name word.entry) × ¬ IsName bytes.now) }
+{
+    match Name::new(bytes) {
+        Ok(name) => Ok(name),
+        Err(_) => Err(CommandFault::Name(word)),
+    }
+}
+
+/// Writes the image of a new volume, in place of what the file is. It is held meanwhile, where one is there.
+pub(crate) fn write_new<'a, R: Files<File = File>>(
+    rt: &R,
+    alloc: Global,
+    volume: &Volume,
+    file: &'a str,
+) -> Result<(), CommandFault<'a>>
+    ensures { IfErr result IsNoRefusal }
+{
+    let _held = hold_out(rt, file)?;
+    write_image(rt, alloc, volume.image(), file)
+}

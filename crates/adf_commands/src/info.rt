@@ -1,0 +1,111 @@
+//! The commands `info` and `check`.
+ghost use Rattle.std.specs.Prelude.{◌≡◌, IfOk};
+ghost use Rattle.adf_commands.specs.Texts.{check_line, disk_info_steps, IsCheckText, IsInfoText};
+ghost use Rattle.adf_commands.specs.Commands.{TellsOf, TellsSome};
+
+use crate::fault::CommandFault;
+use crate::images::{accept, read_image};
+use crate::output::tell;
+use adf_block::Image;
+use adf_listing::write_info;
+use ados_name::Date3;
+use ados_packet::Packet;
+use ados_port::{Outcome, Step};
+use ados_run::run_volume;
+use ados_volume::Volume;
+use std::alloc::{AllocError, Global};
+use std::io::Write;
+use std::rt::Files;
+
+/// 1 January 1978.
+pub const FIRST_MOMENT: Date3 = Date3 {
+    days: 0,
+    minutes: 0,
+    ticks: 0,
+};
+
+/// Tells whether the image of a file is accepted.
+pub(crate) fn print_check<'a, R: Files, W: Write>(
+    rt: &R,
+    alloc: Global,
+    file: &'a str,
+    writer: &mut W,
+) -> Result<(), CommandFault<'a>>
+    ensures { TellsSome IsCheckText IsCheckText (W.contents writer.old) (W.contents writer.new) result }
+{
+    let image = read_image(rt, alloc, file)?;
+    tell_check(alloc, image, writer)
+}
+
+/// Tells whether an image is accepted.
+fn tell_check<'a, W: Write>(
+    alloc: Global,
+    image: Image,
+    writer: &mut W,
+) -> Result<(), CommandFault<'a>>
+    ensures { TellsOf IsCheckText IsCheckText image (W.contents writer.old) (W.contents writer.new) result }
+{
+    let volume = accept(alloc, image)?;
+    tell(writer, accepted(&volume).as_bytes())
+}
+
+/// What `check` prints of an image that is accepted.
+fn accepted(volume: &Volume) -> &'static str
+    ensures { result.now ≡ check_line volume.now.was_validated }
+{
+    if volume.was_validated() {
+        "ok validated\n"
+    } else {
+        "ok\n"
+    }
+}
+
+/// Tells what DISK_INFO answers over the image of a file, and whether its boot blocks run.
+pub(crate) fn print_info<'a, R: Files, W: Write>(
+    rt: &R,
+    alloc: Global,
+    file: &'a str,
+    writer: &mut W,
+) -> Result<(), CommandFault<'a>>
+    ensures { TellsSome IsInfoText IsInfoText (W.contents writer.old) (W.contents writer.new) result }
+{
+    let image = read_image(rt, alloc, file)?;
+    tell_info(alloc, image, writer)
+}
+
+/// Tells what DISK_INFO answers over an image, and whether its boot blocks run.
+fn tell_info<'a, W: Write>(
+    alloc: Global,
+    image: Image,
+    writer: &mut W,
+) -> Result<(), CommandFault<'a>>
+    ensures { TellsOf IsInfoText IsInfoText image (W.contents writer.old) (W.contents writer.new) result }
+{
+    let done = run_volume(alloc, image, 1, disk_info(alloc)?)?;
+    match done.outcomes.last() {
+        Some(Outcome::Taken(reply)) => {
+            let image = done.exchange.server().volume().image();
+            match write_info(alloc, &reply.answer, image, writer) {
+                Ok(()) => Ok(()),
+                Err(fault) => Err(CommandFault::from(fault)),
+            }
+        }
+        _ => Err(CommandFault::Memory),
+    }
+}
+
+/// A DISK_INFO that is put, served and taken by the one client.
+fn disk_info(alloc: Global) -> Result<Vec<Step<Packet, Date3>>, AllocError>
+    ensures { IfOk result (λ steps. steps.items ≡ disk_info_steps) }
+{
+    let mut steps = Vec::new(alloc);
+    steps.push(Step::Put {
+        client: 1,
+        packet: Packet::DiskInfo,
+    })?;
+    steps.push(Step::Serve {
+        moment: FIRST_MOMENT,
+    })?;
+    steps.push(Step::Take { client: 1 })?;
+    Ok(steps)
+}

@@ -1,0 +1,81 @@
+//! Jobs on image files.
+ghost use Rattle.adf_commands.specs.Commands.{DoesJob, TellsJob};
+
+use crate::blank::{blank_volume, write_new};
+use crate::changing::{boot, change};
+use crate::fault::CommandFault;
+use crate::info::{print_check, print_info};
+use crate::moving::{print_bytes, print_list, take_out};
+use crate::output::tell;
+use crate::serving::serve;
+use adf_jobs::ImageJob;
+use std::alloc::Global;
+use std::fs::File;
+use std::io::Write;
+use std::rt::{Clock, Files};
+use std::sync::Wait;
+use std::thread::Threads;
+
+/// Does a job on image files. What it tells of an image goes to the writer, and what is refused; what is passed over is
+/// told on `faults`.
+pub fn run_job<'a, R, W, F>(
+    rt: &R,
+    alloc: Global,
+    job: ImageJob<'a>,
+    writer: &mut W,
+    faults: &mut F,
+) -> Result<(), CommandFault<'a>>
+where
+    R: Files<File = File> + Clock + Threads + Wait + Copy + Send + Drop + 'static,
+    W: Write,
+    F: Write,
+    ensures { TellsJob job.entry (W.contents writer.old) (W.contents writer.new) result }
+{
+    let fault = match do_job(rt, alloc, job, writer, faults) {
+        Ok(()) => return Ok(()),
+        Err(fault) => fault,
+    };
+    let line = fault.line(alloc)?;
+    let Some(text) = line else {
+        return Err(fault);
+    };
+    tell(writer, text.as_bytes())?;
+    Err(fault)
+}
+
+/// Does a job on image files, and tells nothing of what is refused.
+fn do_job<'a, R, W, F>(
+    rt: &R,
+    alloc: Global,
+    job: ImageJob<'a>,
+    writer: &mut W,
+    faults: &mut F,
+) -> Result<(), CommandFault<'a>>
+where
+    R: Files<File = File> + Clock + Threads + Wait + Copy + Send + Drop + 'static,
+    W: Write,
+    F: Write,
+    ensures { DoesJob job.entry (W.contents writer.old) (W.contents writer.new) result }
+{
+    match job {
+        ImageJob::Blank {
+            format,
+            blocks,
+            moment,
+            name,
+            letters,
+            file,
+        } => {
+            let volume = blank_volume(alloc, format, blocks, name, letters, moment)?;
+            write_new(rt, alloc, &volume, file)
+        }
+        ImageJob::Info { file } => print_info(rt, alloc, file, writer),
+        ImageJob::Check { file } => print_check(rt, alloc, file, writer),
+        ImageJob::List(job) => print_list(rt, alloc, &job, writer),
+        ImageJob::Print { image, path } => print_bytes(rt, alloc, image, path, writer),
+        ImageJob::Extract(job) => take_out(rt, alloc, &job),
+        ImageJob::Change(job) => change(rt, alloc, job, faults),
+        ImageJob::Boot { image, out, file } => boot(rt, alloc, image, out, file),
+        ImageJob::Serve(job) => serve(rt, alloc, job, writer),
+    }
+}

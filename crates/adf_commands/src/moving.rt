@@ -1,0 +1,135 @@
+//! The commands that take entries out of a volume.
+ghost use Rattle.std.specs.Prelude.{◌≡◌, IfErr, IfOk, option_map};
+ghost use Rattle.ados_tree.specs.Keys.{HasDirectory};
+ghost use Rattle.ados_tree.specs.Stands.{Stands};
+ghost use Rattle.ados_tree.specs.Tree.{Tree};
+ghost use Rattle.adf_commands.specs.Texts.{BeginsListOf, IsListed, IsListOf, IsPrintText};
+ghost use Rattle.adf_commands.specs.Faults.{IsNoImageRefusal};
+ghost use Rattle.adf_commands.specs.Commands.{TellsOf, TellsSome};
+
+use crate::fault::CommandFault;
+use crate::images::{accept, open_volume, read_image};
+use crate::refusal::DosRefusal;
+use adf_block::Image;
+use adf_jobs::{ExtractJob, ListJob};
+use adf_listing::write_list;
+use adf_transfer::Refused;
+use ados_packet::DosError;
+use ados_volume::Volume;
+use files_out::{extract, locate_word, print_file};
+use std::alloc::Global;
+use std::io::Write;
+use std::rt::Files;
+
+/// Tells the directories and files below a directory of the image of a file.
+pub(crate) fn print_list<'a, R: Files, W: Write>(
+    rt: &R,
+    alloc: Global,
+    job: &ListJob<'a>,
+    writer: &mut W,
+) -> Result<(), CommandFault<'a>>
+    ensures { TellsSome (IsListOf job.now) (BeginsListOf job.now) (W.contents writer.old) (W.contents writer.new) result }
+{
+    let image = read_image(rt, alloc, job.image)?;
+    tell_list(alloc, image, job, writer)
+}
+
+/// Tells the directories and files below a directory of an image.
+fn tell_list<'a, W: Write>(
+    alloc: Global,
+    image: Image,
+    job: &ListJob<'a>,
+    writer: &mut W,
+) -> Result<(), CommandFault<'a>>
+    ensures { TellsOf (IsListOf job.now) (BeginsListOf job.now) image (W.contents writer.old) (W.contents writer.new) result }
+{
+    let mut volume = accept(alloc, image)?;
+    let dir = listed_directory(alloc, &mut volume, job.path)?;
+    match write_list(alloc, &volume, dir, job.letters, writer) {
+        Ok(()) => Ok(()),
+        Err(fault) => Err(CommandFault::from(fault)),
+    }
+}
+
+/// The directory to which a path leads, without one the root.
+fn listed_directory<'a>(
+    alloc: Global,
+    volume: &mut Volume,
+    path: Option<&'a str>,
+) -> Result<u32, CommandFault<'a>>
+    ensures listed { IfOk result (λ dir. (t : Tree) → Stands volume.old.image t → IsListed t (option_map (λ word. word.now) path.entry) dir) }
+    ensures directory { IfOk result (λ dir. HasDirectory volume.old.image dir) }
+    ensures same { volume.new ≡ volume.old }
+    ensures fault { IfErr result IsNoImageRefusal }
+{
+    let Some(word) = path else {
+        return Ok(volume.root());
+    };
+    let key = match locate_word(alloc, volume, word) {
+        Ok(key) => key,
+        Err(fault) => return Err(CommandFault::from(fault)),
+    };
+    if volume.is_file(key) {
+        return Err(no_directory(alloc, word));
+    }
+    Ok(key)
+}
+
+/// That a path leads to a file where a directory is wanted.
+fn no_directory<'a>(alloc: Global, word: &'a str) -> CommandFault<'a>
+    ensures { IsNoImageRefusal result }
+{
+    match String::from_str(alloc, word) {
+        Ok(path) => CommandFault::Dos(DosRefusal {
+            refused: Refused {
+                error: DosError::ObjectWrongType,
+                path,
+            },
+            room: None,
+        }),
+        Err(_) => CommandFault::Memory,
+    }
+}
+
+/// Tells the bytes of a file of the image of a file.
+pub(crate) fn print_bytes<'a, R: Files, W: Write>(
+    rt: &R,
+    alloc: Global,
+    image: &'a str,
+    path: &'a str,
+    writer: &mut W,
+) -> Result<(), CommandFault<'a>>
+    ensures { TellsSome (IsPrintText path.now) (IsPrintText path.now) (W.contents writer.old) (W.contents writer.new) result }
+{
+    let image = read_image(rt, alloc, image)?;
+    tell_bytes(alloc, image, path, writer)
+}
+
+/// Tells the bytes of a file of an image.
+fn tell_bytes<'a, W: Write>(
+    alloc: Global,
+    image: Image,
+    path: &'a str,
+    writer: &mut W,
+) -> Result<(), CommandFault<'a>>
+    ensures { TellsOf (IsPrintText path.now) (IsPrintText path.now) image (W.contents writer.old) (W.contents writer.new) result }
+{
+    let mut volume = accept(alloc, image)?;
+    match print_file(alloc, &mut volume, path, writer) {
+        Ok(()) => Ok(()),
+        Err(fault) => Err(CommandFault::from(fault)),
+    }
+}
+
+/// Writes entries of an image file as files and directories of the host.
+pub(crate) fn take_out<'a, R: Files>(
+    rt: &R,
+    alloc: Global,
+    job: &ExtractJob<'a>,
+) -> Result<(), CommandFault<'a>> {
+    let mut volume = open_volume(rt, alloc, job.image)?;
+    match extract(rt, alloc, &mut volume, job) {
+        Ok(()) => Ok(()),
+        Err(fault) => Err(CommandFault::from(fault)),
+    }
+}

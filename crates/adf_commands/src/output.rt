@@ -1,0 +1,42 @@
+//! What a command writes to its streams.
+ghost use Rattle.std.specs.Prelude.{◌≡◌, OnOk, OnErr, IfErr};
+ghost use Rattle.std.specs.Io.KnownBytes.{Appends};
+ghost use Rattle.adf_listing.specs.Fronts.{WritesFront};
+ghost use Rattle.adf_commands.specs.Commands.{exit_status};
+ghost use Rattle.adf_commands.specs.Faults.{IsNoRefusal};
+
+use crate::fault::CommandFault;
+use adf_files::write_output;
+use std::io::Write;
+
+/// Writes a text to standard output.
+pub(crate) fn tell<'a, W: Write>(writer: &mut W, text: &[u8]) -> Result<(), CommandFault<'a>>
+    ensures ok { OnOk result (Appends (W.contents writer.old) (W.contents writer.new) text.now) }
+    ensures front { OnErr result (WritesFront (W.contents writer.old) (W.contents writer.new) text.now) }
+    ensures no_refusal { IfErr result IsNoRefusal }
+{
+    match write_output(text, writer) {
+        Ok(()) => Ok(()),
+        Err(_) => Err(CommandFault::Output),
+    }
+}
+
+/// The exit status of a command, which tells a person of its fault.
+pub fn status_of<F: Write>(done: Result<(), CommandFault<'_>>, faults: &mut F) -> u8
+    ensures { result ≡ exit_status done.entry }
+{
+    match done {
+        Ok(()) => 0,
+        Err(fault) => {
+            tell_fault(&fault, faults);
+            fault.status()
+        }
+    }
+}
+
+/// Tells a person of a fault, but of a refused image and a faulty script, of which standard output tells all.
+fn tell_fault<F: Write>(fault: &CommandFault<'_>, faults: &mut F) {
+    if !matches!(fault, CommandFault::Refused(_) | CommandFault::Script) {
+        let _ = write!(faults, "adf_serve: {fault}\n");
+    }
+}

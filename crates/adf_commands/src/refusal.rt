@@ -1,0 +1,134 @@
+//! Why an image is refused, and what AmigaDOS refuses.
+ghost use Rattle.std.specs.Prelude.{◌≡◌, ◌≢◌, IfSome, IfNone, IfOk};
+ghost use Rattle.std.specs.String.{string_bytes};
+ghost use Rattle.ados_tree.specs.declared.fault.FaultKind.TheVariants.{NoMemory};
+ghost use Rattle.adf_commands.specs.Refusals.{dos_line, kind_word, refusal_line, size_word};
+
+use adf_block::SizeFault;
+use adf_transfer::Refused;
+use ados_volume::{FaultKind, VolumeFault};
+use std::alloc::{AllocError, Global};
+use std::fmt;
+use thiserror::Error;
+
+/// Why an image is refused: the word for its fault, and the block that shows it, which is 0 for a fault of the size.
+#[derive(Clone, Copy, Debug, Error)]
+#[error("refused {kind} {block}")]
+pub struct Refusal {
+    kind: &'static str,
+    block: u32,
+}
+
+impl Refusal {
+    /// The refusal of a size.
+    pub(crate) fn of_size(fault: SizeFault) -> Refusal
+        ensures kind { result.kind.now ≡ size_word fault }
+        ensures block { result.block ≡ 0 }
+    {
+        Refusal {
+            kind: size_word(fault),
+            block: 0,
+        }
+    }
+
+    /// The refusal of a volume. None where memory was wanting, for which no image is refused.
+    pub(crate) fn of_volume(fault: VolumeFault) -> Option<Refusal>
+        ensures kind { IfSome result (λ refusal. refusal.kind.now ≡ kind_word fault.kind) }
+        ensures block { IfSome result (λ refusal. refusal.block ≡ fault.block) }
+        ensures none { IfNone result (fault.kind ≡ NoMemory) }
+        ensures some { IfSome result (λ _. fault.kind ≢ NoMemory) }
+    {
+        let kind = volume_word(fault.kind)?;
+        Some(Refusal {
+            kind,
+            block: fault.block,
+        })
+    }
+
+    /// Its line of standard output.
+    pub(crate) fn line(&self, alloc: Global) -> Result<String, AllocError>
+        ensures { IfOk result (λ line. string_bytes line ≡ refusal_line self.now) }
+    {
+        let Refusal { kind, block } = *self;
+        let line = format!(in alloc; "refused {kind} {block}\n")?;
+        Ok(line)
+    }
+}
+
+/// What AmigaDOS refuses. As text it is the words for the error.
+#[derive(Debug, Drop)]
+pub struct DosRefusal {
+    /// The error, and the path that it is told of.
+    pub refused: Refused,
+    /// What is wanting where the disk is full.
+    pub room: Option<Room>,
+}
+
+/// How many blocks are needed, and how many are free.
+#[derive(Clone, Copy, Debug)]
+pub struct Room {
+    pub needed: u64,
+    pub free: u32,
+}
+
+impl DosRefusal {
+    /// Its line of standard output.
+    pub(crate) fn line(&self, alloc: Global) -> Result<String, AllocError>
+        ensures { IfOk result (λ line. string_bytes line ≡ dos_line self.now) }
+    {
+        let number = self.refused.error.number();
+        let line = format!(in alloc; "refused {number} {}\n", self.refused.path.as_str())?;
+        Ok(line)
+    }
+}
+
+impl fmt::Display for DosRefusal {
+    fn fmt<W: fmt::Write>(&self, f: &mut fmt::Formatter<W>) -> fmt::Result {
+        match self.room {
+            None => write!(f, "{}", self.refused),
+            Some(Room { needed, free }) => write!(
+                f,
+                "{}: {needed} blocks are needed and {free} are free",
+                self.refused
+            ),
+        }
+    }
+}
+
+/// The word for a fault of the size.
+fn size_word(fault: SizeFault) -> &'static str
+    ensures { result.now ≡ size_word fault }
+{
+    match fault {
+        SizeFault::NotWholeBlocks => "NotWholeBlocks",
+        SizeFault::TooFewBlocks => "TooFewBlocks",
+        SizeFault::TooManyBlocks => "TooManyBlocks",
+    }
+}
+
+/// The word for a fault of a volume.
+fn volume_word(kind: FaultKind) -> Option<&'static str>
+    ensures word { IfSome result (λ word. word.now ≡ kind_word kind) }
+    ensures none { IfNone result (kind ≡ NoMemory) }
+    ensures some { IfSome result (λ _. kind ≢ NoMemory) }
+{
+    match kind {
+        FaultKind::NotADosDisk => Some("NotADosDisk"),
+        FaultKind::UnsupportedKind => Some("UnsupportedKind"),
+        FaultKind::BadSum => Some("BadSum"),
+        FaultKind::BadType => Some("BadType"),
+        FaultKind::BadOwnKey => Some("BadOwnKey"),
+        FaultKind::BadParent => Some("BadParent"),
+        FaultKind::BadPointer => Some("BadPointer"),
+        FaultKind::BlockUsedTwice => Some("BlockUsedTwice"),
+        FaultKind::WrongChain => Some("WrongChain"),
+        FaultKind::BadName => Some("BadName"),
+        FaultKind::DuplicateName => Some("DuplicateName"),
+        FaultKind::BadComment => Some("BadComment"),
+        FaultKind::BadCount => Some("BadCount"),
+        FaultKind::BadSequence => Some("BadSequence"),
+        FaultKind::LinkEntry => Some("LinkEntry"),
+        FaultKind::MarkedFree => Some("MarkedFree"),
+        FaultKind::NoMemory => None,
+    }
+}
