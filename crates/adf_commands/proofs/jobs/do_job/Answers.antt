@@ -1,4 +1,6 @@
 use Rattle.std.proofs.Common.{subst, sym}
+use Rattle.adf_jobs.specs.declared.job.ImageJob.{ImageJob}
+use Rattle.adf_commands.specs.Commands.{DoesJob}
 use Rattle.adf_commands.proofs.Printing.{PrintsNothing, blank_no_refusal, job_silent, job_silent_fault}
 use Rattle.adf_commands.proofs.jobs.do_job.Goals as goal
 
@@ -12,3 +14,19 @@ pub returns-in_ok-volume-in-Blank : goal.returns-in_ok-volume-in-Blank
 returns-in_ok-volume-in-Blank g c =
     let silent = subst PrintsNothing (sym c.in-Blank.is) tt in
     job_silent c.args.job _ _ silent c.write_new.ensures
+
+pub returns-in-Info : goal.returns-in-Info
+returns-in-Info g c =
+    subst (λ (job : ImageJob). DoesJob job (g.W.Write.contents c.args.writer.now) (g.W.Write.contents c.print_info.new.writer) c.print_info.result) (sym c.in-Info.is) c.print_info.ensures
+
+pub returns-in-Check : goal.returns-in-Check
+returns-in-Check g c =
+    subst (λ (job : ImageJob). DoesJob job (g.W.Write.contents c.args.writer.now) (g.W.Write.contents c.print_check.new.writer) c.print_check.result) (sym c.in-Check.is) c.print_check.ensures
+
+pub returns-in-List : goal.returns-in-List
+returns-in-List g c =
+    subst (λ (job : ImageJob). DoesJob job (g.W.Write.contents c.args.writer.now) (g.W.Write.contents c.print_list.new.writer) c.print_list.result) (sym c.in-List.is) c.print_list.ensures
+
+pub returns-in-Print : goal.returns-in-Print
+returns-in-Print g c =
+    subst (λ (job : ImageJob). DoesJob job (g.W.Write.contents c.args.writer.now) (g.W.Write.contents c.print_bytes.new.writer) c.print_bytes.result) (sym c.in-Print.is) c.print_bytes.ensures
