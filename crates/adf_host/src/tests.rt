@@ -62,7 +62,10 @@ fn written_in_part(rt: HostRuntime) -> Result<(), Fail> {
     };
     assert_eq!(rt; half.written, 1);
     let told = format!(in alloc; "{half}")?;
-    assert!(rt; told.as_str().ends_with("; one file or directory was written before it"));
+    assert!(rt;
+        told.as_str()
+            .ends_with("; one file or directory was written before it")
+    );
     assert_eq!(rt; count_in(&rt, alloc, "written_in_part/d")?, 0);
     Ok(rt.remove_dir_all(alloc, "written_in_part")?)
 }
