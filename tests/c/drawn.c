@@ -1,5 +1,5 @@
 /* A client that draws packets at random: it writes each as a line of a script, serves it, and prints what the program `adf_serve`
- * is to print of that line. Then it writes the image.
+ * is to print of that line. It keeps a copy of the image up to date meanwhile, by the blocks that changed. Then it writes the image.
  *
  *   drawn SEED IMAGE SCRIPT WANTED AFTER     reads the image, and writes the other three files
  */
@@ -85,6 +85,27 @@ static void draw_file(jip_packet *p) {
     }
 }
 
+/* Brings the copy up to date. Where the count of changes is the same no block differs, and each block that is told does. */
+static void follow(jip_handle *h, uint8_t *copy, size_t length) {
+    static uint32_t numbers[JIP_MOST_BLOCKS];
+    static uint64_t before;
+    const uint64_t changes = jip_changes(h);
+    size_t length_again, changed;
+    uint8_t *image = image_of(h, &length_again);
+    for (size_t k = changed = 0; k < length; k += JIP_BLOCK_BYTES) {
+        if (memcmp(copy + k, image + k, JIP_BLOCK_BYTES) == 0) continue;
+        numbers[changed++] = (uint32_t)(k / JIP_BLOCK_BYTES);
+    }
+    const size_t wanted = changed;
+    EXPECT("changes", changes != before || wanted == 0);
+    uint32_t *told = calloc(wanted + 1, sizeof *told);
+    EXPECT("changed", jip_copy_changed(h, copy, length, told, wanted, &changed) == JIP_DONE && changed == wanted);
+    EXPECT("changed", memcmp(told, numbers, wanted * sizeof *told) == 0 && memcmp(copy, image, length) == 0);
+    free(told);
+    free(image);
+    before = changes;
+}
+
 int main(int count, char **words) {
     static uint8_t bytes[52020224];
     if (count != 6) return 2;
@@ -105,6 +126,7 @@ int main(int count, char **words) {
         else draw_file(&packet);
         jip_answer answer = asked(&h, &packet);
         tell(&answer, &packet);
+        follow(&h, bytes, length);
     }
     uint8_t *image = image_of(&h, &length);
     EXPECT("after", fwrite(image, 1, length, after) == length);

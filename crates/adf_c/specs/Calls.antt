@@ -6,6 +6,7 @@ use Rattle.adf_block.specs.declared.Format.TheVariants.{Ofs, Ffs}
 use Rattle.ados_name.specs.declared.Date3.{Date3}
 use Rattle.ados_name.specs.Name.{IsName}
 use Rattle.ados_name.specs.Path.{IsPathText}
+use Rattle.ados_packet.specs.declared.action.Action.{Action}
 use Rattle.ados_packet.specs.declared.answer.Answer.{Answer}
 use Rattle.ados_packet.specs.declared.packet.Packet.{Packet}
 use Rattle.ados_tree.specs.Accepted.{Accepts}
@@ -13,7 +14,7 @@ use Rattle.ados_tree.specs.Blank.{IsBlank}
 use Rattle.ados_handler.specs.Session.{opening_session}
 use Rattle.adf_c.specs.Desk.{ServesPacket}
 use Rattle.adf_c.specs.Faults.{IsFaultOf}
-use Rattle.adf_c.specs.Spelling.{Spells, date_of}
+use Rattle.adf_c.specs.Spelling.{Spells, carried, date_of}
 use Rattle.adf_c.specs.Status.{refusal_number}
 use Rattle.adf_c.specs.Telling.{told_of, buffer_after}
 use Rattle.adf_c.specs.declared.answer.JipAnswer.{JipAnswer}
@@ -161,13 +162,13 @@ CopyComes held before after = Comes (CopiesImage held before after) (RefusesCopy
 abbrev pub CopyEnds : Option Desk → List ℕ → List ℕ → ℤ → Type 0
 CopyEnds held before after = ComesTo (CopiesImage held before after) (RefusesCopy held before after)
 
--- they spell none: a text is too long, or there is no memory for the bytes
+-- why a packet is not spelled: a text is too long, or there is no memory for the bytes that it carries
 abbrev pub SpellsNone : List ℕ → List ℕ → Refusal → Type 0
 SpellsNone path text NotAnImage = ⊥
 SpellsNone path text NoMemory = ⊤
 SpellsNone path text WrongArgument = (¬ IsPathText path) ⊎ (¬ IsPathText text)
 
--- what the spelling of a packet comes to
-abbrev pub SpellComes : JipPacket → List ℕ → List ℕ → List ℕ → List ℕ → Result Packet Refusal → Type 0
-SpellComes c path text bytes buffer result =
-    MatchResult result (λ packet. SpellsFitting c path text bytes buffer packet) (λ refusal. SpellsNone path text refusal)
+-- the texts of a packet are looked at, and what it carries is copied
+abbrev pub LoadComes : Action → List ℕ → List ℕ → List ℕ → List ℕ → Result (List ℕ) Refusal → Type 0
+LoadComes action path text bytes buffer result =
+    MatchResult result (λ load. IsPathText path × IsPathText text × (load ≡ carried action bytes buffer)) (λ refusal. SpellsNone path text refusal)

@@ -14,6 +14,7 @@ pub mod open;
 pub mod packet;
 pub mod refusal;
 pub mod serve;
+pub mod texts;
 
 pub use answer::{JipAnswer, JipDisk, JipEntry};
 pub use desk::Desk;

@@ -4,7 +4,8 @@ ghost use Rattle.std.specs.Prelude.{◌≡◌};
 ghost use Rattle.ados_name.specs.Path.{IsPathText};
 ghost use Rattle.adf_c.specs.Spelling.{IsActionOf, date_of, packet_of};
 
-use ados_name::{Date3, PathText};
+use crate::texts::rename_disk;
+use ados_name::Date3;
 use ados_packet::{Action, Buffer, Packet};
 
 /// A date as C has it: days since 1 January 1978, minutes past midnight, ticks of 1/50 second past the minute.
@@ -59,60 +60,39 @@ pub struct JipPacket {
 }
 
 impl JipPacket {
-    /// The packet of this action with the struct's arguments, these texts and these bytes. Only the texts that it takes are
-    /// copied.
+    /// The action that the struct names.
+    pub(crate) fn kind(&self) -> Action
+        ensures { IsActionOf self.now.action result }
+    {
+        action_of_number(self.action)
+    }
+
+    /// The packet of this action with the struct's arguments, these texts and these bytes. Each packet with texts has a
+    /// function of its own, since a function clears room for all its values when it begins.
     pub(crate) fn packet(&self, action: Action, path: &[u8], text: &[u8], buffer: Buffer) -> Packet
         requires path { IsPathText path.now }
         requires text { IsPathText text.now }
         ensures { result ≡ packet_of action self.now path.now text.now buffer }
     {
         let (lock, to_lock, handle) = (self.lock, self.to_lock, self.handle);
-        let (key, bits, offset, mode) = (self.key, self.bits, self.offset, self.mode);
-        let date = self.date.date();
+        let (key, offset, mode) = (self.key, self.offset, self.mode);
         match action {
             Action::Die => Packet::Die,
-            Action::LocateObject => Packet::LocateObject {
-                lock,
-                path: copied(path),
-                mode,
-            },
-            Action::RenameDisk => Packet::RenameDisk { name: copied(path) },
+            Action::LocateObject => self.locate_object(path),
+            Action::RenameDisk => rename_disk(path),
             Action::FreeLock => Packet::FreeLock { lock },
-            Action::DeleteObject => Packet::DeleteObject {
-                lock,
-                path: copied(path),
-            },
-            Action::RenameObject => Packet::RenameObject {
-                from_lock: lock,
-                from: copied(path),
-                to_lock,
-                to: copied(text),
-            },
+            Action::DeleteObject => self.delete_object(path),
+            Action::RenameObject => self.rename_object(path, text),
             Action::CopyDir => Packet::CopyDir { lock },
-            Action::SetProtect => Packet::SetProtect {
-                lock,
-                path: copied(path),
-                bits,
-            },
-            Action::CreateDir => Packet::CreateDir {
-                lock,
-                path: copied(path),
-            },
+            Action::SetProtect => self.set_protect(path),
+            Action::CreateDir => self.create_dir(path),
             Action::ExamineObject => Packet::ExamineObject { lock },
             Action::ExamineNext => Packet::ExamineNext { lock, key },
             Action::DiskInfo => Packet::DiskInfo,
             Action::Info => Packet::Info { lock },
-            Action::SetComment => Packet::SetComment {
-                lock,
-                path: copied(path),
-                comment: copied(text),
-            },
+            Action::SetComment => self.set_comment(path, text),
             Action::Parent => Packet::Parent { lock },
-            Action::SetDate => Packet::SetDate {
-                lock,
-                path: copied(path),
-                date,
-            },
+            Action::SetDate => self.set_date(path),
             Action::SameLock => Packet::SameLock {
                 first: lock,
                 second: to_lock,
@@ -122,18 +102,9 @@ impl JipPacket {
                 handle,
                 bytes: buffer,
             },
-            Action::FindUpdate => Packet::FindUpdate {
-                lock,
-                path: copied(path),
-            },
-            Action::FindInput => Packet::FindInput {
-                lock,
-                path: copied(path),
-            },
-            Action::FindOutput => Packet::FindOutput {
-                lock,
-                path: copied(path),
-            },
+            Action::FindUpdate => self.find_update(path),
+            Action::FindInput => self.find_input(path),
+            Action::FindOutput => self.find_output(path),
             Action::End => Packet::End { handle },
             Action::Seek => Packet::Seek {
                 handle,
@@ -150,19 +121,8 @@ impl JipPacket {
     }
 }
 
-/// A text of a packet, which fits.
-fn copied(text: &[u8]) -> PathText
-    requires { IsPathText text.now }
-    ensures { result ≡ text.now }
-{
-    let Ok(text) = PathText::new(text) else {
-        unreachable!()
-    };
-    text
-}
-
 /// The action of a number of the AmigaDOS Technical Reference, and `Other` for a number that none has.
-pub(crate) fn action_of_number(number: i32) -> Action
+fn action_of_number(number: i32) -> Action
     ensures { IsActionOf number result }
 {
     match number {

@@ -2,16 +2,16 @@
 
 ghost use Rattle.std.specs.Prelude.{◌≡◌, ◌↔◌, IsTrue};
 ghost use Rattle.ados_name.specs.Path.{IsPathText};
-ghost use Rattle.adf_c.specs.Calls.{ServeComes, ServeEnds, ServedBy, SpellComes};
-ghost use Rattle.adf_c.specs.Spelling.{carried};
+ghost use Rattle.adf_c.specs.Calls.{LoadComes, ServeComes, ServeEnds, ServedBy};
+ghost use Rattle.adf_c.specs.Spelling.{carried, date_of, packet_of};
 ghost use Rattle.adf_c.specs.Telling.{fills as fills_buffer, handed_back};
 
 use crate::answer::JipAnswer;
 use crate::desk::Desk;
 use crate::handle::JipHandle;
-use crate::packet::{JipPacket, action_of_number};
+use crate::packet::JipPacket;
 use crate::refusal::Refusal;
-use ados_name::{Date3, PathText};
+use ados_name::PathText;
 use ados_packet::{Action, Body, Buffer, Packet};
 use std::alloc::Global;
 
@@ -54,25 +54,26 @@ fn serve(
 ) -> Result<JipAnswer, Refusal>
     ensures { ServeComes handle.old.held handle.new.held packet.now path.now text.now bytes.now buffer.old buffer.new result }
 {
-    let spelled = spell(alloc, packet, path, text, bytes, buffer)?;
+    let action = packet.kind();
+    let load = load(alloc, action, path, text, bytes, buffer)?;
     let Some(mut desk) = handle.take(alloc) else {
         return Err(Refusal::WrongArgument);
     };
-    let told = serve_at(&mut desk, spelled, packet.moment.date(), buffer);
+    let told = serve_at(&mut desk, action, packet, path, text, load, buffer);
     handle.put(desk);
     Ok(told)
 }
 
-/// The packet that the struct spells, with a copy of the bytes that it carries.
-fn spell(
+/// The bytes that the packet of this action carries, where its texts fit.
+fn load(
     alloc: Global,
-    packet: &JipPacket,
+    action: Action,
     path: &[u8],
     text: &[u8],
     bytes: &[u8],
     buffer: &[u8],
-) -> Result<Packet, Refusal>
-    ensures { SpellComes packet.now path.now text.now bytes.now buffer.now result }
+) -> Result<Buffer, Refusal>
+    ensures { LoadComes action path.now text.now bytes.now buffer.now result }
 {
     if !fits(path) {
         return Err(Refusal::WrongArgument);
@@ -80,11 +81,10 @@ fn spell(
     if !fits(text) {
         return Err(Refusal::WrongArgument);
     }
-    let action = action_of_number(packet.action);
-    let Ok(carried) = Vec::from_slice(alloc, carried_by(action, bytes, buffer)) else {
+    let Ok(load) = Vec::from_slice(alloc, carried_by(action, bytes, buffer)) else {
         return Err(Refusal::NoMemory);
     };
-    Ok(packet.packet(action, path, text, Buffer::from_vec(carried)))
+    Ok(Buffer::from_vec(load))
 }
 
 /// Whether a text is no longer than that of a packet may be.
@@ -104,12 +104,23 @@ fn carried_by<'a>(action: Action, bytes: &'a [u8], buffer: &'a [u8]) -> &'a [u8]
     }
 }
 
-/// Serves a packet at a desk, and puts the bytes that a READ's answer hands back into the buffer.
-fn serve_at(desk: &mut Desk, packet: Packet, moment: Date3, buffer: &mut [u8]) -> JipAnswer
-    ensures { ServedBy desk.old desk.new packet moment buffer.old buffer.new result }
+/// Serves the packet of an action at a desk, and puts the bytes that a READ's answer hands back into the buffer.
+fn serve_at(
+    desk: &mut Desk,
+    action: Action,
+    packet: &JipPacket,
+    path: &[u8],
+    text: &[u8],
+    load: Buffer,
+    buffer: &mut [u8],
+) -> JipAnswer
+    requires path { IsPathText path.now }
+    requires text { IsPathText text.now }
+    ensures { ServedBy desk.old desk.new (packet_of action packet.now path.now text.now load) (date_of packet.now.moment) buffer.old buffer.new result }
 {
-    let fills = fills(&packet);
-    let answer = desk.serve(packet, moment);
+    let spelled = packet.packet(action, path, text, load);
+    let fills = fills(&spelled);
+    let answer = desk.serve(spelled, packet.moment.date());
     if fills {
         hand_back(&answer.body, buffer);
     }
