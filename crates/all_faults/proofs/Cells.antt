@@ -11,7 +11,7 @@ use Rattle.ados_tree.specs.declared.fault.FaultKind.TheVariants.{NotADosDisk, Un
 use Rattle.ados_tree.specs.declared.fault.VolumeFault.{VolumeFault}
 use Rattle.ados_tree.specs.Faults.{Shows}
 use Rattle.all_faults.specs.Listed.{rank, StandsBefore, ListsFaults}
-use Rattle.all_faults.specs.steps.Noted.{AreNoted, IsNoted, HasNote, cell_of}
+use Rattle.all_faults.specs.steps.Noted.{AreListed, AreNoted, IsNoted, HasNote, cell_at, cell_of}
 
 all_kinds : List FaultKind
 all_kinds = NotADosDisk ∷ UnsupportedKind ∷ BadSum ∷ BadType ∷ BadOwnKey ∷ BadParent ∷ BadPointer ∷ BlockUsedTwice ∷ WrongChain ∷ BadName ∷ DuplicateName ∷ BadComment ∷ BadCount ∷ BadSequence ∷ LinkEntry ∷ MarkedFree ∷ NoMemory ∷ []
@@ -91,9 +91,6 @@ noted_here image cells kind block n l = (cell_of kind block, get_or-set_same cel
 
 -- ---- the list
 
-abbrev pub cell_at : VolumeFault → ℕ
-cell_at fault = cell_of fault.kind fault.block
-
 before_by_cell : (fault other : VolumeFault) → cell_at fault < cell_at other → StandsBefore fault other
 before_by_cell fault other l = elim (cases_lt fault.block other.block) [
   | inl below ↦ inl below
@@ -103,12 +100,6 @@ before_by_cell fault other l = elim (cases_lt fault.block other.block) [
       let blocks : fault.block ≡ other.block = omega (arith, k, o, l, not_below) in
       inr (blocks, omega (arith, l, blocks)))
 ]
-
--- the faults of the cells below one
-pub record AreListed (image : List ℕ) (cells : List Bool) (most below : ℕ) (faults : List VolumeFault) : Type 0 where
-  pub lists : ListsFaults image most faults
-  pub cells_below : All (λ fault. cell_at fault < below) faults
-  pub some : (cell : ℕ) → cell < below → IsNoted cells cell → 0 < length faults
 
 pub none_listed : (image : List ℕ) (cells : List Bool) (most : ℕ) → AreListed image cells most 0 []
 none_listed image cells most = record {
@@ -143,3 +134,9 @@ module _ (image : List ℕ) (cells : List Bool) (most below : ℕ) (faults : Lis
     where
       grown : length (faults ++ fault ∷ []) ≡ length faults + 1
       grown = length_push faults fault
+
+-- a cell that is set is one of the cells
+pub set_within : (cells : List Bool) (cell : ℕ) → IsNoted cells cell → cell < length cells
+set_within [] cell e = absurd (false≢true e)
+set_within (x ∷ xs) zero e = omega arith
+set_within (x ∷ xs) (suc cell) e = let l = set_within xs cell e in omega (arith, l)

@@ -5,3 +5,4 @@ pub mod Doubles
 pub mod Linking
 pub mod Pointers
 pub mod Sameness
+pub mod Freed

@@ -1,6 +1,6 @@
 -- The blocks that links reach, one more at a time, and the set of those that were met.
 use Rattle.std.proofs.Common.{◌≡◌, ◌≢◌, ◌↔◌, ℕ, ◌+◌, ◌-◌, ◌<◌, ◌⊎◌, inl, inr, Bool, true, false, cond, List, [], ◌∷◌, ◌++◌, length, slice_index, get_or, refl, sym, ap, ◌∙◌, subst, arith}
-use Rattle.std.specs.List.{AllPairs, Contains}
+use Rattle.std.specs.List.{AllPairs, Contains, list_any}
 use Rattle.std.specs.Ordering.{nat_cmp, is_eq}
 use Rattle.std.specs.declared.cmp.Ordering.{Ordering}
 use Rattle.std.specs.declared.cmp.Ordering.TheVariants.{Less, Equal, Greater}
@@ -9,42 +9,42 @@ use Rattle.std.specs.BTreeMap.{is_at}
 use Rattle.std.specs.BTreeSet.{BTreeSet, contains}
 use Rattle.std.proofs.lemmas.Bool.{cases_lt, cases_Bool, false≢true}
 use Rattle.std.proofs.lemmas.List.{get_or_default, length_push, get_or_push, get_or_append_left}
-use Rattle.std.proofs.lemmas.List.Elements.{Contains-push, Contains-push_cases, Contains-append_left}
+use Rattle.std.proofs.lemmas.List.Elements.{All-push, Contains-push, Contains-push_cases, Contains-append_left}
 use Rattle.std.proofs.lemmas.List.Quantifiers.{all_pairs_push}
 use Rattle.adf_block.specs.Image.{long}
 use Rattle.ados_tree.specs.Faults.{InImage, LinkedOnce, LeadOn, FurtherAreInside, AreDistinct, last_link}
-use Rattle.all_faults.specs.steps.Chain.{IsChain}
+use Rattle.all_faults.specs.steps.Chain.{HasMet, IsChain}
 
 -- the first block alone
-pub chain_start : (image : List ℕ) (link first : ℕ) → IsChain image link first (first ∷ [])
-chain_start image link first = record {
+pub chain_start : (image : List ℕ) (link first : ℕ) → InImage image first → IsChain image link (first ∷ [])
+chain_start image link first within = record {
   not_empty = omega arith;
-  head = refl;
   linked = λ i l. absurd (omega (arith, l));
-  inside = λ i l. absurd (omega (arith, l));
+  further = λ i l. absurd (omega (arith, l));
   once = λ i j d l m. absurd (omega (arith, l, m));
+  inside = All-push (InImage image) [] first (λ k d l. absurd (omega (arith, l))) within;
 }
 
-module _ (image : List ℕ) (link first : ℕ) (blocks : List ℕ) (c : IsChain image link first blocks) where
+module _ (image : List ℕ) (link : ℕ) (blocks : List ℕ) (c : IsChain image link blocks) where
   -- the links lead out, or back
-  pub chain_whole : (next : ℕ) → last_link image link blocks ≡ next → (InImage image next → Contains blocks next) → LinkedOnce image link first blocks
+  pub chain_whole : (next : ℕ) → last_link image link blocks ≡ next → (InImage image next → Contains blocks next) → LinkedOnce image link (slice_index blocks 0) blocks
   chain_whole next e back = record {
     not_empty = c.not_empty;
-    head = c.head;
+    head = refl;
     linked = c.linked;
-    inside = c.inside;
+    inside = c.further;
     once = c.once;
     whole = λ inside. subst (Contains blocks) (sym e) (back (subst (InImage image) e inside));
   }
 
   -- a block that was not met
-  pub chain_more : (next : ℕ) → last_link image link blocks ≡ next → InImage image next → ¬ Contains blocks next → IsChain image link first (blocks ++ next ∷ [])
+  pub chain_more : (next : ℕ) → last_link image link blocks ≡ next → InImage image next → ¬ Contains blocks next → IsChain image link (blocks ++ next ∷ [])
   chain_more next e inside fresh = record {
     not_empty = omega (arith, grown);
-    head = before 0 c.not_empty ∙ c.head;
     linked = linked;
-    inside = further;
+    further = further;
     once = all_pairs_push (λ (a b : ℕ). a ≢ b) blocks next c.once (λ k d l z. fresh (k, l, get_or_default blocks k next d l ∙ z));
+    inside = All-push (InImage image) blocks next c.inside inside;
   }
     where
       grown : length (blocks ++ next ∷ []) ≡ length blocks + 1
@@ -67,16 +67,11 @@ module _ (image : List ℕ) (link first : ℕ) (blocks : List ℕ) (c : IsChain 
 
       further : FurtherAreInside image (blocks ++ next ∷ [])
       further i l = elim (cases_lt (i + 1) (length blocks)) [
-        | inl m ↦ subst (InImage image) (sym (before (i + 1) m)) (c.inside i m)
+        | inl m ↦ subst (InImage image) (sym (before (i + 1) m)) (c.further i m)
         | inr m ↦ subst (InImage image) (sym (last (i + 1) (omega (arith, l, m, grown)))) inside
       ]
 
 -- ---- the set
-
--- the set has exactly the blocks of the list
-pub record HasMet (met : BTreeSet ℕ) (blocks : List ℕ) : Type 0 where
-  pub listed : (block : ℕ) → contains nat_cmp met block ≡ true → Contains blocks block
-  pub held : (block : ℕ) → Contains blocks block → contains nat_cmp met block ≡ true
 
 is_equal : (o : Ordering) → is_eq o ≡ true → o ≡ Equal
 is_equal Less e = absurd (cc e)
@@ -110,3 +105,13 @@ met_more met more blocks next h updates there = record {
         go (inr a) =
             let old : contains nat_cmp met block ≡ true = ap (λ (b : Bool). cond b true (contains nat_cmp met block)) (sym a) ∙ sym (updates block) ∙ e in
             Contains-append_left blocks (next ∷ []) block (h.listed block old)
+
+-- neither has a block
+pub met_none : (met : BTreeSet ℕ) → met.keys ≡ [] → HasMet met []
+met_none met none = record {
+  listed = λ block e. absurd (false≢true (sym (ap (λ (ks : List ℕ). list_any (is_at (nat_cmp block)) ks) none) ∙ e));
+  held = λ block c. absurd (omega (arith, c.1));
+}
+
+pub head_kept : (blocks : List ℕ) (next : ℕ) → 0 < length blocks → slice_index (blocks ++ next ∷ []) 0 ≡ slice_index blocks 0
+head_kept blocks next l = get_or_append_left blocks (next ∷ []) 0 0 l

@@ -1,5 +1,6 @@
 -- The pointers of a block, one more at a time.
-use Rattle.std.proofs.Common.{◌≡◌, ℕ, zero, suc, ◌+◌, ◌-◌, ◌<◌, ◌≤◌, ◌==◌, Bool, true, false, nat_le, List, [], ◌∷◌, ◌++◌, slice_index, refl, sym, ap, ◌∙◌, arith, le-leb, add-one, append-nil, append_assoc}
+use Rattle.std.proofs.Common.{◌≡◌, ℕ, zero, suc, ◌+◌, ◌-◌, ◌<◌, ◌≤◌, ◌==◌, Bool, true, false, nat_le, List, [], ◌∷◌, ◌++◌, length, slice_index, refl, sym, ap, ◌∙◌, arith, le-leb, add-one, append-nil, append_assoc}
+use Rattle.std.proofs.lemmas.List.{get_or_append_left, length_push}
 use Rattle.adf_block.specs.Image.{long}
 use Rattle.adf_block.specs.Fields.{pointer, pointer_count}
 use Rattle.ados_tree.specs.Faults.{first_pointers, pointers_of}
@@ -25,3 +26,18 @@ first_none image block none = ap (λ (xs : List ℕ). slice_index xs 0) (pointer
 
 pub first_over : (image : List ℕ) (block : ℕ) → 72 < pointer_count image block → slice_index (pointers_of image block) 0 ≡ 0
 first_over image block many = ap (λ (xs : List ℕ). slice_index xs 0) (no_pointers image block many)
+
+-- the first of some pointers
+first_of : (image : List ℕ) (block n : ℕ) → slice_index (first_pointers image block (suc n)) 0 ≡ pointer image block 0
+first_of image block zero = refl
+first_of image block (suc n) = get_or_append_left (first_pointers image block (suc n)) (pointer image block (suc n) ∷ []) 0 0 (some n) ∙ first_of image block n
+  where
+    some : (n : ℕ) → 0 < length (first_pointers image block (suc n))
+    some n = omega (arith, length_push (first_pointers image block n) (pointer image block n))
+
+pub first_is : (image : List ℕ) (block : ℕ) → 0 < pointer_count image block → pointer_count image block ≤ 72 → slice_index (pointers_of image block) 0 ≡ long image block 77
+first_is image block more few = ap (λ (xs : List ℕ). slice_index xs 0) (pointers_are image block few) ∙ go (pointer_count image block) more
+  where
+    go : (n : ℕ) → 0 < n → slice_index (first_pointers image block n) 0 ≡ long image block 77
+    go zero l = absurd (omega (arith, l))
+    go (suc n) l = first_of image block n

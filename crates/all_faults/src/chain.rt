@@ -1,7 +1,8 @@
 //! The data blocks of an OFS file, which lead from one to the next and know their places.
-ghost use Rattle.std.specs.Prelude.{◌≡◌, ◌<◌, ◌+◌, ◌⊎◌, All, IfSome, IsTrue, length, slice_index, sum_by};
-ghost use Rattle.adf_block.specs.Fields.{held_count, ofs_room};
-ghost use Rattle.ados_tree.specs.Faults.{AreDataBlocks, HoldsOtherSize, InImage, IsOfs};
+ghost use Rattle.std.specs.Prelude.{◌≡◌, ◌≢◌, ◌<◌, ◌+◌, All, IfSome, IsTrue, length, slice_index, sum_by};
+ghost use Rattle.adf_block.specs.Fields.{held_count, ofs_room, sequence_number};
+ghost use Rattle.ados_tree.specs.Faults.{AreDataBlocks, HoldsOtherSize, InImage, IsOfs, LinksOn};
+ghost use Rattle.all_faults.specs.steps.Chain.{HoldsTooLittle, IsPlaced};
 ghost use Rattle.all_faults.specs.steps.Noted.{AreNoted};
 
 use crate::bits::is_inside;
@@ -34,34 +35,67 @@ fn look_at_place(image: &Image, file: u32, blocks: &[u32], i: usize, notes: &mut
     ensures { AreNoted image.now notes.new.cells.items }
 {
     let block = blocks[i];
-    if !is_inside(image, block) {
-        return;
+    if is_inside(image, block) {
+        return look_at_block(image, blocks, i, block, notes);
     }
-    let sequence = image.long(block, SEQUENCE) as usize;
-    let held = image.long(block, HELD);
-    let next = image.long(block, NEXT_DATA);
-    notes.note_if(image, FaultKind::BadSequence, block, sequence != i + 1);
-    notes.note_if(
-        image,
-        FaultKind::BadCount,
-        block,
-        held < least_held(blocks, i),
-    );
-    notes.note_if(image, FaultKind::BadCount, block, held > OFS_ROOM);
-    notes.note_if(
-        image,
-        FaultKind::BadPointer,
-        block,
-        next != block_behind(blocks, i),
-    );
 }
 
-/// How many bytes the block at a place has to hold: the last one byte, and the others all for which they have room.
-fn least_held(blocks: &[u32], i: usize) -> u32
-    requires { i < length blocks.now }
-    ensures { (result ≡ 1) ⊎ ((result ≡ ofs_room) × (i + 1 < length blocks.now)) }
+/// Looks at a data block of an OFS file at its place.
+fn look_at_block(image: &Image, blocks: &[u32], i: usize, block: u32, notes: &mut Notes)
+    requires noted { AreNoted image.now notes.old.cells.items }
+    requires ofs { IsOfs image.now }
+    requires inside { InImage image.now block }
+    requires at { IsPlaced image.now blocks.now i block }
+    ensures { AreNoted image.now notes.new.cells.items }
 {
-    if i + 1 < blocks.len() { OFS_ROOM } else { 1 }
+    let place = has_other_place(image, blocks, i, block);
+    notes.note_if(image, FaultKind::BadSequence, block, place);
+    let short = is_short(image, blocks, i, block);
+    notes.note_if(image, FaultKind::BadCount, block, short);
+    let over = holds_too_much(image, block);
+    notes.note_if(image, FaultKind::BadCount, block, over);
+    let link = leads_elsewhere(image, blocks, i, block);
+    notes.note_if(image, FaultKind::BadPointer, block, link);
+}
+
+/// Whether a data block does not have its place in the file, from 1.
+fn has_other_place(image: &Image, blocks: &[u32], i: usize, block: u32) -> bool
+    requires inside { InImage image.now block }
+    requires within { i < length blocks.now }
+    ensures { IsTrue result → sequence_number image.now block ≢ i + 1 }
+{
+    let _count = blocks.len();
+    image.long(block, SEQUENCE) as usize != i + 1
+}
+
+/// Whether a data block holds nothing, or is not the last one and not full.
+fn is_short(image: &Image, blocks: &[u32], i: usize, block: u32) -> bool
+    requires inside { InImage image.now block }
+    requires within { i < length blocks.now }
+    ensures { IsTrue result → HoldsTooLittle image.now blocks.now i block }
+{
+    let held = image.long(block, HELD);
+    if held == 0 {
+        return true;
+    }
+    i + 1 < blocks.len() && held != OFS_ROOM
+}
+
+/// Whether a data block holds more than it has room for.
+fn holds_too_much(image: &Image, block: u32) -> bool
+    requires { InImage image.now block }
+    ensures { IsTrue result → ofs_room < held_count image.now block }
+{
+    image.long(block, HELD) > OFS_ROOM
+}
+
+/// Whether a data block names another next one than what stands behind its place, or one where nothing does.
+fn leads_elsewhere(image: &Image, blocks: &[u32], i: usize, block: u32) -> bool
+    requires inside { InImage image.now block }
+    requires within { i < length blocks.now }
+    ensures { IsTrue result → ¬ LinksOn image.now block blocks.now i }
+{
+    image.long(block, NEXT_DATA) != block_behind(blocks, i)
 }
 
 /// The block behind a place, or 0 where there is none.
@@ -90,14 +124,24 @@ fn holds_other_size(image: &Image, file: u32, blocks: &[u32]) -> bool
 
 /// How many bytes the blocks hold together; `None` where one of them is not in the image.
 fn held_together(image: &Image, blocks: &[u32]) -> Option<u64>
-    ensures { IfSome result (λ sum. All (InImage image.now) blocks.now × (sum ≡ sum_by (held_count image.now) blocks.now)) }
+    ensures inside { IfSome result (λ _. All (InImage image.now) blocks.now) }
+    ensures sum { IfSome result (λ sum. sum ≡ sum_by (held_count image.now) blocks.now) }
 {
-    let mut sum = 0_u64;
-    for block in blocks {
-        if !is_inside(image, *block) {
-            return None;
-        }
-        sum = sum.checked_add(u64::from(image.long(*block, HELD)))?;
+    let mut sum = 0;
+    for i in 0..blocks.len() {
+        let more = with_held(image, blocks[i], sum)?;
+        sum = more;
     }
     Some(sum)
+}
+
+/// The bytes of a block and of others together.
+fn with_held(image: &Image, block: u32, sum: u64) -> Option<u64>
+    ensures inside { IfSome result (λ _. InImage image.now block) }
+    ensures sum { IfSome result (λ more. more ≡ sum + held_count image.now block) }
+{
+    if !is_inside(image, block) {
+        return None;
+    }
+    sum.checked_add(u64::from(image.long(block, HELD)))
 }

@@ -1,7 +1,8 @@
 //! The first fault that the check meets, or that there is none.
-ghost use Rattle.std.specs.Prelude.{◌≡◌, IfOk, MatchOption, MatchResult};
+ghost use Rattle.std.specs.Prelude.{IfOk, MatchOption, MatchResult};
 ghost use Rattle.ados_tree.specs.Accepted.{IsRefusal, ShowsNoFault};
-ghost use Rattle.ados_tree.specs.Faults.{IsReachedAndFree, Shows};
+ghost use Rattle.ados_tree.specs.Faults.{Shows};
+ghost use Rattle.ados_tree.specs.Rebuilt.{HasValidBitmap};
 ghost use Rattle.check_marks.specs.Marks.{IsChecked};
 
 use crate::bits::{has_valid_bitmap, is_marked_free};
@@ -18,7 +19,7 @@ pub(crate) fn first_fault(alloc: Global, image: &Image) -> Result<Option<VolumeF
     ensures { IfOk result (λ found. MatchOption found (ShowsNoFault image.now) (λ fault. Shows image.now fault.kind fault.block)) }
 {
     match checked_marks(alloc, image) {
-        Ok(marks) => Ok(reached_and_free(image, &marks)),
+        Ok(marks) => Ok(bitmap_fault(image, &marks)),
         Err(fault) if fault.kind == FaultKind::NoMemory => Err(AllocError),
         Err(fault) => Ok(Some(fault)),
     }
@@ -34,16 +35,25 @@ fn checked_marks(alloc: Global, image: &Image) -> Result<Vec<Option<Mark>>, Volu
     Ok(marks)
 }
 
+/// What the bitmap shows, where it is valid.
+fn bitmap_fault(image: &Image, marks: &[Option<Mark>]) -> Option<VolumeFault>
+    requires { IsChecked image.now marks.now }
+    ensures { MatchOption result (ShowsNoFault image.now) (λ fault. Shows image.now fault.kind fault.block) }
+{
+    if !has_valid_bitmap(image) {
+        return None;
+    }
+    reached_and_free(image, marks)
+}
+
 /// The first reached block that is marked free.
 fn reached_and_free(image: &Image, marks: &[Option<Mark>]) -> Option<VolumeFault>
-    requires { IsChecked image.now marks.now }
+    requires checked { IsChecked image.now marks.now }
+    requires valid { HasValidBitmap image.now }
     ensures { MatchOption result (ShowsNoFault image.now) (λ fault. Shows image.now fault.kind fault.block) }
 {
     checked_has_pages();
     checked_is_accepted();
-    if !has_valid_bitmap(image) {
-        return None;
-    }
     for block in BOOT_BLOCKS..image.blocks() {
         if marks[block as usize].is_some() && is_marked_free(image, block) {
             return Some(VolumeFault {

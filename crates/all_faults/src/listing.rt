@@ -1,5 +1,6 @@
 //! All faults of an image, in order.
 ghost use Rattle.std.specs.Prelude.{◌≡◌, ◌<◌, ◌≤◌, ◌↔◌, [], IfOk, false, length};
+ghost use Rattle.adf_block.specs.Image.{IsImage};
 ghost use Rattle.ados_tree.specs.Accepted.{ShowsNoFault};
 ghost use Rattle.ados_tree.specs.Faults.{Shows};
 ghost use Rattle.all_faults.specs.Listed.{ListsFaults};
@@ -35,6 +36,7 @@ pub fn all_faults(alloc: Global, image: &Image, most: usize) -> Result<AllFaults
     ensures none { 1 ≤ most → IfOk result (λ found. (found.faults.items ≡ []) ↔ ShowsNoFault image.now) }
     ensures whole { IfOk result (λ found. ShowsNoFault image.now → found.more ≡ false) }
 {
+    prove!(image.blocks() >= 16);
     match first_fault(alloc, image)? {
         Some(first) => faults_with(alloc, image, first, most),
         None => Ok(AllFaults {
@@ -52,7 +54,8 @@ fn faults_with(
     first: VolumeFault,
     most: usize,
 ) -> Result<AllFaults, AllocError>
-    requires { Shows image.now first.kind first.block }
+    requires image { IsImage image.now }
+    requires shown { Shows image.now first.kind first.block }
     ensures lists { IfOk result (λ found. ListsFaults image.now most found.faults.items) }
     ensures some { 1 ≤ most → IfOk result (λ found. 0 < length found.faults.items) }
 {

@@ -1,6 +1,6 @@
 //! A look at a block in a role: all that can be told to be wrong from the block alone.
-ghost use Rattle.std.specs.Prelude.{◌≡◌, ◌<◌, All, slice_index};
-ghost use Rattle.adf_block.specs.Image.{block_count};
+ghost use Rattle.std.specs.Prelude.{◌≡◌, ◌≢◌, ◌<◌, All, IsTrue, slice_index};
+ghost use Rattle.adf_block.specs.Image.{block_count, long};
 ghost use Rattle.ados_tree.specs.declared.role.Role.TheVariants.{Root, Page, Entry, Data, Extension};
 ghost use Rattle.ados_tree.specs.Faults.{HasPointers, InImage, IsFile, Reached, pointers_of, root_of};
 ghost use Rattle.all_faults.specs.steps.Noted.{AreNoted};
@@ -52,22 +52,29 @@ fn look_root(image: &Image, block: u32, notes: &mut Notes)
     requires noted { AreNoted image.now notes.old.cells.items }
     requires inside { InImage image.now block }
     requires root { block ≡ root_of image.now }
+    requires reached { Reached image.now block Root }
     ensures { AreNoted image.now notes.new.cells.items }
 {
-    let primary = image.long(block, PRIMARY_TYPE);
-    let secondary = image.long(block, SECONDARY_TYPE);
-    let table = image.long(block, TABLE_SIZE);
     notes.note_if(image, FaultKind::BadSum, block, image.sum(block) != 0);
-    notes.note_if(image, FaultKind::BadType, block, primary != HEADER_TYPE);
-    notes.note_if(image, FaultKind::BadType, block, table != TABLE_LONGS);
-    notes.note_if(image, FaultKind::BadType, block, secondary != ROOT_TYPE);
-    notes.note_if(
-        image,
-        FaultKind::BadParent,
-        block,
-        image.long(block, PARENT) != 0,
-    );
-    notes.note_if(image, FaultKind::BadName, block, has_bad_name(image, block));
+    let primary = is_other(image, block, PRIMARY_TYPE, HEADER_TYPE);
+    notes.note_if(image, FaultKind::BadType, block, primary);
+    let table = is_other(image, block, TABLE_SIZE, TABLE_LONGS);
+    notes.note_if(image, FaultKind::BadType, block, table);
+    let secondary = is_other(image, block, SECONDARY_TYPE, ROOT_TYPE);
+    notes.note_if(image, FaultKind::BadType, block, secondary);
+    let parent = is_other(image, block, PARENT, 0);
+    notes.note_if(image, FaultKind::BadParent, block, parent);
+    let name = has_bad_name(image, block);
+    notes.note_if(image, FaultKind::BadName, block, name);
+}
+
+/// Whether a long is not what is wanted.
+fn is_other(image: &Image, block: u32, i: u32, wanted: u32) -> bool
+    requires inside { InImage image.now block }
+    requires long { i < 128 }
+    ensures { IsTrue result → long image.now block i ≢ wanted }
+{
+    image.long(block, i) != wanted
 }
 
 fn look_page(image: &Image, block: u32, notes: &mut Notes)
@@ -85,22 +92,15 @@ fn look_entry(image: &Image, block: u32, dir: u32, slot: u32, notes: &mut Notes)
     requires reached { Reached image.now block (Entry dir slot) }
     ensures { AreNoted image.now notes.new.cells.items }
 {
-    let primary = image.long(block, PRIMARY_TYPE);
     notes.note_if(image, FaultKind::BadSum, block, image.sum(block) != 0);
-    notes.note_if(image, FaultKind::BadType, block, primary != HEADER_TYPE);
-    notes.note_if(
-        image,
-        FaultKind::BadOwnKey,
-        block,
-        image.long(block, OWN_KEY) != block,
-    );
-    notes.note_if(
-        image,
-        FaultKind::BadParent,
-        block,
-        image.long(block, PARENT) != dir,
-    );
-    notes.note_if(image, FaultKind::BadName, block, has_bad_name(image, block));
+    let primary = is_other(image, block, PRIMARY_TYPE, HEADER_TYPE);
+    notes.note_if(image, FaultKind::BadType, block, primary);
+    let key = is_other(image, block, OWN_KEY, block);
+    notes.note_if(image, FaultKind::BadOwnKey, block, key);
+    let parent = is_other(image, block, PARENT, dir);
+    notes.note_if(image, FaultKind::BadParent, block, parent);
+    let name = has_bad_name(image, block);
+    notes.note_if(image, FaultKind::BadName, block, name);
     let wrong = is_of_other_slot(image, block, slot);
     notes.note_if(image, FaultKind::WrongChain, block, wrong);
     look_secondary(image, block, dir, slot, notes);
@@ -137,10 +137,11 @@ fn look_file(image: &Image, block: u32, notes: &mut Notes)
     let long = image.byte(block, COMMENT_BYTE) > 79;
     notes.note_if(image, FaultKind::BadComment, block, long);
     look_counts(image, block, notes);
-    if image.byte(0, KIND_BYTE) == 0 {
-        let wrong = image.long(block, NEXT_DATA) != first_pointer(image, block);
-        notes.note_if(image, FaultKind::BadPointer, block, wrong);
+    if image.byte(0, KIND_BYTE) != 0 {
+        return;
     }
+    let wrong = is_other(image, block, NEXT_DATA, first_pointer(image, block));
+    notes.note_if(image, FaultKind::BadPointer, block, wrong);
 }
 
 /// The first data pointer of a header, or 0 where it has none.
@@ -164,9 +165,10 @@ fn look_counts(image: &Image, block: u32, notes: &mut Notes)
 {
     let count = image.long(block, POINTER_COUNT);
     notes.note_if(image, FaultKind::BadCount, block, count > TABLE_LONGS);
-    if image.long(block, NEXT_EXTENSION) != 0 {
-        notes.note_if(image, FaultKind::BadCount, block, count < TABLE_LONGS);
+    if image.long(block, NEXT_EXTENSION) == 0 {
+        return;
     }
+    notes.note_if(image, FaultKind::BadCount, block, count < TABLE_LONGS);
 }
 
 /// Only in OFS has a data block fields.
@@ -179,15 +181,11 @@ fn look_data(image: &Image, block: u32, file: u32, notes: &mut Notes)
     if image.byte(0, KIND_BYTE) != 0 {
         return;
     }
-    let primary = image.long(block, PRIMARY_TYPE);
     notes.note_if(image, FaultKind::BadSum, block, image.sum(block) != 0);
-    notes.note_if(image, FaultKind::BadType, block, primary != DATA_TYPE);
-    notes.note_if(
-        image,
-        FaultKind::BadParent,
-        block,
-        image.long(block, OWN_KEY) != file,
-    );
+    let primary = is_other(image, block, PRIMARY_TYPE, DATA_TYPE);
+    notes.note_if(image, FaultKind::BadType, block, primary);
+    let parent = is_other(image, block, OWN_KEY, file);
+    notes.note_if(image, FaultKind::BadParent, block, parent);
 }
 
 fn look_extension(image: &Image, block: u32, file: u32, notes: &mut Notes)
@@ -196,24 +194,16 @@ fn look_extension(image: &Image, block: u32, file: u32, notes: &mut Notes)
     requires reached { Reached image.now block (Extension file) }
     ensures { AreNoted image.now notes.new.cells.items }
 {
-    let primary = image.long(block, PRIMARY_TYPE);
-    let secondary = image.long(block, SECONDARY_TYPE);
     let count = image.long(block, POINTER_COUNT);
     notes.note_if(image, FaultKind::BadSum, block, image.sum(block) != 0);
-    notes.note_if(image, FaultKind::BadType, block, primary != LIST_TYPE);
-    notes.note_if(image, FaultKind::BadType, block, secondary != FILE_TYPE);
-    notes.note_if(
-        image,
-        FaultKind::BadOwnKey,
-        block,
-        image.long(block, OWN_KEY) != block,
-    );
-    notes.note_if(
-        image,
-        FaultKind::BadParent,
-        block,
-        image.long(block, PARENT) != file,
-    );
+    let primary = is_other(image, block, PRIMARY_TYPE, LIST_TYPE);
+    notes.note_if(image, FaultKind::BadType, block, primary);
+    let secondary = is_other(image, block, SECONDARY_TYPE, FILE_TYPE);
+    notes.note_if(image, FaultKind::BadType, block, secondary);
+    let key = is_other(image, block, OWN_KEY, block);
+    notes.note_if(image, FaultKind::BadOwnKey, block, key);
+    let parent = is_other(image, block, PARENT, file);
+    notes.note_if(image, FaultKind::BadParent, block, parent);
     notes.note_if(image, FaultKind::BadCount, block, count == 0);
     look_counts(image, block, notes);
 }

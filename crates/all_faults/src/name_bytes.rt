@@ -20,7 +20,10 @@ pub(crate) fn has_bad_name(image: &Image, block: u32) -> bool
     if !has_short_name(image, block) {
         return true;
     }
-    Name::new(short_text(image, block)).is_err()
+    match Name::new(short_text(image, block)) {
+        Ok(_) => false,
+        Err(_) => true,
+    }
 }
 
 /// Whether the length of the name is one that a name can have.
@@ -35,7 +38,9 @@ pub(crate) fn has_short_name(image: &Image, block: u32) -> bool
 fn short_text(image: &Image, block: u32) -> &[u8]
     requires inside { block < block_count image.now }
     requires short { HasShortName image.now block }
-    ensures { result.now ≡ text_at image.now block name_byte }
+    ensures text { result.now ≡ text_at image.now block name_byte }
+    ensures short { HasShortName image.now block }
+    ensures few { length result.now ≤ 30 }
 {
     let length = usize::from(image.byte(block, NAME_BYTE));
     let start = NAME_BYTE as usize + 1;

@@ -1,5 +1,6 @@
 //! The names of the entries, which stand in one directory once.
 ghost use Rattle.std.specs.Prelude.{◌≡◌, All, IfOk, IsTrue};
+ghost use Rattle.adf_block.specs.Image.{IsImage};
 ghost use Rattle.all_faults.specs.steps.Named.{AreDuplicates, IsEntryName};
 ghost use Rattle.all_faults.specs.steps.Noted.{AreNoted};
 ghost use Rattle.all_faults.specs.steps.Walked.{IsStep};
@@ -29,6 +30,7 @@ pub(crate) fn note_duplicates(
 ) -> Result<(), AllocError>
     requires noted { AreNoted image.now notes.old.cells.items }
     requires steps { All (IsStep image.now) steps.now }
+    requires image { IsImage image.now }
     ensures { IfOk result (λ _. AreNoted image.now notes.new.cells.items) }
 {
     let mut names = names_of(alloc, image, steps)?;
@@ -75,6 +77,7 @@ fn add_name(image: &Image, step: Step, names: &mut Vec<EntryName>) -> Result<(),
 
 /// Notes two entries that have the same name.
 fn note_if_same(image: &Image, entry: &EntryName, other: &EntryName, notes: &mut Notes)
+    requires image { IsImage image.now }
     requires noted { AreNoted image.now notes.old.cells.items }
     requires entry { IsEntryName image.now entry.now }
     requires other { IsEntryName image.now other.now }

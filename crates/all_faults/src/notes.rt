@@ -1,9 +1,9 @@
 //! What has been found: a cell for each kind of fault of each block.
-ghost use Rattle.std.specs.Prelude.{◌≡◌, ◌<◌, ◌≤◌, ◌*◌, ◌^◌, length, IfOk, IsTrue};
+ghost use Rattle.std.specs.Prelude.{◌≡◌, ◌<◌, ◌≤◌, ◌+◌, ◌*◌, false, length, slice_index_or, true, IfOk, IsTrue};
 ghost use Rattle.adf_block.specs.Image.{block_count};
 ghost use Rattle.ados_tree.specs.Faults.{Shows};
 ghost use Rattle.all_faults.specs.Listed.{ListsFaults};
-ghost use Rattle.all_faults.specs.steps.Noted.{AreNoted, HasNote, cell_of};
+ghost use Rattle.all_faults.specs.steps.Noted.{AreListed, AreNoted, HasNote, IsNoted, cell_of};
 
 use crate::kinds::{KINDS, kind_at, rank_of};
 use adf_block::Image;
@@ -59,23 +59,16 @@ impl Notes {
     }
 
     /// The first `most` of the faults.
-    pub(crate) fn listed(
-        &self,
-        alloc: Global,
-        image: &Image,
-        most: usize,
-    ) -> Result<Listed, AllocError>
+    pub(crate) fn listed(&self, alloc: Global, image: &Image, most: usize) -> Result<Listed, AllocError>
         requires noted { AreNoted image.now self.now.cells.items }
         ensures lists { IfOk result (λ listed. ListsFaults image.now most listed.faults.items) }
         ensures some { HasNote self.now.cells.items → 1 ≤ most → IfOk result (λ listed. 0 < length listed.faults.items) }
     {
         let mut faults = Vec::new(alloc);
         for cell in 0..self.cells.len() {
-            if self.cells[cell] {
-                if faults.len() == most {
-                    return Ok(Listed { faults, more: true });
-                }
-                faults.push(fault_at(cell))?;
+            let has_room = self.has_room_for(image, cell, most, &mut faults)?;
+            if !has_room {
+                return Ok(Listed { faults, more: true });
             }
         }
         Ok(Listed {
@@ -83,13 +76,65 @@ impl Notes {
             more: false,
         })
     }
+
+    /// Adds the fault of a cell, where it is set; not where there are `most` already.
+    fn has_room_for(
+        &self,
+        image: &Image,
+        cell: usize,
+        most: usize,
+        faults: &mut Vec<VolumeFault>,
+    ) -> Result<bool, AllocError>
+        requires noted { AreNoted image.now self.now.cells.items }
+        requires within { cell < length self.now.cells.items }
+        requires listed { AreListed image.now self.now.cells.items most cell faults.old.items }
+        ensures listed { IfOk result (λ room. room ≡ true → AreListed image.now self.now.cells.items most (cell + 1) faults.new.items) }
+        ensures full { IfOk result (λ room. room ≡ false → ListsFaults image.now most faults.new.items × (length faults.new.items ≡ most)) }
+    {
+        if self.is_set(cell) {
+            return self.add_fault(image, cell, most, faults);
+        }
+        Ok(true)
+    }
+
+    /// Adds the fault of a cell that is set, where there are not `most` yet.
+    fn add_fault(
+        &self,
+        image: &Image,
+        cell: usize,
+        most: usize,
+        faults: &mut Vec<VolumeFault>,
+    ) -> Result<bool, AllocError>
+        requires noted { AreNoted image.now self.now.cells.items }
+        requires within { cell < length self.now.cells.items }
+        requires is_set { IsNoted self.now.cells.items cell }
+        requires listed { AreListed image.now self.now.cells.items most cell faults.old.items }
+        ensures listed { IfOk result (λ room. room ≡ true → AreListed image.now self.now.cells.items most (cell + 1) faults.new.items) }
+        ensures full { IfOk result (λ room. room ≡ false → ListsFaults image.now most faults.new.items × (length faults.new.items ≡ most)) }
+    {
+        if faults.len() == most {
+            return Ok(false);
+        }
+        let fault = fault_at(image, cell);
+        faults.push(fault)?;
+        Ok(true)
+    }
+
+    /// Whether a cell is set.
+    fn is_set(&self, cell: usize) -> bool
+        requires { cell < length self.now.cells.items }
+        ensures { result ≡ slice_index_or self.now.cells.items cell false }
+    {
+        self.cells[cell]
+    }
 }
 
 /// The fault that a cell stands for.
-fn fault_at(cell: usize) -> VolumeFault
-    requires { cell < KINDS * 2 ^ 32 }
+fn fault_at(image: &Image, cell: usize) -> VolumeFault
+    requires { cell < 17 * block_count image.now }
     ensures { cell_of result.kind result.block ≡ cell }
 {
+    prove!(image.blocks() >= 16);
     VolumeFault {
         kind: kind_at(cell % KINDS),
         block: (cell / KINDS) as u32,

@@ -1,8 +1,8 @@
 //! From the root over each place of each block that is reached, past all that is wrong.
-ghost use Rattle.std.specs.Prelude.{◌≡◌, ◌<◌, IfOk};
+ghost use Rattle.std.specs.Prelude.{◌≡◌, ◌≢◌, ◌<◌, ◌⊎◌, ◌∷◌, [], IfOk, IsTrue, None, replicate};
+ghost use Rattle.adf_block.specs.Image.{IsImage, block_count};
 ghost use Rattle.ados_tree.specs.Faults.{InImage, PlaceNames, Reached};
-ghost use Rattle.all_faults.specs.steps.Noted.{AreNoted};
-ghost use Rattle.all_faults.specs.steps.Walked.{IsStep, IsWalked};
+ghost use Rattle.all_faults.specs.steps.Walked.{IsStep, IsWalked, root_step};
 
 use crate::bits::is_inside;
 use crate::notes::Notes;
@@ -74,17 +74,13 @@ impl Walk {
     {
         let root = image.root();
         let notes = Notes::none(alloc, image)?;
-        let mut marks = Vec::from_elem(alloc, None, image.blocks() as usize)?;
+        let mut marks = no_marks(alloc, image)?;
         marks[root as usize] = Some(Mark {
             role: Role::Root,
             holder: 0,
             long: 0,
         });
-        let mut steps = Vec::new(alloc);
-        steps.push(Step {
-            block: root,
-            role: Role::Root,
-        })?;
+        let steps = one_step(alloc, root)?;
         Ok(Walk {
             notes,
             marks,
@@ -117,16 +113,16 @@ impl Walk {
             return Ok(());
         };
         let block = image.long(step.block, i);
-        if !is_inside(image, block) {
-            self.notes.note(image, FaultKind::BadPointer, step.block);
-            return Ok(());
+        if is_inside(image, block) {
+            let mark = Mark {
+                role,
+                holder: step.block,
+                long: i,
+            };
+            return self.meet(image, block, mark);
         }
-        let mark = Mark {
-            role,
-            holder: step.block,
-            long: i,
-        };
-        self.meet(image, block, mark)
+        self.notes.note(image, FaultKind::BadPointer, step.block);
+        Ok(())
     }
 
     /// Meets a block by a place that names it.
@@ -141,7 +137,7 @@ impl Walk {
             self.marks[block as usize] = Some(mark);
             return self.take(image, block, mark.role);
         };
-        let twice = first.holder != mark.holder || first.long != mark.long;
+        let twice = is_other_place(first, mark);
         self.notes
             .note_if(image, FaultKind::BlockUsedTwice, block, twice);
         let key = key_of(block, mark.role);
@@ -166,6 +162,36 @@ impl Walk {
         self.steps.push(Step { block, role })?;
         Ok(())
     }
+}
+
+/// A cell for each block, with no mark.
+fn no_marks(alloc: Global, image: &Image) -> Result<Vec<Option<Mark>>, AllocError>
+    ensures none { IfOk result (λ marks. marks.items ≡ replicate (block_count image.now) None) }
+    ensures image { IsImage image.now }
+{
+    Vec::from_elem(alloc, None, image.blocks() as usize)
+}
+
+/// The step at the root.
+fn one_step(alloc: Global, root: u32) -> Result<Vec<Step>, AllocError>
+    ensures { IfOk result (λ steps. steps.items ≡ root_step root ∷ []) }
+{
+    let mut steps = Vec::new(alloc);
+    steps.push(Step {
+        block: root,
+        role: Role::Root,
+    })?;
+    Ok(steps)
+}
+
+/// Whether two marks are those of two places.
+fn is_other_place(first: Mark, mark: Mark) -> bool
+    ensures { IsTrue result → (first.holder ≢ mark.holder) ⊎ (first.long ≢ mark.long) }
+{
+    if first.holder != mark.holder {
+        return true;
+    }
+    first.long != mark.long
 }
 
 /// A step as a set orders it.

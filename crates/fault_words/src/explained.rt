@@ -30,10 +30,10 @@ pub fn explain(
     let Some(path) = place_of(alloc, image, marks, block)? else {
         return format!(in alloc; "block {block}: {what}");
     };
-    let volume = volume_name(alloc, image)?;
     if path.is_empty() {
-        return format!(in alloc; "block {block}, the root of {volume}: {what}");
+        return format!(in alloc; "block {block}, the root: {what}");
     }
+    let volume = volume_name(alloc, image)?;
     format!(in alloc; "block {block}, in {volume}:{path}: {what}")
 }
 

@@ -2,6 +2,7 @@
 use Rattle.std.specs.Prelude.{◌≡◌, ℕ, ◌+◌, ◌-◌, ◌/◌, ◌⊎◌, List, length, All, Bool, Option, Some}
 use Rattle.adf_block.specs.Fields.{boot_blocks, first_page, page_bits}
 use Rattle.adf_block.specs.Image.{HasFreeBit, block_count, long}
+use Rattle.ados_tree.specs.declared.role.Role.TheVariants.{Root}
 use Rattle.ados_tree.specs.Faults.{InImage, PlaceNames, Reached, root_of}
 use Rattle.ados_tree.specs.Rebuilt.{HasValidBitmap}
 use Rattle.check_marks.specs.declared.mark.Mark.{Mark}
@@ -19,6 +20,10 @@ pub record IsMarkedFree (image : List ℕ) (block : ℕ) : Type 0 where
 pub record IsStep (image : List ℕ) (step : Step) : Type 0 where
   pub inside : InImage image step.block
   pub reached : Reached image step.block step.role
+
+-- the root in its role
+abbrev pub root_step : ℕ → Step
+root_step root = record { block = root; role = Root }
 
 -- the long that a mark notes is a place that names the block, unless that is the root
 abbrev pub IsMet : List ℕ → ℕ → Mark → Type 0
