@@ -2,7 +2,7 @@
 ghost use Rattle.std.specs.Prelude.{◌≡◌, ◌<◌, ◌++◌, ◌∷◌, [], All, flat_map, false, IfOk, IfSome, slice_index};
 ghost use Rattle.adf_block.specs.Fields.{next_extension};
 ghost use Rattle.adf_block.specs.Image.{block_count};
-ghost use Rattle.ados_tree.specs.Faults.{InImage, LinkedOnce, pointers_of};
+ghost use Rattle.ados_tree.specs.Faults.{AreDataBlocks, InImage, IsFile, LinkedOnce, pointers_of};
 ghost use Rattle.all_faults.specs.steps.Chain.{HasMet, IsChain};
 
 use crate::bits::is_inside;
@@ -23,7 +23,7 @@ pub(crate) fn headers_of(
     alloc: Global,
     image: &Image,
     file: u32,
-    most: u32,
+    most: usize,
 ) -> Result<Option<Vec<u32>>, AllocError>
     requires { InImage image.now file }
     ensures linked { IfOk result (λ found. IfSome found (λ headers. LinkedOnce image.now next_extension file headers.items)) }
@@ -88,8 +88,25 @@ impl Headers {
     }
 }
 
-/// The blocks that the pointers of these blocks name, in order.
+/// The data blocks of a file whose header and extension blocks are known.
 pub(crate) fn data_blocks(
+    alloc: Global,
+    image: &Image,
+    file: u32,
+    headers: &[u32],
+) -> Result<Vec<u32>, AllocError>
+    requires file { IsFile image.now file }
+    requires linked { LinkedOnce image.now next_extension file headers.now }
+    requires inside { All (InImage image.now) headers.now }
+    ensures { IfOk result (λ blocks. AreDataBlocks image.now file blocks.items) }
+{
+    let _file = file;
+    let blocks = pointed_blocks(alloc, image, headers)?;
+    Ok(blocks)
+}
+
+/// The blocks that the pointers of these blocks name, in order.
+fn pointed_blocks(
     alloc: Global,
     image: &Image,
     headers: &[u32],

@@ -1,10 +1,10 @@
 //! The files, against their sizes.
-ghost use Rattle.std.specs.Prelude.{◌≡◌, ◌<◌, All, IfOk, length};
+ghost use Rattle.std.specs.Prelude.{◌≡◌, ◌≢◌, ◌<◌, All, IfOk, IsTrue, length};
 ghost use Rattle.adf_block.specs.Fields.{file_size};
 ghost use Rattle.adf_block.specs.Image.{block_count};
 ghost use Rattle.ados_data.specs.Cost.{data_count};
 ghost use Rattle.ados_data.specs.File.{format_of};
-ghost use Rattle.ados_tree.specs.Faults.{InImage, IsFile};
+ghost use Rattle.ados_tree.specs.Faults.{AreDataBlocks, InImage, IsFile};
 ghost use Rattle.all_faults.specs.steps.Noted.{AreNoted};
 ghost use Rattle.all_faults.specs.steps.Walked.{IsStep};
 
@@ -21,7 +21,7 @@ use std::alloc::{AllocError, Global};
 #[derive(Drop)]
 struct Looked {
     files: Vec<bool>,
-    left: u32,
+    left: usize,
 }
 
 /// Looks at the blocks of each file, once. Answers whether some were left out, since together the files have more header
@@ -38,7 +38,7 @@ pub(crate) fn look_at_files(
 {
     let mut looked = Looked {
         files: Vec::from_elem(alloc, false, image.blocks() as usize)?,
-        left: most_steps(image),
+        left: most_steps(image) as usize,
     };
     for step in steps {
         looked.look_at(alloc, image, *step, notes)?;
@@ -80,9 +80,9 @@ fn look_at_file(
     alloc: Global,
     image: &Image,
     file: u32,
-    left: u32,
+    left: usize,
     notes: &mut Notes,
-) -> Result<u32, AllocError>
+) -> Result<usize, AllocError>
     requires noted { AreNoted image.now notes.old.cells.items }
     requires inside { InImage image.now file }
     requires file { IsFile image.now file }
@@ -91,13 +91,32 @@ fn look_at_file(
     let Some(headers) = headers_of(alloc, image, file, left)? else {
         return Ok(0);
     };
-    let blocks = data_blocks(alloc, image, &headers)?;
-    let wrong = blocks.len() != blocks_of_size(image, file) as usize;
+    let blocks = data_blocks(alloc, image, file, &headers)?;
+    look_at_blocks(image, file, &blocks, notes);
+    Ok(left.saturating_sub(headers.len()))
+}
+
+/// Looks at the data blocks of a file.
+fn look_at_blocks(image: &Image, file: u32, blocks: &[u32], notes: &mut Notes)
+    requires noted { AreNoted image.now notes.old.cells.items }
+    requires inside { InImage image.now file }
+    requires data { AreDataBlocks image.now file blocks.now }
+    ensures { AreNoted image.now notes.new.cells.items }
+{
+    let wrong = has_other_count(image, file, blocks);
     notes.note_if(image, FaultKind::BadCount, file, wrong);
-    if image.byte(0, KIND_BYTE) == 0 {
-        look_along(image, file, &blocks, notes);
+    if image.byte(0, KIND_BYTE) != 0 {
+        return;
     }
-    Ok(left.saturating_sub(headers.len() as u32))
+    look_along(image, file, blocks, notes);
+}
+
+/// Whether a file of its size has another number of data blocks.
+fn has_other_count(image: &Image, file: u32, blocks: &[u32]) -> bool
+    requires { InImage image.now file }
+    ensures { IsTrue result → length blocks.now ≢ data_count (format_of image.now) (file_size image.now file) }
+{
+    blocks.len() != blocks_of_size(image, file) as usize
 }
 
 /// The data blocks that a file of its size has.

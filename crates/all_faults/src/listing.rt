@@ -33,18 +33,19 @@ pub struct AllFaults {
 /// the blocks of an image name one another so often that the walk has to end before it has seen all, `more` says so.
 pub fn all_faults(alloc: Global, image: &Image, most: usize) -> Result<AllFaults, AllocError>
     ensures lists { IfOk result (λ found. ListsFaults image.now most found.faults.items) }
-    ensures none { 1 ≤ most → IfOk result (λ found. (found.faults.items ≡ []) ↔ ShowsNoFault image.now) }
+    ensures none { IfOk result (λ found. 1 ≤ most → (found.faults.items ≡ []) ↔ ShowsNoFault image.now) }
     ensures whole { IfOk result (λ found. ShowsNoFault image.now → found.more ≡ false) }
 {
     prove!(image.blocks() >= 16);
-    match first_fault(alloc, image)? {
-        Some(first) => faults_with(alloc, image, first, most),
-        None => Ok(AllFaults {
+    let Some(first) = first_fault(alloc, image)? else {
+        return Ok(AllFaults {
             faults: Vec::new(alloc),
             more: false,
             marks: Vec::new(alloc),
-        }),
-    }
+        });
+    };
+    let found = faults_with(alloc, image, first, most)?;
+    Ok(found)
 }
 
 /// The first `most` of all faults, one of which is known.
@@ -57,7 +58,8 @@ fn faults_with(
     requires image { IsImage image.now }
     requires shown { Shows image.now first.kind first.block }
     ensures lists { IfOk result (λ found. ListsFaults image.now most found.faults.items) }
-    ensures some { 1 ≤ most → IfOk result (λ found. 0 < length found.faults.items) }
+    ensures some { IfOk result (λ found. 1 ≤ most → 0 < length found.faults.items) }
+    ensures refused { IfOk result (λ _. ¬ ShowsNoFault image.now) }
 {
     let mut walk = walked(alloc, image)?;
     look_at_all(image, &walk.steps, &mut walk.notes);

@@ -62,7 +62,7 @@ impl Notes {
     pub(crate) fn listed(&self, alloc: Global, image: &Image, most: usize) -> Result<Listed, AllocError>
         requires noted { AreNoted image.now self.now.cells.items }
         ensures lists { IfOk result (λ listed. ListsFaults image.now most listed.faults.items) }
-        ensures some { HasNote self.now.cells.items → 1 ≤ most → IfOk result (λ listed. 0 < length listed.faults.items) }
+        ensures some { IfOk result (λ listed. HasNote self.now.cells.items → 1 ≤ most → 0 < length listed.faults.items) }
     {
         let mut faults = Vec::new(alloc);
         for cell in 0..self.cells.len() {

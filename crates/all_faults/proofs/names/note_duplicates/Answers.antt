@@ -12,5 +12,5 @@ note_if_same-requires-clause-entry c =
 pub note_if_same-requires-clause-other : goal.note_if_same-requires-clause-other
 note_if_same-requires-clause-other c =
     let within : c.loop-i.i < length c.sort.new.self.items = omega arith in
-    subst (IsEntryName c.args.image.now) (sym c.index-2.ensures)
-    (All-permutation (IsEntryName c.args.image.now) c.in_ok-names.names.items c.sort.new.self.items c.sort.ensures.permutation c.in_ok-names.ensures c.loop-i.i c.index-2.result.now within)
+    subst (IsEntryName c.args.image.now) (sym c.index-in-loop-i.ensures)
+    (All-permutation (IsEntryName c.args.image.now) c.in_ok-names.names.items c.sort.new.self.items c.sort.ensures.permutation c.in_ok-names.ensures c.loop-i.i c.index-in-loop-i.result.now within)
