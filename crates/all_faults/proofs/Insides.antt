@@ -1,5 +1,5 @@
 -- What is reached lies in the image, and so does each block that shows a fault.
-use Rattle.std.proofs.Common.{◌≡◌, ℕ, ◌<◌, ◌≤◌, List, arith}
+use Rattle.std.proofs.Common.{◌≡◌, ℕ, ◌<◌, List, arith}
 use Rattle.adf_block.specs.Image.{IsImage, block_count}
 use Rattle.ados_tree.specs.declared.fault.FaultKind.{FaultKind}
 use Rattle.ados_tree.specs.declared.fault.FaultKind.TheVariants.{NotADosDisk, UnsupportedKind, BadSum, BadType, BadOwnKey, BadParent, BadPointer, BlockUsedTwice, WrongChain, BadName, DuplicateName, BadComment, BadCount, BadSequence, LinkEntry, MarkedFree, NoMemory}

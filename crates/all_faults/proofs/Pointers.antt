@@ -1,5 +1,5 @@
 -- The pointers of a block, one more at a time.
-use Rattle.std.proofs.Common.{◌≡◌, ℕ, zero, suc, ◌+◌, ◌-◌, ◌<◌, ◌≤◌, ◌==◌, Bool, true, false, nat_le, List, [], ◌∷◌, ◌++◌, length, slice_index, refl, sym, ap, ◌∙◌, arith, le-leb, add-one, append-nil, append_assoc}
+use Rattle.std.proofs.Common.{◌≡◌, ℕ, zero, suc, ◌+◌, ◌<◌, ◌≤◌, false, nat_le, List, [], ◌∷◌, ◌++◌, length, slice_index, refl, sym, ap, ◌∙◌, arith, le-leb, add-one, append_assoc}
 use Rattle.std.proofs.lemmas.List.{get_or_append_left, length_push}
 use Rattle.adf_block.specs.Image.{long}
 use Rattle.adf_block.specs.Fields.{pointer, pointer_count}

@@ -1,5 +1,5 @@
 -- Entries of one directory whose names are spelt alike in upper case have one name.
-use Rattle.std.proofs.Common.{◌≡◌, ℕ, ◌-◌, ◌<◌, ◌≤◌, List, ◌∷◌, ◌++◌, length, take, drop, map, replicate, slice_index, sym, ap, ◌∙◌, subst, arith, ◌+◌}
+use Rattle.std.proofs.Common.{◌≡◌, ℕ, ◌-◌, ◌<◌, ◌≤◌, List, length, take, drop, map, replicate, slice_index, sym, ap, ◌∙◌, subst, arith, ◌+◌}
 use Rattle.std.proofs.lemmas.List.{length-map, take_at}
 use Rattle.adf_block.specs.Image.{IsImage, block_count, byte_at}
 use Rattle.adf_block.specs.Fields.{text_at, name_byte}

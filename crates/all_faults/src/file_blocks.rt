@@ -106,11 +106,7 @@ pub(crate) fn data_blocks(
 }
 
 /// The blocks that the pointers of these blocks name, in order.
-fn pointed_blocks(
-    alloc: Global,
-    image: &Image,
-    headers: &[u32],
-) -> Result<Vec<u32>, AllocError>
+fn pointed_blocks(alloc: Global, image: &Image, headers: &[u32]) -> Result<Vec<u32>, AllocError>
     requires { All (InImage image.now) headers.now }
     ensures { IfOk result (λ blocks. blocks.items ≡ flat_map (pointers_of image.now) headers.now) }
 {

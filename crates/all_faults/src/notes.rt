@@ -59,7 +59,12 @@ impl Notes {
     }
 
     /// The first `most` of the faults.
-    pub(crate) fn listed(&self, alloc: Global, image: &Image, most: usize) -> Result<Listed, AllocError>
+    pub(crate) fn listed(
+        &self,
+        alloc: Global,
+        image: &Image,
+        most: usize,
+    ) -> Result<Listed, AllocError>
         requires noted { AreNoted image.now self.now.cells.items }
         ensures lists { IfOk result (λ listed. ListsFaults image.now most listed.faults.items) }
         ensures some { IfOk result (λ listed. HasNote self.now.cells.items → 1 ≤ most → 0 < length listed.faults.items) }

@@ -1,4 +1,4 @@
-use Rattle.std.proofs.Common.{◌≡◌, ℕ, ◌∙◌, arith}
+use Rattle.std.proofs.Common.{◌≡◌, ◌∙◌, arith}
 use Rattle.adf_block.specs.Image.{byte_at}
 use Rattle.check_reach.proofs.NameLemmas.{text_is}
 use Rattle.all_faults.proofs.name_bytes.short_text.Goals as goal

@@ -1,4 +1,3 @@
-use Rattle.std.proofs.Common.{refl}
 use Rattle.all_faults.proofs.Doubles.{started}
 use Rattle.all_faults.proofs.walk.Walk.start.Goals as goal
 
