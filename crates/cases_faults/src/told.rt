@@ -38,10 +38,8 @@ fn is_told(alloc: Global, base: &Image, row: &Row) -> Result<bool, AllocError> {
 /// Whether these are the faults that are wanted, in their order.
 fn are_wanted(faults: &[VolumeFault], wanted: &[(ados_tree::FaultKind, u32)]) -> bool {
     faults.len() == wanted.len()
-        && faults
-            .iter()
-            .zip(wanted)
-            .all(|(fault, &(kind, block))| fault.kind == kind && fault.block == block)
+        && faults.iter().zip(wanted).all(|(fault, &(kind, block))| fault.kind == kind
+            && fault.block == block)
 }
 
 /// The image with longs changed, and the sum of each block that has one settled.

@@ -20,14 +20,18 @@ pub(crate) fn count_words(
 {
     if let Some(Role::Data(_)) = role_at(marks, block) {
         let held = image.long(block, HELD);
-        return format!(in alloc; "it holds {held} bytes, and not {OFS_ROOM}, or as the last block of its file 1 to {OFS_ROOM}");
+        return format!(in alloc;
+            "it holds {held} bytes, and not {OFS_ROOM}, or as the last block of its file 1 to {OFS_ROOM}"
+        );
     }
     let count = image.long(block, POINTER_COUNT);
     if count > TABLE_LONGS {
         return format!(in alloc; "it has {count} data pointers, and not at most {TABLE_LONGS}");
     }
     if count < TABLE_LONGS && image.long(block, NEXT_EXTENSION) != 0 {
-        return format!(in alloc; "it has {count} data pointers, and not {TABLE_LONGS}, though an extension block follows");
+        return format!(in alloc;
+            "it has {count} data pointers, and not {TABLE_LONGS}, though an extension block follows"
+        );
     }
     if let Some(Role::Extension(_)) = role_at(marks, block) {
         return String::from_str(alloc, "it is an extension block with no data pointer");

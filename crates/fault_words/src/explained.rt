@@ -75,7 +75,9 @@ fn other_words(
     match kind {
         FaultKind::NotADosDisk => {
             let first = image.long(0, KIND);
-            format!(in alloc; "the image begins with {first:08x}, and not with 444f53, the letters DOS")
+            format!(in alloc;
+                "the image begins with {first:08x}, and not with 444f53, the letters DOS"
+            )
         }
         FaultKind::UnsupportedKind => {
             let byte = image.byte(0, KIND_BYTE);
@@ -83,7 +85,9 @@ fn other_words(
         }
         FaultKind::LinkEntry => {
             let secondary = image.long(block, SECONDARY_TYPE);
-            format!(in alloc; "it is a link (secondary type {secondary:08x}), and not a directory or a file")
+            format!(in alloc;
+                "it is a link (secondary type {secondary:08x}), and not a directory or a file"
+            )
         }
         FaultKind::MarkedFree => {
             String::from_str(alloc, "it is in use, and the bitmap says that it is free")
@@ -98,17 +102,26 @@ fn other_words(
 fn sum_words(alloc: Global, image: &Image, block: u32) -> Result<String, AllocError>
     requires { block < block_count image.now }
 {
-    format!(in alloc; "the longs of the block sum to {:08x}, and not to 0", image.sum(block))
+    format!(in alloc;
+        "the longs of the block sum to {:08x}, and not to 0",
+        image.sum(block)
+    )
 }
 
 fn own_key_words(alloc: Global, image: &Image, block: u32) -> Result<String, AllocError>
     requires { block < block_count image.now }
 {
-    format!(in alloc; "the number that it has as its own is {}, and not {block}", image.long(block, OWN_KEY))
+    format!(in alloc;
+        "the number that it has as its own is {}, and not {block}",
+        image.long(block, OWN_KEY)
+    )
 }
 
 fn comment_words(alloc: Global, image: &Image, block: u32) -> Result<String, AllocError>
     requires { block < block_count image.now }
 {
-    format!(in alloc; "the comment has {} bytes, and not at most 79", image.byte(block, COMMENT_BYTE))
+    format!(in alloc;
+        "the comment has {} bytes, and not at most 79",
+        image.byte(block, COMMENT_BYTE)
+    )
 }

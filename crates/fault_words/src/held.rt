@@ -17,7 +17,10 @@ pub(crate) fn name_words(alloc: Global, image: &Image, block: u32) -> Result<Str
 {
     let length = usize::from(image.byte(block, NAME_BYTE));
     if length == 0 || length > Name::MAX_LEN {
-        return format!(in alloc; "the name has {length} bytes, and not 1 to {}", Name::MAX_LEN);
+        return format!(in alloc;
+            "the name has {length} bytes, and not 1 to {}",
+            Name::MAX_LEN
+        );
     }
     String::from_str(alloc, "the name has a slash or a colon")
 }
@@ -36,9 +39,15 @@ pub(crate) fn chain_words(
     let name = Name::new(&image.block(block)[start..start + length]);
     match (role_at(marks, block), name) {
         (Some(Role::Entry(_, slot)), Ok(name)) => {
-            format!(in alloc; "it stands in the chain of slot {slot}, and not in that of slot {}, which its name wants", name.slot())
+            format!(in alloc;
+                "it stands in the chain of slot {slot}, and not in that of slot {}, which its name wants",
+                name.slot()
+            )
         }
-        _ => String::from_str(alloc, "it stands in the chain of another slot than its name wants"),
+        _ => String::from_str(
+            alloc,
+            "it stands in the chain of another slot than its name wants",
+        ),
     }
 }
 

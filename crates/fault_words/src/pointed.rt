@@ -23,11 +23,15 @@ pub(crate) fn pointer_words(
         if let Some(i) = outside_place(image, block, role) {
             let named = image.long(block, i);
             let last = image.blocks() - 1;
-            return format!(in alloc; "long {i} names block {named}, and not one of {BOOT_BLOCKS} to {last}");
+            return format!(in alloc;
+                "long {i} names block {named}, and not one of {BOOT_BLOCKS} to {last}"
+            );
         }
     }
     let next = image.long(block, NEXT_DATA);
-    format!(in alloc; "the next data block that it names is {next}, and not the one that the file's pointers name")
+    format!(in alloc;
+        "the next data block that it names is {next}, and not the one that the file's pointers name"
+    )
 }
 
 /// The first place of a block in a role that names no block of the image.
@@ -53,7 +57,10 @@ pub(crate) fn twice_words(
 ) -> Result<String, AllocError> {
     match mark_at(marks, block) {
         Some(mark) if mark.holder != 0 => {
-            format!(in alloc; "long {} of block {} names it, and so does another place", mark.long, mark.holder)
+            format!(in alloc;
+                "long {} of block {} names it, and so does another place",
+                mark.long, mark.holder
+            )
         }
         _ => String::from_str(alloc, "it is the root, and a place names it"),
     }

@@ -5,8 +5,8 @@ ghost use Rattle.adf_block.specs.Image.{block_count};
 use crate::marked::role_at;
 use adf_block::Image;
 use adf_block::layout::{
-    DATA_TYPE, HEADER_TYPE, LIST_TYPE, OWN_KEY, PARENT, PRIMARY_TYPE,
-    SECONDARY_TYPE, TABLE_LONGS, TABLE_SIZE,
+    DATA_TYPE, HEADER_TYPE, LIST_TYPE, OWN_KEY, PARENT, PRIMARY_TYPE, SECONDARY_TYPE, TABLE_LONGS,
+    TABLE_SIZE,
 };
 use ados_tree::Role;
 use check_marks::Mark;
@@ -70,7 +70,9 @@ pub(crate) fn parent_words(
         _ => ("parent", image.long(block, PARENT), 0),
     };
     if found == wanted {
-        return format!(in alloc; "the {what} that it names is block {found}, and another block holds it too");
+        return format!(in alloc;
+            "the {what} that it names is block {found}, and another block holds it too"
+        );
     }
     format!(in alloc; "the {what} that it names is block {found}, and not {wanted}")
 }
