@@ -1,0 +1,8 @@
+-- Cells, places and files past their faults.
+pub mod Cells
+pub mod Insides
+pub mod Doubles
+pub mod Linking
+pub mod Pointers
+pub mod Sameness
+pub mod Freed

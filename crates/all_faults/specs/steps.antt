@@ -1,0 +1,5 @@
+-- The walk past faults, step by step.
+pub mod Noted
+pub mod Walked
+pub mod Chain
+pub mod Named
