@@ -1,0 +1,4 @@
+-- Why a file whose parts are right is sound, and the parts of a sound file are right.
+pub mod SoundParts
+pub mod Gathering
+pub mod Claiming
