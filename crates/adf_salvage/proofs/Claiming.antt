@@ -1,7 +1,9 @@
 -- What the notes of the blocks say of the sound files.
-use Rattle.std.proofs.Common.{◌≡◌, ◌≢◌, ne_eqb, ℕ, zero, suc, ◌+◌, ◌<◌, ◌≤◌, ◌==◌, ◌⊎◌, inl, inr, true, false, All, List, [], ◌∷◌, ◌++◌, length, take, get_or, slice_index, Contains, refl, sym, ap, ◌∙◌, subst, arith}
-use Rattle.std.proofs.lemmas.Bool.{cases_lt, cases_eq}
-use Rattle.std.proofs.lemmas.List.{get_or_default}
+use Rattle.std.proofs.Common.{◌≡◌, ◌≢◌, ne_eqb, ℕ, zero, suc, ◌+◌, ◌<◌, ◌≤◌, ◌==◌, ◌⊎◌, inl, inr, Bool, true, false, MatchBool, All, List, [], ◌∷◌, ◌++◌, length, take, drop, get_or, slice_index, Contains, refl, sym, ap, ◌∙◌, subst, arith}
+use Rattle.std.proofs.lemmas.Bool.{cases_lt, cases_eq, eq-eqb}
+use Rattle.std.proofs.Math.ListN.{drop_of_length-le}
+use Rattle.std.proofs.Math.Seq.{take-length}
+use Rattle.std.proofs.lemmas.List.{append-nil, get_or_default}
 use Rattle.std.proofs.lemmas.List.Elements.{All-from_get_or, Contains-append_cases, Contains-append_left, Contains-append_right}
 use Rattle.adf_block.specs.Image.{block_count, IsInside}
 use Rattle.adf_salvage.specs.declared.claims.Claim.{Claim}
@@ -9,7 +11,7 @@ use Rattle.adf_salvage.specs.declared.claims.Claim.TheVariants.{Free, One, Sever
 use Rattle.adf_salvage.specs.Sound.{IsIntact, IsWhole, Names, own_blocks}
 use Rattle.adf_salvage.specs.steps.Claims.{AreClaims, IsClaim, IsNoted, claim_at, with_claim}
 use Rattle.adf_salvage.proofs.SoundParts.{lawful_holders, lawful_data_blocks}
-use Rattle.adf_salvage.proofs.Gathering.{own_inside}
+use Rattle.adf_salvage.proofs.OwnBlocks.{own_inside}
 
 module _ (image : List ℕ) (n block : ℕ) where
   -- one more sound file names the block
@@ -47,15 +49,11 @@ module _ (image : List ℕ) (n block : ℕ) where
   )
   claim_same Several h none = h
 
-same_eqb : (k : ℕ) → (k == k) ≡ true
-same_eqb zero = refl
-same_eqb (suc k) = same_eqb k
-
 -- to note a file twice is to note it once
 with_twice : (file : ℕ) (c : Claim) → with_claim file (with_claim file c) ≡ with_claim file c
-with_twice file Free = rw (same_eqb file) refl
+with_twice file Free = rw (eq-eqb file file refl) refl
 with_twice file (One other) = elim (cases_eq other file) [
-  | inl e ↦ (let same : (other == file) ≡ true = ap (λ (k : ℕ). k == file) e ∙ same_eqb file in rw same (rw (same_eqb file) refl))
+  | inl e ↦ (let same : (other == file) ≡ true = eq-eqb other file e in rw same (rw (eq-eqb file file refl) refl))
   | inr e ↦ rw (ne_eqb other file e) refl
 ]
 with_twice file Several = refl
@@ -125,3 +123,22 @@ module _ (image : List ℕ) (claims : List Claim) (h : AreClaims image (block_co
       go block (One one) m told = ap One (w.alone one block told.1 m told.2)
       go block Several m told =
           absurd (told.2 (w.alone told.0 block told.3 m told.4 ∙ sym (w.alone told.1 block told.5 m told.6)))
+
+-- the blocks of a sound file, as places of a list with one for each block
+pub all_within : (image : List ℕ) (file : ℕ) → IsIntact image file → (xs : List ℕ) (n : ℕ) → xs ≡ own_blocks image file → n ≡ block_count image → All (λ (block : ℕ). block < n) xs
+all_within image file i xs n e size = subst (λ (ys : List ℕ). All (λ (block : ℕ). block < n) ys) (sym e)
+    (λ k d l. omega (arith, size, own_within image file i (get_or (own_blocks image file) k d) (k, l, get_or_default (own_blocks image file) k (get_or (own_blocks image file) k d) d l)))
+
+-- whether the blocks of a sound file are noted so decides whether it is whole
+pub whole_decided : (image : List ℕ) (claims : List Claim) (file : ℕ) (xs : List ℕ) (answer : Bool) → AreClaims image (block_count image) claims → IsIntact image file → xs ≡ own_blocks image file
+    → MatchBool answer (All (λ (block : ℕ). claim_at claims block ≡ One file) xs) (¬ All (λ (block : ℕ). claim_at claims block ≡ One file) xs) → MatchBool answer (IsWhole image file) (¬ IsWhole image file)
+whole_decided image claims file xs true h i e all = is_whole image claims h file i (subst (λ (ys : List ℕ). All (λ (block : ℕ). claim_at claims block ≡ One file) ys) e all)
+whole_decided image claims file xs false h i e none = λ w.
+    none (subst (λ (ys : List ℕ). All (λ (block : ℕ). claim_at claims block ≡ One file) ys) (sym e) (whole_noted image claims h file i w))
+
+-- a list that was written over by one as long
+pub refilled : {X : Type 0} (new old : List X) (len : ℕ) → length new ≡ length old → len ≡ length old → take len (new ++ drop (length new) old) ≡ new
+refilled new old len room count =
+    let none : drop (length new) old ≡ [] = drop_of_length-le old (omega (arith, room)) in
+    let whole : len ≡ length new = count ∙ sym room in
+    ap (λ xs. take len (new ++ xs)) none ∙ ap (λ xs. take len xs) (append-nil new) ∙ ap (λ (m : ℕ). take m new) whole ∙ take-length new

@@ -2,8 +2,22 @@
 //! other file names a block of it.
 #![tactic(auto)]
 
+mod chains;
 mod claims;
 mod data;
+mod gathered;
 mod header;
 mod holders;
 mod intact;
+mod kind;
+mod listing;
+mod paths;
+mod pieces;
+mod salvaging;
+mod salvaged;
+mod state;
+mod told;
+mod unreached;
+
+pub use salvaging::salvage;
+pub use salvaged::{Salvaged, State};

@@ -4,7 +4,8 @@ ghost use Rattle.std.specs.Prelude.{◌≡◌, ◌<◌};
 ghost use Rattle.adf_block.specs.Image.{block_count};
 
 use crate::images::{copy, is_same, long_at};
-use adf_block::Image;
+use crate::salvaged::{data_of_file, is_true};
+use adf_block::{Format, Image};
 use adf_block::layout::{BITMAP_FLAG, BITMAP_VALID, BLOCK_BYTES};
 use ados_tree::FaultKind;
 use ados_volume::check;
@@ -105,4 +106,30 @@ pub fn accepted_of_changed(
         }
     }
     Ok(Some(accepted))
+}
+
+/// The first of the images of one to eight changed bytes in which the file of a filled volume is told as whole with bytes that
+/// stand in none of its blocks; in OFS also with other bytes than it had.
+pub fn untrue_of_changed(
+    alloc: Global,
+    base: &Image,
+    format: Format,
+    seed: u64,
+) -> Result<Option<u32>, AllocError> {
+    let mut chance = Chance { state: seed };
+    let had = data_of_file(alloc, base, format)?;
+    for number in 0..TRIED {
+        let mut image = copy(alloc, base)?;
+        let count = 1 + chance.below(8);
+        chance.change(&mut image, Struck::All, count);
+        let has = data_of_file(alloc, &image, format)?;
+        let wanted = match format {
+            Format::Ofs => &had,
+            Format::Ffs => &has,
+        };
+        if !is_true(alloc, &image, wanted)? {
+            return Ok(Some(number));
+        }
+    }
+    Ok(None)
 }

@@ -5,7 +5,7 @@ use Rattle.adf_block.specs.Fields.{next_data}
 use Rattle.ados_data.specs.File.{format_of, pointer_block, data_block, data_blocks}
 use Rattle.ados_data.proofs.Sizes.{in_extensions}
 use Rattle.adf_salvage.specs.steps.Parts.{HasData, IsDataBlock, data_needed, data_before}
-use Rattle.adf_salvage.proofs.Gathering.{holder_there, holder_read, holder_below, file_below, before_below, decided, named_block, gathered_more, all_data, whole_data}
+use Rattle.adf_salvage.proofs.OwnBlocks.{holder_there, holder_read, holder_below, file_below, before_below, decided, named_block, gathered_more, all_data, whole_data}
 use Rattle.adf_salvage.proofs.data.push_data.Goals as goal
 
 pub index-holder-requires : goal.index-holder-requires

@@ -4,7 +4,7 @@ use Rattle.ados_data.specs.File.{LawfulFile, data_blocks, extension_blocks}
 use Rattle.adf_salvage.specs.Sound.{IsIntact, own_blocks}
 use Rattle.adf_salvage.specs.steps.Parts.{AreOnce, HasHolders, HasData, data_needed}
 use Rattle.adf_salvage.proofs.SoundParts.{lawful_file, lawful_holders, lawful_data_blocks, lawful_once, lawful_few}
-use Rattle.adf_salvage.proofs.Gathering.{own_below}
+use Rattle.adf_salvage.proofs.OwnBlocks.{own_below}
 use Rattle.adf_salvage.proofs.intact.own_blocks.Goals as goal
 
 pub returns-then-needed-blocks : goal.returns-then-needed-blocks
