@@ -122,12 +122,11 @@ pub fn untrue_of_changed(
         let mut image = copy(alloc, base)?;
         let count = 1 + chance.below(8);
         chance.change(&mut image, Struck::All, count);
-        let has = data_of_file(alloc, &image, format)?;
-        let wanted = match format {
-            Format::Ofs => &had,
-            Format::Ffs => &has,
+        let is_right = match format {
+            Format::Ofs => is_true(alloc, &image, &had)?,
+            Format::Ffs => is_true(alloc, &image, &data_of_file(alloc, &image, format)?)?,
         };
-        if !is_true(alloc, &image, wanted)? {
+        if !is_right {
             return Ok(Some(number));
         }
     }

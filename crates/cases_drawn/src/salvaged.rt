@@ -1,5 +1,7 @@
 //! What is told of damaged images.
 
+ghost use Rattle.std.specs.Prelude.{◌≤◌};
+
 use crate::filling::{EXTENSION, HEADER};
 use crate::images::copy;
 use adf_block::{Format, Image};
@@ -61,10 +63,7 @@ pub(crate) fn data_of_file(
     image: &Image,
     format: Format,
 ) -> Result<Vec<u8>, AllocError> {
-    let start = match format {
-        Format::Ofs => 24,
-        Format::Ffs => 0,
-    };
+    let start = data_start(format);
     let mut bytes = Vec::new(alloc);
     for block in HEADER + 1..EXTENSION {
         if block < image.blocks() {
@@ -75,4 +74,14 @@ pub(crate) fn data_of_file(
         bytes.extend_from_slice(&image.block(EXTENSION + 1)[start..start + 1])?;
     }
     Ok(bytes)
+}
+
+/// The byte of a data block where its data starts.
+fn data_start(format: Format) -> usize
+    ensures { result ≤ 24 }
+{
+    match format {
+        Format::Ofs => 24,
+        Format::Ffs => 0,
+    }
 }
