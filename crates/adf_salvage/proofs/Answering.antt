@@ -1,5 +1,5 @@
 -- What the answer of the check says of the entries that are told.
-use Rattle.std.proofs.Common.{◌≡◌, ◌⊎◌, inl, inr, ℕ, Bool, true, false, List, Result, Ok, Err, IfOk, OnOk, sym, ap, ◌∙◌, subst}
+use Rattle.std.proofs.Common.{ℕ, Bool, true, false, List, Result, Ok, Err, IfOk, OnOk, sym, ap, ◌∙◌, subst}
 use Rattle.adf_block.specs.Image.{long}
 use Rattle.adf_block.specs.Fields.{bitmap_flag}
 use Rattle.ados_tree.specs.Accepted.{Accepts}

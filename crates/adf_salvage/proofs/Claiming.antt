@@ -1,11 +1,11 @@
 -- What the notes of the blocks say of the sound files.
-use Rattle.std.proofs.Common.{◌≡◌, ◌≢◌, ne_eqb, ℕ, zero, suc, ◌+◌, ◌<◌, ◌≤◌, ◌==◌, ◌⊎◌, inl, inr, Bool, true, false, MatchBool, All, List, [], ◌∷◌, ◌++◌, length, take, drop, get_or, slice_index, Contains, refl, sym, ap, ◌∙◌, subst, arith}
+use Rattle.std.proofs.Common.{◌≡◌, ◌≢◌, ne_eqb, ℕ, zero, suc, ◌+◌, ◌<◌, ◌==◌, inl, inr, Bool, true, false, MatchBool, All, List, [], ◌∷◌, ◌++◌, length, take, drop, get_or, Contains, refl, sym, ap, ◌∙◌, subst, arith}
 use Rattle.std.proofs.lemmas.Bool.{cases_lt, cases_eq, eq-eqb}
 use Rattle.std.proofs.Math.ListN.{drop_of_length-le}
 use Rattle.std.proofs.Math.Seq.{take-length}
 use Rattle.std.proofs.lemmas.List.{append-nil, get_or_default}
-use Rattle.std.proofs.lemmas.List.Elements.{All-from_get_or, Contains-append_cases, Contains-append_left, Contains-append_right}
-use Rattle.adf_block.specs.Image.{block_count, IsInside}
+use Rattle.std.proofs.lemmas.List.Elements.{Contains-append_cases, Contains-append_left, Contains-append_right}
+use Rattle.adf_block.specs.Image.{block_count}
 use Rattle.adf_salvage.specs.declared.claims.Claim.{Claim}
 use Rattle.adf_salvage.specs.declared.claims.Claim.TheVariants.{Free, One, Several}
 use Rattle.adf_salvage.specs.Sound.{IsIntact, IsWhole, Names, own_blocks}

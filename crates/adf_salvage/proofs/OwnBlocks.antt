@@ -1,15 +1,13 @@
 -- The blocks of a file as they are gathered.
 use Rattle.std.proofs.lemmas.List.Elements.{All-from_get_or}
-use Rattle.std.proofs.Common.{All, ◌≡◌, ℕ, zero, suc, ◌+◌, ◌-◌, ◌*◌, ◌/◌, ◌%◌, ◌<◌, ◌≤◌, ◌⊎◌, inl, inr, Bool, true, false, MatchBool, List, [], ◌∷◌, ◌++◌, length, map, get_or, slice_index, refl, sym, ap, ◌∙◌, subst, arith}
+use Rattle.std.proofs.Common.{All, ◌≡◌, ℕ, zero, suc, ◌+◌, ◌-◌, ◌/◌, ◌%◌, ◌<◌, ◌≤◌, inl, inr, Bool, true, false, MatchBool, List, [], ◌∷◌, ◌++◌, length, map, get_or, slice_index, refl, sym, ap, ◌∙◌, subst, arith}
 use Rattle.std.specs.List.{range_with_len}
 use Rattle.std.proofs.lemmas.Bool.{cases_lt}
 use Rattle.std.proofs.lemmas.List.{ext_get_or, append_assoc, get_or_append_left, length-append}
-use Rattle.std.proofs.lemmas.List.FromFn.{map-range_with_len_more, length-map-range_with_len}
-use Rattle.adf_block.specs.declared.Format.{Format}
-use Rattle.adf_block.specs.declared.Format.TheVariants.{Ofs, Ffs}
+use Rattle.std.proofs.lemmas.List.FromFn.{map-range_with_len_more}
+use Rattle.adf_block.specs.declared.Format.TheVariants.{Ofs}
 use Rattle.adf_block.specs.Image.{block_count, long, IsInside}
-use Rattle.adf_block.specs.Fields.{next_data, pointer}
-use Rattle.ados_data.specs.Cost.{extension_count}
+use Rattle.adf_block.specs.Fields.{next_data}
 use Rattle.ados_data.specs.File.{format_of, pointer_block, data_block, data_blocks, extension_blocks}
 use Rattle.ados_data.proofs.Sizes.{in_extensions}
 use Rattle.adf_salvage.specs.Sound.{own_blocks}

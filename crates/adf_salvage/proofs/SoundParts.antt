@@ -1,6 +1,5 @@
 -- A file is lawful exactly where its pointer blocks and its data blocks are right in their places, and none stands twice.
-use Rattle.std.proofs.Common.{◌≡◌, ◌≢◌, ℕ, zero, suc, ◌+◌, ◌-◌, ◌*◌, ◌/◌, ◌%◌, ◌<◌, ◌≤◌, ◌⊎◌, inl, inr, min, List, ◌∷◌, ◌++◌, length, map, slice_index, slice_index_or, get_or-append-add, refl, sym, ap, ◌∙◌, subst, arith}
-use Rattle.std.specs.List.{range_with_len}
+use Rattle.std.proofs.Common.{◌≡◌, ℕ, zero, suc, ◌+◌, ◌-◌, ◌*◌, ◌/◌, ◌%◌, ◌<◌, ◌≤◌, inl, inr, min, List, ◌∷◌, length, slice_index, get_or-append-add, refl, sym, ap, ◌∙◌, subst, arith}
 use Rattle.std.proofs.lemmas.Bool.{cases_lt, cases_order}
 use Rattle.std.proofs.lemmas.List.{get_or_past, get_or_append_left, length-append}
 use Rattle.std.proofs.lemmas.List.FromFn.{length-map-range_with_len, get_or-map-range_with_len}
@@ -11,11 +10,10 @@ use Rattle.ados_data.specs.Cost.{data_count, extension_count}
 use Rattle.ados_data.specs.File.{HasExtension, HasOfsData, AreApart, LawfulFile, format_of, file_byte, pointer_block, data_block, data_blocks, extension_blocks, contents}
 use Rattle.ados_data.proofs.Chains.{chained, next_of}
 use Rattle.ados_data.proofs.Spelled.{link_of}
-use Rattle.ados_data.proofs.Places.{header_is as lawful_header, data_is as lawful_data}
 use Rattle.ados_data.proofs.Sizes.{in_extensions}
 use Rattle.check_marks.proofs.Counting.{AreDifferent, different_few}
 use Rattle.adf_salvage.specs.Sound.{own_blocks}
-use Rattle.adf_salvage.specs.steps.Parts.{IsHolder, HasHolders, IsDataBlock, HasData, AreOnce, data_needed, extensions_needed, data_before}
+use Rattle.adf_salvage.specs.steps.Parts.{HasHolders, HasData, AreOnce, data_needed, extensions_needed, data_before}
 
 module _ (image : List ℕ) (file : ℕ) where
   pub length-data : length (data_blocks image file) ≡ data_needed image file

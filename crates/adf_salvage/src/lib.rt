@@ -13,11 +13,11 @@ mod kind;
 mod listing;
 mod paths;
 mod pieces;
-mod salvaging;
 mod salvaged;
+mod salvaging;
 mod state;
 mod told;
 mod unreached;
 
-pub use salvaging::salvage;
 pub use salvaged::{Salvaged, State};
+pub use salvaging::salvage;

@@ -19,11 +19,7 @@ pub(crate) fn volume_entries(alloc: Global, volume: &Volume) -> Result<Vec<Salva
 }
 
 /// These entries of a volume, whole.
-fn entries_of(
-    alloc: Global,
-    volume: &Volume,
-    below: &[Below],
-) -> Result<Vec<Salvaged>, AllocError>
+fn entries_of(alloc: Global, volume: &Volume, below: &[Below]) -> Result<Vec<Salvaged>, AllocError>
     requires { All (λ entry. HasKey volume.now.image entry.key) below.now }
     ensures located { IfOk result (λ found. map located_of found.items ≡ below.now) }
     ensures told { IfOk result (λ found. (t : Tree) → Stands volume.now.image t → All (IsOfTree t) found.items) }

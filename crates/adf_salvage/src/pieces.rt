@@ -16,11 +16,7 @@ const BLOCK: usize = BLOCK_BYTES as usize;
 
 /// How many data blocks of a file are missing, and its bytes: those of the blocks that are sound where they belong, and
 /// zeros elsewhere. It has as many bytes as its size says, and no more than all blocks of the image could hold.
-pub(crate) fn pieces(
-    alloc: Global,
-    image: &Image,
-    file: u32,
-) -> Result<(u32, Vec<u8>), AllocError>
+pub(crate) fn pieces(alloc: Global, image: &Image, file: u32) -> Result<(u32, Vec<u8>), AllocError>
     requires { file < block_count image.now }
 {
     let start = data_start(image);

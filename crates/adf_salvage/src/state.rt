@@ -39,12 +39,7 @@ pub(crate) fn state_of(
 }
 
 /// Whether a file is whole.
-fn is_whole(
-    alloc: Global,
-    image: &Image,
-    claims: &[Claim],
-    file: u32,
-) -> Result<bool, AllocError>
+fn is_whole(alloc: Global, image: &Image, claims: &[Claim], file: u32) -> Result<bool, AllocError>
     requires inside { file < block_count image.now }
     requires count { length claims.now ≡ block_count image.now }
     requires claims { AreClaims image.now (block_count image.now) claims.now }

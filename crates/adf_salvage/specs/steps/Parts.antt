@@ -1,5 +1,5 @@
 -- A sound file in parts: its pointer blocks, its data blocks, and that none of these stands twice.
-use Rattle.std.specs.Prelude.{◌≡◌, ◌≢◌, ℕ, zero, suc, ◌+◌, ◌-◌, ◌*◌, ◌<◌, ◌≤◌, min, List, ◌∷◌, ◌++◌, length, slice_index}
+use Rattle.std.specs.Prelude.{◌≡◌, ◌≢◌, ℕ, zero, suc, ◌-◌, ◌*◌, ◌<◌, ◌≤◌, min, List, length, slice_index}
 use Rattle.adf_block.specs.declared.Format.TheVariants.{Ofs}
 use Rattle.adf_block.specs.Image.{block_count, long, IsInside}
 use Rattle.adf_block.specs.Fields.{pointer_count, file_size, next_data, table_longs}

@@ -1,5 +1,4 @@
-use Rattle.std.proofs.Common.{◌≡◌, ℕ, ◌+◌, ◌<◌, List, Vec, Global, length, All, sym, ap, ◌∙◌, subst, arith}
-use Rattle.adf_block.specs.Image.{block_count}
+use Rattle.std.proofs.Common.{◌≡◌, ℕ, ◌+◌, List, Vec, Global, length, sym, ap, ◌∙◌, subst, arith}
 use Rattle.adf_salvage.specs.declared.claims.Claim.{Claim}
 use Rattle.adf_salvage.specs.Sound.{own_blocks}
 use Rattle.adf_salvage.specs.steps.Claims.{AreClaims, IsNoted}

@@ -1,8 +1,7 @@
-use Rattle.std.proofs.Common.{◌≡◌, ◌<◌, ◌≤◌, ◌+◌, ◌/◌, ◌∷◌, ◌++◌, ℕ, suc, Bool, true, false, List, MatchBool, sym, ap, ◌∙◌, subst, arith, below_more}
-use Rattle.adf_block.specs.declared.Format.TheVariants.{Ofs, Ffs}
-use Rattle.adf_block.specs.Image.{block_count, long}
+use Rattle.std.proofs.Common.{◌≡◌, ◌<◌, ◌+◌, ◌/◌, ◌++◌, ℕ, suc, List, sym, ap, ◌∙◌, subst, arith, below_more}
+use Rattle.adf_block.specs.Image.{long}
 use Rattle.adf_block.specs.Fields.{next_data}
-use Rattle.ados_data.specs.File.{format_of, pointer_block, data_block, data_blocks}
+use Rattle.ados_data.specs.File.{data_block, data_blocks}
 use Rattle.ados_data.proofs.Sizes.{in_extensions}
 use Rattle.adf_salvage.specs.steps.Parts.{HasData, IsDataBlock, data_needed, data_before}
 use Rattle.adf_salvage.proofs.OwnBlocks.{holder_there, holder_read, holder_below, file_below, before_below, decided, named_block, gathered_more, all_data, whole_data}
@@ -16,8 +15,11 @@ index-holder-requires c =
 pub long-block-requires-clause-block : goal.long-block-requires-clause-block
 long-block-requires-clause-block c =
     let below : c.loop-i.i < data_needed c.args.image.now c.args.file = omega (arith, c.loop-i-test.true, c.requires.needed) in
-    omega (arith, holder_read c.args.image.now c.args.file c.loop-i.blocks.items c.loop-i.i c.index-holder.result.now c.loop-i.invariant.blocks below c.index-holder.ensures,
-    holder_below c.args.image.now c.args.file c.requires.holders (c.loop-i.i / 72) (in_extensions c.loop-i.i (data_needed c.args.image.now c.args.file) below))
+    omega (
+      arith,
+      holder_read c.args.image.now c.args.file c.loop-i.blocks.items c.loop-i.i c.index-holder.result.now c.loop-i.invariant.blocks below c.index-holder.ensures,
+      holder_below c.args.image.now c.args.file c.requires.holders (c.loop-i.i / 72) (in_extensions c.loop-i.i (data_needed c.args.image.now c.args.file) below),
+    )
 
 pub is_data-requires-clause-file : goal.is_data-requires-clause-file
 is_data-requires-clause-file c = file_below c.args.image.now c.args.file c.requires.holders
@@ -62,7 +64,7 @@ returns c =
       whole_data c.args.image.now c.args.file c.loop-i.i count c.loop-i.invariant.sound
           (λ ofs. ap (λ (b : ℕ). long c.args.image.now b next_data) (sym c.loop-i.invariant.before) ∙ c.is_last.ensures.0 yes ofs),
       all_data c.args.image.now c.args.file c.loop-i.blocks.items c.loop-i.i c.loop-i.invariant.blocks count
-      ∙ ap (λ (xs : List ℕ). xs ++ data_blocks c.args.image.now c.args.file) (sym c.requires.blocks),
+          ∙ ap (λ (xs : List ℕ). xs ++ data_blocks c.args.image.now c.args.file) (sym c.requires.blocks),
     ))
     (λ no h.
     let ends = c.is_last.ensures.1 (λ ofs.

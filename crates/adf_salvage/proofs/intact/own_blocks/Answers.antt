@@ -1,8 +1,7 @@
-use Rattle.std.proofs.Common.{◌≡◌, ◌<◌, ◌≤◌, ◌+◌, ◌∷◌, ◌++◌, ℕ, suc, Bool, true, false, List, MatchBool, MatchOption, sym, ap, ◌∙◌, subst, arith}
-use Rattle.adf_block.specs.Image.{block_count}
-use Rattle.ados_data.specs.File.{LawfulFile, data_blocks, extension_blocks}
-use Rattle.adf_salvage.specs.Sound.{IsIntact, own_blocks}
-use Rattle.adf_salvage.specs.steps.Parts.{AreOnce, HasHolders, HasData, data_needed}
+use Rattle.std.proofs.Common.{◌≡◌, ◌++◌, ℕ, List, sym, ap, ◌∙◌, subst, arith}
+use Rattle.ados_data.specs.File.{data_blocks}
+use Rattle.adf_salvage.specs.Sound.{own_blocks}
+use Rattle.adf_salvage.specs.steps.Parts.{AreOnce}
 use Rattle.adf_salvage.proofs.SoundParts.{lawful_file, lawful_holders, lawful_data_blocks, lawful_once, lawful_few}
 use Rattle.adf_salvage.proofs.OwnBlocks.{own_below}
 use Rattle.adf_salvage.proofs.intact.own_blocks.Goals as goal

@@ -1,5 +1,4 @@
-use Rattle.std.proofs.Common.{◌≡◌, ◌⊎◌, inl, inr, ℕ, Bool, List, sym, ap, ◌∙◌, subst}
-use Rattle.ados_tree.specs.Accepted.{Accepts}
+use Rattle.std.proofs.Common.{inl, inr, ℕ, List, subst}
 use Rattle.ados_tree.specs.Stands.{Stands}
 use Rattle.ados_tree.specs.Tree.{Tree}
 use Rattle.ados_tree.proofs.NoFaults.{faults_have_no_tree}

@@ -1,4 +1,4 @@
-use Rattle.std.proofs.Common.{◌≡◌, length, sym, ap, ◌∙◌}
+use Rattle.std.proofs.Common.{length, ◌∙◌}
 use Rattle.adf_salvage.proofs.Claiming.{all_within, whole_decided}
 use Rattle.adf_salvage.proofs.state.is_whole.Goals as goal
 

@@ -1,4 +1,3 @@
-use Rattle.std.proofs.Common.{◌≡◌}
 use Rattle.adf_salvage.specs.steps.Gathering.{GathersMore}
 use Rattle.adf_salvage.proofs.Answering.{on_ok}
 use Rattle.adf_salvage.proofs.unreached.add_with_parents.Goals as goal
