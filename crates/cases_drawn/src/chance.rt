@@ -4,8 +4,7 @@ ghost use Rattle.std.specs.Prelude.{◌≡◌, ◌<◌};
 ghost use Rattle.adf_block.specs.Image.{block_count};
 
 use crate::images::{copy, is_same, long_at};
-use crate::salvaged::{data_of_file, is_true};
-use adf_block::{Format, Image};
+use adf_block::Image;
 use adf_block::layout::{BITMAP_FLAG, BITMAP_VALID, BLOCK_BYTES};
 use ados_tree::FaultKind;
 use ados_volume::check;
@@ -106,29 +105,4 @@ pub fn accepted_of_changed(
         }
     }
     Ok(Some(accepted))
-}
-
-/// The first of the images of one to eight changed bytes in which the file of a filled volume is told as whole with bytes that
-/// stand in none of its blocks; in OFS also with other bytes than it had.
-pub fn untrue_of_changed(
-    alloc: Global,
-    base: &Image,
-    format: Format,
-    seed: u64,
-) -> Result<Option<u32>, AllocError> {
-    let mut chance = Chance { state: seed };
-    let had = data_of_file(alloc, base, format)?;
-    for number in 0..TRIED {
-        let mut image = copy(alloc, base)?;
-        let count = 1 + chance.below(8);
-        chance.change(&mut image, Struck::All, count);
-        let is_right = match format {
-            Format::Ofs => is_true(alloc, &image, &had)?,
-            Format::Ffs => is_true(alloc, &image, &data_of_file(alloc, &image, format)?)?,
-        };
-        if !is_right {
-            return Ok(Some(number));
-        }
-    }
-    Ok(None)
 }

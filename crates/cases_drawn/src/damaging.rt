@@ -2,7 +2,6 @@
 
 use crate::filling::{EXTENSION, HEADER, SECOND};
 use crate::images::{COMMENT, NAME, copy, is_same, put, settle};
-use crate::salvaged::{data_of_file, is_true};
 use adf_block::layout::*;
 use adf_block::{Format, Image};
 use ados_tree::{FaultKind, VolumeFault};
@@ -77,27 +76,27 @@ pub fn fault_of(alloc: Global, image: &Image) -> Result<Option<VolumeFault>, All
     })
 }
 
-/// An image with one long changed. A block with a sum is settled.
-fn damaged(
+/// The fault that an image with one long changed is refused with. A block with a sum is settled.
+fn fault_with(
     alloc: Global,
     base: &Image,
     block: u32,
     long: u32,
     value: u32,
-) -> Result<Image, AllocError> {
+) -> Result<Option<VolumeFault>, AllocError> {
     let mut image = copy(alloc, base)?;
     if block == 0 {
         put(&mut image, block, &[(long, value)]);
     } else {
         settle(&mut image, block, &[(long, value)]);
     }
-    Ok(image)
+    fault_of(alloc, &image)
 }
 
 /// The first damage that is answered otherwise.
 fn first_stray(alloc: Global, base: &Image, rows: &[Damage]) -> Result<Option<Stray>, AllocError> {
     for &(block, long, value, kind, at) in rows {
-        let fault = fault_of(alloc, &damaged(alloc, base, block, long, value)?)?;
+        let fault = fault_with(alloc, base, block, long, value)?;
         if fault != Some(VolumeFault { kind, block: at }) {
             return Ok(Some(((block, long, value, kind, at), fault)));
         }
@@ -120,42 +119,10 @@ pub fn stray_answer(
     }
 }
 
-/// The first damage in which the file is told as whole with other bytes.
-fn first_untrue(
-    alloc: Global,
-    base: &Image,
-    format: Format,
-    rows: &[Damage],
-) -> Result<Option<Damage>, AllocError> {
-    let wanted = data_of_file(alloc, base, format)?;
-    for &(block, long, value, kind, at) in rows {
-        let image = damaged(alloc, base, block, long, value)?;
-        if !is_true(alloc, &image, &wanted)? {
-            return Ok(Some((block, long, value, kind, at)));
-        }
-    }
-    Ok(None)
-}
-
-/// Each damage alone of a filled floppy: the first in which the file is told as whole with other bytes.
-pub fn untrue_salvage(
-    alloc: Global,
-    base: &Image,
-    format: Format,
-) -> Result<Option<Damage>, AllocError> {
-    if let Some(damage) = first_untrue(alloc, base, format, &OF_BOTH)? {
-        return Ok(Some(damage));
-    }
-    match format {
-        Format::Ofs => first_untrue(alloc, base, format, &OF_OFS),
-        Format::Ffs => first_untrue(alloc, base, format, &OF_FFS),
-    }
-}
-
 /// Each damage with two faults alone of a filled floppy: the first that is answered otherwise.
 pub fn stray_of_two_faults(alloc: Global, base: &Image) -> Result<Option<Stray>, AllocError> {
     for &((block, long, value, kind, at), other, other_at) in &OF_TWO_FAULTS {
-        let fault = fault_of(alloc, &damaged(alloc, base, block, long, value)?)?;
+        let fault = fault_with(alloc, base, block, long, value)?;
         let either = [
             Some(VolumeFault { kind, block: at }),
             Some(VolumeFault {

@@ -41,8 +41,6 @@ mod damaged;
 mod mended;
 #[cfg(test)]
 mod refused;
-#[cfg(test)]
-mod salvaged;
 
 // Blank volumes, and what is told of a volume.
 #[cfg(test)]
