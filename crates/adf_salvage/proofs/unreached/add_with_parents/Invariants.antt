@@ -1,0 +1,13 @@
+use Rattle.std.proofs.Common.{◌≡◌, length, vec_len}
+use Rattle.adf_block.specs.Image.{block_count}
+use Rattle.adf_salvage.specs.steps.Gathering.{GathersMore}
+use Rattle.adf_salvage.proofs.unreached.add_with_parents.Given as goal
+
+abbrev pub invariant-loop-step : goal.invariant-loop-step
+invariant-loop-step l = length l.climbed.items ≡ block_count l.image
+
+abbrev pub invariant-loop-dir : goal.invariant-loop-dir
+invariant-loop-dir l = GathersMore l.image l.initial.gathered.places.items l.gathered.entries.items l.gathered.places.items
+
+abbrev pub decreases-loop-dir : goal.decreases-loop-dir
+decreases-loop-dir l = vec_len l.above

@@ -1,0 +1,37 @@
+-- Which headers and files of an image are sound by themselves, wherever a chain may lead.
+use Rattle.std.specs.Prelude.{◌≡◌, ℕ, ◌≤◌, List, ◌∷◌, ◌++◌, Contains}
+use Rattle.adf_block.specs.Image.{block_count, block_sum, byte_at, IsInside}
+use Rattle.adf_block.specs.Fields.{primary_type, own_key, header_type, comment_byte, name_byte, text_at}
+use Rattle.ados_name.specs.Name.{IsName}
+use Rattle.ados_data.specs.File.{LawfulFile, data_blocks, extension_blocks}
+use Rattle.ados_tree.specs.Faults.{HasFileType}
+use Rattle.check_marks.specs.Marks.{HasEntryType}
+
+-- the header of a directory or file with the right fields, in its own block
+pub record IsSoundHeader (image : List ℕ) (block : ℕ) : Type 0 where
+  pub inside : IsInside (block_count image) block
+  pub primary : primary_type image block ≡ header_type
+  pub secondary : HasEntryType image block
+  pub key_field : own_key image block ≡ block
+  pub sum : block_sum image block ≡ 0
+  pub name : IsName (text_at image block name_byte)
+  pub comment : byte_at image block comment_byte ≤ 79
+
+-- a sound file: its header, and its blocks, as many as its size needs, each right in its place, inside the volume and in no two places
+pub record IsIntact (image : List ℕ) (file : ℕ) : Type 0 where
+  pub header : IsSoundHeader image file
+  pub is_file : HasFileType image file
+  pub lawful : LawfulFile image file
+
+-- all blocks of a file: its header, its extension blocks and its data blocks
+abbrev pub own_blocks : List ℕ → ℕ → List ℕ
+own_blocks image file = (file ∷ extension_blocks image file) ++ data_blocks image file
+
+-- the file names the block
+abbrev pub Names : List ℕ → ℕ → ℕ → Type 0
+Names image file block = Contains (own_blocks image file) block
+
+-- a whole file: sound, and no other sound file names a block of it
+pub record IsWhole (image : List ℕ) (file : ℕ) : Type 0 where
+  pub intact : IsIntact image file
+  pub alone : (other block : ℕ) → IsIntact image other → Names image file block → Names image other block → other ≡ file

@@ -1,0 +1,4 @@
+-- What is found out of a file, block by block.
+pub mod Parts
+pub mod Claims
+pub mod Gathering

@@ -1,0 +1,70 @@
+//! Which sound files name a block.
+ghost use Rattle.std.specs.Prelude.{◌≡◌, ◌<◌, ℕ, length, All, IfOk, MatchBool};
+ghost use Rattle.adf_block.specs.Image.{block_count};
+ghost use Rattle.adf_salvage.specs.steps.Claims.{AreClaims, IsNoted, claim_at, with_claim};
+ghost use Rattle.adf_salvage.specs.declared.claims.Claim.TheVariants.{One as one};
+
+use crate::intact::own_blocks;
+use adf_block::Image;
+use std::alloc::{AllocError, Global};
+
+/// Which sound files name a block.
+#[derive(Clone, Copy, Debug, PartialEq, Eq)]
+pub(crate) enum Claim {
+    /// None.
+    Free,
+    /// One, by its header.
+    One(u32),
+    Several,
+}
+
+impl Claim {
+    /// The note once one more file names the block.
+    fn with(self, file: u32) -> Claim
+        ensures { result ≡ with_claim file self }
+    {
+        match self {
+            Claim::Free => Claim::One(file),
+            Claim::One(other) if other == file => self,
+            _ => Claim::Several,
+        }
+    }
+}
+
+/// For each block of an image, which sound files name it.
+pub(crate) fn claims(alloc: Global, image: &Image) -> Result<Vec<Claim>, AllocError>
+    ensures count { IfOk result (λ claims. length claims.items ≡ block_count image.now) }
+    ensures claims { IfOk result (λ claims. AreClaims image.now (block_count image.now) claims.items) }
+{
+    let mut claims = vec![in alloc; Claim::Free; image.blocks() as usize]?;
+    for file in 0..image.blocks() {
+        if let Some(blocks) = own_blocks(alloc, image, file)? {
+            note(&mut claims, file, &blocks);
+        }
+    }
+    Ok(claims)
+}
+
+/// Notes that a file names these blocks.
+fn note(claims: &mut [Claim], file: u32, blocks: &[u32])
+    requires { All (λ block. block < length claims.old) blocks.now }
+    ensures count { length claims.new ≡ length claims.old }
+    ensures noted { (block : ℕ) → block < length claims.old → IsNoted file blocks.now claims.old claims.new block }
+{
+    for block in blocks {
+        claims[*block as usize] = claims[*block as usize].with(file);
+    }
+}
+
+/// Whether each of these blocks is named by one file alone, this one.
+pub(crate) fn are_alone(claims: &[Claim], file: u32, blocks: &[u32]) -> bool
+    requires { All (λ block. block < length claims.now) blocks.now }
+    ensures { MatchBool result (All (λ block. claim_at claims.now block ≡ one file) blocks.now) (¬ All (λ block. claim_at claims.now block ≡ one file) blocks.now) }
+{
+    for block in blocks {
+        if claims[*block as usize] != Claim::One(file) {
+            return false;
+        }
+    }
+    true
+}

@@ -1,0 +1,88 @@
+//! The data blocks of a file.
+ghost use Rattle.std.specs.Prelude.{◌≡◌, ◌<◌, ◌-◌, ◌*◌, ◌++◌, ◌∷◌, ◌↔◌, min, IfOk, IsTrue, MatchBool};
+ghost use Rattle.adf_block.specs.Image.{block_count, long};
+ghost use Rattle.adf_block.specs.declared.Format.TheVariants.{Ofs};
+ghost use Rattle.adf_block.specs.Fields.{file_size, next_data, ofs_room};
+ghost use Rattle.ados_data.specs.File.{HasOfsData, data_blocks, extension_blocks, format_of};
+ghost use Rattle.adf_salvage.specs.steps.Parts.{HasData, HasHolders, IsDataBlock, data_needed};
+
+use adf_block::layout::{
+    BOOT_BLOCKS, DATA_TYPE, FIRST_POINTER, HELD, NEXT_DATA, OFS_ROOM, OWN_KEY, PRIMARY_TYPE,
+    SEQUENCE, SIZE, TABLE_LONGS,
+};
+use adf_block::{Format, Image};
+use std::alloc::AllocError;
+
+/// Puts the data blocks of a file behind its pointer blocks, if each is right in its place.
+pub(crate) fn push_data(
+    image: &Image,
+    file: u32,
+    needed: u32,
+    blocks: &mut Vec<u32>,
+) -> Result<bool, AllocError>
+    requires needed { needed ≡ data_needed image.now file }
+    requires holders { HasHolders image.now file }
+    requires blocks { blocks.old.items ≡ file ∷ extension_blocks image.now file }
+    ensures { IfOk result (λ right. MatchBool right
+        (HasData image.now file × (blocks.new.items ≡ blocks.old.items ++ data_blocks image.now file)) (¬ HasData image.now file)) }
+{
+    let mut before = file;
+    for i in 0..needed {
+        let holder = blocks[(i / TABLE_LONGS) as usize];
+        let block = image.long(holder, FIRST_POINTER - i % TABLE_LONGS);
+        if !is_data(image, file, i, before, block) {
+            return Ok(false);
+        }
+        blocks.push(block)?;
+        before = block;
+    }
+    Ok(is_last(image, before))
+}
+
+/// Whether no data block follows: only in OFS does a block name the next one.
+fn is_last(image: &Image, block: u32) -> bool
+    requires { block < block_count image.now }
+    ensures { IsTrue result ↔ (format_of image.now ≡ Ofs → long image.now block next_data ≡ 0) }
+{
+    match image.format() {
+        Format::Ofs => image.long(block, NEXT_DATA) == 0,
+        Format::Ffs => true,
+    }
+}
+
+/// Whether a block can be data block `i` of a file, behind the block in front of it.
+fn is_data(image: &Image, file: u32, i: u32, before: u32, block: u32) -> bool
+    requires file { file < block_count image.now }
+    requires before { before < block_count image.now }
+    ensures { IsTrue result ↔ IsDataBlock image.now file i before block }
+{
+    if block < BOOT_BLOCKS || block >= image.blocks() {
+        return false;
+    }
+    match image.format() {
+        Format::Ofs => image.long(before, NEXT_DATA) == block && is_ofs_data(image, file, i, block),
+        Format::Ffs => true,
+    }
+}
+
+/// Whether a block has the fields of OFS data block `i` of a file.
+pub(crate) fn is_ofs_data(image: &Image, file: u32, i: u32, block: u32) -> bool
+    requires file { file < block_count image.now }
+    requires block { block < block_count image.now }
+    ensures { IsTrue result ↔ HasOfsData image.now file (file_size image.now file) i block }
+{
+    image.sum(block) == 0
+        && image.long(block, PRIMARY_TYPE) == DATA_TYPE
+        && image.long(block, OWN_KEY) == file
+        && u64::from(image.long(block, SEQUENCE)) == u64::from(i) + 1
+        && u64::from(image.long(block, HELD)) == held_in(image.long(file, SIZE), i)
+}
+
+/// How many bytes stand in OFS data block `i` of a file of this size.
+fn held_in(size: u32, i: u32) -> u64
+    ensures { result ≡ min ofs_room (size - ofs_room * i) }
+{
+    u64::from(size)
+        .saturating_sub(u64::from(OFS_ROOM) * u64::from(i))
+        .min(u64::from(OFS_ROOM))
+}

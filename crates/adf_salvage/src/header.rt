@@ -1,0 +1,61 @@
+//! Headers that are sound by themselves.
+ghost use Rattle.std.specs.Prelude.{◌≡◌, ◌<◌, ◌↔◌, IsTrue, MatchOption};
+ghost use Rattle.adf_block.specs.Image.{block_count};
+ghost use Rattle.adf_block.specs.Fields.{name_byte, text_at};
+ghost use Rattle.ados_name.specs.Name.{IsName};
+ghost use Rattle.check_marks.specs.Marks.{HasEntryType};
+ghost use Rattle.ados_tree.specs.Faults.{HasFileType};
+ghost use Rattle.adf_salvage.specs.Sound.{IsSoundHeader};
+
+use adf_block::Image;
+use adf_block::layout::{
+    BOOT_BLOCKS, COMMENT_BYTE, DIRECTORY_TYPE, FILE_TYPE, HEADER_TYPE, NAME_BYTE, OWN_KEY,
+    PRIMARY_TYPE, SECONDARY_TYPE,
+};
+use ados_name::{Comment, Name};
+
+/// Whether a block is the header of a directory or file with the right fields.
+pub(crate) fn is_sound_header(image: &Image, block: u32) -> bool
+    requires { block < block_count image.now }
+    ensures { IsTrue result ↔ IsSoundHeader image.now block }
+{
+    block >= BOOT_BLOCKS
+        && image.sum(block) == 0
+        && image.long(block, PRIMARY_TYPE) == HEADER_TYPE
+        && is_entry(image, block)
+        && image.long(block, OWN_KEY) == block
+        && name_of(image, block).is_some()
+        && usize::from(image.byte(block, COMMENT_BYTE)) <= Comment::MAX_LEN
+}
+
+/// Whether a header says that it is that of a directory or file.
+fn is_entry(image: &Image, block: u32) -> bool
+    requires { block < block_count image.now }
+    ensures { IsTrue result ↔ HasEntryType image.now block }
+{
+    let kind = image.long(block, SECONDARY_TYPE);
+    kind == DIRECTORY_TYPE || kind == FILE_TYPE
+}
+
+/// Whether a header says that it is that of a file.
+pub(crate) fn is_file(image: &Image, block: u32) -> bool
+    requires { block < block_count image.now }
+    ensures { IsTrue result ↔ HasFileType image.now block }
+{
+    image.long(block, SECONDARY_TYPE) == FILE_TYPE
+}
+
+/// The name in a block, if it is valid.
+pub(crate) fn name_of(image: &Image, key: u32) -> Option<Name>
+    requires { key < block_count image.now }
+    ensures { MatchOption result (¬ IsName (text_at image.now key name_byte))
+        (λ name. (name ≡ text_at image.now key name_byte) × IsName (text_at image.now key name_byte)) }
+{
+    let block = image.block(key);
+    let at = NAME_BYTE as usize;
+    let length = block[at] as usize;
+    if length > Name::MAX_LEN {
+        return None;
+    }
+    Name::new(&block[at + 1..at + 1 + length]).ok()
+}

@@ -1,0 +1,46 @@
+//! The kind of a damaged image.
+ghost use Rattle.adf_salvage.specs.Salvaged.{IsReadAs};
+ghost use Rattle.std.specs.Prelude.{IsTrue};
+
+use crate::header::{is_file, is_sound_header};
+use adf_block::layout::{DATA_TYPE, KIND, OWN_KEY, PRIMARY_TYPE};
+use adf_block::{BootKind, Image};
+
+/// `DOS` and the byte of OFS, as a long.
+const OFS_KIND: u32 = 0x444f_5300;
+
+/// `DOS` and the byte of FFS, as a long.
+const FFS_KIND: u32 = 0x444f_5301;
+
+/// The image as it is read: where its first four bytes name neither kind, they become those of the kind that its blocks show.
+pub(crate) fn with_kind(image: Image) -> Image
+    ensures { IsReadAs image result }
+{
+    let mut image = image;
+    prove!(image.blocks() >= 16);
+    match image.boot_kind() {
+        BootKind::Ofs | BootKind::Ffs => image,
+        BootKind::OtherDos(_) | BootKind::NotDos => {
+            let kind = if has_ofs_data(&image) {
+                OFS_KIND
+            } else {
+                FFS_KIND
+            };
+            image.set_long(0, KIND, kind);
+            image
+        }
+    }
+}
+
+/// Whether a block has the type and the sum of OFS data, and names the sound header of a file.
+fn has_ofs_data(image: &Image) -> bool {
+    for block in 0..image.blocks() {
+        if image.long(block, PRIMARY_TYPE) == DATA_TYPE && image.sum(block) == 0 {
+            let file = image.long(block, OWN_KEY);
+            if file < image.blocks() && is_sound_header(image, file) && is_file(image, file) {
+                return true;
+            }
+        }
+    }
+    false
+}

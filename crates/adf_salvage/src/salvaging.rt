@@ -1,0 +1,45 @@
+//! All that can be trusted of an image.
+ghost use Rattle.std.specs.Prelude.{IfOk};
+ghost use Rattle.ados_tree.specs.Stands.{Stands};
+ghost use Rattle.ados_tree.specs.Tree.{Tree};
+ghost use Rattle.adf_salvage.specs.Salvaged.{AreOfTree, AreSalvaged, Salvages};
+
+use crate::chains::add_reached;
+use crate::claims::claims;
+use crate::gathered::Gathered;
+use crate::kind::with_kind;
+use crate::listing::volume_entries;
+use crate::salvaged::Salvaged;
+use crate::unreached::add_unreached;
+use adf_block::Image;
+use ados_volume::{FaultKind, check};
+use std::alloc::{AllocError, Global};
+
+/// All that can be trusted of an image, each header once, a directory before its entries.
+///
+/// Of an image that the check accepts these are the entries of its tree. Of any other they are its sound headers: first what
+/// the chains lead to from the root, then what these did not lead to. Where its first four bytes name neither kind it is read
+/// as one of the kind that its blocks show.
+pub fn salvage(alloc: Global, image: Image) -> Result<Vec<Salvaged>, AllocError>
+    ensures salvages { IfOk result (λ found. Salvages image found.items) }
+    ensures tree { IfOk result (λ found. (t : Tree) → Stands image t → AreOfTree t found.items) }
+{
+    match check(alloc, image) {
+        Ok(volume) => volume_entries(alloc, &volume),
+        Err(rejected) => match rejected.fault.kind {
+            FaultKind::NoMemory => Err(AllocError),
+            _ => sound_headers(alloc, &with_kind(rejected.image)),
+        },
+    }
+}
+
+/// The entries of all sound headers of an image.
+fn sound_headers(alloc: Global, image: &Image) -> Result<Vec<Salvaged>, AllocError>
+    ensures { IfOk result (λ found. AreSalvaged image.now found.items) }
+{
+    let claims = claims(alloc, image)?;
+    let mut gathered = Gathered::new(alloc, image)?;
+    add_reached(alloc, image, &claims, &mut gathered)?;
+    add_unreached(alloc, image, &claims, &mut gathered)?;
+    Ok(gathered.entries)
+}
