@@ -10,7 +10,7 @@ use Rattle.adf_text.specs.Letters.{letters as letter_text}
 use Rattle.files_out.specs.declared.fault.OutFault.{OutFault}
 use Rattle.files_out.specs.declared.fault.OutFault.TheVariants as out
 use Rattle.adf_commands.specs.declared.fault.CommandFault.{CommandFault}
-use Rattle.adf_commands.specs.declared.fault.CommandFault.TheVariants.{Blocks, Dos, Letter, LongBoot, Memory, Name, Output, Refused, Script}
+use Rattle.adf_commands.specs.declared.fault.CommandFault.TheVariants.{Blocks, Dos, Letter, LongBoot, Memory, Name, ImagesRefused, NotWhole, Output, Refused, Script}
 use Rattle.adf_commands.specs.Refusals.{IsImageRefusal, IsSizeRefusal, kind_word, refusal_line, refused_line, told_line}
 
 -- an image is refused as this fault says, or there was no memory
@@ -72,4 +72,6 @@ status_of (LongBoot file) = 3
 status_of (Refused refusal) = 3
 status_of (Dos refusal) = 3
 status_of Script = 3
+status_of ImagesRefused = 3
+status_of NotWhole = 3
 status_of fault = 2
