@@ -19,15 +19,22 @@ use Rattle.adf_jobs.specs.declared.job.ImageJob.TheVariants.{Blank}
 use Rattle.files_out.specs.declared.fault.OutFault.{OutFault}
 use Rattle.files_out.specs.declared.fault.OutFault.TheVariants as out
 use Rattle.files_out.specs.Printing.{IsPrinted, IsPrintFault}
+use Rattle.files_out.specs.Rescue.{IsRescue}
+use Rattle.files_out.specs.declared.damaged.Rescue.{Rescue}
 use Rattle.adf_listing.proofs.Fronts.{writes_first}
 use Rattle.adf_commands.specs.declared.fault.CommandFault.{CommandFault}
-use Rattle.adf_commands.specs.declared.fault.CommandFault.TheVariants.{Dos, Memory, Output, Refused}
+use Rattle.adf_commands.specs.declared.fault.CommandFault.TheVariants.{Dos, ImagesRefused, Memory, NotChecked, NotWhole, Output, Refused}
 use Rattle.adf_commands.specs.declared.refusal.Refusal.{Refusal}
 use Rattle.adf_commands.specs.declared.refusal.DosRefusal.{DosRefusal}
-use Rattle.adf_commands.specs.Texts.{BeginsJobText, BeginsListText, check_line, IsCheckText, IsJobText, IsListed, IsListText, IsPrintText}
+use Rattle.adf_commands.specs.Texts.{BeginsJobText, BeginsListText, IsJobText, IsListed, IsListText, IsPrintText}
 use Rattle.adf_commands.specs.Faults.{IsBlankFault, IsNoImage, IsNoImageRefusal, IsNoRefusal, IsRefusedFor, IsToldAs, IsToldOut, IsToldRun}
 use Rattle.adf_commands.specs.Commands.{Does, DoesJob, Ending, EndsOff, LeavesOff, Prints, prints, Tells, TellsFault, TellsJob, TellsOf, TellsSome}
-use Rattle.adf_commands.specs.Commands.Prints.{OnlyFaults, OfBytes, Unsaid}
+use Rattle.adf_commands.specs.Commands.Prints.{OnlyFaults, OfBytes, OfImages, OfRescue, Unsaid}
+use Rattle.std.proofs.lemmas.List.{append-nil}
+use Rattle.adf_archive.specs.Archive.{told_in}
+use Rattle.adf_jobs.specs.declared.reading.CheckJob.{CheckJob}
+use Rattle.adf_commands.specs.Archives.{EndsArchive}
+use Rattle.adf_commands.specs.Rescues.{DoesRescue, TellsRescue}
 use Rattle.adf_commands.specs.Refusals.{dos_line, IsDosText, IsRefusalText, refusal_line, told_line}
 
 -- an image is refused as the fault says
@@ -110,9 +117,6 @@ accepted_tree image true checked a = (a.2.0, a.2.1)
 
 -- of an image that is accepted
 module _ (image : List ℕ) (was_validated : Bool) (checked : List ℕ) (a : Accepts image was_validated checked) where
-  pub check_text : (text : List ℕ) → text ≡ check_line was_validated → IsCheckText image text
-  check_text text e = let s = accepted_tree image was_validated checked a in (was_validated, checked, s.0, a, s.1, e)
-
   pub list_text : (path : Option (List ℕ)) (b : Bool) (dir : ℕ) (old new : Option (List ℕ)) → ((t : Tree) → Stands checked t → IsListed t path dir)
       → ((t : Tree) → Stands checked t → Writes old new (IsList t dir b)) → Writes old new (IsListText path b image)
   list_text path b dir old new listed h =
@@ -171,12 +175,60 @@ none_told f o told e is = sym e ∙ ap (option_map f) is
 pub some_told : {A : Type 0} (f : A → List ℕ) (o : Option A) (x : A) (told : Option (List ℕ)) → option_map f o ≡ told → o ≡ Some x → told ≡ Some (f x)
 some_told f o x told e is = sym e ∙ ap (option_map f) is
 
+-- what is told is a front of itself
+told_front : (old new : Option (List ℕ)) (text : List ℕ) → Appends old new text → WritesFront old new text
+told_front old new text told = (text, told, ([], sym (append-nil text)))
+
+-- a check of images for which there is no more memory
+archive_unsaid : (job : CheckJob) (old new : Option (List ℕ)) (fault : CommandFault) → EndsArchive job old new (Err fault) → EndsArchive job old new (Err Memory)
+archive_unsaid job old new ImagesRefused (archive, told, whole) = (archive, told_front old new (told_in archive) told)
+archive_unsaid job old new NotChecked (archive, told, whole) = (archive, told_front old new (told_in archive) told)
+archive_unsaid job old new Output front = front
+archive_unsaid job old new Memory front = front
+archive_unsaid job old new fault none = absurd none
+
+-- a rescue whose fault no line tells of, or for whose line there is no memory
+rescue_failed : (old new : Option (List ℕ)) (fault : CommandFault) → DoesRescue old new (Err fault) → IsNoRefusal fault → TellsRescue old new (Err fault)
+rescue_failed old new NotWhole told plain = told
+rescue_failed old new (Refused refusal) d plain = absurd (cc plain)
+rescue_failed old new (Dos refusal) d plain = absurd (cc plain)
+rescue_failed old new fault (inl keeps) plain = inl keeps
+rescue_failed old new fault (inr (text, is, front)) plain = inr (text, inl is, front)
+
+rescue_unsaid : (old new : Option (List ℕ)) (fault : CommandFault) → DoesRescue old new (Err fault) → TellsRescue old new (Err Memory)
+rescue_unsaid old new NotWhole d = inr (d.0, inl (false, d.2), told_front old new d.0 d.1)
+rescue_unsaid old new (Refused refusal) d = inl d.0
+rescue_unsaid old new (Dos refusal) keeps = inl keeps
+rescue_unsaid old new fault (inl keeps) = inl keeps
+rescue_unsaid old new fault (inr (text, is, front)) = inr (text, inl is, front)
+
+-- nothing is told where no image was read
+no_image_rescued : (w : Option (List ℕ)) (fault : CommandFault) → IsNoImage fault → DoesRescue w w (Err fault)
+no_image_rescued w NotWhole is = absurd is
+no_image_rescued w (Refused refusal) is = (Keeps-refl w, is)
+no_image_rescued w (Dos refusal) is = Keeps-refl w
+no_image_rescued w fault is = inl (Keeps-refl w)
+
+pub rescues_no_image : (w : Option (List ℕ)) (fault : CommandFault) (done : Ending) → IsNoImage fault → IsErrAnd done (λ told. told ≡ fault) → DoesRescue w w done
+rescues_no_image w fault (Ok x) is same = absurd same
+rescues_no_image w fault (Err told) is same = no_image_rescued w told (subst IsNoImage (sym same) is)
+
+-- what was taken out is told as far as the writer takes it
+pub rescue_cut : (old new : Option (List ℕ)) (image text : List ℕ) (rescue : Rescue) (fault : CommandFault) (done : Ending) → IsRescue image rescue → text ≡ rescue.lines.items
+    → WritesFront old new text → fault ≡ Output → IsErrAnd done (λ told. told ≡ fault) → DoesRescue old new done
+rescue_cut old new image text rescue fault (Ok x) is e front broken same = absurd same
+rescue_cut old new image text rescue fault (Err told) is e front broken same =
+    subst (λ (f : CommandFault). DoesRescue old new (Err f)) (sym (same ∙ broken))
+    (inr (rescue.lines.items, (rescue.whole, (image, rescue, is, refl, refl)), subst (λ (t : List ℕ). WritesFront old new t) e front))
+
 -- of jobs that print such texts of bytes
 module _ (IsText BeginsText : List ℕ → List ℕ → Type 0) where
   -- a job is done
   done : (p : Prints) (old new : Option (List ℕ)) (x : Unit {0}) → Does p IsText BeginsText old new (Ok x) → Tells p IsText BeginsText old new (Ok x)
   done OnlyFaults old new x h = h
   done OfBytes old new x h = h
+  done (OfImages job) old new x h = h
+  done OfRescue old new x h = h
   done Unsaid old new x h = tt
 
   -- a job whose fault no line tells of
@@ -184,6 +236,8 @@ module _ (IsText BeginsText : List ℕ → List ℕ → Type 0) where
       → Tells p IsText BeginsText old new (Err fault)
   failed OnlyFaults old new fault keeps plain = rw plain (inl keeps)
   failed Unsaid old new fault h plain = tt
+  failed (OfImages job) old new fault h plain = h
+  failed OfRescue old new fault h plain = rescue_failed old new fault h plain
   failed OfBytes old new (Refused refusal) h plain = absurd (cc plain)
   failed OfBytes old new (Dos refusal) h plain = absurd (cc plain)
   failed OfBytes old new fault (bytes, inl keeps) plain = (bytes, inl keeps)
@@ -193,6 +247,8 @@ module _ (IsText BeginsText : List ℕ → List ℕ → Type 0) where
   unsaid : (p : Prints) (old new : Option (List ℕ)) (fault : CommandFault) → Does p IsText BeginsText old new (Err fault) → Tells p IsText BeginsText old new (Err Memory)
   unsaid OnlyFaults old new fault keeps = inl keeps
   unsaid Unsaid old new fault h = tt
+  unsaid (OfImages job) old new fault h = archive_unsaid job old new fault h
+  unsaid OfRescue old new fault h = rescue_unsaid old new fault h
   unsaid OfBytes old new (Refused refusal) d = (d.0, inl d.1.1)
   unsaid OfBytes old new (Dos refusal) d = (d.0, inl d.1)
   unsaid OfBytes old new fault (bytes, inl keeps) = (bytes, inl keeps)
@@ -204,6 +260,8 @@ module _ (IsText BeginsText : List ℕ → List ℕ → Type 0) where
         → Tells p IsText BeginsText old new (Err (Refused refusal))
     told_refused OnlyFaults refusal keeps w = (refusal_line refusal, kept_appends old mid new (refusal_line refusal) keeps w, refl)
     told_refused Unsaid refusal d w = tt
+    told_refused (OfImages job) refusal d w = absurd d
+    told_refused OfRescue refusal (keeps, is) w = (refusal_line refusal, kept_appends old mid new (refusal_line refusal) keeps w, is)
     told_refused OfBytes refusal (bytes, (is, keeps)) w = (bytes, (refusal_line refusal, kept_appends old mid new (refusal_line refusal) keeps w, is))
 
     -- what AmigaDOS refuses is told
@@ -211,6 +269,8 @@ module _ (IsText BeginsText : List ℕ → List ℕ → Type 0) where
         → Tells p IsText BeginsText old new (Err (Dos refusal))
     told_dos OnlyFaults refusal keeps w = (dos_line refusal, kept_appends old mid new (dos_line refusal) keeps w, refl)
     told_dos Unsaid refusal d w = tt
+    told_dos (OfImages job) refusal d w = absurd d
+    told_dos OfRescue refusal keeps w = (dos_line refusal, kept_appends old mid new (dos_line refusal) keeps w, refl)
     told_dos OfBytes refusal (bytes, keeps) w = (bytes, (dos_line refusal, kept_appends old mid new (dos_line refusal) keeps w, refl))
 
     -- a front of what is written after nothing
@@ -228,19 +288,23 @@ module _ (IsText BeginsText : List ℕ → List ℕ → Type 0) where
     ends_front bytes (Dos r) plain front = absurd (cc plain)
     ends_front bytes last plain front = inr front
 
-    broken_refused : (p : Prints) (refusal : Refusal) (last : CommandFault) → IsNoRefusal last → Does p IsText BeginsText old mid (Err (Refused refusal))
-        → WritesFront mid new (refusal_line refusal) → Tells p IsText BeginsText old new (Err last)
-    broken_refused OnlyFaults refusal last plain keeps front = broken_quiet (Refused refusal) last (refusal_line refusal) refl plain keeps front
-    broken_refused Unsaid refusal last plain d front = tt
-    broken_refused OfBytes refusal last plain (bytes, (is, keeps)) front =
-        (bytes, ends_front bytes last plain (refusal_line refusal, inr (inl is), kept_front (refusal_line refusal) keeps front))
+    broken_refused : (p : Prints) (refusal : Refusal) → Does p IsText BeginsText old mid (Err (Refused refusal))
+        → WritesFront mid new (refusal_line refusal) → Tells p IsText BeginsText old new (Err Output)
+    broken_refused OnlyFaults refusal keeps front = broken_quiet (Refused refusal) Output (refusal_line refusal) refl refl keeps front
+    broken_refused Unsaid refusal d front = tt
+    broken_refused (OfImages job) refusal d front = absurd d
+    broken_refused OfRescue refusal (keeps, is) front = inr (refusal_line refusal, inr (Refused refusal, refl), kept_front (refusal_line refusal) keeps front)
+    broken_refused OfBytes refusal (bytes, (is, keeps)) front =
+        (bytes, ends_front bytes Output refl (refusal_line refusal, inr (inl is), kept_front (refusal_line refusal) keeps front))
 
-    broken_dos : (p : Prints) (refusal : DosRefusal) (last : CommandFault) → IsNoRefusal last → Does p IsText BeginsText old mid (Err (Dos refusal))
-        → WritesFront mid new (dos_line refusal) → Tells p IsText BeginsText old new (Err last)
-    broken_dos OnlyFaults refusal last plain keeps front = broken_quiet (Dos refusal) last (dos_line refusal) refl plain keeps front
-    broken_dos Unsaid refusal last plain d front = tt
-    broken_dos OfBytes refusal last plain (bytes, keeps) front =
-        (bytes, ends_front bytes last plain (dos_line refusal, inr (inr (refusal, refl)), kept_front (dos_line refusal) keeps front))
+    broken_dos : (p : Prints) (refusal : DosRefusal) → Does p IsText BeginsText old mid (Err (Dos refusal))
+        → WritesFront mid new (dos_line refusal) → Tells p IsText BeginsText old new (Err Output)
+    broken_dos OnlyFaults refusal keeps front = broken_quiet (Dos refusal) Output (dos_line refusal) refl refl keeps front
+    broken_dos Unsaid refusal d front = tt
+    broken_dos (OfImages job) refusal d front = absurd d
+    broken_dos OfRescue refusal keeps front = inr (dos_line refusal, inr (Dos refusal, refl), kept_front (dos_line refusal) keeps front)
+    broken_dos OfBytes refusal (bytes, keeps) front =
+        (bytes, ends_front bytes Output refl (dos_line refusal, inr (inr (refusal, refl)), kept_front (dos_line refusal) keeps front))
 
 -- the fault of a job that is told by this line
 module _ (job : ImageJob) (old mid new : Option (List ℕ)) (line : List ℕ) where
@@ -254,20 +318,21 @@ module _ (job : ImageJob) (old mid new : Option (List ℕ)) (line : List ℕ) wh
       told_dos (IsJobText job) (BeginsJobText job) old mid new (prints job) refusal h (subst (λ (l : List ℕ). Appends mid new l) same w)
   job_told fault tells h w = absurd (cc tells)
 
-  broken : (fault last : CommandFault) → told_line fault ≡ Some line → DoesJob job old mid (Err fault) → WritesFront mid new line → IsNoRefusal last → TellsJob job old new (Err last)
-  broken (Refused refusal) last tells h front plain =
+  broken : (fault : CommandFault) → told_line fault ≡ Some line → DoesJob job old mid (Err fault) → WritesFront mid new line → TellsJob job old new (Err Output)
+  broken (Refused refusal) tells h front =
       let same : line ≡ refusal_line refusal = cc tells in
-      broken_refused (IsJobText job) (BeginsJobText job) old mid new (prints job) refusal last plain h (subst (λ (l : List ℕ). WritesFront mid new l) same front)
-  broken (Dos refusal) last tells h front plain =
+      broken_refused (IsJobText job) (BeginsJobText job) old mid new (prints job) refusal h (subst (λ (l : List ℕ). WritesFront mid new l) same front)
+  broken (Dos refusal) tells h front =
       let same : line ≡ dos_line refusal = cc tells in
-      broken_dos (IsJobText job) (BeginsJobText job) old mid new (prints job) refusal last plain h (subst (λ (l : List ℕ). WritesFront mid new l) same front)
-  broken fault last tells h front plain = absurd (cc tells)
+      broken_dos (IsJobText job) (BeginsJobText job) old mid new (prints job) refusal h (subst (λ (l : List ℕ). WritesFront mid new l) same front)
+  broken fault tells h front = absurd (cc tells)
 
   -- it is told as far as the writer takes it
   pub job_broken : (fault printed : CommandFault) (ended : Ending) → told_line fault ≡ Some line → DoesJob job old mid (Err fault)
-      → WritesFront mid new line → IsNoRefusal printed → IsErrAnd ended (λ told. told ≡ printed) → TellsJob job old new ended
-  job_broken fault printed (Ok x) tells h front plain same = absurd same
-  job_broken fault printed (Err last) tells h front plain is = broken fault last tells h front (subst IsNoRefusal (sym is) plain)
+      → WritesFront mid new line → printed ≡ Output → IsErrAnd ended (λ told. told ≡ printed) → TellsJob job old new ended
+  job_broken fault printed (Ok x) tells h front output same = absurd same
+  job_broken fault printed (Err last) tells h front output is =
+      subst (λ (f : CommandFault). TellsJob job old new (Err f)) (sym (is ∙ output)) (broken fault tells h front)
 
 -- a job whose fault no line tells of
 pub job_failed : (job : ImageJob) (old new : Option (List ℕ)) (fault : CommandFault) → DoesJob job old new (Err fault) → IsNoRefusal fault → TellsJob job old new (Err fault)

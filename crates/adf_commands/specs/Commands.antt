@@ -4,9 +4,12 @@ use Rattle.std.specs.Io.KnownBytes.{Keeps}
 use Rattle.adf_script.specs.Streams.{Writes}
 use Rattle.adf_listing.specs.Fronts.{WritesFrontOf}
 use Rattle.adf_jobs.specs.declared.job.ImageJob.{ImageJob}
-use Rattle.adf_jobs.specs.declared.job.ImageJob.TheVariants.{Extract, Change, Boot, Serve}
+use Rattle.adf_jobs.specs.declared.job.ImageJob.TheVariants.{Check, Extract, Change, Boot, Salvage, Serve}
+use Rattle.adf_jobs.specs.declared.reading.CheckJob.{CheckJob}
 use Rattle.adf_commands.specs.declared.fault.CommandFault.{CommandFault}
 use Rattle.adf_commands.specs.declared.fault.CommandFault.TheVariants.{Dos, Refused}
+use Rattle.adf_commands.specs.Archives.{EndsArchive}
+use Rattle.adf_commands.specs.Rescues.{DoesRescue, TellsRescue}
 use Rattle.adf_commands.specs.Texts.{BeginsJobText, IsJobText}
 use Rattle.adf_commands.specs.Faults.{status_of}
 use Rattle.adf_commands.specs.Refusals.{IsDosText, IsRefusalText, dos_line, refusal_line, told_line}
@@ -30,13 +33,18 @@ TellsOf IsText BeginsText bytes old new result =
 abbrev pub TellsSome : (IsText BeginsText : List ℕ → List ℕ → Type 0) → Option (List ℕ) → Option (List ℕ) → Ending → Type 0
 TellsSome IsText BeginsText old new result = (bytes : List ℕ) × TellsOf IsText BeginsText bytes old new result
 
--- what a job prints: nothing but the line of its fault, a text of the bytes of its file, or what nothing is said of
+-- what a job prints: nothing but the line of its fault, a text of the bytes of its file, what is told of images
+-- that are checked, or of an image that is taken out of, or what nothing is said of
 pub data Prints : Type 0 where
   OnlyFaults : Prints
   OfBytes : Prints
+  OfImages : CheckJob → Prints
+  OfRescue : Prints
   Unsaid : Prints
 
 abbrev pub prints : ImageJob → Prints
+prints (Check job) = OfImages job
+prints (Salvage job) = OfRescue
 prints (Extract job) = OnlyFaults
 prints (Change job) = OnlyFaults
 prints (Boot image out file) = OnlyFaults
@@ -47,6 +55,8 @@ prints job = OfBytes
 abbrev pub Does : Prints → (IsText BeginsText : List ℕ → List ℕ → Type 0) → Option (List ℕ) → Option (List ℕ) → Ending → Type 0
 Does OnlyFaults IsText BeginsText old new result = Keeps old new
 Does OfBytes IsText BeginsText old new result = TellsSome IsText BeginsText old new result
+Does (OfImages job) IsText BeginsText old new result = EndsArchive job old new result
+Does OfRescue IsText BeginsText old new result = DoesRescue old new result
 Does Unsaid IsText BeginsText old new result = ⊤
 
 abbrev pub DoesJob : ImageJob → Option (List ℕ) → Option (List ℕ) → Ending → Type 0
@@ -77,6 +87,8 @@ EndsSome IsText BeginsText old new result =
 abbrev pub Tells : Prints → (IsText BeginsText : List ℕ → List ℕ → Type 0) → Option (List ℕ) → Option (List ℕ) → Ending → Type 0
 Tells OnlyFaults IsText BeginsText old new result = TellsFault old new result
 Tells OfBytes IsText BeginsText old new result = EndsSome IsText BeginsText old new result
+Tells (OfImages job) IsText BeginsText old new result = EndsArchive job old new result
+Tells OfRescue IsText BeginsText old new result = TellsRescue old new result
 Tells Unsaid IsText BeginsText old new result = ⊤
 
 -- what a job comes to

@@ -10,7 +10,7 @@ use Rattle.adf_text.specs.Letters.{letters as letter_text}
 use Rattle.files_out.specs.declared.fault.OutFault.{OutFault}
 use Rattle.files_out.specs.declared.fault.OutFault.TheVariants as out
 use Rattle.adf_commands.specs.declared.fault.CommandFault.{CommandFault}
-use Rattle.adf_commands.specs.declared.fault.CommandFault.TheVariants.{Blocks, Dos, Letter, LongBoot, Memory, Name, Output, Refused, Script}
+use Rattle.adf_commands.specs.declared.fault.CommandFault.TheVariants.{Blocks, Dos, Letter, LongBoot, Memory, Name, ImagesRefused, NotWhole, Output, Refused, Script}
 use Rattle.adf_commands.specs.Refusals.{IsImageRefusal, IsSizeRefusal, kind_word, refusal_line, refused_line, told_line}
 
 -- an image is refused as this fault says, or there was no memory
@@ -42,8 +42,9 @@ abbrev pub IsToldOut : OutFault → CommandFault → Type 0
 IsToldOut out.Output told = told ≡ Output
 IsToldOut fault told = IsNoImageRefusal told
 
--- bytes are refused by their number, or no image was read
+-- bytes are refused by their number, or no image was read; nothing was taken out of one
 abbrev pub IsNoImage : CommandFault → Type 0
+IsNoImage NotWhole = ⊥
 IsNoImage (Refused refusal) = (bytes : List ℕ) × IsSizeRefusal bytes (refusal_line refusal)
 IsNoImage fault = ⊤
 
@@ -72,4 +73,6 @@ status_of (LongBoot file) = 3
 status_of (Refused refusal) = 3
 status_of (Dos refusal) = 3
 status_of Script = 3
+status_of ImagesRefused = 3
+status_of NotWhole = 3
 status_of fault = 2

@@ -2,4 +2,6 @@
 pub mod Texts
 pub mod Refusals
 pub mod Faults
+pub mod Archives
+pub mod Rescues
 pub mod Commands

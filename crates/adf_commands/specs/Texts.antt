@@ -1,5 +1,5 @@
 -- What the commands print of an image, by its bytes.
-use Rattle.std.specs.Prelude.{◌≡◌, ℕ, pos, Bool, true, if◌then◌else◌, List, [], ◌∷◌, codes, Option, Some, None, option_map}
+use Rattle.std.specs.Prelude.{◌≡◌, ℕ, pos, Bool, true, List, [], ◌∷◌, codes, Option, Some, None, option_map}
 use Rattle.ados_name.specs.declared.Date3.{Date3}
 use Rattle.ados_packet.specs.Numbers.{action_number}
 use Rattle.ados_packet.specs.Packet.{dos_true}
@@ -19,7 +19,7 @@ use Rattle.ados_port.specs.Step.TheVariants.{Put, Take}
 use Rattle.adf_listing.specs.Info.{info_text}
 use Rattle.adf_listing.specs.Listing.{BeginsList, IsList}
 use Rattle.adf_jobs.specs.declared.job.ImageJob.{ImageJob}
-use Rattle.adf_jobs.specs.declared.job.ImageJob.TheVariants.{Info, Check, List as ListOf, Print}
+use Rattle.adf_jobs.specs.declared.job.ImageJob.TheVariants.{Info, List as ListOf, Print}
 use Rattle.adf_jobs.specs.declared.reading.ListJob.{ListJob}
 use Rattle.files_out.specs.Words.{LeadsTo}
 
@@ -32,13 +32,6 @@ abbrev pub OfAccepted : (Bool → List ℕ → Tree → List ℕ → Type 0) →
 OfAccepted IsText image text =
     (was_validated : Bool) × (checked : List ℕ) × (t : Tree)
     × Accepts image was_validated checked × Stands checked t × IsText was_validated checked t text
-
--- `ok`, or `ok validated` where the bitmap was written anew
-abbrev pub check_line : Bool → List ℕ
-check_line was_validated = if was_validated then codes "ok validated\n" else codes "ok\n"
-
-abbrev pub IsCheckText : List ℕ → List ℕ → Type 0
-IsCheckText = OfAccepted (λ was_validated checked t text. text ≡ check_line was_validated)
 
 -- what DISK_INFO answers of a tree
 abbrev pub disk_answer : Tree → Answer
@@ -74,7 +67,6 @@ IsPrintText word = OfAccepted (λ was_validated checked t text. (key : ℕ) × L
 -- what a command prints of the bytes that it reads, and what that begins with; `blank` prints nothing
 abbrev pub IsJobText : ImageJob → List ℕ → List ℕ → Type 0
 IsJobText (Info file) = IsInfoText
-IsJobText (Check file) = IsCheckText
 IsJobText (ListOf job) = IsListOf job
 IsJobText (Print image path) = IsPrintText path.now
 IsJobText job = λ bytes text. text ≡ []

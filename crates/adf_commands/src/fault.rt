@@ -5,6 +5,7 @@ ghost use Rattle.adf_commands.specs.Faults.{status_of};
 ghost use Rattle.adf_commands.specs.Refusals.{told_line};
 
 use crate::refusal::{DosRefusal, Refusal, Room};
+use adf_archive::ArchiveFault;
 use adf_clients::ScriptsFault;
 use adf_host::{HoldFault, ReplaceFault, WriteFault};
 use adf_input::InputFault;
@@ -57,6 +58,12 @@ pub enum CommandFault<'a> {
     Tries,
     #[error("a script is faulty")]
     Script,
+    #[error("an image is refused")]
+    ImagesRefused,
+    #[error("an image is not checked")]
+    NotChecked,
+    #[error("not all is whole")]
+    NotWhole,
 }
 
 impl<'a> CommandFault<'a> {
@@ -90,7 +97,9 @@ impl<'a> CommandFault<'a> {
             | CommandFault::LongBoot(_)
             | CommandFault::Refused(_)
             | CommandFault::Dos(_)
-            | CommandFault::Script => 3,
+            | CommandFault::Script
+            | CommandFault::ImagesRefused
+            | CommandFault::NotWhole => 3,
             _ => 2,
         }
     }
@@ -104,6 +113,23 @@ impl From<AllocError> for CommandFault<'_> {
 
     fn from(_error: AllocError) -> Self {
         CommandFault::Memory
+    }
+}
+
+impl From<ArchiveFault> for CommandFault<'_> {
+    ghost use Rattle.adf_commands.specs.Archives.{IsToldArchive};
+
+    ghost from_gives = { λ fault told. IsToldArchive fault told };
+
+    fn from(fault: ArchiveFault) -> Self
+        ensures { IsToldArchive fault result }
+    {
+        match fault {
+            ArchiveFault::Refused => CommandFault::ImagesRefused,
+            ArchiveFault::NotChecked => CommandFault::NotChecked,
+            ArchiveFault::Output => CommandFault::Output,
+            ArchiveFault::Memory => CommandFault::Memory,
+        }
     }
 }
 

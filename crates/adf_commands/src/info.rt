@@ -1,18 +1,16 @@
-//! The commands `info` and `check`.
+//! The command `info`.
 ghost use Rattle.std.specs.Prelude.{◌≡◌, IfOk};
-ghost use Rattle.adf_commands.specs.Texts.{check_line, disk_info_steps, IsCheckText, IsInfoText};
+ghost use Rattle.adf_commands.specs.Texts.{disk_info_steps, IsInfoText};
 ghost use Rattle.adf_commands.specs.Commands.{TellsOf, TellsSome};
 
 use crate::fault::CommandFault;
-use crate::images::{accept, read_image};
-use crate::output::tell;
+use crate::images::read_image;
 use adf_block::Image;
 use adf_listing::write_info;
 use ados_name::Date3;
 use ados_packet::Packet;
 use ados_port::{Outcome, Step};
 use ados_run::run_volume;
-use ados_volume::Volume;
 use std::alloc::{AllocError, Global};
 use std::io::Write;
 use std::rt::Files;
@@ -23,42 +21,6 @@ pub const FIRST_MOMENT: Date3 = Date3 {
     minutes: 0,
     ticks: 0,
 };
-
-/// Tells whether the image of a file is accepted.
-pub(crate) fn print_check<'a, R: Files, W: Write>(
-    rt: &R,
-    alloc: Global,
-    file: &'a str,
-    writer: &mut W,
-) -> Result<(), CommandFault<'a>>
-    ensures { TellsSome IsCheckText IsCheckText (W.contents writer.old) (W.contents writer.new) result }
-{
-    let image = read_image(rt, alloc, file)?;
-    tell_check(alloc, image, writer)
-}
-
-/// Tells whether an image is accepted.
-fn tell_check<'a, W: Write>(
-    alloc: Global,
-    image: Image,
-    writer: &mut W,
-) -> Result<(), CommandFault<'a>>
-    ensures { TellsOf IsCheckText IsCheckText image (W.contents writer.old) (W.contents writer.new) result }
-{
-    let volume = accept(alloc, image)?;
-    tell(writer, accepted(&volume).as_bytes())
-}
-
-/// What `check` prints of an image that is accepted.
-fn accepted(volume: &Volume) -> &'static str
-    ensures { result.now ≡ check_line volume.now.was_validated }
-{
-    if volume.was_validated() {
-        "ok validated\n"
-    } else {
-        "ok\n"
-    }
-}
 
 /// Tells what DISK_INFO answers over the image of a file, and whether its boot blocks run.
 pub(crate) fn print_info<'a, R: Files, W: Write>(

@@ -1,13 +1,16 @@
 //! Jobs on image files.
 ghost use Rattle.adf_commands.specs.Commands.{DoesJob, TellsJob};
 
+use crate::archive::check_images;
 use crate::blank::{blank_volume, write_new};
 use crate::changing::{boot, change};
 use crate::fault::CommandFault;
-use crate::info::{print_check, print_info};
+use crate::info::print_info;
 use crate::moving::{print_bytes, print_list, take_out};
 use crate::output::tell;
+use crate::rescue::take_rescue;
 use crate::serving::serve;
+use adf_archive::ReadImages;
 use adf_jobs::ImageJob;
 use std::alloc::Global;
 use std::fs::File;
@@ -17,21 +20,31 @@ use std::sync::Wait;
 use std::thread::Threads;
 
 /// Does a job on image files. What it tells of an image goes to the writer, and what is refused; what is passed over is
-/// told on `faults`.
+/// told on `faults`, and with `terminal` how far the check of images has come.
 pub fn run_job<'a, R, W, F>(
     rt: &R,
     alloc: Global,
     job: ImageJob<'a>,
+    terminal: bool,
     writer: &mut W,
     faults: &mut F,
 ) -> Result<(), CommandFault<'a>>
 where
-    R: Files<File = File> + Clock + Threads + Wait + Copy + Send + Drop + 'static,
+    R: Files<File = File>
+        + Clock
+        + Threads
+        + Wait
+        + ReadImages
+        + Copy
+        + Send
+        + Sync
+        + Drop
+        + 'static,
     W: Write,
     F: Write,
     ensures { TellsJob job.entry (W.contents writer.old) (W.contents writer.new) result }
 {
-    let fault = match do_job(rt, alloc, job, writer, faults) {
+    let fault = match do_job(rt, alloc, job, terminal, writer, faults) {
         Ok(()) => return Ok(()),
         Err(fault) => fault,
     };
@@ -48,11 +61,21 @@ fn do_job<'a, R, W, F>(
     rt: &R,
     alloc: Global,
     job: ImageJob<'a>,
+    terminal: bool,
     writer: &mut W,
     faults: &mut F,
 ) -> Result<(), CommandFault<'a>>
 where
-    R: Files<File = File> + Clock + Threads + Wait + Copy + Send + Drop + 'static,
+    R: Files<File = File>
+        + Clock
+        + Threads
+        + Wait
+        + ReadImages
+        + Copy
+        + Send
+        + Sync
+        + Drop
+        + 'static,
     W: Write,
     F: Write,
     ensures { DoesJob job.entry (W.contents writer.old) (W.contents writer.new) result }
@@ -70,10 +93,11 @@ where
             write_new(rt, alloc, &volume, file)
         }
         ImageJob::Info { file } => print_info(rt, alloc, file, writer),
-        ImageJob::Check { file } => print_check(rt, alloc, file, writer),
+        ImageJob::Check(job) => check_images(rt, alloc, &job, terminal, writer, faults),
         ImageJob::List(job) => print_list(rt, alloc, &job, writer),
         ImageJob::Print { image, path } => print_bytes(rt, alloc, image, path, writer),
         ImageJob::Extract(job) => take_out(rt, alloc, &job),
+        ImageJob::Salvage(job) => take_rescue(rt, alloc, &job, writer),
         ImageJob::Change(job) => change(rt, alloc, job, faults),
         ImageJob::Boot { image, out, file } => boot(rt, alloc, image, out, file),
         ImageJob::Serve(job) => serve(rt, alloc, job, writer),

@@ -1,6 +1,7 @@
 //! The commands on image files: what each does to files and volumes, what it tells, and why it is not done.
 #![tactic(auto)]
 
+mod archive;
 mod blank;
 mod changing;
 mod fault;
@@ -10,6 +11,7 @@ mod jobs;
 mod moving;
 mod output;
 mod refusal;
+mod rescue;
 mod serving;
 
 pub use fault::CommandFault;

@@ -4,6 +4,7 @@ ghost use Rattle.std.specs.Io.KnownBytes.{Appends};
 ghost use Rattle.adf_listing.specs.Fronts.{WritesFront};
 ghost use Rattle.adf_commands.specs.Commands.{exit_status};
 ghost use Rattle.adf_commands.specs.Faults.{IsNoRefusal};
+ghost use Rattle.adf_commands.specs.declared.fault.CommandFault.TheVariants.{Output};
 
 use crate::fault::CommandFault;
 use adf_files::write_output;
@@ -14,6 +15,7 @@ pub(crate) fn tell<'a, W: Write>(writer: &mut W, text: &[u8]) -> Result<(), Comm
     ensures ok { OnOk result (Appends (W.contents writer.old) (W.contents writer.new) text.now) }
     ensures front { OnErr result (WritesFront (W.contents writer.old) (W.contents writer.new) text.now) }
     ensures no_refusal { IfErr result IsNoRefusal }
+    ensures output { IfErr result (λ fault. fault ≡ Output) }
 {
     match write_output(text, writer) {
         Ok(()) => Ok(()),
@@ -34,9 +36,17 @@ pub fn status_of<F: Write>(done: Result<(), CommandFault<'_>>, faults: &mut F) -
     }
 }
 
-/// Tells a person of a fault, but of a refused image and a faulty script, of which standard output tells all.
+/// Tells a person of a fault, but of a refused image and a faulty script, of which standard output tells all, and of what the
+/// check of images and the lines of what was taken out have told already.
 fn tell_fault<F: Write>(fault: &CommandFault<'_>, faults: &mut F) {
-    if !matches!(fault, CommandFault::Refused(_) | CommandFault::Script) {
+    if !matches!(
+        fault,
+        CommandFault::Refused(_)
+            | CommandFault::Script
+            | CommandFault::ImagesRefused
+            | CommandFault::NotChecked
+            | CommandFault::NotWhole
+    ) {
         let _ = write!(faults, "adf_serve: {fault}\n");
     }
 }

@@ -20,26 +20,29 @@ ending_plain =
     (All-cons IsPlain 109 [] (λ e. omega (arith, e), λ e. omega (arith, e)) (All-nil IsPlain)))))
 
 -- a text is no shorter one
-not_short : (name short : List ℕ) → length short ≤ 2 → note_of name ≢ short
-not_short name short fits same = omega (arith, fits, ap length same, length-append name (codes ".uaem"))
+not_short : (name ending short : List ℕ) → length short ≤ 2 → 1 ≤ length name → 2 ≤ length ending → name ++ ending ≢ short
+not_short name ending short fits some long same = omega (arith, fits, some, long, ap length same, length-append name ending)
 
-IsHostName-note : (name : List ℕ) → IsHostName name → IsHostName (note_of name)
-IsHostName-note name is = record {
-  not_empty = omega (arith, is.not_empty, length-append name (codes ".uaem"));
-  not_dot = not_short name (codes ".") (omega arith);
-  not_dots = not_short name (codes "..") (omega arith);
-  plain = All-append IsPlain name (codes ".uaem") is.plain ending_plain;
+IsHostName-ended : (name ending : List ℕ) → 2 ≤ length ending → All IsPlain ending → IsHostName name → IsHostName (name ++ ending)
+IsHostName-ended name ending long plain is = record {
+  not_empty = omega (arith, is.not_empty, length-append name ending);
+  not_dot = not_short name ending (codes ".") (omega arith) is.not_empty long;
+  not_dots = not_short name ending (codes "..") (omega arith) is.not_empty long;
+  plain = All-append IsPlain name ending is.plain plain;
 }
 
--- a note is below a directory where what it notes is
-IsBelow-note : (path : List ℕ) → IsBelow path → IsBelow (note_of path)
-IsBelow-note path (one is) = one (IsHostName-note path is)
-IsBelow-note _ (more {path} {name} outer is) =
-    subst IsBelow (sym (append_assoc path (47 ∷ name) (codes ".uaem"))) (more outer (IsHostName-note name is))
+-- a name with an ending is below a directory where the name is
+IsBelow-ended : (path ending : List ℕ) → 2 ≤ length ending → All IsPlain ending → IsBelow path → IsBelow (path ++ ending)
+IsBelow-ended path ending long plain (one is) = one (IsHostName-ended path ending long plain is)
+IsBelow-ended _ ending long plain (more {path} {name} outer is) =
+    subst IsBelow (sym (append_assoc path (47 ∷ name) ending)) (more outer (IsHostName-ended name ending long plain is))
 
 -- what is spelled so is below a directory
 pub IsBelow-child : (path name text : List ℕ) → IsBelow path → IsHostName name → text ≡ below path name → IsBelow text
 IsBelow-child path name text outer is spelled = subst IsBelow (sym spelled) (more outer is)
 
+pub IsBelow-longer : (path ending text : List ℕ) → 2 ≤ length ending → All IsPlain ending → IsBelow path → text ≡ path ++ ending → IsBelow text
+IsBelow-longer path ending text long plain outer spelled = subst IsBelow (sym spelled) (IsBelow-ended path ending long plain outer)
+
 pub IsBelow-noted : (path text : List ℕ) → IsBelow path → text ≡ note_of path → IsBelow text
-IsBelow-noted path text outer spelled = subst IsBelow (sym spelled) (IsBelow-note path outer)
+IsBelow-noted path text outer spelled = subst IsBelow (sym spelled) (IsBelow-ended path (codes ".uaem") (omega arith) ending_plain outer)

@@ -1,5 +1,5 @@
 //! Paths below a directory of the host, which lead nowhere else.
-ghost use Rattle.std.specs.Prelude.{◌≡◌, IfOk};
+ghost use Rattle.std.specs.Prelude.{◌≡◌, ◌≢◌, ◌≤◌, ◌++◌, All, IfOk, length};
 ghost use Rattle.std.specs.String.{string_bytes};
 ghost use Rattle.adf_text.specs.HostNames.{host_name};
 ghost use Rattle.adf_host.specs.Paths.{IsBelow, below, target, top_of};
@@ -43,6 +43,16 @@ impl HostPath {
     {
         let name = host_name(alloc, name)?;
         let text = format!(in alloc; "{}/{}", self.as_str(), name.as_str())?;
+        Ok(HostPath { text })
+    }
+
+    /// The path of a file in the same directory, whose name has this ending more.
+    pub fn with_ending(&self, alloc: Global, ending: &str) -> Result<HostPath, AllocError>
+        requires long { 2 ≤ length ending.now }
+        requires plain { All (λ c. (c ≢ 0) × (c ≢ 47)) ending.now }
+        ensures { IfOk result (λ path. path ≡ self.now ++ ending.now) }
+    {
+        let text = format!(in alloc; "{}{ending}", self.as_str())?;
         Ok(HostPath { text })
     }
 

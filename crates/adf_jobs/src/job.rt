@@ -2,7 +2,7 @@
 ghost use Rattle.std.specs.Prelude.{◌<◌, length};
 
 use crate::changing::ChangeJob;
-use crate::reading::{ExtractJob, ListJob};
+use crate::reading::{CheckJob, ExtractJob, ListJob, SalvageJob};
 use adf_block::Format;
 use ados_name::Date3;
 
@@ -35,14 +35,14 @@ pub enum ImageJob<'a> {
     Info {
         file: &'a str,
     },
-    /// `check`: whether the image is accepted.
-    Check {
-        file: &'a str,
-    },
+    /// `check`: whether images are accepted.
+    Check(CheckJob<'a>),
     /// `list`: directories and files.
     List(ListJob<'a>),
     /// `extract`: entries as files and directories of the host.
     Extract(ExtractJob<'a>),
+    /// `extract --damaged`: what can be trusted of an image that may be refused.
+    Salvage(SalvageJob<'a>),
     /// `print`: the bytes of a file.
     Print {
         image: &'a str,

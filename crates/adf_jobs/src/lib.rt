@@ -7,4 +7,4 @@ mod reading;
 
 pub use changing::{Change, ChangeJob};
 pub use job::{ImageJob, Job, ServeJob};
-pub use reading::{ExtractJob, ListJob};
+pub use reading::{CheckJob, ExtractJob, ListJob, SalvageJob};

@@ -1,5 +1,6 @@
 //! Rows of the program's words. `tests/commands` tries them all with the built program.
 use crate::run_words;
+use adf_archive::ReadImages;
 use adf_words::read_words;
 use std::alloc::Global;
 use std::fs;
@@ -22,18 +23,31 @@ fn words_of(alloc: Global, line: &str) -> Result<Vec<String>, Fail> {
 
 /// Runs the words of a line, with a script on standard input; they are to end with this status, to print this, and to
 /// tell of a fault in a text that begins so, or of none.
-fn expect<R: Files<File = File> + Clock + Threads + Wait + Copy + Send + Drop + Abort + 'static>(
-    rt: &R,
-    alloc: Global,
-    line: &str,
-    status: u8,
-    printed: &str,
-    told: &str,
-) -> Result<(), Fail> {
+fn expect<
+    R: Files<File = File>
+        + Clock
+        + Threads
+        + Wait
+        + ReadImages
+        + Copy
+        + Send
+        + Sync
+        + Drop
+        + Abort
+        + 'static,
+>(rt: &R, alloc: Global, line: &str, status: u8, printed: &str, told: &str) -> Result<(), Fail> {
     let words = words_of(alloc, line)?;
     let mut script: &[u8] = b"other 5\nfoo";
     let (mut lines, mut faults) = (Vec::new(alloc), Vec::new(alloc));
-    let ended = run_words(rt, alloc, &words, &mut script, &mut lines, &mut faults);
+    let ended = run_words(
+        rt,
+        alloc,
+        &words,
+        false,
+        &mut script,
+        &mut lines,
+        &mut faults,
+    );
     assert_eq!(rt; ended, status, "at {line}");
     let (Ok(lines), Ok(faults)) = (from_utf8(&lines), from_utf8(&faults)) else {
         return Err(Fail::from("a text that is no text"));
@@ -75,7 +89,12 @@ fn two_scripts_and_info_of_blank(rt: HostRuntime) -> Result<(), Fail> {
             "Volume Work\n       1 ---rwed 1978-01-01 00:00:00.00 f\n",
             "",
         ),
-        ("check command_tests.a", 3, "refused NotWholeBlocks 0\n", ""),
+        (
+            "check command_tests.a",
+            3,
+            "refused NotWholeBlocks 0\n",
+            "the image is not whole blocks",
+        ),
         (
             "check command_tests.none",
             2,

@@ -7,6 +7,7 @@ mod words;
 use adf_words::given_words;
 pub use ados_run::{RunFault, run_volume};
 pub use script::try_script;
+use std::io::IsTerminal;
 use std::process::ExitCode;
 pub use words::{run_words, tell_wrong_words};
 
@@ -25,6 +26,7 @@ fn main(rt: HostRuntime) -> ExitCode {
             &rt,
             alloc,
             words.as_slice(),
+            faults.is_terminal(),
             &mut reader,
             &mut writer,
             &mut faults,

@@ -4,6 +4,7 @@ ghost use Rattle.adf_serve.specs.Commands.{RunsCommand};
 ghost use Rattle.adf_serve.specs.Script.{RunsScript};
 
 use crate::script::try_script;
+use adf_archive::ReadImages;
 use adf_commands::{run_job, status_of};
 use adf_jobs::Job;
 use adf_script::TryFault;
@@ -23,12 +24,22 @@ pub fn run_words<T, R, W, F>(
     rt: &T,
     alloc: Global,
     words: &[String],
+    terminal: bool,
     reader: &mut R,
     writer: &mut W,
     faults: &mut F,
 ) -> u8
 where
-    T: Files<File = File> + Clock + Threads + Wait + Copy + Send + Drop + 'static,
+    T: Files<File = File>
+        + Clock
+        + Threads
+        + Wait
+        + ReadImages
+        + Copy
+        + Send
+        + Sync
+        + Drop
+        + 'static,
     R: Read,
     W: Write,
     F: Write,
@@ -41,7 +52,7 @@ where
     match read_words(alloc, words) {
         Ok(Job::Script) => run_script(alloc, reader, writer, faults),
         Ok(Job::OnImage(job)) => {
-            let done = run_job(rt, alloc, job, writer, faults);
+            let done = run_job(rt, alloc, job, terminal, writer, faults);
             status_of(done, faults)
         }
         Err(fault) => tell_wrong_words(fault, faults),

@@ -1,7 +1,7 @@
 //! The program's commands, as `clap` reads and explains them.
 use crate::changing::changing_commands;
 use crate::parts::{flag, option, with_moment, word, words};
-use crate::taking::{extract, list, print};
+use crate::taking::{check, extract, list, print};
 use clap::Command;
 use std::alloc::{AllocError, Global};
 
@@ -21,12 +21,7 @@ pub(crate) fn program<'a>(alloc: Global) -> Result<Command<'a>, AllocError> {
             "Prints what DISK_INFO tells of an image, and whether it boots",
             "Example:\n  adf_serve info work.adf",
         )?)?
-        .subcommand(of_file(
-            alloc,
-            "check",
-            "Prints `ok`, or why an image is refused",
-            "Example:\n  adf_serve check work.adf",
-        )?)?
+        .subcommand(check(alloc)?)?
         .subcommand(list(alloc)?)?
         .subcommand(print(alloc)?)?
         .subcommand(extract(alloc)?)?;

@@ -1,5 +1,5 @@
 //! The numbers of options.
-ghost use Rattle.std.specs.Prelude.{◌≤◌, IfOk};
+ghost use Rattle.std.specs.Prelude.{◌≤◌, IfOk, IfSome};
 
 use crate::fault::WordsFault;
 use ados_name::Date3;
@@ -30,6 +30,20 @@ pub(crate) fn given_moment(
         }
     }
     Ok(None)
+}
+
+/// How many, at least one, where the option is given.
+pub(crate) fn count_of(
+    alloc: Global,
+    words: &ArgMatches<'_>,
+    id: &str,
+) -> Result<Option<u32>, WordsFault>
+    ensures { IfOk result (λ count. IfSome count (λ n. 1 ≤ n)) }
+{
+    match words.get_str(id) {
+        Some(_) => Ok(Some(number_of(alloc, words, id, 1, LARGEST)? as u32)),
+        None => Ok(None),
+    }
 }
 
 /// The value of a number's option, 0 where it is left out. It is digits alone: a parse by `clap` would take a sign too.

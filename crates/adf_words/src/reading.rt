@@ -6,7 +6,7 @@ use crate::commands::program;
 use crate::fault::WordsFault;
 use crate::letters::letters_of;
 use crate::numbers::{moment_of, number_of};
-use crate::taking::{extract_job, list_job, print_job};
+use crate::taking::{check_job, extract_job, list_job, print_job};
 use crate::wanted::{missing, word_for, words_for};
 use adf_block::Format;
 use adf_block::layout::{FEWEST_BLOCKS, MOST_BLOCKS};
@@ -53,9 +53,7 @@ fn job_of<'a>(
         "info" => ImageJob::Info {
             file: word_for(alloc, words, "FILE")?,
         },
-        "check" => ImageJob::Check {
-            file: word_for(alloc, words, "FILE")?,
-        },
+        "check" => check_job(alloc, words)?,
         "list" => list_job(alloc, words)?,
         "print" => print_job(alloc, words)?,
         "extract" => extract_job(alloc, words)?,

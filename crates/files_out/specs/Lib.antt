@@ -2,4 +2,5 @@
 pub mod Words
 pub mod Printing
 pub mod Items
+pub mod Rescue
 pub mod steps

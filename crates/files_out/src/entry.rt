@@ -4,6 +4,7 @@ ghost use Rattle.ados_name.specs.Name.{IsName};
 ghost use Rattle.ados_tree.specs.Tree.{Node, Tree};
 ghost use Rattle.ados_tree.specs.Stands.{Stands};
 ghost use Rattle.ados_tree.specs.Keys.{HasKey};
+ghost use Rattle.adf_text.specs.Uaem.{IsLineOf};
 ghost use Rattle.adf_host.specs.declared.writing.HostItem.{HostItem as Item};
 ghost use Rattle.files_out.specs.Items.{names_in, Holds, HasLine, GoesOut, noted};
 
@@ -65,7 +66,7 @@ fn content_of(alloc: Global, volume: &Volume, key: u32) -> Result<Content, Alloc
 fn note_content(alloc: Global, told: &FileInfo) -> Result<Content, AllocError>
     ensures { IfOk result (HasLine (noted told.now)) }
 {
-    let line = uaem_line(
+    let line = line_of(
         alloc,
         &Uaem {
             protect: told.protection,
@@ -73,5 +74,12 @@ fn note_content(alloc: Global, told: &FileInfo) -> Result<Content, AllocError>
             comment: told.comment,
         },
     )?;
-    Ok(Content::File(line.into_bytes()))
+    Ok(Content::File(line))
+}
+
+/// The line that notes this.
+pub(crate) fn line_of(alloc: Global, noted: &Uaem) -> Result<Vec<u8>, AllocError>
+    ensures { IfOk result (λ line. IsLineOf noted.now line.items) }
+{
+    Ok(uaem_line(alloc, noted)?.into_bytes())
 }

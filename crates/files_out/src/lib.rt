@@ -1,6 +1,7 @@
 //! What goes out of a volume: its entries as files and directories of the host, and the bytes of a file to a writer.
 #![tactic(auto)]
 
+mod damaged;
 mod entry;
 mod extracting;
 mod fault;
@@ -9,6 +10,7 @@ mod paths;
 mod print;
 mod words;
 
+pub use damaged::{Rescue, extract_damaged};
 pub use extracting::extract;
 pub use fault::OutFault;
 pub use items::outgoing;

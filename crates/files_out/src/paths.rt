@@ -25,7 +25,7 @@ pub(crate) fn host_path(alloc: Global, path: &[u8]) -> Result<HostPath, AllocErr
 }
 
 /// The first name of a path, and what stands behind its slash.
-fn split_name(path: &[u8]) -> (&[u8], &[u8])
+pub(crate) fn split_name(path: &[u8]) -> (&[u8], &[u8])
     ensures name { result.0.now ≡ before_first is_slash path.now }
     ensures behind { result.1.now ≡ after_first is_slash path.now }
 {

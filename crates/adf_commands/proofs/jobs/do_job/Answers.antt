@@ -21,7 +21,7 @@ returns-in-Info g c =
 
 pub returns-in-Check : goal.returns-in-Check
 returns-in-Check g c =
-    subst (λ (job : ImageJob). DoesJob job (g.W.Write.contents c.args.writer.now) (g.W.Write.contents c.print_check.new.writer) c.print_check.result) (sym c.in-Check.is) c.print_check.ensures
+    subst (λ (job : ImageJob). DoesJob job (g.W.Write.contents c.args.writer.now) (g.W.Write.contents c.check_images.new.writer) c.check_images.result) (sym c.in-Check.is) c.check_images.ensures
 
 pub returns-in-List : goal.returns-in-List
 returns-in-List g c =
@@ -30,3 +30,7 @@ returns-in-List g c =
 pub returns-in-Print : goal.returns-in-Print
 returns-in-Print g c =
     subst (λ (job : ImageJob). DoesJob job (g.W.Write.contents c.args.writer.now) (g.W.Write.contents c.print_bytes.new.writer) c.print_bytes.result) (sym c.in-Print.is) c.print_bytes.ensures
+
+pub returns-in-Salvage : goal.returns-in-Salvage
+returns-in-Salvage g c =
+    subst (λ (job : ImageJob). DoesJob job (g.W.Write.contents c.args.writer.now) (g.W.Write.contents c.take_rescue.new.writer) c.take_rescue.result) (sym c.in-Salvage.is) c.take_rescue.ensures

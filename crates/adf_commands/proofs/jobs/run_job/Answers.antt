@@ -16,7 +16,7 @@ returns-in_err-tell g c =
     let tells = some_told string_bytes _ c.in-Some.text _ c.in_ok-line.ensures c.in-Some.is in
     let front = subst (λ (l : List ℕ). WritesFront (g.W.Write.contents c.do_job.new.writer) (g.W.Write.contents c.tell.new.writer) l) c.as_bytes.ensures.value c.in_err-tell.ensures.front in
     job_broken c.args.job _ _ _ (string_bytes c.in-Some.text) c.in-Err.fault c.in_err-tell.field-0.0 _ tells c.in-Err.ensures front
-    c.in_err-tell.ensures.no_refusal c.from_residual-in_err-tell.ensures.1
+    c.in_err-tell.ensures.output c.from_residual-in_err-tell.ensures.1
 
 pub returns : goal.returns
 returns g c =

@@ -1,0 +1,11 @@
+-- Lemmas on archives.
+pub mod Chunks
+pub mod Counting
+pub mod Ends
+pub mod Gathered
+pub mod Listed
+pub mod Shown
+pub mod Sizes
+pub mod Tokens
+pub mod Under
+pub mod Whole

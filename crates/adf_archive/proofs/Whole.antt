@@ -1,0 +1,79 @@
+-- An archive that is told of, whole or as far as it went.
+use Rattle.std.proofs.Common.{◌≡◌, ℕ, ◌+◌, ◌<◌, ◌≤◌, Bool, true, false, List, [], length, get_or, All, Option, Result, Ok, Err, IsErrAnd, refl, sym, subst, arith}
+use Rattle.std.proofs.lemmas.List.Elements.{All-nil}
+use denote.Param.Members.{Shared}
+use Rattle.std.specs.Fn.{FnReturns}
+use Rattle.std.specs.Io.KnownBytes.{Appends}
+use Rattle.adf_listing.specs.Fronts.{WritesFront}
+use Rattle.adf_listing.proofs.Fronts.{writes_nothing}
+use Rattle.adf_jobs.specs.declared.reading.CheckJob.{CheckJob}
+use Rattle.adf_archive.specs.declared.fault.ArchiveFault.{ArchiveFault}
+use Rattle.adf_archive.specs.declared.fault.ArchiveFault.TheVariants.{Refused, NotChecked, Output, Memory}
+use Rattle.adf_archive.specs.declared.report.ImageReport.{ImageReport}
+use Rattle.adf_archive.specs.declared.telling.Form.{Form}
+use Rattle.adf_archive.specs.declared.telling.Tally.{Tally}
+use Rattle.adf_archive.specs.Archive.{Archive, TellsArchive, told_in}
+use Rattle.adf_archive.specs.Each.{GivesFrom}
+use Rattle.adf_archive.specs.Lines.{told_from}
+use Rattle.adf_archive.specs.Report.{IsReportOfSome}
+use Rattle.adf_archive.specs.Status.{IsBroken, IsTally, ends, ends_as}
+
+-- what a function reports of each place is what the check says of some bytes
+pub checked_all : {F : Type 0} (g : Shared F (ℕ × Unit {0}) ImageReport) (f : F) (count : ℕ) (reports : List ImageReport) → GivesFrom g f 0 count reports
+    → ((i : ℕ) (r : ImageReport) → FnReturns g f (i, tt) r → IsReportOfSome r) → All IsReportOfSome reports
+checked_all g f count reports gives each = λ i d l. each (0 + i) (get_or reports i d) (gives.1 i d (omega (arith, l, gives.0)))
+
+-- no command ends as a broken one by what its images come to
+not_broken : (a b : Bool) (fault : ArchiveFault) → IsBroken fault → Err fault ≡ ends a b → ⊥
+not_broken true b Output broken e = cc e
+not_broken true b Memory broken e = cc e
+not_broken false true Output broken e = cc e
+not_broken false true Memory broken e = cc e
+not_broken false false fault broken e = cc e
+not_broken a b Refused broken e = broken
+not_broken a b NotChecked broken e = broken
+
+module _ (job : CheckJob) where
+  -- no image is told of
+  nothing : Archive job
+  nothing = record {
+    paths = [];
+    reports = [];
+    form = record { json = job.json; paths = true };
+    within = omega arith;
+    checked = All-nil IsReportOfSome;
+    json = refl;
+    alone = λ e. absurd (cc e);
+    several = λ l. refl;
+  }
+
+  pub none_told : (w : Option (List ℕ)) (fault : ArchiveFault) → fault ≡ Memory → TellsArchive job w w (Err fault)
+  none_told w fault e = subst (λ (f : ArchiveFault). TellsArchive job w w (Err f)) (sym e) (nothing, writes_nothing w (told_in nothing))
+
+  -- no image was looked for
+  pub none_told_at : (w : Option (List ℕ)) (result : Result (Unit {0}) ArchiveFault) → IsErrAnd result (λ f. f ≡ Memory) → TellsArchive job w w result
+  none_told_at w (Ok x) e = absurd e
+  none_told_at w (Err fault) e = none_told w fault e
+
+  module _ (form : Form) (paths : List (List ℕ)) (json : form.json ≡ job.json) (alone : form.paths ≡ false → length paths ≤ 1)
+      (several : 1 < length job.files.items → form.paths ≡ true) (old new : Option (List ℕ)) (reports : List ImageReport) (checked : All IsReportOfSome reports) where
+    archive : length reports ≤ length paths → Archive job
+    archive within = record { paths = paths; reports = reports; form = form; within = within; checked = checked; json = json; alone = alone; several = several }
+
+    pub left_off : length reports ≤ length paths → (fault : ArchiveFault) → IsBroken fault → WritesFront old new (told_from form paths 0 reports) → TellsArchive job old new (Err fault)
+    unfolding archive
+    left_off within Output broken front = (archive within, front)
+    left_off within Memory broken front = (archive within, front)
+    left_off within fault broken front = absurd broken
+
+    pub left_off_at : length reports ≤ length paths → (fault : ArchiveFault) → IsBroken fault → WritesFront old new (told_from form paths 0 reports)
+        → (result : Result (Unit {0}) ArchiveFault) → IsErrAnd result (λ f. f ≡ fault) → TellsArchive job old new result
+    left_off_at within fault broken front (Ok x) e = absurd e
+    left_off_at within fault broken front (Err f) e = left_off within f (subst IsBroken (sym e) broken) front
+
+    pub told_all : length reports ≡ length paths → (tally : Tally) → IsTally reports tally → Appends old new (told_from form paths 0 reports)
+        → (result : Result (Unit {0}) ArchiveFault) → result ≡ ends_as tally → TellsArchive job old new result
+    unfolding archive
+    told_all all tally is told (Err Output) e = absurd (not_broken tally.not_checked tally.refused Output tt e)
+    told_all all tally is told (Err Memory) e = absurd (not_broken tally.not_checked tally.refused Memory tt e)
+    told_all all tally is told result e = (archive (omega (arith, all)), told, (all, (tally, is, e)))

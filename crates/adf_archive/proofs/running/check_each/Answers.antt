@@ -1,0 +1,37 @@
+use Rattle.std.proofs.Common.{ℕ, List, map, ap, subst, ◌∙◌, arith}
+use Rattle.std.proofs.lemmas.List.{length-map}
+use Rattle.std.specs.Io.KnownBytes.{Appends}
+use Rattle.std.specs.String.{string_bytes}
+use Rattle.adf_listing.specs.Fronts.{WritesFront}
+use Rattle.adf_archive.specs.declared.report.ImageReport.{ImageReport}
+use Rattle.adf_archive.specs.Lines.{told_from}
+use Rattle.adf_archive.specs.Status.{tallied}
+use Rattle.adf_archive.proofs.Chunks.{at_err, so_far_front, so_far_more, so_far_none}
+use Rattle.adf_archive.proofs.running.check_each.Goals as goal
+
+pub loop-done-init : goal.loop-done-init
+loop-done-init g c =
+    (omega arith, so_far_none g.C.Fn c.args.report.now c.args.form (map string_bytes c.args.paths.now) (g.W.Write.contents c.args.writer.now) c.new-tally.result c.new-tally.ensures)
+
+pub loop-done-preserved : goal.loop-done-preserved
+loop-done-preserved g c =
+    let paths : List (List ℕ) = map string_bytes c.args.paths.now in
+    let written : Appends (g.W.Write.contents c.loop-done.writer) (g.W.Write.contents c.tell_reports.new.writer) (told_from c.args.form paths c.loop-done.done c.in_ok-reports.reports.items) =
+    subst (λ (rs : List ImageReport). Appends (g.W.Write.contents c.loop-done.writer) (g.W.Write.contents c.tell_reports.new.writer) (told_from c.args.form paths c.loop-done.done rs))
+    c.deref.ensures.value c.in_ok-tell_reports.ensures.ok in (
+      omega (arith, c.min-count.ensures, c.loop-done-test.true),
+      so_far_more g.C.Fn c.args.report.now c.args.form paths (g.W.Write.contents c.args.writer.now) (g.W.Write.contents c.loop-done.writer) (g.W.Write.contents c.tell_reports.new.writer)
+          c.loop-done.done c.min-count.result c.loop-done.tally c.loop-done.invariant.1 c.in_ok-reports.reports.items c.in_ok-reports.ensures.each
+          c.add.new.self written (c.add.ensures ∙ ap (tallied c.loop-done.tally) c.deref-in-loop-done-2.ensures.value),
+    )
+
+pub returns-in_err-tell_reports-clause-fault : goal.returns-in_err-tell_reports-clause-fault
+returns-in_err-tell_reports-clause-fault g c =
+    let paths : List (List ℕ) = map string_bytes c.args.paths.now in
+    let front : WritesFront (g.W.Write.contents c.loop-done.writer) (g.W.Write.contents c.tell_reports.new.writer) (told_from c.args.form paths c.loop-done.done c.in_ok-reports.reports.items) =
+    subst (λ (rs : List ImageReport). WritesFront (g.W.Write.contents c.loop-done.writer) (g.W.Write.contents c.tell_reports.new.writer) (told_from c.args.form paths c.loop-done.done rs))
+    c.deref.ensures.value c.in_err-tell_reports.ensures.front in
+    at_err c.from_residual-in_err-tell_reports.result
+    (so_far_front g.C.Fn c.args.report.now c.args.form paths (g.W.Write.contents c.args.writer.now) (g.W.Write.contents c.loop-done.writer) (g.W.Write.contents c.tell_reports.new.writer)
+    c.loop-done.done c.min-count.result c.loop-done.tally c.loop-done.invariant.1 c.in_ok-reports.reports.items c.in_ok-reports.ensures.each front
+    (omega (arith, c.min-count.ensures, c.loop-done-test.true, length-map c.args.paths.now string_bytes)))

@@ -1,0 +1,11 @@
+use Rattle.std.proofs.Common.{◌-◌, ◌≤◌, length, map}
+use Rattle.std.specs.String.{string_bytes}
+use Rattle.adf_archive.proofs.Chunks.{SoFar}
+use Rattle.adf_archive.proofs.running.check_each.Given as goal
+
+-- so many images are told of
+abbrev pub invariant-loop-done : goal.invariant-loop-done
+invariant-loop-done g l = (l.done ≤ length l.paths) × SoFar g.C.Fn l.report l.form (map string_bytes l.paths) (g.W.Write.contents l.fn.writer) (g.W.Write.contents l.writer) l.done l.tally
+
+abbrev pub decreases-loop-done : goal.decreases-loop-done
+decreases-loop-done g l = length l.paths - l.done

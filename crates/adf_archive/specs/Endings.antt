@@ -1,0 +1,15 @@
+-- Names of image files.
+use Rattle.std.specs.Prelude.{◌≡◌, ◌⊎◌, ℕ, ◌+◌, ◌≤◌, false, List, ◌++◌, map, codes, vec_len}
+use Rattle.std.specs.Char.{to_ascii_lowercase}
+use Rattle.adf_archive.specs.declared.finding.FoundImages.{FoundImages}
+
+-- the name ends in `.adf` or `.hdf`, in any case
+abbrev pub HasImageEnding : List ℕ → Type 0
+HasImageEnding name =
+    (front : List ℕ) × (ending : List ℕ) × (name ≡ front ++ ending)
+    × ((map to_ascii_lowercase ending ≡ codes ".adf") ⊎ (map to_ascii_lowercase ending ≡ codes ".hdf"))
+
+-- one path more was looked at, and no directory: there is at most one more that was found or is to be looked at
+abbrev pub GrowsByOne : FoundImages → FoundImages → ℕ → ℕ → Type 0
+GrowsByOne old new waiting_old waiting_new =
+    (old.in_directory ≡ false) × (vec_len new.paths + waiting_new ≤ vec_len old.paths + waiting_old + 1)

@@ -1,0 +1,41 @@
+//! What an image has that is accepted.
+ghost use Rattle.std.specs.Prelude.{◌≡◌, ◌≤◌, IfOk, All, length};
+ghost use Rattle.ados_tree.specs.Tree.{Tree};
+ghost use Rattle.ados_tree.specs.Stands.{Stands};
+ghost use Rattle.ados_tree.specs.Keys.{HasKey};
+ghost use Rattle.adf_archive.specs.Report.{Tells, file_count};
+
+use crate::report::Contents;
+use adf_transfer::{Below, entries_below, free_blocks};
+use ados_volume::Volume;
+use std::alloc::{AllocError, Global};
+
+/// The name of a volume, how many files and directories it has, and how many of its blocks are free.
+pub(crate) fn contents_of(alloc: Global, volume: &Volume) -> Result<Contents, AllocError>
+    ensures { IfOk result (λ contents. (t : Tree) → Stands volume.now.image t → Tells t contents) }
+{
+    let root = volume.root();
+    let below = entries_below(alloc, volume, root)?;
+    let files = count_files(volume, &below);
+    Ok(Contents {
+        name: volume.examine(root).name,
+        files,
+        directories: below.len() - files,
+        free: free_blocks(volume),
+    })
+}
+
+/// How many of these entries are files.
+fn count_files(volume: &Volume, below: &[Below]) -> usize
+    requires { All (λ e. HasKey volume.now.image e.key) below.now }
+    ensures count { (t : Tree) → Stands volume.now.image t → result ≡ file_count t below.now }
+    ensures within { result ≤ length below.now }
+{
+    let mut files = 0;
+    for entry in below {
+        if volume.is_file(entry.key()) {
+            files += 1;
+        }
+    }
+    files
+}

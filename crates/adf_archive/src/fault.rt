@@ -1,0 +1,40 @@
+//! Why not all images of an archive are accepted.
+use std::alloc::{AllocError, AllocFailed};
+use thiserror::Error;
+
+/// Why not all images of an archive are accepted, or told of.
+#[derive(Clone, Copy, Debug, PartialEq, Eq, Error)]
+pub enum ArchiveFault {
+    /// All were read, and one is refused.
+    #[error("an image is refused")]
+    Refused,
+    /// One was not read, or could not be checked.
+    #[error("an image is not checked")]
+    NotChecked,
+    #[error("the output cannot be written")]
+    Output,
+    #[error("there is not enough memory")]
+    Memory,
+}
+
+impl From<AllocError> for ArchiveFault {
+    ghost use Rattle.std.specs.Prelude.{◌≡◌};
+    ghost use Rattle.adf_archive.specs.declared.fault.ArchiveFault.TheVariants.{Memory};
+
+    ghost from_gives = { λ _ fault. fault ≡ Memory };
+
+    fn from(_error: AllocError) -> ArchiveFault {
+        ArchiveFault::Memory
+    }
+}
+
+impl<T: Drop> From<AllocFailed<T>> for ArchiveFault {
+    ghost use Rattle.std.specs.Prelude.{◌≡◌};
+    ghost use Rattle.adf_archive.specs.declared.fault.ArchiveFault.TheVariants.{Memory};
+
+    ghost from_gives = { λ _ fault. fault ≡ Memory };
+
+    fn from(_error: AllocFailed<T>) -> ArchiveFault {
+        ArchiveFault::Memory
+    }
+}

@@ -1,0 +1,30 @@
+//! Many images checked at a time: which files they are, what is told of each, and what all of them come to.
+#![tactic(auto)]
+
+mod checking;
+mod contents;
+mod each;
+mod fault;
+mod faults;
+mod finding;
+mod laws;
+mod lines;
+mod objects;
+mod reading;
+mod report;
+mod running;
+mod telling;
+mod words;
+
+pub use checking::{Detail, report_file, report_image};
+pub use each::together;
+pub use fault::ArchiveFault;
+pub use finding::{FoundImages, has_image_ending, image_files};
+pub use laws::jobs_tell_alike;
+pub use lines::push_lines;
+pub use objects::push_object;
+pub use reading::ReadImages;
+pub use report::{AcceptedImage, Contents, ImageReport, RefusedImage, ShownFault, WhyNot};
+pub use running::{check_archive, check_each};
+pub use telling::{Form, Tally, tell_reports};
+pub use words::{kind_word, size_word};

@@ -1,0 +1,245 @@
+//! The JSON object that tells of an image.
+ghost use Rattle.std.specs.Prelude.{◌≡◌, ◌++◌, ◌∷◌, [], OnOk, codes, flat_map, option_map};
+ghost use Rattle.json.specs.Token.{key, boolean};
+ghost use Rattle.adf_archive.specs.Objects.{contents_tokens, fault_tokens, faults_tokens, is_checked, kind_text, known_tokens, members_of, members_tokens, number_token, object_line, object_tokens, shown_tokens, string_token};
+
+use crate::report::{Contents, ImageReport, ShownFault};
+use crate::words::{kind_word, size_word};
+use adf_block::BootKind;
+use adf_text::letter_text;
+use json::Writer;
+use std::alloc::{AllocError, Global};
+
+/// Appends the line of the object that tells of an image; none where it is not checked.
+pub fn push_object(
+    alloc: Global,
+    text: &mut Vec<u8>,
+    path: &str,
+    report: &ImageReport,
+) -> Result<(), AllocError>
+    ensures { OnOk result (text.new.items ≡ text.old.items ++ object_line path.now report.now) }
+{
+    if !is_checked(report) {
+        return Ok(());
+    }
+    let mut writer = Writer::new(Vec::new(alloc));
+    put_object(alloc, &mut writer, path, report)?;
+    text.extend_from_slice(writer.into_inner().as_slice())?;
+    text.push(b'\n')?;
+    Ok(())
+}
+
+/// Whether an image was read and checked.
+fn is_checked(report: &ImageReport) -> bool
+    ensures { result ≡ is_checked report.now }
+{
+    !matches!(report, ImageReport::NotChecked(_))
+}
+
+/// What an object tells of an image before its faults.
+#[derive(Clone, Copy)]
+pub struct Members {
+    ok: bool,
+    validated: bool,
+    kind: Option<BootKind>,
+    blocks: Option<u64>,
+    contents: Option<Contents>,
+}
+
+/// What the object of this report tells before its faults.
+fn members_of(report: &ImageReport) -> Members
+    ensures { result ≡ members_of report.now }
+{
+    match report {
+        ImageReport::Accepted(told) => Members {
+            ok: true,
+            validated: told.validated,
+            kind: Some(told.kind),
+            blocks: Some(u64::from(told.blocks)),
+            contents: told.contents,
+        },
+        ImageReport::Refused(told) => Members {
+            ok: false,
+            validated: false,
+            kind: Some(told.kind),
+            blocks: Some(u64::from(told.blocks)),
+            contents: None,
+        },
+        _ => Members {
+            ok: false,
+            validated: false,
+            kind: None,
+            blocks: None,
+            contents: None,
+        },
+    }
+}
+
+/// Puts the object that tells of an image.
+fn put_object(
+    alloc: Global,
+    writer: &mut Writer,
+    path: &str,
+    report: &ImageReport,
+) -> Result<(), AllocError>
+    ensures before { writer.new.before ≡ writer.old.before }
+    ensures tokens { OnOk result (writer.new.tokens ≡ writer.old.tokens ++ object_tokens path.now report.now) }
+{
+    writer.begin_object()?;
+    put_text(writer, "path", Some(path))?;
+    put_members(alloc, writer, members_of(report))?;
+    writer.key("faults")?;
+    writer.begin_array()?;
+    put_faults(writer, report)?;
+    writer.end_array()?;
+    writer.end_object()
+}
+
+/// Puts what an object tells before its faults, behind the path.
+fn put_members(alloc: Global, writer: &mut Writer, told: Members) -> Result<(), AllocError>
+    ensures before { writer.new.before ≡ writer.old.before }
+    ensures tokens { OnOk result (writer.new.tokens ≡ writer.old.tokens ++ members_tokens told) }
+{
+    put_flag(writer, "ok", told.ok)?;
+    put_flag(writer, "validated", told.validated)?;
+    put_kind(alloc, writer, told.kind)?;
+    put_number(writer, "blocks", told.blocks)?;
+    put_contents(alloc, writer, told.contents)
+}
+
+/// Puts the kind of a disk by its four bytes, the last one as a number; null where the first three are not `DOS`.
+fn put_kind(alloc: Global, writer: &mut Writer, kind: Option<BootKind>) -> Result<(), AllocError>
+    ensures before { writer.new.before ≡ writer.old.before }
+    ensures tokens { OnOk result (writer.new.tokens ≡ writer.old.tokens ++ key (codes "kind") ∷ string_token (kind_text kind) ∷ []) }
+{
+    match kind {
+        Some(BootKind::Ofs) => put_text(writer, "kind", Some("DOS\\0")),
+        Some(BootKind::Ffs) => put_text(writer, "kind", Some("DOS\\1")),
+        Some(BootKind::OtherDos(last)) => {
+            let word = format!(in alloc; "DOS\\{last}")?;
+            put_text(writer, "kind", Some(word.as_str()))
+        }
+        Some(BootKind::NotDos) | None => put_text(writer, "kind", None),
+    }
+}
+
+/// Puts the name of a volume in letters, and its numbers; null where they are not known.
+fn put_contents(
+    alloc: Global,
+    writer: &mut Writer,
+    contents: Option<Contents>,
+) -> Result<(), AllocError>
+    ensures before { writer.new.before ≡ writer.old.before }
+    ensures tokens { OnOk result (writer.new.tokens ≡ writer.old.tokens ++ contents_tokens contents) }
+{
+    match contents {
+        Some(known) => {
+            let name = letter_text(alloc, known.name.bytes())?;
+            let (files, directories) = (known.files as u64, known.directories as u64);
+            let free = u64::from(known.free);
+            put_known(
+                writer,
+                Some(name.as_str()),
+                Some(files),
+                Some(directories),
+                Some(free),
+            )
+        }
+        None => put_known(writer, None, None, None, None),
+    }
+}
+
+/// Puts the name of a volume and its numbers, as far as they are known.
+fn put_known(
+    writer: &mut Writer,
+    name: Option<&str>,
+    files: Option<u64>,
+    directories: Option<u64>,
+    free: Option<u64>,
+) -> Result<(), AllocError>
+    ensures before { writer.new.before ≡ writer.old.before }
+    ensures tokens { OnOk result (writer.new.tokens ≡ writer.old.tokens ++ known_tokens (option_map (λ text. text.now) name.entry) files directories free) }
+{
+    put_text(writer, "name", name)?;
+    put_number(writer, "files", files)?;
+    put_number(writer, "directories", directories)?;
+    put_number(writer, "free", free)
+}
+
+/// Puts the objects of the faults.
+fn put_faults(writer: &mut Writer, report: &ImageReport) -> Result<(), AllocError>
+    ensures before { writer.new.before ≡ writer.old.before }
+    ensures tokens { OnOk result (writer.new.tokens ≡ writer.old.tokens ++ faults_tokens report.now) }
+{
+    match report {
+        ImageReport::Refused(told) => put_shown(writer, &told.faults),
+        ImageReport::WrongSize(fault) => put_fault(writer, size_word(*fault), 0, None),
+        _ => Ok(()),
+    }
+}
+
+/// Puts the objects of faults that an image shows.
+fn put_shown(writer: &mut Writer, faults: &[ShownFault]) -> Result<(), AllocError>
+    ensures before { writer.new.before ≡ writer.old.before }
+    ensures tokens { OnOk result (writer.new.tokens ≡ writer.old.tokens ++ flat_map shown_tokens faults.now) }
+{
+    for shown in faults {
+        put_fault(
+            writer,
+            kind_word(shown.fault.kind),
+            shown.fault.block,
+            shown.path.as_deref(),
+        )?;
+    }
+    Ok(())
+}
+
+/// Puts the object of a fault.
+fn put_fault(
+    writer: &mut Writer,
+    kind: &str,
+    block: u32,
+    path: Option<&str>,
+) -> Result<(), AllocError>
+    ensures before { writer.new.before ≡ writer.old.before }
+    ensures tokens { OnOk result (writer.new.tokens ≡ writer.old.tokens ++ fault_tokens kind.now block (option_map (λ text. text.now) path.entry)) }
+{
+    writer.begin_object()?;
+    put_text(writer, "kind", Some(kind))?;
+    put_number(writer, "block", Some(u64::from(block)))?;
+    put_text(writer, "path", path)?;
+    writer.end_object()
+}
+
+/// Puts a member that is true or false.
+fn put_flag(writer: &mut Writer, name: &str, value: bool) -> Result<(), AllocError>
+    ensures before { writer.new.before ≡ writer.old.before }
+    ensures tokens { OnOk result (writer.new.tokens ≡ writer.old.tokens ++ key name.now ∷ boolean value ∷ []) }
+{
+    writer.key(name)?;
+    writer.boolean(value)
+}
+
+/// Puts a member that is a number or null.
+fn put_number(writer: &mut Writer, name: &str, value: Option<u64>) -> Result<(), AllocError>
+    ensures before { writer.new.before ≡ writer.old.before }
+    ensures tokens { OnOk result (writer.new.tokens ≡ writer.old.tokens ++ key name.now ∷ number_token value ∷ []) }
+{
+    writer.key(name)?;
+    match value {
+        Some(number) => writer.u64(number),
+        None => writer.null(),
+    }
+}
+
+/// Puts a member that is a text or null.
+fn put_text(writer: &mut Writer, name: &str, value: Option<&str>) -> Result<(), AllocError>
+    ensures before { writer.new.before ≡ writer.old.before }
+    ensures tokens { OnOk result (writer.new.tokens ≡ writer.old.tokens ++ key name.now ∷ string_token (option_map (λ text. text.now) value.entry) ∷ []) }
+{
+    writer.key(name)?;
+    match value {
+        Some(text) => writer.string(text),
+        None => writer.null(),
+    }
+}

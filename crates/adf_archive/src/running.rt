@@ -1,0 +1,143 @@
+//! The check of an archive.
+ghost use Rattle.std.specs.Prelude.{◌≡◌, ◌<◌, ◌≤◌, ℕ, true, false, IfOk, IfErr, length, map};
+ghost use Rattle.std.specs.String.{string_bytes};
+ghost use Rattle.adf_archive.specs.Archive.{LeavesOff, TellsAll, TellsArchive};
+ghost use Rattle.adf_archive.specs.Report.{IsReportOfSome};
+ghost use Rattle.adf_archive.specs.Status.{IsBroken};
+
+use crate::checking::{Detail, report_file};
+use crate::each::together;
+use crate::fault::ArchiveFault;
+use crate::finding::{FoundImages, image_files};
+use crate::reading::ReadImages;
+use crate::report::ImageReport;
+use crate::telling::{Form, Tally, tell_person, tell_reports};
+use adf_jobs::CheckJob;
+use std::alloc::Global;
+use std::io::Write;
+use std::rt::Files;
+use std::thread;
+use std::thread::Threads;
+
+/// Checks the images that the words of a command name, and tells of each in their order. With `terminal` a line on `faults`
+/// says how many of several are done.
+pub fn check_archive<R, W, F>(
+    rt: &R,
+    alloc: Global,
+    job: &CheckJob<'_>,
+    terminal: bool,
+    writer: &mut W,
+    faults: &mut F,
+) -> Result<(), ArchiveFault>
+where
+    R: Files + ReadImages + Threads + Sync,
+    W: Write,
+    F: Write,
+    ensures { TellsArchive job.now (W.contents writer.old) (W.contents writer.new) result }
+{
+    let found = image_files(rt, alloc, &job.files)?;
+    let form = form_of(job, &found);
+    let detail = detail_of(job, form);
+    let paths = found.paths.as_slice();
+    let tally = check_each(
+        rt,
+        alloc,
+        paths,
+        jobs_for(rt, job.jobs),
+        &|place: usize| -> ImageReport
+            requires { place < length paths.now }
+            ensures { IsReportOfSome result }
+        { report_file(rt, alloc, paths[place].as_str(), detail) },
+        form,
+        detail.texts,
+        terminal,
+        writer,
+        faults,
+    )?;
+    tally.end()
+}
+
+/// How images are told of: with their paths, unless a word names one alone.
+fn form_of(job: &CheckJob<'_>, found: &FoundImages) -> Form
+    ensures json { result.json ≡ job.now.json }
+    ensures alone { result.paths ≡ false → (found.now.in_directory ≡ false) × (length job.now.files.items ≤ 1) }
+    ensures several { 1 < length job.now.files.items → result.paths ≡ true }
+{
+    Form {
+        json: job.json,
+        paths: found.in_directory || job.files.len() > 1,
+    }
+}
+
+/// What is asked of each image: a person is told of the faults of one alone, or of every fault.
+fn detail_of(job: &CheckJob<'_>, form: Form) -> Detail {
+    Detail {
+        all: job.all,
+        contents: job.json,
+        texts: job.all || !form.paths,
+    }
+}
+
+/// How many images are checked at a time: as many as there are processors where no number is given.
+fn jobs_for<R: Threads>(rt: &R, given: Option<u32>) -> usize {
+    match given {
+        Some(jobs) => jobs as usize,
+        None => match thread::available_parallelism(rt) {
+            Ok(processors) => processors.get(),
+            Err(_) => 1,
+        },
+    }
+}
+
+/// Tells of images in the order of their paths, by what this function reports of the image at each place of the list; so
+/// many are looked at together. What is told does not depend on how many.
+pub fn check_each<R, C, W, F>(
+    rt: &R,
+    alloc: Global,
+    paths: &[String],
+    jobs: usize,
+    report: &C,
+    form: Form,
+    texts: bool,
+    terminal: bool,
+    writer: &mut W,
+    faults: &mut F,
+) -> Result<Tally, ArchiveFault>
+where
+    R: Threads + Sync,
+    C: Fn(usize) -> ImageReport + Sync,
+    W: Write,
+    F: Write,
+    requires { (i : ℕ) → i < length paths.now → C.pre report.now i }
+    ensures ok { IfOk result (TellsAll C.Fn report.now form (map string_bytes paths.now) (W.contents writer.old) (W.contents writer.new)) }
+    ensures fault { IfErr result (λ _. LeavesOff C.Fn report.now form (map string_bytes paths.now) (W.contents writer.old) (W.contents writer.new)) }
+    ensures broken { IfErr result IsBroken }
+{
+    let mut tally = Tally::new();
+    let mut done = 0;
+    while done < paths.len() {
+        let count = jobs.max(1).min(paths.len() - done);
+        show_progress(terminal, done, paths.len(), faults);
+        let reports = together(rt, alloc, done, count, report)?;
+        clear_progress(terminal, paths.len(), faults);
+        tell_reports(alloc, paths, done, &reports, form, writer)?;
+        tell_person(paths, done, &reports, form, texts, faults);
+        tally.add(&reports);
+        done += count;
+    }
+    Ok(tally)
+}
+
+/// Tells a person how many of several images are done.
+fn show_progress<F: Write>(terminal: bool, done: usize, all: usize, faults: &mut F) {
+    if terminal && all > 1 {
+        let _ = write!(faults, "{done} of {all} images");
+    }
+}
+
+/// Takes that line back.
+fn clear_progress<F: Write>(terminal: bool, all: usize, faults: &mut F) {
+    if terminal && all > 1 {
+        let _ = write!(faults, "\r\x1b[K");
+    }
+}

@@ -1,0 +1,208 @@
+//! What is told of images, and what they come to.
+ghost use Rattle.std.specs.Prelude.{◌≡◌, ◌+◌, ◌≤◌, ◌++◌, [], IfErr, IfOk, OnOk, OnErr, length, map};
+ghost use Rattle.std.specs.Io.KnownBytes.{Appends};
+ghost use Rattle.std.specs.String.{string_bytes};
+ghost use Rattle.adf_listing.specs.Fronts.{WritesFront};
+ghost use Rattle.adf_archive.specs.Lines.{told_from, told_of};
+ghost use Rattle.adf_archive.specs.Status.{IsBroken, IsTally, ends_as, noted, tallied};
+
+use crate::fault::ArchiveFault;
+use crate::lines::push_lines;
+use crate::objects::push_object;
+use crate::report::ImageReport;
+use adf_block::SizeFault;
+use adf_files::write_output;
+use std::alloc::{AllocError, Global};
+use std::io::Write;
+
+/// How images are told of.
+#[derive(Clone, Copy, Debug)]
+pub struct Form {
+    /// Each by a JSON object, and not by lines.
+    pub json: bool,
+    /// With the path before each line.
+    pub paths: bool,
+}
+
+/// What images come to.
+#[derive(Clone, Copy, Debug, PartialEq, Eq)]
+pub struct Tally {
+    /// Whether one is refused.
+    pub refused: bool,
+    /// Whether one is not checked.
+    pub not_checked: bool,
+}
+
+impl Tally {
+    /// That of no image.
+    pub fn new() -> Tally
+        ensures { IsTally [] result }
+    {
+        Tally {
+            refused: false,
+            not_checked: false,
+        }
+    }
+
+    /// That with these images besides.
+    pub fn add(&mut self, reports: &[ImageReport])
+        ensures { self.new ≡ tallied self.old reports.now }
+    {
+        for report in reports {
+            self.note(report);
+        }
+    }
+
+    /// That with one image besides.
+    fn note(&mut self, report: &ImageReport)
+        ensures { self.new ≡ noted self.old report.now }
+    {
+        match report {
+            ImageReport::Accepted(_) => {}
+            ImageReport::Refused(_) | ImageReport::WrongSize(_) => self.refused = true,
+            ImageReport::NotChecked(_) => self.not_checked = true,
+        }
+    }
+
+    /// How a command over these images ends. That one is not checked goes before that one is refused.
+    pub fn end(self) -> Result<(), ArchiveFault>
+        ensures { result ≡ ends_as self }
+    {
+        if self.not_checked {
+            return Err(ArchiveFault::NotChecked);
+        }
+        if self.refused {
+            return Err(ArchiveFault::Refused);
+        }
+        Ok(())
+    }
+}
+
+/// Tells of images, whose paths stand in the list from one place on, in their order.
+pub fn tell_reports<W: Write>(
+    alloc: Global,
+    paths: &[String],
+    start: usize,
+    reports: &[ImageReport],
+    form: Form,
+    writer: &mut W,
+) -> Result<(), ArchiveFault>
+    requires { start + length reports.now ≤ length paths.now }
+    ensures ok { OnOk result (Appends (W.contents writer.old) (W.contents writer.new) (told_from form (map string_bytes paths.now) start reports.now)) }
+    ensures front { OnErr result (WritesFront (W.contents writer.old) (W.contents writer.new) (told_from form (map string_bytes paths.now) start reports.now)) }
+    ensures broken { IfErr result IsBroken }
+{
+    let text = reports_text(alloc, paths, start, reports, form)?;
+    write_text(&text, writer)
+}
+
+/// What is told of images, whose paths stand in the list from one place on.
+fn reports_text(
+    alloc: Global,
+    paths: &[String],
+    start: usize,
+    reports: &[ImageReport],
+    form: Form,
+) -> Result<Vec<u8>, AllocError>
+    requires { start + length reports.now ≤ length paths.now }
+    ensures { IfOk result (λ text. text.items ≡ told_from form (map string_bytes paths.now) start reports.now) }
+{
+    let mut text = Vec::new(alloc);
+    for place in 0..reports.len() {
+        push_told(
+            alloc,
+            &mut text,
+            paths[start + place].as_str(),
+            &reports[place],
+            form,
+        )?;
+    }
+    Ok(text)
+}
+
+/// Writes a text, or a front of it where the writer fails.
+fn write_text<W: Write>(text: &[u8], writer: &mut W) -> Result<(), ArchiveFault>
+    ensures ok { OnOk result (Appends (W.contents writer.old) (W.contents writer.new) text.now) }
+    ensures front { OnErr result (WritesFront (W.contents writer.old) (W.contents writer.new) text.now) }
+    ensures broken { IfErr result IsBroken }
+{
+    match write_output(text, writer) {
+        Ok(()) => Ok(()),
+        Err(_) => Err(ArchiveFault::Output),
+    }
+}
+
+/// Appends what is told of an image.
+fn push_told(
+    alloc: Global,
+    text: &mut Vec<u8>,
+    path: &str,
+    report: &ImageReport,
+    form: Form,
+) -> Result<(), AllocError>
+    ensures { OnOk result (text.new.items ≡ text.old.items ++ told_of form path.now report.now) }
+{
+    if form.json {
+        return push_object(alloc, text, path, report);
+    }
+    if !form.paths {
+        return push_lines(alloc, text, b"", report);
+    }
+    let mut front = Vec::new(alloc);
+    front.extend_from_slice(path.as_bytes())?;
+    front.push(b'\t')?;
+    push_lines(alloc, text, &front, report)
+}
+
+/// Tells a person of the faults of images, whose paths stand in the list from one place on, and which were not checked.
+pub(crate) fn tell_person<F: Write>(
+    paths: &[String],
+    start: usize,
+    reports: &[ImageReport],
+    form: Form,
+    texts: bool,
+    faults: &mut F,
+)
+    requires { start + length reports.now ≤ length paths.now }
+{
+    for (place, report) in reports.iter().enumerate() {
+        let path = paths[start + place].as_str();
+        match report {
+            ImageReport::NotChecked(why) => {
+                let _ = write!(faults, "adf_serve: '{path}' {why}\n");
+            }
+            ImageReport::WrongSize(fault) if texts => tell_text(
+                path,
+                form,
+                size_text(*fault),
+                faults,
+            ),
+            ImageReport::Refused(told) if texts => {
+                for shown in told.faults.iter() {
+                    if let Some(text) = &shown.text {
+                        tell_text(path, form, text.as_str(), faults);
+                    }
+                }
+            }
+            _ => {}
+        }
+    }
+}
+
+/// Tells a person of a fault, with the path of the image where it is one of several.
+fn tell_text<F: Write>(path: &str, form: Form, text: &str, faults: &mut F) {
+    let _ = if form.paths {
+        write!(faults, "{path}: {text}\n")
+    } else {
+        write!(faults, "{text}\n")
+    };
+}
+
+/// What a person is told of a wrong size.
+fn size_text(fault: SizeFault) -> &'static str {
+    match fault {
+        SizeFault::NotWholeBlocks => "the image is not whole blocks of 512 bytes",
+        SizeFault::TooFewBlocks => "the image has fewer than 16 blocks",
+        SizeFault::TooManyBlocks => "the image has more than 101,602 blocks",
+    }
+}

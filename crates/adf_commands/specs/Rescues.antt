@@ -1,0 +1,40 @@
+-- How `extract --damaged` comes to its end.
+use Rattle.std.specs.Prelude.{◌≡◌, ◌⊎◌, ℕ, Bool, true, false, List, Option, Some, Result, Ok, Err, ⊤}
+use Rattle.std.specs.Io.KnownBytes.{Keeps}
+use Rattle.adf_script.specs.Streams.{Writes}
+use Rattle.adf_listing.specs.Fronts.{WritesFrontOf}
+use Rattle.files_out.specs.declared.damaged.Rescue.{Rescue}
+use Rattle.files_out.specs.Rescue.{IsRescue}
+use Rattle.adf_commands.specs.declared.fault.CommandFault.{CommandFault}
+use Rattle.adf_commands.specs.declared.fault.CommandFault.TheVariants.{Dos, Extracted, Memory, NotWhole, Refused}
+use Rattle.adf_commands.specs.Refusals.{IsSizeRefusal, dos_line, refusal_line, told_line}
+
+-- why nothing is told of an image that was read: the host's files are not written, or there is no memory
+abbrev pub IsRescueEnd : CommandFault → Type 0
+IsRescueEnd (Extracted fault) = ⊤
+IsRescueEnd Memory = ⊤
+IsRescueEnd fault = ⊥
+
+-- what is told of an image of which all that is taken out is whole, or not all
+abbrev pub IsRescueText : Bool → List ℕ → Type 0
+IsRescueText whole text = (image : List ℕ) × (rescue : Rescue) × IsRescue image rescue × (rescue.whole ≡ whole) × (text ≡ rescue.lines.items)
+
+abbrev pub IsSomeRescueText : List ℕ → Type 0
+IsSomeRescueText text = (whole : Bool) × IsRescueText whole text
+
+-- what the command comes to before a refusal is printed; only of a wrong size an image is refused
+abbrev pub DoesRescue : Option (List ℕ) → Option (List ℕ) → Result (Unit {0}) CommandFault → Type 0
+DoesRescue old new (Ok done) = Writes old new (IsRescueText true)
+DoesRescue old new (Err NotWhole) = Writes old new (IsRescueText false)
+DoesRescue old new (Err (Refused refusal)) = Keeps old new × ((bytes : List ℕ) × IsSizeRefusal bytes (refusal_line refusal))
+DoesRescue old new (Err (Dos refusal)) = Keeps old new
+DoesRescue old new (Err fault) = Keeps old new ⊎ WritesFrontOf old new IsSomeRescueText
+
+-- and with it
+abbrev pub TellsRescue : Option (List ℕ) → Option (List ℕ) → Result (Unit {0}) CommandFault → Type 0
+TellsRescue old new (Ok done) = Writes old new (IsRescueText true)
+TellsRescue old new (Err NotWhole) = Writes old new (IsRescueText false)
+TellsRescue old new (Err (Refused refusal)) = Writes old new (λ text. (bytes : List ℕ) × IsSizeRefusal bytes text)
+TellsRescue old new (Err (Dos refusal)) = Writes old new (λ text. text ≡ dos_line refusal)
+TellsRescue old new (Err fault) =
+    Keeps old new ⊎ WritesFrontOf old new (λ text. IsSomeRescueText text ⊎ ((told : CommandFault) × (told_line told ≡ Some text)))

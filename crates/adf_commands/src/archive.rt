@@ -1,0 +1,31 @@
+//! The command `check`.
+ghost use Rattle.adf_commands.specs.Archives.{EndsArchive};
+
+use crate::fault::CommandFault;
+use adf_archive::{ReadImages, check_archive};
+use adf_jobs::CheckJob;
+use std::alloc::Global;
+use std::io::Write;
+use std::rt::Files;
+use std::thread::Threads;
+
+/// Checks the images that a job names, and tells of each. With `terminal` a line on `faults` says how many are done.
+pub(crate) fn check_images<'a, R, W, F>(
+    rt: &R,
+    alloc: Global,
+    job: &CheckJob<'a>,
+    terminal: bool,
+    writer: &mut W,
+    faults: &mut F,
+) -> Result<(), CommandFault<'a>>
+where
+    R: Files + ReadImages + Threads + Sync,
+    W: Write,
+    F: Write,
+    ensures { EndsArchive job.now (W.contents writer.old) (W.contents writer.new) result }
+{
+    match check_archive(rt, alloc, job, terminal, writer, faults) {
+        Ok(()) => Ok(()),
+        Err(fault) => Err(CommandFault::from(fault)),
+    }
+}
