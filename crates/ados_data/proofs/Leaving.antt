@@ -1,6 +1,6 @@
 -- What the steps of a change leave as it is.
-use Rattle.std.proofs.Common.{◌≡◌, ◌≢◌, ℕ, suc, ◌-◌, ◌/◌, ◌<◌, ◌≤◌, ◌⊎◌, inl, inr, true, List, [], ◌∷◌, ◌++◌, length, take, slice_index, refl, sym, ap, ◌∙◌, subst, arith}
-use Rattle.std.proofs.lemmas.Bool.{cases_Bool, cases_lt, cases_eq, false≢true}
+use Rattle.std.proofs.Common.{◌≡◌, ◌≢◌, ℕ, suc, ◌-◌, ◌/◌, ◌<◌, ◌≤◌, ◌⊎◌, inl, inr, true, false, List, [], ◌∷◌, ◌++◌, length, take, slice_index, refl, sym, ap, ◌∙◌, subst, arith}
+use Rattle.std.proofs.lemmas.Bool.{cases_Bool, cases_lt, cases_eq, cases_order, false≢true}
 use Rattle.std.proofs.lemmas.List.{length_push}
 use Rattle.adf_block.specs.Fields.{next_extension}
 use Rattle.adf_block.specs.declared.Format.{Format}
@@ -17,7 +17,7 @@ use Rattle.ados_data.proofs.Untouched.{untouched_sum}
 use Rattle.ados_data.proofs.Marks.{has_bit, page_kept}
 use Rattle.ados_data.proofs.Untouched.{untouched_sum}
 use Rattle.std.proofs.lemmas.Bool.{true_from_ne_false}
-use Rattle.ados_data.specs.Others.{IsOther, IsDataField, Leaves, IsOwn, Gains}
+use Rattle.ados_data.specs.Others.{IsOther, IsDataField, Leaves, IsOwn, Gains, RisesBehind, WasFree}
 use Rattle.ados_data.proofs.Grown.{front_length, front_at, front_header}
 use Rattle.ados_data.proofs.Growing.{extended_owner, Lengthened, lengthened_owner}
 use Rattle.ados_data.proofs.Resizing.{Resized, resized_owner}
@@ -135,11 +135,34 @@ beside_gains old new file blocks extensions blocks' extensions' g c o = (
 )
 
 pub gains_same : (image : List ℕ) (file : ℕ) (blocks extensions : List ℕ) → Gains image file blocks extensions image blocks extensions
-gains_same image file blocks extensions = record { headers = λ q l. inl (l, refl); data_blocks_of = λ i l. inl (l, refl); marks = λ c i u. u; taken = λ c i f u. absurd (false≢true (sym u ∙ f)); lowest = λ c d i p l f u. absurd (false≢true (sym u ∙ f)) }
+gains_same image file blocks extensions = record { headers = λ q l. inl (l, refl); data_blocks_of = λ i l. inl (l, refl); marks = λ c i u. u; taken = λ c i f u. absurd (false≢true (sym u ∙ f)); lowest = λ c d i p l f u. absurd (false≢true (sym u ∙ f)); data_rises = λ i j l m n. absurd (omega (arith, l, m, n)); extensions_rise = λ i j l m n. absurd (omega (arith, l, m, n)) }
+
+-- a list that rises, and then grows by blocks that were free when its own no longer were
+rises_both : (old mid : List ℕ) (front xs ys : List ℕ) → take (length xs) ys ≡ xs → ((i : ℕ) → i < length ys → IsInside (block_count old) (slice_index ys i))
+    → ((i : ℕ) → length front ≤ i → i < length xs → has_free_bit old (slice_index xs i) ≡ true) → ((i : ℕ) → i < length xs → has_free_bit mid (slice_index xs i) ≡ false)
+    → ((i : ℕ) → length xs ≤ i → i < length ys → WasFree mid (slice_index ys i))
+    → ((c d : ℕ) → IsInside (block_count old) d → 2 ≤ c → c < d → has_free_bit old d ≡ true → has_free_bit mid d ≡ false → has_free_bit mid c ≡ false)
+    → RisesBehind front xs → RisesBehind xs ys → RisesBehind front ys
+rises_both old mid front xs ys same inside were_free used are_free lowest a b i j l m n = elim (cases_lt j (length xs)) [
+  | inl s ↦ omega (arith, a i j l m s, front_at xs ys same i (omega (arith, m, s)), front_at xs ys same j s)
+  | inr s ↦ elim (cases_lt i (length xs)) [
+    | inr t ↦ b i j t m n
+    | inl t ↦
+        let here : slice_index ys i ≡ slice_index xs i = front_at xs ys same i t in
+        let free = are_free j s n in
+        elim (cases_order (slice_index ys i) (slice_index ys j)) [
+          | inl one ↦ absurd (false≢true (sym (used i t) ∙ ap (has_free_bit mid) (sym here ∙ one) ∙ free.1))
+          | inr (inl below) ↦ below
+          | inr (inr above) ↦
+              let within = subst (IsInside (block_count old)) here (inside i (omega (arith, m, n))) in
+              absurd (false≢true (sym (lowest (slice_index ys j) (slice_index xs i) within free.0 (omega (arith, above, here)) (were_free i l t) (used i t)) ∙ free.1))
+        ]
+  ]
+]
 
 pub gains_both : (old mid new : List ℕ) (file : ℕ) (blocks extensions blocks' extensions' blocks'' extensions'' : List ℕ) → block_count mid ≡ block_count old → ((q : ℕ) → q ≤ length extensions'' → IsInside (block_count old) (slice_index (file ∷ extensions'') q)) → ((i : ℕ) → i < length blocks'' → IsInside (block_count old) (slice_index blocks'' i)) →
-    take (length blocks') blocks'' ≡ blocks' → take (length extensions') extensions'' ≡ extensions' → Gains old file blocks extensions mid blocks' extensions' → Gains mid file blocks' extensions' new blocks'' extensions'' → Gains old file blocks extensions new blocks'' extensions''
-gains_both old mid new file blocks extensions blocks' extensions' blocks'' extensions'' counts inside_headers inside_data front front' a b = record {
+    take (length blocks') blocks'' ≡ blocks' → take (length extensions') extensions'' ≡ extensions' → ((i : ℕ) → i < length blocks' → has_free_bit mid (slice_index blocks' i) ≡ false) → ((q : ℕ) → q < length extensions' → has_free_bit mid (slice_index extensions' q) ≡ false) → Gains old file blocks extensions mid blocks' extensions' → Gains mid file blocks' extensions' new blocks'' extensions'' → Gains old file blocks extensions new blocks'' extensions''
+gains_both old mid new file blocks extensions blocks' extensions' blocks'' extensions'' counts inside_headers inside_data front front' used used' a b = record {
   headers = λ q l. elim (b.headers q l) [
     | inr f ↦ inr (f.0, was (slice_index (file ∷ extensions'') q) (inside_headers q l) f.1)
     | inl s ↦ elim (a.headers q s.0) [
@@ -163,6 +186,12 @@ gains_both old mid new file blocks extensions blocks' extensions' blocks'' exten
     | inl t ↦ b.lowest c d (i.0, omega (arith, i.1, counts)) p l t u
     | inr e ↦ b.marks c (p, omega (arith, l, i.1, counts)) (a.lowest c d i p l f e)
   ];
+  data_rises = rises_both old mid blocks blocks' blocks'' front inside_data
+      (λ i l m. elim (a.data_blocks_of i m) [ inl s ↦ absurd (omega (arith, s.0, l)) | inr f ↦ f.1 ]) used
+      (λ i l m. elim (b.data_blocks_of i m) [ inl s ↦ absurd (omega (arith, s.0, l)) | inr f ↦ f ]) a.lowest a.data_rises b.data_rises;
+  extensions_rise = rises_both old mid extensions extensions' extensions'' front' (λ q l. inside_headers (suc q) (omega (arith, l)))
+      (λ q l m. elim (a.headers (suc q) (omega (arith, m))) [ inl s ↦ absurd (omega (arith, s.0, l)) | inr f ↦ f.1 ]) used'
+      (λ q l m. elim (b.headers (suc q) (omega (arith, m))) [ inl s ↦ absurd (omega (arith, s.0, l)) | inr f ↦ f ]) a.lowest a.extensions_rise b.extensions_rise;
 }
   where
     was : (c : ℕ) → IsInside (block_count old) c → has_free_bit mid c ≡ true → has_free_bit old c ≡ true
@@ -245,8 +274,8 @@ module _ (old new : List ℕ) (format : Format) (file : ℕ) (blocks extensions 
 -- ---- what a new block adds to the lists
 
 pub gains_taken : (old : List ℕ) (b : ℕ) (new : List ℕ) (file : ℕ) (blocks extensions blocks' extensions' : List ℕ) → IsNewBlock old b new → ((q : ℕ) → q ≤ length extensions' → ((q ≤ length extensions) × (slice_index (file ∷ extensions') q ≡ slice_index (file ∷ extensions) q)) ⊎ (slice_index (file ∷ extensions') q ≡ b)) →
-    ((i : ℕ) → i < length blocks' → ((i < length blocks) × (slice_index blocks' i ≡ slice_index blocks i)) ⊎ (slice_index blocks' i ≡ b)) → IsOwn file blocks' extensions' b → Gains old file blocks extensions new blocks' extensions'
-gains_taken old b new file blocks extensions blocks' extensions' n headers datas own = record {
+    ((i : ℕ) → i < length blocks' → ((i < length blocks) × (slice_index blocks' i ≡ slice_index blocks i)) ⊎ (slice_index blocks' i ≡ b)) → IsOwn file blocks' extensions' b → length blocks' ≤ suc (length blocks) → length extensions' ≤ suc (length extensions) → Gains old file blocks extensions new blocks' extensions'
+gains_taken old b new file blocks extensions blocks' extensions' n headers datas own one one' = record {
   headers = λ q l. elim (headers q l) [ inl s ↦ inl s | inr e ↦ inr (omega (arith, e, n.lowest.inside.0), ap (has_free_bit old) e ∙ n.lowest.free) ];
   data_blocks_of = λ i l. elim (datas i l) [ inl s ↦ inl s | inr e ↦ inr (omega (arith, e, n.lowest.inside.0), ap (has_free_bit old) e ∙ n.lowest.free) ];
   marks = λ c i u. n.others c (has_bit old c i) (λ e. false≢true (sym u ∙ ap (has_free_bit old) e ∙ n.lowest.free)) ∙ u;
@@ -258,6 +287,8 @@ gains_taken old b new file blocks extensions blocks' extensions' n headers datas
     | inl e ↦ n.others c (has_bit old c (p, omega (arith, l, i.1))) (omega (arith, l, e)) ∙ n.lowest.lowest c p (omega (arith, l, e))
     | inr ne ↦ absurd (false≢true (sym u ∙ n.others d (has_bit old d i) ne ∙ f))
   ];
+  data_rises = λ i j l m k. absurd (omega (arith, l, m, k, one));
+  extensions_rise = λ i j l m k. absurd (omega (arith, l, m, k, one'));
 }
 
 -- marks that all stay
@@ -268,4 +299,6 @@ gains_kept old new new' file blocks extensions blocks' extensions' counts same g
   marks = λ c i u. same c (has_bit new c (i.0, omega (arith, i.1, counts))) ∙ g.marks c i u;
   taken = λ c i f u. g.taken c i f (sym (same c (has_bit new c (i.0, omega (arith, i.1, counts)))) ∙ u);
   lowest = λ c d i p l f u. same c (has_bit new c (p, omega (arith, l, i.1, counts))) ∙ g.lowest c d i p l f (sym (same d (has_bit new d (i.0, omega (arith, i.1, counts)))) ∙ u);
+  data_rises = g.data_rises;
+  extensions_rise = g.extensions_rise;
 }

@@ -52,7 +52,11 @@ WasFree old c = (2 ≤ c) × (has_free_bit old c ≡ true)
 abbrev pub IsKeptOrTaken : List ℕ → Type 0 → ℕ → ℕ → Type 0
 IsKeptOrTaken old known c d = (known × (d ≡ c)) ⊎ WasFree old d
 
--- a file with lists of blocks that grew: it keeps its blocks, each further one was marked free, no block was marked free, only blocks of the file were taken, and no free block is left below one that was taken
+-- behind as many places as the first list has, each block of the second is lower than those behind it
+abbrev pub RisesBehind : List ℕ → List ℕ → Type 0
+RisesBehind front blocks = (i j : ℕ) → length front ≤ i → i < j → j < length blocks → slice_index blocks i < slice_index blocks j
+
+-- a file with lists of blocks that grew: it keeps its blocks, each further one was marked free, no block was marked free, only blocks of the file were taken, and no free block is left below one that was taken; the further blocks of each list rise
 pub record Gains (old : List ℕ) (file : ℕ) (blocks extensions : List ℕ) (new : List ℕ) (blocks' extensions' : List ℕ) : Type 0 where
   pub headers : (q : ℕ) → q ≤ length extensions'
       → IsKeptOrTaken old (q ≤ length extensions) (slice_index (file ∷ extensions) q) (slice_index (file ∷ extensions') q)
@@ -60,6 +64,8 @@ pub record Gains (old : List ℕ) (file : ℕ) (blocks extensions : List ℕ) (n
   pub marks : (c : ℕ) → IsInside (block_count old) c → has_free_bit old c ≡ false → has_free_bit new c ≡ false
   pub taken : (c : ℕ) → IsInside (block_count old) c → has_free_bit old c ≡ true → has_free_bit new c ≡ false → IsOwn file blocks' extensions' c
   pub lowest : (c d : ℕ) → IsInside (block_count old) d → 2 ≤ c → c < d → has_free_bit old d ≡ true → has_free_bit new d ≡ false → has_free_bit new c ≡ false
+  pub data_rises : RisesBehind blocks blocks'
+  pub extensions_rise : RisesBehind extensions extensions'
 
 -- the same of the file whose header is this block
 abbrev pub FileGains : List ℕ → ℕ → List ℕ → Type 0

@@ -45,6 +45,8 @@ none_taken old new none = record {
   lowest = λ block other m i was is. absurd (m.in_use (none block m.inside m.was_free));
   zero_else = λ block i role m r l n. absurd (m.in_use (none block m.inside m.was_free));
   first = λ block m f. absurd (m.in_use (none block m.inside m.was_free));
+  data_rise = λ file f i j l m a b. absurd (a.in_use (none _ a.inside a.was_free));
+  extensions_rise = λ file f i j l m a b. absurd (a.in_use (none _ a.inside a.was_free));
 }
 
 -- an image that is as it was

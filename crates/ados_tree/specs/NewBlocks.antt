@@ -1,9 +1,10 @@
 -- How a change of an image takes new blocks, and what it keeps beside what it is for.
-use Rattle.std.specs.Prelude.{◌≡◌, ℕ, ◌<◌, List}
+use Rattle.std.specs.Prelude.{◌≡◌, ℕ, ◌<◌, List, length, slice_index}
 use Rattle.adf_block.specs.Image.{byte_at, HasFreeBit}
+use Rattle.ados_data.specs.File.{data_blocks, extension_blocks}
 use Rattle.ados_tree.specs.declared.role.Role.{Role}
 use Rattle.ados_tree.specs.Faults.{InImage, IsFile, Reached}
-use Rattle.ados_tree.specs.Keys.{HasEntryKey}
+use Rattle.ados_tree.specs.Keys.{HasEntryKey, HasFileKey}
 use Rattle.ados_tree.specs.Kept.{IsField, Kept, NamesFirstData}
 use Rattle.ados_tree.specs.Untold.{KeepsUntold}
 
@@ -13,11 +14,18 @@ pub record IsTaken (old new : List ℕ) (block : ℕ) : Type 0 where
   pub was_free : HasFreeBit old block
   pub in_use : ¬ HasFreeBit new block
 
--- the blocks that are taken lie below those that are still free; each byte of one that is part of no field is 0, and one that heads a file names its first data block, or 0
+-- of the blocks of a list that are taken, each is lower than those behind it
+abbrev pub TakenRise : List ℕ → List ℕ → List ℕ → Type 0
+TakenRise old new blocks =
+    (i j : ℕ) → i < j → j < length blocks → IsTaken old new (slice_index blocks i) → IsTaken old new (slice_index blocks j) → slice_index blocks i < slice_index blocks j
+
+-- the blocks that are taken lie below those that are still free, and those of a list of a file rise; each byte of one that is part of no field is 0, and one that heads a file names its first data block, or 0
 pub record TakesLowest (old new : List ℕ) : Type 0 where
   pub lowest : (block other : ℕ) → IsTaken old new block → InImage old other → HasFreeBit old other → HasFreeBit new other → block < other
   pub zero_else : (block i : ℕ) (role : Role) → IsTaken old new block → Reached new block role → i < 512 → ¬ IsField new block role i → byte_at new block i ≡ 0
   pub first : (block : ℕ) → IsTaken old new block → IsFile new block → NamesFirstData new block
+  pub data_rise : (file : ℕ) → HasFileKey new file → TakenRise old new (data_blocks new file)
+  pub extensions_rise : (file : ℕ) → HasFileKey new file → TakenRise old new (extension_blocks new file)
 
 -- no block is taken: each that was free still is
 abbrev pub TakesNone : List ℕ → List ℕ → Type 0

@@ -6,6 +6,7 @@ ghost use Rattle.ados_tree.specs.Stands.{Stands};
 ghost use Rattle.ados_tree.specs.Keys.{HasKey, HasTree};
 ghost use Rattle.ados_tree.specs.NewBlocks.{KeepsRest, TakesNone};
 ghost use Rattle.ados_tree.specs.Change.{removed, renamed};
+ghost use Rattle.change_entries.specs.Behind.{KeepsBehindName};
 ghost use Rattle.change_entries.specs.Conditions.{CanMake, CanRemove, CanRename};
 ghost use Rattle.change_entries.specs.Kinds.{Makes};
 ghost use Rattle.ados_volume.specs.Refused.{RefusesEntry};
@@ -52,12 +53,13 @@ impl Volume {
     }
 
     /// Moves an entry into a directory, also its own, under a name. The moment becomes the date of both directories and the disk
-    /// date; the entry keeps its own.
+    /// date; the entry keeps its own. What stood behind a shorter name stays.
     pub fn rename(&mut self, key: u32, dir: u32, name: Name, moment: Date3)
         requires { (t : Tree) → Stands self.old.image t → CanRename t key dir name }
         ensures stands { (t : Tree) → Stands self.old.image t → Stands self.new.image (renamed moment key dir name t) }
         ensures keeps { KeepsRest self.old.image self.new.image }
         ensures none { TakesNone self.old.image self.new.image }
+        ensures behind { KeepsBehindName key name self.old.image self.new.image }
         ensures validated { self.new.was_validated ≡ self.old.was_validated }
     {
         forget(&mut self.names, &self.image, key);

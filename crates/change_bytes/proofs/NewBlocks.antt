@@ -6,7 +6,9 @@ use Rattle.adf_block.specs.declared.Format.TheVariants.{Ofs, Ffs}
 use Rattle.adf_block.specs.Image.{IsInside, block_count, byte_at, has_free_bit, HasFreeBit}
 use Rattle.adf_block.specs.Fields.{pointer_count, held_count, file_size}
 use Rattle.ados_map.specs.Pages.{page_block}
-use Rattle.ados_data.specs.File.{format_of}
+use Rattle.ados_data.specs.File.{data_blocks, extension_blocks, format_of}
+use Rattle.ados_data.specs.Others.{RisesBehind}
+use Rattle.ados_data.proofs.Spelled.{data_blocks_are, extension_blocks_are}
 use Rattle.ados_data.specs.Unnamed.{KeepsUnnamed, IsExtensionField, data_end}
 use Rattle.ados_tree.specs.Tree.{Node, Tree}
 use Rattle.ados_tree.specs.Tree.Content.{File}
@@ -17,8 +19,10 @@ use Rattle.ados_tree.specs.declared.role.Role.TheVariants as roles
 use Rattle.ados_tree.specs.Faults.{InImage}
 use Rattle.ados_tree.specs.Kept.{IsField}
 use Rattle.ados_tree.specs.Kept.IsField.{extension_longs, ffs_data}
-use Rattle.ados_tree.specs.NewBlocks.{IsTaken, TakesLowest}
+use Rattle.ados_tree.specs.Keys.{HasFileKey}
+use Rattle.ados_tree.specs.NewBlocks.{IsTaken, TakenRise, TakesLowest}
 use Rattle.ados_tree.proofs.Standing.{StandsAt, slice_get-index, reached_stands, serves_at, duty_of}
+use Rattle.ados_tree.proofs.Serving.{data_duty, extension_duty}
 use Rattle.ados_tree.proofs.Writable.{key_serves, named_used, page_serves}
 use Rattle.change_bytes.proofs.Content.{refilled, stays}
 use Rattle.change_bytes.proofs.Relaid.{IsIn, IsRewritten, relaid, serves_data, serves_extension}
@@ -123,8 +127,54 @@ module _ (old new : List ℕ) (t : Tree) (s : Stands old t) (file : ℕ) (node :
       go (roles.Entry dir r) m n d = absurd (cc d)
       go (roles.Data f) m n d = absurd (cc d)
 
-  pub takes_lowest : ((c d : ℕ) → IsInside (block_count old) d → 2 ≤ c → c < d → has_free_bit old d ≡ true → has_free_bit new d ≡ false → has_free_bit new c ≡ false) → TakesLowest old new
-  takes_lowest lowest = record {
+  -- ---- in which order
+
+  -- what serves by the new lists serves in the new layout
+  in_after : (b : ℕ) (duty : Duty) → HasDuty v (relaid s.layout file blocks' extensions') b duty → HasDuty v after.layout b duty
+  in_after b duty n = subst (λ (l : Layout). HasDuty v l b duty) (sym (layout_after old new t s file node bytes found is_file blocks' extensions' bytes' h)) n
+
+  -- a block that was taken is in no other list
+  of_data : (b f i : ℕ) → IsTaken old new b → HasDuty v after.layout b (Duty.Data f i) → f ≡ file
+  of_data b f i m serves = elim (is_new b m) [
+    | inl at ↦
+        let duty : Duty.Data f i ≡ Duty.Data file at.0 =
+        after.fits.one_duty b (Duty.Data f i) (Duty.Data file at.0) serves (in_after b (Duty.Data file at.0) (serves_data old new t s file node bytes found is_file blocks' extensions' bytes' h at.0 at.1 ∙ ap Some at.2)) in
+        cc duty
+    | inr at ↦
+        let duty : Duty.Data f i ≡ Duty.Extension file at.0 =
+        after.fits.one_duty b (Duty.Data f i) (Duty.Extension file at.0) serves (in_after b (Duty.Extension file at.0) (serves_extension old new t s file node bytes found is_file blocks' extensions' bytes' h at.0 at.1 ∙ ap Some at.2)) in
+        absurd (cc duty)
+  ]
+
+  of_extension : (b f q : ℕ) → IsTaken old new b → HasDuty v after.layout b (Duty.Extension f q) → f ≡ file
+  of_extension b f q m serves = elim (is_new b m) [
+    | inl at ↦
+        let duty : Duty.Extension f q ≡ Duty.Data file at.0 =
+        after.fits.one_duty b (Duty.Extension f q) (Duty.Data file at.0) serves (in_after b (Duty.Data file at.0) (serves_data old new t s file node bytes found is_file blocks' extensions' bytes' h at.0 at.1 ∙ ap Some at.2)) in
+        absurd (cc duty)
+    | inr at ↦
+        let duty : Duty.Extension f q ≡ Duty.Extension file at.0 =
+        after.fits.one_duty b (Duty.Extension f q) (Duty.Extension file at.0) serves (in_after b (Duty.Extension file at.0) (serves_extension old new t s file node bytes found is_file blocks' extensions' bytes' h at.0 at.1 ∙ ap Some at.2)) in
+        cc duty
+  ]
+
+  data_rise : RisesBehind (s.layout.file_data file) blocks' → (f : ℕ) → HasFileKey new f → TakenRise old new (data_blocks new f)
+  data_rise rises f k i j l m a b =
+      let same = of_data (slice_index (data_blocks new f) i) f i a (data_duty new v after f k i (omega (arith, l, m))) in
+      let here : data_blocks new f ≡ blocks' = ap (data_blocks new) same ∙ data_blocks_are new file blocks' extensions' bytes' h.writable.lawful in
+      subst (TakenRise old new) (sym here) (λ p q x y c d. rises p q (new_data p (slice_index blocks' p) c (omega (arith, x, y)) refl) x y) i j l m a b
+
+  extensions_rise : RisesBehind (s.layout.extensions file) extensions' → (f : ℕ) → HasFileKey new f → TakenRise old new (extension_blocks new f)
+  extensions_rise rises f k i j l m a b =
+      let same = of_extension (slice_index (extension_blocks new f) i) f i a (extension_duty new v after f k i (omega (arith, l, m))) in
+      let here : extension_blocks new f ≡ extensions' = ap (extension_blocks new) same ∙ extension_blocks_are new file blocks' extensions' bytes' h.writable.lawful in
+      subst (TakenRise old new) (sym here) (λ p q x y c d. rises p q (new_extension p (slice_index extensions' p) c (omega (arith, x, y)) refl) x y) i j l m a b
+
+  pub takes_lowest : ((c d : ℕ) → IsInside (block_count old) d → 2 ≤ c → c < d → has_free_bit old d ≡ true → has_free_bit new d ≡ false → has_free_bit new c ≡ false)
+      → RisesBehind (s.layout.file_data file) blocks' → RisesBehind (s.layout.extensions file) extensions' → TakesLowest old new
+  takes_lowest lowest rises rises' = record {
+    data_rise = data_rise rises;
+    extensions_rise = extensions_rise rises';
     lowest = lowest_of lowest;
     zero_else = λ b i role taken r small n.
         let at = reached_stands new v after r in

@@ -8,6 +8,7 @@ use Rattle.ados_name.specs.declared.Date3.{Date3}
 use Rattle.ados_data.specs.Cost.{block_cost}
 use Rattle.ados_data.specs.File.{format_of, data_blocks, extension_blocks, contents}
 use Rattle.ados_data.specs.Changing.{HasFree, WritableFile}
+use Rattle.ados_data.specs.Others.{RisesBehind}
 use Rattle.ados_data.specs.Unnamed.{KeepsUnnamed}
 use Rattle.ados_tree.specs.Tree.{Content, Node, Tree, root, free, content_at, size_of, bytes_of, bytes_in as bytes_held}
 use Rattle.ados_tree.specs.Tree.Content.{File}
@@ -185,7 +186,8 @@ module _ (moment : Date3) (old mid : List ℕ) (file : ℕ) (tree : HasTree old)
 
     module _ (keeps : KeepsUnnamed mid file (data_blocks mid file) (extension_blocks mid file) new (data_blocks new file) (extension_blocks new file))
         (images : contents new file ≡ contents mid file → IsImage mid × IsImage new)
-        (lowest : (c d : ℕ) → IsInside (block_count mid) d → 2 ≤ c → c < d → has_free_bit mid d ≡ true → has_free_bit new d ≡ false → has_free_bit new c ≡ false) where
+        (lowest : (c d : ℕ) → IsInside (block_count mid) d → 2 ≤ c → c < d → has_free_bit mid d ≡ true → has_free_bit new d ≡ false → has_free_bit new c ≡ false)
+        (rises : RisesBehind (data_blocks mid file) (data_blocks new file)) (rises' : RisesBehind (extension_blocks mid file) (extension_blocks new file)) where
       pub keeps_rest : KeepsRest old new
       keeps_rest =
           let u = touched moment file tree.0 in
@@ -202,7 +204,8 @@ module _ (moment : Date3) (old mid : List ℕ) (file : ℕ) (tree : HasTree old)
             kept = kept_before old mid tree.0 tree.1 file node.node node.at file_is_no_root rest new h.kept
                 (kept mid new u mid_tree.1 file f.node f.bytes f.at f.content (data_blocks new file) (extension_blocks new file) (contents new file) laid unnamed);
             lowest = lowest_before old mid tree.0 tree.1 file node.node node.at file_is_no_root rest new
-                (takes_lowest mid new u mid_tree.1 file f.node f.bytes f.at f.content (data_blocks new file) (extension_blocks new file) (contents new file) laid unnamed lowest);
+                (takes_lowest mid new u mid_tree.1 file f.node f.bytes f.at f.content (data_blocks new file) (extension_blocks new file) (contents new file) laid unnamed lowest
+                (subst (λ (xs : List ℕ). RisesBehind xs (data_blocks new file)) blocks rises) (subst (λ (xs : List ℕ). RisesBehind xs (extension_blocks new file)) lists rises'));
             freed = λ b i inside free no_entry l.
                 let used = key_used mid new u mid_tree.1 file f.node f.bytes f.at f.content (data_blocks new file) (extension_blocks new file) (contents new file) laid unnamed in
                 let at_root = used (root u) mid_tree.1.proper.root_node.0 mid_tree.1.proper.root_node.1 in

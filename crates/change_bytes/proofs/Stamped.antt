@@ -209,6 +209,8 @@ module _ (old new : List ℕ) (t : Tree) (s : Stands old t) (file : ℕ) (node :
     lowest = λ b other m i was is. g.lowest b other (moved b m) (i.0, omega (arith, i.1, count)) (marks_same other i ∙ was) is;
     zero_else = λ b i role m r l n. g.zero_else b i role (moved b m) r l n;
     first = λ b m f. g.first b (moved b m) f;
+    data_rise = λ f k i j l m a b. g.data_rise f k i j l m (moved _ a) (moved _ b);
+    extensions_rise = λ f k i j l m a b. g.extensions_rise f k i j l m (moved _ a) (moved _ b);
   }
     where
       moved : (b : ℕ) → IsTaken old last b → IsTaken new last b

@@ -5,6 +5,7 @@ use Rattle.adf_block.specs.Image.{HasFreeBit, byte_at, bytes_at, long}
 use Rattle.adf_block.specs.Fields.{secondary_type, name_byte}
 use Rattle.adf_block.specs.Frame.{SameBut}
 use Rattle.adf_block.proofs.Frames.{same_long}
+use Rattle.change_entries.specs.Behind.{KeepsBehindName}
 use Rattle.ados_tree.specs.Tree.{Content, Node, Tree, root}
 use Rattle.ados_tree.specs.Tree.Content.{Directory, File}
 use Rattle.ados_tree.specs.Layout.{Duty, HasDuty}
@@ -80,6 +81,23 @@ module _ (old new : List ℕ) (t : Tree) (st : Stands old t) (h : SameBut (IsWri
       go (File bytes) d e (date m o) = file_longs e (4, (105, 107), omega arith, refl, (omega (arith, m), omega (arith, o)))
       go (File bytes) d e (disk f m o) = absurd (n f)
       go (File bytes) d e (link f m o) = file_longs e (5, (124, 127), omega arith, refl, (omega (arith, m), omega (arith, o)))
+
+  -- behind the name of a node nothing is written
+  pub behind_name : (key : ℕ) (a : Node) → t.nodes key ≡ Some a → (name : List ℕ) → byte_at new key name_byte ≡ length name → KeepsBehindName key name old new
+  behind_name key a at name counted i above within = h.same_byte key i (omega (arith, within)) unwritten
+    where
+      plain : (x : Node) → IsPlain t key x (i / 4) → ⊥
+      plain x (sum e) = omega (arith, e, above)
+      plain x (table keys c m n) = omega (arith, n, above)
+      plain x (date m n) = omega (arith, n, above)
+      plain x (disk e m n) = omega (arith, m, within)
+      plain x (link n m o) = omega (arith, m, within)
+
+      unwritten : ¬ IsWritten old t st new key i
+      unwritten (of_page p l e) = let duty : Duty.Page p ≡ Duty.Key = st.fits.one_duty key (Duty.Page p) Duty.Key (page_serves key p l e) (rw at refl) in cc duty
+      unwritten (of_none two used none) = none Duty.Key (rw at refl)
+      unwritten (of_node x e p) = plain x p
+      unwritten (of_name x e n text) = omega (arith, text.1, counted, above)
 
   -- a reached block that is a node's is the root, or an entry
   node_field : (b i k : ℕ) (role role' : Role) (a : Node) → t.nodes b ≡ Some a → IsPlain t b a (i / 4) → StandsAt old t st role k b → duty_of old t st role k ≡ Duty.Key → IsField old b role i

@@ -20,6 +20,7 @@ use Rattle.ados_tree.specs.Tree.{Content, Node, Tree, entries, name_of, root}
 use Rattle.ados_tree.specs.Tree.Content.{Directory, File}
 use Rattle.ados_tree.specs.declared.role.Role.{Role}
 use Rattle.ados_tree.specs.declared.role.Role.TheVariants as roles
+use Rattle.ados_tree.proofs.Serving.{data_duty, extension_duty}
 use Rattle.ados_tree.proofs.Standing.{StandsAt, count_same, duty_of, reached_stands, root_at, serves_at}
 use Rattle.change_entries.specs.steps.Making.{IsNewEntry, IsNewField}
 use Rattle.change_entries.specs.steps.Writes.{AtDate, AtLongs, Dated}
@@ -195,4 +196,12 @@ module _ (filled new : List ℕ) (key dir : ℕ) (name : List ℕ) (content : Co
           let e = is_key b m in
           ap (λ (c : ℕ). byte_at new c i) e ∙ zero_in role i (subst (λ (c : ℕ). Reached new c role) e r) l (subst (λ (c : ℕ). ¬ IsField new c role i) e n);
       first = λ b m f. subst (NamesFirstData new) (sym (is_key b m)) names_none;
+      data_rise = λ f k i j l m a b.
+          let serves : HasDuty u after.layout key (Duty.Data f i) = subst (λ (c : ℕ). HasDuty u after.layout c (Duty.Data f i)) (is_key _ a) (data_duty new u after f k i (omega (arith, l, m))) in
+          let duty : Duty.Data f i ≡ Duty.Key = after.fits.one_duty key (Duty.Data f i) Duty.Key serves key_serves in
+          absurd (cc duty);
+      extensions_rise = λ f k i j l m a b.
+          let serves : HasDuty u after.layout key (Duty.Extension f i) = subst (λ (c : ℕ). HasDuty u after.layout c (Duty.Extension f i)) (is_key _ a) (extension_duty new u after f k i (omega (arith, l, m))) in
+          let duty : Duty.Extension f i ≡ Duty.Key = after.fits.one_duty key (Duty.Extension f i) Duty.Key serves key_serves in
+          absurd (cc duty);
     }

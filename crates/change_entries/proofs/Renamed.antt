@@ -20,7 +20,8 @@ use Rattle.change_entries.specs.steps.Writes.{AtTitle, Dated, Titled}
 use Rattle.change_entries.proofs.Created.{at_root, dated_count}
 use Rattle.change_entries.proofs.Lawful.{lawful_chains, not_root}
 use Rattle.change_entries.proofs.Changed.{left_blocks, left_lost, nodes_other, relisted, renamed_some, was}
-use Rattle.change_entries.proofs.EntriesKept.{IsWritten, written_kept}
+use Rattle.change_entries.proofs.EntriesKept.{behind_name, IsWritten, written_kept}
+use Rattle.change_entries.specs.Behind.{KeepsBehindName}
 use Rattle.change_entries.proofs.KeptSteps.{IsKnown, dated_kept, linked_kept, stamped_kept, titled_kept}
 use Rattle.change_entries.proofs.Listing.{place_behind}
 use Rattle.change_entries.proofs.Loose.{kept, left_is}
@@ -179,6 +180,11 @@ module _ (old : List ℕ) (t : Tree) (st : Stands old t) (moment : Date3) (key d
               (linked_off old t st m6 goal_tree dir (link_block dir (in_slot goal_tree dir new_slot)) (link_long (6 + new_slot) (in_slot goal_tree dir new_slot)) key key into.node into.at (known m6) goal_place of_key m3 m4 inserted.relinks))
               (dated_off old t st dir 105 into.node into.at (omega arith) moment m4 m5 dated))
               (stamped_off old t st moment m5 m6 (at_root m5 m6 t moment (dated_count dir 105 moment m4 m5 dated ∙ count_m4) stamp))
+
+          pub moved_behind : (m5 m6 : List ℕ) → Dated dir 105 moment m4 m5 → Dated (root_key (block_count m5)) 118 moment m5 m6 → KeepsBehindName key name old m6
+          moved_behind m5 m6 dated stamp =
+              let e = the_entry old t st moment key dir name can in
+              behind_name old m6 t st (moved_written m5 m6 dated stamp) key e.0 e.1 name (counted m6 (moved m5 m6 dated stamp))
 
           pub moved_keeps : (m5 m6 : List ℕ) → Dated dir 105 moment m4 m5 → Dated (root_key (block_count m5)) 118 moment m5 m6 → KeepsRest old m6
           moved_keeps m5 m6 dated stamp =

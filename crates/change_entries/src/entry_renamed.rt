@@ -4,6 +4,7 @@ ghost use Rattle.ados_tree.specs.Change.{renamed};
 ghost use Rattle.ados_tree.specs.NewBlocks.{KeepsRest, TakesNone};
 ghost use Rattle.ados_tree.specs.Stands.{Stands};
 ghost use Rattle.ados_tree.specs.Tree.{Tree};
+ghost use Rattle.change_entries.specs.Behind.{KeepsBehindName};
 ghost use Rattle.change_entries.specs.Conditions.{CanRename};
 
 use crate::block::{put_title, stamp, touch};
@@ -12,13 +13,15 @@ use adf_block::layout::PARENT;
 use ados_chain::{insert_last, unlink};
 use ados_name::{Date3, Name};
 
-/// Moves an entry into a directory, also its own, under a name; it becomes the last one in the chain of the name's slot.
+/// Moves an entry into a directory, also its own, under a name; it becomes the last one in the chain of the name's slot. What
+/// stood behind a shorter name stays.
 pub fn rename(image: &mut Image, key: u32, dir: u32, name: &Name, moment: Date3)
     requires tree { (t : Tree) × Stands image.old t }
     requires can { (t : Tree) → Stands image.old t → CanRename t key dir name.now }
     ensures stands { (t : Tree) → Stands image.old t → Stands image.new (renamed moment key dir name.now t) }
     ensures keeps { KeepsRest image.old image.new }
     ensures none { TakesNone image.old image.new }
+    ensures behind { KeepsBehindName key name.now image.old image.new }
 {
     let from = image.long(key, PARENT);
     unlink(image, from, key);

@@ -8,7 +8,7 @@ use mathlib.Core.Logic.{dite}
 use Rattle.std.proofs.lemmas.List.Sums.{sum_by-set, sum_by_push, sum_by-cons, sum_by-take-le}
 use Rattle.port_history.specs.History.{packets_by}
 use Rattle.port_ends.specs.steps.Rule.{total}
-use Rattle.port_ends.specs.Rings.{OutView, Each, EachOffers, EachOffersFirst, EachStaysPosted, Offers, OffersFirst, StaysPosted, all_of, waiting_count}
+use Rattle.port_ends.specs.Rings.{OutView, Each, EachLooked, EachOffers, EachOffersFirst, EachStaysPosted, Offers, OffersFirst, StaysPosted, all_of, waiting_count}
 use Rattle.port_ends.specs.steps.Sending.{EachGetsRoom, EachHasRoom, GetsRoom, SameLooks, SendsTo, UsesOne}
 use Rattle.port_ends.proofs.Packets.{put_lists, same_number, other_number}
 
@@ -140,6 +140,17 @@ module _ {T : Type 0} where
   each_offers_first xs ys zs h s l =
       each_then (λ _ o p. Offers o p) (λ _ o p. StaysPosted o p × (p.looks ≡ o.looks)) (λ _ o p. OffersFirst o p) (λ _ a b c f g. offers_first a b c f g.0 g.1) xs ys zs h
       (each_both (λ _ o p. StaysPosted o p) (λ _ o p. p.looks ≡ o.looks) ys zs s l)
+
+  pub looked_none : (xs : List (OutView T)) → EachLooked 0 xs xs
+  looked_none xs = each_refl (λ _ o p. length o.looks + 0 ≤ length p.looks) (λ _ o. omega arith) xs
+
+  -- once more
+  pub looked_more : (times : ℕ) (xs ys zs : List (OutView T)) → EachLooked times xs ys → EachOffersFirst ys zs → EachLooked (times + 1) xs zs
+  looked_more times xs ys zs = each_then (λ _ o p. length o.looks + times ≤ length p.looks) (λ _ o p. OffersFirst o p) (λ _ o p. length o.looks + (times + 1) ≤ length p.looks)
+      (λ k a b c l f. let e = ap (λ l. length l) f.2 ∙ length-append b.looks (f.0 ∷ []) in omega (arith, l, e)) xs ys zs
+
+  pub looked_less : (few times : ℕ) (xs ys : List (OutView T)) → few ≤ times → EachLooked times xs ys → EachLooked few xs ys
+  looked_less few times xs ys l h = (h.0, λ k o e. let b = h.1 k o e in (b.0, b.1, omega (arith, l, b.2)))
 
   pub same_looks_refl : (xs : List (OutView T)) → SameLooks xs xs
   same_looks_refl xs = each_refl (λ _ o p. p.looks ≡ o.looks) (λ _ _. refl) xs

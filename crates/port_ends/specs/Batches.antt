@@ -22,3 +22,8 @@ module _ {S Q M A : Type 0} where
 -- batches end as closed where the server has died, and else as idle
 abbrev pub EndsAs : ServeEnd → Bool → Type 0
 EndsAs end died = ((end ≡ Closed) × (died ≡ true)) ⊎ ((end ≡ Idle) × (died ≡ false))
+
+-- how many batches found nothing before the end: as closed the last one, as idle so many in a row
+abbrev pub empty_batches : ServeEnd → ℕ → ℕ
+empty_batches Closed idle_limit = 1
+empty_batches Idle idle_limit = idle_limit

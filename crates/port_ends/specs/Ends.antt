@@ -7,7 +7,7 @@ use Rattle.port_history.specs.declared.step.Reply.{Reply}
 use Rattle.port_history.specs.declared.step.PutRefused.{PutRefused}
 use Rattle.port_history.specs.declared.step.PutRefused.TheVariants.{Closed, NoRoom}
 use Rattle.port_history.specs.History.{ServerMeaning, Serving, MeaningRun, packets_by, packets_of}
-use Rattle.port_ends.specs.Rings.{RingId, OutView, all_of, AreEmpty, EachStaysPosted}
+use Rattle.port_ends.specs.Rings.{RingId, OutView, all_of, AreEmpty, EachStaysPosted, HavePlaces}
 
 -- a client's end: its port, mark and ring, its number, its put list, its taken list with the moments, and whether it knows
 -- of the close
@@ -88,9 +88,10 @@ module _ {S Q M A : Type 0} where
   abbrev pub IsNew : S → HandlerView S Q M A → Type 0
   IsNew server h = (h.opening ≡ server) × (h.server ≡ server) × (h.served ≡ []) × (h.knows ≡ false)
 
-  -- a port over this server with so many clients, where nothing was put, served or taken
-  abbrev pub IsOpened : S → ℕ → HandlerView S Q M A → List (ClientView Q M A) → Type 0
-  IsOpened server clients h cs = IsNew server h × AreEmpty h.outlets × AreEnds h cs × AreFresh cs × (length cs ≡ clients)
+  -- a port over this server with so many clients and rings of so many places, where nothing was put, served or taken
+  abbrev pub IsOpened : S → ℕ → ℕ → HandlerView S Q M A → List (ClientView Q M A) → Type 0
+  IsOpened server clients ring h cs =
+      IsNew server h × AreEmpty h.outlets × AreEnds h cs × AreFresh cs × (length cs ≡ clients) × HavePlaces ring h.outlets
 
   -- what holds of a handler's end at every moment
   pub record IsSound (gives : ServerMeaning S Q M A) (has_died : S → Bool) (h : HandlerView S Q M A) : Type 0 where

@@ -1,5 +1,5 @@
 -- What contracts see of the sending ends of the reply rings.
-use Rattle.std.specs.Prelude.{◌≡◌, ℕ, ◌≤◌, List, [], ◌∷◌, ◌++◌, take, drop, length, Some, slice_get}
+use Rattle.std.specs.Prelude.{◌≡◌, ℕ, ◌+◌, ◌≤◌, List, [], ◌∷◌, ◌++◌, take, drop, length, Some, slice_get}
 use Rattle.std.specs.List.{sum_by}
 use Rattle.std.specs.declared.alloc.Global.{Global}
 use denote.RawPtr.{Ptr}
@@ -11,10 +11,11 @@ pub record RingId : Type 0 where
   pub names : ℕ × (ℕ × ℕ)
   pub heap : Global
 
--- what was posted to the ring, what waits beside it, how many more the list beside it has room for, and how many places each
--- look at the ring found for what waited then
+-- how many places the ring has, what was posted to it, what waits beside it, how many more the list beside it has room for, and
+-- how many free places each look at the ring found for what waited then
 pub record OutView (T : Type 0) : Type 0 where
   pub ring : RingId
+  pub places : ℕ
   pub posted : List T
   pub waiting : List T
   pub room : ℕ
@@ -62,6 +63,14 @@ EachStaysPosted old new = Each (λ _ o p. StaysPosted o p) old new
 -- how many replies wait at all outlets together
 abbrev pub waiting_count : {T : Type 0} → List (OutView T) → ℕ
 waiting_count os = sum_by (λ o. length o.waiting) os
+
+-- each ring has so many places
+abbrev pub HavePlaces : {T : Type 0} → ℕ → List (OutView T) → Type 0
+HavePlaces {T} places os = (k : ℕ) (o : OutView T) → slice_get os k ≡ Some o → o.places ≡ places
+
+-- each ring was looked at for what waited at least so many times more
+abbrev pub EachLooked : {T : Type 0} → ℕ → List (OutView T) → List (OutView T) → Type 0
+EachLooked times old new = Each (λ _ o p. length o.looks + times ≤ length p.looks) old new
 
 -- no reply was posted or waits
 abbrev pub AreEmpty : {T : Type 0} → List (OutView T) → Type 0

@@ -1,12 +1,12 @@
 //! The handler's end of a port.
 ghost use Rattle.std.specs.Prelude.{◌≡◌, ◌<◌, ◌≤◌, ◌^◌, ◌∷◌, [], length, false, IfOk, OnOk, OnErr, IsTrue, IsFalse, MatchResult, Some, slice_get};
 ghost use Rattle.port_history.specs.History.{Serving};
-ghost use Rattle.port_ends.specs.Rings.{EachOffers, EachOffersFirst, waiting_count};
+ghost use Rattle.port_ends.specs.Rings.{EachLooked, EachOffers, EachOffersFirst, waiting_count};
 ghost use Rattle.port_ends.specs.steps.Sending.{EachGetsRoom, EachHasRoom, SameLooks, UsesOne};
 ghost use Rattle.port_ends.specs.steps.HandlerEnds.{AddsClientEnd, Heard, IsQueueOf};
 ghost use Rattle.port_ends.specs.steps.Rooms.{HasUntaken};
 ghost use Rattle.port_ends.specs.Ends.{HandlerView, IsNew, IsSound, Serves};
-ghost use Rattle.port_ends.specs.Batches.{ServesSome, ServesSoMany, OnlyOffers, EndsAs};
+ghost use Rattle.port_ends.specs.Batches.{ServesSome, ServesSoMany, OnlyOffers, EndsAs, empty_batches};
 
 use crate::client::ClientEnd;
 use crate::closing_mark::CloseSetter;
@@ -123,6 +123,7 @@ impl<S: Server> HandlerEnd<S> {
         requires { 0 < idle_limit }
         ensures served { ServesSome S.gives moment self.old self.new }
         ensures end { IfOk result (λ end. EndsAs end (S.has_died self.new.server)) }
+        ensures batches { IfOk result (λ end. EachLooked (empty_batches end idle_limit) self.old.outlets self.new.outlets) }
         ensures sound { IsSound S.gives S.has_died self.new }
     {
         let mut idle = 0u64;
@@ -213,7 +214,7 @@ impl<S: Server> HandlerEnd<S> {
     ) -> Result<ClientEnd<S>, AllocError>
         requires served { self.old.served ≡ [] }
         requires count { length self.old.outlets < 18446744073709551615 }
-        ensures ok { IfOk result (λ end. AddsClientEnd self.old self.new end) }
+        ensures ok { IfOk result (λ end. AddsClientEnd ring self.old self.new end) }
         ensures err { OnErr result (self.new ≡ self.old) }
     {
         self.outlets.reserve(1)?;

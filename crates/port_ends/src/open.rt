@@ -24,7 +24,7 @@ pub fn open_port<S: Server>(
 ) -> Result<(HandlerEnd<S>, Vec<ClientEnd<S>>), OpenRefused<S>>
     requires alive { S.has_died server ≡ false }
     requires counts { (0 < clients) × (0 < ring) }
-    ensures { MatchResult result (λ opened. IsOpened server clients opened.0 opened.1.items) (λ refused. refused.server ≡ server) }
+    ensures { MatchResult result (λ opened. IsOpened server clients ring opened.0 opened.1.items) (λ refused. refused.server ≡ server) }
 {
     let mut handler = HandlerEnd::new(alloc, server)?;
     let mut ends = Vec::new(alloc);

@@ -23,7 +23,7 @@ pub struct Outlet<T: Drop> {
 }
 
 impl<T: Drop> Model for Outlet<T> {
-    ghost use Rattle.rtrb.specs.Ring.{sent};
+    ghost use Rattle.rtrb.specs.Ring.{producer_capacity, sent};
     ghost use Rattle.port_ends.specs.Rings.{OutView};
 
     ghost Value = { OutView T };
@@ -32,6 +32,7 @@ impl<T: Drop> Model for Outlet<T> {
 
     ghost view = { λ o. record {
       ring = ring_of o.producer.end;
+      places = producer_capacity o.producer;
       posted = sent o.producer;
       waiting = o.waiting.items;
       room = room_in o.waiting;
@@ -58,7 +59,7 @@ impl<T: Drop> Model for Inlet<T> {
 
 /// A ring with this many places.
 pub fn open_ring<T: Drop>(alloc: Global, places: usize) -> Result<(Outlet<T>, Inlet<T>), AllocError>
-    ensures { IfOk result (λ r. (r.0.ring ≡ r.1.ring) × (r.0.posted ≡ []) × (r.0.waiting ≡ []) × (r.1.taken ≡ [])) }
+    ensures { IfOk result (λ r. (r.0.ring ≡ r.1.ring) × (r.0.posted ≡ []) × (r.0.waiting ≡ []) × (r.1.taken ≡ []) × (r.0.places ≡ places)) }
 {
     let (producer, consumer) = RingBuffer::new(alloc, places)?;
     let outlet = Outlet {

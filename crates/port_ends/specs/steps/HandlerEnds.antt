@@ -16,14 +16,15 @@ module _ {Q M A : Type 0} where
   AllHeard is_closing died cs = (k : ℕ) (c : ClientView Q M A) → slice_get cs k ≡ Some c → Heard is_closing died c
 
 module _ {S Q M A : Type 0} where
-  -- this outlet was added as the last one: it is empty, and this client's
-  abbrev pub AddsOutlet : HandlerView S Q M A → HandlerView S Q M A → ClientView Q M A → OutView (M × A) → Type 0
-  AddsOutlet old new end o =
+  -- this outlet was added as the last one: it is empty, and this client's, and its ring has so many places
+  abbrev pub AddsOutlet : ℕ → HandlerView S Q M A → HandlerView S Q M A → ClientView Q M A → OutView (M × A) → Type 0
+  AddsOutlet ring old new end o =
       (new ≡ record old { outlets = old.outlets ++ o ∷ [] }) × (o.posted ≡ []) × (o.waiting ≡ []) × IsEndOf new (length old.outlets) end
+      × (o.places ≡ ring)
 
   -- one more client: its end is fresh, and its outlet was added
-  abbrev pub AddsClientEnd : HandlerView S Q M A → HandlerView S Q M A → ClientView Q M A → Type 0
-  AddsClientEnd old new end = IsFresh end × ((o : OutView (M × A)) × AddsOutlet old new end o)
+  abbrev pub AddsClientEnd : ℕ → HandlerView S Q M A → HandlerView S Q M A → ClientView Q M A → Type 0
+  AddsClientEnd ring old new end = IsFresh end × ((o : OutView (M × A)) × AddsOutlet ring old new end o)
 
   -- this queue's end took the served packets, and no client is gathered
   abbrev pub IsQueueOf : HandlerView S Q M A → TakeView Q → Type 0

@@ -1,4 +1,4 @@
-use Rattle.std.proofs.Common.{sym, ◌≡◌, ◌<◌, ◌≤◌, ◌-◌, ◌+◌, ◌*◌, ℕ, length, replicate, ap, ◌∙◌, arith, ◌/◌, ◌∷◌, slice_index, subst}
+use Rattle.std.proofs.Common.{sym, ◌≡◌, ◌<◌, ◌≤◌, ◌-◌, ◌+◌, ◌*◌, ℕ, suc, length, replicate, ap, ◌∙◌, arith, ◌/◌, ◌∷◌, slice_index, subst}
 use Rattle.std.proofs.lemmas.List.{length-append, length-replicate}
 use Rattle.ados_data.specs.Cost.{block_cost, data_count, data_size, extension_count}
 use Rattle.ados_data.specs.File.{contents}
@@ -40,7 +40,9 @@ loop-reached-preserved c =
       gains = gains_both c.args.image.now c.loop-reached.image c.append-end.new.image c.args.file (data_blocks c.args.image.now c.args.file) (extension_blocks c.args.image.now c.args.file) (data_blocks c.loop-reached.image c.args.file) (extension_blocks c.loop-reached.image c.args.file) (data_blocks c.append-end.new.image c.args.file) (extension_blocks c.append-end.new.image c.args.file) (ap (λ (n : ℕ). n / 512) c.loop-reached.invariant.leaves.same_length)
           (λ q l. subst (λ (n : ℕ). IsInside n (slice_index (c.args.file ∷ extension_blocks c.append-end.new.image c.args.file) q)) counts (c.append-end.ensures.writable.lawful.places.headers_inside q l))
           (λ i l. subst (λ (n : ℕ). IsInside n (slice_index (data_blocks c.append-end.new.image c.args.file) i)) counts (c.append-end.ensures.writable.lawful.places.data_inside i l))
-          c.append-end.ensures.blocks c.append-end.ensures.extensions c.loop-reached.invariant.gains c.append-end.ensures.gains;
+          c.append-end.ensures.blocks c.append-end.ensures.extensions
+          (λ i l. (c.loop-reached.invariant.writable.data_used i l).marked) (λ q l. (c.loop-reached.invariant.writable.headers_used (suc q) (omega (arith, l))).marked)
+          c.loop-reached.invariant.gains c.append-end.ensures.gains;
       blocks = front_both (data_blocks c.args.image.now c.args.file) (data_blocks c.loop-reached.image c.args.file) (data_blocks c.append-end.new.image c.args.file) c.loop-reached.invariant.blocks c.append-end.ensures.blocks;
       extensions = front_both (extension_blocks c.args.image.now c.args.file) (extension_blocks c.loop-reached.image c.args.file) (extension_blocks c.append-end.new.image c.args.file) c.loop-reached.invariant.extensions c.append-end.ensures.extensions;
       keeps = keeps_calls c.args.image.now c.loop-reached.image c.append-end.new.image c.args.file before behind c.loop-reached.invariant.keeps c.append-end.ensures.keeps;

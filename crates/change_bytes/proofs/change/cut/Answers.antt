@@ -1,5 +1,6 @@
 use Rattle.std.proofs.Common.{◌≡◌, ℕ, List, length, take, ap, ◌∙◌, sym, subst, arith}
 use Rattle.std.proofs.lemmas.Bool.{false≢true}
+use Rattle.std.proofs.lemmas.List.{length-take}
 use Rattle.ados_data.specs.Cost.{data_count, extension_count}
 use Rattle.ados_data.specs.File.{format_of, data_blocks, extension_blocks, contents}
 use Rattle.ados_tree.specs.Tree.{bytes_of}
@@ -39,6 +40,8 @@ returns-clause-keeps c =
     keeps_rest c.args.moment c.args.image.now c.stamp.new.image c.args.file c.requires.tree c.requires.file c.stamp.ensures c.cut.new.image (cut_short c) c.cut.ensures.keeps
     (λ same. (c.blocks-2.ensures.image, c.blocks-3.ensures.image))
     (λ a b i two below was is. absurd (false≢true (sym is ∙ c.cut.ensures.free_stays b i was)))
+    (λ i j l m n. absurd (omega (arith, l, m, n, ap length c.cut.ensures.blocks, length-take (data_count (format_of c.stamp.new.image) c.args.size) (data_blocks c.stamp.new.image c.args.file))))
+    (λ i j l m n. absurd (omega (arith, l, m, n, ap length c.cut.ensures.extensions, length-take (extension_count (data_count (format_of c.stamp.new.image) c.args.size)) (extension_blocks c.stamp.new.image c.args.file))))
 
 pub returns-clause-none : goal.returns-clause-none
 returns-clause-none c = λ b inside free.

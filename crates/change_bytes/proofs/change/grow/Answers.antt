@@ -71,4 +71,4 @@ returns-clause-done c = λ t s.
 pub returns-clause-keeps : goal.returns-clause-keeps
 returns-clause-keeps c =
     keeps_rest c.args.moment c.args.image.now c.stamp.new.image c.args.file c.requires.tree c.requires.file c.stamp.ensures c.extend.new.image (grown_long c) c.extend.ensures.keeps
-    (λ same. absurd (not_as_long c same)) c.extend.ensures.gains.lowest
+    (λ same. absurd (not_as_long c same)) c.extend.ensures.gains.lowest c.extend.ensures.gains.data_rises c.extend.ensures.gains.extensions_rise

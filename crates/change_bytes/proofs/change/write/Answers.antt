@@ -102,4 +102,4 @@ returns-clause-done c = λ t s.
 pub returns-clause-keeps : goal.returns-clause-keeps
 returns-clause-keeps c =
     keeps_rest c.args.moment c.args.image.now c.stamp.new.image c.args.file c.requires.tree c.requires.file c.stamp.ensures c.write_at.new.image (written_over c) c.write_at.ensures.keeps
-    (λ same. (c.blocks-2.ensures.image, c.blocks-3.ensures.image)) c.write_at.ensures.gains.lowest
+    (λ same. (c.blocks-2.ensures.image, c.blocks-3.ensures.image)) c.write_at.ensures.gains.lowest c.write_at.ensures.gains.data_rises c.write_at.ensures.gains.extensions_rise

@@ -16,4 +16,5 @@ loop-preserved g c =
       ends = subst (λ l. AreEnds c.add_client.new.self l) (sym items) (ends_more _ _ _ _ _ is h.ends added.3);
       fresh = each_more IsFresh _ _ _ items h.fresh a.0;
       count = ap (λ l. length l) items ∙ (length-append _ _ ∙ ap (λ (n : ℕ). n + 1) h.count);
+      places = each_more (λ o. o.places ≡ c.args.ring) _ _ a.1.0 (ap (λ v. v.outlets) is) h.places added.4;
     }

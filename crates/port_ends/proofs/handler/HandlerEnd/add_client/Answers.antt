@@ -33,6 +33,7 @@ returns-clause-ok g c =
               (ap (λ v. v.mark) n ∙ c.in_ok-mark.ensures.0)
               (ap (λ v. v.number) n ∙ ap (λ v. v.number) q.0)
               (ap (λ v. v.ring) n ∙ sym c.in_ok-outlet.ensures.0),
+          c.in_ok-outlet.ensures.4,
         ),
       ),
     )

@@ -1,9 +1,10 @@
 use Rattle.std.proofs.Common.{◌∙◌, ◌++◌, [], arith, ap, sym, refl, inl, inr}
 use Rattle.port_ends.proofs.Handling.{serves_none, serves_more, serves_offers}
+use Rattle.port_ends.proofs.Eachs.{looked_less, looked_more, looked_none}
 use Rattle.port_ends.proofs.handler.HandlerEnd.serve_until_closed.Goals as goal
 
 pub loop-init : goal.loop-init
-loop-init g c = record { served = ([], serves_none g.S.Server.gives _ _); idle = c.requires }
+loop-init g c = record { served = ([], serves_none g.S.Server.gives _ _); idle = c.requires; looked = looked_none _ }
 
 pub returns-in_err-serve_batch-clause-served : goal.returns-in_err-serve_batch-clause-served
 returns-in_err-serve_batch-clause-served g c =
@@ -15,7 +16,11 @@ pub loop-preserved-then-branch-gt0 : goal.loop-preserved-then-branch-gt0
 loop-preserved-then-branch-gt0 g c =
     let h = c.loop.invariant.served in
     let b = c.in_ok-serve_batch.ensures.ok.1 in
-    record { served = (h.0 ++ b.0, serves_more g.S.Server.gives _ _ _ _ _ _ h.1 b.2); idle = c.requires }
+    record {
+      served = (h.0 ++ b.0, serves_more g.S.Server.gives _ _ _ _ _ _ h.1 b.2);
+      idle = c.requires;
+      looked = looked_less 0 _ _ _ (omega arith) (looked_more _ _ _ _ c.loop.invariant.looked c.in_ok-serve_batch.ensures.first);
+    }
 
 pub returns-then-died-clause-served : goal.returns-then-died-clause-served
 returns-then-died-clause-served g c =
@@ -35,4 +40,16 @@ pub loop-preserved : goal.loop-preserved
 loop-preserved g c =
     let h = c.loop.invariant.served in
     let b = c.in_ok-serve_batch.ensures.ok.1 in
-    record { served = (h.0 ++ b.0, serves_more g.S.Server.gives _ _ _ _ _ _ h.1 b.2); idle = omega (arith, c.if-idle-idle_limit.false) }
+    record {
+      served = (h.0 ++ b.0, serves_more g.S.Server.gives _ _ _ _ _ _ h.1 b.2);
+      idle = omega (arith, c.if-idle-idle_limit.false);
+      looked = looked_more _ _ _ _ c.loop.invariant.looked c.in_ok-serve_batch.ensures.first;
+    }
+
+pub returns-then-died-clause-batches : goal.returns-then-died-clause-batches
+returns-then-died-clause-batches g c =
+    looked_less 1 _ _ _ (omega arith) (looked_more _ _ _ _ c.loop.invariant.looked c.in_ok-serve_batch.ensures.first)
+
+pub returns-then-idle-idle_limit-clause-batches : goal.returns-then-idle-idle_limit-clause-batches
+returns-then-idle-idle_limit-clause-batches g c =
+    looked_less c.args.idle_limit _ _ _ (omega (arith, c.if-idle-idle_limit.true)) (looked_more _ _ _ _ c.loop.invariant.looked c.in_ok-serve_batch.ensures.first)
