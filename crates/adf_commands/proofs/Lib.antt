@@ -1,4 +1,3 @@
--- Lemmas on what is told of an image, what DISK_INFO answers over one, and which bytes have each fault of a size.
+-- Lemmas on what is told of an image, and on what DISK_INFO answers over one.
 pub mod Printing
 pub mod Answering
-pub mod Sizes

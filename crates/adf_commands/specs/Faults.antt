@@ -11,7 +11,8 @@ use Rattle.files_out.specs.declared.fault.OutFault.{OutFault}
 use Rattle.files_out.specs.declared.fault.OutFault.TheVariants as out
 use Rattle.adf_commands.specs.declared.fault.CommandFault.{CommandFault}
 use Rattle.adf_commands.specs.declared.fault.CommandFault.TheVariants.{Blocks, Dos, Letter, LongBoot, Memory, Name, ImagesRefused, NotWhole, Output, Refused, Script}
-use Rattle.adf_commands.specs.Refusals.{IsImageRefusal, IsSizeRefusal, kind_word, refusal_line, refused_line, told_line}
+use Rattle.adf_archive.specs.Words.{kind_word}
+use Rattle.adf_commands.specs.Refusals.{IsImageRefusal, IsSizeRefusal, refusal_line, refused_line, told_line}
 
 -- an image is refused as this fault says, or there was no memory
 abbrev pub IsRefusedFor : List ℕ → CommandFault → Type 0

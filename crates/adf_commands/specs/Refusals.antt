@@ -3,42 +3,15 @@ use Rattle.std.specs.Prelude.{◌≡◌, ◌⊎◌, ℕ, List, [], ◌++◌, len
 use Rattle.std.specs.String.{string_bytes}
 use Rattle.adf_block.specs.Size.{IsSizeFault}
 use Rattle.adf_block.specs.declared.volume_size.SizeFault.{SizeFault}
-use Rattle.adf_block.specs.declared.volume_size.SizeFault.TheVariants as sizes
 use Rattle.ados_packet.specs.Numbers.{error_number}
 use Rattle.ados_tree.specs.Faults.{Shows}
 use Rattle.ados_tree.specs.declared.fault.FaultKind.{FaultKind}
-use Rattle.ados_tree.specs.declared.fault.FaultKind.TheVariants as kinds
 use Rattle.adf_script.specs.Text.{line, spaced}
+use Rattle.adf_archive.specs.Words.{kind_word, size_word}
 use Rattle.adf_commands.specs.declared.fault.CommandFault.{CommandFault}
 use Rattle.adf_commands.specs.declared.fault.CommandFault.TheVariants.{Refused, Dos}
 use Rattle.adf_commands.specs.declared.refusal.Refusal.{Refusal}
 use Rattle.adf_commands.specs.declared.refusal.DosRefusal.{DosRefusal}
-
--- the word for a fault of the size
-abbrev pub size_word : SizeFault → List ℕ
-size_word sizes.NotWholeBlocks = codes "NotWholeBlocks"
-size_word sizes.TooFewBlocks = codes "TooFewBlocks"
-size_word sizes.TooManyBlocks = codes "TooManyBlocks"
-
--- the word for a fault of a volume; want of memory, for which no image is refused, has none
-abbrev pub kind_word : FaultKind → List ℕ
-kind_word kinds.NotADosDisk = codes "NotADosDisk"
-kind_word kinds.UnsupportedKind = codes "UnsupportedKind"
-kind_word kinds.BadSum = codes "BadSum"
-kind_word kinds.BadType = codes "BadType"
-kind_word kinds.BadOwnKey = codes "BadOwnKey"
-kind_word kinds.BadParent = codes "BadParent"
-kind_word kinds.BadPointer = codes "BadPointer"
-kind_word kinds.BlockUsedTwice = codes "BlockUsedTwice"
-kind_word kinds.WrongChain = codes "WrongChain"
-kind_word kinds.BadName = codes "BadName"
-kind_word kinds.DuplicateName = codes "DuplicateName"
-kind_word kinds.BadComment = codes "BadComment"
-kind_word kinds.BadCount = codes "BadCount"
-kind_word kinds.BadSequence = codes "BadSequence"
-kind_word kinds.LinkEntry = codes "LinkEntry"
-kind_word kinds.MarkedFree = codes "MarkedFree"
-kind_word kinds.NoMemory = []
 
 -- `refused KIND BLOCK`
 abbrev pub refused_line : List ℕ → ℕ → List ℕ

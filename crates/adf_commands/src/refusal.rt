@@ -2,8 +2,10 @@
 ghost use Rattle.std.specs.Prelude.{◌≡◌, ◌≢◌, IfSome, IfNone, IfOk};
 ghost use Rattle.std.specs.String.{string_bytes};
 ghost use Rattle.ados_tree.specs.declared.fault.FaultKind.TheVariants.{NoMemory};
-ghost use Rattle.adf_commands.specs.Refusals.{dos_line, kind_word, refusal_line, size_word};
+ghost use Rattle.adf_archive.specs.Words.{kind_word, size_word};
+ghost use Rattle.adf_commands.specs.Refusals.{dos_line, refusal_line};
 
+use adf_archive::{kind_word, size_word};
 use adf_block::SizeFault;
 use adf_transfer::Refused;
 use ados_volume::{FaultKind, VolumeFault};
@@ -95,17 +97,6 @@ impl fmt::Display for DosRefusal {
     }
 }
 
-/// The word for a fault of the size.
-fn size_word(fault: SizeFault) -> &'static str
-    ensures { result.now ≡ size_word fault }
-{
-    match fault {
-        SizeFault::NotWholeBlocks => "NotWholeBlocks",
-        SizeFault::TooFewBlocks => "TooFewBlocks",
-        SizeFault::TooManyBlocks => "TooManyBlocks",
-    }
-}
-
 /// The word for a fault of a volume.
 fn volume_word(kind: FaultKind) -> Option<&'static str>
     ensures word { IfSome result (λ word. word.now ≡ kind_word kind) }
@@ -113,22 +104,7 @@ fn volume_word(kind: FaultKind) -> Option<&'static str>
     ensures some { IfSome result (λ _. kind ≢ NoMemory) }
 {
     match kind {
-        FaultKind::NotADosDisk => Some("NotADosDisk"),
-        FaultKind::UnsupportedKind => Some("UnsupportedKind"),
-        FaultKind::BadSum => Some("BadSum"),
-        FaultKind::BadType => Some("BadType"),
-        FaultKind::BadOwnKey => Some("BadOwnKey"),
-        FaultKind::BadParent => Some("BadParent"),
-        FaultKind::BadPointer => Some("BadPointer"),
-        FaultKind::BlockUsedTwice => Some("BlockUsedTwice"),
-        FaultKind::WrongChain => Some("WrongChain"),
-        FaultKind::BadName => Some("BadName"),
-        FaultKind::DuplicateName => Some("DuplicateName"),
-        FaultKind::BadComment => Some("BadComment"),
-        FaultKind::BadCount => Some("BadCount"),
-        FaultKind::BadSequence => Some("BadSequence"),
-        FaultKind::LinkEntry => Some("LinkEntry"),
-        FaultKind::MarkedFree => Some("MarkedFree"),
         FaultKind::NoMemory => None,
+        shown => Some(kind_word(shown)),
     }
 }

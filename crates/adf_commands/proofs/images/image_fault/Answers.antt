@@ -1,6 +1,6 @@
 use Rattle.std.proofs.Common.{ap₂}
 use Rattle.adf_commands.specs.Refusals.{refused_line}
-use Rattle.adf_commands.proofs.Sizes.{size_shown}
+use Rattle.adf_archive.proofs.Sizes.{size_shown}
 use Rattle.adf_commands.proofs.images.image_fault.Goals as goal
 
 pub returns-in-Size : goal.returns-in-Size
