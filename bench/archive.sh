@@ -2,11 +2,12 @@
 # Prints what `adf_serve check` takes for a directory of full floppies, half of them of each kind, with 1, 2 and 4 jobs, by
 # lines and as JSON, beside `cat` of the same files: seconds of the clock and of the processors, and the most memory. Each
 # row is the best of 3 runs by the clock, with the files in the system's cache. A word is how many floppies, 1,000 if it is
-# left out; they take 0.9 MB each in the directory for files that go. It needs the machine's rustc and python3 beside the kit.
+# left out; they take 0.9 MB each in the directory for files that go. It needs the machine's rustc and cc beside the kit.
 . "$(dirname "$0")/setup.sh"
 floppies=${1:-1000}
 serve=$(program adf_serve)
 tools full_image
+"${CC:-cc}" -O2 -std=c11 -Wall -Wextra -Wpedantic -Werror -o "$room/measured" "$here/measured.c"
 build adf_serve
 
 for kind in ofs ffs; do "$room/full_image" $kind 1760 "$room/$kind.adf" > /dev/null; done
@@ -19,21 +20,10 @@ done
 
 # NAME COMMAND..: a row of the table. The command writes to a file, whose lines are counted.
 row() {
-    python3 - "$room/told" "$@" << 'P'
-import os, subprocess, sys, time
-told, name, *words = sys.argv[1:]
-best = None
-for _ in range(3):
-    with open(told, "wb") as out:
-        begun = time.perf_counter()
-        ran = subprocess.Popen(words, stdout=out)
-        _, status, used = os.wait4(ran.pid, 0)
-        wall = time.perf_counter() - begun
-    assert status == 0, (words, status)
-    if best is None or wall < best[0]:
-        best = (wall, used.ru_utime + used.ru_stime, used.ru_maxrss)
-print(f"{name:26} {best[0]:10.2f} {best[1]:12.2f} {best[2] / 1024:12.1f}")
-P
+    name=$1
+    shift
+    for run in 1 2 3; do "$room/measured" "$room/told" "$@" || exit 1; done > "$room/figures"
+    sort -n "$room/figures" | awk -v name="$name" 'NR == 1 { printf "%-26s %10.2f %12.2f %12.1f\n", name, $1, $2, $3 / 1024 }'
 }
 
 printf '%-26s %10s %12s %12s\n' "$floppies floppies" seconds processors 'memory (MB)'
