@@ -1,6 +1,8 @@
 //! A fault in words.
-ghost use Rattle.std.specs.Prelude.{◌<◌};
+ghost use Rattle.std.specs.Prelude.{◌<◌, IfOk};
+ghost use Rattle.std.specs.String.{string_bytes};
 ghost use Rattle.adf_block.specs.Image.{block_count};
+ghost use Rattle.fault_words.specs.Explained.{TellsOfBlock};
 
 use crate::counted::count_words;
 use crate::held::{chain_words, name_words, sequence_words};
@@ -21,7 +23,9 @@ pub fn explain(
     image: &Image,
     marks: &[Option<Mark>],
     fault: &VolumeFault,
-) -> Result<String, AllocError> {
+) -> Result<String, AllocError>
+    ensures { IfOk result (λ text. TellsOfBlock fault.now.block (string_bytes text)) }
+{
     let block = fault.block;
     if !has_block(image, block) {
         return format!(in alloc; "block {block}: the image has no such block");
