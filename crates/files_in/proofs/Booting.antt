@@ -95,11 +95,6 @@ pub sum_is : (old new : List ℕ) → OnlyLong 0 1 old new → boot_sum new ≡ 
 unfolding boot_sum
 sum_is old new rest = ap (λ (t : ℕ). 4294967295 - carried_sum t) (total-same (boot_long old) (boot_long new) 256 (boot_long_same old new rest))
 
--- the sum that is set is that of the image
-pub complement : (image : List ℕ) (all sum : ℕ) → all ≡ total (boot_long image) 256 → sum ≡ carried_sum all → 4294967295 - sum ≡ boot_sum image
-unfolding boot_sum
-complement image all sum counted carried = ap (λ (s : ℕ). 4294967295 - s) (carried ∙ ap carried_sum counted)
-
 -- code that fits is put, and the sum set
 pub booted : {A : Type 0} (o : Option (List ℕ)) (code old mid new : List ℕ) (a : A) → o ≡ Some code → length code ≤ 1024 → HoldsCode 4 code old mid → OnlyLong 0 1 mid new → long new 0 1 ≡ boot_sum new → Boots o old new (Ok a)
 booted o code old mid new a is fits holds rest sum = subst (λ (x : Option (List ℕ)). Boots x old new (Ok a)) (sym is) (fits, (settled code old mid new holds rest, sum))
