@@ -6,7 +6,7 @@ ghost use Rattle.adf_block.specs.Image.{IsInside, has_free_bit, block_count, byt
 ghost use Rattle.ados_map.specs.Pages.{LawfulPages};
 ghost use Rattle.ados_data.specs.Cost.{block_cost, data_count, extension_count};
 ghost use Rattle.ados_data.specs.File.{contents, data_blocks, extension_blocks, format_of};
-ghost use Rattle.ados_data.specs.Cut.{FreesData, FreesExtensions, KeepsData};
+ghost use Rattle.ados_data.specs.Cut.{CutsHeader, FreesData, FreesExtensions, KeepsData};
 ghost use Rattle.ados_data.specs.Changing.{PaysFor, WritableFile};
 ghost use Rattle.ados_data.specs.Others.{LeavesOthers};
 ghost use Rattle.ados_data.specs.Unnamed.{FileKeepsUnnamed};
@@ -39,6 +39,7 @@ pub fn cut(image: &mut Image, file: u32, size: u32)
     ensures keeps { FileKeepsUnnamed image.old file image.new }
     ensures free_stays { (c : ℕ) → IsInside (block_count image.old) c → has_free_bit image.old c ≡ true → has_free_bit image.new c ≡ true }
     ensures data_stays { KeepsData image.old file size image.new }
+    ensures header { CutsHeader image.old file image.new }
     ensures blocks { data_blocks image.new file ≡ take (data_count (format_of image.old) size) (data_blocks image.old file) }
     ensures extensions { extension_blocks image.new file ≡ take (extension_count (data_count (format_of image.old) size)) (extension_blocks image.old file) }
     ensures freed { FreesData image.old file size image.new }

@@ -39,8 +39,8 @@ impl Volume {
         create(&mut self.image, dir, &name, kind, moment)
     }
 
-    /// Takes away a file, or a directory with no entries. What stands in the blocks that are given back stays there, but for the
-    /// entry's own block. The moment becomes the date of the directory and the disk date.
+    /// Takes away a file, or a directory with no entries. What stands in the blocks that are given back stays there, but for some
+    /// fields of the entry's own. The moment becomes the date of the directory and the disk date.
     pub fn remove(&mut self, key: u32, moment: Date3)
         requires { (t : Tree) → Stands self.old.image t → CanRemove t key }
         ensures stands { (t : Tree) → Stands self.old.image t → Stands self.new.image (removed moment key t) }

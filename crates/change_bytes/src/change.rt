@@ -6,6 +6,7 @@ ghost use Rattle.ados_tree.specs.Stands.{Stands};
 ghost use Rattle.ados_tree.specs.Keys.{HasFileKey, HasTree};
 ghost use Rattle.ados_tree.specs.Change.{shortened};
 ghost use Rattle.ados_tree.specs.NewBlocks.{KeepsRest, TakesNone};
+ghost use Rattle.change_bytes.specs.Cuts.{KeepsHeader};
 ghost use Rattle.change_bytes.specs.Renewed.{Grows, StaysUngrown, StaysUnwritten, Writes};
 
 use crate::space::{has_room, size_of};
@@ -52,6 +53,7 @@ pub fn cut(image: &mut Image, file: u32, size: u32, moment: Date3)
     ensures stands { (t : Tree) → Stands image.old t → Stands image.new (shortened moment file size t) }
     ensures keeps { KeepsRest image.old image.new }
     ensures none { TakesNone image.old image.new }
+    ensures header { KeepsHeader file image.old image.new }
 {
     stamp(image, file, moment);
     prove!(image.blocks() >= 16);

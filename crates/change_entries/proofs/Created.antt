@@ -1,6 +1,6 @@
 -- The steps by which an entry is made.
-use Rattle.std.proofs.Common.{◌≡◌, ◌≢◌, ℕ, ◌+◌, ◌<◌, inl, inr, List, false, Some, IsSome, refl, sym, ap, ◌∙◌, subst, arith}
-use Rattle.std.proofs.lemmas.Bool.{cases_eq}
+use Rattle.std.proofs.Common.{◌≡◌, ◌≢◌, ℕ, ◌+◌, ◌<◌, inl, inr, List, false, Some, is_some, IsSome, refl, sym, ap, ◌∙◌, subst, arith}
+use Rattle.std.proofs.lemmas.Bool.{cases_eq, false≢true}
 use Rattle.adf_block.specs.Frame.{OnlyBlock, SameBut}
 use Rattle.adf_block.specs.Image.{HasFreeBit, block_count, root_key}
 use Rattle.adf_block.proofs.Frames.{same_count, same_trans}
@@ -160,6 +160,9 @@ module _ (old m1 m2 : List ℕ) (t : Tree) (st : Stands old t) (moment : Date3) 
       no_root : key ≢ root t
       no_root e = cc (sym fresh.no_node ∙ ap t.nodes e ∙ st.proper.root_node.1)
 
+      is_none : (k : ℕ) → k ≡ key → IsSome (t.nodes k) → ⊥
+      is_none k e some = false≢true (sym (ap is_some (ap t.nodes e ∙ fresh.no_node)) ∙ some)
+
       created_lowest : TakesLowest old m5
       created_lowest =
           takes_key m2 m5 key dir name (content_of kind) moment entry
@@ -193,11 +196,10 @@ module _ (old m1 m2 : List ℕ) (t : Tree) (st : Stands old t) (moment : Date3) 
 
       pub created_keeps : KeepsRest old m5
       created_keeps =
-          let root_some : IsSome (t.nodes (root t)) = rw st.proper.root_node.1 refl in
           record {
             kept = written_kept old m5 t st created_written;
             lowest = created_lowest;
             freed = keeps_freed old m5 t (made moment dir key name (content_of kind) t) st after refl refl created_written
-                (made_other moment dir key name (content_of kind) t (root t) (λ e. no_root (sym e)) ∙ root_some);
+                (λ k some. made_other moment dir key name (content_of kind) t k (λ e. is_none k e some) ∙ some);
             untold = untold_kept old m5 t (made moment dir key name (content_of kind) t) st after created.proper created_written past_end;
           }
