@@ -8,6 +8,7 @@ pub mod Walking
 pub mod Untouched
 pub mod Skeleton
 pub mod Lists
+pub mod Placed
 pub mod GrowthSteps
 pub mod Beside
 pub mod Putting

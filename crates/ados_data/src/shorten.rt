@@ -13,7 +13,8 @@ ghost use Rattle.ados_data.specs.Unnamed.{FileKeepsUnnamed};
 ghost use Rattle.ados_data.specs.steps.Giving.{IsEntered};
 
 use crate::cost::{data_count, extension_count};
-use crate::fields::{data_block, pointer_block};
+use crate::fields::data_block;
+use crate::place::{Place, pointer_block};
 use crate::resize::resize;
 use adf_block::Image;
 use adf_block::layout::{MOST_BLOCKS, NEXT_EXTENSION, SIZE, TABLE_LONGS};
@@ -53,7 +54,7 @@ pub fn cut(image: &mut Image, file: u32, size: u32)
     }
     let all = data_count(format, old as u64);
     let count = data_count(format, size as u64);
-    let holder = pointer_block(image, file, extension_count(count));
+    let holder = pointer_block(image, file, Place::header(file), extension_count(count));
     let next = image.long(holder, NEXT_EXTENSION);
     let last = data_block(image, holder, count.saturating_sub(1));
     resize(image, format, file, holder, last, count as u32, size);

@@ -1,4 +1,4 @@
--- Why `check` decides, then blank images, then what the image says of its tree, then what the cache keeps through each change.
+-- Why `check` decides, then blank images, then what the image says of its tree, then what the caches keep through each change.
 pub mod Decided
 pub mod BlankRoot
 pub mod BlankMarks
@@ -11,3 +11,5 @@ pub mod Cached
 pub mod Children
 pub mod Refilled
 pub mod Moved
+pub mod Kept
+pub mod Known

@@ -9,6 +9,7 @@ ghost use Rattle.ados_tree.specs.NewBlocks.{KeepsRest, TakesNone};
 ghost use Rattle.ados_volume.specs.Refused.{GrowsOrRefuses, WritesOrRefuses};
 
 use crate::volume::Volume;
+use ados_data::place_at;
 use ados_name::Date3;
 use ados_tree::Full;
 use change_bytes::{cut, grow, write};
@@ -23,7 +24,9 @@ impl Volume {
         ensures keeps { KeepsRest self.old.image self.new.image }
         ensures validated { self.new.was_validated ≡ self.old.was_validated }
     {
-        write(&mut self.image, key, pos, bytes, moment)
+        let place = place_at(&self.image, key, self.places.of(key), pos);
+        self.places.keep(key, place);
+        write(&mut self.image, key, place, pos, bytes, moment)
     }
 
     /// Keeps the front of a file, of this size. The moment becomes the file's date and the disk date, and the file's archive bit
@@ -36,6 +39,7 @@ impl Volume {
         ensures none { TakesNone self.old.image self.new.image }
         ensures validated { self.new.was_validated ≡ self.old.was_validated }
     {
+        self.places.drop_of(key);
         cut(&mut self.image, key, size, moment);
     }
 
@@ -48,6 +52,8 @@ impl Volume {
         ensures keeps { KeepsRest self.old.image self.new.image }
         ensures validated { self.new.was_validated ≡ self.old.was_validated }
     {
-        grow(&mut self.image, key, size, moment)
+        let place = place_at(&self.image, key, self.places.of(key), size as u64);
+        self.places.keep(key, place);
+        grow(&mut self.image, key, place, size, moment)
     }
 }

@@ -36,6 +36,7 @@ impl Volume {
         ensures keeps { KeepsRest self.old.image self.new.image }
         ensures validated { self.new.was_validated ≡ self.old.was_validated }
     {
+        self.places.clear();
         create(&mut self.image, dir, &name, kind, moment)
     }
 
@@ -49,6 +50,7 @@ impl Volume {
         ensures validated { self.new.was_validated ≡ self.old.was_validated }
     {
         forget(&mut self.names, &self.image, key);
+        self.places.clear();
         remove(&mut self.image, key, moment);
     }
 
@@ -63,6 +65,7 @@ impl Volume {
         ensures validated { self.new.was_validated ≡ self.old.was_validated }
     {
         forget(&mut self.names, &self.image, key);
+        self.places.clear();
         rename(&mut self.image, key, dir, &name, moment);
     }
 }

@@ -10,6 +10,7 @@ mod examine;
 mod info;
 mod laws;
 mod look;
+mod places;
 mod stamp;
 mod volume;
 mod walk;

@@ -13,7 +13,7 @@ use crate::volume::Volume;
 use adf_block::Image;
 use adf_block::layout::{FILE_TYPE, SECONDARY_TYPE};
 use ados_chain::{Next, after, find};
-use ados_data::read_at;
+use ados_data::{place_at, read_at};
 use ados_name::{Name, same_name_same_slot};
 
 impl Volume {
@@ -69,7 +69,19 @@ impl Volume {
         ensures count { (t : Tree) → Stands self.now.image t → result ≡ min (length buffer.old) (length (bytes_of t key) - pos) }
         ensures bytes { (t : Tree) → Stands self.now.image t → buffer.new ≡ take result (drop pos (bytes_of t key)) ++ drop result buffer.old }
     {
-        read_at(self.image(), key, pos, buffer)
+        read_at(&self.image, key, self.places.of(key), pos, buffer)
+    }
+
+    /// Does what `read` does, and keeps where it stands in the file: a call for what comes behind goes on from there.
+    pub fn read_on(&mut self, key: u32, pos: u64, buffer: &mut [u8]) -> usize
+        requires { HasFileKey self.old.image key }
+        ensures count { (t : Tree) → Stands self.old.image t → result ≡ min (length buffer.old) (length (bytes_of t key) - pos) }
+        ensures bytes { (t : Tree) → Stands self.old.image t → buffer.new ≡ take result (drop pos (bytes_of t key)) ++ drop result buffer.old }
+        ensures same { self.new ≡ self.old }
+    {
+        let place = place_at(&self.image, key, self.places.of(key), pos);
+        self.places.keep(key, place);
+        read_at(&self.image, key, place, pos, buffer)
     }
 }
 

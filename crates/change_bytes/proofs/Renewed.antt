@@ -11,6 +11,8 @@ use Rattle.ados_data.specs.Cost.{block_cost}
 use Rattle.ados_data.specs.File.{format_of, data_blocks, extension_blocks, contents}
 use Rattle.ados_data.specs.Changing.{HasFree, WritableFile}
 use Rattle.ados_data.specs.Others.{IsDataField, RisesBehind}
+use Rattle.ados_data.specs.declared.place.Place.{Place}
+use Rattle.ados_data.specs.Place.{IsAmong, IsPlace}
 use Rattle.ados_data.specs.Unnamed.{KeepsUnnamed}
 use Rattle.ados_tree.specs.Tree.{Content, Node, Tree, root, free, content_at, size_of, bytes_of, bytes_in as bytes_held}
 use Rattle.ados_tree.specs.Tree.Content.{File}
@@ -167,6 +169,14 @@ module _ (moment : Date3) (old mid : List ℕ) (file : ℕ) (tree : HasTree old)
       bytes_in mid mid_tree.0 mid_tree.1 file mid_key
       ∙ ap (λ (c : Option Content). bytes_held c) (touched_content tree.0)
       ∙ sym (bytes_in old tree.0 tree.1 file key)
+
+  -- it is in the same blocks, so a place in it is one still
+  pub same_place : (place : Place) → IsPlace old file place → IsPlace mid file place
+  same_place place =
+      let c = key tree.0 tree.1 in
+      let stays = untold_stays old mid tree.0 tree.1 file node.node node.at file_is_no_root rest in
+      let same = stays.other_data file c.0 (has_bytes old tree.0 tree.1 file c.0 c.1) (has_bytes mid mid_tree.0 mid_tree.1 file c.0 (touched_content tree.0 ∙ c.1)) in
+      subst (λ (xs : List ℕ). IsAmong file xs place) (sym same.extensions)
 
   pub same_room : (size : ℕ) → HasFree old file size → HasFree mid file size
   same_room size free =

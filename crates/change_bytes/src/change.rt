@@ -1,6 +1,7 @@
 //! The changes.
 
 ghost use Rattle.std.specs.Prelude.{◌≡◌, ◌<◌, ◌≤◌, MatchResult};
+ghost use Rattle.ados_data.specs.Place.{IsPlace};
 ghost use Rattle.ados_tree.specs.Tree.{Tree, size_of};
 ghost use Rattle.ados_tree.specs.Stands.{Stands};
 ghost use Rattle.ados_tree.specs.Keys.{HasFileKey, HasTree};
@@ -12,7 +13,7 @@ ghost use Rattle.change_bytes.specs.Renewed.{Grows, StaysUngrown, StaysUnwritten
 use crate::space::{has_room, size_of};
 use crate::stamp::stamp;
 use adf_block::Image;
-use ados_data::{extend, write_at};
+use ados_data::{Place, extend, write_at};
 use ados_name::Date3;
 use ados_tree::Full;
 
@@ -21,12 +22,14 @@ use ados_tree::Full;
 pub fn write(
     image: &mut Image,
     file: u32,
+    near: Place,
     pos: u64,
     bytes: &[u8],
     moment: Date3,
 ) -> Result<(), Full>
     requires tree { HasTree image.old }
     requires file { HasFileKey image.old file }
+    requires near { IsPlace image.old file near }
     requires start { (t : Tree) → Stands image.old t → pos ≤ size_of t file }
     ensures done { MatchResult result (λ _. Writes moment file pos bytes.now image.old image.new) (λ _. StaysUnwritten file pos bytes.now image.old image.new) }
     ensures keeps { KeepsRest image.old image.new }
@@ -40,7 +43,7 @@ pub fn write(
     }
     stamp(image, file, moment);
     prove!(image.blocks() >= 16);
-    write_at(image, file, pos, bytes);
+    write_at(image, file, near, pos, bytes);
     prove!(image.blocks() >= 16);
     Ok(())
 }
@@ -62,9 +65,10 @@ pub fn cut(image: &mut Image, file: u32, size: u32, moment: Date3)
 }
 
 /// Puts zeros behind the bytes of a file, up to this size. The image stays as it was where the blocks do not suffice.
-pub fn grow(image: &mut Image, file: u32, size: u32, moment: Date3) -> Result<(), Full>
+pub fn grow(image: &mut Image, file: u32, near: Place, size: u32, moment: Date3) -> Result<(), Full>
     requires tree { HasTree image.old }
     requires file { HasFileKey image.old file }
+    requires near { IsPlace image.old file near }
     requires longer { (t : Tree) → Stands image.old t → size_of t file < size }
     ensures done { MatchResult result (λ _. Grows moment file size image.old image.new) (λ _. StaysUngrown file size image.old image.new) }
     ensures keeps { KeepsRest image.old image.new }
@@ -73,6 +77,6 @@ pub fn grow(image: &mut Image, file: u32, size: u32, moment: Date3) -> Result<()
         return Err(Full);
     }
     stamp(image, file, moment);
-    extend(image, file, size);
+    extend(image, file, near, size);
     Ok(())
 }

@@ -12,6 +12,9 @@ use Rattle.ados_data.proofs.Grown.{front_both}
 use Rattle.ados_data.proofs.Composing.{HasGrown, keeps_calls, whole_front}
 use Rattle.ados_data.proofs.grow.extend.Goals as goal
 
+pub long-requires-clause-block : goal.long-requires-clause-block
+long-requires-clause-block c = omega (arith, c.requires.writable.lawful.places.headers_inside 0 (omega arith))
+
 pub loop-reached-preserved : goal.loop-reached-preserved
 loop-reached-preserved c =
     let inv = c.loop-reached.invariant in

@@ -7,6 +7,7 @@ use Rattle.std.proofs.lemmas.List.{length-append, length-replicate}
 use Rattle.ados_data.proofs.Overlaid.{length-overlaid, overlaid_zeros}
 use Rattle.ados_data.proofs.Composing.{HasGrown, keeps_calls, whole_front}
 use Rattle.ados_data.proofs.Fitting.{size_fits}
+use Rattle.ados_data.proofs.Placed.{among_more}
 use Rattle.ados_data.proofs.write.write_at.Goals as goal
 
 pub overflow_cast-size : goal.overflow_cast-size
@@ -49,3 +50,6 @@ returns-clause-keeps c =
     let before : HasGrown c.args.image.now c.args.file c.extend.new.image = record { before = c.requires.writable.lawful; after = c.extend.ensures.writable.lawful; leaves = c.extend.ensures.leaves; same_format = c.extend.ensures.format; size = omega (arith, grew); blocks = c.extend.ensures.blocks; extensions = c.extend.ensures.extensions } in
     let behind : HasGrown c.extend.new.image c.args.file c.overlay.new.image = record { before = c.extend.ensures.writable.lawful; after = c.overlay.ensures.writable.lawful; leaves = c.overlay.ensures.leaves; same_format = c.overlay.ensures.format; size = omega (arith, stays); blocks = whole_front (data_blocks c.extend.new.image c.args.file) (data_blocks c.overlay.new.image c.args.file) c.overlay.ensures.blocks; extensions = whole_front (extension_blocks c.extend.new.image c.args.file) (extension_blocks c.overlay.new.image c.args.file) c.overlay.ensures.extensions } in
     keeps_calls c.args.image.now c.extend.new.image c.overlay.new.image c.args.file before behind c.extend.ensures.keeps c.overlay.ensures.keeps
+
+pub overlay-requires-clause-near : goal.overlay-requires-clause-near
+overlay-requires-clause-near c = among_more c.args.file (extension_blocks c.args.image.now c.args.file) (extension_blocks c.extend.new.image c.args.file) c.args.near c.extend.ensures.extensions c.requires.near

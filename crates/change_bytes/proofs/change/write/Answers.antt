@@ -12,7 +12,7 @@ use Rattle.ados_tree.specs.Change.{rewritten, written}
 use Rattle.change_bytes.specs.Renewed.{NeedsMore}
 use Rattle.change_bytes.proofs.Calls.{of_gains}
 use Rattle.change_bytes.proofs.Relaid.{IsRewritten}
-use Rattle.change_bytes.proofs.Renewed.{bytes_in, size_in, room_enough, lacks_room, mid_writable, same_contents, same_room, stands_rewritten, keeps_rest}
+use Rattle.change_bytes.proofs.Renewed.{bytes_in, size_in, room_enough, lacks_room, mid_writable, same_contents, same_place, same_room, stands_rewritten, keeps_rest}
 use Rattle.change_bytes.proofs.change.write.Goals as goal
 
 -- with no bytes nothing is written, and none more are needed
@@ -44,6 +44,10 @@ returns-then-not-has_room-clause-done c = (
       let size = c.max-size.ensures ∙ ap (λ (n : ℕ). max n (c.args.pos + length c.args.bytes.now)) (c.size_of.ensures t s) in
       subst (NeedsMore t c.args.file) size (lacks_room c.args.image.now t s c.args.file c.max-size.result c.requires.file c.if-not-has_room.ensures),
 )
+
+pub write_at-requires-clause-near : goal.write_at-requires-clause-near
+write_at-requires-clause-near c =
+    same_place c.args.moment c.args.image.now c.stamp.new.image c.args.file c.requires.tree c.requires.file c.stamp.ensures c.args.near c.requires.near
 
 pub write_at-requires-clause-writable : goal.write_at-requires-clause-writable
 write_at-requires-clause-writable c =

@@ -3,6 +3,7 @@ use Rattle.ados_tree.specs.Stands.{Stands}
 use Rattle.ados_tree.specs.Change.{renamed}
 use Rattle.ados_volume.specs.Shown.{Shown}
 use Rattle.ados_volume.proofs.Moved.{renamed_stays, has_parent, forgotten_carried}
+use Rattle.ados_volume.proofs.Known.{none_known}
 use Rattle.ados_volume.proofs.volume.Volume.rename.Goals as goal
 
 pub forget-requires-clause-key : goal.forget-requires-clause-key
@@ -15,11 +16,13 @@ rename-requires-clause-can c = λ t s. c.requires t (subst (λ (shown : Shown). 
 
 pub invariant_of-self : goal.invariant_of-self
 invariant_of-self c =
-    let t = c.self.invariant.0.0 in
-    let s = c.self.invariant.0.1 in
-    forgotten_carried c.self.inside.image c.rename.new.image t (renamed c.args.moment c.args.key c.args.dir c.args.name t) s (c.rename.ensures.stands t s) c.args.key
-    c.self.inside.names.pairs.entries c.forget.new.names.pairs.entries c.self.invariant.1 c.forget.ensures
-    (renamed_stays t c.args.moment c.args.key c.args.dir c.args.name)
+    let t = c.self.invariant.0.0.0 in
+    let s = c.self.invariant.0.0.1 in (
+      forgotten_carried c.self.inside.image c.rename.new.image t (renamed c.args.moment c.args.key c.args.dir c.args.name t) s (c.rename.ensures.stands t s) c.args.key
+          c.self.inside.names.pairs.entries c.forget.new.names.pairs.entries c.self.invariant.0.1 c.forget.ensures
+          (renamed_stays t c.args.moment c.args.key c.args.dir c.args.name),
+      none_known c.rename.new.image c.clear.new.self.places.entries c.clear.ensures,
+    )
 
 pub returns-clause-stands : goal.returns-clause-stands
 returns-clause-stands c = λ t s. c.rename.ensures.stands t (subst (λ (shown : Shown). Stands shown.image t) (sym c.self.view_is) s)

@@ -5,15 +5,19 @@ use Rattle.ados_tree.specs.Change.{disk_renamed}
 use Rattle.ados_volume.specs.Shown.{Shown}
 use Rattle.change_fields.proofs.Retells.{entry_not_root}
 use Rattle.ados_volume.proofs.Children.{all_carried, changed_stay}
+use Rattle.ados_volume.proofs.Known.{changed_last, known_carried}
 use Rattle.ados_volume.proofs.volume.Volume.rename_disk.Goals as goal
 
 pub invariant_of-self : goal.invariant_of-self
 invariant_of-self c =
-    let t = c.self.invariant.0.0 in
-    let s = c.self.invariant.0.1 in
-    all_carried c.self.inside.image c.rename_disk.new.image t (disk_renamed c.args.moment c.args.name t) s (c.rename_disk.ensures.stands t s)
-    c.self.inside.names.pairs.entries c.self.invariant.1
-    (changed_stay t (root t) (λ node. record node { name = c.args.name }) (λ a e. refl) (λ dir a m e. absurd (entry_not_root t s.proper dir (root t) m refl)))
+    let t = c.self.invariant.0.0.0 in
+    let s = c.self.invariant.0.0.1 in (
+      all_carried c.self.inside.image c.rename_disk.new.image t (disk_renamed c.args.moment c.args.name t) s (c.rename_disk.ensures.stands t s)
+          c.self.inside.names.pairs.entries c.self.invariant.0.1
+          (changed_stay t (root t) (λ node. record node { name = c.args.name }) (λ a e. refl) (λ dir a m e. absurd (entry_not_root t s.proper dir (root t) m refl))),
+      known_carried c.self.inside.image c.rename_disk.new.image c.rename_disk.ensures.keeps t (disk_renamed c.args.moment c.args.name t) s (c.rename_disk.ensures.stands t s) refl
+          c.self.inside.places.places.entries c.self.invariant.1 (changed_last t (root t) (λ node. record node { name = c.args.name }) (λ a. refl)),
+    )
 
 pub returns-clause-stands : goal.returns-clause-stands
 returns-clause-stands c = λ t s. c.rename_disk.ensures.stands t (subst (λ (shown : Shown). Stands shown.image t) (sym c.self.view_is) s)
