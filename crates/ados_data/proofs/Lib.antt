@@ -10,6 +10,7 @@ pub mod Skeleton
 pub mod Lists
 pub mod GrowthSteps
 pub mod Beside
+pub mod Bounds
 pub mod Putting
 pub mod Marks
 pub mod Standing
