@@ -11,6 +11,7 @@ pub mod Lists
 pub mod Placed
 pub mod GrowthSteps
 pub mod Beside
+pub mod Bounds
 pub mod Putting
 pub mod Marks
 pub mod Standing

@@ -7,6 +7,8 @@ use Rattle.adf_block.specs.Fields.{secondary_type, file_type}
 use Rattle.adf_block.proofs.Frames.{same_count}
 use Rattle.adf_block.proofs.Longs.{long-same}
 use Rattle.ados_name.specs.declared.Date3.{Date3}
+use Rattle.ados_map.specs.Pages.{NoneFreeBelow}
+use Rattle.ados_data.proofs.Bounds.{below_stays}
 use Rattle.ados_data.specs.Cost.{block_cost}
 use Rattle.ados_data.specs.File.{format_of, data_blocks, extension_blocks, contents}
 use Rattle.ados_data.specs.Changing.{HasFree, WritableFile}
@@ -162,6 +164,9 @@ module _ (moment : Date3) (old mid : List ℕ) (file : ℕ) (tree : HasTree old)
 
   pub marks_mid : (b : ℕ) → IsInside (block_count old) b → has_free_bit mid b ≡ has_free_bit old b
   marks_mid b i = marks_same old mid tree.0 tree.1 file node.node node.at file_is_no_root rest b i
+
+  pub below_mid : (from : ℕ) → NoneFreeBelow old from → NoneFreeBelow mid from
+  below_mid from = below_stays old mid from (same_count (AtStamps (root tree.0) file) old mid rest) (λ b i used. marks_mid b i ∙ used)
 
   -- the file's bytes are the same, and there is as much room
   pub same_contents : contents mid file ≡ contents old file

@@ -3,12 +3,13 @@ use Rattle.std.proofs.Common.{◌≡◌, ◌≢◌, ℕ, ◌+◌, ◌<◌, inl, 
 use Rattle.std.proofs.lemmas.List.Elements.{Contains-append_left}
 use Rattle.adf_block.specs.Fields.{name_byte, next_in_chain, parent_key}
 use Rattle.adf_block.specs.Frame.{SameBut}
-use Rattle.adf_block.specs.Image.{block_count, byte_at, long, root_key}
+use Rattle.adf_block.specs.Image.{HasFreeBit, block_count, byte_at, long, root_key}
 use Rattle.adf_block.proofs.Frames.{same_count, same_trans}
 use Rattle.ados_name.specs.declared.Date3.{Date3}
 use Rattle.ados_chain.proofs.Changes.{slot_at-small}
 use Rattle.ados_chain.specs.Chains.{LawfulChains, slot_at}
 use Rattle.ados_chain.specs.Relinks.{CanInsert, CanUnlink, InsertsLast, Unlinks, link_block, link_long}
+use Rattle.ados_tree.specs.Faults.{InImage}
 use Rattle.ados_tree.specs.Change.{changed, entered, renamed}
 use Rattle.ados_tree.specs.NewBlocks.{KeepsRest, TakesNone}
 use Rattle.ados_tree.specs.Stands.{Stands, in_slot}
@@ -26,7 +27,7 @@ use Rattle.change_entries.proofs.KeptSteps.{IsKnown, dated_kept, linked_kept, st
 use Rattle.change_entries.proofs.Listing.{place_behind}
 use Rattle.change_entries.proofs.Loose.{kept, left_is}
 use Rattle.change_entries.proofs.ProperChanges.{dir_is_other, directory_at, moved_here}
-use Rattle.change_entries.proofs.Spared.{keeps_freed, still_free}
+use Rattle.change_entries.proofs.Spared.{keeps_freed, still_free, was_free}
 use Rattle.change_entries.proofs.Relisted.{IsLinkPlace}
 use Rattle.change_entries.proofs.Spells.{Spells}
 use Rattle.change_entries.proofs.UntoldKept.{IsOffMap, dated_off, linked_off, off_past_end, old_pages, stamped_off, titled_off, untold_kept}
@@ -158,6 +159,10 @@ module _ (old : List ℕ) (t : Tree) (st : Stands old t) (moment : Date3) (key d
           pub moved_none : (m5 m6 : List ℕ) → Dated dir 105 moment m4 m5 → Dated (root_key (block_count m5)) 118 moment m5 m6 → TakesNone old m6
           moved_none m5 m6 dated stamp =
               λ b inside free. still_free old m6 t (renamed moment key dir name t) st (after m5 m6 dated stamp) (left_blocks moment key t) (left_lost moment key t) b inside (λ some. sym (renamed_some moment key dir name t b) ∙ some) free
+
+          pub moved_gives_none : (m5 m6 : List ℕ) → Dated dir 105 moment m4 m5 → Dated (root_key (block_count m5)) 118 moment m5 m6 → (b : ℕ) → InImage old b → HasFreeBit m6 b → HasFreeBit old b
+          moved_gives_none m5 m6 dated stamp =
+              λ b inside free. was_free old m6 t (renamed moment key dir name t) st (after m5 m6 dated stamp) (left_blocks moment key t) (left_lost moment key t) b inside (λ some. renamed_some moment key dir name t b ∙ some) free
 
           -- none of the map is written
           moved_off : (m5 m6 : List ℕ) → Dated dir 105 moment m4 m5 → Dated (root_key (block_count m5)) 118 moment m5 m6 → SameBut (IsOffMap old t st) old m6
