@@ -56,14 +56,7 @@ fn overlay(image: &mut Image, file: u32, near: Place, pos: u64, bytes: &[u8])
 /// Writes bytes to a file from byte `pos` on, over those that are there and behind them. Each block that the
 /// file gets is the lowest free one. Like `extend`, it changes no byte that it need not, and
 /// answers a bound for the next search.
-pub fn write_at(
-    image: &mut Image,
-    file: u32,
-    near: Place,
-    pos: u64,
-    bytes: &[u8],
-    from: u32,
-) -> u32
+pub fn write_at(image: &mut Image, file: u32, near: Place, pos: u64, bytes: &[u8], from: u32) -> u32
     requires writable { WritableFile image.old file }
     requires near { IsPlace image.old file near }
     requires below { NoneFreeBelow image.old from }
