@@ -1,4 +1,4 @@
--- Why `check` decides, then blank images, then what the image says of its tree, then what the cache keeps through each change.
+-- Why `check` decides, then blank images, then what the image says of its tree, then what the cache keeps through each change, and the bound of free blocks.
 pub mod Decided
 pub mod BlankRoot
 pub mod BlankMarks
@@ -11,3 +11,4 @@ pub mod Cached
 pub mod Children
 pub mod Refilled
 pub mod Moved
+pub mod Bounds
