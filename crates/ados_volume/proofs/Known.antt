@@ -1,5 +1,5 @@
 -- What a change leaves of the places in files that are kept.
-use Rattle.std.proofs.Common.{◌≡◌, ◌≢◌, ℕ, zero, suc, ◌+◌, ◌-◌, ◌≤◌, inl, inr, List, [], ◌∷◌, ◌++◌, length, take, drop, replicate, slice_index, Contains, Option, Some, None, option_map, Result, Ok, Err, refl, sym, ap, ap₂, ◌∙◌, subst, arith, eq-eqb}
+use Rattle.std.proofs.Common.{◌≡◌, ◌≢◌, ℕ, zero, suc, ◌+◌, ◌-◌, ◌≤◌, inl, inr, List, [], ◌∷◌, ◌++◌, length, take, drop, replicate, slice_index, Contains, Option, Some, None, option_map, refl, sym, ap, ap₂, ◌∙◌, subst, arith, eq-eqb}
 use Rattle.std.proofs.lemmas.Bool.{ne_eqb, cases_eq}
 use Rattle.std.proofs.lemmas.List.{length-append, length-take, length-drop}
 use Rattle.lru.proofs.Splits.{Contains-nil}
@@ -21,7 +21,6 @@ use Rattle.ados_tree.proofs.OneTree.{one_tree}
 use Rattle.ados_tree.proofs.Writable.{format_is}
 use Rattle.change_bytes.proofs.Renewed.{bytes_in, file_writable}
 use Rattle.ados_volume.specs.steps.Places.{AreKnown, Drops, IsKnown}
-use Rattle.ados_volume.proofs.Refilled.{IsDone}
 
 -- with no fewer bytes a file has no fewer extension blocks
 more_extensions : (format : Format) (m n : ℕ) → m ≤ n → extension_count (data_count format m) ≤ extension_count (data_count format n)
@@ -139,9 +138,3 @@ module _ (old new : List ℕ) (keeps : KeepsRest old new) (t u : Tree) (s : Stan
   -- and where each but one does, so do the places in these
   pub known_dropped : (pairs left : List (ℕ × Place)) (key : ℕ) → AreKnown old pairs → Drops pairs key left → ((file : ℕ) → file ≢ key → Lasts t u file) → AreKnown new left
   known_dropped pairs left key h drops lasts file place c = let d = drops file place c in known_stays file place (lasts file d.1) (h file place d.0)
-
--- a change that is made where there is room for it
-pub known_done : {T E : Type 0} (old new : List ℕ) (Needs : Tree → Type 0) (change : Tree → Tree) (r : Result T E) → IsDone old new Needs change r old (new ≡ old) → KeepsRest old new → (t : Tree) → Stands old t
-    → (change t).format ≡ t.format → ((file : ℕ) → Lasts t (change t) file) → (pairs : List (ℕ × Place)) → AreKnown old pairs → AreKnown new pairs
-known_done old new Needs change (Ok x) done keeps t s format lasts pairs h = known_carried old new keeps t (change t) s (done t s).1 format pairs h lasts
-known_done old new Needs change (Err e) done keeps t s format lasts pairs h = subst (λ (image : List ℕ). AreKnown image pairs) (sym done.0) h

@@ -1,4 +1,5 @@
--- Why `check` decides, then blank images, then what the image says of its tree, then what the caches keep through each change.
+-- Why `check` decides, then blank images, then what the image says of its tree, then what the caches keep through each change,
+-- and the bound of free blocks.
 pub mod Decided
 pub mod BlankRoot
 pub mod BlankMarks
@@ -13,3 +14,4 @@ pub mod Refilled
 pub mod Moved
 pub mod Kept
 pub mod Known
+pub mod Bounds

@@ -1,5 +1,6 @@
--- A step of a walk, what is kept of names and places, and the parts of a blank image.
+-- A step of a walk, what is kept of names and places, the entry that was told last, and the parts of a blank image.
 pub mod PathStep
 pub mod Cache
 pub mod Places
+pub mod Listed
 pub mod BlankParts

@@ -9,6 +9,7 @@ ghost use Rattle.ados_tree.specs.NewBlocks.{KeepsRest, TakesNone};
 ghost use Rattle.ados_volume.specs.Refused.{GrowsOrRefuses, WritesOrRefuses};
 
 use crate::volume::Volume;
+use adf_block::layout::BOOT_BLOCKS;
 use ados_data::place_at;
 use ados_name::Date3;
 use ados_tree::Full;
@@ -26,7 +27,16 @@ impl Volume {
     {
         let place = place_at(&self.image, key, self.places.of(key), pos);
         self.places.keep(key, place);
-        write(&mut self.image, key, place, pos, bytes, moment)
+        self.free_from = write(
+            &mut self.image,
+            key,
+            place,
+            pos,
+            bytes,
+            moment,
+            self.free_from,
+        )?;
+        Ok(())
     }
 
     /// Keeps the front of a file, of this size. The moment becomes the file's date and the disk date, and the file's archive bit
@@ -41,6 +51,7 @@ impl Volume {
     {
         self.places.drop_of(key);
         cut(&mut self.image, key, size, moment);
+        self.free_from = BOOT_BLOCKS;
     }
 
     /// Puts zeros behind the bytes of a file, up to this size. The moment becomes the file's date and the disk date, and the
@@ -54,6 +65,7 @@ impl Volume {
     {
         let place = place_at(&self.image, key, self.places.of(key), size as u64);
         self.places.keep(key, place);
-        grow(&mut self.image, key, place, size, moment)
+        self.free_from = grow(&mut self.image, key, place, size, moment, self.free_from)?;
+        Ok(())
     }
 }

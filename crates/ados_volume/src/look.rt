@@ -1,6 +1,6 @@
 //! Looking into directories and files.
 
-ghost use Rattle.std.specs.Prelude.{◌≡◌, ◌++◌, ◌-◌, IsTrue, min, take, drop, length};
+ghost use Rattle.std.specs.Prelude.{◌≡◌, ◌++◌, ◌-◌, IfSome, IsTrue, Some, min, take, drop, length};
 ghost use Rattle.std.specs.Bool.{IsFalse};
 ghost use Rattle.ados_tree.specs.Tree.{Tree, bytes_of, root};
 ghost use Rattle.ados_tree.specs.Stands.{Stands};
@@ -8,11 +8,12 @@ ghost use Rattle.ados_tree.specs.Walk.{child_of, is_file};
 ghost use Rattle.ados_tree.specs.Change.{entries_after};
 ghost use Rattle.ados_tree.specs.Keys.{HasDirectory, HasFileKey, HasKey, HasTree};
 ghost use Rattle.ados_chain.specs.Look.{first_left};
+ghost use Rattle.ados_volume.specs.steps.Listed.{IsListed};
 
-use crate::volume::Volume;
+use crate::volume::{Told, Volume};
 use adf_block::Image;
 use adf_block::layout::{FILE_TYPE, SECONDARY_TYPE};
-use ados_chain::{Next, after, find};
+use ados_chain::{Next, after, after_entry, find};
 use ados_data::{place_at, read_at};
 use ados_name::{Name, same_name_same_slot};
 
@@ -62,6 +63,20 @@ impl Volume {
         after(self.image(), dir, key)
     }
 
+    /// What comes after a key, as `next` says it. The entry that was told last is kept, so that no chain is gone through to
+    /// find it again.
+    pub fn tell_next(&mut self, dir: u32, key: u32) -> Next
+        requires { HasDirectory self.old.image dir }
+        ensures next { (t : Tree) → Stands self.old.image t → result ≡ first_left (entries_after t dir key) }
+        ensures same { self.new ≡ self.old }
+    {
+        let next = next_in(&self.image, self.told, dir, key);
+        if let Next::Entry(entry) = next {
+            self.told = Some(Told { dir, key: entry });
+        }
+        next
+    }
+
     /// Copies the bytes of a file from byte `pos` on into the buffer, as many as are there and fit, and answers how many
     /// these are. The rest of the buffer stays.
     pub fn read(&self, key: u32, pos: u64, buffer: &mut [u8]) -> usize
@@ -82,6 +97,30 @@ impl Volume {
         let place = place_at(&self.image, key, self.places.of(key), pos);
         self.places.keep(key, place);
         read_at(&self.image, key, place, pos, buffer)
+    }
+}
+
+/// What comes after a key in the order of a directory, where an entry is known already.
+fn next_in(image: &Image, told: Option<Told>, dir: u32, key: u32) -> Next
+    requires tree { HasTree image.now }
+    requires dir { HasDirectory image.now dir }
+    requires told { IfSome told (IsListed image.now) }
+    ensures { (t : Tree) → Stands image.now t → result ≡ first_left (entries_after t dir key) }
+{
+    if is_last(told, dir, key) {
+        after_entry(image, dir, key)
+    } else {
+        after(image, dir, key)
+    }
+}
+
+/// Whether the entry that was told last is this one.
+fn is_last(told: Option<Told>, dir: u32, key: u32) -> bool
+    ensures { IsTrue result → told ≡ Some (record { dir = dir; key = key }) }
+{
+    match told {
+        Some(last) => last.dir == dir && last.key == key,
+        None => false,
     }
 }
 

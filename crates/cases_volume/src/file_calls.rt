@@ -66,7 +66,7 @@ pub fn write(rt: &impl Abort, image: &mut Image, pos: u64, bytes: &[u8])
     let end = pos + bytes.len() as u64;
     assert!(rt; end < 4_294_967_296);
     assert!(rt; has_room(rt, image, size.max(end)));
-    write_at(image, FILE, Place::header(FILE), pos, bytes);
+    write_at(image, FILE, Place::header(FILE), pos, bytes, 2);
 }
 
 /// Makes the file longer.
@@ -75,7 +75,7 @@ pub fn grow(rt: &impl Abort, image: &mut Image, size: u32)
     ensures { WritableFile image.new 50 }
 {
     assert!(rt; size_of(rt, image) <= size && has_room(rt, image, size as u64));
-    extend(image, FILE, Place::header(FILE), size);
+    extend(image, FILE, Place::header(FILE), size, 2);
 }
 
 /// Makes the file shorter.

@@ -1,8 +1,16 @@
-use Rattle.std.proofs.Common.{subst}
+use Rattle.std.proofs.Common.{ℕ, List, IfSome, sym, subst}
+use Rattle.ados_map.specs.Pages.{IsLowestFree, NoneFree, NoneFreeBelow}
+use Rattle.ados_tree.specs.Tree.{Tree}
 use Rattle.ados_tree.specs.Stands.{Stands}
+use Rattle.ados_tree.specs.Change.{made}
 use Rattle.change_entries.specs.Kinds.{content_of}
+use Rattle.change_entries.proofs.Making.{unused}
 use Rattle.ados_volume.specs.Shown.{Shown}
-use Rattle.ados_volume.proofs.Moved.{made_carried, shown_made}
+use Rattle.ados_volume.specs.steps.Cache.{AreChildren}
+use Rattle.ados_volume.specs.steps.Listed.{IsListed}
+use Rattle.ados_volume.proofs.Children.{all_carried}
+use Rattle.ados_volume.proofs.Moved.{made_stay}
+use Rattle.ados_volume.proofs.Refilled.{still_shown}
 use Rattle.ados_volume.proofs.Known.{none_known}
 use Rattle.ados_volume.proofs.volume.Volume.create.Goals as goal
 
@@ -10,13 +18,34 @@ pub create-requires-clause-can : goal.create-requires-clause-can
 create-requires-clause-can c = λ t s. c.requires t (subst (λ (shown : Shown). Stands shown.image t) c.self.view_is s)
 
 pub invariant_of-self : goal.invariant_of-self
-invariant_of-self c = (
-  made_carried c.self.inside.image c.create.new.image c.args.moment c.args.dir c.args.name (content_of c.args.kind) c.create.result
-      c.create.ensures.key c.create.ensures.stands c.create.ensures.full c.self.invariant.0.0.0 c.self.invariant.0.0.1 c.self.inside.names.pairs.entries c.self.invariant.0.1,
+invariant_of-self c =
+    let t = c.self.invariant.0.0.0.0.0 in
+    let s = c.self.invariant.0.0.0.0.1 in
+    let key = c.in_ok-create.ensures.key in (
+      (
+        all_carried c.self.inside.image c.create.new.image t (made c.args.moment c.args.dir _ c.args.name (content_of c.args.kind) t) s (c.in_ok-create.ensures.stands t s)
+            c.self.inside.names.pairs.entries c.self.invariant.0.0.0.1 c.self.inside.told c.self.invariant.0.0.1
+            (made_stay t s.proper c.args.moment c.args.dir _ c.args.name (content_of c.args.kind) (unused c.self.inside.image t s _ key).no_node),
+        c.in_ok-create.ensures.below,
+      ),
+      none_known c.create.new.image c.clear.new.self.places.entries c.clear.ensures,
+    )
+
+pub invariant_of-self-in_err-create : goal.invariant_of-self-in_err-create
+invariant_of-self-in_err-create c = (
+  subst (λ (image : List ℕ). ((((x : Tree) × Stands image x) × AreChildren image c.self.inside.names.pairs.entries) × IfSome c.self.inside.told (IsListed image)) × NoneFreeBelow image c.self.inside.free_from)
+      (sym c.in_err-create.ensures.full.1) c.self.invariant.0,
   none_known c.create.new.image c.clear.new.self.places.entries c.clear.ensures,
 )
 
 pub returns-clause-done : goal.returns-clause-done
-returns-clause-done c =
-    shown_made c.self.inside.image c.create.new.image c.args.moment c.args.dir c.args.name (content_of c.args.kind) c.self.inside.was_validated c.args.self.now c.self.view_is c.create.result
-    c.create.ensures.key c.create.ensures.stands c.create.ensures.full
+returns-clause-done c = (
+  subst (λ (w : Shown). IsLowestFree w.image _) c.self.view_is c.in_ok-create.ensures.key,
+  λ t s. c.in_ok-create.ensures.stands t (subst (λ (w : Shown). Stands w.image t) (sym c.self.view_is) s),
+)
+
+pub returns-in_err-create-clause-done : goal.returns-in_err-create-clause-done
+returns-in_err-create-clause-done c = (
+  subst (λ (w : Shown). NoneFree w.image) c.self.view_is c.in_err-create.ensures.full.0,
+  still_shown c.self.inside.image c.create.new.image c.self.inside.was_validated c.args.self.now c.self.view_is c.in_err-create.ensures.full.1,
+)

@@ -7,7 +7,7 @@ use Rattle.ados_volume.proofs.volume.Volume.read.Goals as goal
 
 pub read_at-requires-clause-lawful : goal.read_at-requires-clause-lawful
 read_at-requires-clause-lawful c =
-    (file_writable c.self.inside.image c.args.key c.self.invariant.0.0 (subst (λ (w : Shown). HasFileKey w.image c.args.key) (sym c.self.view_is) c.requires)).lawful
+    (file_writable c.self.inside.image c.args.key c.self.invariant.0.0.0.0 (subst (λ (w : Shown). HasFileKey w.image c.args.key) (sym c.self.view_is) c.requires)).lawful
 
 pub read_at-requires-clause-near : goal.read_at-requires-clause-near
 read_at-requires-clause-near c = c.of.ensures c.self.inside.image c.self.invariant.1

@@ -7,14 +7,14 @@ use Rattle.ados_volume.proofs.volume.Volume.read_on.Goals as goal
 
 pub place_at-place-requires-clause-lawful : goal.place_at-place-requires-clause-lawful
 place_at-place-requires-clause-lawful c =
-    (file_writable c.self.inside.image c.args.key c.self.invariant.0.0 (subst (λ (w : Shown). HasFileKey w.image c.args.key) (sym c.self.view_is) c.requires)).lawful
+    (file_writable c.self.inside.image c.args.key c.self.invariant.0.0.0.0 (subst (λ (w : Shown). HasFileKey w.image c.args.key) (sym c.self.view_is) c.requires)).lawful
 
 pub place_at-place-requires-clause-near : goal.place_at-place-requires-clause-near
 place_at-place-requires-clause-near c = c.of.ensures c.self.inside.image c.self.invariant.1
 
 pub read_at-requires-clause-lawful : goal.read_at-requires-clause-lawful
 read_at-requires-clause-lawful c =
-    (file_writable c.self.inside.image c.args.key c.self.invariant.0.0 (subst (λ (w : Shown). HasFileKey w.image c.args.key) (sym c.self.view_is) c.requires)).lawful
+    (file_writable c.self.inside.image c.args.key c.self.invariant.0.0.0.0 (subst (λ (w : Shown). HasFileKey w.image c.args.key) (sym c.self.view_is) c.requires)).lawful
 
 pub invariant_of-self : goal.invariant_of-self
 invariant_of-self c = (

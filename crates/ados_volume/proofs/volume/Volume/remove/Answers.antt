@@ -1,7 +1,10 @@
-use Rattle.std.proofs.Common.{sym, subst}
+use Rattle.std.proofs.Common.{Option, IfSome, sym, subst}
 use Rattle.ados_tree.specs.Stands.{Stands}
 use Rattle.ados_tree.specs.Change.{removed}
 use Rattle.ados_volume.specs.Shown.{Shown}
+use Rattle.ados_volume.specs.declared.volume.Told.{Told}
+use Rattle.ados_volume.specs.steps.Listed.{IsListed}
+use Rattle.ados_volume.proofs.Bounds.{below_boot}
 use Rattle.ados_volume.proofs.Moved.{removed_stays, has_parent, forgotten_carried}
 use Rattle.ados_volume.proofs.Known.{none_known}
 use Rattle.ados_volume.proofs.volume.Volume.remove.Goals as goal
@@ -16,12 +19,18 @@ remove-requires-clause-can c = λ t s. c.requires t (subst (λ (shown : Shown). 
 
 pub invariant_of-self : goal.invariant_of-self
 invariant_of-self c =
-    let t = c.self.invariant.0.0.0 in
-    let s = c.self.invariant.0.0.1 in
+    let t = c.self.invariant.0.0.0.0.0 in
+    let s = c.self.invariant.0.0.0.0.1 in
     let can = c.requires t (subst (λ (shown : Shown). Stands shown.image t) c.self.view_is s) in (
-      forgotten_carried c.self.inside.image c.remove.new.image t (removed c.args.moment c.args.key t) s (c.remove.ensures.stands t s) c.args.key
-          c.self.inside.names.pairs.entries c.forget.new.names.pairs.entries c.self.invariant.0.1 c.forget.ensures
-          (removed_stays t c.args.moment c.args.key can.empty),
+      (
+        (
+          forgotten_carried c.self.inside.image c.remove.new.image t (removed c.args.moment c.args.key t) s (c.remove.ensures.stands t s) c.args.key
+              c.self.inside.names.pairs.entries c.forget.new.names.pairs.entries c.self.invariant.0.0.0.1 c.forget.ensures.names
+              (removed_stays t c.args.moment c.args.key can.empty),
+          subst (λ (told : Option Told). IfSome told (IsListed c.remove.new.image)) (sym c.forget.ensures.told) tt,
+        ),
+        below_boot c.remove.new.image,
+      ),
       none_known c.remove.new.image c.clear.new.self.places.entries c.clear.ensures,
     )
 
