@@ -12,7 +12,7 @@ use Rattle.ados_data.specs.File.{LawfulFile, extension_blocks}
 use Rattle.ados_data.specs.Place.{IsAmong}
 use Rattle.ados_tree.specs.Tree.{Content, Node, Tree, content_at, bytes_in as bytes_held, size_in, bytes_of, size_of}
 use Rattle.ados_tree.specs.Tree.Content.{File}
-use Rattle.ados_tree.specs.Keys.{HasFileKey, HasTree}
+use Rattle.ados_tree.specs.Keys.{HasFileKey}
 use Rattle.ados_tree.specs.Stands.{Stands}
 use Rattle.ados_tree.specs.Change.{changed, rewritten, written, grown, overlaid, without_archive}
 use Rattle.ados_tree.specs.NewBlocks.{KeepsRest}

@@ -1,6 +1,5 @@
-use Rattle.std.proofs.Common.{◌≡◌, ℕ, List, Some, None, sym, ap, ◌∙◌}
-use Rattle.ados_tree.specs.Tree.{Tree, name_in, name_of, parent_of}
-use Rattle.ados_tree.specs.Stands.{Stands}
+use Rattle.std.proofs.Common.{◌≡◌, sym, ap, ◌∙◌}
+use Rattle.ados_tree.specs.Tree.{name_in, name_of}
 use Rattle.ados_tree.proofs.Nodes.{some_in}
 use Rattle.ados_volume.proofs.Moved.{forgets, no_child_here}
 use Rattle.ados_volume.proofs.entries.forget.Goals as goal

@@ -17,35 +17,35 @@ use Rattle.ados_volume.proofs.volume.Volume.create.Goals as goal
 pub create-requires-clause-can : goal.create-requires-clause-can
 create-requires-clause-can c = λ t s. c.requires t (subst (λ (shown : Shown). Stands shown.image t) c.self.view_is s)
 
-pub invariant_of-self : goal.invariant_of-self
-invariant_of-self c =
+pub invariant_of-self-2 : goal.invariant_of-self-2
+invariant_of-self-2 c =
     let t = c.self.invariant.0.0.0.0.0 in
     let s = c.self.invariant.0.0.0.0.1 in
-    let key = c.in_ok-create.ensures.key in (
+    let key = c.in_ok-key.ensures.key in (
       (
-        all_carried c.self.inside.image c.create.new.image t (made c.args.moment c.args.dir _ c.args.name (content_of c.args.kind) t) s (c.in_ok-create.ensures.stands t s)
+        all_carried c.self.inside.image c.create.new.image t (made c.args.moment c.args.dir _ c.args.name (content_of c.args.kind) t) s (c.in_ok-key.ensures.stands t s)
             c.self.inside.names.pairs.entries c.self.invariant.0.0.0.1 c.self.inside.told c.self.invariant.0.0.1
             (made_stay t s.proper c.args.moment c.args.dir _ c.args.name (content_of c.args.kind) (unused c.self.inside.image t s _ key).no_node),
-        c.in_ok-create.ensures.below,
+        c.in_ok-key.ensures.below,
       ),
       none_known c.create.new.image c.clear.new.self.places.entries c.clear.ensures,
     )
 
-pub invariant_of-self-in_err-create : goal.invariant_of-self-in_err-create
-invariant_of-self-in_err-create c = (
+pub invariant_of-self : goal.invariant_of-self
+invariant_of-self c = (
   subst (λ (image : List ℕ). ((((x : Tree) × Stands image x) × AreChildren image c.self.inside.names.pairs.entries) × IfSome c.self.inside.told (IsListed image)) × NoneFreeBelow image c.self.inside.free_from)
-      (sym c.in_err-create.ensures.full.1) c.self.invariant.0,
+      (sym c.in_err-key.ensures.full.1) c.self.invariant.0,
   none_known c.create.new.image c.clear.new.self.places.entries c.clear.ensures,
 )
 
 pub returns-clause-done : goal.returns-clause-done
 returns-clause-done c = (
-  subst (λ (w : Shown). IsLowestFree w.image _) c.self.view_is c.in_ok-create.ensures.key,
-  λ t s. c.in_ok-create.ensures.stands t (subst (λ (w : Shown). Stands w.image t) (sym c.self.view_is) s),
+  subst (λ (w : Shown). IsLowestFree w.image _) c.self.view_is c.in_ok-key.ensures.key,
+  λ t s. c.in_ok-key.ensures.stands t (subst (λ (w : Shown). Stands w.image t) (sym c.self.view_is) s),
 )
 
-pub returns-in_err-create-clause-done : goal.returns-in_err-create-clause-done
-returns-in_err-create-clause-done c = (
-  subst (λ (w : Shown). NoneFree w.image) c.self.view_is c.in_err-create.ensures.full.0,
-  still_shown c.self.inside.image c.create.new.image c.self.inside.was_validated c.args.self.now c.self.view_is c.in_err-create.ensures.full.1,
+pub returns-in_err-key-clause-done : goal.returns-in_err-key-clause-done
+returns-in_err-key-clause-done c = (
+  subst (λ (w : Shown). NoneFree w.image) c.self.view_is c.in_err-key.ensures.full.0,
+  still_shown c.self.inside.image c.create.new.image c.self.inside.was_validated c.args.self.now c.self.view_is c.in_err-key.ensures.full.1,
 )

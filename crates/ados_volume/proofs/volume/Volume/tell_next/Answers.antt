@@ -2,6 +2,6 @@ use Rattle.std.proofs.Common.{sym, ◌∙◌}
 use Rattle.ados_volume.proofs.Looking.{next_listed}
 use Rattle.ados_volume.proofs.volume.Volume.tell_next.Goals as goal
 
-pub invariant_of-self-in-Entry-next : goal.invariant_of-self-in-Entry-next
-invariant_of-self-in-Entry-next c =
-    (((c.self.invariant.0.0.0, λ t s. next_listed t c.args.dir c.args.key c.in-Entry-next.entry (sym (c.next_in-next.ensures t s) ∙ c.in-Entry-next.is)), c.self.invariant.0.1), c.self.invariant.1)
+pub invariant_of-self : goal.invariant_of-self
+invariant_of-self c =
+    (((c.self.invariant.0.0.0, λ t s. next_listed t c.args.dir c.args.key c.in-Entry.entry (sym (c.next_in-next.ensures t s) ∙ c.in-Entry.is)), c.self.invariant.0.1), c.self.invariant.1)

@@ -22,36 +22,36 @@ place_at-place-requires-clause-lawful c =
 pub place_at-place-requires-clause-near : goal.place_at-place-requires-clause-near
 place_at-place-requires-clause-near c = c.of.ensures c.self.inside.image c.self.invariant.1
 
-pub invariant_of-self : goal.invariant_of-self
-invariant_of-self c =
+pub invariant_of-self-2 : goal.invariant_of-self-2
+invariant_of-self-2 c =
     let t = c.self.invariant.0.0.0.0.0 in
     let s = c.self.invariant.0.0.0.0.1 in
     let shown = subst (λ (w : Shown). Stands w.image t) c.self.view_is s in (
       (
-        all_carried c.self.inside.image c.write.new.image t (written c.args.moment c.args.key c.args.pos c.args.bytes.now t) s (c.in_ok-write.ensures.done t s).1
+        all_carried c.self.inside.image c.write.new.image t (written c.args.moment c.args.key c.args.pos c.args.bytes.now t) s (c.in_ok-self-inside.ensures.done t s).1
             c.self.inside.names.pairs.entries c.self.invariant.0.0.0.1 c.self.inside.told c.self.invariant.0.0.1
             (written_stay t c.args.key (c.requires.file t shown) c.args.moment c.args.pos c.args.bytes.now),
-        c.in_ok-write.ensures.below,
+        c.in_ok-self-inside.ensures.below,
       ),
-      known_carried c.self.inside.image c.write.new.image c.write.ensures.keeps t (written c.args.moment c.args.key c.args.pos c.args.bytes.now t) s (c.in_ok-write.ensures.done t s).1 (written_format t c.args.moment c.args.key c.args.pos c.args.bytes.now)
+      known_carried c.self.inside.image c.write.new.image c.write.ensures.keeps t (written c.args.moment c.args.key c.args.pos c.args.bytes.now t) s (c.in_ok-self-inside.ensures.done t s).1 (written_format t c.args.moment c.args.key c.args.pos c.args.bytes.now)
           c.keep.new.self.places.entries
           (c.keep.ensures c.self.inside.image (record { is_file = subst (λ (w : Shown). HasFileKey w.image c.args.key) (sym c.self.view_is) c.requires.file; place_is = c.place_at-place.ensures.place }) c.self.invariant.1)
           (written_lasts t c.args.moment c.args.key c.args.pos c.args.bytes.now (c.requires.start t shown)),
     )
 
-pub invariant_of-self-in_err-write : goal.invariant_of-self-in_err-write
-invariant_of-self-in_err-write c = (
+pub invariant_of-self : goal.invariant_of-self
+invariant_of-self c = (
   subst (λ (image : List ℕ). ((((x : Tree) × Stands image x) × AreChildren image c.self.inside.names.pairs.entries) × IfSome c.self.inside.told (IsListed image)) × NoneFreeBelow image c.self.inside.free_from)
-      (sym c.in_err-write.ensures.done.0) c.self.invariant.0,
-  subst (λ (image : List ℕ). AreKnown image c.keep.new.self.places.entries) (sym c.in_err-write.ensures.done.0)
+      (sym c.in_err-self-inside.ensures.done.0) c.self.invariant.0,
+  subst (λ (image : List ℕ). AreKnown image c.keep.new.self.places.entries) (sym c.in_err-self-inside.ensures.done.0)
       (c.keep.ensures c.self.inside.image (record { is_file = subst (λ (w : Shown). HasFileKey w.image c.args.key) (sym c.self.view_is) c.requires.file; place_is = c.place_at-place.ensures.place }) c.self.invariant.1),
 )
 
 pub returns-clause-done : goal.returns-clause-done
-returns-clause-done c = λ t s. c.in_ok-write.ensures.done t (subst (λ (w : Shown). Stands w.image t) (sym c.self.view_is) s)
+returns-clause-done c = λ t s. c.in_ok-self-inside.ensures.done t (subst (λ (w : Shown). Stands w.image t) (sym c.self.view_is) s)
 
-pub returns-in_err-write-clause-done : goal.returns-in_err-write-clause-done
-returns-in_err-write-clause-done c = (
-  still_shown c.self.inside.image c.write.new.image c.self.inside.was_validated c.args.self.now c.self.view_is c.in_err-write.ensures.done.0,
-  λ t s. c.in_err-write.ensures.done.1 t (subst (λ (w : Shown). Stands w.image t) (sym c.self.view_is) s),
+pub returns-in_err-self-inside-clause-done : goal.returns-in_err-self-inside-clause-done
+returns-in_err-self-inside-clause-done c = (
+  still_shown c.self.inside.image c.write.new.image c.self.inside.was_validated c.args.self.now c.self.view_is c.in_err-self-inside.ensures.done.0,
+  λ t s. c.in_err-self-inside.ensures.done.1 t (subst (λ (w : Shown). Stands w.image t) (sym c.self.view_is) s),
 )
