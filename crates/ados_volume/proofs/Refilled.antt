@@ -1,5 +1,5 @@
 -- What a change of a file's bytes leaves of the children that were found, and what is shown of it.
-use Rattle.std.proofs.Common.{◌≡◌, ℕ, Bool, List, [], ◌∷◌, Some, option_map, refl, sym, ap, ◌∙◌}
+use Rattle.std.proofs.Common.{◌≡◌, ℕ, Bool, List, [], ◌∷◌, Some, Result, Ok, Err, IsErrAnd, MatchResult, option_map, refl, sym, ap, ◌∙◌}
 use Rattle.ados_name.specs.declared.Date3.{Date3}
 use Rattle.ados_tree.specs.Tree.{Node, Tree, content_at, entries_in, bytes_of}
 use Rattle.ados_tree.specs.Tree.Content.{File}
@@ -21,3 +21,8 @@ module _ (t : Tree) (key : ℕ) (file : (bytes : List ℕ) × (content_at t key 
 -- where the image is as it was, what is shown is too
 pub still_shown : (old new : List ℕ) (validated : Bool) (shown : Shown) → record { image = old; was_validated = validated } ≡ shown → new ≡ old → record { image = new; was_validated = validated } ≡ shown
 still_shown old new validated shown v same = (λ i. record { image = same i; was_validated = validated }) ∙ v
+
+-- an answer that is an error refuses
+pub refuses : {T E : Type 0} (Done : T → Type 0) (Refused : Type 0) (r : Result T E) (fault : E) → IsErrAnd r (λ told. told ≡ fault) → Refused → MatchResult r Done (λ _. Refused)
+refuses Done Refused (Ok x) fault is why = absurd is
+refuses Done Refused (Err told) fault is why = why

@@ -3,14 +3,15 @@ use Rattle.ados_map.specs.Pages.{IsLowestFree, NoneFree, NoneFreeBelow}
 use Rattle.ados_tree.specs.Tree.{Tree}
 use Rattle.ados_tree.specs.Stands.{Stands}
 use Rattle.ados_tree.specs.Change.{made}
-use Rattle.change_entries.specs.Kinds.{content_of}
+use Rattle.change_entries.specs.Kinds.{Makes, content_of}
 use Rattle.change_entries.proofs.Making.{unused}
+use Rattle.ados_volume.specs.Refused.{RefusesEntry}
 use Rattle.ados_volume.specs.Shown.{Shown}
 use Rattle.ados_volume.specs.steps.Cache.{AreChildren}
 use Rattle.ados_volume.specs.steps.Listed.{IsListed}
 use Rattle.ados_volume.proofs.Children.{all_carried}
 use Rattle.ados_volume.proofs.Moved.{made_stay}
-use Rattle.ados_volume.proofs.Refilled.{still_shown}
+use Rattle.ados_volume.proofs.Refilled.{refuses, still_shown}
 use Rattle.ados_volume.proofs.Known.{none_known}
 use Rattle.ados_volume.proofs.volume.Volume.create.Goals as goal
 
@@ -40,12 +41,14 @@ invariant_of-self c = (
 
 pub returns-clause-done : goal.returns-clause-done
 returns-clause-done c = (
-  subst (λ (w : Shown). IsLowestFree w.image _) c.self.view_is c.in_ok-key.ensures.key,
+  subst (λ (w : Shown). IsLowestFree w.image c.in_ok-key.key) c.self.view_is c.in_ok-key.ensures.key,
   λ t s. c.in_ok-key.ensures.stands t (subst (λ (w : Shown). Stands w.image t) (sym c.self.view_is) s),
 )
 
 pub returns-in_err-key-clause-done : goal.returns-in_err-key-clause-done
-returns-in_err-key-clause-done c = (
-  subst (λ (w : Shown). NoneFree w.image) c.self.view_is c.in_err-key.ensures.full.0,
-  still_shown c.self.inside.image c.create.new.image c.self.inside.was_validated c.args.self.now c.self.view_is c.in_err-key.ensures.full.1,
-)
+returns-in_err-key-clause-done c =
+    refuses (λ key. Makes c.args.moment c.args.dir c.args.name c.args.kind key c.args.self.now.image c.create.new.image) (RefusesEntry c.args.self.now (record { image = c.create.new.image; was_validated = c.self.inside.was_validated }))
+    c.from_residual.result c.in_err-key.field-0.0 c.from_residual.ensures.1 (
+      subst (λ (w : Shown). NoneFree w.image) c.self.view_is c.in_err-key.ensures.full.0,
+      still_shown c.self.inside.image c.create.new.image c.self.inside.was_validated c.args.self.now c.self.view_is c.in_err-key.ensures.full.1,
+    )

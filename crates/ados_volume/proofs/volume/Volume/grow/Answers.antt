@@ -3,6 +3,8 @@ use Rattle.ados_map.specs.Pages.{NoneFreeBelow}
 use Rattle.ados_tree.specs.Tree.{Tree}
 use Rattle.ados_tree.specs.Stands.{Stands}
 use Rattle.ados_tree.specs.Change.{grown}
+use Rattle.change_bytes.specs.Renewed.{Grows}
+use Rattle.ados_volume.specs.Refused.{RefusesGrowth}
 use Rattle.ados_volume.specs.Shown.{Shown}
 use Rattle.ados_tree.specs.Keys.{HasFileKey}
 use Rattle.change_bytes.proofs.Renewed.{file_writable}
@@ -10,7 +12,7 @@ use Rattle.ados_volume.specs.steps.Cache.{AreChildren}
 use Rattle.ados_volume.specs.steps.Listed.{IsListed}
 use Rattle.ados_volume.specs.steps.Places.{AreKnown}
 use Rattle.ados_volume.proofs.Children.{all_carried}
-use Rattle.ados_volume.proofs.Refilled.{still_shown, rewritten_stay}
+use Rattle.ados_volume.proofs.Refilled.{refuses, still_shown, rewritten_stay}
 use Rattle.ados_volume.proofs.Known.{known_carried, grown_lasts}
 use Rattle.ados_volume.proofs.volume.Volume.grow.Goals as goal
 
@@ -51,7 +53,9 @@ pub returns-clause-done : goal.returns-clause-done
 returns-clause-done c = λ t s. c.in_ok-self-inside.ensures.done t (subst (λ (w : Shown). Stands w.image t) (sym c.self.view_is) s)
 
 pub returns-in_err-self-inside-clause-done : goal.returns-in_err-self-inside-clause-done
-returns-in_err-self-inside-clause-done c = (
-  still_shown c.self.inside.image c.grow.new.image c.self.inside.was_validated c.args.self.now c.self.view_is c.in_err-self-inside.ensures.done.0,
-  λ t s. c.in_err-self-inside.ensures.done.1 t (subst (λ (w : Shown). Stands w.image t) (sym c.self.view_is) s),
-)
+returns-in_err-self-inside-clause-done c =
+    refuses (λ _. Grows c.args.moment c.args.key c.args.size c.args.self.now.image c.grow.new.image) (RefusesGrowth c.args.key c.args.size c.args.self.now (record { image = c.grow.new.image; was_validated = c.self.inside.was_validated }))
+    c.from_residual.result c.in_err-self-inside.field-0.0 c.from_residual.ensures.1 (
+      still_shown c.self.inside.image c.grow.new.image c.self.inside.was_validated c.args.self.now c.self.view_is c.in_err-self-inside.ensures.done.0,
+      λ t s. c.in_err-self-inside.ensures.done.1 t (subst (λ (w : Shown). Stands w.image t) (sym c.self.view_is) s),
+    )
