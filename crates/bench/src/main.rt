@@ -16,7 +16,7 @@ use std::env;
 
 /// What the words may be. `all` times each thing, with the counts that are taken where no word gives another.
 const USAGE: &str =
-    "usage: bench port [TRIPS] | volume [FILE] | changes [FILES [DIRS [ofs|ffs]]] | packets [ROUNDS [LOCKS [ENTRIES]]] | all";
+    "usage: bench port [TRIPS] | idle [TRIPS] | volume [FILE] | changes [FILES [DIRS [ofs|ffs]]] | packets [ROUNDS [LOCKS [ENTRIES]]] | all";
 
 /// A number from a word, or another where there is no word.
 fn number(word: Option<String>, otherwise: u32) -> Result<u32> {
@@ -40,6 +40,7 @@ fn main(rt: HostRuntime) -> Result<()> {
     let mut words = env::args(&rt)?.skip(1);
     match words.next().as_deref() {
         Some("port") => port::time(&rt, alloc, number(words.next(), port::TRIPS)?),
+        Some("idle") => port::time_idle(&rt, alloc, number(words.next(), port::IDLE_TRIPS)?),
         Some("volume") => volume::time(&rt, alloc, words.next().as_deref()),
         Some("changes") => {
             let files = number(words.next(), changes::FILES)?;
@@ -55,6 +56,7 @@ fn main(rt: HostRuntime) -> Result<()> {
         }
         Some("all") => {
             port::time(&rt, alloc, port::TRIPS)?;
+            port::time_idle(&rt, alloc, port::IDLE_TRIPS)?;
             volume::time(&rt, alloc, None)?;
             changes::time(&rt, alloc, Format::Ffs, changes::FILES, changes::DIRS)?;
             packets::time(
