@@ -164,7 +164,7 @@ pub(crate) fn time<R: Threads + Wait + Clock + Eprint + Copy + Send + Drop + 'st
     alloc: Global,
     trips: u32,
 ) -> Result<()> {
-    for clients in [1usize, 2, 4] {
+    for clients in [1usize, 2, 4, 8] {
         let (right, micros) = round_trips(rt, alloc, clients, trips as u64, 0)?;
         let trips = right.wrapping_mul(1_000_000) / micros.max(1);
         eprintln!(rt; "port {clients} {trips}")?;
