@@ -1,7 +1,8 @@
 #!/bin/sh
 # Prints how long it takes to check, to list and to read a full image, beside `cat` of its file and, where the machine has
-# it, `unadf -lr`. The words are sizes in blocks: 1,760, 16,000 and 101,602 if there are none. Each time is the best of
-# 21 runs. It needs the machine's rustc beside the kit.
+# it, `unadf -lr`. The words are sizes in blocks: 1,760, 16,000 and 101,602 if there are none. A second table has directories
+# with many entries: 1,000 files in the root of a high-density floppy, and 20,000 and 100,000 in that of the largest image.
+# Each time is the best of 21 runs. It needs the machine's rustc beside the kit.
 . "$(dirname "$0")/setup.sh"
 runs=21
 serve=$(program adf_serve)
@@ -49,3 +50,18 @@ awk 'BEGIN { print "blocks kind     cat   check    list    read   unadf   check 
         if ($1 == 1760) floppy = floppy sprintf(" %s ms (%s)", ms($4), $2)
     }
     END { if (floppy) print "\nadf_serve check of a double-density floppy, with its start:" floppy }' "$room/table"
+
+echo
+echo "Directories with many entries, in the same way."
+echo
+echo "blocks entries     cat   check    list   unadf  list to check"
+for counts in "3520 1000" "101602 20000" "101602 100000"; do
+    set -- $counts
+    file=$room/entries.adf
+    "$room/full_image" ffs "$1" "$file" "$2" > /dev/null
+    [ "$("$serve" list "$file" | wc -l)" = $(($2 + 1)) ] || { echo "$2 entries are not listed" >&2; exit 1; }
+    unadf=
+    if command -v unadf > /dev/null && [ "$2" = 1000 ]; then unadf=$(best unadf -lr "$file" 2> /dev/null); fi
+    echo "$counts $(best cat "$file") $(best "$serve" check "$file") $(best "$serve" list "$file") $unadf"
+done | awk '{ unadf = NF == 6 ? sprintf("%.2f", $6 / 1000) : "-"
+    printf "%6d %7d %7.2f %7.2f %7.2f %7s  %13.2f\n", $1, $2, $3 / 1000, $4 / 1000, $5 / 1000, unadf, $5 / $4 }'
