@@ -1,5 +1,5 @@
 -- What a change of a tree leaves of the children that were found.
-use Rattle.std.proofs.Common.{◌≡◌, ℕ, inl, inr, List, map, Contains, Option, Some, None, IfSome, option_map, refl, sym, ap, ◌∙◌, subst, eq-eqb}
+use Rattle.std.proofs.Common.{◌≡◌, ℕ, inl, inr, List, map, Contains, Option, Some, None, option_map, refl, sym, ap, ◌∙◌, subst, eq-eqb}
 use Rattle.std.proofs.lemmas.Bool.{ne_eqb, cases_eq}
 use Rattle.std.proofs.lemmas.Slice.Eq.{bytes_eq-Decides}
 use Rattle.ados_name.specs.Name.{upper, Same}
@@ -9,9 +9,8 @@ use Rattle.ados_tree.specs.Walk.{child_of}
 use Rattle.ados_tree.specs.Change.{changed}
 use Rattle.ados_tree.proofs.OneTree.{one_tree}
 use Rattle.ados_volume.specs.declared.cache.Sought.{Sought}
-use Rattle.ados_volume.specs.declared.volume.Told.{Told}
 use Rattle.ados_volume.specs.steps.Cache.{HasPair, AreChildren}
-use Rattle.ados_volume.specs.steps.Listed.{IsListed}
+use Rattle.ados_volume.specs.steps.Listed.{AreListed}
 use Rattle.ados_volume.proofs.Looking.{is_child}
 use Rattle.ados_volume.proofs.Walking.{find-is}
 
@@ -42,14 +41,13 @@ module _ (old new : List ℕ) (t u : Tree) (s : Stands old t) (r : Stands new u)
       let child = h dir name key c.0 t s in
       subst (λ (x : Tree). child_of x dir name ≡ Some key) (one_tree new u v r w) (child_stays dir key name (c.1 child) child)
 
-  -- an entry that stays is one of the new tree
-  told_stays : (told : Option Told) → IfSome told (IsListed old) → AllStay t u → IfSome told (IsListed new)
-  told_stays None listed stay = tt
-  told_stays (Some at) listed stay = λ v w. subst (λ (x : Tree). Contains (entries x at.dir) at.key) (one_tree new u v r w) (stay at.dir at.key (listed t s)).0
+  -- entries that stay are those of the new tree
+  told_stay : (told : List (ℕ × ℕ)) → AreListed old told → AllStay t u → AreListed new told
+  told_stay told listed stay dir key c v w = subst (λ (x : Tree). Contains (entries x dir) key) (one_tree new u v r w) (stay dir key (listed dir key c t s)).0
 
-  -- the image stands for a tree whose children the pairs are, and which has the entry that was told last
-  pub all_carried : (pairs : List (Sought × ℕ)) → AreChildren old pairs → (told : Option Told) → IfSome told (IsListed old) → AllStay t u → (((x : Tree) × Stands new x) × AreChildren new pairs) × IfSome told (IsListed new)
-  all_carried pairs h told listed stay = (((u, r), carried pairs pairs h (λ dir key name p. (p, λ child. stay dir key))), told_stays told listed stay)
+  -- the image stands for a tree whose children the pairs are, and which has the entries that were told last
+  pub all_carried : (pairs : List (Sought × ℕ)) → AreChildren old pairs → (told : List (ℕ × ℕ)) → AreListed old told → AllStay t u → (((x : Tree) × Stands new x) × AreChildren new pairs) × AreListed new told
+  all_carried pairs h told listed stay = (((u, r), carried pairs pairs h (λ dir key name p. (p, λ child. stay dir key))), told_stay told listed stay)
 
 -- ---- one node is changed
 

@@ -1,5 +1,5 @@
--- What a cache of places gives back, and what it keeps.
-use Rattle.std.proofs.Common.{◌≡◌, ◌≢◌, ℕ, Bool, true, false, ◌==◌, inl, inr, List, [], ◌∷◌, Contains, Option, Some, Result, Ok, Err, OnOk, OnErr, refl, sym, ap, ◌∙◌, subst, eq-eqb, eqb-true}
+-- What a cache of places, and one of entries that were told, gives back, and what it keeps.
+use Rattle.std.proofs.Common.{◌≡◌, ℕ, Bool, true, false, ◌==◌, inl, inr, List, [], ◌∷◌, Contains, Option, Some, Result, Ok, Err, OnOk, OnErr, IsTrue, refl, sym, ap, ◌∙◌, subst, eq-eqb, eqb-true}
 use Rattle.std.specs.Map.{lookup, remove_entry, keys_of}
 use Rattle.std.specs.List.{AllByRecursion, IsDistinct}
 use Rattle.std.proofs.lemmas.Bool.{false≢true}
@@ -8,29 +8,44 @@ use Rattle.lru.proofs.CallerLemmas.{Contains-lookup, Contains-put_entries, Conta
 use Rattle.lru.proofs.Splits.{Contains-nil, Contains-cons}
 use Rattle.ados_data.specs.declared.place.Place.{Place}
 use Rattle.ados_data.specs.Place.{IsPlace}
-use Rattle.ados_volume.specs.steps.Places.{AreKnown, Drops, IsKnown}
+use Rattle.ados_volume.specs.steps.Places.{AreKnown, Drops}
+use Rattle.ados_volume.specs.steps.Listed.{AreListed}
 
--- what is found is a place in the file
+-- what is found is a pair
+found_pair : {V : Type 0} (pairs : List (ℕ × V)) (key : ℕ) (v : V) → lookup (λ k. key == k) pairs ≡ Some v → Contains pairs (key, v)
+found_pair {V} pairs key v e =
+    let h = Contains-lookup (λ k. key == k) pairs v e in
+    subst (λ (k : ℕ). Contains pairs (k, v)) (sym (eqb-true key h.0 h.2)) h.1
+
+-- so it is a place in the file
 pub found_place : (pairs : List (ℕ × Place)) (file : ℕ) (place : Place) → lookup (λ k. file == k) pairs ≡ Some place → (image : List ℕ) → AreKnown image pairs → IsPlace image file place
-found_place pairs file place e image known =
-    let h = Contains-lookup (λ k. file == k) pairs place e in
-    subst (λ (f : ℕ). IsPlace image f place) (sym (eqb-true file h.0 h.2)) (known h.0 place h.1).place_is
+found_place pairs file place e image known = (known file place (found_pair pairs file place e)).place_is
 
--- a put adds no other pair
-added : (cache : LruCache ℕ Place) (file : ℕ) (place : Place) (image : List ℕ) → IsKnown image file place → AreKnown image cache.entries → AreKnown image (put_entries (λ a b. a == b) cache file place)
-added cache file place image new known f p c = elim (Contains-put_entries (λ a b. a == b) cache file place (f, p) c) [
-  | inl was ↦ known f p was
-  | inr put ↦ subst (λ (q : Place). IsKnown image f q) (sym put.0) (elim put.1 [
-    | inl same ↦ subst (λ (g : ℕ). IsKnown image g place) (sym same) new
-    | inr there ↦ subst (λ (g : ℕ). IsKnown image g place) (eqb-true file f there.2) new
-  ])
-]
+-- and it is the entry that was told last, where it is the same
+pub found_last : (pairs : List (ℕ × ℕ)) (dir last key : ℕ) → lookup (λ k. dir == k) pairs ≡ Some last → IsTrue (last == key) → Contains pairs (dir, key)
+found_last pairs dir last key e same = subst (λ (k : ℕ). Contains pairs (dir, k)) (eqb-true last key same) (found_pair pairs dir last e)
 
-pub put_known : {E : Type 0} (old : LruCache ℕ Place) (file : ℕ) (place : Place) (new : LruCache ℕ Place) (r : Result (Option Place) E)
-    → OnOk r (new ≡ lru_cache (put_entries (λ a b. a == b) old file place) old.cap) → OnErr r (new ≡ old)
-    → (image : List ℕ) → IsKnown image file place → AreKnown image old.entries → AreKnown image new.entries
-put_known old file place new (Ok o) put stays image this known = subst (λ (c : LruCache ℕ Place). AreKnown image c.entries) (sym put) (added old file place image this known)
-put_known old file place new (Err e) put stays image this known = subst (λ (c : LruCache ℕ Place). AreKnown image c.entries) (sym stays) known
+-- what holds of each pair holds of each after a put of one of which it holds
+module _ {V : Type 0} (Holds : ℕ → V → Type 0) where
+  added : (cache : LruCache ℕ V) (key : ℕ) (value : V) → Holds key value → ((k : ℕ) (v : V) → Contains cache.entries (k, v) → Holds k v)
+      → (k : ℕ) (v : V) → Contains (put_entries (λ a b. a == b) cache key value) (k, v) → Holds k v
+  added cache key value new known k v c = elim (Contains-put_entries (λ a b. a == b) cache key value (k, v) c) [
+    | inl was ↦ known k v was
+    | inr put ↦ subst (λ (w : V). Holds k w) (sym put.0) (elim put.1 [
+      | inl same ↦ subst (λ (g : ℕ). Holds g value) (sym same) new
+      | inr there ↦ subst (λ (g : ℕ). Holds g value) (eqb-true key k there.2) new
+    ])
+  ]
+
+  pub put_holds : {E : Type 0} (old : LruCache ℕ V) (key : ℕ) (value : V) (new : LruCache ℕ V) (r : Result (Option V) E)
+      → OnOk r (new ≡ lru_cache (put_entries (λ a b. a == b) old key value) old.cap) → OnErr r (new ≡ old)
+      → Holds key value → ((k : ℕ) (v : V) → Contains old.entries (k, v) → Holds k v) → (k : ℕ) (v : V) → Contains new.entries (k, v) → Holds k v
+  put_holds old key value new (Ok o) put stays this known = subst (λ (c : LruCache ℕ V). (k : ℕ) (v : V) → Contains c.entries (k, v) → Holds k v) (sym put) (added old key value this known)
+  put_holds old key value new (Err e) put stays this known = subst (λ (c : LruCache ℕ V). (k : ℕ) (v : V) → Contains c.entries (k, v) → Holds k v) (sym stays) known
+
+-- with no pairs there is none that is not an entry
+pub none_listed : (image : List ℕ) (pairs : List (ℕ × ℕ)) → pairs ≡ [] → AreListed image pairs
+none_listed image pairs e dir key c = absurd (Contains-nil (dir, key) (subst (λ (xs : List (ℕ × ℕ)). Contains xs (dir, key)) e c))
 
 -- a pair that was taken out is gone
 apart : (x f : ℕ) (place : Place) (pairs : List (ℕ × Place)) → AllByRecursion (λ y. (x == y) ≡ false) (keys_of pairs) → Contains pairs (f, place) → (x == f) ≡ false

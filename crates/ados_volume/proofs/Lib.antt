@@ -6,6 +6,7 @@ pub mod BlankMarks
 pub mod BlankImage
 pub mod Bridge
 pub mod Looking
+pub mod Ordered
 pub mod Walking
 pub mod Examining
 pub mod Cached

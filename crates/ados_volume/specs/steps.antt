@@ -1,4 +1,4 @@
--- A step of a walk, what is kept of names and places, the entry that was told last, and the parts of a blank image.
+-- A step of a walk, what is kept of names and places, the entries that were told last, and the parts of a blank image.
 pub mod PathStep
 pub mod Cache
 pub mod Places

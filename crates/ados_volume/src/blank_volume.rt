@@ -11,6 +11,7 @@ ghost use Rattle.ados_volume.specs.steps.BlankParts.{IsBlankRoot, NamesBlank};
 
 use crate::cache::NameCache;
 use crate::places::PlaceCache;
+use crate::told::ToldCache;
 use crate::volume::Volume;
 use adf_block::layout::{
     BITMAP_FLAG, BITMAP_VALID, CREATION_DATE, DATE, DISK_DATE, FIRST_PAGE, HEADER_TYPE, NAME_BYTE,
@@ -37,8 +38,9 @@ pub fn blank(
 {
     let names = NameCache::new(alloc)?;
     let places = PlaceCache::new(alloc)?;
+    let told = ToldCache::new(alloc)?;
     let image = blank_image(alloc, format, blocks, &name, moment)?;
-    Ok(Volume::standing(image, false, names, places))
+    Ok(Volume::standing(image, false, names, places, told))
 }
 
 /// The image of a blank volume.

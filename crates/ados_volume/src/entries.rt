@@ -1,6 +1,6 @@
 //! Changes of a directory's entries.
 
-ghost use Rattle.std.specs.Prelude.{◌≡◌, None, MatchResult};
+ghost use Rattle.std.specs.Prelude.{◌≡◌, [], MatchResult};
 ghost use Rattle.ados_tree.specs.Tree.{Tree};
 ghost use Rattle.ados_tree.specs.Stands.{Stands};
 ghost use Rattle.ados_tree.specs.Keys.{HasKey, HasTree};
@@ -14,7 +14,8 @@ ghost use Rattle.ados_volume.specs.steps.Cache.{Forgets};
 
 use crate::cache::NameCache;
 use crate::examine::name_in;
-use crate::volume::{Told, Volume};
+use crate::told::ToldCache;
+use crate::volume::Volume;
 use crate::walk::parent_in;
 use adf_block::Image;
 use adf_block::layout::BOOT_BLOCKS;
@@ -74,14 +75,14 @@ impl Volume {
     }
 }
 
-/// Takes an object out of the names that are kept, and keeps no entry as the one that was told last.
-fn forget(names: &mut NameCache, told: &mut Option<Told>, image: &Image, key: u32)
+/// Takes an object out of the names that are kept, and keeps no entry that was told last.
+fn forget(names: &mut NameCache, told: &mut ToldCache, image: &Image, key: u32)
     requires tree { HasTree image.now }
     requires key { HasKey image.now key }
     ensures names { Forgets image.now key names.old.pairs.entries names.new.pairs.entries }
-    ensures told { told.new ≡ None }
+    ensures told { told.new.entries.entries ≡ [] }
 {
-    *told = None;
+    told.clear();
     if let Some(dir) = parent_in(image, key) {
         names.take_out(dir, &name_in(image, key));
     }

@@ -12,6 +12,7 @@ mod laws;
 mod look;
 mod places;
 mod stamp;
+mod told;
 mod volume;
 mod walk;
 

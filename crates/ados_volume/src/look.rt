@@ -1,6 +1,6 @@
 //! Looking into directories and files.
 
-ghost use Rattle.std.specs.Prelude.{◌≡◌, ◌++◌, ◌-◌, IfSome, IsTrue, Some, min, take, drop, length};
+ghost use Rattle.std.specs.Prelude.{◌≡◌, ◌++◌, ◌-◌, IsTrue, min, take, drop, length};
 ghost use Rattle.std.specs.Bool.{IsFalse};
 ghost use Rattle.ados_tree.specs.Tree.{Tree, bytes_of, root};
 ghost use Rattle.ados_tree.specs.Stands.{Stands};
@@ -8,9 +8,11 @@ ghost use Rattle.ados_tree.specs.Walk.{child_of, is_file};
 ghost use Rattle.ados_tree.specs.Change.{entries_after};
 ghost use Rattle.ados_tree.specs.Keys.{HasDirectory, HasFileKey, HasKey, HasTree};
 ghost use Rattle.ados_chain.specs.Look.{first_left};
-ghost use Rattle.ados_volume.specs.steps.Listed.{IsListed};
+ghost use Rattle.ados_volume.specs.Order.{IsPlaceIn};
+ghost use Rattle.ados_volume.specs.steps.Listed.{AreListed};
 
-use crate::volume::{Told, Volume};
+use crate::told::ToldCache;
+use crate::volume::Volume;
 use adf_block::Image;
 use adf_block::layout::{FILE_TYPE, SECONDARY_TYPE};
 use ados_chain::{Next, after, after_entry, find};
@@ -63,16 +65,26 @@ impl Volume {
         after(self.image(), dir, key)
     }
 
-    /// What comes after a key, as `next` says it. The entry that was told last is kept, so that no chain is gone through to
-    /// find it again.
+    /// What comes after a key that is the directory's own or an entry's in it, as `next` says it, without going through a
+    /// chain to find the entry again.
+    pub fn next_from(&self, dir: u32, key: u32) -> Next
+        requires dir { HasDirectory self.now.image dir }
+        requires place { IsPlaceIn self.now.image dir key }
+        ensures { (t : Tree) → Stands self.now.image t → result ≡ first_left (entries_after t dir key) }
+    {
+        next_at(self.image(), dir, key)
+    }
+
+    /// What comes after a key, as `next` says it. The entry that was told last is kept of each of some directories, so that no
+    /// chain is gone through to find it again.
     pub fn tell_next(&mut self, dir: u32, key: u32) -> Next
         requires { HasDirectory self.old.image dir }
         ensures next { (t : Tree) → Stands self.old.image t → result ≡ first_left (entries_after t dir key) }
         ensures same { self.new ≡ self.old }
     {
-        let next = next_in(&self.image, self.told, dir, key);
+        let next = next_in(&self.image, &self.told, dir, key);
         if let Next::Entry(entry) = next {
-            self.told = Some(Told { dir, key: entry });
+            self.told.keep(dir, entry);
         }
         next
     }
@@ -100,27 +112,31 @@ impl Volume {
     }
 }
 
-/// What comes after a key in the order of a directory, where an entry is known already.
-fn next_in(image: &Image, told: Option<Told>, dir: u32, key: u32) -> Next
+/// What comes after a key in the order of a directory, where an entry of some directories is known already.
+fn next_in(image: &Image, told: &ToldCache, dir: u32, key: u32) -> Next
     requires tree { HasTree image.now }
     requires dir { HasDirectory image.now dir }
-    requires told { IfSome told (IsListed image.now) }
+    requires told { AreListed image.now told.now.entries.entries }
     ensures { (t : Tree) → Stands image.now t → result ≡ first_left (entries_after t dir key) }
 {
-    if is_last(told, dir, key) {
-        after_entry(image, dir, key)
+    if told.is_last(dir, key) {
+        next_at(image, dir, key)
     } else {
         after(image, dir, key)
     }
 }
 
-/// Whether the entry that was told last is this one.
-fn is_last(told: Option<Told>, dir: u32, key: u32) -> bool
-    ensures { IsTrue result → told ≡ Some (record { dir = dir; key = key }) }
+/// What comes after a key that is the directory's own or an entry's in it.
+fn next_at(image: &Image, dir: u32, key: u32) -> Next
+    requires tree { HasTree image.now }
+    requires dir { HasDirectory image.now dir }
+    requires place { IsPlaceIn image.now dir key }
+    ensures { (t : Tree) → Stands image.now t → result ≡ first_left (entries_after t dir key) }
 {
-    match told {
-        Some(last) => last.dir == dir && last.key == key,
-        None => false,
+    if key == dir {
+        after(image, dir, dir)
+    } else {
+        after_entry(image, dir, key)
     }
 }
 

@@ -9,8 +9,8 @@ use lru::LruCache;
 use std::alloc::{AllocError, Global};
 use std::num::NonZeroUsize;
 
-/// How many files have a place that is kept.
-const MOST: usize = 64;
+/// How many files have a place that is kept (this project's own choice).
+const KEPT_PLACES: usize = 64;
 
 /// The places in the files that were read and written last, each by the file's key.
 #[derive(Drop)]
@@ -23,7 +23,7 @@ impl PlaceCache {
     pub fn new(alloc: Global) -> Result<PlaceCache, AllocError>
         ensures { IfOk result (λ cache. cache.places.entries ≡ []) }
     {
-        let places = LruCache::new(alloc, NonZeroUsize::new(MOST).unwrap())?;
+        let places = LruCache::new(alloc, NonZeroUsize::new(KEPT_PLACES).unwrap())?;
         Ok(PlaceCache { places })
     }
 

@@ -6,19 +6,13 @@ ghost use Rattle.ados_tree.specs.Stands.{Stands};
 
 use crate::cache::NameCache;
 use crate::places::PlaceCache;
+use crate::told::ToldCache;
 use adf_block::Image;
 use adf_block::layout::BOOT_BLOCKS;
 use std::marker::Model;
 
-/// A directory and one of its entries.
-#[derive(Clone, Copy, PartialEq, Eq)]
-pub struct Told {
-    pub dir: u32,
-    pub key: u32,
-}
-
 /// A volume whose image stands for one tree, by `one_tree` of `ados_tree`. Contracts see the image and whether its
-/// bitmap was rebuilt, and speak of that tree. Which names and places in files are kept, which entry was told last and where
+/// bitmap was rebuilt, and speak of that tree. Which names and places in files are kept, which entries were told last and where
 /// free blocks are sought they do not see.
 #[derive(Drop)]
 pub struct Volume {
@@ -26,8 +20,7 @@ pub struct Volume {
     was_validated: bool,
     pub(crate) names: NameCache,
     pub(crate) places: PlaceCache,
-    /// The entry that was told last.
-    pub(crate) told: Option<Told>,
+    pub(crate) told: ToldCache,
     /// No block below it is free.
     pub(crate) free_from: u32,
 }
@@ -36,17 +29,16 @@ impl Model for Volume {
     ghost use Rattle.ados_tree.specs.Tree.{Tree};
     ghost use Rattle.ados_tree.specs.Stands.{Stands};
     ghost use Rattle.ados_map.specs.Pages.{NoneFreeBelow};
-    ghost use Rattle.std.specs.Prelude.{IfSome};
     ghost use Rattle.ados_volume.specs.steps.Cache.{AreChildren};
     ghost use Rattle.ados_volume.specs.steps.Places.{AreKnown};
-    ghost use Rattle.ados_volume.specs.steps.Listed.{IsListed};
+    ghost use Rattle.ados_volume.specs.steps.Listed.{AreListed};
     ghost use Rattle.ados_volume.specs.Shown.{Shown};
 
     ghost Value = { Shown };
 
     ghost view = { λ volume. record { image = volume.image; was_validated = volume.was_validated } };
 
-    ghost invariant = { λ volume. (((((t : Tree) × Stands volume.image t) × AreChildren volume.image volume.names.pairs.entries) × IfSome volume.told (IsListed volume.image)) × NoneFreeBelow volume.image volume.free_from) × AreKnown volume.image volume.places.places.entries };
+    ghost invariant = { λ volume. (((((t : Tree) × Stands volume.image t) × AreChildren volume.image volume.names.pairs.entries) × AreListed volume.image volume.told.entries.entries) × NoneFreeBelow volume.image volume.free_from) × AreKnown volume.image volume.places.places.entries };
 }
 
 impl Volume {
@@ -56,10 +48,12 @@ impl Volume {
         was_validated: bool,
         names: NameCache,
         places: PlaceCache,
+        told: ToldCache,
     ) -> Volume
         requires stands { (t : Tree) × Stands image t }
         requires no_names { names.pairs.entries ≡ [] }
         requires no_places { places.places.entries ≡ [] }
+        requires no_entries { told.entries.entries ≡ [] }
         ensures image { result.image ≡ image }
         ensures validated { result.was_validated ≡ was_validated }
     {
@@ -68,7 +62,7 @@ impl Volume {
             was_validated,
             names,
             places,
-            told: None,
+            told,
             free_from: BOOT_BLOCKS,
         }
     }

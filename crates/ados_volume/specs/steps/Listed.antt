@@ -1,9 +1,12 @@
--- The entry that was told last.
+-- The entries that were told last.
 use Rattle.std.specs.Prelude.{ℕ, List, Contains}
 use Rattle.ados_tree.specs.Tree.{Tree, entries}
 use Rattle.ados_tree.specs.Stands.{Stands}
-use Rattle.ados_volume.specs.declared.volume.Told.{Told}
 
--- it is an entry of its directory
-abbrev pub IsListed : List ℕ → Told → Type 0
-IsListed image told = (t : Tree) → Stands image t → Contains (entries t told.dir) told.key
+-- the key is that of an entry of the directory
+abbrev pub IsListed : List ℕ → ℕ → ℕ → Type 0
+IsListed image dir key = (t : Tree) → Stands image t → Contains (entries t dir) key
+
+-- each pair is a directory and an entry of it
+abbrev pub AreListed : List ℕ → List (ℕ × ℕ) → Type 0
+AreListed image pairs = (dir key : ℕ) → Contains pairs (dir, key) → IsListed image dir key

@@ -10,4 +10,5 @@ standing-requires c = record {
   );
   no_names = c.in_ok-names.ensures;
   no_places = c.in_ok-places.ensures;
+  no_entries = c.in_ok-told.ensures;
 }

@@ -1,4 +1,4 @@
-use Rattle.std.proofs.Common.{ℕ, List, IfSome, sym, subst}
+use Rattle.std.proofs.Common.{ℕ, List, sym, subst}
 use Rattle.ados_map.specs.Pages.{IsLowestFree, NoneFree, NoneFreeBelow}
 use Rattle.ados_tree.specs.Tree.{Tree}
 use Rattle.ados_tree.specs.Stands.{Stands}
@@ -8,7 +8,7 @@ use Rattle.change_entries.proofs.Making.{unused}
 use Rattle.ados_volume.specs.Refused.{RefusesEntry}
 use Rattle.ados_volume.specs.Shown.{Shown}
 use Rattle.ados_volume.specs.steps.Cache.{AreChildren}
-use Rattle.ados_volume.specs.steps.Listed.{IsListed}
+use Rattle.ados_volume.specs.steps.Listed.{AreListed}
 use Rattle.ados_volume.proofs.Children.{all_carried}
 use Rattle.ados_volume.proofs.Moved.{made_stay}
 use Rattle.ados_volume.proofs.Refilled.{refuses, still_shown}
@@ -25,7 +25,7 @@ invariant_of-self-2 c =
     let key = c.in_ok-key.ensures.key in (
       (
         all_carried c.self.inside.image c.create.new.image t (made c.args.moment c.args.dir _ c.args.name (content_of c.args.kind) t) s (c.in_ok-key.ensures.stands t s)
-            c.self.inside.names.pairs.entries c.self.invariant.0.0.0.1 c.self.inside.told c.self.invariant.0.0.1
+            c.self.inside.names.pairs.entries c.self.invariant.0.0.0.1 c.self.inside.told.entries.entries c.self.invariant.0.0.1
             (made_stay t s.proper c.args.moment c.args.dir _ c.args.name (content_of c.args.kind) (unused c.self.inside.image t s _ key).no_node),
         c.in_ok-key.ensures.below,
       ),
@@ -34,7 +34,7 @@ invariant_of-self-2 c =
 
 pub invariant_of-self : goal.invariant_of-self
 invariant_of-self c = (
-  subst (λ (image : List ℕ). ((((x : Tree) × Stands image x) × AreChildren image c.self.inside.names.pairs.entries) × IfSome c.self.inside.told (IsListed image)) × NoneFreeBelow image c.self.inside.free_from)
+  subst (λ (image : List ℕ). ((((x : Tree) × Stands image x) × AreChildren image c.self.inside.names.pairs.entries) × AreListed image c.self.inside.told.entries.entries) × NoneFreeBelow image c.self.inside.free_from)
       (sym c.in_err-key.ensures.full.1) c.self.invariant.0,
   none_known c.create.new.image c.clear.new.self.places.entries c.clear.ensures,
 )

@@ -14,7 +14,7 @@ invariant_of-self c =
     let s = c.self.invariant.0.0.0.0.1 in
     let shown = subst (λ (w : Shown). Stands w.image t) c.self.view_is s in (
       (
-        all_carried c.self.inside.image c.cut.new.image t (shortened c.args.moment c.args.key c.args.size t) s (c.cut.ensures.stands t s) c.self.inside.names.pairs.entries c.self.invariant.0.0.0.1 c.self.inside.told c.self.invariant.0.0.1
+        all_carried c.self.inside.image c.cut.new.image t (shortened c.args.moment c.args.key c.args.size t) s (c.cut.ensures.stands t s) c.self.inside.names.pairs.entries c.self.invariant.0.0.0.1 c.self.inside.told.entries.entries c.self.invariant.0.0.1
             (rewritten_stay t c.args.key (c.requires.file t shown) c.args.moment _),
         below_boot c.cut.new.image,
       ),

@@ -1,12 +1,11 @@
-use Rattle.std.proofs.Common.{Option, IfSome, sym, subst}
+use Rattle.std.proofs.Common.{sym, subst}
 use Rattle.ados_tree.specs.Stands.{Stands}
 use Rattle.ados_tree.specs.Change.{removed}
 use Rattle.ados_volume.specs.Shown.{Shown}
-use Rattle.ados_volume.specs.declared.volume.Told.{Told}
-use Rattle.ados_volume.specs.steps.Listed.{IsListed}
 use Rattle.ados_volume.proofs.Bounds.{below_boot}
 use Rattle.ados_volume.proofs.Moved.{removed_stays, has_parent, forgotten_carried}
 use Rattle.ados_volume.proofs.Known.{none_known}
+use Rattle.ados_volume.proofs.Kept.{none_listed}
 use Rattle.ados_volume.proofs.volume.Volume.remove.Goals as goal
 
 pub forget-requires-clause-key : goal.forget-requires-clause-key
@@ -27,7 +26,7 @@ invariant_of-self c =
           forgotten_carried c.self.inside.image c.remove.new.image t (removed c.args.moment c.args.key t) s (c.remove.ensures.stands t s) c.args.key
               c.self.inside.names.pairs.entries c.forget.new.names.pairs.entries c.self.invariant.0.0.0.1 c.forget.ensures.names
               (removed_stays t c.args.moment c.args.key can.empty),
-          subst (λ (told : Option Told). IfSome told (IsListed c.remove.new.image)) (sym c.forget.ensures.told) tt,
+          none_listed c.remove.new.image c.forget.new.told.entries.entries c.forget.ensures.told,
         ),
         below_boot c.remove.new.image,
       ),

@@ -18,7 +18,7 @@ invariant_of-self c =
     let s = c.self.invariant.0.0.0.0.1 in (
       (
         all_carried c.self.inside.image c.rename_disk.new.image t (disk_renamed c.args.moment c.args.name t) s (c.rename_disk.ensures.stands t s)
-            c.self.inside.names.pairs.entries c.self.invariant.0.0.0.1 c.self.inside.told c.self.invariant.0.0.1
+            c.self.inside.names.pairs.entries c.self.invariant.0.0.0.1 c.self.inside.told.entries.entries c.self.invariant.0.0.1
             (changed_stay t (root t) (λ node. record node { name = c.args.name }) (λ a e. refl) (λ dir a m e. absurd (entry_not_root t s.proper dir (root t) m refl))),
         below_restamped c.self.inside.image c.rename_disk.new.image t s (root_of c.self.inside.image) name_byte (name_byte + 1 + length c.args.name) (root_serves c.self.inside.image t s) c.rename_disk.ensures.rest c.rename_disk.ensures.keeps c.self.inside.free_from c.self.invariant.0.1,
       ),

@@ -14,7 +14,7 @@ invariant_of-self c =
     let s = c.self.invariant.0.0.0.0.1 in (
       (
         all_carried c.self.inside.image c.set_comment.new.image t (with_comment c.args.moment c.args.key c.args.comment.now t) s (c.set_comment.ensures.stands t s)
-            c.self.inside.names.pairs.entries c.self.invariant.0.0.0.1 c.self.inside.told c.self.invariant.0.0.1
+            c.self.inside.names.pairs.entries c.self.invariant.0.0.0.1 c.self.inside.told.entries.entries c.self.invariant.0.0.1
             (changed_stay t c.args.key (λ node. record node { comment = c.args.comment.now }) (λ a e. refl) (λ dir a m e. refl)),
         below_restamped c.self.inside.image c.set_comment.new.image t s c.args.key comment_byte (comment_byte + 1 + length c.args.comment.now) (c.requires t (subst (λ (shown : Shown). Stands shown.image t) c.self.view_is s)).0 c.set_comment.ensures.rest c.set_comment.ensures.keeps c.self.inside.free_from c.self.invariant.0.1,
       ),

@@ -14,7 +14,7 @@ invariant_of-self c =
     let s = c.self.invariant.0.0.0.0.1 in (
       (
         all_carried c.self.inside.image c.set_date.new.image t (with_date c.args.moment c.args.key c.args.date t) s (c.set_date.ensures.stands t s)
-            c.self.inside.names.pairs.entries c.self.invariant.0.0.0.1 c.self.inside.told c.self.invariant.0.0.1
+            c.self.inside.names.pairs.entries c.self.invariant.0.0.0.1 c.self.inside.told.entries.entries c.self.invariant.0.0.1
             (changed_stay t c.args.key (λ node. record node { date = c.args.date }) (λ a e. refl) (λ dir a m e. refl)),
         below_restamped c.self.inside.image c.set_date.new.image t s c.args.key (long_byte date_long) (long_byte (date_long + 3)) (c.requires t (subst (λ (shown : Shown). Stands shown.image t) c.self.view_is s)).0 c.set_date.ensures.rest c.set_date.ensures.keeps c.self.inside.free_from c.self.invariant.0.1,
       ),

@@ -14,7 +14,7 @@ invariant_of-self c =
     let s = c.self.invariant.0.0.0.0.1 in (
       (
         all_carried c.self.inside.image c.set_protection.new.image t (with_protection c.args.moment c.args.key c.args.bits.0 t) s (c.set_protection.ensures.stands t s)
-            c.self.inside.names.pairs.entries c.self.invariant.0.0.0.1 c.self.inside.told c.self.invariant.0.0.1
+            c.self.inside.names.pairs.entries c.self.invariant.0.0.0.1 c.self.inside.told.entries.entries c.self.invariant.0.0.1
             (changed_stay t c.args.key (λ node. record node { protection = c.args.bits.0 }) (λ a e. refl) (λ dir a m e. refl)),
         below_restamped c.self.inside.image c.set_protection.new.image t s c.args.key (long_byte protection_long) (long_byte (protection_long + 1)) (c.requires t (subst (λ (shown : Shown). Stands shown.image t) c.self.view_is s)).0 c.set_protection.ensures.rest c.set_protection.ensures.keeps c.self.inside.free_from c.self.invariant.0.1,
       ),

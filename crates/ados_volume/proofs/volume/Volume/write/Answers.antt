@@ -1,4 +1,4 @@
-use Rattle.std.proofs.Common.{ℕ, List, IfSome, sym, subst}
+use Rattle.std.proofs.Common.{ℕ, List, sym, subst}
 use Rattle.ados_map.specs.Pages.{NoneFreeBelow}
 use Rattle.ados_tree.specs.Tree.{Tree}
 use Rattle.ados_tree.specs.Stands.{Stands}
@@ -9,7 +9,7 @@ use Rattle.ados_volume.specs.Shown.{Shown}
 use Rattle.ados_tree.specs.Keys.{HasFileKey}
 use Rattle.change_bytes.proofs.Renewed.{file_writable}
 use Rattle.ados_volume.specs.steps.Cache.{AreChildren}
-use Rattle.ados_volume.specs.steps.Listed.{IsListed}
+use Rattle.ados_volume.specs.steps.Listed.{AreListed}
 use Rattle.ados_volume.specs.steps.Places.{AreKnown}
 use Rattle.ados_volume.proofs.Children.{all_carried}
 use Rattle.ados_volume.proofs.Refilled.{refuses, still_shown, written_stay}
@@ -31,7 +31,7 @@ invariant_of-self-2 c =
     let shown = subst (λ (w : Shown). Stands w.image t) c.self.view_is s in (
       (
         all_carried c.self.inside.image c.write.new.image t (written c.args.moment c.args.key c.args.pos c.args.bytes.now t) s (c.in_ok-self-inside.ensures.done t s).1
-            c.self.inside.names.pairs.entries c.self.invariant.0.0.0.1 c.self.inside.told c.self.invariant.0.0.1
+            c.self.inside.names.pairs.entries c.self.invariant.0.0.0.1 c.self.inside.told.entries.entries c.self.invariant.0.0.1
             (written_stay t c.args.key (c.requires.file t shown) c.args.moment c.args.pos c.args.bytes.now),
         c.in_ok-self-inside.ensures.below,
       ),
@@ -43,7 +43,7 @@ invariant_of-self-2 c =
 
 pub invariant_of-self : goal.invariant_of-self
 invariant_of-self c = (
-  subst (λ (image : List ℕ). ((((x : Tree) × Stands image x) × AreChildren image c.self.inside.names.pairs.entries) × IfSome c.self.inside.told (IsListed image)) × NoneFreeBelow image c.self.inside.free_from)
+  subst (λ (image : List ℕ). ((((x : Tree) × Stands image x) × AreChildren image c.self.inside.names.pairs.entries) × AreListed image c.self.inside.told.entries.entries) × NoneFreeBelow image c.self.inside.free_from)
       (sym c.in_err-self-inside.ensures.done.0) c.self.invariant.0,
   subst (λ (image : List ℕ). AreKnown image c.keep.new.self.places.entries) (sym c.in_err-self-inside.ensures.done.0)
       (c.keep.ensures c.self.inside.image (record { is_file = subst (λ (w : Shown). HasFileKey w.image c.args.key) (sym c.self.view_is) c.requires.file; place_is = c.place_at-place.ensures.place }) c.self.invariant.1),
