@@ -1,5 +1,5 @@
 use Rattle.std.proofs.Common.{◌∙◌, sym}
-use Rattle.bench.proofs.port.trips_a_second.Goals as goal
+use Rattle.bench.proofs.port.round_trips.Goals as goal
 
 pub serve_clients-requires-clause-all : goal.serve_clients-requires-clause-all
 serve_clients-requires-clause-all g c = λ lifetimes lives. c.in-Ok.ensures.2
