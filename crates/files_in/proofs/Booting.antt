@@ -2,7 +2,7 @@
 use Rattle.std.proofs.Common.{◌≡◌, ℕ, inl, inr, ◌+◌, ◌-◌, ◌*◌, ◌%◌, ◌==◌, if◌then◌else◌, ◌/◌, ◌<◌, ◌≤◌, List, length, take, drop, min, slice_index, Option, Some, Ok, refl, sym, ap, ◌∙◌, subst, arith, length-take, length-drop}
 use Rattle.std.proofs.lemmas.Bool.{cases_eq, cases_lt}
 use Rattle.std.proofs.lemmas.List.{get_or-drop, get_or-take, get_or_past}
-use Rattle.adf_block.specs.Image.{byte_at, long, total}
+use Rattle.adf_block.specs.Image.{byte_at, long}
 use Rattle.adf_block.specs.Boot.{boot_long, boot_sum, carried_sum}
 use Rattle.adf_block.specs.Frame.{OnlyBlock, OnlyLong, SameBut, Within}
 use Rattle.adf_block.proofs.Frames.{same_long}
