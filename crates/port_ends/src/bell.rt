@@ -7,8 +7,9 @@ use std::sync::atomic::{AtomicU64, Ordering};
 use std::time::Duration;
 use std::{hint, thread};
 
-/// How many looks in vain are followed by another at once, and how many by a yield.
-const LOOKS: u64 = 8;
+/// How many looks in vain are followed by another at once, and how many by a yield (this project's own choice: so many looks
+/// take some microseconds, in which a packet is mostly served).
+const LOOKS: u64 = 64;
 
 const YIELDS: u64 = 64;
 
@@ -23,8 +24,8 @@ pub enum Rest {
 impl Rest {
     /// The rest after so many looks in vain, one after another.
     pub fn after(looks: u64) -> Rest
-        ensures look { result ≡ Look → looks < 8 }
-        ensures sleep { 72 ≤ looks → result ≡ Sleep }
+        ensures look { result ≡ Look → looks < 64 }
+        ensures sleep { 128 ≤ looks → result ≡ Sleep }
     {
         if looks < LOOKS {
             Rest::Look
