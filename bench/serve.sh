@@ -2,8 +2,8 @@
 # Prints how many packets a second `adf_serve serve` answers over a full floppy with 1, 2, 4 and 8 scripts, each a client on a
 # thread of its own that waits for each reply, and the ratio to the same script without words, which is put, served and taken
 # on one thread. A script has 100,000 packets: LOCATE_OBJECT, EXAMINE_OBJECT, INFO, SAME_LOCK and FREE_LOCK in turn, in lines
-# so short that they fit into the longest script. Each time is the best of 5 runs, with the start of the program; the words may give another number of packets. It needs the
-# machine's rustc beside the kit.
+# so short that they fit into the longest script. Each time is the best of 5 runs, with the start of the program; the words
+# may give another number of packets. It needs the machine's rustc beside the kit.
 . "$(dirname "$0")/setup.sh"
 runs=5
 packets=${1:-100000}
