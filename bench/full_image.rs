@@ -1,5 +1,5 @@
-//! Writes an image that is full: `full_image ofs|ffs BLOCKS FILE`. It prints how many files there are and how many bytes
-//! they hold.
+//! Writes an image that is full: `full_image ofs|ffs BLOCKS FILE`; or one with so many empty files in its root, where a number
+//! of ENTRIES stands behind these words. It prints how many files there are and how many bytes they hold.
 //!
 //! Each directory has 46 files, every tenth of 100 KiB and the others of 600 bytes, and up to four directories. The last
 //! files are cut to the blocks that are left.
@@ -204,10 +204,21 @@ fn fill(disk: &mut Disk) -> Vec<usize> {
     sizes
 }
 
+/// Makes empty files in the root, and answers their sizes.
+fn fill_root(disk: &mut Disk, entries: usize) -> Vec<usize> {
+    for n in 0..entries {
+        disk.add_file(disk.root, &format!("File {n}"), 0);
+    }
+    vec![0; entries]
+}
+
 fn main() {
     let words: Vec<String> = env::args().collect();
     let mut disk = Disk::blank(words[1] == "ofs", words[2].parse().unwrap());
-    let sizes = fill(&mut disk);
+    let sizes = match words.get(4) {
+        Some(entries) => fill_root(&mut disk, entries.parse().unwrap()),
+        None => fill(&mut disk),
+    };
     disk.finish();
     fs::write(&words[3], &disk.bytes).unwrap();
     println!("{} files, {} bytes", sizes.len(), sizes.iter().sum::<usize>());

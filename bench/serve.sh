@@ -1,24 +1,20 @@
 #!/bin/sh
 # Prints how many packets a second `adf_serve serve` answers over a full floppy with 1, 2, 4 and 8 scripts, each a client on a
 # thread of its own that waits for each reply, and the ratio to the same script without words, which is put, served and taken
-# on one thread. A script has 10,000 packets: LOCATE_OBJECT, EXAMINE_OBJECT, INFO, SAME_LOCK and FREE_LOCK in turn. Each
-# time is the best of 5 runs, with the start of the program; the words may give another number of packets. It needs the
-# machine's rustc beside the kit.
+# on one thread. A script has 100,000 packets: LOCATE_OBJECT, EXAMINE_OBJECT, INFO, SAME_LOCK and FREE_LOCK in turn, in lines
+# so short that they fit into the longest script. Each time is the best of 5 runs, with the start of the program; the words
+# may give another number of packets. It needs the machine's rustc beside the kit.
 . "$(dirname "$0")/setup.sh"
 runs=5
-packets=${1:-10000}
+packets=${1:-100000}
 serve=$(program adf_serve)
 tools full_image best_of
 build adf_serve
 
-# A packet's line names the reply to the LOCATE_OBJECT of its round.
+# The last line of a round names the reply to its LOCATE_OBJECT.
 awk -v packets="$packets" 'BEGIN {
-    split("locate|examine|info|same|free", word, "|")
-    for (n = 0; n < packets; n++) {
-        place = n % 5
-        lock = "$" (n - place + 1)
-        print word[place + 1], place == 0 ? "0 -2 \"\"" : place == 3 ? lock " 0" : lock
-    }
+    split("locate 0 0 \"\"|examine 0|info 0|same 0 0", line, "|")
+    for (n = 0; n < packets; n++) print n % 5 == 4 ? "free $" (n - 3) : line[n % 5 + 1]
 }' > "$room/script"
 image=$room/full.adf
 "$room/full_image" ffs 1760 "$image" > /dev/null

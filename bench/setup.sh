@@ -5,6 +5,9 @@ here=$(cd "$(dirname "$0")" && pwd)
 room=$(mktemp -d)
 trap 'rm -rf "$room"' EXIT
 
+# As `adf_serve` at the top starts the program: memory of a large image comes in huge pages, where the system gives them.
+export GLIBC_TUNABLES="${GLIBC_TUNABLES-glibc.malloc.hugetlb=1}"
+
 # The program of a crate.
 program() { echo "$here/../crates/$1/out/$1"; }
 

@@ -1,12 +1,13 @@
 #!/bin/sh
-# Prints how long it takes to check, to list and to read a full image, beside `cat` of its file and, where the machine has
-# it, `unadf -lr`. The words are sizes in blocks: 1,760, 16,000 and 101,602 if there are none. Each time is the best of
-# 21 runs. It needs the machine's rustc beside the kit.
+# Prints how long it takes to check, to list and to read a full image, beside `cat` of its file, a read of it whole into
+# memory and, where the machine has it, `unadf -lr`. The words are sizes in blocks: 1,760, 16,000 and 101,602 if there are
+# none. A second table has directories with many entries: 1,000 files in the root of a high-density floppy, and 20,000 and
+# 100,000 in that of the largest image. Each time is the best of 21 runs. It needs the machine's rustc beside the kit.
 . "$(dirname "$0")/setup.sh"
 runs=21
 serve=$(program adf_serve)
 bench=$(program bench)
-tools full_image best_of
+tools full_image best_of whole
 build adf_serve
 build bench volume
 
@@ -24,6 +25,7 @@ for blocks in ${*:-1760 16000 101602}; do
             expect "$("$bench" volume "$file" 2>> "$room/inside-$kind-$blocks")" "$written"
         done
         cat=$(best cat "$file")
+        whole=$(best "$room/whole" "$file")
         check=$(best "$serve" check "$file")
         list=$(best "$serve" list "$file")
         read=$(best "$bench" volume "$file" 2> /dev/null)
@@ -33,7 +35,7 @@ for blocks in ${*:-1760 16000 101602}; do
             NR == 1 || check < best_check { best_check = check }
             NR == 1 || read < best_read { best_read = read }
             END { print best_check, best_read }' "$room/inside-$kind-$blocks")
-        echo "$blocks $kind $cat $check $list $read $unadf $inside" >> "$room/table"
+        echo "$blocks $kind $cat $whole $check $list $read $unadf $inside" >> "$room/table"
         rm "$file"
     done
 done
@@ -41,11 +43,26 @@ done
 echo "Milliseconds, with the start of the program, which alone is $(best true) microseconds; how many times those of cat;"
 echo "and the nanoseconds for each block that the check alone takes, and the reading of all files alone."
 echo
-awk 'BEGIN { print "blocks kind     cat   check    list    read   unadf   check  list  read   check   read" }
+awk 'BEGIN { print "blocks kind     cat   whole   check    list    read   unadf   whole check  list  read   check   read" }
     function ms(micros) { return micros == "-" ? "-" : sprintf("%.2f", micros / 1000) }
     {
-        printf "%6d %4s %7s %7s %7s %7s %7s", $1, $2, ms($3), ms($4), ms($5), ms($6), ms($7)
-        printf "  %6.1f %5.1f %5.1f  %6.0f %6.0f\n", $4 / $3, $5 / $3, $6 / $3, 1000 * $8 / $1, 1000 * $9 / $1
-        if ($1 == 1760) floppy = floppy sprintf(" %s ms (%s)", ms($4), $2)
+        printf "%6d %4s %7s %7s %7s %7s %7s %7s", $1, $2, ms($3), ms($4), ms($5), ms($6), ms($7), ms($8)
+        printf "  %6.1f %5.1f %5.1f %5.1f  %6.0f %6.0f\n", $4 / $3, $5 / $3, $6 / $3, $7 / $3, 1000 * $9 / $1, 1000 * $10 / $1
+        if ($1 == 1760) floppy = floppy sprintf(" %s ms (%s)", ms($5), $2)
     }
     END { if (floppy) print "\nadf_serve check of a double-density floppy, with its start:" floppy }' "$room/table"
+
+echo
+echo "Directories with many entries, in the same way."
+echo
+echo "blocks entries     cat   check    list   unadf  list to check"
+for counts in "3520 1000" "101602 20000" "101602 100000"; do
+    set -- $counts
+    file=$room/entries.adf
+    "$room/full_image" ffs "$1" "$file" "$2" > /dev/null
+    [ "$("$serve" list "$file" | wc -l)" = $(($2 + 1)) ] || { echo "$2 entries are not listed" >&2; exit 1; }
+    unadf=
+    if command -v unadf > /dev/null && [ "$2" = 1000 ]; then unadf=$(best unadf -lr "$file" 2> /dev/null); fi
+    echo "$counts $(best cat "$file") $(best "$serve" check "$file") $(best "$serve" list "$file") $unadf"
+done | awk '{ unadf = NF == 6 ? sprintf("%.2f", $6 / 1000) : "-"
+    printf "%6d %7d %7.2f %7.2f %7.2f %7s  %13.2f\n", $1, $2, $3 / 1000, $4 / 1000, $5 / 1000, unadf, $5 / $4 }'

@@ -55,7 +55,14 @@ impl Image {
         ensures { IsTrue result ↔ (long self.now 0 1 ≡ boot_sum self.now) }
     {
         prove!(self.blocks() >= 2);
-        self.long(0, BOOT_SUM) == !carry_round(self.boot_total())
+        self.long(0, BOOT_SUM) == self.boot_sum()
+    }
+
+    /// The boot sum that the two boot blocks want in long 1.
+    pub fn boot_sum(&self) -> u32
+        ensures { result ≡ boot_sum self.now }
+    {
+        !carry_round(self.boot_total())
     }
 
     /// The sum of the 256 boot longs but for the boot sum's own, with no wrap.

@@ -42,18 +42,16 @@ fn put_packet<S: Server, R: Wait>(
 }
 
 /// Waits for the next reply, with this many tries.
-fn await_reply<S: Server>(end: &mut ClientEnd<S>, turns: u64) -> Option<Reply<S::Reply>>
+fn await_reply<S: Server, R: Wait>(
+    rt: &R,
+    end: &mut ClientEnd<S>,
+    turns: u64,
+) -> Option<Reply<S::Reply>>
     ensures some { IfSome result (λ reply. HasTaken end.old reply end.new) }
     ensures none { IfNone result (end.new ≡ end.old) }
     ensures grown { Grown end.old end.new }
 {
-    for _ in 0..turns {
-        if let Some(reply) = end.take() {
-            return Some(reply);
-        }
-        thread::yield_now();
-    }
-    None
+    end.take_within(rt, turns)
 }
 
 /// Puts a packet, which has this number, and takes its reply.
@@ -72,7 +70,7 @@ pub(crate) fn ask<S: Server, G: Gate, R: Wait>(
         return Err(Stopped::NoRoom);
     }
     put_packet(rt, end, packet, turns)?;
-    let Some(reply) = await_reply(end, turns) else {
+    let Some(reply) = await_reply(rt, end, turns) else {
         return Err(Stopped::NoReply);
     };
     gate.after(reply.number);

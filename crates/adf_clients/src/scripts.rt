@@ -50,7 +50,7 @@ impl From<AllocError> for ScriptsFault {
 
 /// Runs each client's script on a thread of its own, and the handler on this one, until every client has ended and a batch found nothing.
 ///
-/// A client puts a packet and waits for its reply before its next line. It has this many tries for each put and for each reply, with a yield between them. The gate of a client hears of each of its packets. After a fault no thread is left.
+/// A client puts a packet and waits for its reply before its next line. It has this many tries for each put, with a yield between them, and for each reply, between which it rests as `take_within` does. The gate of a client hears of each of its packets. After a fault no thread is left.
 pub fn serve_scripts<S, G, R>(
     rt: &R,
     alloc: Global,

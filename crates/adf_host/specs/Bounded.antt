@@ -8,6 +8,14 @@ pub record ReadsUpTo (most : ℕ) (old new : Option (List ℕ)) (bytes : List �
   pub within : length bytes ≤ most
   pub ended : length bytes < most → IsAtEnd new
 
+-- a reader gave up bytes that stand behind those that were there: at most so many in all, and fewer only where it is at its end
+pub record ReadsOn (most : ℕ) (old new : Option (List ℕ)) (before after : List ℕ) : Type 0 where
+  pub rest : List ℕ
+  pub consumed : Consumes old new rest
+  pub grown : after ≡ before ++ rest
+  pub within : length after ≤ most
+  pub ended : length after < most → IsAtEnd new
+
 -- one read put so many bytes behind those that were there: as many as there was room for at most, and none only at the end
 pub record ReadsPart (room : ℕ) (old new : Option (List ℕ)) (before after : List ℕ) (count : ℕ) : Type 0 where
   pub part : List ℕ

@@ -4,7 +4,7 @@ ghost use Rattle.adf_files.specs.Load.{ReadsAll};
 ghost use Rattle.adf_host.specs.Images.{IsImageLength, IsBoundedRefusal};
 ghost use Rattle.adf_block.specs.Size.{IsSizeFault};
 
-use crate::bounded::{BoundedFault, read_bounded};
+use crate::bounded::{BoundedFault, read_expected};
 use adf_block::layout::{BLOCK_BYTES, FEWEST_BLOCKS, MOST_BLOCKS};
 use adf_block::{Image, SizeFault};
 use std::alloc::Global;
@@ -68,7 +68,19 @@ pub fn load_bounded<R: Read>(alloc: Global, reader: &mut R) -> Result<Image, Ima
     ensures ok { IfOk result (ReadsAll (R.remaining reader.old) (R.remaining reader.new)) }
     ensures err { IfErr result (IsBoundedRefusal (R.remaining reader.old) (R.remaining reader.new)) }
 {
-    let bytes = read_bounded(alloc, reader, MOST_BYTES + 1)?;
+    load_expected(alloc, reader, None)
+}
+
+/// As [`load_bounded`], of input of which may be known how many bytes to expect.
+fn load_expected<R: Read>(
+    alloc: Global,
+    reader: &mut R,
+    expected: Option<usize>,
+) -> Result<Image, ImageFault>
+    ensures ok { IfOk result (ReadsAll (R.remaining reader.old) (R.remaining reader.new)) }
+    ensures err { IfErr result (IsBoundedRefusal (R.remaining reader.old) (R.remaining reader.new)) }
+{
+    let bytes = read_expected(alloc, reader, expected, MOST_BYTES + 1)?;
     match Image::from_bytes(bytes) {
         Ok(image) => Ok(image),
         Err(refused) => Err(ImageFault::Size(refused.fault)),
@@ -80,15 +92,16 @@ pub(crate) fn read_open<F: Read + OpenFile>(
     alloc: Global,
     file: &mut F,
 ) -> Result<Image, ImageFault> {
-    match file.metadata() {
+    let expected = match file.metadata() {
         Ok(found) if found.is_file() => {
             if let Some(fault) = size_fault(found.len()) {
                 return Err(ImageFault::Size(fault));
             }
+            Some(found.len() as usize)
         }
-        _ => {}
-    }
-    load_bounded(alloc, file)
+        _ => None,
+    };
+    load_expected(alloc, file, expected)
 }
 
 /// The image of a file. It is read even where a command holds it.

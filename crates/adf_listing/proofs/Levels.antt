@@ -1,26 +1,29 @@
 -- Levels that are taken off and put back.
 use Rattle.std.proofs.Common.{◌≡◌, ℕ, List, [], ◌∷◌, ◌++◌, Option, Some, IfSome, option_to_list, subst}
-use Rattle.std.proofs.lemmas.List.Elements.{All-pop, All-push, All-same}
-use Rattle.ados_tree.specs.Keys.{HasDirectory}
+use Rattle.std.proofs.lemmas.List.Elements.{All-nil, All-pop, All-push, All-same}
 use Rattle.adf_listing.specs.declared.listing.Level.{Level}
-use Rattle.adf_listing.specs.steps.Levels.{AreDirectories}
+use Rattle.adf_listing.specs.steps.Levels.{ArePlacesInDirectories, IsPlaceInDirectory}
 
 module _ (image : List ℕ) where
   Listed : Level → Type 0
-  Listed level = HasDirectory image level.dir
+  Listed level = IsPlaceInDirectory image level
 
-  pub others_are : (old rest : List Level) (r : Option Level) → old ≡ rest ++ option_to_list r → AreDirectories image old → AreDirectories image rest
+  pub none_are : (levels : List Level) → levels ≡ [] → ArePlacesInDirectories image levels
+  unfolding Listed
+  none_are levels e = All-same Listed levels [] e (All-nil Listed)
+
+  pub others_are : (old rest : List Level) (r : Option Level) → old ≡ rest ++ option_to_list r → ArePlacesInDirectories image old → ArePlacesInDirectories image rest
   unfolding Listed
   others_are old rest r e h = (All-pop Listed old rest r e h).0
 
-  pub last_is : (old rest : List Level) (r : Option Level) (level : Level) → old ≡ rest ++ option_to_list r → r ≡ Some level → AreDirectories image old → HasDirectory image level.dir
+  pub last_is : (old rest : List Level) (r : Option Level) (level : Level) → old ≡ rest ++ option_to_list r → r ≡ Some level → ArePlacesInDirectories image old → IsPlaceInDirectory image level
   unfolding Listed
   last_is old rest r level e is h = subst (λ (o : Option Level). IfSome o Listed) is (All-pop Listed old rest r e h).1
 
-  pub pushed_are : (new rest : List Level) (level : Level) → new ≡ rest ++ level ∷ [] → AreDirectories image rest → HasDirectory image level.dir → AreDirectories image new
+  pub pushed_are : (new rest : List Level) (level : Level) → new ≡ rest ++ level ∷ [] → ArePlacesInDirectories image rest → IsPlaceInDirectory image level → ArePlacesInDirectories image new
   unfolding Listed
   pushed_are new rest level e h p = All-same Listed new (rest ++ level ∷ []) e (All-push Listed rest level h p)
 
-  pub same_are : (new old : List Level) → new ≡ old → AreDirectories image old → AreDirectories image new
+  pub same_are : (new old : List Level) → new ≡ old → ArePlacesInDirectories image old → ArePlacesInDirectories image new
   unfolding Listed
   same_are new old e h = All-same Listed new old e h

@@ -7,6 +7,7 @@ ghost use Rattle.ados_tree.specs.Keys.{HasDirectory, HasKey};
 ghost use Rattle.ados_tree.specs.Stands.{Stands};
 ghost use Rattle.ados_tree.specs.Tree.{Tree, Node};
 ghost use Rattle.ados_volume.specs.Examined.{file_info};
+ghost use Rattle.ados_volume.specs.Order.{IsPlaceIn};
 
 use ados_packet::FileInfo;
 use ados_volume::{Next, Volume};
@@ -16,12 +17,14 @@ const DIRECTORY: i32 = 2;
 
 /// The entry of a directory behind this one; the directory's own key asks for the first.
 pub(crate) fn entry_behind(volume: &Volume, dir: u32, last: u32) -> Option<u32>
-    requires { HasDirectory volume.now.image dir }
+    requires dir { HasDirectory volume.now.image dir }
+    requires place { IsPlaceIn volume.now.image dir last }
     ensures key { IfSome result (HasKey volume.now.image) }
+    ensures place { IfSome result (IsPlaceIn volume.now.image dir) }
     ensures next { IfSome result (λ key. (t : Tree) → Stands volume.now.image t → first_left (entries_after t dir last) ≡ Entry key) }
     ensures none { IfNone result ((t : Tree) → Stands volume.now.image t → (key : ℕ) → first_left (entries_after t dir last) ≢ Entry key) }
 {
-    match volume.next(dir, last) {
+    match volume.next_from(dir, last) {
         Next::Entry(key) => Some(key),
         Next::End | Next::NotAnEntry => None,
     }

@@ -7,7 +7,7 @@ ghost use Rattle.ados_tree.specs.Tree.{Tree};
 ghost use Rattle.adf_script.specs.Streams.{Writes};
 ghost use Rattle.adf_listing.specs.Fronts.{WritesFront, WritesFrontOf};
 ghost use Rattle.adf_listing.specs.Listing.{BeginsList, IsList, Listed};
-ghost use Rattle.adf_listing.specs.steps.Levels.{AreDirectories, IsSoFar};
+ghost use Rattle.adf_listing.specs.steps.Levels.{ArePlacesInDirectories, IsSoFar};
 ghost use Rattle.adf_listing.specs.steps.Going.{GoesOn, Passes, Starts};
 
 use crate::fault::PrintFault;
@@ -69,7 +69,7 @@ impl Listing {
     /// The line of the volume, before the first entry of a directory.
     fn start(alloc: Global, volume: &Volume, dir: u32, letters: bool) -> Result<Listing, AllocError>
         requires { HasDirectory volume.now.image dir }
-        ensures directories { IfOk result (λ made. AreDirectories volume.now.image made.levels.items) }
+        ensures places { IfOk result (λ made. ArePlacesInDirectories volume.now.image made.levels.items) }
         ensures starts { IfOk result (λ made. (t : Tree) → Stands volume.now.image t → Starts t dir letters made) }
     {
         let mut text = Vec::new(alloc);
@@ -90,8 +90,8 @@ impl Listing {
     /// Goes on to the next entry of the directory at hand, or back to the directory that holds it. False where no
     /// directory is left.
     fn go_on(&mut self, alloc: Global, volume: &Volume, letters: bool) -> Result<bool, AllocError>
-        requires { AreDirectories volume.now.image self.old.levels.items }
-        ensures directories { OnOk result (AreDirectories volume.now.image self.new.levels.items) }
+        requires { ArePlacesInDirectories volume.now.image self.old.levels.items }
+        ensures places { OnOk result (ArePlacesInDirectories volume.now.image self.new.levels.items) }
         ensures goes { IfOk result (λ goes. (t : Tree) (dir : ℕ) → Stands volume.now.image t → (first left : List Listed)
             → IsSoFar t dir self.old.levels.items self.old.path.items first left → GoesOn t dir letters self.old self.new first left goes) }
     {

@@ -19,7 +19,7 @@ pub(crate) fn keys_in(alloc: Global, volume: &Volume, dir: u32) -> Result<Vec<u3
         return Ok(keys);
     }
     let mut last = dir;
-    while let Next::Entry(key) = volume.next(dir, last) {
+    while let Next::Entry(key) = volume.next_from(dir, last) {
         keys.push(key)?;
         last = key;
     }

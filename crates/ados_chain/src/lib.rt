@@ -11,4 +11,4 @@ mod link;
 mod read;
 
 pub use change::{insert_last, unlink};
-pub use read::{Next, after, find, is_empty};
+pub use read::{Next, after, after_entry, find, is_empty};

@@ -1,13 +1,13 @@
 //! Looking into a directory: an entry by its name, and the entries in order.
 
-ghost use Rattle.std.specs.Prelude.{◌≡◌, ◌≤◌, ◌-◌, ◌↔◌, ◌∷◌, [], ℕ, List, Some, IsTrue};
+ghost use Rattle.std.specs.Prelude.{◌≡◌, ◌<◌, ◌≤◌, ◌-◌, ◌↔◌, ◌∷◌, [], ℕ, List, Some, IsTrue, Contains};
 ghost use Rattle.adf_block.specs.Fields.{table_longs};
 ghost use Rattle.ados_name.specs.Name.{slot};
-ghost use Rattle.ados_chain.specs.Chains.{HasChains, LawfulChains, chains_from, entries_of};
+ghost use Rattle.ados_chain.specs.Chains.{HasChains, InChains, LawfulChains, chains_from, entries_of};
 ghost use Rattle.ados_chain.specs.Behind.{behind};
 ghost use Rattle.ados_chain.specs.Look.{FindsNamed, FindsSlot, first_left};
 
-use crate::entry::{has_name, name_of};
+use crate::entry::{has_name, name_of, slot_of};
 use crate::link::link_to;
 use adf_block::Image;
 use adf_block::layout::{BOOT_BLOCKS, FIRST_SLOT, NEXT_IN_CHAIN, TABLE_LONGS};
@@ -53,6 +53,25 @@ pub fn after(image: &Image, dir: u32, key: u32) -> Next
     let Some(slot) = slot_with(image, dir, key) else {
         return Next::NotAnEntry;
     };
+    behind_entry(image, dir, slot, key)
+}
+
+/// What comes after an entry of the directory in its order. The chain in front of the entry is not gone through.
+pub fn after_entry(image: &Image, dir: u32, key: u32) -> Next
+    requires chains { HasChains image.now dir }
+    requires entry { (chains : ℕ → List ℕ) → LawfulChains image.now dir chains → InChains chains key }
+    ensures { (chains : ℕ → List ℕ) → LawfulChains image.now dir chains → result ≡ first_left (behind key (dir ∷ entries_of chains)) }
+{
+    let slot = slot_of(image, key);
+    behind_entry(image, dir, slot, key)
+}
+
+/// What comes after an entry of this slot in the order of the directory.
+fn behind_entry(image: &Image, dir: u32, slot: u32, key: u32) -> Next
+    requires chains { HasChains image.now dir }
+    requires entry { (chains : ℕ → List ℕ) → LawfulChains image.now dir chains → (slot < table_longs) × Contains (chains slot) key }
+    ensures { (chains : ℕ → List ℕ) → LawfulChains image.now dir chains → result ≡ first_left (behind key (dir ∷ entries_of chains)) }
+{
     let next = image.long(key, NEXT_IN_CHAIN);
     if next == 0 {
         first_from(image, dir, slot + 1)

@@ -1,7 +1,7 @@
 -- What a cut keeps of the bytes that no field names.
 use Rattle.std.proofs.Common.{◌≡◌, ◌≢◌, ℕ, suc, ◌-◌, ◌/◌, ◌<◌, ◌≤◌, ◌⊎◌, inl, inr, List, ◌∷◌, length, take, slice_index, refl, sym, ap, ◌∙◌, arith}
 use Rattle.std.proofs.lemmas.List.{length-take-le}
-use Rattle.adf_block.specs.Fields.{pointer_count_long, size_long, next_extension, next_data}
+use Rattle.adf_block.specs.Fields.{pointer_count, file_size, pointer_count_long, size_long, next_extension, next_data}
 use Rattle.adf_block.specs.declared.Format.{Format}
 use Rattle.adf_block.specs.declared.Format.TheVariants.{Ofs, Ffs}
 use Rattle.adf_block.specs.Image.{byte_at, long, block_count}
@@ -9,8 +9,9 @@ use Rattle.ados_map.specs.Pages.{pages_of, page_block}
 use Rattle.ados_data.specs.Cost.{extension_count}
 use Rattle.ados_data.specs.steps.Edits.{AtFields}
 use Rattle.ados_data.specs.File.{AreApart, format_of}
+use Rattle.ados_data.specs.Cut.{IsCutField}
 use Rattle.ados_data.specs.steps.Blocks.{AtEnd}
-use Rattle.ados_data.specs.Unnamed.{IsPointerField, IsHeaderField, data_end, most_pointers, larger_size, KeepsUnnamed}
+use Rattle.ados_data.specs.Unnamed.{IsPointerField, IsHeaderField, data_end, KeepsUnnamed}
 use Rattle.ados_data.proofs.Lists.{head_taken, taken_before}
 
 -- the bytes that a cut to d data blocks writes outside the pages: in the last data and pointer blocks that stay, and in the header
@@ -35,6 +36,17 @@ keeps_same image file blocks extensions = record {
 behind_fields : (format : Format) (size i k : ℕ) → format ≡ Ofs → data_end format size i ≤ k → 24 ≤ k
 behind_fields Ofs size i k e l = omega (arith, l)
 behind_fields Ffs size i k e l = cc
+
+-- of the header a cut writes these longs alone
+pub header_uncut : (file : ℕ) (blocks extensions : List ℕ) (d : ℕ) (old : List ℕ) → AreApart (block_count old) file blocks extensions → 0 < length blocks → d ≤ length blocks → (k : ℕ) → ¬ IsCutField (k / 4)
+    → ¬ AtEnds (format_of old) file blocks extensions d file k
+header_uncut file blocks extensions d old a some few k n (inl at) = a.apart 0 (d - 1) (omega arith) (omega (arith, at.1, few)) at.2.0
+header_uncut file blocks extensions d old a some few k n (inr (inl (at, inl z))) = n (inl z)
+header_uncut file blocks extensions d old a some few k n (inr (inl (at, inr (inl z)))) = n (inr (inr (inr (inr z))))
+header_uncut file blocks extensions d old a some few k n (inr (inl (at, inr (inr z)))) = n (inr (inr (inl z)))
+header_uncut file blocks extensions d old a some few k n (inr (inr (at, inl z))) = n (inr (inl z))
+header_uncut file blocks extensions d old a some few k n (inr (inr (at, inr (inl z)))) = n (inr (inr (inr (inl z))))
+header_uncut file blocks extensions d old a some few k n (inr (inr (at, inr (inr z)))) = n (inr (inr (inl z)))
 
 module _ (file : ℕ) (blocks extensions : List ℕ) (d : ℕ) (old new : List ℕ) (a : AreApart (block_count old) file blocks extensions) (some : 0 < length blocks) (few : d ≤ length blocks) (fewer : extension_count d ≤ length extensions)
     (untouched : (c k : ℕ) → k < 512 → ((p : ℕ) → p < pages_of old → c ≢ page_block old p) → ¬ AtEnds (format_of old) file blocks extensions d c k → byte_at new c k ≡ byte_at old c k)
@@ -79,7 +91,7 @@ module _ (file : ℕ) (blocks extensions : List ℕ) (d : ℕ) (old new : List �
   pub keeps_cut : KeepsUnnamed old file blocks extensions new (take d blocks) (take (extension_count d) extensions)
   keeps_cut = record {
     others = λ c k l o. untouched c k l o.beside_pages (no_end c k o.beside_headers o.beside_data);
-    header = λ k l o. untouched file k l (λ p m. beside_pages 0 p (omega arith) m) (header_end k (most_pointers old new file) o);
+    header = λ k l o. untouched file k l (λ p m. beside_pages 0 p (omega arith) m) (header_end k (pointer_count new file) o);
     extension = λ q k l m r o. kept_extension q k (omega (arith, m, el)) r o;
     slack = λ i k l m r o. kept_data i k (omega (arith, m, dl)) r o;
     new_extension = λ q k l m r o. absurd (omega (arith, l, m, el, fewer));
@@ -89,16 +101,16 @@ module _ (file : ℕ) (blocks extensions : List ℕ) (d : ℕ) (old new : List �
     first_kept = λ s. elim s [ inl z ↦ absurd (omega (arith, z.0, some)) | inr l ↦ first (omega (arith, l.1, dl)) ];
   }
     where
-      kept_extension : (q k : ℕ) → q < extension_count d → k < 512 → ¬ IsPointerField (most_pointers old new (slice_index (take (extension_count d) extensions) q)) (k / 4) → byte_at new (slice_index (take (extension_count d) extensions) q) k ≡ byte_at old (slice_index (take (extension_count d) extensions) q) k
+      kept_extension : (q k : ℕ) → q < extension_count d → k < 512 → ¬ IsPointerField (pointer_count new (slice_index (take (extension_count d) extensions) q)) (k / 4) → byte_at new (slice_index (take (extension_count d) extensions) q) k ≡ byte_at old (slice_index (take (extension_count d) extensions) q) k
       kept_extension q k l r o =
           let here : slice_index (take (extension_count d) extensions) q ≡ slice_index extensions q = taken_before extensions (extension_count d) q l in
           ap (λ (c : ℕ). byte_at new c k) here
-          ∙ untouched (slice_index extensions q) k r (λ p m. beside_pages (suc q) p (omega (arith, l, fewer)) m) (extension_end q k (most_pointers old new (slice_index (take (extension_count d) extensions) q)) (omega (arith, l, fewer)) o)
+          ∙ untouched (slice_index extensions q) k r (λ p m. beside_pages (suc q) p (omega (arith, l, fewer)) m) (extension_end q k (pointer_count new (slice_index (take (extension_count d) extensions) q)) (omega (arith, l, fewer)) o)
           ∙ ap (λ (c : ℕ). byte_at old c k) (sym here)
 
-      kept_data : (i k : ℕ) → i < d → k < 512 → data_end (format_of old) (larger_size old new file) i ≤ k → byte_at new (slice_index (take d blocks) i) k ≡ byte_at old (slice_index (take d blocks) i) k
+      kept_data : (i k : ℕ) → i < d → k < 512 → data_end (format_of old) (file_size new file) i ≤ k → byte_at new (slice_index (take d blocks) i) k ≡ byte_at old (slice_index (take d blocks) i) k
       kept_data i k l r o =
           let here : slice_index (take d blocks) i ≡ slice_index blocks i = taken_before blocks d i l in
           ap (λ (c : ℕ). byte_at new c k) here
-          ∙ untouched (slice_index blocks i) k r (λ p m. data_beside_pages i p (omega (arith, l, few)) m) (data_end_of i k (larger_size old new file) l o)
+          ∙ untouched (slice_index blocks i) k r (λ p m. data_beside_pages i p (omega (arith, l, few)) m) (data_end_of i k (file_size new file) l o)
           ∙ ap (λ (c : ℕ). byte_at old c k) (sym here)

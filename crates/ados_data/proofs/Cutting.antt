@@ -22,7 +22,8 @@ use Rattle.ados_data.specs.steps.Giving.{IsEntered}
 use Rattle.ados_data.specs.Others.{Leaves, LeavesOthers}
 use Rattle.ados_data.proofs.Leaving.{leaves_both, leaves_resized}
 use Rattle.ados_data.specs.Unnamed.{KeepsUnnamed}
-use Rattle.ados_data.proofs.CutKeeping.{AtEnds, keeps_cut}
+use Rattle.ados_data.specs.Cut.{CutsHeader}
+use Rattle.ados_data.proofs.CutKeeping.{AtEnds, header_uncut, keeps_cut}
 use Rattle.ados_data.proofs.Marks.{has_bit}
 use Rattle.ados_data.proofs.Sizes.{fewer_blocks, some_blocks, ofs_count, in_block, behind_start, in_count}
 use Rattle.ados_data.proofs.Spelled.{link_of, data_blocks_are, extension_blocks_are, contents_are}
@@ -203,6 +204,7 @@ pub record IsCut (old : List ℕ) (file size : ℕ) (new : List ℕ) : Type 0 wh
   pub freed_extensions : (q : ℕ) → extension_count (data_count (format_of old) size) ≤ q → q < length (extension_blocks old file) → has_free_bit new (slice_index (extension_blocks old file) q) ≡ true
   pub keeps : KeepsUnnamed old file (data_blocks old file) (extension_blocks old file) new (data_blocks new file) (extension_blocks new file)
   pub free_stays : (c : ℕ) → IsInside (block_count old) c → has_free_bit old c ≡ true → has_free_bit new c ≡ true
+  pub header : CutsHeader old file new
   pub data_stays : (i k : ℕ) → i < data_count (format_of old) size → k < 512 → (format_of old ≡ Ofs → 24 ≤ k) → byte_at new (slice_index (data_blocks old file) i) k ≡ byte_at old (slice_index (data_blocks old file) i) k
 
 module _ (old : List ℕ) (file size d : ℕ) (w : WritableFile old file) (ok : IsSize (block_count old)) (shorter : size < length (contents old file)) (d_is : d ≡ data_count (format_of old) size) where
@@ -323,5 +325,6 @@ module _ (old : List ℕ) (file size d : ℕ) (w : WritableFile old file) (ok : 
             (subst (λ (xs : List ℕ). KeepsUnnamed old file blocks extensions new (take d blocks) xs) (sym (extension_blocks_are new file (take d blocks) (take (extension_count d) extensions) (take size (contents old file)) written.lawful))
             (keeps_cut file blocks extensions d old new w.lawful.places some few fewer c.untouched (λ q p l m. (w.headers_used q l).beside_pages p m) (λ i p l m. (w.data_used i l).beside_pages p m) c.no_first c.first));
         free_stays = c.free_stays;
+        header = λ k l n. c.untouched file k l (λ p m. (w.headers_used 0 (omega arith)).beside_pages p m) (header_uncut file blocks extensions d old w.lawful.places some few k n);
         data_stays = λ i k l m n. c.bytes i k (omega (arith, l, d_is)) m n;
       }

@@ -10,7 +10,7 @@ use Rattle.ados_map.specs.Pages.{pages_of, page_of}
 use Rattle.ados_map.specs.Changes.{MapPlace}
 use Rattle.ados_data.specs.steps.Edits.{AtField, AtExtensionFields}
 use Rattle.ados_data.specs.steps.Blocks.{IsNewBlock, IsExtended}
-use Rattle.ados_data.specs.Unnamed.{IsPointerField, IsExtensionField, most_pointers, IsBeside, KeepsUnnamed}
+use Rattle.ados_data.specs.Unnamed.{IsPointerField, IsExtensionField, IsBeside, KeepsUnnamed}
 use Rattle.ados_data.proofs.Lists.{head_pushed_before, head_pushed_last, pushed_before, pushed_last}
 use Rattle.ados_data.proofs.Standing.{Standing, untaken, header_beside_new, data_beside_new}
 
@@ -68,10 +68,10 @@ module _ (old mid new : List ℕ) (format : Format) (file : ℕ) (blocks extensi
   pub keeps_extended : KeepsUnnamed old file blocks extensions new blocks (extensions ++ e ∷ [])
   keeps_extended = record {
     others = λ c k l o. rest.same_byte c k l (beside c k o);
-    header = λ k l f. rest.same_byte file k l (λ at. f (inl (pointer_field (most_pointers old new file) (k / 4) (in_header 0 k (omega arith) at))));
+    header = λ k l f. rest.same_byte file k l (λ at. f (inl (pointer_field (pointer_count new file) (k / 4) (in_header 0 k (omega arith) at))));
     extension = λ q k l m r f.
         let here : slice_index (extensions ++ e ∷ []) q ≡ slice_index extensions q = pushed_before extensions e q l in
-        rest.same_byte (slice_index (extensions ++ e ∷ []) q) k r (λ at. f (pointer_field (most_pointers old new (slice_index (extensions ++ e ∷ []) q)) (k / 4) (in_header (suc q) k (omega arith) (subst (λ (c : ℕ). Changed c k) here at))));
+        rest.same_byte (slice_index (extensions ++ e ∷ []) q) k r (λ at. f (pointer_field (pointer_count new (slice_index (extensions ++ e ∷ []) q)) (k / 4) (in_header (suc q) k (omega arith) (subst (λ (c : ℕ). Changed c k) here at))));
     slack = λ i k l m r d. rest.same_byte (slice_index blocks i) k r (in_data i k l);
     new_extension = λ q k l m r f.
         let here : slice_index (extensions ++ e ∷ []) q ≡ e = pushed_last extensions e q (omega (arith, l, m, length_push extensions e)) in

@@ -140,7 +140,7 @@ module _ (old new : List ℕ) (format : Format) (file : ℕ) (blocks extensions 
   keeps_holder : (q : ℕ) → q < length extensions → KeepsHolder old new (slice_index (file ∷ extensions) q)
   keeps_holder zero l = record {
     longs = λ j m a d e. header_long 0 j m (omega arith) (λ z. absurd (omega arith)) a d;
-    sum = λ z. x.file_sum;
+    sum = x.file_sum;
   }
   keeps_holder (suc q) l = untouched_holder old new (slice_index (file ∷ extensions) (suc q)) (λ k m. x.rest.same_byte (slice_index (file ∷ extensions) (suc q)) k m (other_extension (suc q) k (omega arith) l))
 
@@ -161,7 +161,7 @@ module _ (old new : List ℕ) (format : Format) (file : ℕ) (blocks extensions 
         (λ f i l. (
           (λ j m. same_long Lengthened old new x.rest (slice_index blocks i) j (omega arith) (λ k r. last_other i k j r l m)),
           ap (λ (c : ℕ). long new c 4) (last_is i l) ∙ x.link f (omega arith),
-          ap (block_sum new) (last_is i l) ∙ x.last_sum f (omega arith),
+          λ z. ap (block_sum new) (last_is i l) ∙ x.last_sum f (omega arith) (ap (block_sum old) (sym (last_is i l)) ∙ z),
         ))
         (λ f. (record { primary = x.primary f; header = x.header f; sequence = x.sequence f; held = x.held ∙ omega (arith, full f); sum = x.sum f }, x.next));
     places = subst (λ (n : ℕ). AreApart n file (blocks ++ b ∷ []) extensions) (sym longer_blocks) (apart_longer (block_count old) file blocks extensions s.places b inside beside_headers beside_data);

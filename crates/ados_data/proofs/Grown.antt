@@ -9,7 +9,7 @@ use Rattle.adf_block.specs.Fields.{pointer_count, file_size}
 use Rattle.adf_block.specs.Frame.{SameBut}
 use Rattle.ados_map.specs.Pages.{pages_of, page_block}
 use Rattle.ados_data.specs.File.{format_of}
-use Rattle.ados_data.specs.Unnamed.{IsPointerField, IsHeaderField, IsExtensionField, data_end, most_pointers, larger_size, IsBeside, KeepsUnnamed}
+use Rattle.ados_data.specs.Unnamed.{IsPointerField, IsHeaderField, IsExtensionField, data_end, IsBeside, KeepsUnnamed}
 use Rattle.ados_data.proofs.Skeleton.{Skeleton}
 
 -- ---- the fields of more pointers, and the end of more bytes
@@ -128,33 +128,33 @@ module _ (old mid new : List ℕ) (file : ℕ) (blocks extensions blocks' extens
     keeps_both = record {
       others = λ c k l o. b.others c k l (beside_mid c o) ∙ a.others c k l (beside_old c o);
       header = λ k l n.
-          b.header k l (λ z. n (more_header (most_pointers mid new file) (most_pointers old new file) (k / 4) (omega (arith, earlier_count 0 (omega arith), later_count 0 (omega arith))) z))
-          ∙ a.header k l (λ z. n (more_header (most_pointers old mid file) (most_pointers old new file) (k / 4) (omega (arith, earlier_count 0 (omega arith), later_count 0 (omega arith))) z));
+          b.header k l (λ z. n (more_header (pointer_count new file) (pointer_count new file) (k / 4) (omega (arith, earlier_count 0 (omega arith), later_count 0 (omega arith))) z))
+          ∙ a.header k l (λ z. n (more_header (pointer_count mid file) (pointer_count new file) (k / 4) (omega (arith, earlier_count 0 (omega arith), later_count 0 (omega arith))) z));
       extension = λ q k l m r n.
           let there : slice_index extensions'' q ≡ slice_index extensions' q = h.headers (suc q) (omega (arith, g.fewer, l)) in
           let early = earlier_count (suc q) (omega arith) in
           let late = later_count (suc q) (omega (arith, g.fewer, l)) in
-          b.extension q k (omega (arith, g.fewer, l)) m r (λ z. n (more_pointers (most_pointers mid new (slice_index extensions'' q)) (most_pointers old new (slice_index extensions'' q)) (k / 4) (omega (arith, early, late)) z))
-          ∙ subst (λ (c : ℕ). ¬ IsPointerField (most_pointers old mid c) (k / 4) → byte_at mid c k ≡ byte_at old c k) (sym there) (a.extension q k l (omega (arith, g.fewer, l)) r)
-          (λ z. n (more_pointers (most_pointers old mid (slice_index extensions'' q)) (most_pointers old new (slice_index extensions'' q)) (k / 4) (omega (arith, early, late)) z));
+          b.extension q k (omega (arith, g.fewer, l)) m r (λ z. n (more_pointers (pointer_count new (slice_index extensions'' q)) (pointer_count new (slice_index extensions'' q)) (k / 4) (omega (arith, early, late)) z))
+          ∙ subst (λ (c : ℕ). ¬ IsPointerField (pointer_count mid c) (k / 4) → byte_at mid c k ≡ byte_at old c k) (sym there) (a.extension q k l (omega (arith, g.fewer, l)) r)
+          (λ z. n (more_pointers (pointer_count mid (slice_index extensions'' q)) (pointer_count new (slice_index extensions'' q)) (k / 4) (omega (arith, early, late)) z));
       slack = λ i k l m r d.
           let there : slice_index blocks'' i ≡ slice_index blocks' i = h.datas i (omega (arith, g.few, l)) in
-          b.slack i k (omega (arith, g.few, l)) m r (later_end (larger_size mid new file) (larger_size old new file) i k (omega (arith, g.size, h.size)) d)
+          b.slack i k (omega (arith, g.few, l)) m r (later_end (file_size new file) (file_size new file) i k (omega (arith, g.size, h.size)) d)
           ∙ ap (λ (c : ℕ). byte_at mid c k) there
-          ∙ a.slack i k l (omega (arith, g.few, l)) r (reach (format_of old) (larger_size old mid file) (larger_size old new file) i k (omega (arith, g.size, h.size)) d)
+          ∙ a.slack i k l (omega (arith, g.few, l)) r (reach (format_of old) (file_size mid file) (file_size new file) i k (omega (arith, g.size, h.size)) d)
           ∙ ap (λ (c : ℕ). byte_at old c k) (sym there);
       new_extension = λ q k l m r n. elim (cases_lt q (length extensions')) [
         | inl s ↦
             let there : slice_index extensions'' q ≡ slice_index extensions' q = h.headers (suc q) (omega arith) in
             let late = later_count (suc q) (omega arith) in
-            b.extension q k s m r (λ z. n (inl (more_pointers (most_pointers mid new (slice_index extensions'' q)) (pointer_count new (slice_index extensions'' q)) (k / 4) (omega (arith, late)) z)))
+            b.extension q k s m r (λ z. n (inl (more_pointers (pointer_count new (slice_index extensions'' q)) (pointer_count new (slice_index extensions'' q)) (k / 4) (omega (arith, late)) z)))
             ∙ subst (λ (c : ℕ). ¬ IsExtensionField (pointer_count mid c) (k / 4) → byte_at mid c k ≡ 0) (sym there) (a.new_extension q k l s r)
             (λ z. n (more_extension (pointer_count mid (slice_index extensions'' q)) (pointer_count new (slice_index extensions'' q)) (k / 4) late z))
         | inr s ↦ b.new_extension q k s m r n
       ];
       new_data = λ i k l m r d. elim (cases_lt i (length blocks')) [
         | inl s ↦
-            b.slack i k s m r (later_end (larger_size mid new file) (file_size new file) i k (omega (arith, h.size)) d)
+            b.slack i k s m r (later_end (file_size new file) (file_size new file) i k (omega (arith, h.size)) d)
             ∙ ap (λ (c : ℕ). byte_at mid c k) (h.datas i s)
             ∙ a.new_data i k l s r (reach (format_of old) (file_size mid file) (file_size new file) i k h.size d)
         | inr s ↦ b.new_data i k s m r (later_end (file_size new file) (file_size new file) i k (omega arith) d)
@@ -180,9 +180,9 @@ pub keeps_within : (changed : ℕ → ℕ → Type 0) (old new : List ℕ) (file
     long new file 4 ≡ long old file 4 → KeepsUnnamed old file blocks extensions new blocks extensions
 keeps_within changed old new file blocks extensions h beside header extension within first = record {
   others = λ c k l o. h.same_byte c k l (beside c k o);
-  header = λ k l n. h.same_byte file k l (λ at. n (more_header (pointer_count new file) (most_pointers old new file) (k / 4) (omega arith) (header k at)));
-  extension = λ q k l m r n. h.same_byte (slice_index extensions q) k r (λ at. n (more_pointers (pointer_count new (slice_index extensions q)) (most_pointers old new (slice_index extensions q)) (k / 4) (omega arith) (extension q k l at)));
-  slack = λ i k l m r d. h.same_byte (slice_index blocks i) k r (λ at. within_reach (format_of old) (file_size new file) (larger_size old new file) i k (omega arith) (within i k l at) d);
+  header = λ k l n. h.same_byte file k l (λ at. n (more_header (pointer_count new file) (pointer_count new file) (k / 4) (omega arith) (header k at)));
+  extension = λ q k l m r n. h.same_byte (slice_index extensions q) k r (λ at. n (more_pointers (pointer_count new (slice_index extensions q)) (pointer_count new (slice_index extensions q)) (k / 4) (omega arith) (extension q k l at)));
+  slack = λ i k l m r d. h.same_byte (slice_index blocks i) k r (λ at. within_reach (format_of old) (file_size new file) (file_size new file) i k (omega arith) (within i k l at) d);
   new_extension = λ q k l m r n. absurd (omega (arith, l, m));
   new_data = λ i k l m r d. absurd (omega (arith, l, m));
   first_taken = λ z l. absurd (omega (arith, z, l));

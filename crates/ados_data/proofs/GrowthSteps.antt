@@ -73,7 +73,7 @@ module _ (old new : List ℕ) (format : Format) (file : ℕ) where
     pub skeleton_extended : (e : ℕ) → length blocks ≡ 72 * suc (length extensions) →
         ((q : ℕ) → q < length extensions → KeepsHolder old new (slice_index (file ∷ extensions) q)) →
         ((j : ℕ) → j < 128 → j ≢ next_extension → j ≢ 5 → long new (slice_index (file ∷ extensions) (length extensions)) j ≡ long old (slice_index (file ∷ extensions) (length extensions)) j) →
-        long new (slice_index (file ∷ extensions) (length extensions)) next_extension ≡ e → block_sum new (slice_index (file ∷ extensions) (length extensions)) ≡ 0 →
+        long new (slice_index (file ∷ extensions) (length extensions)) next_extension ≡ e → (block_sum old (slice_index (file ∷ extensions) (length extensions)) ≡ 0 → block_sum new (slice_index (file ∷ extensions) (length extensions)) ≡ 0) →
         long new file size_long ≡ long old file size_long → long new file 4 ≡ long old file 4 →
         (format ≡ Ofs → (i : ℕ) → i < length blocks → KeepsData old new (slice_index blocks i)) →
         HasExtension new file e → long new e 2 ≡ 0 → long new e next_extension ≡ 0 → Skeleton new format file blocks (extensions ++ e ∷ []) size
@@ -112,7 +112,7 @@ module _ (old new : List ℕ) (format : Format) (file : ℕ) where
           pointers = λ p l m. ap (λ (b : ℕ). long new b (first_pointer - p)) here ∙ others (first_pointer - p) (omega arith) (omega arith) (omega arith) ∙ old_holder.pointers p l m;
           extension = λ l. subst (HasExtension new file) (sym here) (extension_kept old new file (slice_index (file ∷ extensions) (length extensions))
               (others 0 (omega arith) (omega arith) (omega arith)) (others 1 (omega arith) (omega arith) (omega arith)) (others parent_long (omega arith) (omega arith) (omega arith)) (others secondary_type_long (omega arith) (omega arith) (omega arith))
-              sum (old_holder.extension l));
+              (sum (old_holder.extension l).sum) (old_holder.extension l));
         }
 
         new_holder : IsHolder new file blocks (extensions ++ e ∷ []) (suc (length extensions))
@@ -127,10 +127,10 @@ module _ (old new : List ℕ) (format : Format) (file : ℕ) where
     pub skeleton_longer : (b p : ℕ) → length blocks ≡ 72 * length extensions + p → p < 72 →
         ((q : ℕ) → q < length extensions → KeepsHolder old new (slice_index (file ∷ extensions) q)) →
         ((j : ℕ) → j < 128 → j ≢ 2 → j ≢ first_pointer - p → j ≢ 4 → j ≢ 5 → long new (slice_index (file ∷ extensions) (length extensions)) j ≡ long old (slice_index (file ∷ extensions) (length extensions)) j) →
-        long new (slice_index (file ∷ extensions) (length extensions)) (first_pointer - p) ≡ b → long new (slice_index (file ∷ extensions) (length extensions)) 2 ≡ p + 1 → block_sum new (slice_index (file ∷ extensions) (length extensions)) ≡ 0 →
+        long new (slice_index (file ∷ extensions) (length extensions)) (first_pointer - p) ≡ b → long new (slice_index (file ∷ extensions) (length extensions)) 2 ≡ p + 1 → (block_sum old (slice_index (file ∷ extensions) (length extensions)) ≡ 0 → block_sum new (slice_index (file ∷ extensions) (length extensions)) ≡ 0) →
         long new file size_long ≡ long old file size_long → (length blocks ≡ 0 → long new file 4 ≡ b) → (0 < length blocks → long new file 4 ≡ long old file 4) →
         (format ≡ Ofs → (i : ℕ) → suc i < length blocks → KeepsData old new (slice_index blocks i)) →
-        (format ≡ Ofs → (i : ℕ) → suc i ≡ length blocks → ((j : ℕ) → j < 4 → long new (slice_index blocks i) j ≡ long old (slice_index blocks i) j) × (long new (slice_index blocks i) 4 ≡ b) × (block_sum new (slice_index blocks i) ≡ 0)) →
+        (format ≡ Ofs → (i : ℕ) → suc i ≡ length blocks → ((j : ℕ) → j < 4 → long new (slice_index blocks i) j ≡ long old (slice_index blocks i) j) × (long new (slice_index blocks i) 4 ≡ b) × (block_sum old (slice_index blocks i) ≡ 0 → block_sum new (slice_index blocks i) ≡ 0)) →
         (format ≡ Ofs → HasOfsData new file size (length blocks) b × (long new b 4 ≡ 0)) → Skeleton new format file (blocks ++ b ∷ []) extensions size
     skeleton_longer b p placed small before others pointer count sum size_same first_new first_kept datas last new_data = record {
       size_field = size_same ∙ s.size_field;
@@ -172,7 +172,7 @@ module _ (old new : List ℕ) (format : Format) (file : ℕ) where
           extension = λ l. extension_kept old new file (slice_index (file ∷ extensions) (length extensions))
               (others 0 (omega arith) (omega arith) (omega arith) (omega arith) (omega arith)) (others 1 (omega arith) (omega arith) (omega arith) (omega arith) (omega arith))
               (others parent_long (omega arith) (omega arith) (omega arith) (omega arith) (omega arith)) (others secondary_type_long (omega arith) (omega arith) (omega arith) (omega arith) (omega arith))
-              sum (old_holder.extension l);
+              (sum (old_holder.extension l).sum) (old_holder.extension l);
         }
 
         last_data : format ≡ Ofs → (i : ℕ) → suc i ≡ length blocks → IsData new file (blocks ++ b ∷ []) size i
@@ -187,7 +187,7 @@ module _ (old new : List ℕ) (format : Format) (file : ℕ) where
                 header = ap (λ (c : ℕ). long new c 1) here ∙ k.0 1 (omega arith) ∙ d.fields.header;
                 sequence = ap (λ (c : ℕ). long new c 2) here ∙ k.0 2 (omega arith) ∙ d.fields.sequence;
                 held = ap (λ (c : ℕ). long new c 3) here ∙ k.0 3 (omega arith) ∙ d.fields.held;
-                sum = ap (block_sum new) here ∙ k.2;
+                sum = ap (block_sum new) here ∙ k.2 d.fields.sum;
               };
             }
 
@@ -203,10 +203,10 @@ module _ (old new : List ℕ) (format : Format) (file : ℕ) where
     pub skeleton_resized : (d x size' : ℕ) → d ≤ length blocks → x ≤ length extensions → 72 * x ≤ d → (0 < x → 72 * x < d) → d ≤ 72 * suc x → (format ≡ Ofs → 488 * d ≤ size' + 487) → (format ≡ Ofs → 488 * (d - 1) ≤ size) →
         ((q : ℕ) → q < x → KeepsHolder old new (slice_index (file ∷ extensions) q)) →
         ((j : ℕ) → j < 128 → j ≢ 2 → j ≢ next_extension → j ≢ 4 → j ≢ 5 → j ≢ size_long → long new (slice_index (file ∷ extensions) x) j ≡ long old (slice_index (file ∷ extensions) x) j) →
-        long new (slice_index (file ∷ extensions) x) 2 ≡ d - 72 * x → long new (slice_index (file ∷ extensions) x) next_extension ≡ 0 → block_sum new (slice_index (file ∷ extensions) x) ≡ 0 →
+        long new (slice_index (file ∷ extensions) x) 2 ≡ d - 72 * x → long new (slice_index (file ∷ extensions) x) next_extension ≡ 0 → (block_sum old (slice_index (file ∷ extensions) x) ≡ 0 → block_sum new (slice_index (file ∷ extensions) x) ≡ 0) →
         long new file size_long ≡ size' → (d ≡ 0 → long new file 4 ≡ 0) → (0 < d → long new file 4 ≡ long old file 4) →
         (format ≡ Ofs → (i : ℕ) → suc i < d → KeepsData old new (slice_index blocks i)) →
-        (format ≡ Ofs → (i : ℕ) → suc i ≡ d → ((j : ℕ) → j < 3 → long new (slice_index blocks i) j ≡ long old (slice_index blocks i) j) × (long new (slice_index blocks i) 3 ≡ min 488 (size' - 488 * i)) × (long new (slice_index blocks i) 4 ≡ 0) × (block_sum new (slice_index blocks i) ≡ 0)) →
+        (format ≡ Ofs → (i : ℕ) → suc i ≡ d → ((j : ℕ) → j < 3 → long new (slice_index blocks i) j ≡ long old (slice_index blocks i) j) × (long new (slice_index blocks i) 3 ≡ min 488 (size' - 488 * i)) × (long new (slice_index blocks i) 4 ≡ 0) × (block_sum old (slice_index blocks i) ≡ 0 → block_sum new (slice_index blocks i) ≡ 0)) →
         Skeleton new format file (take d blocks) (take x extensions) size'
     skeleton_resized d x size' few fewer least strict room reached full before others count next sum sized first_none first_kept datas last = record {
       size_field = sized;
@@ -250,7 +250,7 @@ module _ (old new : List ℕ) (format : Format) (file : ℕ) where
           extension = λ l. subst (HasExtension new file) (sym here) (extension_kept old new file (slice_index (file ∷ extensions) x)
               (others 0 (omega arith) (omega arith) (omega arith) (omega arith) (omega arith) (omega arith)) (others 1 (omega arith) (omega arith) (omega arith) (omega arith) (omega arith) (omega arith))
               (others parent_long (omega arith) (omega arith) (omega arith) (omega arith) (omega arith) (omega arith)) (others secondary_type_long (omega arith) (omega arith) (omega arith) (omega arith) (omega arith) (omega arith))
-              sum (old_holder.extension l));
+              (sum (old_holder.extension l).sum) (old_holder.extension l));
         }
 
         last_data : format ≡ Ofs → (i : ℕ) → suc i ≡ d → IsData new file (take d blocks) size' i
@@ -265,6 +265,6 @@ module _ (old new : List ℕ) (format : Format) (file : ℕ) where
                 header = ap (λ (c : ℕ). long new c 1) place ∙ k.0 1 (omega arith) ∙ was.fields.header;
                 sequence = ap (λ (c : ℕ). long new c 2) place ∙ k.0 2 (omega arith) ∙ was.fields.sequence;
                 held = ap (λ (c : ℕ). long new c 3) place ∙ k.1;
-                sum = ap (block_sum new) place ∙ k.3;
+                sum = ap (block_sum new) place ∙ k.3 was.fields.sum;
               };
             }

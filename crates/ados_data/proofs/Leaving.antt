@@ -222,7 +222,7 @@ module _ (old new : List ℕ) (format : Format) (file : ℕ) (blocks extensions 
       summed : block_sum old file ≡ 0 → block_sum new file ≡ 0
       summed z = elim (cases_lt 0 (length extensions)) [
         | inl l ↦ same_sum (λ c k. AtExtensionFields e c k ⊎ AtField (slice_index (file ∷ extensions) (length extensions)) next_extension c k) old new x.rest file (λ k m. other k l) ∙ z
-        | inr l ↦ let here : length extensions ≡ 0 = omega arith in ap (λ (n : ℕ). block_sum new (slice_index (file ∷ extensions) n)) (sym here) ∙ x.sum
+        | inr l ↦ let here : length extensions ≡ 0 = omega arith in ap (λ (n : ℕ). block_sum new (slice_index (file ∷ extensions) n)) (sym here) ∙ x.sum (ap (λ (n : ℕ). block_sum old (slice_index (file ∷ extensions) n)) here ∙ z)
       ]
         where
           other : (k : ℕ) → 0 < length extensions → ¬ (AtExtensionFields e file k ⊎ AtField (slice_index (file ∷ extensions) (length extensions)) next_extension file k)
@@ -234,7 +234,7 @@ module _ (old new : List ℕ) (format : Format) (file : ℕ) (blocks extensions 
   pub leaves_longer : Leaves old file (blocks ++ b ∷ []) extensions new
   leaves_longer =
       leaves_owned (Lengthened old new format file blocks extensions size b s x inside used beside_headers beside_data) old new file (blocks ++ b ∷ []) extensions x.rest s.size_ok
-      (lengthened_owner old new format file blocks extensions size b s x inside used beside_headers beside_data) beside field (λ z. x.file_sum)
+      (lengthened_owner old new format file blocks extensions size b s x inside used beside_headers beside_data) beside field x.file_sum
     where
       beside : (c k : ℕ) → IsOther old file (blocks ++ b ∷ []) extensions c → ¬ Lengthened old new format file blocks extensions size b s x inside used beside_headers beside_data c k
       beside c k o (inl at) = o.beside_data (length blocks) (omega (arith, length_push blocks b)) (at.1 ∙ sym (pushed_last blocks b (length blocks) refl))
@@ -255,7 +255,7 @@ module _ (old new : List ℕ) (format : Format) (file : ℕ) (blocks extensions 
     (x : IsResized old format file (slice_index (file ∷ extensions) e) (slice_index blocks (d - 1)) d size' new) (few : d ≤ length blocks) (fewer : e ≤ length extensions) where
   pub leaves_resized : Leaves old file blocks extensions new
   leaves_resized =
-      leaves_owned (Resized old new format file blocks extensions size d e size' s x few fewer) old new file blocks extensions x.rest s.size_ok (resized_owner old new format file blocks extensions size d e size' s x few fewer) beside field (λ z. x.file_sum)
+      leaves_owned (Resized old new format file blocks extensions size d e size' s x few fewer) old new file blocks extensions x.rest s.size_ok (resized_owner old new format file blocks extensions size d e size' s x few fewer) beside field x.file_sum
     where
       beside : (c k : ℕ) → IsOther old file blocks extensions c → ¬ Resized old new format file blocks extensions size d e size' s x few fewer c k
       beside c k o (inl at) = o.beside_data (d - 1) (omega (arith, at.1)) at.2.0

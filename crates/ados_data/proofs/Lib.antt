@@ -8,8 +8,10 @@ pub mod Walking
 pub mod Untouched
 pub mod Skeleton
 pub mod Lists
+pub mod Placed
 pub mod GrowthSteps
 pub mod Beside
+pub mod Bounds
 pub mod Putting
 pub mod Marks
 pub mod Standing

@@ -4,7 +4,7 @@ use Rattle.std.proofs.lemmas.List.{length_push}
 use Rattle.adf_block.specs.declared.Format.{Format}
 use Rattle.adf_block.specs.declared.Format.TheVariants.{Ofs, Ffs}
 use Rattle.adf_block.specs.Image.{byte_at, long}
-use Rattle.adf_block.specs.Fields.{pointer_count, pointer_count_long, first_pointer, size_long, next_extension, next_data}
+use Rattle.adf_block.specs.Fields.{pointer_count, file_size, pointer_count_long, first_pointer, size_long, next_extension, next_data}
 use Rattle.adf_block.specs.Frame.{SameBut}
 use Rattle.adf_block.proofs.Frames.{same_long, same_trans, same_weaken}
 use Rattle.ados_map.specs.Pages.{pages_of, page_of}
@@ -12,7 +12,7 @@ use Rattle.ados_map.specs.Changes.{MapPlace}
 use Rattle.ados_data.specs.steps.Edits.{AtField, AtFields, AtDataFields}
 use Rattle.ados_data.specs.File.{format_of}
 use Rattle.ados_data.specs.steps.Blocks.{IsNewBlock, IsLengthened, IsResized, AtLink, AtEnd}
-use Rattle.ados_data.specs.Unnamed.{IsPointerField, IsHeaderField, data_end, most_pointers, larger_size, IsBeside, KeepsUnnamed}
+use Rattle.ados_data.specs.Unnamed.{IsPointerField, IsHeaderField, data_end, IsBeside, KeepsUnnamed}
 use Rattle.ados_data.proofs.Lists.{pushed_before, pushed_last}
 use Rattle.ados_data.proofs.Standing.{Standing, untaken, header_beside_new, data_beside_new}
 use Rattle.ados_data.proofs.Grown.{more_pointers, more_header}
@@ -120,11 +120,11 @@ module _ (i1 i2 i3 i4 : List ℕ) (format : Format) (file : ℕ) (blocks extensi
   pub keeps_longer : KeepsUnnamed i1 file blocks extensions i4 (blocks ++ b ∷ []) extensions
   keeps_longer = record {
     others = λ c k l o. rest.same_byte c k l (beside c k o);
-    header = λ k l f. rest.same_byte file k l (λ at. f (more_header (pointer_count i4 file) (most_pointers i1 i4 file) (k / 4) (omega arith) (header_field k at)));
-    extension = λ q k l m r f. rest.same_byte (slice_index extensions q) k r (λ at. f (more_pointers (pointer_count i4 (slice_index extensions q)) (most_pointers i1 i4 (slice_index extensions q)) (k / 4) (omega arith) (extension_field q k l at)));
+    header = λ k l f. rest.same_byte file k l (λ at. f (more_header (pointer_count i4 file) (pointer_count i4 file) (k / 4) (omega arith) (header_field k at)));
+    extension = λ q k l m r f. rest.same_byte (slice_index extensions q) k r (λ at. f (more_pointers (pointer_count i4 (slice_index extensions q)) (pointer_count i4 (slice_index extensions q)) (k / 4) (omega arith) (extension_field q k l at)));
     slack = λ i k l m r d.
         let here : slice_index (blocks ++ b ∷ []) i ≡ slice_index blocks i = pushed_before blocks b i l in
-        rest.same_byte (slice_index (blocks ++ b ∷ []) i) k r (λ at. end_behind i k (larger_size i1 i4 file) d (in_data i k l (subst (λ (c : ℕ). Changed c k) here at)));
+        rest.same_byte (slice_index (blocks ++ b ∷ []) i) k r (λ at. end_behind i k (file_size i4 file) d (in_data i k l (subst (λ (c : ℕ). Changed c k) here at)));
     new_extension = λ q k l m r f. absurd (omega (arith, l, m));
     new_data = λ i k l m r d.
         let here : slice_index (blocks ++ b ∷ []) i ≡ b = pushed_last blocks b i (omega (arith, l, m, length_push blocks b)) in

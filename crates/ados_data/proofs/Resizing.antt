@@ -90,7 +90,7 @@ module _ (old new : List ℕ) (format : Format) (file : ℕ) (blocks extensions 
   keeps_holder : (q : ℕ) → q < e → KeepsHolder old new (slice_index (file ∷ extensions) q)
   keeps_holder zero l = record {
     longs = λ j m a f g. header_long 0 j m (omega arith) (λ z. absurd (omega arith)) a f g;
-    sum = λ z. x.file_sum;
+    sum = x.file_sum;
   }
   keeps_holder (suc q) l = untouched_holder old new (slice_index (file ∷ extensions) (suc q)) (λ k m. x.rest.same_byte (slice_index (file ∷ extensions) (suc q)) k m (other_extension (suc q) k (omega arith) l))
 
@@ -114,7 +114,7 @@ module _ (old new : List ℕ) (format : Format) (file : ℕ) (blocks extensions 
               (λ j m. same_long Resized old new x.rest (slice_index blocks i) j (omega arith) (λ k r. last_other i k j r l (λ g. (omega arith, omega arith, omega arith)))),
               ap (λ (c : ℕ). long new c 3) (last_is i l) ∙ x.held f (omega arith) ∙ omega (arith, l, d_is f),
               ap (λ (c : ℕ). long new c 4) (last_is i l) ∙ x.last_next f (omega arith),
-              ap (block_sum new) (last_is i l) ∙ x.last_sum f (omega arith),
+              λ z. ap (block_sum new) (last_is i l) ∙ x.last_sum f (omega arith) (ap (block_sum old) (sym (last_is i l)) ∙ z),
             ));
         places = subst (λ (n : ℕ). AreApart n file (take d blocks) (take e extensions)) (sym resized_blocks) (apart_taken (block_count old) file blocks extensions s.places d e few fewer);
         map = map_stays Resized old new x.rest s.size_ok resized_owner s.map;

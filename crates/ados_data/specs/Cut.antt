@@ -1,6 +1,6 @@
 -- What becomes of the blocks of a file that is cut to a size.
-use Rattle.std.specs.Prelude.{◌≡◌, ℕ, ◌<◌, ◌≤◌, List, length, slice_index, true}
-use Rattle.adf_block.specs.Fields.{ofs_data_byte}
+use Rattle.std.specs.Prelude.{◌≡◌, ℕ, ◌/◌, ◌<◌, ◌≤◌, ◌⊎◌, List, length, slice_index, true}
+use Rattle.adf_block.specs.Fields.{ofs_data_byte, pointer_count_long, next_data, sum_long, size_long, next_extension}
 use Rattle.adf_block.specs.declared.Format.TheVariants.{Ofs}
 use Rattle.adf_block.specs.Image.{has_free_bit}
 use Rattle.ados_data.specs.Cost.{data_count, extension_count}
@@ -16,6 +16,14 @@ abbrev pub KeepsData : List ℕ → ℕ → ℕ → List ℕ → Type 0
 KeepsData old file size new =
     (i k : ℕ) → i < data_left old size → k < 512 → (format_of old ≡ Ofs → ofs_data_byte ≤ k)
     → SameByte old new (slice_index (data_blocks old file) i) k
+
+-- the longs of a header that a cut may write: count, first data block, sum, size, first extension block
+abbrev pub IsCutField : ℕ → Type 0
+IsCutField j = (j ≡ pointer_count_long) ⊎ ((j ≡ next_data) ⊎ ((j ≡ sum_long) ⊎ ((j ≡ size_long) ⊎ (j ≡ next_extension))))
+
+-- all else in the header stays, also the pointers that are given up
+abbrev pub CutsHeader : List ℕ → ℕ → List ℕ → Type 0
+CutsHeader old file new = (k : ℕ) → k < 512 → ¬ IsCutField (k / 4) → SameByte old new file k
 
 -- the other ones are marked free
 abbrev pub FreesData : List ℕ → ℕ → ℕ → List ℕ → Type 0

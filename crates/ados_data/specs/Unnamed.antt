@@ -1,5 +1,5 @@
 -- What a change of a file's data keeps to the byte, and what stands in the blocks that it takes.
-use Rattle.std.specs.Prelude.{◌≡◌, ◌≢◌, ℕ, ◌+◌, ◌-◌, ◌*◌, ◌/◌, ◌<◌, ◌≤◌, ◌⊎◌, min, max, List, ◌∷◌, length, slice_index}
+use Rattle.std.specs.Prelude.{◌≡◌, ◌≢◌, ℕ, ◌+◌, ◌-◌, ◌*◌, ◌/◌, ◌<◌, ◌≤◌, ◌⊎◌, min, List, ◌∷◌, length, slice_index}
 use Rattle.adf_block.specs.declared.Format.{Format}
 use Rattle.adf_block.specs.Image.{byte_at, long, block_count}
 use Rattle.adf_block.specs.Fields.{pointer_count, file_size, next_data, primary_type_long, own_key_long, sum_long, secondary_type_long, pointer_count_long, first_pointer, size_long, parent_long, next_extension}
@@ -24,14 +24,6 @@ IsExtensionField count j = IsPointerField count j ⊎ ((j ≡ primary_type_long)
 abbrev pub data_end : Format → ℕ → ℕ → ℕ
 data_end format size i = data_start format + min (data_size format) (size - data_size format * i)
 
--- the larger of two images' counts of pointers in a block
-abbrev pub most_pointers : List ℕ → List ℕ → ℕ → ℕ
-most_pointers old new block = max (pointer_count old block) (pointer_count new block)
-
--- the larger of a file's sizes in two images
-abbrev pub larger_size : List ℕ → List ℕ → ℕ → ℕ
-larger_size old new file = max (file_size old file) (file_size new file)
-
 -- a block, also a free one, that is no page and no block of the file with these lists
 pub record IsBeside (image : List ℕ) (file : ℕ) (blocks extensions : List ℕ) (c : ℕ) : Type 0 where
   pub inside : c < block_count image
@@ -39,17 +31,17 @@ pub record IsBeside (image : List ℕ) (file : ℕ) (blocks extensions : List �
   pub beside_headers : (q : ℕ) → q ≤ length extensions → c ≢ slice_index (file ∷ extensions) q
   pub beside_data : (i : ℕ) → i < length blocks → c ≢ slice_index blocks i
 
--- byte k of the header stays where no field stands
+-- byte k of the header stays where no field stands afterwards
 abbrev pub KeepsHeader : List ℕ → List ℕ → ℕ → ℕ → Type 0
-KeepsHeader old new file k = k < 512 → ¬ IsHeaderField (most_pointers old new file) (k / 4) → SameByte old new file k
+KeepsHeader old new file k = k < 512 → ¬ IsHeaderField (pointer_count new file) (k / 4) → SameByte old new file k
 
--- byte k of an extension block that the file had stays where no field stands that a change may write
+-- byte k of an extension block that the file had stays where no field stands afterwards that a change may write
 abbrev pub KeepsExtension : List ℕ → List ℕ → ℕ → ℕ → Type 0
-KeepsExtension old new block k = k < 512 → ¬ IsPointerField (most_pointers old new block) (k / 4) → SameByte old new block k
+KeepsExtension old new block k = k < 512 → ¬ IsPointerField (pointer_count new block) (k / 4) → SameByte old new block k
 
--- byte k of data block i, which the file had, stays behind the bytes of the file
+-- byte k of data block i, which the file had, stays behind the bytes that the file then has
 abbrev pub KeepsSlack : List ℕ → List ℕ → ℕ → ℕ → ℕ → ℕ → Type 0
-KeepsSlack old new file i block k = k < 512 → data_end (format_of old) (larger_size old new file) i ≤ k → SameByte old new block k
+KeepsSlack old new file i block k = k < 512 → data_end (format_of old) (file_size new file) i ≤ k → SameByte old new block k
 
 -- byte k of an extension block that the file got is 0 where no field stands
 abbrev pub IsZeroInExtension : List ℕ → ℕ → ℕ → Type 0

@@ -65,7 +65,7 @@ pub fn attach_data(
 fn link_data(image: &mut Image, format: Format, last: u32, count: u32, b: u32)
     requires last { 0 < count → last < block_count image.old }
     ensures link { format ≡ Format.Ofs → 0 < count → long image.new last next_data ≡ b }
-    ensures sum { format ≡ Format.Ofs → 0 < count → block_sum image.new last ≡ 0 }
+    ensures sum { format ≡ Format.Ofs → 0 < count → block_sum image.old last ≡ 0 → block_sum image.new last ≡ 0 }
     ensures rest { SameBut (AtLink format count last) image.old image.new }
 {
     if format == Format::Ofs && count > 0 {

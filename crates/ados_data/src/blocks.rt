@@ -3,6 +3,7 @@
 ghost use Rattle.std.specs.Prelude.{◌≡◌, ◌<◌, ◌%◌, false};
 ghost use Rattle.adf_block.specs.Fields.{table_longs};
 ghost use Rattle.adf_block.specs.Image.{IsInside, block_count, has_free_bit, free_bit_count};
+ghost use Rattle.ados_map.specs.Pages.{NoneFreeBelow};
 ghost use Rattle.ados_data.specs.Changing.{LawfulMap};
 ghost use Rattle.ados_data.specs.steps.Blocks.{HasPointerRoom, IsNewBlock};
 
@@ -11,14 +12,15 @@ use adf_block::Image;
 use adf_block::layout::{MOST_BLOCKS, TABLE_LONGS};
 use ados_map::take_first;
 
-/// Takes the lowest free block and fills it with zeros.
-pub fn new_block(image: &mut Image) -> u32
+/// Takes the lowest free block, which is not below `from`, and fills it with zeros.
+pub fn new_block(image: &mut Image, from: u32) -> u32
     requires map { LawfulMap image.old }
+    requires below { NoneFreeBelow image.old from }
     requires free { 0 < free_bit_count image.old }
     ensures { IsNewBlock image.old result image.new }
 {
     prove!(image.blocks() <= MOST_BLOCKS);
-    let Some(block) = take_first(image) else {
+    let Some(block) = take_first(image, from) else {
         unreachable!()
     };
     image.clear(block);
@@ -26,9 +28,10 @@ pub fn new_block(image: &mut Image) -> u32
 }
 
 /// The pointer block for pointer `count` of a file: `holder`, the last one, or a new one behind it where
-/// that is full.
-pub fn pointer_room(image: &mut Image, file: u32, holder: u32, count: u32) -> u32
+/// that is full. No block below `from` is free.
+pub fn pointer_room(image: &mut Image, file: u32, holder: u32, count: u32, from: u32) -> u32
     requires map { LawfulMap image.old }
+    requires below { NoneFreeBelow image.old from }
     requires inside { IsInside (block_count image.old) holder }
     requires used { has_free_bit image.old holder ≡ false }
     requires free { 0 < count → count % table_longs ≡ 0 → 0 < free_bit_count image.old }
@@ -37,7 +40,7 @@ pub fn pointer_room(image: &mut Image, file: u32, holder: u32, count: u32) -> u3
     if count == 0 || count % TABLE_LONGS != 0 {
         return holder;
     }
-    let extension = new_block(image);
+    let extension = new_block(image, from);
     attach_extension(image, file, holder, extension);
     extension
 }

@@ -1,4 +1,4 @@
-//! Edits of the fields of one block, whose sum is settled afterwards.
+//! Edits of the fields of one block. Where the block was settled it is so afterwards: its sum follows each field.
 
 ghost use Rattle.std.specs.Prelude.{◌≡◌, ◌≢◌, ℕ, ◌<◌, ◌+◌, ◌^◌, ◌⊎◌};
 ghost use Rattle.adf_block.specs.Image.{block_count, block_sum, byte_at, long};
@@ -18,12 +18,14 @@ pub fn set_field(image: &mut Image, b: u32, i: u32, v: u32)
     requires place { i < 128 }
     requires not_sum { i ≢ sum_long }
     ensures set { long image.new b i ≡ v }
-    ensures sum { block_sum image.new b ≡ 0 }
+    ensures sum { block_sum image.old b ≡ 0 → block_sum image.new b ≡ 0 }
     ensures others { (c j : ℕ) → j < 128 → (c ≢ b) ⊎ ((j ≢ i) × (j ≢ sum_long)) → long image.new c j ≡ long image.old c j }
     ensures rest { SameBut (AtField b i) image.old image.new }
 {
+    let old = image.long(b, i);
+    let sum = image.long(b, SUM).wrapping_add(old).wrapping_sub(v);
     image.set_long(b, i, v);
-    image.settle(b, SUM);
+    image.set_long(b, SUM, sum);
 }
 
 /// Sets longs `i` and `j` of block `b`.
@@ -36,10 +38,10 @@ pub fn set_fields(image: &mut Image, b: u32, i: u32, v: u32, j: u32, w: u32)
     requires other_not_sum { j ≢ sum_long }
     ensures set { long image.new b i ≡ v }
     ensures other_set { long image.new b j ≡ w }
-    ensures sum { block_sum image.new b ≡ 0 }
+    ensures sum { block_sum image.old b ≡ 0 → block_sum image.new b ≡ 0 }
     ensures rest { SameBut (AtFields b i j) image.old image.new }
 {
-    image.set_long(b, i, v);
+    set_field(image, b, i, v);
     set_field(image, b, j, w);
 }
 
@@ -52,7 +54,8 @@ pub fn make_extension(image: &mut Image, b: u32, file: u32)
     image.set_long(b, PRIMARY_TYPE, LIST_TYPE);
     image.set_long(b, OWN_KEY, b);
     image.set_long(b, PARENT, file);
-    set_field(image, b, SECONDARY_TYPE, FILE_TYPE);
+    image.set_long(b, SECONDARY_TYPE, FILE_TYPE);
+    image.settle(b, SUM);
 }
 
 /// Makes block `b`, which is empty, a data block of a file, the one with this sequence number. It holds
@@ -70,6 +73,7 @@ pub fn make_data(image: &mut Image, format: Format, b: u32, file: u32, sequence:
     if format == Format::Ofs {
         image.set_long(b, PRIMARY_TYPE, DATA_TYPE);
         image.set_long(b, OWN_KEY, file);
-        set_field(image, b, SEQUENCE, sequence);
+        image.set_long(b, SEQUENCE, sequence);
+        image.settle(b, SUM);
     }
 }

@@ -1,13 +1,13 @@
 //! The longs that lead through a file.
 
-ghost use Rattle.std.specs.Prelude.{◌≡◌, ◌<◌, ◌≤◌, ◌-◌, ◌%◌, length};
+ghost use Rattle.std.specs.Prelude.{◌≡◌, ◌<◌, ◌-◌, ◌%◌, length};
 ghost use Rattle.adf_block.specs.Fields.{table_longs, first_pointer};
 ghost use Rattle.adf_block.specs.Image.{block_count, bytes_at, long};
 ghost use Rattle.ados_data.specs.Cost.{data_size, data_start};
-ghost use Rattle.ados_data.specs.File.{LawfulFile, format_of, pointer_block, extension_blocks};
+ghost use Rattle.ados_data.specs.File.{format_of};
 
 use crate::cost::data_start;
-use adf_block::layout::{FIRST_POINTER, NEXT_EXTENSION, TABLE_LONGS};
+use adf_block::layout::{FIRST_POINTER, TABLE_LONGS};
 use adf_block::{Format, Image};
 
 /// How the volume's data blocks are laid out.
@@ -15,19 +15,6 @@ pub fn format_of(image: &Image) -> Format
     ensures { result ≡ format_of image.now }
 {
     image.format()
-}
-
-/// The pointer block behind `q` others: 0 is the header.
-pub fn pointer_block(image: &Image, file: u32, q: u64) -> u32
-    requires lawful { LawfulFile image.now file }
-    requires within { q ≤ length (extension_blocks image.now file) }
-    ensures { result ≡ pointer_block image.now file q }
-{
-    let mut holder = file;
-    for _passed in 0..q {
-        holder = image.long(holder, NEXT_EXTENSION);
-    }
-    holder
 }
 
 /// The data block of pointer `i` of a file, by the pointer block that holds it.

@@ -3,9 +3,11 @@
 ghost use Rattle.std.specs.Prelude.{◌≡◌, ◌<◌, ◌≤◌, ◌+◌, ◌-◌, ◌*◌, ◌/◌, ◌^◌, ◌++◌, length, replicate, take};
 ghost use Rattle.adf_block.specs.Fields.{table_longs};
 ghost use Rattle.adf_block.specs.Image.{free_bit_count};
+ghost use Rattle.ados_map.specs.Pages.{NoneFreeBelow};
 ghost use Rattle.ados_data.specs.Cost.{data_size};
 ghost use Rattle.ados_data.specs.File.{LawfulFile, contents, data_blocks, extension_blocks, format_of};
 ghost use Rattle.ados_data.specs.Changing.{HasFree, PaysFor, WritableFile};
+ghost use Rattle.ados_data.specs.Place.{IsPlace};
 ghost use Rattle.ados_data.specs.steps.FileEnd.{IsEnd};
 ghost use Rattle.ados_data.specs.Others.{FileGains, LeavesOthers};
 ghost use Rattle.ados_data.specs.Unnamed.{FileKeepsUnnamed};
@@ -13,7 +15,8 @@ ghost use Rattle.ados_data.specs.Unnamed.{FileKeepsUnnamed};
 use crate::attach::attach_data;
 use crate::blocks::{new_block, pointer_room};
 use crate::cost::{data_count, data_size, extension_count};
-use crate::fields::{data_block, pointer_block};
+use crate::fields::data_block;
+use crate::place::{Place, pointer_block};
 use crate::put::put_data;
 use crate::resize::resize;
 use adf_block::layout::{FFS_ROOM, MOST_BLOCKS, SIZE};
@@ -34,13 +37,14 @@ pub struct End {
 }
 
 /// Where a lawful file ends.
-pub fn end_of(image: &Image, format: Format, file: u32) -> End
+pub fn end_of(image: &Image, format: Format, file: u32, near: Place) -> End
     requires lawful { LawfulFile image.now file }
+    requires near { IsPlace image.now file near }
     requires format { format ≡ format_of image.now }
     ensures { IsEnd image.now file result }
 {
     let count = data_count(format, image.long(file, SIZE) as u64);
-    let holder = pointer_block(image, file, extension_count(count));
+    let holder = pointer_block(image, file, near, extension_count(count));
     let last = if count == 0 {
         0
     } else {
@@ -92,9 +96,10 @@ fn fill_last(image: &mut Image, format: Format, file: u32, end: End, size: u32) 
 }
 
 /// Appends a data block to a file whose data blocks are full, so that the file has this size. The bytes
-/// it gets are 0.
-fn append(image: &mut Image, format: Format, file: u32, end: End, size: u32) -> End
+/// it gets are 0. No block below `from` is free.
+fn append(image: &mut Image, format: Format, file: u32, end: End, size: u32, from: u32) -> End
     requires writable { WritableFile image.old file }
+    requires below { NoneFreeBelow image.old from }
     requires format { format ≡ format_of image.old }
     requires end { IsEnd image.old file end }
     requires full { length (contents image.old file) ≡ data_size format * end.count }
@@ -114,8 +119,8 @@ fn append(image: &mut Image, format: Format, file: u32, end: End, size: u32) -> 
     ensures keeps { FileKeepsUnnamed image.old file image.new }
 {
     prove!(image.blocks() <= MOST_BLOCKS);
-    let holder = pointer_room(image, file, end.holder, end.count);
-    let last = new_block(image);
+    let holder = pointer_room(image, file, end.holder, end.count, from);
+    let last = new_block(image, from);
     attach_data(image, format, file, holder, end.last, end.count, last);
     let count = end.count + 1;
     resize(image, format, file, holder, last, count, size);
@@ -128,14 +133,18 @@ fn append(image: &mut Image, format: Format, file: u32, end: End, size: u32) -> 
 
 /// Makes a file longer, to this size. The bytes it gets are 0, and each block it gets is the lowest free
 /// one. It keeps its blocks. Bytes of them that no field names and the file doesn't reach stay, and so
-/// do all blocks but these and the pages; what the file doesn't use of a new block is 0.
-pub fn extend(image: &mut Image, file: u32, size: u32)
+/// do all blocks but these and the pages; what the file doesn't use of a new block is 0. No block below
+/// `from` is free; the answer is such a bound for the next search.
+pub fn extend(image: &mut Image, file: u32, near: Place, size: u32, from: u32) -> u32
     requires writable { WritableFile image.old file }
+    requires near { IsPlace image.old file near }
+    requires below { NoneFreeBelow image.old from }
     requires longer { length (contents image.old file) ≤ size }
     requires free { HasFree image.old file size }
     ensures writable { WritableFile image.new file }
     ensures format { format_of image.new ≡ format_of image.old }
     ensures bytes { contents image.new file ≡ contents image.old file ++ replicate (size - length (contents image.old file)) 0 }
+    ensures below { NoneFreeBelow image.new result }
     ensures free { PaysFor image.old file size image.new }
     ensures leaves { LeavesOthers image.old file image.new }
     ensures gains { FileGains image.old file image.new }
@@ -144,13 +153,19 @@ pub fn extend(image: &mut Image, file: u32, size: u32)
     ensures keeps { FileKeepsUnnamed image.old file image.new }
 {
     prove!(image.blocks() <= MOST_BLOCKS);
+    if image.long(file, SIZE) == size {
+        return from;
+    }
     let format = image.format();
     let room = data_size(format) as u64;
-    let mut end = end_of(image, format, file);
+    let mut end = end_of(image, format, file, near);
     let mut reached = fill_last(image, format, file, end, size);
+    let mut bound = from;
     while reached < size {
         let next = (size as u64).min(reached as u64 + room) as u32;
-        end = append(image, format, file, end, next);
+        end = append(image, format, file, end, next, bound);
+        bound = end.last;
         reached = next;
     }
+    bound
 }

@@ -2,16 +2,19 @@
 
 ghost use Rattle.std.specs.Prelude.{◌≡◌, ◌++◌, ◌-◌, min, take, drop, length};
 ghost use Rattle.ados_data.specs.File.{LawfulFile, contents};
+ghost use Rattle.ados_data.specs.Place.{IsPlace};
 
 use crate::cost::data_size;
-use crate::fields::{data_block, data_in, pointer_block};
+use crate::fields::{data_block, data_in};
+use crate::place::{Place, pointer_block};
 use adf_block::Image;
 use adf_block::layout::{NEXT_EXTENSION, SIZE, TABLE_LONGS};
 
 /// Copies the bytes of a file from byte `pos` on into the buffer, as many as are there and fit, and
 /// answers how many these are. The rest of the buffer stays.
-pub fn read_at(image: &Image, file: u32, pos: u64, buffer: &mut [u8]) -> usize
-    requires { LawfulFile image.now file }
+pub fn read_at(image: &Image, file: u32, near: Place, pos: u64, buffer: &mut [u8]) -> usize
+    requires lawful { LawfulFile image.now file }
+    requires near { IsPlace image.now file near }
     ensures count { result ≡ min (length buffer.old) (length (contents image.now file) - pos) }
     ensures bytes { buffer.new ≡ take result (drop pos (contents image.now file)) ++ drop result buffer.old }
 {
@@ -22,7 +25,7 @@ pub fn read_at(image: &Image, file: u32, pos: u64, buffer: &mut [u8]) -> usize
         return 0;
     }
     let count = buffer.len().min((size - pos) as usize);
-    let mut holder = pointer_block(image, file, pos / room as u64 / TABLE_LONGS as u64);
+    let mut holder = pointer_block(image, file, near, pos / room as u64 / TABLE_LONGS as u64);
     let mut done = 0;
     while done < count {
         let at = pos + done as u64;

@@ -47,7 +47,7 @@ fn end_data(image: &mut Image, format: Format, last: u32, count: u32, size: u32)
     requires size { ofs_room * (count - 1) ≤ size }
     ensures held { format ≡ Format.Ofs → 0 < count → held_count image.new last ≡ size - ofs_room * (count - 1) }
     ensures next { format ≡ Format.Ofs → 0 < count → long image.new last next_data ≡ 0 }
-    ensures sum { format ≡ Format.Ofs → 0 < count → block_sum image.new last ≡ 0 }
+    ensures sum { format ≡ Format.Ofs → 0 < count → block_sum image.old last ≡ 0 → block_sum image.new last ≡ 0 }
     ensures rest { SameBut (AtEnd format count last) image.old image.new }
 {
     if format == Format::Ofs && count > 0 {

@@ -6,14 +6,15 @@ ghost use Rattle.adf_block.specs.Image.{IsInside, has_free_bit, block_count, byt
 ghost use Rattle.ados_map.specs.Pages.{LawfulPages};
 ghost use Rattle.ados_data.specs.Cost.{block_cost, data_count, extension_count};
 ghost use Rattle.ados_data.specs.File.{contents, data_blocks, extension_blocks, format_of};
-ghost use Rattle.ados_data.specs.Cut.{FreesData, FreesExtensions, KeepsData};
+ghost use Rattle.ados_data.specs.Cut.{CutsHeader, FreesData, FreesExtensions, KeepsData};
 ghost use Rattle.ados_data.specs.Changing.{PaysFor, WritableFile};
 ghost use Rattle.ados_data.specs.Others.{LeavesOthers};
 ghost use Rattle.ados_data.specs.Unnamed.{FileKeepsUnnamed};
 ghost use Rattle.ados_data.specs.steps.Giving.{IsEntered};
 
 use crate::cost::{data_count, extension_count};
-use crate::fields::{data_block, pointer_block};
+use crate::fields::data_block;
+use crate::place::{Place, pointer_block};
 use crate::resize::resize;
 use adf_block::Image;
 use adf_block::layout::{MOST_BLOCKS, NEXT_EXTENSION, SIZE, TABLE_LONGS};
@@ -39,6 +40,7 @@ pub fn cut(image: &mut Image, file: u32, size: u32)
     ensures keeps { FileKeepsUnnamed image.old file image.new }
     ensures free_stays { (c : ℕ) → IsInside (block_count image.old) c → has_free_bit image.old c ≡ true → has_free_bit image.new c ≡ true }
     ensures data_stays { KeepsData image.old file size image.new }
+    ensures header { CutsHeader image.old file image.new }
     ensures blocks { data_blocks image.new file ≡ take (data_count (format_of image.old) size) (data_blocks image.old file) }
     ensures extensions { extension_blocks image.new file ≡ take (extension_count (data_count (format_of image.old) size)) (extension_blocks image.old file) }
     ensures freed { FreesData image.old file size image.new }
@@ -52,7 +54,7 @@ pub fn cut(image: &mut Image, file: u32, size: u32)
     }
     let all = data_count(format, old as u64);
     let count = data_count(format, size as u64);
-    let holder = pointer_block(image, file, extension_count(count));
+    let holder = pointer_block(image, file, Place::header(file), extension_count(count));
     let next = image.long(holder, NEXT_EXTENSION);
     let last = data_block(image, holder, count.saturating_sub(1));
     resize(image, format, file, holder, last, count as u32, size);

@@ -16,8 +16,7 @@ use Rattle.ados_packet.specs.declared.dos_error.DosError.{DosError}
 use Rattle.ados_packet.specs.declared.dos_error.DosError.TheVariants.{DeviceNotMounted, InvalidLock}
 use Rattle.ados_packet.specs.declared.packet.Packet.{Packet}
 use Rattle.ados_packet.specs.declared.results.Results.{Results}
-use Rattle.ados_packet.specs.declared.info.FileInfo.{FileInfo}
-use Rattle.ados_volume.specs.Examined.{file_info}
+use Rattle.ados_volume.specs.Shown.{Shown}
 use Rattle.ados_handler.specs.Session.{Session, is_handle, handle_key, handle_position}
 use Rattle.ados_handler.specs.declared.holds.HandleHold.{HandleHold}
 use Rattle.ados_handler.specs.Objects.{protection_in, protection_of}
@@ -69,16 +68,15 @@ module _ (image : List ℕ) (key : ℕ) (file : HasFileKey image key) where
       let bytes = file t stands in
       ap is_some (content_in (t.nodes key) (File bytes.0) bytes.1).1
 
-  module _ (info : FileInfo) (told : (t : Tree) (node : Node) → Stands image t → t.nodes key ≡ Some node → info ≡ file_info t.format key node) where
-    pub size_told : (t : Tree) → Stands image t → info.size ≡ size_of t key
-    size_told t stands =
-        let n = some_in (t.nodes key) (file_is_key t stands) in
-        ap (λ (i : FileInfo). i.size) (told t n.0 stands n.1) ∙ ap (λ (o : Option Node). size_in (option_map (λ node. node.content) o)) (sym n.1)
+  pub size_told : (size : ℕ) → ((t : Tree) (node : Node) → Stands image t → t.nodes key ≡ Some node → size ≡ size_in (Some node.content)) → (t : Tree) → Stands image t → size ≡ size_of t key
+  size_told size told t stands =
+      let n = some_in (t.nodes key) (file_is_key t stands) in
+      told t n.0 stands n.1 ∙ ap (λ (o : Option Node). size_in (option_map (λ node. node.content) o)) (sym n.1)
 
-    pub protection_told : (t : Tree) → Stands image t → info.protection.0 ≡ protection_of t key
-    protection_told t stands =
-        let n = some_in (t.nodes key) (file_is_key t stands) in
-        ap (λ (i : FileInfo). i.protection.0) (told t n.0 stands n.1) ∙ ap protection_in (sym n.1)
+  pub protection_told : (bits : ℕ) → ((t : Tree) (node : Node) → Stands image t → t.nodes key ≡ Some node → bits ≡ node.protection) → (t : Tree) → Stands image t → bits ≡ protection_of t key
+  protection_told bits told t stands =
+      let n = some_in (t.nodes key) (file_is_key t stands) in
+      told t n.0 stands n.1 ∙ ap protection_in (sym n.1)
 
 -- a packet that takes no moment, and leaves all but the handles
 module _ (old given : HandlerState) (same : old ≡ given) (handles : FinMap nat_cmp HandleHold) (packet : Packet) (results : Results) where
@@ -96,3 +94,12 @@ module _ (old given : HandlerState) (same : old ≡ given) (handles : FinMap nat
       let moment : Date3 = record { days = 0; minutes = 0; ticks = 0 } in
       sound_after given (record old { session = record old.session { handles = handles } }) packet moment results (meaning_keeps_proper packet texts)
       (subst (λ (h : HandlerState). IsSoundHandler h.image h.session) same sound) (gives moment)
+
+  -- also where the volume keeps another place in a file
+  pub sound_read : (volume : Shown) → volume ≡ record { image = old.image; was_validated = old.was_validated } → HasPathTexts packet → IsSoundHandler old.image old.session
+      → ((now : Date3) → MethodGives given packet now (record { image = volume.image; was_validated = volume.was_validated; session = record old.session { handles = handles } }) results)
+      → IsSoundHandler volume.image (record old.session { handles = handles })
+  sound_read volume stays texts sound gives =
+      let new : Session = record old.session { handles = handles } in
+      subst (λ (v : Shown). IsSoundHandler v.image new) (sym stays)
+      (sound_moved texts sound (λ now. subst (λ (v : Shown). MethodGives given packet now (record { image = v.image; was_validated = v.was_validated; session = new }) results) stays (gives now)))

@@ -11,6 +11,7 @@ use Rattle.ados_packet.specs.declared.dos_error.DosError.TheVariants.{ReadProtec
 use Rattle.ados_packet.specs.declared.packet.Packet.TheVariants.{Read}
 use Rattle.ados_packet.specs.declared.results.Results.{Results}
 use Rattle.ados_packet.specs.declared.answer.Body.TheVariants.{Buffer}
+use Rattle.ados_volume.specs.Shown.{Shown}
 use Rattle.ados_handler.specs.Session.{Session, at_position, handle_key}
 use Rattle.ados_handler.specs.declared.holds.HandleHold.{HandleHold}
 use Rattle.ados_handler.specs.Objects.{bytes_read, protection_of}
@@ -50,16 +51,18 @@ module _ (t : Tree) (s : Session) (handle : ℕ) (buffer : List ℕ) (hold : Han
 
 module _ (old given : HandlerState) (same : old ≡ given) (t : Tree) (stood : Stands old.image t) (handle : ℕ) (buffer : List ℕ) (hold : HandleHold) (at : get given.session.handles handle ≡ Some hold)
     (count : ℕ) (counted : count ≡ min (length buffer) (length (bytes_of t hold.key) - hold.position)) where
-  pub read_gives : (filled : List ℕ) (handles : FinMap nat_cmp HandleHold) (results : Results) → old.session.died ≡ false → denies_read (protection_of t hold.key) ≡ false
+  -- what is kept of places in files changes nothing that is shown
+  pub read_gives : (volume : Shown) → volume ≡ record { image = old.image; was_validated = old.was_validated } → (filled : List ℕ) (handles : FinMap nat_cmp HandleHold) (results : Results) → old.session.died ≡ false → denies_read (protection_of t hold.key) ≡ false
       → filled ≡ take count (drop hold.position (bytes_of t hold.key)) ++ drop count buffer
       → handles ≡ (at_position handle (hold.position + count) old.session).handles → results ≡ answers count (Buffer filled)
-      → (now : Date3) → MethodGives given (Read handle buffer) now (record old { session = record old.session { handles = handles } }) results
-  read_gives filled handles results alive readable bytes moved told now =
+      → (now : Date3) → MethodGives given (Read handle buffer) now (record { image = volume.image; was_validated = volume.was_validated; session = record old.session { handles = handles } }) results
+  read_gives volume stays filled handles results alive readable bytes moved told now =
       let new : Session = record old.session { handles = handles } in
       let held = ap (λ (h : HandlerState). get h.session.handles handle) same ∙ at in
-      gives_moved old given same handles (Read handle buffer) results t stood now
+      subst (λ (v : Shown). MethodGives given (Read handle buffer) now (record { image = v.image; was_validated = v.was_validated; session = new }) results) (sym stays)
+      (gives_moved old given same handles (Read handle buffer) results t stood now
       (subst (λ (r : Results). MethodMeans t old.session (Read handle buffer) now t new r) (sym told)
-      (read_means t old.session handle buffer hold held count counted new now filled alive readable bytes (λ i. record old.session { handles = moved i })))
+      (read_means t old.session handle buffer hold held count counted new now filled alive readable bytes (λ i. record old.session { handles = moved i }))))
 
 -- the bytes that are read end where a file can
 pub read_ends : (image : List ℕ) (t : Tree) → Stands image t → (key start room count : ℕ) → start ≤ size_of t key → count ≡ min room (length (bytes_of t key) - start) → start + count ≤ 52020224

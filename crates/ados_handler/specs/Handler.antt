@@ -30,7 +30,7 @@ pub record IsSoundHandler (image : List ℕ) (session : Session) : Type 0 where
   pub stands : Stands image tree
   pub holds : IsProperSession tree session
 
--- a packet keeps what is part of no field, the boot blocks too, and takes the lowest free blocks; where it is refused or sets no disk date it changes no byte at all
+-- a packet keeps what is part of no field afterwards, the boot blocks too, and takes the lowest free blocks; where it is refused or sets no disk date it changes no byte at all
 pub record LeavesImage (t : Tree) (old : HandlerState) (packet : Packet) (new : HandlerState) (answer : Answer) : Type 0 where
   pub keeps : KeepsRest old.image new.image
   pub rest : (answer.res2 ≢ pos 0) ⊎ (sets_disk_date t old.session packet ≡ false) → new.image ≡ old.image

@@ -50,7 +50,7 @@ impl Handler {
             return Results::failed(DosError::ReadProtected, Body::Buffer(buffer));
         }
         let mut bytes = buffer.into_vec();
-        let count = read_some(&self.volume, hold.key, hold.position, &mut bytes);
+        let count = read_some(&mut self.volume, hold.key, hold.position, &mut bytes);
         self.handles.set_position(handle, hold.position + count);
         Results::counted(count, Body::Buffer(Buffer::from_vec(bytes)))
     }
@@ -84,15 +84,16 @@ impl Handler {
 }
 
 /// Copies the bytes of a file from a position on into the buffer, as many as are there and fit, and answers how many.
-fn read_some(volume: &Volume, key: u32, position: u32, buffer: &mut [u8]) -> u32
-    requires tree { HasTree volume.now.image }
-    requires file { HasFileKey volume.now.image key }
-    requires start { (t : Tree) → Stands volume.now.image t → position ≤ size_of t key }
-    ensures count { (t : Tree) → Stands volume.now.image t → result ≡ min (length buffer.old) (length (bytes_of t key) - position) }
-    ensures bytes { (t : Tree) → Stands volume.now.image t → buffer.new ≡ take result (drop position (bytes_of t key)) ++ drop result buffer.old }
+fn read_some(volume: &mut Volume, key: u32, position: u32, buffer: &mut [u8]) -> u32
+    requires tree { HasTree volume.old.image }
+    requires file { HasFileKey volume.old.image key }
+    requires start { (t : Tree) → Stands volume.old.image t → position ≤ size_of t key }
+    ensures count { (t : Tree) → Stands volume.old.image t → result ≡ min (length buffer.old) (length (bytes_of t key) - position) }
+    ensures bytes { (t : Tree) → Stands volume.old.image t → buffer.new ≡ take result (drop position (bytes_of t key)) ++ drop result buffer.old }
     ensures end { position + result ≤ 52020224 }
+    ensures same { volume.new ≡ volume.old }
 {
-    volume.read(key, position as u64, buffer) as u32
+    volume.read_on(key, position as u64, buffer) as u32
 }
 
 /// Writes bytes into a file, where there are any, and answers the position behind them. With no bytes the image stays.

@@ -27,7 +27,7 @@ impl Handler {
         ensures size { (t : Tree) → Stands self.now.image t → result ≡ size_of t key }
         ensures small { result ≤ 52020224 }
     {
-        self.volume.examine(key).size
+        self.volume.size(key)
     }
 
     /// The protection bits of a file.
@@ -35,6 +35,6 @@ impl Handler {
         requires { HasFileKey self.now.image key }
         ensures { (t : Tree) → Stands self.now.image t → result.0 ≡ protection_of t key }
     {
-        self.volume.examine(key).protection
+        self.volume.protection(key)
     }
 }

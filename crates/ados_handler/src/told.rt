@@ -1,6 +1,12 @@
 //! Packets that ask what there is to tell.
 
+ghost use Rattle.std.specs.Prelude.{◌≡◌};
 ghost use Rattle.ados_name.specs.declared.Date3.{Date3 as Moment};
+ghost use Rattle.ados_tree.specs.Tree.{Tree};
+ghost use Rattle.ados_tree.specs.Stands.{Stands};
+ghost use Rattle.ados_tree.specs.Change.{entries_after};
+ghost use Rattle.ados_tree.specs.Keys.{HasDirectory};
+ghost use Rattle.ados_chain.specs.Look.{first_left};
 ghost use Rattle.ados_packet.specs.declared.packet.Packet.TheVariants.{DiskInfo, ExamineNext, ExamineObject, Info};
 ghost use Rattle.ados_handler.specs.steps.Methods.{MethodGives};
 
@@ -46,8 +52,8 @@ impl Handler {
     }
 
     /// EXAMINE_NEXT.
-    pub(crate) fn examine_next(&self, lock: u32, key: u32) -> Results
-        ensures { (now : Moment) → MethodGives self.now (ExamineNext lock key) now self.now result }
+    pub(crate) fn examine_next(&mut self, lock: u32, key: u32) -> Results
+        ensures gives { (now : Moment) → MethodGives self.old (ExamineNext lock key) now self.new result }
     {
         if self.died {
             return Results::refused(DosError::DeviceNotMounted);
@@ -58,10 +64,20 @@ impl Handler {
         if self.volume.is_file(dir) {
             return Results::refused(DosError::ObjectWrongType);
         }
-        match self.volume.next(dir, key) {
-            Next::NotAnEntry => Results::refused(DosError::ObjectNotFound),
-            Next::End => Results::refused(DosError::NoMoreEntries),
-            Next::Entry(next) => Results::done(Body::Entry(self.volume.examine(next))),
-        }
+        let next = match self.entry_after(dir, key) {
+            Next::NotAnEntry => return Results::refused(DosError::ObjectNotFound),
+            Next::End => return Results::refused(DosError::NoMoreEntries),
+            Next::Entry(next) => next,
+        };
+        Results::done(Body::Entry(self.volume.examine(next)))
+    }
+
+    /// What comes after a key in the order of a directory. An entry is kept as the one that was told last of it.
+    fn entry_after(&mut self, dir: u32, key: u32) -> Next
+        requires { HasDirectory self.old.image dir }
+        ensures next { (t : Tree) → Stands self.old.image t → result ≡ first_left (entries_after t dir key) }
+        ensures same { self.new ≡ self.old }
+    {
+        self.volume.tell_next(dir, key)
     }
 }

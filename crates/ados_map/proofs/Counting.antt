@@ -1,11 +1,11 @@
 -- Counting the bits of the map longs.
-use Rattle.std.proofs.Common.{◌≡◌, ℕ, zero, suc, ◌+◌, ◌*◌, ◌-◌, ◌/◌, ◌^◌, ◌<◌, ◌≤◌, inl, inr, List, cond, arith, ap, sym, ◌∙◌, refl}
+use Rattle.std.proofs.Common.{◌≡◌, ℕ, zero, suc, ◌+◌, ◌*◌, ◌-◌, ◌/◌, ◌^◌, ◌<◌, ◌≤◌, inl, inr, Bool, List, cond, false, arith, ap, sym, ◌∙◌, refl}
 use Rattle.std.specs.Int.{bit_at}
 use Rattle.std.specs.Int.Count.{ones, ones_in, ones_step}
 use Rattle.std.proofs.Math.Nat.{pow-suc}
 use Rattle.std.proofs.lemmas.Bool.{cases_lt}
 use Rattle.std.proofs.lemmas.Nat.Bits.{bit_at-suc, bit_at_lowest}
-use Rattle.adf_block.specs.Image.{total, block_count, has_free_bit, free_bit_count}
+use Rattle.adf_block.specs.Image.{total, block_count, has_free_bit, free_bit_count, IsInside}
 use Rattle.ados_map.specs.Bits.{free_bit, IsFreeBits}
 use Rattle.ados_map.proofs.BitLemmas.{free_bit-inside, free_bit-past}
 use Rattle.adf_block.proofs.Totals.{total-same}
@@ -21,6 +21,11 @@ total-add f m zero = let e : m + zero ≡ m = omega arith in ap (total f) e ∙ 
 total-add f m (suc n) =
     let e : m + suc n ≡ suc (m + n) = omega arith in
     ap (total f) e ∙ omega (arith, total-add f m n)
+
+-- a sum of zeros
+pub total-zero : (f : ℕ → ℕ) (n : ℕ) → ((j : ℕ) → j < n → f j ≡ 0) → total f n ≡ 0
+total-zero f zero h = refl
+total-zero f (suc n) h = omega (arith, total-zero f n (λ j lt. h j (omega arith)), h n (omega arith))
 
 -- a sum behind which there are only zeros
 pub total-cut : (f g : ℕ → ℕ) (n m : ℕ) → n ≤ m → ((k : ℕ) → k < n → g k ≡ f k) → ((k : ℕ) → n ≤ k → g k ≡ 0) → total g m ≡ total f n
@@ -58,6 +63,15 @@ pub free_before-none : (image : List ℕ) → free_before image 0 ≡ 0
 unfolding free_before
 free_before-none image = refl
 
+-- none, where no block of them is free
+pub free_before-below : (image : List ℕ) (w : ℕ) → ((k : ℕ) → IsInside (block_count image) k → k < 2 + 32 * w → has_free_bit image k ≡ false) → 0 ≡ free_before image w
+unfolding free_before
+free_before-below image w none =
+    sym (total-zero (λ (k : ℕ). free_bit image (2 + k)) (32 * w) (λ k lt. elim (cases_lt (2 + k) (block_count image)) [
+      | inl within ↦ free_bit-inside image (2 + k) within ∙ ap (λ (b : Bool). cond b 1 0) (none (2 + k) (omega arith, within) (omega arith))
+      | inr past ↦ free_bit-past image (2 + k) past
+    ]))
+
 -- one map long more
 pub free_before-more : (image : List ℕ) (w bits : ℕ) → IsFreeBits image w bits → bits < 2 ^ 32 → free_before image (w + 1) ≡ free_before image w + ones bits
 unfolding free_before
@@ -72,3 +86,12 @@ free_before-all image w le =
     total-cut (λ (k : ℕ). cond (has_free_bit image (k + 2)) 1 0) (λ (k : ℕ). free_bit image (2 + k)) (block_count image - 2) (32 * w) le
     (λ k lt. free_bit-inside image (2 + k) (omega arith) ∙ ap (λ (j : ℕ). cond (has_free_bit image j) 1 0) (omega arith))
     (λ k past. free_bit-past image (2 + k) (omega arith))
+
+-- the first map longs have no more than all
+pub free_before-le : (image : List ℕ) (w : ℕ) → free_before image w ≤ free_bit_count image
+unfolding free_before
+free_before-le image w =
+    let n = block_count image in
+    let e : 32 * (w + n) ≡ 32 * w + 32 * n = omega arith in
+    let all = free_before-all image (w + n) (omega arith) in
+    omega (arith, all, ap (total (λ (k : ℕ). free_bit image (2 + k))) e, total-add (λ (k : ℕ). free_bit image (2 + k)) (32 * w) (32 * n))

@@ -8,6 +8,7 @@ use Rattle.adf_block.proofs.Totals.{total-same, total-one}
 use Rattle.ados_map.specs.Pages.{NoneFree, page_block, pages_of, page_of, map_long, HasBit}
 use Rattle.ados_map.specs.Changes.{MapPlace, BitChanged}
 use Rattle.ados_map.proofs.BitLemmas.{mark, marked-is}
+use Rattle.ados_map.proofs.Counting.{total-zero}
 
 -- ---- where no page was changed
 
@@ -62,10 +63,6 @@ marked_count_given old k new h inside was = omega (arith, marked_count_moved old
 
 -- ---- none and some
 
-zeros : (f : ℕ → ℕ) (n : ℕ) → ((j : ℕ) → j < n → f j ≡ 0) → total f n ≡ 0
-zeros f zero h = refl
-zeros f (suc n) h = omega (arith, zeros f n (λ j lt. h j (omega arith)), h n (omega arith))
-
 part : (f : ℕ → ℕ) (n k : ℕ) → k < n → f k ≤ total f n
 part f zero k lt = absurd (omega arith)
 part f (suc n) k lt = elim (cases_lt k n) [
@@ -76,7 +73,7 @@ part f (suc n) k lt = elim (cases_lt k n) [
 -- where no block is marked their number is 0
 pub free_bit_count-none : (image : List ℕ) → NoneFree image → free_bit_count image ≡ 0
 free_bit_count-none image none =
-    zeros (λ (k : ℕ). cond (has_free_bit image (k + 2)) 1 0) (block_count image - 2)
+    total-zero (λ (k : ℕ). cond (has_free_bit image (k + 2)) 1 0) (block_count image - 2)
     (λ k lt. ap (λ (b : Bool). cond b 1 0) (none (k + 2) (omega arith, omega arith)))
 
 -- where a block is marked their number isn't 0

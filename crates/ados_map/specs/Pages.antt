@@ -33,6 +33,10 @@ HasBit image k = (boot_blocks ≤ k) × (k < boot_blocks + page_bits * pages_of 
 abbrev pub NoneFree : List ℕ → Type 0
 NoneFree image = (k : ℕ) → IsInside (block_count image) k → has_free_bit image k ≡ false
 
+-- no block of the volume below this one is marked free
+abbrev pub NoneFreeBelow : List ℕ → ℕ → Type 0
+NoneFreeBelow image from = (k : ℕ) → IsInside (block_count image) k → k < from → has_free_bit image k ≡ false
+
 -- of the blocks of the volume that are marked free, the lowest
 pub record IsLowestFree (image : List ℕ) (k : ℕ) : Type 0 where
   pub inside : IsInside (block_count image) k

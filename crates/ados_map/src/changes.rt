@@ -2,7 +2,7 @@
 
 ghost use Rattle.std.specs.Prelude.{◌≡◌, true, false};
 ghost use Rattle.adf_block.specs.Image.{IsImage, IsInside, block_count};
-ghost use Rattle.ados_map.specs.Pages.{LawfulPages};
+ghost use Rattle.ados_map.specs.Pages.{LawfulPages, NoneFreeBelow};
 ghost use Rattle.ados_map.specs.Changes.{BitChanged, TakesFirst};
 
 use crate::bits::{page_at, with_bit};
@@ -10,16 +10,17 @@ use crate::reading::first_free;
 use adf_block::Image;
 use adf_block::layout::{BOOT_BLOCKS, FIRST_MAP_LONG, LONG_BITS, PAGE_BITS, PAGE_SUM};
 
-/// Takes the lowest free block and marks it used; `None` where none is free. What stands in the
-/// block stays.
-pub fn take_first(image: &mut Image) -> Option<u32>
-    requires { LawfulPages image.old }
+/// Takes the lowest free block, which is not below `from`, and marks it used; `None` where none is free. What stands in
+/// the block stays.
+pub fn take_first(image: &mut Image, from: u32) -> Option<u32>
+    requires pages { LawfulPages image.old }
+    requires below { NoneFreeBelow image.old from }
     ensures none { TakesFirst image.old result image.new }
     ensures count { block_count image.new ≡ block_count image.old }
     ensures pages { LawfulPages image.new }
     ensures image { IsImage image.new }
 {
-    let block = first_free(image)?;
+    let block = first_free(image, from)?;
     put_mark(image, block, false);
     Some(block)
 }

@@ -10,5 +10,5 @@ mod reading;
 mod rebuilding;
 
 pub use changes::{give_back, take_first};
-pub use reading::{count_free, is_free};
+pub use reading::{count_free, has_free, is_free};
 pub use rebuilding::rebuild;

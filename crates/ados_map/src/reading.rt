@@ -1,9 +1,9 @@
 //! What the pages say.
 
-ghost use Rattle.std.specs.Prelude.{◌≡◌, ◌+◌, ◌-◌, ◌/◌, MatchOption};
+ghost use Rattle.std.specs.Prelude.{◌≡◌, ◌+◌, ◌-◌, ◌/◌, ◌≤◌, MatchBool, MatchOption};
 ghost use Rattle.adf_block.specs.Fields.{boot_blocks, long_bits};
 ghost use Rattle.adf_block.specs.Image.{IsImage, IsInside, IsSize, block_count, has_free_bit, free_bit_count};
-ghost use Rattle.ados_map.specs.Pages.{IsLowestFree, LawfulPages, NoneFree};
+ghost use Rattle.ados_map.specs.Pages.{IsLowestFree, LawfulPages, NoneFree, NoneFreeBelow};
 
 use crate::bits::{free_bits, page_at};
 use adf_block::Image;
@@ -35,19 +35,43 @@ pub fn count_free(image: &Image) -> u32
     count
 }
 
-/// The lowest block that is marked free.
-pub fn first_free(image: &Image) -> Option<u32>
-    requires { LawfulPages image.now }
+/// Whether so many blocks are marked free, none of them below `from`. The bitmap is read no further than they are found.
+pub fn has_free(image: &Image, from: u32, needed: u64) -> bool
+    requires pages { LawfulPages image.now }
+    requires below { NoneFreeBelow image.now from }
+    ensures { MatchBool result (needed ≤ free_bit_count image.now) (¬ (needed ≤ free_bit_count image.now)) }
+{
+    let mut found = 0;
+    for w in map_long_of(from)..map_longs(image) {
+        if needed <= found as u64 {
+            return true;
+        }
+        found += free_bits(image, w).count_ones();
+    }
+    needed <= found as u64
+}
+
+/// The lowest block that is marked free; none is below `from`.
+pub fn first_free(image: &Image, from: u32) -> Option<u32>
+    requires pages { LawfulPages image.now }
+    requires below { NoneFreeBelow image.now from }
     ensures lowest { MatchOption result (NoneFree image.now) (λ b. IsLowestFree image.now b) }
     ensures image { IsImage image.now }
 {
-    for w in 0..map_longs(image) {
+    for w in map_long_of(from)..map_longs(image) {
         let bits = free_bits(image, w);
         if bits != 0 {
             return Some(BOOT_BLOCKS + LONG_BITS * w + bits.trailing_zeros());
         }
     }
     None
+}
+
+/// The map long with the bit of block `b`; of a boot block the first.
+fn map_long_of(b: u32) -> u32
+    ensures { result ≡ (b - boot_blocks) / long_bits }
+{
+    b.saturating_sub(BOOT_BLOCKS) / LONG_BITS
 }
 
 /// How many map longs have bits of the volume.

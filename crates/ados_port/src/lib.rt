@@ -4,8 +4,8 @@
 #![tactic(auto)]
 
 pub use port_ends::{
-    ClientEnd, GatherRefused, Gathered, HandlerEnd, OpenRefused, ServeEnd, ServeFault, gather,
-    open_port,
+    ClientEnd, GatherRefused, Gathered, HandlerEnd, OpenRefused, Rest, ServeEnd, ServeFault,
+    gather, open_port,
 };
 pub use port_exchange::{Exchange, NewRefused, RunDone, RunRefused, run};
 pub use port_history::{

@@ -2,11 +2,10 @@
 use Rattle.std.proofs.Common.{◌≡◌, ℕ, zero, suc, ◌+◌, ◌-◌, ◌*◌, ◌/◌, ◌%◌, ◌<◌, ◌≤◌, List, length, map, slice_index, Some, refl, sym, ap, ap₂, ◌∙◌, subst, arith}
 use Rattle.std.specs.List.{range_with_len}
 use Rattle.std.proofs.lemmas.List.FromFn.{length-map-range_with_len, get_or-map-range_with_len}
-use Rattle.adf_block.specs.declared.Format.{Format}
 use Rattle.adf_block.specs.Fields.{file_size}
 use Rattle.adf_block.specs.Image.{block_count, page_count, byte_at, long}
 use Rattle.ados_map.specs.Pages.{pages_of, page_block}
-use Rattle.ados_data.specs.Cost.{data_count, data_size, data_start, extension_count}
+use Rattle.ados_data.specs.Cost.{data_count, extension_count}
 use Rattle.ados_data.specs.File.{format_of, pointer_block, data_block, data_blocks, extension_blocks}
 use Rattle.ados_data.proofs.Spelled.{listed_is}
 use Rattle.ados_tree.specs.Tree.{Tree, content_at}
@@ -14,7 +13,7 @@ use Rattle.ados_tree.specs.Tree.Content.{File}
 use Rattle.ados_tree.specs.Layout.{Duty, HasDuty}
 use Rattle.ados_tree.specs.Stands.{Stands}
 use Rattle.ados_tree.specs.Keys.{HasFileKey}
-use Rattle.ados_tree.specs.Untold.{HasData, HasFileBytes, IsBehindEnd, KeepsData, KeepsFileEnd, KeepsFileEnds, KeepsOtherData, KeepsPastEnd, KeepsUntold, data_at}
+use Rattle.ados_tree.specs.Untold.{HasData, HasFileBytes, KeepsData, KeepsFileEnd, KeepsFileEnds, KeepsOtherData, KeepsPastEnd, KeepsUntold, data_at}
 use Rattle.ados_tree.proofs.Nodes.{content_in}
 use Rattle.ados_tree.proofs.OneTree.{one_tree}
 use Rattle.ados_tree.proofs.Standing.{IsFileNode, slice_get-index}
@@ -68,11 +67,6 @@ module _ (image : List ℕ) (t : Tree) (s : Stands image t) (file : ℕ) where
       let lists = data_is image t s file f.node f.bytes f.at f.content in
       slice_get-index (s.layout.file_data file) q (subst (λ (xs : List ℕ). q < length xs) lists l) ∙ ap (λ (xs : List ℕ). Some (slice_index xs q)) (sym lists)
 
-  pub size_is : (bytes : List ℕ) → HasFileBytes image file bytes → file_size image file ≡ length bytes
-  size_is bytes has =
-      let n = content_in (t.nodes file) (File bytes) (has t s) in
-      (s.files file n.0 bytes n.1 n.2).size
-
 -- ---- one change
 
 -- a file that keeps its data keeps what stands behind its end
@@ -80,7 +74,7 @@ pub end_of_data : (old new : List ℕ) (file : ℕ) → KeepsData old new file �
 end_of_data old new file k = record {
   blocks = λ q l m. ap (λ (xs : List ℕ). slice_index xs q) k.blocks;
   extensions = λ q l m. ap (λ (xs : List ℕ). slice_index xs q) k.extensions;
-  stays = λ q i was is. ap (λ (xs : List ℕ). byte_at new (slice_index xs q) i) k.blocks ∙ k.bytes q i was.block was.byte;
+  stays = λ q i was is. ap (λ (xs : List ℕ). byte_at new (slice_index xs q) i) k.blocks ∙ k.bytes q i was is.byte;
   zero = λ q i none is. absurd (none (subst (λ (xs : List ℕ). q < length xs) k.blocks is.block));
 }
 
@@ -108,7 +102,7 @@ past_end_trans old mid new count first second =
       bits = λ k has past. second.bits k (has.0, omega (arith, has.1, pages)) (omega (arith, past, count)) ∙ first.bits k has past;
     }
 
-module _ (old mid new : List ℕ) (t u : Tree) (s : Stands old t) (r : Stands mid u) (count : block_count mid ≡ block_count old) (format : format_of mid ≡ format_of old)
+module _ (old mid new : List ℕ) (t : Tree) (s : Stands old t) (count : block_count mid ≡ block_count old)
     (same : (file : ℕ) (bytes : List ℕ) → HasFileKey new file → HasFileBytes old file bytes → HasFileBytes mid file bytes) (first : KeepsUntold old mid) (second : KeepsUntold mid new) where
   data_after : (file : ℕ) (bytes : List ℕ) → HasFileBytes old file bytes → HasFileBytes new file bytes → KeepsData old new file
   data_after file bytes was is =
@@ -130,17 +124,14 @@ module _ (old mid new : List ℕ) (t u : Tree) (s : Stands old t) (r : Stands mi
       let between = same file bytes is before in
       let a = first.other_data file bytes before between in
       let b = second.file_ends file (λ v h. (bytes, between v h)) is in
-      let size : file_size mid file ≡ file_size old file = size_is mid u r file bytes between ∙ sym (size_is old t s file bytes before) in
       let here : (q : ℕ) → HasData old file q → HasData mid file q = λ q l. subst (λ (xs : List ℕ). q < length xs) (sym a.blocks) l in
       record {
         blocks = λ q l m. b.blocks q (here q l) m ∙ ap (λ (xs : List ℕ). slice_index xs q) a.blocks;
         extensions = λ q l m. b.extensions q (subst (λ (xs : List ℕ). q < length xs) (sym a.extensions) l) m ∙ ap (λ (xs : List ℕ). slice_index xs q) a.extensions;
         stays = λ q i x y.
-            let behind : file_size mid file + data_start (format_of mid) ≤ data_size (format_of mid) * q + i =
-            subst (λ (f : Format). file_size mid file + data_start f ≤ data_size f * q + i) (sym format) (subst (λ (n : ℕ). n + data_start (format_of old) ≤ data_size (format_of old) * q + i) (sym size) x.behind) in
-            b.stays q i (record { block = here q x.block; byte = x.byte; behind = behind }) y
+            b.stays q i (here q x) y
             ∙ ap (λ (xs : List ℕ). byte_at mid (slice_index xs q) i) a.blocks
-            ∙ a.bytes q i x.block x.byte;
+            ∙ a.bytes q i x y.byte;
         zero = λ q i none y. b.zero q i (λ l. none (subst (λ (xs : List ℕ). q < length xs) a.blocks l)) y;
       }
 

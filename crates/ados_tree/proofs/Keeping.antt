@@ -55,7 +55,7 @@ same_keeps image = record {
   kept = record {
     size = refl;
     boot = refl;
-    others = λ block i role role' l r r' alike n n'. refl;
+    others = λ block i role role' l r r' alike n. refl;
     first = λ file f g. record { same = λ _. refl; other = λ n. absurd (n refl) };
   };
   lowest = none_taken image image (λ block i free. free);

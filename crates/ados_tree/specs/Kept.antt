@@ -71,11 +71,11 @@ Alike (Data file) (Data file') = ⊤
 Alike (Extension file) (Extension file') = ⊤
 Alike _ _ = ⊥
 
--- a byte of a block that keeps its role stays, if it is part of no field before and after
+-- a byte of a block that keeps its role stays, if it is part of no field afterwards, whatever it was part of before
 abbrev pub StaysUnnamed : List ℕ → List ℕ → ℕ → ℕ → Role → Role → Type 0
 StaysUnnamed old new block i role role' =
     Reached old block role → Reached new block role' → Alike role role'
-    → ¬ IsField old block role i → ¬ IsField new block role' i → byte_at new block i ≡ byte_at old block i
+    → ¬ IsField new block role' i → byte_at new block i ≡ byte_at old block i
 
 -- the first data block of a file, or 0
 abbrev pub first_data : List ℕ → ℕ → ℕ
@@ -90,7 +90,7 @@ pub record KeepsFirstData (old new : List ℕ) (file : ℕ) : Type 0 where
   pub same : first_data new file ≡ first_data old file → long new file next_data ≡ long old file next_data
   pub other : first_data new file ≢ first_data old file → NamesFirstData new file
 
--- the boot blocks stay; so does each byte that is part of no field, of a block that keeps its role; and what a header says of its first data block
+-- the boot blocks stay; so does each byte that is part of no field afterwards, of a block that keeps its role; and what a header says of its first data block
 pub record Kept (old new : List ℕ) : Type 0 where
   pub size : length new ≡ length old
   pub boot : bytes_at new 0 0 1024 ≡ bytes_at old 0 0 1024

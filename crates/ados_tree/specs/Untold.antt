@@ -47,11 +47,11 @@ pub record IsBehindEnd (image : List ℕ) (file q i : ℕ) : Type 0 where
 abbrev pub AgreeInFront : List ℕ → List ℕ → Type 0
 AgreeInFront xs ys = (q : ℕ) → q < length xs → q < length ys → slice_index ys q ≡ slice_index xs q
 
--- a file keeps as many of its blocks as it had and has; bytes behind its end before and after stay, and those of a data block that it gets are 0
+-- a file keeps as many of its blocks as it had and has; of these the bytes behind its end stay, wherever it was before, and those of a data block that it gets are 0
 pub record KeepsFileEnd (old new : List ℕ) (file : ℕ) : Type 0 where
   pub blocks : AgreeInFront (data_blocks old file) (data_blocks new file)
   pub extensions : AgreeInFront (extension_blocks old file) (extension_blocks new file)
-  pub stays : (q i : ℕ) → IsBehindEnd old file q i → IsBehindEnd new file q i → byte_at new (data_at new file q) i ≡ byte_at old (data_at old file q) i
+  pub stays : (q i : ℕ) → HasData old file q → IsBehindEnd new file q i → byte_at new (data_at new file q) i ≡ byte_at old (data_at old file q) i
   pub zero : (q i : ℕ) → ¬ HasData old file q → IsBehindEnd new file q i → byte_at new (data_at new file q) i ≡ 0
 
 -- each file that is one before and after does

@@ -10,6 +10,7 @@ use Rattle.ados_tree.specs.Change.{changed}
 use Rattle.ados_tree.proofs.OneTree.{one_tree}
 use Rattle.ados_volume.specs.declared.cache.Sought.{Sought}
 use Rattle.ados_volume.specs.steps.Cache.{HasPair, AreChildren}
+use Rattle.ados_volume.specs.steps.Listed.{AreListed}
 use Rattle.ados_volume.proofs.Looking.{is_child}
 use Rattle.ados_volume.proofs.Walking.{find-is}
 
@@ -40,9 +41,13 @@ module _ (old new : List ℕ) (t u : Tree) (s : Stands old t) (r : Stands new u)
       let child = h dir name key c.0 t s in
       subst (λ (x : Tree). child_of x dir name ≡ Some key) (one_tree new u v r w) (child_stays dir key name (c.1 child) child)
 
-  -- the image stands for a tree whose children the pairs are
-  pub all_carried : (pairs : List (Sought × ℕ)) → AreChildren old pairs → AllStay t u → ((x : Tree) × Stands new x) × AreChildren new pairs
-  all_carried pairs h stay = ((u, r), carried pairs pairs h (λ dir key name p. (p, λ child. stay dir key)))
+  -- entries that stay are those of the new tree
+  told_stay : (told : List (ℕ × ℕ)) → AreListed old told → AllStay t u → AreListed new told
+  told_stay told listed stay dir key c v w = subst (λ (x : Tree). Contains (entries x dir) key) (one_tree new u v r w) (stay dir key (listed dir key c t s)).0
+
+  -- the image stands for a tree whose children the pairs are, and which has the entries that were told last
+  pub all_carried : (pairs : List (Sought × ℕ)) → AreChildren old pairs → (told : List (ℕ × ℕ)) → AreListed old told → AllStay t u → (((x : Tree) × Stands new x) × AreChildren new pairs) × AreListed new told
+  all_carried pairs h told listed stay = (((u, r), carried pairs pairs h (λ dir key name p. (p, λ child. stay dir key))), told_stay told listed stay)
 
 -- ---- one node is changed
 

@@ -7,11 +7,13 @@ use Rattle.std.proofs.lemmas.Slice.Eq.{bytes_eq-Decides}
 use Rattle.ados_name.specs.Name.{upper, slot, Same, SameNameSameSlot}
 use Rattle.adf_block.specs.Image.{long}
 use Rattle.adf_block.specs.Fields.{file_type}
-use Rattle.ados_chain.specs.Chains.{LawfulChains, name_at, chains_from, entries_of}
+use Rattle.ados_chain.specs.Chains.{InChains, LawfulChains, name_at, chains_from, entries_of}
 use Rattle.ados_chain.specs.Behind.{behind}
 use Rattle.ados_chain.specs.Look.{FindsNamed, first_left}
 use Rattle.ados_chain.proofs.Lists.{Contains-here, Contains-later, Contains-cases, Contains-nil}
-use Rattle.ados_chain.proofs.Order.{chains_from-split}
+use Rattle.ados_chain.proofs.Found.{listed_same}
+use Rattle.ados_chain.specs.declared.read.Next.TheVariants.{Entry}
+use Rattle.ados_chain.proofs.Order.{behind-later, chains_from-split, entry-in_chains, first-entry}
 use Rattle.ados_tree.specs.Tree.{Content, Node, Tree, root, content_at, entries, name_of}
 use Rattle.ados_tree.specs.Tree.Content.{Directory, File}
 use Rattle.ados_tree.specs.Stands.{Stands, in_slot, type_of}
@@ -60,6 +62,12 @@ joined-chains g (suc n) =
     ∙ ap (λ (ys : List ℕ). chains_from g 0 n ++ ys) (sym (append-nil (g (0 + n))))
     ∙ sym (chains_from-split g 0 n 1)
     ∙ ap (chains_from g 0) more
+
+-- what comes after a key is an entry
+pub next_listed : (t : Tree) (dir key next : ℕ) → first_left (entries_after t dir key) ≡ Entry next → Contains (entries t dir) next
+next_listed t dir key next e =
+    let f = first-entry (entries_after t dir key) next e in
+    behind-later dir (entries t dir) key next f.0 f.1
 
 module _ (image : List ℕ) (t : Tree) (s : Stands image t) where
   pub chains_of : (dir : ℕ) → (keys : List ℕ) × (content_at t dir ≡ Some (Directory keys)) → LawfulChains image dir (in_slot t dir)
@@ -110,11 +118,17 @@ module _ (image : List ℕ) (t : Tree) (s : Stands image t) where
 
   -- ---- the entries in order
 
-  entries_are : (dir : ℕ) → entries_of (in_slot t dir) ≡ entries t dir
+  pub entries_are : (dir : ℕ) → entries_of (in_slot t dir) ≡ entries t dir
   entries_are dir = sym (joined-chains (in_slot t dir) 72) ∙ sym (entries_by_slot t s.proper dir)
 
   pub next_is : (dir key : ℕ) → first_left (behind key (dir ∷ entries_of (in_slot t dir))) ≡ first_left (entries_after t dir key)
   next_is dir key = ap (λ (keys : List ℕ). first_left (behind key (dir ∷ keys))) (entries_are dir)
+
+  -- an entry stands in one of the chains
+  pub listed_in_chains : (dir key : ℕ) → (keys : List ℕ) × (content_at t dir ≡ Some (Directory keys)) → Contains (entries t dir) key → (chains : ℕ → List ℕ) → LawfulChains image dir chains → InChains chains key
+  listed_in_chains dir key directory c chains h =
+      listed_same image dir key (in_slot t dir) chains (chains_of dir directory) h
+      (entry-in_chains (in_slot t dir) key (subst (λ (keys : List ℕ). Contains keys key) (sym (entries_are dir)) c))
 
   -- ---- a file
 

@@ -1,8 +1,7 @@
 -- What a new entry, one that is taken away and one that moves leave of the children that were found.
-use Rattle.std.proofs.Common.{◌≡◌, ◌≢◌, ℕ, Bool, inl, inr, List, [], filter, not, ◌==◌, Contains, Option, Some, None, IsSome, Result, Ok, Err, IfOk, IfErr, MatchResult, option_map, refl, sym, ap, ◌∙◌, subst}
+use Rattle.std.proofs.Common.{◌≡◌, ◌≢◌, ℕ, inl, inr, List, [], filter, not, ◌==◌, Contains, Option, Some, None, IsSome, option_map, refl, sym, ap, ◌∙◌, subst}
 use Rattle.std.specs.Option.{option_map_or}
 use Rattle.std.proofs.lemmas.Bool.{cases_eq}
-use Rattle.ados_map.specs.Pages.{IsLowestFree, NoneFree}
 use Rattle.ados_chain.proofs.Lists.{Contains-nil}
 use Rattle.ados_name.specs.declared.Date3.{Date3}
 use Rattle.ados_name.specs.Name.{Same, slot}
@@ -16,10 +15,8 @@ use Rattle.change_entries.proofs.Changed.{nodes_other, changed_keeps, listed_nam
 use Rattle.change_entries.proofs.Entering.{Contains-enter_kept, Contains-stays}
 use Rattle.ados_volume.specs.declared.cache.Sought.{Sought}
 use Rattle.ados_volume.specs.steps.Cache.{AreChildren, Forgets}
-use Rattle.ados_volume.specs.Shown.{Shown}
 use Rattle.ados_volume.proofs.Walking.{has_node}
-use Rattle.change_entries.proofs.Making.{unused}
-use Rattle.ados_volume.proofs.Children.{Stays, AllStay, child_there, carried, all_carried}
+use Rattle.ados_volume.proofs.Children.{Stays, AllStay, child_there, carried}
 
 stays_on : (t u v : Tree) (dir k : ℕ) → Stays t u dir k → Stays u v dir k → Stays t v dir k
 stays_on t u v dir k first second c = let a = first c in let b = second a.0 in (b.0, b.1 ∙ a.1)
@@ -133,16 +130,3 @@ forgotten_carried old new t u s r key old_pairs pairs h forgotten stays = (
       let f = forgotten dir name k p in
       (f.0, λ child. stays dir k (λ e. f.1 t s (child ∙ ap Some e)))),
 )
-
--- an entry that is made where a block is free
-module _ {E : Type 0} (old new : List ℕ) (moment : Date3) (at : ℕ) (name : List ℕ) (content : Content) where
-  pub made_carried : (r : Result ℕ E) → IfOk r (λ key. IsLowestFree old key) → IfOk r (λ key. (t : Tree) → Stands old t → Stands new (made moment at key name content t)) → IfErr r (λ full. NoneFree old × (new ≡ old))
-      → (t : Tree) → Stands old t → (pairs : List (Sought × ℕ)) → AreChildren old pairs → ((x : Tree) × Stands new x) × AreChildren new pairs
-  made_carried (Ok key) lowest stands full t s pairs h = all_carried old new t (made moment at key name content t) s (stands t s) pairs h (made_stay t s.proper moment at key name content (unused old t s key lowest).no_node)
-  made_carried (Err e) lowest stands full t s pairs h = subst (λ (image : List ℕ). ((x : Tree) × Stands image x) × AreChildren image pairs) (sym full.1) ((t, s), h)
-
-  pub shown_made : (validated : Bool) (shown : Shown) → record { image = old; was_validated = validated } ≡ shown → (r : Result ℕ E)
-      → IfOk r (λ key. IsLowestFree old key) → IfOk r (λ key. (t : Tree) → Stands old t → Stands new (made moment at key name content t)) → IfErr r (λ full. NoneFree old × (new ≡ old))
-      → MatchResult r (λ key. IsLowestFree shown.image key × ((t : Tree) → Stands shown.image t → Stands new (made moment at key name content t))) (λ full. NoneFree shown.image × (record { image = new; was_validated = validated } ≡ shown))
-  shown_made validated shown v (Ok key) lowest stands full = (subst (λ (w : Shown). IsLowestFree w.image key) v lowest, λ t s. stands t (subst (λ (w : Shown). Stands w.image t) (sym v) s))
-  shown_made validated shown v (Err e) lowest stands full = (subst (λ (w : Shown). NoneFree w.image) v full.0, (λ i. record { image = full.1 i; was_validated = validated }) ∙ v)

@@ -1,14 +1,11 @@
 -- What a change of a file's bytes leaves of the children that were found, and what is shown of it.
-use Rattle.std.proofs.Common.{◌≡◌, ℕ, Bool, List, [], ◌∷◌, Contains, Option, Some, Result, Ok, Err, MatchResult, option_map, refl, sym, ap, ◌∙◌, subst}
+use Rattle.std.proofs.Common.{◌≡◌, ℕ, Bool, List, [], ◌∷◌, Some, Result, Ok, Err, IsErrAnd, MatchResult, option_map, refl, sym, ap, ◌∙◌}
 use Rattle.ados_name.specs.declared.Date3.{Date3}
-use Rattle.ados_tree.specs.Tree.{Content, Node, Tree, content_at, entries_in, bytes_of}
+use Rattle.ados_tree.specs.Tree.{Node, Tree, content_at, entries_in, bytes_of}
 use Rattle.ados_tree.specs.Tree.Content.{File}
-use Rattle.ados_tree.specs.Stands.{Stands}
 use Rattle.ados_tree.specs.Change.{rewritten, written, overlaid, without_archive}
-use Rattle.ados_volume.specs.declared.cache.Sought.{Sought}
-use Rattle.ados_volume.specs.steps.Cache.{AreChildren}
 use Rattle.ados_volume.specs.Shown.{Shown}
-use Rattle.ados_volume.proofs.Children.{AllStay, all_carried, changed_stay}
+use Rattle.ados_volume.proofs.Children.{AllStay, changed_stay}
 
 module _ (t : Tree) (key : ℕ) (file : (bytes : List ℕ) × (content_at t key ≡ Some (File bytes))) (moment : Date3) where
   pub rewritten_stay : (bytes : List ℕ) → AllStay t (rewritten moment key bytes t)
@@ -21,15 +18,11 @@ module _ (t : Tree) (key : ℕ) (file : (bytes : List ℕ) × (content_at t key 
   written_stay pos [] dir k c = (c, refl)
   written_stay pos (b ∷ bs) dir k c = rewritten_stay (overlaid (bytes_of t key) pos (b ∷ bs)) dir k c
 
--- a change that is made where there is room for it
-module _ {T E : Type 0} (old new : List ℕ) (Needs : Tree → Type 0) (change : Tree → Tree) where
-  abbrev pub IsDone : Result T E → List ℕ → Type 0 → Type 0
-  IsDone r image Stayed = MatchResult r (λ _. (t : Tree) → Stands image t → (¬ Needs t) × Stands new (change t)) (λ _. Stayed × ((t : Tree) → Stands image t → Needs t))
+-- where the image is as it was, what is shown is too
+pub still_shown : (old new : List ℕ) (validated : Bool) (shown : Shown) → record { image = old; was_validated = validated } ≡ shown → new ≡ old → record { image = new; was_validated = validated } ≡ shown
+still_shown old new validated shown v same = (λ i. record { image = same i; was_validated = validated }) ∙ v
 
-  pub done_carried : (r : Result T E) → IsDone r old (new ≡ old) → (t : Tree) → Stands old t → AllStay t (change t) → (pairs : List (Sought × ℕ)) → AreChildren old pairs → ((x : Tree) × Stands new x) × AreChildren new pairs
-  done_carried (Ok x) done t s stay pairs h = all_carried old new t (change t) s (done t s).1 pairs h stay
-  done_carried (Err e) done t s stay pairs h = subst (λ (image : List ℕ). ((x : Tree) × Stands image x) × AreChildren image pairs) (sym done.0) ((t, s), h)
-
-  pub shown_done : (validated : Bool) (shown : Shown) → record { image = old; was_validated = validated } ≡ shown → (r : Result T E) → IsDone r old (new ≡ old) → IsDone r shown.image (record { image = new; was_validated = validated } ≡ shown)
-  shown_done validated shown v (Ok x) done = λ t s. done t (subst (λ (w : Shown). Stands w.image t) (sym v) s)
-  shown_done validated shown v (Err e) done = ((λ i. record { image = done.0 i; was_validated = validated }) ∙ v, λ t s. done.1 t (subst (λ (w : Shown). Stands w.image t) (sym v) s))
+-- an answer that is an error refuses
+pub refuses : {T E : Type 0} (Done : T → Type 0) (Refused : Type 0) (r : Result T E) (fault : E) → IsErrAnd r (λ told. told ≡ fault) → Refused → MatchResult r Done (λ _. Refused)
+refuses Done Refused (Ok x) fault is why = absurd is
+refuses Done Refused (Err told) fault is why = why

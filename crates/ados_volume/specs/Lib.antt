@@ -2,6 +2,7 @@
 pub mod Shown
 pub mod Checked
 pub mod Examined
+pub mod Order
 pub mod Info
 pub mod Refused
 pub mod steps

@@ -1,4 +1,6 @@
--- A step of a walk, the cache of names, and the parts of a blank image.
+-- A step of a walk, what is kept of names and places, the entries that were told last, and the parts of a blank image.
 pub mod PathStep
 pub mod Cache
+pub mod Places
+pub mod Listed
 pub mod BlankParts

@@ -10,6 +10,8 @@ ghost use Rattle.ados_tree.specs.Blank.{IsBlank};
 ghost use Rattle.ados_volume.specs.steps.BlankParts.{IsBlankRoot, NamesBlank};
 
 use crate::cache::NameCache;
+use crate::places::PlaceCache;
+use crate::told::ToldCache;
 use crate::volume::Volume;
 use adf_block::layout::{
     BITMAP_FLAG, BITMAP_VALID, CREATION_DATE, DATE, DISK_DATE, FIRST_PAGE, HEADER_TYPE, NAME_BYTE,
@@ -35,8 +37,10 @@ pub fn blank(
     ensures validated { IfOk result (λ volume. volume.was_validated ≡ false) }
 {
     let names = NameCache::new(alloc)?;
+    let places = PlaceCache::new(alloc)?;
+    let told = ToldCache::new(alloc)?;
     let image = blank_image(alloc, format, blocks, &name, moment)?;
-    Ok(Volume::standing(image, false, names))
+    Ok(Volume::standing(image, false, names, places, told))
 }
 
 /// The image of a blank volume.

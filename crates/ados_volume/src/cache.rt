@@ -8,8 +8,8 @@ use lru::LruCache;
 use std::alloc::{AllocError, Global};
 use std::num::NonZeroUsize;
 
-/// How many children are kept.
-const MOST: usize = 256;
+/// How many children are kept (this project's own choice).
+const KEPT_NAMES: usize = 256;
 
 /// A directory, and in upper case the name that is sought in it.
 #[derive(Clone, Copy, PartialEq, Eq, Hash)]
@@ -30,7 +30,7 @@ impl NameCache {
     pub fn new(alloc: Global) -> Result<NameCache, AllocError>
         ensures { IfOk result (λ cache. cache.pairs.entries ≡ []) }
     {
-        let pairs = LruCache::new(alloc, NonZeroUsize::new(MOST).unwrap())?;
+        let pairs = LruCache::new(alloc, NonZeroUsize::new(KEPT_NAMES).unwrap())?;
         Ok(NameCache { pairs })
     }
 

@@ -3,6 +3,8 @@
 ghost use Rattle.ados_volume.specs.Checked.{Checks};
 
 use crate::cache::NameCache;
+use crate::places::PlaceCache;
+use crate::told::ToldCache;
 use crate::volume::Volume;
 use adf_block::Image;
 use ados_tree::{FaultKind, VolumeFault};
@@ -16,7 +18,11 @@ use std::alloc::Global;
 pub fn check(alloc: Global, image: Image) -> Result<Volume, Rejected>
     ensures { Checks image result }
 {
-    let Ok(names) = NameCache::new(alloc) else {
+    let (Ok(names), Ok(places), Ok(told)) = (
+        NameCache::new(alloc),
+        PlaceCache::new(alloc),
+        ToldCache::new(alloc),
+    ) else {
         return Err(Rejected {
             image,
             fault: VolumeFault {
@@ -26,5 +32,5 @@ pub fn check(alloc: Global, image: Image) -> Result<Volume, Rejected>
         });
     };
     let accepted = check_image(alloc, image)?;
-    Ok(Volume::standing(accepted.image, accepted.was_validated, names))
+    Ok(Volume::standing(accepted.image, accepted.was_validated, names, places, told))
 }

@@ -9,6 +9,8 @@ ghost use Rattle.ados_tree.specs.NewBlocks.{KeepsRest, TakesNone};
 ghost use Rattle.ados_volume.specs.Refused.{GrowsOrRefuses, WritesOrRefuses};
 
 use crate::volume::Volume;
+use adf_block::layout::BOOT_BLOCKS;
+use ados_data::place_at;
 use ados_name::Date3;
 use ados_tree::Full;
 use change_bytes::{cut, grow, write};
@@ -23,7 +25,18 @@ impl Volume {
         ensures keeps { KeepsRest self.old.image self.new.image }
         ensures validated { self.new.was_validated ≡ self.old.was_validated }
     {
-        write(&mut self.image, key, pos, bytes, moment)
+        let place = place_at(&self.image, key, self.places.of(key), pos);
+        self.places.keep(key, place);
+        self.free_from = write(
+            &mut self.image,
+            key,
+            place,
+            pos,
+            bytes,
+            moment,
+            self.free_from,
+        )?;
+        Ok(())
     }
 
     /// Keeps the front of a file, of this size. The moment becomes the file's date and the disk date, and the file's archive bit
@@ -36,7 +49,9 @@ impl Volume {
         ensures none { TakesNone self.old.image self.new.image }
         ensures validated { self.new.was_validated ≡ self.old.was_validated }
     {
+        self.places.drop_of(key);
         cut(&mut self.image, key, size, moment);
+        self.free_from = BOOT_BLOCKS;
     }
 
     /// Puts zeros behind the bytes of a file, up to this size. The moment becomes the file's date and the disk date, and the
@@ -48,6 +63,9 @@ impl Volume {
         ensures keeps { KeepsRest self.old.image self.new.image }
         ensures validated { self.new.was_validated ≡ self.old.was_validated }
     {
-        grow(&mut self.image, key, size, moment)
+        let place = place_at(&self.image, key, self.places.of(key), size as u64);
+        self.places.keep(key, place);
+        self.free_from = grow(&mut self.image, key, place, size, moment, self.free_from)?;
+        Ok(())
     }
 }

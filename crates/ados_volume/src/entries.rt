@@ -1,6 +1,6 @@
 //! Changes of a directory's entries.
 
-ghost use Rattle.std.specs.Prelude.{◌≡◌, MatchResult};
+ghost use Rattle.std.specs.Prelude.{◌≡◌, [], MatchResult};
 ghost use Rattle.ados_tree.specs.Tree.{Tree};
 ghost use Rattle.ados_tree.specs.Stands.{Stands};
 ghost use Rattle.ados_tree.specs.Keys.{HasKey, HasTree};
@@ -14,9 +14,11 @@ ghost use Rattle.ados_volume.specs.steps.Cache.{Forgets};
 
 use crate::cache::NameCache;
 use crate::examine::name_in;
+use crate::told::ToldCache;
 use crate::volume::Volume;
 use crate::walk::parent_in;
 use adf_block::Image;
+use adf_block::layout::BOOT_BLOCKS;
 use ados_name::{Date3, Name};
 use ados_tree::Full;
 use change_entries::{NodeKind, create, remove, rename};
@@ -36,11 +38,14 @@ impl Volume {
         ensures keeps { KeepsRest self.old.image self.new.image }
         ensures validated { self.new.was_validated ≡ self.old.was_validated }
     {
-        create(&mut self.image, dir, &name, kind, moment)
+        self.places.clear();
+        let key = create(&mut self.image, dir, &name, kind, moment, self.free_from)?;
+        self.free_from = key;
+        Ok(key)
     }
 
-    /// Takes away a file, or a directory with no entries. What stands in the blocks that are given back stays there, but for the
-    /// entry's own block. The moment becomes the date of the directory and the disk date.
+    /// Takes away a file, or a directory with no entries. What stands in the blocks that are given back stays there, but for some
+    /// fields of the entry's own. The moment becomes the date of the directory and the disk date.
     pub fn remove(&mut self, key: u32, moment: Date3)
         requires { (t : Tree) → Stands self.old.image t → CanRemove t key }
         ensures stands { (t : Tree) → Stands self.old.image t → Stands self.new.image (removed moment key t) }
@@ -48,8 +53,10 @@ impl Volume {
         ensures none { TakesNone self.old.image self.new.image }
         ensures validated { self.new.was_validated ≡ self.old.was_validated }
     {
-        forget(&mut self.names, &self.image, key);
+        forget(&mut self.names, &mut self.told, &self.image, key);
+        self.places.clear();
         remove(&mut self.image, key, moment);
+        self.free_from = BOOT_BLOCKS;
     }
 
     /// Moves an entry into a directory, also its own, under a name. The moment becomes the date of both directories and the disk
@@ -62,17 +69,20 @@ impl Volume {
         ensures behind { KeepsBehindName key name self.old.image self.new.image }
         ensures validated { self.new.was_validated ≡ self.old.was_validated }
     {
-        forget(&mut self.names, &self.image, key);
+        forget(&mut self.names, &mut self.told, &self.image, key);
+        self.places.clear();
         rename(&mut self.image, key, dir, &name, moment);
     }
 }
 
-/// Takes an object out of the names that are kept.
-fn forget(names: &mut NameCache, image: &Image, key: u32)
+/// Takes an object out of the names that are kept, and keeps no entry that was told last.
+fn forget(names: &mut NameCache, told: &mut ToldCache, image: &Image, key: u32)
     requires tree { HasTree image.now }
     requires key { HasKey image.now key }
-    ensures { Forgets image.now key names.old.pairs.entries names.new.pairs.entries }
+    ensures names { Forgets image.now key names.old.pairs.entries names.new.pairs.entries }
+    ensures told { told.new.entries.entries ≡ [] }
 {
+    told.clear();
     if let Some(dir) = parent_in(image, key) {
         names.take_out(dir, &name_in(image, key));
     }

@@ -24,6 +24,22 @@ impl Volume {
     {
         examine_in(self.image(), key)
     }
+
+    /// The bytes of a file, as `examine` tells them; 0 of a directory.
+    pub fn size(&self, key: u32) -> u32
+        requires { HasKey self.now.image key }
+        ensures { (t : Tree) (node : Node) → Stands self.now.image t → t.nodes key ≡ Some node → result ≡ size_in (Some node.content) }
+    {
+        size_in(self.image(), key)
+    }
+
+    /// The protection bits of an object, as `examine` tells them; 0 of the root.
+    pub fn protection(&self, key: u32) -> Protect
+        requires { HasKey self.now.image key }
+        ensures { (t : Tree) (node : Node) → Stands self.now.image t → t.nodes key ≡ Some node → result.0 ≡ node.protection }
+    {
+        protection_in(self.image(), key)
+    }
 }
 
 /// What is told of the object of a key.

@@ -10,7 +10,9 @@ mod examine;
 mod info;
 mod laws;
 mod look;
+mod places;
 mod stamp;
+mod told;
 mod volume;
 mod walk;
 

@@ -8,12 +8,15 @@ ghost use Rattle.ados_tree.specs.Walk.{child_of, is_file};
 ghost use Rattle.ados_tree.specs.Change.{entries_after};
 ghost use Rattle.ados_tree.specs.Keys.{HasDirectory, HasFileKey, HasKey, HasTree};
 ghost use Rattle.ados_chain.specs.Look.{first_left};
+ghost use Rattle.ados_volume.specs.Order.{IsPlaceIn};
+ghost use Rattle.ados_volume.specs.steps.Listed.{AreListed};
 
+use crate::told::ToldCache;
 use crate::volume::Volume;
 use adf_block::Image;
 use adf_block::layout::{FILE_TYPE, SECONDARY_TYPE};
-use ados_chain::{Next, after, find};
-use ados_data::read_at;
+use ados_chain::{Next, after, after_entry, find};
+use ados_data::{place_at, read_at};
 use ados_name::{Name, same_name_same_slot};
 
 impl Volume {
@@ -62,6 +65,30 @@ impl Volume {
         after(self.image(), dir, key)
     }
 
+    /// What comes after a key that is the directory's own or an entry's in it, as `next` says it, without going through a
+    /// chain to find the entry again.
+    pub fn next_from(&self, dir: u32, key: u32) -> Next
+        requires dir { HasDirectory self.now.image dir }
+        requires place { IsPlaceIn self.now.image dir key }
+        ensures { (t : Tree) → Stands self.now.image t → result ≡ first_left (entries_after t dir key) }
+    {
+        next_at(self.image(), dir, key)
+    }
+
+    /// What comes after a key, as `next` says it. The entry that was told last is kept of each of some directories, so that no
+    /// chain is gone through to find it again.
+    pub fn tell_next(&mut self, dir: u32, key: u32) -> Next
+        requires { HasDirectory self.old.image dir }
+        ensures next { (t : Tree) → Stands self.old.image t → result ≡ first_left (entries_after t dir key) }
+        ensures same { self.new ≡ self.old }
+    {
+        let next = next_in(&self.image, &self.told, dir, key);
+        if let Next::Entry(entry) = next {
+            self.told.keep(dir, entry);
+        }
+        next
+    }
+
     /// Copies the bytes of a file from byte `pos` on into the buffer, as many as are there and fit, and answers how many
     /// these are. The rest of the buffer stays.
     pub fn read(&self, key: u32, pos: u64, buffer: &mut [u8]) -> usize
@@ -69,7 +96,47 @@ impl Volume {
         ensures count { (t : Tree) → Stands self.now.image t → result ≡ min (length buffer.old) (length (bytes_of t key) - pos) }
         ensures bytes { (t : Tree) → Stands self.now.image t → buffer.new ≡ take result (drop pos (bytes_of t key)) ++ drop result buffer.old }
     {
-        read_at(self.image(), key, pos, buffer)
+        read_at(&self.image, key, self.places.of(key), pos, buffer)
+    }
+
+    /// Does what `read` does, and keeps where it stands in the file: a call for what comes behind goes on from there.
+    pub fn read_on(&mut self, key: u32, pos: u64, buffer: &mut [u8]) -> usize
+        requires { HasFileKey self.old.image key }
+        ensures count { (t : Tree) → Stands self.old.image t → result ≡ min (length buffer.old) (length (bytes_of t key) - pos) }
+        ensures bytes { (t : Tree) → Stands self.old.image t → buffer.new ≡ take result (drop pos (bytes_of t key)) ++ drop result buffer.old }
+        ensures same { self.new ≡ self.old }
+    {
+        let place = place_at(&self.image, key, self.places.of(key), pos);
+        self.places.keep(key, place);
+        read_at(&self.image, key, place, pos, buffer)
+    }
+}
+
+/// What comes after a key in the order of a directory, where an entry of some directories is known already.
+fn next_in(image: &Image, told: &ToldCache, dir: u32, key: u32) -> Next
+    requires tree { HasTree image.now }
+    requires dir { HasDirectory image.now dir }
+    requires told { AreListed image.now told.now.entries.entries }
+    ensures { (t : Tree) → Stands image.now t → result ≡ first_left (entries_after t dir key) }
+{
+    if told.is_last(dir, key) {
+        next_at(image, dir, key)
+    } else {
+        after(image, dir, key)
+    }
+}
+
+/// What comes after a key that is the directory's own or an entry's in it.
+fn next_at(image: &Image, dir: u32, key: u32) -> Next
+    requires tree { HasTree image.now }
+    requires dir { HasDirectory image.now dir }
+    requires place { IsPlaceIn image.now dir key }
+    ensures { (t : Tree) → Stands image.now t → result ≡ first_left (entries_after t dir key) }
+{
+    if key == dir {
+        after(image, dir, dir)
+    } else {
+        after_entry(image, dir, key)
     }
 }
 

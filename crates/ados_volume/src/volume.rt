@@ -5,36 +5,55 @@ ghost use Rattle.ados_tree.specs.Tree.{Tree};
 ghost use Rattle.ados_tree.specs.Stands.{Stands};
 
 use crate::cache::NameCache;
+use crate::places::PlaceCache;
+use crate::told::ToldCache;
 use adf_block::Image;
+use adf_block::layout::BOOT_BLOCKS;
 use std::marker::Model;
 
 /// A volume whose image stands for one tree, by `one_tree` of `ados_tree`. Contracts see the image and whether its
-/// bitmap was rebuilt, and speak of that tree. Which names are kept in the cache they do not see.
+/// bitmap was rebuilt, and speak of that tree. Which names and places in files are kept, which entries were told last and where
+/// free blocks are sought they do not see.
 #[derive(Drop)]
 pub struct Volume {
     pub(crate) image: Image,
     was_validated: bool,
     pub(crate) names: NameCache,
+    pub(crate) places: PlaceCache,
+    pub(crate) told: ToldCache,
+    /// No block below it is free.
+    pub(crate) free_from: u32,
 }
 
 impl Model for Volume {
     ghost use Rattle.ados_tree.specs.Tree.{Tree};
     ghost use Rattle.ados_tree.specs.Stands.{Stands};
+    ghost use Rattle.ados_map.specs.Pages.{NoneFreeBelow};
     ghost use Rattle.ados_volume.specs.steps.Cache.{AreChildren};
+    ghost use Rattle.ados_volume.specs.steps.Places.{AreKnown};
+    ghost use Rattle.ados_volume.specs.steps.Listed.{AreListed};
     ghost use Rattle.ados_volume.specs.Shown.{Shown};
 
     ghost Value = { Shown };
 
     ghost view = { λ volume. record { image = volume.image; was_validated = volume.was_validated } };
 
-    ghost invariant = { λ volume. ((t : Tree) × Stands volume.image t) × AreChildren volume.image volume.names.pairs.entries };
+    ghost invariant = { λ volume. (((((t : Tree) × Stands volume.image t) × AreChildren volume.image volume.names.pairs.entries) × AreListed volume.image volume.told.entries.entries) × NoneFreeBelow volume.image volume.free_from) × AreKnown volume.image volume.places.places.entries };
 }
 
 impl Volume {
-    /// The volume of an image that stands for a tree, with an empty cache.
-    pub(crate) fn standing(image: Image, was_validated: bool, names: NameCache) -> Volume
+    /// The volume of an image that stands for a tree, of which nothing is kept.
+    pub(crate) fn standing(
+        image: Image,
+        was_validated: bool,
+        names: NameCache,
+        places: PlaceCache,
+        told: ToldCache,
+    ) -> Volume
         requires stands { (t : Tree) × Stands image t }
-        requires empty { names.pairs.entries ≡ [] }
+        requires no_names { names.pairs.entries ≡ [] }
+        requires no_places { places.places.entries ≡ [] }
+        requires no_entries { told.entries.entries ≡ [] }
         ensures image { result.image ≡ image }
         ensures validated { result.was_validated ≡ was_validated }
     {
@@ -42,6 +61,9 @@ impl Volume {
             image,
             was_validated,
             names,
+            places,
+            told,
+            free_from: BOOT_BLOCKS,
         }
     }
 

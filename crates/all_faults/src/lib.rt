@@ -16,9 +16,7 @@ mod looks;
 mod name_bytes;
 mod names;
 mod notes;
-mod places;
 mod walk;
 
 pub use check_marks::Mark;
 pub use listing::{AllFaults, all_faults};
-pub use places::place_role;

@@ -6,11 +6,11 @@ ghost use Rattle.all_faults.specs.steps.Walked.{IsStep, IsWalked, root_step};
 
 use crate::bits::is_inside;
 use crate::notes::Notes;
-use crate::places::place_role;
 use adf_block::Image;
 use adf_block::layout::{FIRST_SLOT, SECONDARY_TYPE};
 use ados_tree::{FaultKind, Role};
 use check_marks::Mark;
+use check_reach::place_role;
 use std::alloc::{AllocError, Global};
 use std::collections::BTreeSet;
 

@@ -1,7 +1,7 @@
 -- What a volume tells decides what may be asked of it and changed in it.
 use Rattle.std.proofs.Common.{◌≡◌, ◌≢◌, ℕ, ℤ, negsuc, nat_eq, Bool, true, false, inl, inr, List, Option, Some, None, IsSome, is_some, option_map, not, refl, sym, ap, ◌∙◌, subst}
 use Rattle.std.proofs.lemmas.Bool.{false≢true, true≢false}
-use Rattle.ados_tree.specs.Tree.{Content, Node, Tree, content_at, root, parent_of, size_of}
+use Rattle.ados_tree.specs.Tree.{Content, Node, Tree, content_at, root, parent_of, size_in, size_of}
 use Rattle.ados_tree.specs.Tree.Content.{Directory, File}
 use Rattle.ados_tree.specs.Stands.{Stands}
 use Rattle.ados_tree.specs.Walk.{child_of}
@@ -50,9 +50,10 @@ module _ (image : List ℕ) (key : ℕ) (info : FileInfo) (here : (t : Tree) (no
         | inr p ↦ let d = directory_content n.0.parent p.0 n.0.content p.1 (type_here false e t n.0 s n.1) in (d.0, held (t.nodes key) n.0 (Directory d.0) n.1 d.1)
       ]
 
-  -- the size that is told of a file
-  pub size_told : HasFileKey image key → (t : Tree) → Stands image t → info.size ≡ size_of t key
-  size_told file t s = let f = file_node image t s key file in ap (λ (i : FileInfo). i.size) (here t f.node s f.at) ∙ rw f.at refl
+-- the size that is told of a file
+pub size_told : (image : List ℕ) (key size : ℕ) → ((t : Tree) (node : Node) → Stands image t → t.nodes key ≡ Some node → size ≡ size_in (Some node.content)) → HasFileKey image key → (t : Tree) → Stands image t
+    → size ≡ size_of t key
+size_told image key size here file t s = let f = file_node image t s key file in here t f.node s f.at ∙ rw f.at refl
 
 pub file_is_key : (image : List ℕ) (key : ℕ) → HasFileKey image key → HasKey image key
 file_is_key image key file t s = let f = file_node image t s key file in rw f.at refl

@@ -88,7 +88,7 @@ pub(crate) fn write(volume: &mut Volume, path: &[u8], pos: u64, bytes: &[u8]) ->
 fn put_bytes(volume: &mut Volume, key: u32, pos: u64, bytes: &[u8]) -> Result<()>
     requires { HasFileKey volume.old.image key }
 {
-    if pos > volume.examine(key).size as u64 {
+    if pos > volume.size(key) as u64 {
         bail!("a file is too short");
     }
     if volume.write(key, pos, bytes, MOMENT).is_err() {

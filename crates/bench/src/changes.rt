@@ -19,15 +19,15 @@ pub(crate) const DIRS: u32 = 2;
 const BLOCKS: u32 = 20_000;
 
 /// How many bytes a small file has, and how many the large one.
-const SMALL: usize = 100;
+pub(crate) const SMALL: usize = 100;
 
 const LARGE: usize = 819_200;
 
 /// How many bytes one of the short writes has.
-const PIECE: usize = 512;
+pub(crate) const PIECE: usize = 512;
 
 /// The last decimal digit.
-fn digit(n: u32) -> u8 {
+pub(crate) fn digit(n: u32) -> u8 {
     b'0' + (n % 10) as u8
 }
 
@@ -84,8 +84,13 @@ fn remove_files(volume: &mut Volume, files: u32, dirs: u32) -> Result<()> {
     Ok(())
 }
 
-/// Makes the large file in pieces.
-fn write_large(volume: &mut Volume, path: &[u8], bytes: &[u8], piece: usize) -> Result<()>
+/// Makes a large file in pieces.
+pub(crate) fn write_large(
+    volume: &mut Volume,
+    path: &[u8],
+    bytes: &[u8],
+    piece: usize,
+) -> Result<()>
     requires { 1 ≤ piece }
 {
     make(volume, path, NodeKind::File)?;

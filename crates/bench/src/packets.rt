@@ -1,11 +1,11 @@
-//! Times packets on one thread, over `run` of an exchange and over the handler alone.
+//! Times packets on one thread, by the handler alone and as steps of a port over it.
 
 use crate::blank::{MOMENT, blank_volume};
 use adf_block::Format;
 use ados_handler::Handler;
 use ados_name::{Date3, PathText};
 use ados_packet::{Answer, Body, Buffer, Packet};
-use ados_port::{Exchange, Outcome, Server, Step, run};
+use ados_port::{Exchange, Outcome, Server, Step};
 use anyhow::{Result, bail};
 use std::alloc::Global;
 use std::rt::Clock;
@@ -143,50 +143,44 @@ fn serve_rounds(
     Ok(())
 }
 
-/// The same packets as steps of one client.
-fn steps_of(
+/// Does one packet of client 1 as steps of a port: a Put, a Serve and a Take.
+fn serve_by_steps(exchange: &mut Exchange<Handler>, packet: Packet) -> Result<Answer> {
+    let Outcome::Accepted(_) = exchange.step(Step::Put { client: 1, packet }) else {
+        bail!("a packet is not accepted");
+    };
+    let Outcome::Served = exchange.step(Step::Serve { moment: MOMENT }) else {
+        bail!("no packet waits");
+    };
+    let Outcome::Taken(reply) = exchange.step(Step::Take { client: 1 }) else {
+        bail!("no reply");
+    };
+    if reply.answer.res2 != 0 {
+        bail!("a packet is refused");
+    }
+    Ok(reply.answer)
+}
+
+/// The same rounds as steps of a port, each made when the one before it is done.
+fn step_rounds(
     alloc: Global,
+    exchange: &mut Exchange<Handler>,
     rounds: u32,
     lock: u32,
     handle: u32,
     entry: u32,
-) -> Result<Vec<Step<Packet, Date3>>> {
-    let mut steps = Vec::new(alloc);
+) -> Result<()> {
     for n in 0..rounds.saturating_mul(ROUND) {
         let packet = packet(alloc, n, lock, handle, entry)?;
-        steps.push(Step::Put { client: 1, packet })?;
-        steps.push(Step::Serve { moment: MOMENT })?;
-        steps.push(Step::Take { client: 1 })?;
-    }
-    Ok(steps)
-}
-
-/// How many of the outcomes are replies of success.
-fn successes(outcomes: &[Outcome<Packet, Answer>]) -> u32 {
-    let mut count = 0_u32;
-    for outcome in outcomes {
-        if let Outcome::Taken(reply) = outcome {
-            if reply.answer.res2 == 0 {
-                count = count.wrapping_add(1);
-            }
+        let answer = serve_by_steps(exchange, packet)?;
+        if n % ROUND == 0 && lock_of(&answer)? != lock {
+            bail!("another lock");
         }
     }
-    count
+    Ok(())
 }
 
-/// Runs the steps over the handler, and answers how many replies of success were taken.
-fn run_steps(alloc: Global, handler: Handler, steps: Vec<Step<Packet, Date3>>) -> Result<u32> {
-    let Ok(exchange) = Exchange::new(alloc, handler, 1) else {
-        bail!("no memory for a port");
-    };
-    match run(alloc, exchange, steps) {
-        Ok(done) => Ok(successes(&done.outcomes)),
-        Err(_) => bail!("no memory for the outcomes"),
-    }
-}
-
-/// Tells how many replies were of success. The figures go to standard error, since they are others each time: how many
-/// packets, and the microseconds of them over the handler alone and over `run`.
+/// Tells the sizes of what is moved, and how many replies were of success. The figures go to standard error, since they
+/// are others each time: how many packets, and the microseconds of them by the handler alone and as steps of a port over it.
 pub(crate) fn time<R: Clock + Print + Eprint>(
     rt: &R,
     alloc: Global,
@@ -199,15 +193,22 @@ pub(crate) fn time<R: Clock + Print + Eprint>(
     let handle = open(&mut handler)?;
     hold(&mut handler, locks)?;
     let (lock, entry) = (locks.saturating_add(1), handler.volume().root());
-    let steps = steps_of(alloc, rounds, lock, handle, entry)?;
 
     let start = Instant::now(rt)?;
     serve_rounds(alloc, &mut handler, rounds, lock, handle, entry)?;
     let alone = start.elapsed(rt)?.as_micros();
+    let Ok(mut exchange) = Exchange::new(alloc, handler, 1) else {
+        bail!("no memory for a port");
+    };
     let start = Instant::now(rt)?;
-    let replies = run_steps(alloc, handler, steps)?;
-    let over_run = start.elapsed(rt)?.as_micros();
-    eprintln!(rt; "{replies} {alone} {over_run}")?;
-    println!(rt; "{replies} replies of success")?;
+    step_rounds(alloc, &mut exchange, rounds, lock, handle, entry)?;
+    let by_steps = start.elapsed(rt)?.as_micros();
+    let packets = rounds.saturating_mul(ROUND);
+    eprintln!(rt; "{packets} {alone} {by_steps}")?;
+    let packet = size_of::<Packet>();
+    let step = size_of::<Step<Packet, Date3>>();
+    let outcome = size_of::<Outcome<Packet, Answer>>();
+    println!(rt; "bytes of a packet {packet}, of a step {step}, of an outcome {outcome}")?;
+    println!(rt; "{packets} replies of success")?;
     Ok(())
 }

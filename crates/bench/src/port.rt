@@ -1,4 +1,4 @@
-//! Times round trips through a port: each client puts a number and takes its reply before the next.
+//! Times round trips through a port: each client puts a number and takes its reply before the next, at once or after a second.
 ghost use Rattle.std.specs.Prelude.{◌≡◌, ◌==◌, ◌||◌, ◌<◌, false, IfOk, length};
 ghost use Rattle.ados_port.specs.Grown.{Grown};
 
@@ -7,12 +7,17 @@ use anyhow::{Result, bail};
 use std::alloc::{AllocError, Global};
 use std::rt::Clock;
 use std::sync::Wait;
-use std::thread;
+use std::sync::atomic::AtomicU64;
 use std::thread::Threads;
-use std::time::Instant;
+use std::time::{Duration, Instant};
 
 /// How many round trips each client makes where no word says.
 pub(crate) const TRIPS: u32 = 1_000;
+
+/// How many each idle client makes, and how many of those there are.
+pub(crate) const IDLE_TRIPS: u32 = 1;
+
+const IDLE_CLIENTS: usize = 8;
 
 /// Answers each number with itself, and dies at 0.
 #[derive(Drop)]
@@ -55,10 +60,11 @@ impl Server for Echo {
     ghost closes_dead = { λ old new request moment reply given closing. closes old.died new.died request reply given.0 given.1 closing };
 }
 
-/// Makes round trips.
+/// Makes round trips, and waits so many seconds before each.
 #[derive(Drop)]
 struct RoundTrips {
     count: u64,
+    pause: u64,
 }
 
 impl Client<Echo> for RoundTrips {
@@ -70,11 +76,19 @@ impl Client<Echo> for RoundTrips {
     fn run<R: Wait>(self, rt: &R, end: &mut ClientEnd<Echo>) -> u64 {
         let mut right = 0u64;
         for number in 0..self.count {
+            pause(rt, self.pause);
             if trip(rt, end, number.wrapping_add(1)) {
                 right = right.wrapping_add(1);
             }
         }
         right
+    }
+}
+
+/// Waits for so many seconds.
+fn pause<R: Wait>(rt: &R, seconds: u64) {
+    if seconds > 0 {
+        AtomicU64::new(0).park_timeout(rt, 0, Duration::from_secs(seconds));
     }
 }
 
@@ -92,36 +106,42 @@ fn trip<R: Wait>(rt: &R, end: &mut ClientEnd<Echo>, number: u64) -> bool
 fn take_one<R: Wait>(rt: &R, end: &mut ClientEnd<Echo>, number: u64) -> bool
     ensures { Grown end.old end.new }
 {
-    for _ in rt.forever() {
-        if let Some(reply) = end.take() {
-            return reply.answer == number;
-        }
-        thread::yield_now();
+    match end.take_within(rt, u64::MAX) {
+        Some(reply) => reply.answer == number,
+        None => false,
     }
-    unreachable!()
 }
 
 /// The jobs of so many clients.
-fn jobs(alloc: Global, clients: usize, trips: u64) -> Result<Vec<RoundTrips>, AllocError>
+fn jobs(
+    alloc: Global,
+    clients: usize,
+    trips: u64,
+    pause: u64,
+) -> Result<Vec<RoundTrips>, AllocError>
     ensures { IfOk result (λ v. length v.items ≡ clients) }
 {
     let mut jobs = Vec::new(alloc);
     for _ in 0..clients {
-        jobs.push(RoundTrips { count: trips })?;
+        jobs.push(RoundTrips {
+            count: trips,
+            pause,
+        })?;
     }
     Ok(jobs)
 }
 
-/// The round trips a second of so many clients.
-fn trips_a_second<R: Threads + Wait + Clock + Copy + Send + Drop + 'static>(
+/// Lets so many clients make round trips, and answers how many were right and how many microseconds they took.
+fn round_trips<R: Threads + Wait + Clock + Copy + Send + Drop + 'static>(
     rt: &R,
     alloc: Global,
     clients: usize,
     trips: u64,
-) -> Result<u128>
+    pause: u64,
+) -> Result<(u128, u128)>
     requires { 0 < clients }
 {
-    let jobs = jobs(alloc, clients, trips)?;
+    let jobs = jobs(alloc, clients, trips, pause)?;
     let Ok((handler, ends)) = open_port(alloc, Echo { died: false }, clients, 8) else {
         bail!("no port");
     };
@@ -134,7 +154,7 @@ fn trips_a_second<R: Threads + Wait + Clock + Copy + Send + Drop + 'static>(
     for report in served.reports.iter() {
         trips = trips.wrapping_add(*report as u128);
     }
-    Ok(trips.wrapping_mul(1_000_000) / micros.max(1))
+    Ok((trips, micros))
 }
 
 /// Tells nothing on standard output. The figures go to standard error, since they are others each time: the round trips a
@@ -144,9 +164,22 @@ pub(crate) fn time<R: Threads + Wait + Clock + Eprint + Copy + Send + Drop + 'st
     alloc: Global,
     trips: u32,
 ) -> Result<()> {
-    for clients in [1usize, 2, 4] {
-        let trips = trips_a_second(rt, alloc, clients, trips as u64)?;
+    for clients in [1usize, 2, 4, 8] {
+        let (right, micros) = round_trips(rt, alloc, clients, trips as u64, 0)?;
+        let trips = right.wrapping_mul(1_000_000) / micros.max(1);
         eprintln!(rt; "port {clients} {trips}")?;
     }
+    Ok(())
+}
+
+/// Tells on standard error how many milliseconds clients took that each wait a second before each of so many round trips.
+pub(crate) fn time_idle<R: Threads + Wait + Clock + Eprint + Copy + Send + Drop + 'static>(
+    rt: &R,
+    alloc: Global,
+    trips: u32,
+) -> Result<()> {
+    let (right, micros) = round_trips(rt, alloc, IDLE_CLIENTS, trips as u64, 1)?;
+    let millis = micros / 1_000;
+    eprintln!(rt; "idle {IDLE_CLIENTS} {right} {millis}")?;
     Ok(())
 }

@@ -2,6 +2,7 @@
 ghost use Rattle.std.specs.Prelude.{◌≡◌, IfSome, IsTrue, negsuc, pos};
 ghost use Rattle.std.specs.Bool.{IsFalse};
 ghost use Rattle.ados_tree.specs.Keys.{HasDirectory, HasFileKey, HasKey};
+ghost use Rattle.ados_volume.specs.Order.{IsPlaceIn};
 
 use ados_volume::{FileInfo, Next, Volume};
 
@@ -21,10 +22,12 @@ pub(crate) fn is_file(volume: &Volume, key: u32) -> bool
 
 /// The entry of a directory behind this one; the directory's own key asks for the first.
 pub(crate) fn entry_behind(volume: &Volume, dir: u32, last: u32) -> Option<u32>
-    requires { HasDirectory volume.now.image dir }
-    ensures { IfSome result (HasKey volume.now.image) }
+    requires dir { HasDirectory volume.now.image dir }
+    requires place { IsPlaceIn volume.now.image dir last }
+    ensures key { IfSome result (HasKey volume.now.image) }
+    ensures place { IfSome result (IsPlaceIn volume.now.image dir) }
 {
-    match volume.next(dir, last) {
+    match volume.next_from(dir, last) {
         Next::Entry(key) => Some(key),
         Next::End | Next::NotAnEntry => None,
     }

@@ -108,7 +108,7 @@ fn free(rt: &impl Abort, image: &Image) -> u32 {
 /// Takes the first free block.
 fn take(rt: &impl Abort, image: &mut Image) -> Option<u32> {
     assert!(rt; has_lawful_pages(image));
-    take_first(image)
+    take_first(image, 2)
 }
 
 /// Gives a block back.

@@ -5,7 +5,7 @@ ghost use Rattle.ados_data.specs.File.{contents};
 ghost use Rattle.ados_data.specs.Changing.{HasFree, WritableFile};
 
 use adf_block::{Format, Image};
-use ados_data::{blocks_of, cut, extend, format_of, read_at, write_at};
+use ados_data::{Place, blocks_of, cut, extend, format_of, read_at, write_at};
 use ados_map::count_free;
 use cases_drawn::{FILE, file_image};
 use std::alloc::Global;
@@ -53,7 +53,7 @@ fn has_room(rt: &impl Abort, image: &Image, size: u64) -> bool
 pub fn read(image: &Image, pos: u64, buffer: &mut [u8]) -> usize
     requires { WritableFile image.now 50 }
 {
-    read_at(image, FILE, pos, buffer)
+    read_at(image, FILE, Place::header(FILE), pos, buffer)
 }
 
 /// Writes the file.
@@ -66,7 +66,7 @@ pub fn write(rt: &impl Abort, image: &mut Image, pos: u64, bytes: &[u8])
     let end = pos + bytes.len() as u64;
     assert!(rt; end < 4_294_967_296);
     assert!(rt; has_room(rt, image, size.max(end)));
-    write_at(image, FILE, pos, bytes);
+    write_at(image, FILE, Place::header(FILE), pos, bytes, 2);
 }
 
 /// Makes the file longer.
@@ -75,7 +75,7 @@ pub fn grow(rt: &impl Abort, image: &mut Image, size: u32)
     ensures { WritableFile image.new 50 }
 {
     assert!(rt; size_of(rt, image) <= size && has_room(rt, image, size as u64));
-    extend(image, FILE, size);
+    extend(image, FILE, Place::header(FILE), size, 2);
 }
 
 /// Makes the file shorter.

@@ -1,13 +1,13 @@
 -- A file that is rewritten keeps all that is no field.
-use Rattle.std.proofs.Common.{◌≡◌, ℕ, ◌+◌, ◌-◌, ◌*◌, ◌/◌, ◌%◌, ◌<◌, ◌≤◌, ◌⊎◌, inl, inr, min, max, List, length, take, drop, slice_index, Some, refl, sym, ap, ◌∙◌, subst, arith, length-take, length-drop, eq-eqb}
+use Rattle.std.proofs.Common.{◌≡◌, ℕ, ◌+◌, ◌-◌, ◌*◌, ◌/◌, ◌%◌, ◌<◌, ◌≤◌, inl, inr, min, List, length, take, drop, slice_index, Some, refl, sym, ap, ◌∙◌, subst, arith, length-take, length-drop, eq-eqb}
 use Rattle.std.proofs.lemmas.Bool.{ne_eqb, cases_eq, cases_lt, false≢true}
 use Rattle.std.proofs.lemmas.List.{ext_get_or, get_or-take, get_or-drop}
 use Rattle.adf_block.specs.declared.Format.{Format}
 use Rattle.adf_block.specs.declared.Format.TheVariants.{Ofs, Ffs}
 use Rattle.adf_block.specs.Image.{byte_at, bytes_at, has_free_bit}
-use Rattle.adf_block.specs.Fields.{pointer_count, held_count, secondary_type, file_type}
+use Rattle.adf_block.specs.Fields.{pointer_count, held_count, file_size, secondary_type, file_type}
 use Rattle.ados_data.specs.File.{HasFile, format_of}
-use Rattle.ados_data.specs.Unnamed.{KeepsUnnamed, IsPointerField, IsHeaderField, most_pointers, larger_size, data_end}
+use Rattle.ados_data.specs.Unnamed.{KeepsUnnamed, IsPointerField, IsHeaderField, data_end}
 use Rattle.ados_tree.specs.Tree.{Node, Tree}
 use Rattle.ados_tree.specs.Tree.Content.{File}
 use Rattle.ados_tree.specs.Layout.{Layout}
@@ -19,7 +19,7 @@ use Rattle.ados_tree.specs.Kept.{Kept, IsField, Alike, KeepsFirstData}
 use Rattle.ados_tree.specs.Kept.IsField.{page_longs, file_longs, extension_longs, ofs_data_longs, ofs_data, ffs_data}
 use Rattle.ados_tree.proofs.Keeping.{header_stays}
 use Rattle.ados_tree.proofs.Standing.{StandsAt, reached_stands, serves_at, duty_of, root_at, entry_at}
-use Rattle.ados_tree.proofs.Writable.{named_used, format_is}
+use Rattle.ados_tree.proofs.Writable.{named_used}
 use Rattle.change_bytes.proofs.Content.{refilled, holding, here}
 use Rattle.change_bytes.proofs.Relaid.{IsRewritten, relaid, data_here, data_there, extensions_here, extensions_there}
 use Rattle.change_bytes.proofs.FirstData.{keeps_first}
@@ -28,32 +28,22 @@ use Rattle.change_bytes.proofs.Refilled.{boot_stays, key_stays, root_stays, data
 
 -- ---- fields
 
--- the pointers in use in one of two images
-pointers_field : (a b j : ℕ) → 78 - max a b ≤ j → (78 - a ≤ j) ⊎ (78 - b ≤ j)
-pointers_field a b j l = elim (cases_lt a b) [ inl m ↦ inr (omega (arith, l, m)) | inr m ↦ inl (omega (arith, l, m)) ]
-
-module _ (old new : List ℕ) (b : ℕ) where
+module _ (image : List ℕ) (b : ℕ) where
   -- a long that a change of a header may write is a field
-  header_field : secondary_type old b ≡ file_type → secondary_type new b ≡ file_type → (dir r dir' r' i : ℕ) → IsHeaderField (most_pointers old new b) (i / 4) → IsField old b (roles.Entry dir r) i ⊎ IsField new b (roles.Entry dir' r') i
-  header_field e f dir r dir' r' i (inl (inl z)) = inl (file_longs e (0, (0, 2), omega arith, refl, (omega (arith, z), omega (arith, z))))
-  header_field e f dir r dir' r' i (inl (inr (inl z))) = inl (file_longs e (1, (4, 5), omega arith, refl, (omega (arith, z), omega (arith, z))))
-  header_field e f dir r dir' r' i (inl (inr (inr (inl z)))) = elim (pointers_field (pointer_count old b) (pointer_count new b) (i / 4) z.0) [
-    | inl l ↦ inl (file_longs e (2, (78 - pointer_count old b, 77), omega arith, refl, (omega (arith, l), omega (arith, z.1))))
-    | inr l ↦ inr (file_longs f (2, (78 - pointer_count new b, 77), omega arith, refl, (omega (arith, l), omega (arith, z.1))))
-  ]
-  header_field e f dir r dir' r' i (inl (inr (inr (inr z)))) = inl (file_longs e (5, (124, 127), omega arith, refl, (omega (arith, z), omega (arith, z))))
-  header_field e f dir r dir' r' i (inr (inl z)) = inl (file_longs e (1, (4, 5), omega arith, refl, (omega (arith, z), omega (arith, z))))
-  header_field e f dir r dir' r' i (inr (inr z)) = inl (file_longs e (3, (80, 81), omega arith, refl, (omega (arith, z), omega (arith, z))))
+  header_field : secondary_type image b ≡ file_type → (dir r i : ℕ) → IsHeaderField (pointer_count image b) (i / 4) → IsField image b (roles.Entry dir r) i
+  header_field e dir r i (inl (inl z)) = file_longs e (0, (0, 2), omega arith, refl, (omega (arith, z), omega (arith, z)))
+  header_field e dir r i (inl (inr (inl z))) = file_longs e (1, (4, 5), omega arith, refl, (omega (arith, z), omega (arith, z)))
+  header_field e dir r i (inl (inr (inr (inl z)))) = file_longs e (2, (78 - pointer_count image b, 77), omega arith, refl, (omega (arith, z.0), omega (arith, z.1)))
+  header_field e dir r i (inl (inr (inr (inr z)))) = file_longs e (5, (124, 127), omega arith, refl, (omega (arith, z), omega (arith, z)))
+  header_field e dir r i (inr (inl z)) = file_longs e (1, (4, 5), omega arith, refl, (omega (arith, z), omega (arith, z)))
+  header_field e dir r i (inr (inr z)) = file_longs e (3, (80, 81), omega arith, refl, (omega (arith, z), omega (arith, z)))
 
   -- so is one of an extension block
-  extension_field : (f f' i : ℕ) → IsPointerField (most_pointers old new b) (i / 4) → IsField old b (roles.Extension f) i ⊎ IsField new b (roles.Extension f') i
-  extension_field f f' i (inl z) = inl (extension_longs (0, (0, 2), omega arith, refl, (omega (arith, z), omega (arith, z))))
-  extension_field f f' i (inr (inl z)) = inl (extension_longs (1, (5, 5), omega arith, refl, (omega (arith, z), omega (arith, z))))
-  extension_field f f' i (inr (inr (inl z))) = elim (pointers_field (pointer_count old b) (pointer_count new b) (i / 4) z.0) [
-    | inl l ↦ inl (extension_longs (2, (78 - pointer_count old b, 77), omega arith, refl, (omega (arith, l), omega (arith, z.1))))
-    | inr l ↦ inr (extension_longs (2, (78 - pointer_count new b, 77), omega arith, refl, (omega (arith, l), omega (arith, z.1))))
-  ]
-  extension_field f f' i (inr (inr (inr z))) = inl (extension_longs (3, (125, 127), omega arith, refl, (omega (arith, z), omega (arith, z))))
+  extension_field : (f i : ℕ) → IsPointerField (pointer_count image b) (i / 4) → IsField image b (roles.Extension f) i
+  extension_field f i (inl z) = extension_longs (0, (0, 2), omega arith, refl, (omega (arith, z), omega (arith, z)))
+  extension_field f i (inr (inl z)) = extension_longs (1, (5, 5), omega arith, refl, (omega (arith, z), omega (arith, z)))
+  extension_field f i (inr (inr (inl z))) = extension_longs (2, (78 - pointer_count image b, 77), omega arith, refl, (omega (arith, z.0), omega (arith, z.1)))
+  extension_field f i (inr (inr (inr z))) = extension_longs (3, (125, 127), omega arith, refl, (omega (arith, z), omega (arith, z)))
 
 -- what is no field of an OFS data block stands behind the bytes that it holds
 pub data_field : (image : List ℕ) (b f i : ℕ) → IsOfs image → ¬ IsField image b (roles.Data f) i → 24 + held_count image b ≤ i
@@ -90,58 +80,42 @@ module _ (old new : List ℕ) (t : Tree) (s : Stands old t) (file : ℕ) (node :
   layout_is : after.layout ≡ relaid s.layout file blocks' extensions'
   layout_is = layout_after old new t s file node bytes found is_file blocks' extensions' bytes' h
 
-  before_file : HasFile old t.format file (s.layout.file_data file) (s.layout.extensions file) bytes
-  before_file = s.files file node bytes found is_file
-
   after_file : HasFile new (format_of new) file blocks' extensions' bytes'
   after_file = h.writable.lawful.holds
 
   -- ---- the header
 
   -- an entry that is the file is one of its type
-  old_type : (k dir r : ℕ) → StandsAt old t s (roles.Entry dir r) k file → secondary_type old file ≡ file_type
-  old_type k dir r m =
-      let n = entry_at old t s dir r k file m in
-      let is : n.node ≡ node = cc (n.at, found) in
-      (s.entries file dir n.node n.at n.parent).secondary ∙ ap type_of (ap (λ (a : Node). a.content) is ∙ is_file)
-
   new_type : (k dir r : ℕ) → StandsAt new v after (roles.Entry dir r) k file → secondary_type new file ≡ file_type
   new_type k dir r m =
       let n = entry_at new v after dir r k file m in
       let is : n.node ≡ holding bytes' node = cc (n.at, here t file node bytes bytes' found is_file) in
       (after.entries file dir n.node n.at n.parent).secondary ∙ ap type_of (ap (λ (a : Node). a.content) is)
 
-  entry_kept : (k k' dir r dir' r' block i : ℕ) → i < 512 → StandsAt old t s (roles.Entry dir r) k block → StandsAt new v after (roles.Entry dir' r') k' block → ¬ IsField old block (roles.Entry dir r) i → ¬ IsField new block (roles.Entry dir' r') i → byte_at new block i ≡ byte_at old block i
-  entry_kept k k' dir r dir' r' block i l m m' n n' = elim (cases_eq block file) [
+  entry_kept : (k k' dir r dir' r' block i : ℕ) → i < 512 → StandsAt old t s (roles.Entry dir r) k block → StandsAt new v after (roles.Entry dir' r') k' block → ¬ IsField new block (roles.Entry dir' r') i → byte_at new block i ≡ byte_at old block i
+  entry_kept k k' dir r dir' r' block i l m m' n = elim (cases_eq block file) [
     | inr other ↦ let e = entry_at old t s dir r k block m in (key_stays old new t s file node bytes found is_file blocks' extensions' bytes' h block e.node e.at other).bytes i l (λ z. z)
     | inl same ↦
-        let at = subst (StandsAt old t s (roles.Entry dir r) k) same m in
-        let at' = subst (StandsAt new v after (roles.Entry dir' r') k') same m' in
-        let none : ¬ IsHeaderField (most_pointers old new file) (i / 4) = λ w.
-        elim (header_field old new file (old_type k dir r at) (new_type k' dir' r' at') dir r dir' r' i w) [
-          | inl f ↦ n (subst (λ (b : ℕ). IsField old b (roles.Entry dir r) i) (sym same) f)
-          | inr f ↦ n' (subst (λ (b : ℕ). IsField new b (roles.Entry dir' r') i) (sym same) f)
-        ] in
+        let at = subst (StandsAt new v after (roles.Entry dir' r') k') same m' in
+        let none : ¬ IsHeaderField (pointer_count new file) (i / 4) = λ w. n (subst (λ (b : ℕ). IsField new b (roles.Entry dir' r') i) (sym same) (header_field new file (new_type k' dir' r' at) dir' r' i w)) in
         ap (λ (b : ℕ). byte_at new b i) same ∙ keeps.header i l none ∙ ap (λ (b : ℕ). byte_at old b i) (sym same)
   ]
 
   -- ---- data blocks
 
-  -- what is no field of a block in both images stands behind the file's bytes in it
-  behind_bytes : (j f f' block i : ℕ) → j < length (s.layout.file_data file) → j < length blocks' → slice_index (s.layout.file_data file) j ≡ block → slice_index blocks' j ≡ block → ¬ IsField old block (roles.Data f) i → ¬ IsField new block (roles.Data f') i → data_end (format_of old) (larger_size old new file) j ≤ i
-  behind_bytes j f f' block i l m e e' n n' = go (format_of old) refl
+  -- what is no field of a block stands behind the file's bytes in it
+  behind_bytes : (j f block i : ℕ) → j < length blocks' → slice_index blocks' j ≡ block → ¬ IsField new block (roles.Data f) i → data_end (format_of old) (file_size new file) j ≤ i
+  behind_bytes j f block i l e n = go (format_of old) refl
     where
-      go : (g : Format) → format_of old ≡ g → data_end g (larger_size old new file) j ≤ i
-      go Ffs is = absurd (n (ffs_data (is_ffs old is)))
+      go : (g : Format) → format_of old ≡ g → data_end g (file_size new file) j ≤ i
+      go Ffs is = absurd (n (ffs_data (is_ffs new (h.format ∙ is))))
       go Ofs is =
-          let a = data_field old block f i (is_ofs old is) n in
-          let b = data_field new block f' i (is_ofs new (h.format ∙ is)) n' in
-          let held : held_count old block ≡ min 488 (length bytes - 488 * j) = ap (held_count old) (sym e) ∙ (before_file.ofs_data (sym (format_is old t s) ∙ is) j l).held in
-          let held' : held_count new block ≡ min 488 (length bytes' - 488 * j) = ap (held_count new) (sym e') ∙ (after_file.ofs_data (h.format ∙ is) j m).held in
-          omega (arith, a, b, held, held', before_file.size, after_file.size)
+          let a = data_field new block f i (is_ofs new (h.format ∙ is)) n in
+          let held : held_count new block ≡ min 488 (length bytes' - 488 * j) = ap (held_count new) (sym e) ∙ (after_file.ofs_data (h.format ∙ is) j l).held in
+          omega (arith, a, held, after_file.size)
 
-  data_kept : (k k' f f' block i : ℕ) → i < 512 → StandsAt old t s (roles.Data f) k block → StandsAt new v after (roles.Data f') k' block → ¬ IsField old block (roles.Data f) i → ¬ IsField new block (roles.Data f') i → byte_at new block i ≡ byte_at old block i
-  data_kept k k' f f' block i l m m' n n' = elim (cases_eq f' file) [
+  data_kept : (k k' f f' block i : ℕ) → i < 512 → StandsAt old t s (roles.Data f) k block → StandsAt new v after (roles.Data f') k' block → ¬ IsField new block (roles.Data f') i → byte_at new block i ≡ byte_at old block i
+  data_kept k k' f f' block i l m m' n = elim (cases_eq f' file) [
     | inr other ↦
         let lists : after.layout.file_data f' ≡ s.layout.file_data f' = ap (λ (l : Layout). l.file_data f') layout_is ∙ data_there s.layout file blocks' extensions' f' other in
         let within : k' < length (s.layout.file_data f') = subst (λ (xs : List ℕ). k' < length xs) lists m'.within in
@@ -153,7 +127,7 @@ module _ (old new : List ℕ) (t : Tree) (s : Stands old t) (file : ℕ) (node :
         let at : slice_index blocks' k' ≡ block = ap (λ (xs : List ℕ). slice_index xs k') (sym lists) ∙ m'.here in
         elim (h.data_from k' within) [
           | inl was ↦
-              let behind = behind_bytes k' f f' block i was.0 within (sym was.1 ∙ at) at n n' in
+              let behind = behind_bytes k' f' block i within at n in
               ap (λ (b : ℕ). byte_at new b i) (sym at) ∙ keeps.slack k' i was.0 within l behind ∙ ap (λ (b : ℕ). byte_at old b i) at
           | inr free ↦ absurd (false≢true (sym (named_used old t s block (duty_of old t s (roles.Data f) k) (serves_at old t s (roles.Data f) k block m)) ∙ ap (has_free_bit old) (sym at) ∙ free.1))
         ]
@@ -161,8 +135,8 @@ module _ (old new : List ℕ) (t : Tree) (s : Stands old t) (file : ℕ) (node :
 
   -- ---- extension blocks
 
-  extension_kept : (k k' f f' block i : ℕ) → i < 512 → StandsAt old t s (roles.Extension f) k block → StandsAt new v after (roles.Extension f') k' block → ¬ IsField old block (roles.Extension f) i → ¬ IsField new block (roles.Extension f') i → byte_at new block i ≡ byte_at old block i
-  extension_kept k k' f f' block i l m m' n n' = elim (cases_eq f' file) [
+  extension_kept : (k k' f f' block i : ℕ) → i < 512 → StandsAt old t s (roles.Extension f) k block → StandsAt new v after (roles.Extension f') k' block → ¬ IsField new block (roles.Extension f') i → byte_at new block i ≡ byte_at old block i
+  extension_kept k k' f f' block i l m m' n = elim (cases_eq f' file) [
     | inr other ↦
         let lists : after.layout.extensions f' ≡ s.layout.extensions f' = ap (λ (l : Layout). l.extensions f') layout_is ∙ extensions_there s.layout file blocks' extensions' f' other in
         let within : k' < length (s.layout.extensions f') = subst (λ (xs : List ℕ). k' < length xs) lists m'.within in
@@ -174,11 +148,7 @@ module _ (old new : List ℕ) (t : Tree) (s : Stands old t) (file : ℕ) (node :
         let at : slice_index extensions' k' ≡ block = ap (λ (xs : List ℕ). slice_index xs k') (sym lists) ∙ m'.here in
         elim (h.extensions_from k' within) [
           | inl was ↦
-              let none : ¬ IsPointerField (most_pointers old new (slice_index extensions' k')) (i / 4) = λ w.
-              elim (extension_field old new (slice_index extensions' k') f f' i w) [
-                | inl z ↦ n (subst (λ (b : ℕ). IsField old b (roles.Extension f) i) at z)
-                | inr z ↦ n' (subst (λ (b : ℕ). IsField new b (roles.Extension f') i) at z)
-              ] in
+              let none : ¬ IsPointerField (pointer_count new (slice_index extensions' k')) (i / 4) = λ w. n (subst (λ (b : ℕ). IsField new b (roles.Extension f') i) at (extension_field new (slice_index extensions' k') f' i w)) in
               ap (λ (b : ℕ). byte_at new b i) (sym at) ∙ keeps.extension k' i was.0 within l none ∙ ap (λ (b : ℕ). byte_at old b i) at
           | inr free ↦ absurd (false≢true (sym (named_used old t s block (duty_of old t s (roles.Extension f) k) (serves_at old t s (roles.Extension f) k block m)) ∙ ap (has_free_bit old) (sym at) ∙ free.1))
         ]
@@ -186,15 +156,15 @@ module _ (old new : List ℕ) (t : Tree) (s : Stands old t) (file : ℕ) (node :
 
   -- ---- all blocks
 
-  block_kept : (k k' block i : ℕ) (role role' : Role) → i < 512 → StandsAt old t s role k block → StandsAt new v after role' k' block → Alike role role' → ¬ IsField old block role i → ¬ IsField new block role' i → byte_at new block i ≡ byte_at old block i
-  block_kept k k' block i roles.Root roles.Root l m m' alike n n' =
+  block_kept : (k k' block i : ℕ) (role role' : Role) → i < 512 → StandsAt old t s role k block → StandsAt new v after role' k' block → Alike role role' → ¬ IsField new block role' i → byte_at new block i ≡ byte_at old block i
+  block_kept k k' block i roles.Root roles.Root l m m' alike n =
       let at = root_at old t s k block m in
       ap (λ (b : ℕ). byte_at new b i) at ∙ (root_stays old new t s file node bytes found is_file blocks' extensions' bytes' h).bytes i l (λ z. z) ∙ ap (λ (b : ℕ). byte_at old b i) (sym at)
-  block_kept k k' block i roles.Page roles.Page l m m' alike n n' = absurd (n (page_longs (0, (0, 127), omega arith, refl, (omega arith, omega (arith, l)))))
-  block_kept k k' block i (roles.Entry dir r) (roles.Entry dir' r') l m m' alike n n' = entry_kept k k' dir r dir' r' block i l m m' n n'
-  block_kept k k' block i (roles.Data f) (roles.Data f') l m m' alike n n' = data_kept k k' f f' block i l m m' n n'
-  block_kept k k' block i (roles.Extension f) (roles.Extension f') l m m' alike n n' = extension_kept k k' f f' block i l m m' n n'
-  block_kept k k' block i _ _ l m m' alike n n' = absurd alike
+  block_kept k k' block i roles.Page roles.Page l m m' alike n = absurd (n (page_longs (0, (0, 127), omega arith, refl, (omega arith, omega (arith, l)))))
+  block_kept k k' block i (roles.Entry dir r) (roles.Entry dir' r') l m m' alike n = entry_kept k k' dir r dir' r' block i l m m' n
+  block_kept k k' block i (roles.Data f) (roles.Data f') l m m' alike n = data_kept k k' f f' block i l m m' n
+  block_kept k k' block i (roles.Extension f) (roles.Extension f') l m m' alike n = extension_kept k k' f f' block i l m m' n
+  block_kept k k' block i _ _ l m m' alike n = absurd alike
 
   boot_byte : (k : ℕ) → k < 1024 → slice_index new k ≡ slice_index old k
   unfolding byte_at
@@ -227,9 +197,9 @@ module _ (old new : List ℕ) (t : Tree) (s : Stands old t) (file : ℕ) (node :
   kept = record {
     size = h.leaves.same_length;
     boot = boot_kept;
-    others = λ b i role role' l r r' alike n n'.
+    others = λ b i role role' l r r' alike n.
         let at = reached_stands old t s r in
         let at' = reached_stands new v after r' in
-        block_kept at.0 at'.0 b i role role' l at.1 at'.1 alike n n';
+        block_kept at.0 at'.0 b i role role' l at.1 at'.1 alike n;
     first = λ b f g. first_kept b f;
   }

@@ -1,14 +1,20 @@
 -- A file that is stamped and then rewritten: what follows for the tree and the image.
-use Rattle.std.proofs.Common.{◌≡◌, ◌≢◌, ℕ, ◌+◌, ◌<◌, ◌≤◌, inl, inr, true, false, List, [], length, Option, Some, None, option_map, refl, sym, ap, ap₂, ◌∙◌, subst, arith, eq-eqb}
+use Rattle.std.proofs.Common.{◌≡◌, ◌≢◌, ℕ, ◌+◌, ◌/◌, ◌<◌, ◌≤◌, inl, inr, true, false, List, [], length, Option, Some, None, option_map, refl, sym, ap, ap₂, ◌∙◌, subst, arith, eq-eqb}
 use Rattle.std.proofs.lemmas.Bool.{ne_eqb, cases_eq, lt-ltb, ltb-true, false≢true}
-use Rattle.adf_block.specs.Image.{IsImage, IsInside, block_count, long, has_free_bit, free_bit_count}
+use Rattle.adf_block.specs.Image.{IsImage, IsInside, block_count, byte_at, long, has_free_bit, free_bit_count}
 use Rattle.adf_block.specs.Frame.{SameBut}
+use Rattle.adf_block.specs.Fields.{secondary_type, file_type}
 use Rattle.adf_block.proofs.Frames.{same_count}
+use Rattle.adf_block.proofs.Longs.{long-same}
 use Rattle.ados_name.specs.declared.Date3.{Date3}
+use Rattle.ados_map.specs.Pages.{NoneFreeBelow}
+use Rattle.ados_data.proofs.Bounds.{below_stays}
 use Rattle.ados_data.specs.Cost.{block_cost}
 use Rattle.ados_data.specs.File.{format_of, data_blocks, extension_blocks, contents}
 use Rattle.ados_data.specs.Changing.{HasFree, WritableFile}
-use Rattle.ados_data.specs.Others.{RisesBehind}
+use Rattle.ados_data.specs.Others.{IsDataField, RisesBehind}
+use Rattle.ados_data.specs.declared.place.Place.{Place}
+use Rattle.ados_data.specs.Place.{IsAmong, IsPlace}
 use Rattle.ados_data.specs.Unnamed.{KeepsUnnamed}
 use Rattle.ados_tree.specs.Tree.{Content, Node, Tree, root, free, content_at, size_of, bytes_of, bytes_in as bytes_held}
 use Rattle.ados_tree.specs.Tree.Content.{File}
@@ -22,7 +28,7 @@ use Rattle.ados_tree.proofs.FilesStay.{has_bytes, untold_trans}
 use Rattle.ados_tree.proofs.Standing.{root_is, IsFileNode}
 use Rattle.ados_tree.proofs.Counting.{free_bits_count}
 use Rattle.ados_tree.proofs.OneTree.{one_tree}
-use Rattle.change_bytes.specs.Stamps.{AtStamps, touched}
+use Rattle.change_bytes.specs.Stamps.{AtStamps, IsFileStamp, touched}
 use Rattle.change_bytes.specs.Renewed.{IsStamped, NeedsMore}
 use Rattle.ados_tree.proofs.Writable.{inside, key_serves, writable, data_is, extensions_is, bytes_is, format_is}
 use Rattle.change_bytes.proofs.Content.{refilled, holding, file_not_root}
@@ -30,7 +36,7 @@ use Rattle.change_bytes.proofs.Relaid.{IsRewritten}
 use Rattle.change_bytes.proofs.Refilled.{stands_after}
 use Rattle.change_bytes.proofs.BytesKept.{kept}
 use Rattle.change_bytes.proofs.NewBlocks.{takes_lowest, freed_stays, key_used}
-use Rattle.change_bytes.proofs.Stamped.{kept_before, count_marked, lowest_before, marks_same, format_same, untold_stays}
+use Rattle.change_bytes.proofs.Stamped.{kept_before, type_stamped, count_marked, lowest_before, marks_same, format_same, untold_stays}
 use Rattle.change_bytes.proofs.UntoldKept.{untold_kept}
 
 -- the node of a file's key
@@ -148,6 +154,10 @@ module _ (moment : Date3) (old mid : List ℕ) (file : ℕ) (tree : HasTree old)
   rest : SameBut (AtStamps (root tree.0) file) old mid
   rest = subst (λ (r : ℕ). SameBut (AtStamps r file) old mid) (root_is old tree.0 tree.1) h.rest
 
+  -- of the header only the stamps change
+  pub header_stamped : (k : ℕ) → k < 512 → ¬ IsFileStamp (k / 4) → byte_at mid file k ≡ byte_at old file k
+  header_stamped k l n = rest.same_byte file k l (λ w. elim w [ inl z ↦ n z.1 | inr z ↦ file_is_no_root z.0 ])
+
   -- the same blocks are marked
   pub inside_mid : (b : ℕ) → IsInside (block_count old) b → IsInside (block_count mid) b
   inside_mid b i = let count = same_count (AtStamps (root tree.0) file) old mid rest in (i.0, omega (arith, i.1, count))
@@ -155,12 +165,23 @@ module _ (moment : Date3) (old mid : List ℕ) (file : ℕ) (tree : HasTree old)
   pub marks_mid : (b : ℕ) → IsInside (block_count old) b → has_free_bit mid b ≡ has_free_bit old b
   marks_mid b i = marks_same old mid tree.0 tree.1 file node.node node.at file_is_no_root rest b i
 
+  pub below_mid : (from : ℕ) → NoneFreeBelow old from → NoneFreeBelow mid from
+  below_mid from = below_stays old mid from (same_count (AtStamps (root tree.0) file) old mid rest) (λ b i used. marks_mid b i ∙ used)
+
   -- the file's bytes are the same, and there is as much room
   pub same_contents : contents mid file ≡ contents old file
   same_contents =
       bytes_in mid mid_tree.0 mid_tree.1 file mid_key
       ∙ ap (λ (c : Option Content). bytes_held c) (touched_content tree.0)
       ∙ sym (bytes_in old tree.0 tree.1 file key)
+
+  -- it is in the same blocks, so a place in it is one still
+  pub same_place : (place : Place) → IsPlace old file place → IsPlace mid file place
+  same_place place =
+      let c = key tree.0 tree.1 in
+      let stays = untold_stays old mid tree.0 tree.1 file node.node node.at file_is_no_root rest in
+      let same = stays.other_data file c.0 (has_bytes old tree.0 tree.1 file c.0 c.1) (has_bytes mid mid_tree.0 mid_tree.1 file c.0 (touched_content tree.0 ∙ c.1)) in
+      subst (λ (xs : List ℕ). IsAmong file xs place) (sym same.extensions)
 
   pub same_room : (size : ℕ) → HasFree old file size → HasFree mid file size
   same_room size free =
@@ -184,6 +205,20 @@ module _ (moment : Date3) (old mid : List ℕ) (file : ℕ) (tree : HasTree old)
         subst (Stands new) (is_rewritten moment (contents new file) file u)
         (stands_after mid new (touched moment file u) after file f.node f.bytes f.at f.content (data_blocks new file) (extension_blocks new file) (contents new file) laid)
 
+    -- the file is one still
+    still_file : secondary_type new file ≡ file_type
+    still_file =
+        long-same mid new file 127 (λ k e. r.leaves.header k (omega (arith, e)) (beside_data (k / 4) e))
+        ∙ type_stamped old mid tree.0 tree.1 file node.node node.at file_is_no_root rest node.bytes node.content
+      where
+        beside_data : (j : ℕ) → j ≡ 127 → ¬ IsDataField j
+        beside_data j e (inl z) = omega (arith, e, z)
+        beside_data j e (inr (inl z)) = omega (arith, e, z)
+        beside_data j e (inr (inr (inl z))) = omega (arith, e, z)
+        beside_data j e (inr (inr (inr (inl z)))) = omega (arith, e, z.1)
+        beside_data j e (inr (inr (inr (inr (inl z))))) = omega (arith, e, z)
+        beside_data j e (inr (inr (inr (inr (inr z))))) = omega (arith, e, z)
+
     module _ (keeps : KeepsUnnamed mid file (data_blocks mid file) (extension_blocks mid file) new (data_blocks new file) (extension_blocks new file))
         (images : contents new file ≡ contents mid file → IsImage mid × IsImage new)
         (lowest : (c d : ℕ) → IsInside (block_count mid) d → 2 ≤ c → c < d → has_free_bit mid d ≡ true → has_free_bit new d ≡ false → has_free_bit new c ≡ false)
@@ -201,7 +236,7 @@ module _ (moment : Date3) (old mid : List ℕ) (file : ℕ) (tree : HasTree old)
           subst (λ (xs : List ℕ). KeepsUnnamed mid file xs (mid_tree.1.layout.extensions file) new (data_blocks new file) (extension_blocks new file)) blocks
           (subst (λ (xs : List ℕ). KeepsUnnamed mid file (data_blocks mid file) xs new (data_blocks new file) (extension_blocks new file)) lists keeps) in
           record {
-            kept = kept_before old mid tree.0 tree.1 file node.node node.at file_is_no_root rest new h.kept
+            kept = kept_before old mid tree.0 tree.1 file node.node node.at file_is_no_root rest new still_file h.kept
                 (kept mid new u mid_tree.1 file f.node f.bytes f.at f.content (data_blocks new file) (extension_blocks new file) (contents new file) laid unnamed);
             lowest = lowest_before old mid tree.0 tree.1 file node.node node.at file_is_no_root rest new
                 (takes_lowest mid new u mid_tree.1 file f.node f.bytes f.at f.content (data_blocks new file) (extension_blocks new file) (contents new file) laid unnamed lowest
@@ -214,8 +249,7 @@ module _ (moment : Date3) (old mid : List ℕ) (file : ℕ) (tree : HasTree old)
                   | inl z ↦ false≢true (sym (used file f.node f.at) ∙ ap (has_free_bit new) (sym z.0) ∙ free)
                   | inr z ↦ false≢true (sym at_root ∙ ap (has_free_bit new) (sym z.0) ∙ free)
                 ]);
-            untold = untold_trans old mid new tree.0 u tree.1 mid_tree.1 (same_count (AtStamps (root tree.0) file) old mid rest)
-                (format_same old mid tree.0 tree.1 file node.node node.at file_is_no_root rest)
+            untold = untold_trans old mid new tree.0 tree.1 (same_count (AtStamps (root tree.0) file) old mid rest)
                 (λ g bs is was. has_bytes mid u mid_tree.1 g bs (touched_contents tree.0 g ∙ was tree.0 tree.1))
                 (untold_stays old mid tree.0 tree.1 file node.node node.at file_is_no_root rest)
                 (untold_kept mid new u mid_tree.1 file f.node f.bytes f.at f.content (data_blocks new file) (extension_blocks new file) (contents new file) laid unnamed

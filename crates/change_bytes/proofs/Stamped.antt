@@ -1,27 +1,29 @@
 -- An image in which the moment of a change was put: all but that is as before.
-use Rattle.std.proofs.Common.{◌≡◌, ◌≢◌, ℕ, ◌+◌, ◌-◌, ◌/◌, ◌%◌, ◌^◌, ◌<◌, ◌≤◌, inl, inr, ◌==◌, not, bit_and, Bool, cond, List, [], ◌∷◌, Some, refl, sym, ap, ◌∙◌, subst, arith}
+use Rattle.std.proofs.Common.{◌≡◌, ◌≢◌, ℕ, ◌+◌, ◌-◌, ◌/◌, ◌%◌, ◌^◌, ◌<◌, ◌≤◌, inl, inr, ◌==◌, not, bit_and, Bool, cond, List, Some, None, refl, sym, ap, ◌∙◌, subst, arith}
 use Rattle.adf_block.specs.Image.{block_count, root_key, page_count, IsInside, byte_at, long, has_free_bit, free_bit_count, total}
-use Rattle.adf_block.specs.Fields.{name_byte, comment_byte}
+use Rattle.adf_block.specs.Fields.{secondary_type, file_type}
 use Rattle.adf_block.specs.Frame.{SameBut}
 use Rattle.adf_block.proofs.Frames.{same_long, same_count}
 use Rattle.adf_block.proofs.Totals.{total-same}
 use Rattle.ados_map.specs.Pages.{page_block, pages_of}
 use Rattle.ados_data.specs.File.{format_of}
 use Rattle.ados_tree.specs.Tree.{Node, Tree, root}
+use Rattle.ados_tree.specs.Tree.Content.{File}
 use Rattle.ados_tree.specs.Layout.{Duty, HasDuty}
-use Rattle.ados_tree.specs.Stands.{Stands}
+use Rattle.ados_tree.specs.Stands.{Stands, type_of}
 use Rattle.ados_tree.specs.declared.role.Role.{Role}
 use Rattle.ados_tree.specs.declared.role.Role.TheVariants as roles
 use Rattle.ados_tree.specs.Faults.{IsPlace, IsPointer, IsFile, Reached}
 use Rattle.ados_tree.specs.Faults.IsPlace.{root_page, root_slot, directory_slot, next_entry, header_pointer, first_extension, extension_pointer, further_extension}
 use Rattle.ados_tree.specs.Faults.Reached.{start, named}
-use Rattle.ados_tree.specs.Kept.{Kept, IsField, Alike, InLongs, InText}
-use Rattle.ados_tree.specs.Kept.IsField.{root_longs, root_name, page_longs, directory_longs, file_longs, entry_name, entry_comment, extension_longs, ofs_data_longs, ofs_data, ffs_data}
+use Rattle.ados_tree.specs.Kept.{Kept, IsField, Alike}
+use Rattle.ados_tree.specs.Kept.IsField.{root_longs, file_longs}
 use Rattle.ados_tree.specs.NewBlocks.{IsTaken, TakesLowest}
 use Rattle.ados_tree.specs.Untold.{KeepsUntold, data_at}
 use Rattle.ados_tree.proofs.FilesStay.{data_blocks_stay, data_serves, extension_blocks_stay, file_of_key, files_stay}
 use Rattle.ados_tree.proofs.Keeping.{first_stays, keeps_first_since}
-use Rattle.ados_tree.proofs.Standing.{count_same, root_is, reached_stands, root_at}
+use Rattle.ados_tree.proofs.Nodes.{root_or_parent}
+use Rattle.ados_tree.proofs.Standing.{StandsAt, count_same, entry_at, root_is, reached_stands, root_at, serves_at}
 use Rattle.change_bytes.specs.Stamps.{IsFileStamp, IsDiskStamp, AtStamps}
 use Rattle.ados_tree.proofs.Writable.{key_serves, page_serves}
 
@@ -30,7 +32,6 @@ data IsPlain (j : ℕ) : Type 0 where
   front : j < 5 → IsPlain j
   table : 6 ≤ j → j < 80 → IsPlain j
   texts : 80 < j → j < 105 → IsPlain j
-  names : 107 < j → j < 118 → IsPlain j
   back : 120 < j → IsPlain j
 
 plain_file : (j : ℕ) → IsPlain j → ¬ IsFileStamp j
@@ -43,9 +44,6 @@ plain_file j (table l m) (inr (inr e)) = omega (arith, m, e.0)
 plain_file j (texts l m) (inl e) = omega (arith, l, e)
 plain_file j (texts l m) (inr (inl e)) = omega (arith, l, e)
 plain_file j (texts l m) (inr (inr e)) = omega (arith, m, e.0)
-plain_file j (names l m) (inl e) = omega (arith, l, e)
-plain_file j (names l m) (inr (inl e)) = omega (arith, l, e)
-plain_file j (names l m) (inr (inr e)) = omega (arith, l, e.1)
 plain_file j (back l) (inl e) = omega (arith, l, e)
 plain_file j (back l) (inr (inl e)) = omega (arith, l, e)
 plain_file j (back l) (inr (inr e)) = omega (arith, l, e.1)
@@ -57,8 +55,6 @@ plain_disk j (table l m) (inl e) = omega (arith, l, e)
 plain_disk j (table l m) (inr e) = omega (arith, m, e.0)
 plain_disk j (texts l m) (inl e) = omega (arith, l, e)
 plain_disk j (texts l m) (inr e) = omega (arith, m, e.0)
-plain_disk j (names l m) (inl e) = omega (arith, l, e)
-plain_disk j (names l m) (inr e) = omega (arith, m, e.0)
 plain_disk j (back l) (inl e) = omega (arith, l, e)
 plain_disk j (back l) (inr e) = omega (arith, l, e.1)
 
@@ -132,44 +128,54 @@ module _ (old new : List ℕ) (t : Tree) (s : Stands old t) (file : ℕ) (node :
       let inside' : IsInside (block_count new) (long new b i) = (omega (arith, inside.0, m.link), omega (arith, inside.1, m.link, count)) in
       subst (λ (c : ℕ). Reached new c next) m.link (named (reached_moves r) m.place inside')
 
-  text_back : (b at i : ℕ) → at < 512 → IsPlain (at / 4) → InText new b at i → InText old b at i
-  text_back b at i l p f = let same = plain_byte b at l p in (f.0, omega (arith, f.1, same))
-
   ofs_back : byte_at new 0 3 ≡ byte_at old 0 3
   ofs_back = plain_byte 0 3 (omega arith) (front (omega arith))
 
-  -- a field is one as before
-  pub field_back : (b i : ℕ) (role : Role) → IsField new b role i → IsField old b role i
-  field_back b i _ (root_longs f) = root_longs (subst (λ (n : ℕ). InLongs ((0, 0) ∷ (3, 3) ∷ (5, 78) ∷ (79, 78 + page_count n) ∷ (105, 107) ∷ (118, 123) ∷ (125, 125) ∷ (127, 127) ∷ []) i) count f)
-  field_back b i _ (root_name f) = root_name (text_back b name_byte i (omega arith) (names (omega arith) (omega arith)) f)
-  field_back b i _ (page_longs f) = page_longs f
-  field_back b i _ (directory_longs e f) = directory_longs (sym (plain_long b 127 (omega arith) (back (omega arith))) ∙ e) f
-  field_back b i _ (file_longs e f) =
-      file_longs (sym (plain_long b 127 (omega arith) (back (omega arith))) ∙ e)
-      (subst (λ (n : ℕ). InLongs ((0, 2) ∷ (4, 5) ∷ (78 - n, 77) ∷ (80, 81) ∷ (105, 107) ∷ (124, 127) ∷ []) i) (plain_long b 2 (omega arith) (front (omega arith))) f)
-  field_back b i _ (entry_name f) = entry_name (text_back b name_byte i (omega arith) (names (omega arith) (omega arith)) f)
-  field_back b i _ (entry_comment f) = entry_comment (text_back b comment_byte i (omega arith) (texts (omega arith) (omega arith)) f)
-  field_back b i _ (extension_longs f) = extension_longs (subst (λ (n : ℕ). InLongs ((0, 2) ∷ (5, 5) ∷ (78 - n, 77) ∷ (125, 127) ∷ []) i) (plain_long b 2 (omega arith) (front (omega arith))) f)
-  field_back b i _ (ofs_data_longs o f) = ofs_data_longs (sym ofs_back ∙ o) f
-  field_back b i _ (ofs_data o l m) = ofs_data (sym ofs_back ∙ o) l (let same = plain_long b 3 (omega arith) (front (omega arith)) in omega (arith, m, same))
-  field_back b i _ (ffs_data n) = ffs_data (λ z. n (ofs_back ∙ z))
+  -- the file is one still
+  pub type_stamped : (bytes : List ℕ) → node.content ≡ File bytes → secondary_type new file ≡ file_type
+  type_stamped bytes is = elim (root_or_parent t s.proper file node found) [
+    | inl e ↦ absurd (not_root e)
+    | inr p ↦ plain_long file 127 (omega arith) (back (omega arith)) ∙ (s.entries file p.0 node found p.1).secondary ∙ ap type_of is
+  ]
 
-  alike_self : (role : Role) → Alike role role
-  alike_self roles.Root = tt
-  alike_self roles.Page = tt
-  alike_self (roles.Entry dir r) = tt
-  alike_self (roles.Data f) = tt
-  alike_self (roles.Extension f) = tt
+  -- what is stamped is part of a field, also where the file is then rewritten
+  stamp_field : (last : List ℕ) → secondary_type last file ≡ file_type → (b i : ℕ) (role role' : Role) → Reached old b role → Alike role role' → AtStamps (root t) file b i → IsField last b role' i
+  stamp_field last typed b i role role' r alike w = let at = reached_stands old t s r in go at.0 role role' at.1 alike w
+    where
+      of_file : (dir q : ℕ) → IsFileStamp (i / 4) → IsField last file (roles.Entry dir q) i
+      of_file dir q (inl e) = file_longs typed (1, (4, 5), omega arith, refl, (omega (arith, e), omega (arith, e)))
+      of_file dir q (inr (inl e)) = file_longs typed (3, (80, 81), omega arith, refl, (omega (arith, e), omega (arith, e)))
+      of_file dir q (inr (inr e)) = file_longs typed (4, (105, 107), omega arith, refl, (omega (arith, e.0), omega (arith, e.1)))
+
+      of_root : IsDiskStamp (i / 4) → IsField last b roles.Root i
+      of_root (inl e) = root_longs (2, (5, 78), omega arith, refl, (omega (arith, e), omega (arith, e)))
+      of_root (inr e) = root_longs (5, (118, 123), omega arith, refl, (omega (arith, e.0), omega (arith, e.1)))
+
+      no_root : (k dir q : ℕ) → StandsAt old t s (roles.Entry dir q) k b → b ≢ root t
+      no_root k dir q at e =
+          let n = entry_at old t s dir q k b at in
+          let at_root : t.nodes b ≡ Some s.proper.root_node.0 = ap t.nodes e ∙ s.proper.root_node.1 in
+          let one : n.node ≡ s.proper.root_node.0 = cc (n.at, at_root) in
+          let none : n.node.parent ≡ None = ap (λ (x : Node). x.parent) one ∙ s.proper.root_node.2.no_parent in
+          cc (none, n.parent)
+
+      go : (k : ℕ) (role role' : Role) → StandsAt old t s role k b → Alike role role' → AtStamps (root t) file b i → IsField last b role' i
+      go k roles.Root roles.Root at alike (inl w) = absurd (not_root (sym w.0 ∙ root_at old t s k b at))
+      go k roles.Root roles.Root at alike (inr w) = of_root w.1
+      go k (roles.Entry dir q) (roles.Entry dir' q') at alike (inl w) = subst (λ (x : ℕ). IsField last x (roles.Entry dir' q') i) (sym w.0) (of_file dir' q' w.1)
+      go k (roles.Entry dir q) (roles.Entry dir' q') at alike (inr w) = absurd (no_root k dir q at w.0)
+      go k roles.Page roles.Page at alike w = absurd (block_stays b (Duty.Page k) (serves_at old t s roles.Page k b at) (λ z. cc z) i w)
+      go k (roles.Data f) (roles.Data f') at alike w = absurd (block_stays b (Duty.Data f k) (serves_at old t s (roles.Data f) k b at) (λ z. cc z) i w)
+      go k (roles.Extension f) (roles.Extension f') at alike w = absurd (block_stays b (Duty.Extension f k) (serves_at old t s (roles.Extension f) k b at) (λ z. cc z) i w)
+      go k _ _ at alike w = absurd alike
 
   -- what is kept then is kept from before
-  pub kept_before : (last : List ℕ) → Kept old new → Kept new last → Kept old last
-  kept_before last k g = record {
+  pub kept_before : (last : List ℕ) → secondary_type last file ≡ file_type → Kept old new → Kept new last → Kept old last
+  kept_before last typed k g = record {
     size = g.size ∙ k.size;
     boot = g.boot ∙ k.boot;
-    others = λ b i role role' l r r' alike n n'.
-        let moved = reached_moves r in
-        let none : ¬ IsField new b role i = λ f. n (field_back b i role f) in
-        g.others b i role role' l moved r' alike none n' ∙ k.others b i role role l r moved (alike_self role) n none;
+    others = λ b i role role' l r r' alike n.
+        g.others b i role role' l (reached_moves r) r' alike n ∙ h.same_byte b i l (λ w. n (stamp_field last typed b i role role' r alike w));
     first = λ b f f'.
         let moved : IsFile new b = record { dir = f.dir; slot_of_chain = f.slot_of_chain; reached = reached_moves f.reached; secondary = plain_long b 127 (omega arith) (back (omega arith)) ∙ f.secondary } in
         let firsts = first_stays old new b (plain_long b 2 (omega arith) (front (omega arith))) (λ i l. plain_long b (77 - i) (omega arith) (table (omega (arith, l)) (omega arith))) in

@@ -19,7 +19,7 @@ use Rattle.change_fields.specs.Told.{dated, protected}
 use Rattle.change_bytes.specs.Stamps.{AtStamps, touched}
 use Rattle.change_bytes.specs.Renewed.{IsStamped}
 use Rattle.change_bytes.proofs.Content.{file_not_root}
-use Rattle.change_bytes.proofs.Stamped.{kept_before}
+use Rattle.change_bytes.proofs.Stamped.{kept_before, type_stamped}
 use Rattle.change_bytes.proofs.Renewed.{file_node}
 
 abbrev with_bits : ℕ → Node → Node
@@ -121,8 +121,9 @@ module _ (moment : Date3) (bits file : ℕ) (old first : List ℕ) (tree : HasTr
       all_kept =
           let f = file_node old tree.0 tree.1 file key in
           let at : (protected file bits tree.0).nodes file ≡ Some (with_bits bits f.node) = rw (eq-eqb file file refl, f.at) refl in
-          kept_before old first tree.0 tree.1 file f.node f.at file_not first_same new first_kept
-          (kept_before first second (protected file bits tree.0) (first_stands tree.0 tree.1) file (with_bits bits f.node) at file_not second_same new second_kept third_kept)
+          let typed = type_stamped old new tree.0 tree.1 file f.node f.at file_not all_same f.bytes f.content in
+          kept_before old first tree.0 tree.1 file f.node f.at file_not first_same new typed first_kept
+          (kept_before first second (protected file bits tree.0) (first_stands tree.0 tree.1) file (with_bits bits f.node) at file_not second_same new typed second_kept third_kept)
 
       pub is_stamped : IsStamped moment old file new
       is_stamped = record {

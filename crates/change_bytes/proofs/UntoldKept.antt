@@ -1,5 +1,5 @@
 -- A file that is rewritten keeps what no tree tells of.
-use Rattle.std.proofs.Common.{◌≡◌, ◌≢◌, ℕ, zero, suc, ◌+◌, ◌-◌, ◌*◌, ◌/◌, ◌%◌, ◌<◌, ◌≤◌, inl, inr, min, max, List, ◌∷◌, length, slice_index, Some, option_map, refl, sym, ap, ap₂, ◌∙◌, subst, arith}
+use Rattle.std.proofs.Common.{◌≡◌, ◌≢◌, ℕ, zero, suc, ◌+◌, ◌-◌, ◌*◌, ◌/◌, ◌%◌, ◌<◌, ◌≤◌, inl, inr, min, List, ◌∷◌, length, slice_index, Some, option_map, refl, sym, ap, ap₂, ◌∙◌, subst, arith}
 use Rattle.std.proofs.lemmas.Bool.{cases_eq, cases_lt}
 use Rattle.std.proofs.lemmas.List.{ext_get_or}
 use Rattle.adf_block.specs.declared.Format.{Format}
@@ -9,7 +9,7 @@ use Rattle.adf_block.specs.Image.{IsImage, byte_at, long}
 use Rattle.adf_block.proofs.Longs.{long-same}
 use Rattle.ados_data.specs.Cost.{data_size, data_start, data_count, extension_count}
 use Rattle.ados_data.specs.File.{HasFile, HasOfsData, IsLawful, data_blocks, extension_blocks, file_byte, format_of}
-use Rattle.ados_data.specs.Unnamed.{KeepsUnnamed, data_end, larger_size}
+use Rattle.ados_data.specs.Unnamed.{KeepsUnnamed, data_end}
 use Rattle.ados_data.proofs.Chains.{next_of}
 use Rattle.ados_data.proofs.Spelled.{data_blocks_are, extension_blocks_are}
 use Rattle.ados_tree.specs.Tree.{Node, Tree, content_at}
@@ -17,7 +17,7 @@ use Rattle.ados_tree.specs.Tree.Content.{File}
 use Rattle.ados_tree.specs.Layout.{Layout}
 use Rattle.ados_tree.specs.Stands.{Stands}
 use Rattle.ados_tree.specs.Keys.{HasFileKey}
-use Rattle.ados_tree.specs.Untold.{AgreeInFront, HasData, HasFileBytes, KeepsData, KeepsFileEnd, KeepsUntold, data_at}
+use Rattle.ados_tree.specs.Untold.{AgreeInFront, HasData, HasFileBytes, IsBehindEnd, KeepsData, KeepsFileEnd, KeepsUntold, data_at}
 use Rattle.ados_tree.proofs.FilesStay.{end_of_data, file_of_key, has_bytes}
 use Rattle.ados_tree.proofs.Writable.{data_is, extensions_is, format_is, is_lawful}
 use Rattle.change_bytes.proofs.Content.{refilled, here, there}
@@ -25,12 +25,7 @@ use Rattle.change_bytes.proofs.Relaid.{ComesFrom, IsRewritten, relaid, data_ther
 use Rattle.change_bytes.proofs.Refilled.{data_stays, layout_after, stands_after}
 use Rattle.change_bytes.proofs.SameBlock.{bytes_same}
 
--- a byte of a block that a file has, behind the file's bytes in two images, stands behind the larger of its sizes
-end_at : (f : Format) (a b q i : ℕ) → q < data_count f a → a + data_start f ≤ data_size f * q + i → b + data_start f ≤ data_size f * q + i → data_end f (max a b) q ≤ i
-end_at Ofs a b q i l x y = omega (arith, l, x, y)
-end_at Ffs a b q i l x y = omega (arith, l, x, y)
-
--- and behind its only size
+-- a byte of a block that a file has, behind the file's bytes, stands behind their end there
 end_here : (f : Format) (a q i : ℕ) → q < data_count f a → a + data_start f ≤ data_size f * q + i → data_end f a q ≤ i
 end_here Ofs a q i l x = omega (arith, l, x)
 end_here Ffs a q i l x = omega (arith, l, x)
@@ -90,24 +85,26 @@ module _ (old new : List ℕ) (t : Tree) (s : Stands old t) (file : ℕ) (node :
   of_old : (n q i : ℕ) → n + data_start (format_of new) ≤ data_size (format_of new) * q + i → n + data_start (format_of old) ≤ data_size (format_of old) * q + i
   of_old n q i l = subst (λ (f : Format). n + data_start f ≤ data_size f * q + i) h.format l
 
+  behind_end : (q i : ℕ) → q < length blocks' → IsBehindEnd new file q i → data_end (format_of old) (file_size new file) q ≤ i
+  behind_end q i m y =
+      let place : q < data_count (format_of old) (file_size new file) = omega (arith, m, h.writable.lawful.data_fits ∙ ap₂ data_count h.format (sym h.writable.lawful.holds.size)) in
+      end_here (format_of old) (file_size new file) q i place (of_old (file_size new file) q i y.behind)
+
   file_end : KeepsFileEnd old new file
   file_end = record {
     blocks = blocks_front;
     extensions = extensions_front;
     stays = λ q i x y.
-        let l : q < length blocks = subst (λ (xs : List ℕ). q < length xs) old_blocks x.block in
+        let l : q < length blocks = subst (λ (xs : List ℕ). q < length xs) old_blocks x in
         let m : q < length blocks' = subst (λ (xs : List ℕ). q < length xs) new_blocks y.block in
-        let place : q < data_count (format_of old) (file_size old file) = omega (arith, l, before.data_fits ∙ ap (data_count (format_of old)) (sym before.holds.size)) in
-        let end = end_at (format_of old) (file_size old file) (file_size new file) q i place x.behind (of_old (file_size new file) q i y.behind) in
         ap (λ (xs : List ℕ). byte_at new (slice_index xs q) i) new_blocks
-        ∙ keeps.slack q i l m x.byte end
-        ∙ ap (λ (c : ℕ). byte_at old c i) (ap (λ (xs : List ℕ). slice_index xs q) (sym new_blocks) ∙ blocks_front q x.block y.block);
+        ∙ keeps.slack q i l m y.byte (behind_end q i m y)
+        ∙ ap (λ (c : ℕ). byte_at old c i) (ap (λ (xs : List ℕ). slice_index xs q) (sym new_blocks) ∙ blocks_front q x y.block);
     zero = λ q i none y.
         let m : q < length blocks' = subst (λ (xs : List ℕ). q < length xs) new_blocks y.block in
         let over : length blocks ≤ q = elim (cases_lt q (length blocks)) [ inl l ↦ absurd (none (subst (λ (xs : List ℕ). q < length xs) (sym old_blocks) l)) | inr l ↦ l ] in
-        let place : q < data_count (format_of old) (file_size new file) = omega (arith, m, h.writable.lawful.data_fits ∙ ap₂ data_count h.format (sym h.writable.lawful.holds.size)) in
         ap (λ (xs : List ℕ). byte_at new (slice_index xs q) i) new_blocks
-        ∙ keeps.new_data q i over m y.byte (end_here (format_of old) (file_size new file) q i place (of_old (file_size new file) q i y.behind));
+        ∙ keeps.new_data q i over m y.byte (behind_end q i m y);
   }
 
   -- ---- other files
@@ -154,8 +151,7 @@ module _ (old new : List ℕ) (t : Tree) (s : Stands old t) (file : ℕ) (node :
 
     slack_same : (f : Format) → format_of old ≡ f → (q i : ℕ) → q < length blocks → i < 512 → data_end f (length bytes) q ≤ i → byte_at new (slice_index blocks q) i ≡ byte_at old (slice_index blocks q) i
     slack_same f e q i l m end =
-        let larger : larger_size old new file ≡ length bytes = omega (arith, before.holds.size, same_file.size) in
-        let behind : data_end (format_of old) (larger_size old new file) q ≤ i = subst (λ (n : ℕ). data_end (format_of old) n q ≤ i) (sym larger) (subst (λ (g : Format). data_end g (length bytes) q ≤ i) (sym e) end) in
+        let behind : data_end (format_of old) (file_size new file) q ≤ i = subst (λ (n : ℕ). data_end (format_of old) n q ≤ i) (sym same_file.size) (subst (λ (g : Format). data_end g (length bytes) q ≤ i) (sym e) end) in
         let within : q < length blocks' = subst (λ (xs : List ℕ). q < length xs) (sym same_blocks) l in
         subst (λ (xs : List ℕ). byte_at new (slice_index xs q) i ≡ byte_at old (slice_index xs q) i) same_blocks (keeps.slack q i l within m behind)
 

@@ -1,6 +1,7 @@
 //! Room for a file's bytes.
 
 ghost use Rattle.std.specs.Prelude.{◌≡◌, MatchBool};
+ghost use Rattle.ados_map.specs.Pages.{NoneFreeBelow};
 ghost use Rattle.ados_data.specs.Changing.{HasFree};
 ghost use Rattle.ados_tree.specs.Keys.{HasFileKey, HasTree};
 ghost use Rattle.ados_tree.specs.Stands.{Stands};
@@ -9,7 +10,7 @@ ghost use Rattle.ados_tree.specs.Tree.{Tree, size_of};
 use adf_block::Image;
 use adf_block::layout::SIZE;
 use ados_data::blocks_of;
-use ados_map::count_free;
+use ados_map::has_free;
 
 /// The size of a file in bytes.
 pub fn size_of(image: &Image, file: u32) -> u32
@@ -20,13 +21,14 @@ pub fn size_of(image: &Image, file: u32) -> u32
     image.long(file, SIZE)
 }
 
-/// Whether there are as many free blocks as a file of this size needs more than it has.
-pub fn has_room(image: &Image, file: u32, size: u64) -> bool
+/// Whether there are as many free blocks as a file of this size needs more than it has; none is below `from`.
+pub fn has_room(image: &Image, file: u32, size: u64, from: u32) -> bool
     requires tree { HasTree image.now }
     requires file { HasFileKey image.now file }
+    requires below { NoneFreeBelow image.now from }
     ensures { MatchBool result (HasFree image.now file size) (¬ HasFree image.now file size) }
 {
     let format = image.format();
     let held = blocks_of(format, size_of(image, file) as u64);
-    blocks_of(format, size) <= count_free(image) as u64 + held
+    has_free(image, from, blocks_of(format, size).saturating_sub(held))
 }

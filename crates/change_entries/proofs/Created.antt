@@ -1,11 +1,11 @@
 -- The steps by which an entry is made.
-use Rattle.std.proofs.Common.{◌≡◌, ◌≢◌, ℕ, ◌+◌, ◌<◌, inl, inr, List, false, Some, IsSome, refl, sym, ap, ◌∙◌, subst, arith}
-use Rattle.std.proofs.lemmas.Bool.{cases_eq}
+use Rattle.std.proofs.Common.{◌≡◌, ◌≢◌, ℕ, ◌+◌, ◌/◌, ◌<◌, inl, inr, Bool, List, true, false, Some, is_some, IsSome, refl, sym, ap, ◌∙◌, subst, arith}
+use Rattle.std.proofs.lemmas.Bool.{cases_eq, false≢true}
 use Rattle.adf_block.specs.Frame.{OnlyBlock, SameBut}
-use Rattle.adf_block.specs.Image.{HasFreeBit, block_count, root_key}
+use Rattle.adf_block.specs.Image.{HasFreeBit, IsInside, block_count, has_free_bit, root_key}
 use Rattle.adf_block.proofs.Frames.{same_count, same_trans}
 use Rattle.ados_map.specs.Changes.{MapPlace, BitChanged}
-use Rattle.ados_map.specs.Pages.{IsLowestFree, LawfulPages, page_of, pages_of}
+use Rattle.ados_map.specs.Pages.{IsLowestFree, LawfulPages, NoneFreeBelow, page_of, pages_of}
 use Rattle.ados_name.specs.declared.Date3.{Date3}
 use Rattle.ados_chain.proofs.Changes.{slot_at-small}
 use Rattle.ados_chain.specs.Chains.{LawfulChains, slot_at}
@@ -33,7 +33,7 @@ use Rattle.change_entries.proofs.Loose.{Loose, proper_is_loose}
 use Rattle.change_entries.proofs.Making.{begun_spells, made_spells, made_stands, no_duty, unused}
 use Rattle.change_entries.proofs.ProperChanges.{IsDirectoryNode, begun_is_loose, dir_not_key, directory_at}
 use Rattle.change_entries.proofs.Relisted.{IsLinkPlace}
-use Rattle.change_entries.proofs.Spared.{keeps_freed}
+use Rattle.change_entries.proofs.Spared.{keeps_freed, was_free}
 use Rattle.change_entries.proofs.Spells.{Spells, spells}
 use Rattle.change_entries.proofs.UntoldKept.{IsOffMap, bit_past_end, dated_off, filled_off, linked_off, off_past_end, old_pages, pages_after, stamped_off, untold_kept}
 
@@ -160,6 +160,9 @@ module _ (old m1 m2 : List ℕ) (t : Tree) (st : Stands old t) (moment : Date3) 
       no_root : key ≢ root t
       no_root e = cc (sym fresh.no_node ∙ ap t.nodes e ∙ st.proper.root_node.1)
 
+      is_none : (k : ℕ) → k ≡ key → IsSome (t.nodes k) → ⊥
+      is_none k e some = false≢true (sym (ap is_some (ap t.nodes e ∙ fresh.no_node)) ∙ some)
+
       created_lowest : TakesLowest old m5
       created_lowest =
           takes_key m2 m5 key dir name (content_of kind) moment entry
@@ -193,11 +196,24 @@ module _ (old m1 m2 : List ℕ) (t : Tree) (st : Stands old t) (moment : Date3) 
 
       pub created_keeps : KeepsRest old m5
       created_keeps =
-          let root_some : IsSome (t.nodes (root t)) = rw st.proper.root_node.1 refl in
           record {
             kept = written_kept old m5 t st created_written;
             lowest = created_lowest;
             freed = keeps_freed old m5 t (made moment dir key name (content_of kind) t) st after refl refl created_written
-                (made_other moment dir key name (content_of kind) t (root t) (λ e. no_root (sym e)) ∙ root_some);
+                (λ k some. made_other moment dir key name (content_of kind) t k (λ e. is_none k e some) ∙ some);
             untold = untold_kept old m5 t (made moment dir key name (content_of kind) t) st after created.proper created_written past_end;
           }
+
+      -- the key was the lowest free block, and no block became free
+      pub created_below : NoneFreeBelow m5 key
+      created_below k inside lt = go (has_free_bit m5 k) refl
+        where
+          here : IsInside (block_count old) k
+          here = subst (λ (n : ℕ). IsInside (n / 512) k) created_written.same_length inside
+
+          go : (v : Bool) → has_free_bit m5 k ≡ v → has_free_bit m5 k ≡ false
+          go false e = e
+          go true e =
+              absurd (false≢true (sym (low.lowest k inside.0 lt)
+              ∙ was_free old m5 t (made moment dir key name (content_of kind) t) st after refl refl k here
+              (λ some. made_other moment dir key name (content_of kind) t k (λ same. omega (arith, lt, same)) ∙ some) e))

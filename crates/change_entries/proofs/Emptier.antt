@@ -1,8 +1,9 @@
 -- A file is emptied before it is taken away; a directory has nothing in it.
-use Rattle.std.proofs.Common.{◌≡◌, ◌≢◌, ℕ, ◌/◌, ◌<◌, List, slice_index, take, Option, Some, None, IsSome, option_map, option_and_then, refl, sym, ap, ◌∙◌, subst, arith}
-use Rattle.adf_block.specs.Fields.{secondary_type, file_type}
+use Rattle.std.proofs.Common.{◌≡◌, ◌≢◌, ℕ, ◌/◌, ◌<◌, inl, inr, List, take, Option, Some, None, IsSome, option_map, option_and_then, refl, sym, ap, ◌∙◌, subst, arith}
+use Rattle.adf_block.specs.Fields.{secondary_type, file_type, pointer_count_long, next_data, sum_long, protection_long, size_long, date_long, next_in_chain, next_extension}
 use Rattle.adf_block.specs.Image.{block_count, byte_at}
-use Rattle.adf_block.proofs.Blocks.{byte-bytes_at}
+use Rattle.std.proofs.lemmas.Bool.{cases_eq}
+use Rattle.ados_data.specs.Cut.{IsCutField}
 use Rattle.ados_name.specs.declared.Date3.{Date3}
 use Rattle.ados_tree.specs.Change.{changed, left, removed, shortened, without_archive}
 use Rattle.ados_tree.specs.Stands.{Stands, type_of}
@@ -12,13 +13,15 @@ use Rattle.ados_tree.specs.Faults.{InImage}
 use Rattle.ados_tree.specs.Keys.{HasEntryKey, HasFileKey}
 use Rattle.ados_tree.specs.Untold.{HasFileBytes, KeepsUntold}
 use Rattle.ados_tree.proofs.FilesStay.{has_bytes, untold_trans}
-use Rattle.ados_tree.specs.Kept.{Kept}
+use Rattle.ados_tree.specs.Kept.{Kept, date_longs, one_long}
 use Rattle.ados_tree.specs.NewBlocks.{KeepsRest, TakesNone}
 use Rattle.ados_tree.proofs.Keeping.{none_taken}
 use Rattle.ados_tree.proofs.Nodes.{parent_in}
 use Rattle.ados_tree.proofs.OneTree.{one_tree}
+use Rattle.change_bytes.specs.Cuts.{KeepsHeader}
+use Rattle.change_bytes.specs.Stamps.{IsFileStamp}
 use Rattle.change_entries.specs.Conditions.{CanRemove}
-use Rattle.change_entries.specs.steps.Emptied.{Empties, GivesBack, IsEmptied}
+use Rattle.change_entries.specs.steps.Emptied.{Empties, GivesBack, IsEmptied, KeepsEntry}
 use Rattle.change_entries.proofs.Changed.{nodes_here, nodes_other}
 use Rattle.change_entries.proofs.Emptying.{removed_same}
 use Rattle.change_entries.proofs.Loose.{not_own_parent}
@@ -61,6 +64,22 @@ module _ (old : List ℕ) (t : Tree) (st : Stands old t) (key : ℕ) (can : CanR
       go (Directory keys) d at = absurd (omega (arith, d))
       go (File bytes) d at = (bytes, at)
 
+  -- a file that is cut keeps the rest of its header
+  pub entry_cut : (new : List ℕ) → KeepsHeader key old new → KeepsEntry key old new
+  entry_cut new h i l beside = h i l cut stamp
+    where
+      cut : ¬ IsCutField (i / 4)
+      cut (inl e) = beside (0, one_long pointer_count_long, omega arith, refl, (omega (arith, e), omega (arith, e)))
+      cut (inr (inl e)) = beside (1, (next_data, sum_long), omega arith, refl, (omega (arith, e), omega (arith, e)))
+      cut (inr (inr (inl e))) = beside (1, (next_data, sum_long), omega arith, refl, (omega (arith, e), omega (arith, e)))
+      cut (inr (inr (inr (inl e)))) = beside (2, (protection_long, size_long), omega arith, refl, (omega (arith, e), omega (arith, e)))
+      cut (inr (inr (inr (inr e)))) = beside (5, one_long next_extension, omega arith, refl, (omega (arith, e), omega (arith, e)))
+
+      stamp : ¬ IsFileStamp (i / 4)
+      stamp (inl e) = beside (1, (next_data, sum_long), omega arith, refl, (omega (arith, e), omega (arith, e)))
+      stamp (inr (inl e)) = beside (2, (protection_long, size_long), omega arith, refl, (omega (arith, e), omega (arith, e)))
+      stamp (inr (inr e)) = beside (3, date_longs date_long, omega arith, refl, (omega (arith, e.0), omega (arith, e.1)))
+
   module _ (moment : Date3) where
     pub kept_as_is : secondary_type old key ≢ file_type → IsEmptied moment key t t
     kept_as_is n = record { can = can; no_bytes = not_file n; others = λ k o. refl; same = refl }
@@ -98,7 +117,7 @@ module _ (moment : Date3) (key : ℕ) (old mid : List ℕ) (t : Tree) (st : Stan
   taken_away new gone = subst (Stands new) emptied.2.same (gone emptied.0 emptied.1)
 
 -- what emptying the entry and then taking it away keeps
-module _ (key : ℕ) (old mid new : List ℕ) (t : Tree) (st : Stands old t) (can : CanRemove t key) (empties : KeepsRest old mid) (none : TakesNone old mid) (kept : Kept old new) (gives : GivesBack key mid new) where
+module _ (key : ℕ) (old mid new : List ℕ) (t : Tree) (st : Stands old t) (can : CanRemove t key) (empties : KeepsRest old mid) (none : TakesNone old mid) (kept : Kept old new) (gives : GivesBack key mid new) (own : KeepsEntry key old mid) where
   in_mid : (b : ℕ) → InImage old b → InImage mid b
   in_mid b i = (i.0, omega (arith, i.1, ap (λ (n : ℕ). n / 512) empties.kept.size))
 
@@ -109,9 +128,7 @@ module _ (key : ℕ) (old mid new : List ℕ) (t : Tree) (st : Stands old t) (ca
   module _ (moment : Date3) (emptied : Empties moment key old mid) (untold : KeepsUntold mid new) (away : Stands new (removed moment key t)) where
     untold_away : KeepsUntold old new
     untold_away =
-        let between = emptied t st in
-        let kind : byte_at mid 0 3 ≡ byte_at old 0 3 = sym (byte-bytes_at mid 0 0 1024 3 (omega arith)) ∙ ap (λ (xs : List ℕ). slice_index xs 3) empties.kept.boot ∙ byte-bytes_at old 0 0 1024 3 (omega arith) in
-        untold_trans old mid new t between.0 st between.1 (ap (λ (n : ℕ). n / 512) empties.kept.size) (rw kind refl) same empties.untold untold
+        untold_trans old mid new t st (ap (λ (n : ℕ). n / 512) empties.kept.size) same empties.untold untold
       where
         same : (file : ℕ) (bytes : List ℕ) → HasFileKey new file → HasFileBytes old file bytes → HasFileBytes mid file bytes
         same file bytes is was =
@@ -122,12 +139,18 @@ module _ (key : ℕ) (old mid new : List ℕ) (t : Tree) (st : Stands old t) (ca
             cc (none, some) in
             has_bytes mid between.0 between.1 file bytes (ap (option_map (λ (a : Node). a.content)) (between.2.others file not_key) ∙ was t st)
 
+    own_kept : KeepsEntry key old new
+    own_kept i l beside =
+        gives.own i l (λ e. beside (4, one_long next_in_chain, omega arith, refl, (omega (arith, e), omega (arith, e)))) (λ e. beside (1, (next_data, sum_long), omega arith, refl, (omega (arith, e), omega (arith, e))))
+        ∙ own i l beside
+
     pub keeps_away : KeepsRest old new
     keeps_away = record {
       kept = kept;
       lowest = none_taken old new takes_none;
-      freed = λ b i inside free no_entry l.
-          let other : b ≢ key = λ e. no_entry (subst (HasEntryKey old) (sym e) (entry_key old t st key can)) in
-          gives.freed b i (in_mid b inside) other free l ∙ empties.freed b i inside (gives.given b (in_mid b inside) other free) no_entry l;
+      freed = λ b i inside free beside l. elim (cases_eq b key) [
+        | inl e ↦ ap (λ (c : ℕ). byte_at new c i) e ∙ own_kept i l (λ f. beside (subst (HasEntryKey old) (sym e) (entry_key old t st key can), f)) ∙ ap (λ (c : ℕ). byte_at old c i) (sym e)
+        | inr other ↦ gives.freed b i (in_mid b inside) other free l ∙ empties.freed b i inside (gives.given b (in_mid b inside) other free) beside l
+      ];
       untold = untold_away;
     }

@@ -69,10 +69,10 @@ module _ (old : List ℕ) (t : Tree) (st : Stands old t) (new : List ℕ) where
   pub filled_kept : (key : ℕ) → 2 ≤ key → ¬ HasFreeBit new key → ((duty : Duty) → ¬ HasDuty t st.layout key duty) → (m m' : List ℕ) → OnlyBlock key m m' → SameBut At m m'
   filled_kept key l used none m m' h = same_weaken (InBlock key) At m m' (λ c i w. subst (λ (x : ℕ). At x i) (sym w) (of_none l used none)) h
 
-  pub titled_kept : (key dir : ℕ) (name : List ℕ) (d : Node) → t.nodes key ≡ Some d → key ≢ root t → byte_at new key name_byte ≡ length name → (m m' : List ℕ) → Titled key dir name m m' → SameBut At m m'
-  titled_kept key dir name d at n counted m m' r = same_weaken (AtTitle key (length name)) At m m' within r.rest
+  pub titled_kept : (key dir : ℕ) (name : List ℕ) (d : Node) → t.nodes key ≡ Some d → key ≢ root t → byte_at new key name_byte ≡ length name → length name ≤ 30 → (m m' : List ℕ) → Titled key dir name m m' → SameBut At m m'
+  titled_kept key dir name d at n counted short m m' r = same_weaken (AtTitle key (length name)) At m m' within r.rest
     where
       within : (c i : ℕ) → AtTitle key (length name) c i → At c i
       within c i (e, inl f) = of_node d (ap t.nodes e ∙ at) (sum f)
-      within c i (e, inr (inl f)) = subst (λ (x : ℕ). At x i) (sym e) (of_name d at n (f.0, omega (arith, f.1, counted)))
+      within c i (e, inr (inl f)) = subst (λ (x : ℕ). At x i) (sym e) (of_name d at n (f.0, omega (arith, f.1, counted)) (omega (arith, f.1, short)))
       within c i (e, inr (inr f)) = subst (λ (x : ℕ). At x i) (sym e) (of_node d at (link n (omega (arith, f)) (omega (arith, f))))

@@ -298,10 +298,10 @@ module _ (old : List ℕ) (t : Tree) (st : Stands old t) where
     kept_since after first before = record {
       size = after.size ∙ before.size;
       boot = after.boot ∙ before.boot;
-      others = λ b i role role' l r r' alike n n'.
+      others = λ b i role role' l r r' alike n.
           let mid = reached_before r' in
-          let none : ¬ IsField old b role' i = λ f. n' (field_stays mid f) in
-          after.others b i role' role' l mid r' (alike_itself role') none n' ∙ before.others b i role role' l r mid alike n none;
+          let none : ¬ IsField old b role' i = λ f. n (field_stays mid f) in
+          after.others b i role' role' l mid r' (alike_itself role') n ∙ before.others b i role role' l r mid alike none;
       first = λ b f g.
           let q = reached_no_page b (roles.Entry g.dir g.slot_of_chain) (λ z. cc z) (reached_before g.reached) in
           let mid : IsFile old b = record { dir = g.dir; slot_of_chain = g.slot_of_chain; reached = reached_before g.reached; secondary = sym (type_stays b q) ∙ g.secondary } in

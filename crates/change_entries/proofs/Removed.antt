@@ -1,11 +1,11 @@
 -- The steps by which an entry without contents is taken away.
-use Rattle.std.proofs.Common.{◌≡◌, ◌≢◌, ℕ, ◌+◌, ◌<◌, inl, inr, List, ◌∷◌, length, slice_index, Contains, Some, IsSome, true, refl, sym, ap, ◌∙◌, subst, arith}
+use Rattle.std.proofs.Common.{◌≡◌, ◌≢◌, ℕ, ◌+◌, ◌/◌, ◌<◌, inl, inr, List, ◌∷◌, length, slice_index, Contains, Some, IsSome, true, refl, sym, ap, ◌∙◌, subst, arith}
 use Rattle.std.proofs.lemmas.Bool.{cases_eq}
 use Rattle.std.proofs.lemmas.List.Elements.{Contains-append_left}
 use Rattle.adf_block.specs.Chained.{Chained}
 use Rattle.adf_block.specs.Frame.{SameBut}
 use Rattle.adf_block.specs.Fields.{next_in_chain, parent_key, table_entry}
-use Rattle.adf_block.specs.Image.{block_count, long, root_key, IsInside}
+use Rattle.adf_block.specs.Image.{block_count, byte_at, long, root_key, IsInside}
 use Rattle.adf_block.proofs.Frames.{same_count, same_trans}
 use Rattle.ados_map.specs.Changes.{MapPlace, BitChanged}
 use Rattle.ados_map.specs.Pages.{LawfulPages, page_block, page_of, pages_of}
@@ -13,7 +13,7 @@ use Rattle.ados_name.specs.declared.Date3.{Date3}
 use Rattle.ados_chain.proofs.Changes.{slot_at-small}
 use Rattle.ados_chain.proofs.Spelling.{Chained-behind}
 use Rattle.ados_chain.specs.Chains.{LawfulChains, slot_at}
-use Rattle.ados_chain.specs.Relinks.{CanUnlink, Unlinks, link_block, link_long}
+use Rattle.ados_chain.specs.Relinks.{AtLinks, CanUnlink, Unlinks, link_block, link_long}
 use Rattle.ados_tree.specs.Change.{removed}
 use Rattle.ados_tree.specs.Kept.{Kept}
 use Rattle.ados_tree.specs.Layout.{Duty}
@@ -22,6 +22,7 @@ use Rattle.ados_tree.proofs.FilesStay.{past_end_trans}
 use Rattle.ados_tree.specs.Stands.{Stands, in_slot}
 use Rattle.ados_tree.specs.Tree.{Node, Tree, root, size_of}
 use Rattle.ados_tree.proofs.Nodes.{parent_in}
+use Rattle.ados_tree.proofs.Standing.{slice_get-index}
 use Rattle.change_entries.specs.Conditions.{CanRemove}
 use Rattle.change_entries.specs.steps.Emptied.{GivesBack}
 use Rattle.change_entries.specs.steps.Writes.{Dated}
@@ -30,9 +31,10 @@ use Rattle.change_entries.proofs.Lawful.{lawful_chains, not_root, page_is, page_
 use Rattle.change_entries.proofs.EntriesKept.{IsWritten, written_kept}
 use Rattle.change_entries.proofs.KeptSteps.{dated_kept, linked_kept, marked_kept, stamped_kept}
 use Rattle.change_entries.proofs.Listing.{place_behind}
-use Rattle.change_entries.proofs.Loose.{l, unlisted_is_loose as out_is_loose}
+use Rattle.change_entries.proofs.Loose.{l, not_own_parent, unlisted_is_loose as out_is_loose}
 use Rattle.change_entries.proofs.Reaching.{AtAside, dated_aside, kept_since, marked_aside, stamped_aside}
 use Rattle.change_entries.proofs.Relisted.{IsLinkPlace}
+use Rattle.change_entries.proofs.Relisted.IsLinkPlace.{in_table, in_entry}
 use Rattle.change_entries.proofs.Changed.{left_blocks, left_lost, removed_some}
 use Rattle.change_entries.proofs.Removing.{directory, out_pages, out_spells, removed_spells, removed_stands, removes_link, s, whole_loose}
 use Rattle.change_entries.proofs.Spared.{bytes_stay, still_free, was_free}
@@ -160,19 +162,37 @@ module _ (old : List ℕ) (t : Tree) (st : Stands old t) (moment : Date3) (key :
           untold_kept old m4 t (removed moment key t) st after (gone m3 m4 given stamp).proper (gone_written m3 m4 given stamp)
           (past_end_trans old m3 m4 (same ∙ count) (past_end_trans old m2 m3 count first bit) last)
 
+      -- of the entry's own block only the link and the sum are written
+      own_stays : (m3 m4 : List ℕ) → BitChanged m2 key true m3 → Dated (root_key (block_count m3)) 118 moment m3 m4 → (i : ℕ) → i < 512 → i / 4 ≢ next_in_chain → i / 4 ≢ 5 → byte_at m4 key i ≡ byte_at old key i
+      own_stays m3 m4 given stamp i l no_link no_sum =
+          (stamp_at_root m3 m4 given stamp).rest.same_byte key i l (λ w. not_root_key w.0)
+          ∙ given.rest.same_byte key i l (λ w. no_page (sym w.0))
+          ∙ dated_from.rest.same_byte key i l (λ w. no_parent (sym w.0))
+          ∙ unlinked.relinks.rest.same_byte key i l (unlinked_beside unlinked.front link_at)
+        where
+          no_page : page_block m2 (page_of key) ≢ key
+          no_page e = let duty = st.fits.one_duty key (Duty.Page (page_of key)) Duty.Key (slice_get-index st.layout.pages (page_of key) page.0 ∙ ap Some (page.1 ∙ e)) (rw node.1 refl) in cc duty
+
+          no_parent : can.dir ≢ key
+          no_parent = not_own_parent t st.proper key can.dir can.listed moment
+
+          unlinked_beside : (front : List ℕ) → IsLinkPlace t can.dir (link_block can.dir front) (link_long (6 + slot_key) front) → ¬ AtLinks (link_block can.dir front) (link_long (6 + slot_key) front) key key i
+          unlinked_beside front place (inr (inl w)) = no_link w.1
+          unlinked_beside front place (inr (inr w)) = no_sum w.1
+          unlinked_beside front place (inl (inr w)) = no_sum w.1
+          unlinked_beside front (in_table e m n) (inl (inl w)) = no_parent (sym (w.0 ∙ e))
+          unlinked_beside front (in_entry x f n e) (inl (inl w)) = no_link (w.1 ∙ e)
+
       -- no block is taken, and none but the entry's own is given back or, being free, written
       pub gone_gives : (m3 m4 : List ℕ) → BitChanged m2 key true m3 → Dated (root_key (block_count m3)) 118 moment m3 m4 → GivesBack key old m4
       gone_gives m3 m4 given stamp =
           let u = removed moment key t in
           let after = removed_spells old t st moment key can no_bytes m1 m2 m3 m4 unlinked dated_from given (stamp_at_root m3 m4 given stamp) in
-          let root_some : IsSome (t.nodes (root t)) = rw st.proper.root_node.1 refl in
-          let root_there : IsSome (u.nodes (root t)) = removed_some moment key t (root t) (λ e. not_root_key (sym e)) ∙ root_some in
           let stays : (b : ℕ) → b ≢ key → IsSome (t.nodes b) → IsSome (u.nodes b) = λ b n some. removed_some moment key t b n ∙ some in
           record {
             none = λ b inside free. still_free old m4 t u st after (left_blocks moment key t) (left_lost moment key t) b inside
                 (λ some. elim (cases_eq b key) [ inl e ↦ rw (ap t.nodes e ∙ node.1) refl | inr n ↦ sym (removed_some moment key t b n) ∙ some ]) free;
             given = λ b inside n free. was_free old m4 t u st after (left_blocks moment key t) (left_lost moment key t) b inside (stays b n) free;
-            freed = λ b i inside n free l.
-                bytes_stay old m4 t u st after (left_blocks moment key t) (left_lost moment key t) (gone_written m3 m4 given stamp) root_there b inside free
-                (λ some no_root. after.marked_free b (inside.0, omega (arith, inside.1, st.whole, left_blocks moment key t)) free (Duty.Key, stays b n some)) i l;
+            freed = λ b i inside n free l. bytes_stay old m4 t u st after (left_blocks moment key t) (left_lost moment key t) (gone_written m3 m4 given stamp) b inside free (stays b n) i l;
+            own = own_stays m3 m4 given stamp;
           }

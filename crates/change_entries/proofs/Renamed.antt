@@ -1,14 +1,15 @@
 -- The steps by which an entry moves.
-use Rattle.std.proofs.Common.{◌≡◌, ◌≢◌, ℕ, ◌+◌, ◌<◌, inl, List, ◌∷◌, length, Contains, Some, IsSome, refl, sym, ◌∙◌, subst, arith}
+use Rattle.std.proofs.Common.{◌≡◌, ◌≢◌, ℕ, ◌+◌, ◌<◌, inl, List, ◌∷◌, length, Contains, Some, sym, ◌∙◌, subst, arith}
 use Rattle.std.proofs.lemmas.List.Elements.{Contains-append_left}
 use Rattle.adf_block.specs.Fields.{name_byte, next_in_chain, parent_key}
 use Rattle.adf_block.specs.Frame.{SameBut}
-use Rattle.adf_block.specs.Image.{block_count, byte_at, long, root_key}
+use Rattle.adf_block.specs.Image.{HasFreeBit, block_count, byte_at, long, root_key}
 use Rattle.adf_block.proofs.Frames.{same_count, same_trans}
 use Rattle.ados_name.specs.declared.Date3.{Date3}
 use Rattle.ados_chain.proofs.Changes.{slot_at-small}
 use Rattle.ados_chain.specs.Chains.{LawfulChains, slot_at}
 use Rattle.ados_chain.specs.Relinks.{CanInsert, CanUnlink, InsertsLast, Unlinks, link_block, link_long}
+use Rattle.ados_tree.specs.Faults.{InImage}
 use Rattle.ados_tree.specs.Change.{changed, entered, renamed}
 use Rattle.ados_tree.specs.NewBlocks.{KeepsRest, TakesNone}
 use Rattle.ados_tree.specs.Stands.{Stands, in_slot}
@@ -26,7 +27,7 @@ use Rattle.change_entries.proofs.KeptSteps.{IsKnown, dated_kept, linked_kept, st
 use Rattle.change_entries.proofs.Listing.{place_behind}
 use Rattle.change_entries.proofs.Loose.{kept, left_is}
 use Rattle.change_entries.proofs.ProperChanges.{dir_is_other, directory_at, moved_here}
-use Rattle.change_entries.proofs.Spared.{keeps_freed, still_free}
+use Rattle.change_entries.proofs.Spared.{keeps_freed, still_free, was_free}
 use Rattle.change_entries.proofs.Relisted.{IsLinkPlace}
 use Rattle.change_entries.proofs.Spells.{Spells}
 use Rattle.change_entries.proofs.UntoldKept.{IsOffMap, dated_off, linked_off, off_past_end, old_pages, stamped_off, titled_off, untold_kept}
@@ -143,7 +144,7 @@ module _ (old : List ℕ) (t : Tree) (st : Stands old t) (moment : Date3) (key d
               (same_trans (IsWritten old t st m6) old m1 m2
               (linked_kept old t st m6 t can.from (link_block can.from unlinked.front) (link_long (6 + old_slot) unlinked.front) (long old key next_in_chain) key d.0 d.1 d.2 d.3 (λ k x f n. inl (x, f, n)) left_place of_key old m1 unlinked.relinks)
               (dated_kept old t st m6 can.from d.0 d.2 moment m1 m2 dated_from))
-              (titled_kept old t st m6 key dir name e.0 e.1 no_root (counted m6 (moved m5 m6 dated stamp)) m2 m3 titled))
+              (titled_kept old t st m6 key dir name e.0 e.1 no_root (counted m6 (moved m5 m6 dated stamp)) can.valid.short m2 m3 titled))
               (linked_kept old t st m6 goal_tree dir (link_block dir (in_slot goal_tree dir new_slot)) (link_long (6 + new_slot) (in_slot goal_tree dir new_slot)) key key into.node into.keys into.at into.content (known m6) goal_place of_key m3 m4 inserted.relinks))
               (dated_kept old t st m6 dir into.node into.at moment m4 m5 dated))
               (stamped_kept old t st m6 moment m5 m6 (at_root m5 m6 t moment (dated_count dir 105 moment m4 m5 dated ∙ count_m4) stamp))
@@ -158,6 +159,10 @@ module _ (old : List ℕ) (t : Tree) (st : Stands old t) (moment : Date3) (key d
           pub moved_none : (m5 m6 : List ℕ) → Dated dir 105 moment m4 m5 → Dated (root_key (block_count m5)) 118 moment m5 m6 → TakesNone old m6
           moved_none m5 m6 dated stamp =
               λ b inside free. still_free old m6 t (renamed moment key dir name t) st (after m5 m6 dated stamp) (left_blocks moment key t) (left_lost moment key t) b inside (λ some. sym (renamed_some moment key dir name t b) ∙ some) free
+
+          pub moved_gives_none : (m5 m6 : List ℕ) → Dated dir 105 moment m4 m5 → Dated (root_key (block_count m5)) 118 moment m5 m6 → (b : ℕ) → InImage old b → HasFreeBit m6 b → HasFreeBit old b
+          moved_gives_none m5 m6 dated stamp =
+              λ b inside free. was_free old m6 t (renamed moment key dir name t) st (after m5 m6 dated stamp) (left_blocks moment key t) (left_lost moment key t) b inside (λ some. renamed_some moment key dir name t b ∙ some) free
 
           -- none of the map is written
           moved_off : (m5 m6 : List ℕ) → Dated dir 105 moment m4 m5 → Dated (root_key (block_count m5)) 118 moment m5 m6 → SameBut (IsOffMap old t st) old m6
@@ -188,12 +193,10 @@ module _ (old : List ℕ) (t : Tree) (st : Stands old t) (moment : Date3) (key d
 
           pub moved_keeps : (m5 m6 : List ℕ) → Dated dir 105 moment m4 m5 → Dated (root_key (block_count m5)) 118 moment m5 m6 → KeepsRest old m6
           moved_keeps m5 m6 dated stamp =
-              let root_some : IsSome (t.nodes (root t)) = rw st.proper.root_node.1 refl in
               record {
                 kept = written_kept old m6 t st (moved_written m5 m6 dated stamp);
                 lowest = none_taken old m6 (moved_none m5 m6 dated stamp);
-                freed = keeps_freed old m6 t (renamed moment key dir name t) st (after m5 m6 dated stamp) (left_blocks moment key t) (left_lost moment key t) (moved_written m5 m6 dated stamp)
-                    (renamed_some moment key dir name t (root t) ∙ root_some);
+                freed = keeps_freed old m6 t (renamed moment key dir name t) st (after m5 m6 dated stamp) (left_blocks moment key t) (left_lost moment key t) (moved_written m5 m6 dated stamp) (λ k some. renamed_some moment key dir name t k ∙ some);
                 untold = untold_kept old m6 t (renamed moment key dir name t) st (after m5 m6 dated stamp) (moved m5 m6 dated stamp).proper (moved_written m5 m6 dated stamp)
                     (off_past_end old t st old m6 (old_pages old t st) (moved_off m5 m6 dated stamp));
               }

@@ -1,14 +1,13 @@
 -- Which blocks a change of entries takes and gives back, and what stays in those that are free afterwards.
-use Rattle.std.proofs.Common.{◌≡◌, ◌≢◌, ℕ, ◌<◌, inl, inr, Bool, true, false, List, Option, Some, is_some, IsSome, refl, sym, ap, ◌∙◌, subst, arith}
-use Rattle.std.proofs.lemmas.Bool.{cases_eq, false≢true}
+use Rattle.std.proofs.Common.{◌≡◌, ℕ, ◌<◌, Bool, true, false, List, Option, Some, is_some, IsSome, refl, sym, ap, ◌∙◌, arith}
+use Rattle.std.proofs.lemmas.Bool.{false≢true}
 use Rattle.adf_block.specs.Frame.{SameBut}
 use Rattle.adf_block.specs.Image.{HasFreeBit, IsInside, byte_at, has_free_bit}
 use Rattle.ados_tree.specs.Faults.{InImage}
 use Rattle.ados_tree.specs.Layout.{Duty, HasDuty, Named}
 use Rattle.ados_tree.specs.NewBlocks.{KeepsFreed}
 use Rattle.ados_tree.specs.Stands.{Stands}
-use Rattle.ados_tree.specs.Tree.{Tree, root}
-use Rattle.ados_tree.proofs.OneTree.{one_tree}
+use Rattle.ados_tree.specs.Tree.{Tree}
 use Rattle.ados_tree.proofs.Standing.{count_same, slice_get-index}
 use Rattle.change_entries.proofs.EntriesKept.{IsWritten}
 use Rattle.change_entries.proofs.EntriesKept.IsWritten.{of_page, of_none, of_node, of_name}
@@ -52,23 +51,20 @@ module _ (old new : List ℕ) (t u : Tree) (st : Stands old t) (after : Spells n
         go true e = e
         go false e = absurd (after.marked_free b (inside_new b inside) free (is_named key (st.marked_used b (inside_old b inside) (λ is. false≢true (sym e ∙ is)))))
 
-  module _ (h : SameBut (IsWritten old t st new) old new) (root_there : IsSome (u.nodes (root t))) (b : ℕ) (inside : InImage old b) (free : HasFreeBit new b) where
+  module _ (h : SameBut (IsWritten old t st new) old new) (b : ℕ) (inside : InImage old b) (free : HasFreeBit new b) (stays : IsSome (t.nodes b) → IsSome (u.nodes b)) where
     unnamed : (duty : Duty) → HasDuty u st.layout b duty → ⊥
     unnamed duty m = after.marked_free b (inside_new b inside) free (duty, m)
 
-    -- of a free block that is no entry nothing was written
-    pub unwritten : (IsSome (t.nodes b) → b ≢ root t → ⊥) → (i : ℕ) → ¬ IsWritten old t st new b i
-    unwritten entry i (of_page p l e) = unnamed (Duty.Page p) (slice_get-index st.layout.pages p l ∙ ap Some e)
-    unwritten entry i (of_none l used none) = used free
-    unwritten entry i (of_node a e p) = elim (cases_eq b (root t)) [
-      | inl same ↦ unnamed Duty.Key (ap (λ (k : ℕ). is_some (u.nodes k)) same ∙ root_there)
-      | inr other ↦ entry (rw e refl) other
-    ]
-    unwritten entry i (of_name a e n text) = entry (rw e refl) n
+    -- of a free block that keeps its node, where it had one, nothing was written
+    unwritten : (i : ℕ) → ¬ IsWritten old t st new b i
+    unwritten i (of_page p l e) = unnamed (Duty.Page p) (slice_get-index st.layout.pages p l ∙ ap Some e)
+    unwritten i (of_none l used none) = used free
+    unwritten i (of_node a e p) = unnamed Duty.Key (stays (rw e refl))
+    unwritten i (of_name a e n text short) = unnamed Duty.Key (stays (rw e refl))
 
-    pub bytes_stay : (IsSome (t.nodes b) → b ≢ root t → ⊥) → (i : ℕ) → i < 512 → byte_at new b i ≡ byte_at old b i
-    bytes_stay entry i l = h.same_byte b i l (unwritten entry i)
+    pub bytes_stay : (i : ℕ) → i < 512 → byte_at new b i ≡ byte_at old b i
+    bytes_stay i l = h.same_byte b i l (unwritten i)
 
-  pub keeps_freed : SameBut (IsWritten old t st new) old new → IsSome (u.nodes (root t)) → KeepsFreed old new
-  keeps_freed h root_there b i inside free no_entry l =
-      bytes_stay h root_there b inside free (λ some n. no_entry (λ v sv. subst (λ (x : Tree). IsSome (x.nodes b) × (b ≢ root x)) (one_tree old t v st sv) (some, n))) i l
+  -- where no node goes
+  pub keeps_freed : SameBut (IsWritten old t st new) old new → ((k : ℕ) → IsSome (t.nodes k) → IsSome (u.nodes k)) → KeepsFreed old new
+  keeps_freed h stays b i inside free no_entry l = bytes_stay h b inside free (stays b) i l

@@ -128,7 +128,7 @@ module _ (old new : List ℕ) (t u : Tree) (st : Stands old t) (after : Spells n
   data_unwritten b i file q m (of_page p l e) = let duty = st.fits.one_duty b (Duty.Page p) (Duty.Data file q) (slice_get-index st.layout.pages p l ∙ ap Some e) m in cc duty
   data_unwritten b i file q m (of_none l used none) = none (Duty.Data file q) m
   data_unwritten b i file q m (of_node a e p) = let duty = st.fits.one_duty b Duty.Key (Duty.Data file q) (rw e refl) m in cc duty
-  data_unwritten b i file q m (of_name a e n text) = let duty = st.fits.one_duty b Duty.Key (Duty.Data file q) (rw e refl) m in cc duty
+  data_unwritten b i file q m (of_name a e n text short) = let duty = st.fits.one_duty b Duty.Key (Duty.Data file q) (rw e refl) m in cc duty
 
   data_stays : (file : ℕ) → HasFileKey old file → HasFileKey new file → KeepsData old new file
   data_stays file was is =

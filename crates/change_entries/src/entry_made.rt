@@ -1,7 +1,7 @@
 //! A new entry.
 
 ghost use Rattle.std.specs.Prelude.{◌≡◌, IfErr, IfOk};
-ghost use Rattle.ados_map.specs.Pages.{IsLowestFree, NoneFree};
+ghost use Rattle.ados_map.specs.Pages.{IsLowestFree, NoneFree, NoneFreeBelow};
 ghost use Rattle.ados_tree.specs.Change.{made};
 ghost use Rattle.ados_tree.specs.NewBlocks.{KeepsRest};
 ghost use Rattle.ados_tree.specs.Stands.{Stands};
@@ -17,22 +17,26 @@ use ados_map::take_first;
 use ados_name::{Date3, Name};
 use ados_tree::Full;
 
-/// Makes an entry with nothing in it, last in the chain of its name's slot, and answers its key: the lowest free block.
+/// Makes an entry with nothing in it, last in the chain of its name's slot, and answers its key: the lowest free block, which is
+/// not below `from`.
 pub fn create(
     image: &mut Image,
     dir: u32,
     name: &Name,
     kind: NodeKind,
     moment: Date3,
+    from: u32,
 ) -> Result<u32, Full>
     requires tree { (t : Tree) × Stands image.old t }
     requires can { (t : Tree) → Stands image.old t → CanMake t dir name.now }
+    requires below { NoneFreeBelow image.old from }
     ensures key { IfOk result (λ key. IsLowestFree image.old key) }
     ensures stands { IfOk result (λ key. (t : Tree) → Stands image.old t → Stands image.new (made moment dir key name.now (content_of kind) t)) }
     ensures keeps { KeepsRest image.old image.new }
+    ensures below { IfOk result (λ key. NoneFreeBelow image.new key) }
     ensures full { IfErr result (λ full. NoneFree image.old × (image.new ≡ image.old)) }
 {
-    let Some(key) = take_first(image) else {
+    let Some(key) = take_first(image, from) else {
         return Err(Full);
     };
     make_entry(image, key, dir, name, kind, moment);

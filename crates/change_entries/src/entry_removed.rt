@@ -8,7 +8,7 @@ ghost use Rattle.ados_tree.specs.Stands.{Stands};
 ghost use Rattle.ados_tree.specs.Tree.{Tree, size_of};
 ghost use Rattle.ados_tree.specs.Untold.{KeepsUntold};
 ghost use Rattle.change_entries.specs.Conditions.{CanRemove};
-ghost use Rattle.change_entries.specs.steps.Emptied.{Empties, GivesBack};
+ghost use Rattle.change_entries.specs.steps.Emptied.{Empties, GivesBack, KeepsEntry};
 
 use crate::block::{stamp, touch};
 use adf_block::Image;
@@ -19,7 +19,7 @@ use ados_name::Date3;
 use change_bytes::cut;
 
 /// Takes away an entry: a directory without entries, or a file, whose blocks are given back. What stands in these stays,
-/// but for the entry's own block.
+/// but for some fields of the entry's own block.
 pub fn remove(image: &mut Image, key: u32, moment: Date3)
     requires tree { (t : Tree) × Stands image.old t }
     requires can { (t : Tree) → Stands image.old t → CanRemove t key }
@@ -36,6 +36,7 @@ fn empty(image: &mut Image, key: u32, moment: Date3)
     requires tree { (t : Tree) × Stands image.old t }
     requires can { (t : Tree) → Stands image.old t → CanRemove t key }
     ensures empties { Empties moment key image.old image.new }
+    ensures entry { KeepsEntry key image.old image.new }
     ensures keeps { KeepsRest image.old image.new }
     ensures none { TakesNone image.old image.new }
 {

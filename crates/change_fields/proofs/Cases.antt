@@ -8,7 +8,7 @@ use Rattle.adf_block.proofs.Frames.{same_weaken}
 use Rattle.ados_name.specs.declared.Date3.{Date3}
 use Rattle.ados_name.specs.Name.{IsName, IsComment}
 use Rattle.ados_tree.specs.Tree.{Node, Tree, Proper, IsRoot, root}
-use Rattle.ados_tree.specs.Stands.{Stands}
+use Rattle.ados_tree.specs.Stands.{HasEntry, Stands}
 use Rattle.ados_tree.specs.Dates.{date_at}
 use Rattle.ados_tree.specs.Change.{changed, stamped, with_node}
 use Rattle.ados_tree.specs.Kept.{Kept}
@@ -219,18 +219,18 @@ module _ (old new : List ℕ) (t : Tree) (s : Stands old t) (key : ℕ) (node : 
     here : (retold key after moment t).nodes key ≡ Some after
     here = rw (eq-eqb key key refl) refl
 
-    comment_told : key ≢ root t → HasText new key comment_byte after.comment
-    comment_told n = elim (root_or_parent t s.proper key node at) [
+    entry_told : key ≢ root t → (dir : ℕ) × HasEntry new key after dir
+    entry_told n = elim (root_or_parent t s.proper key node at) [
       | inl e ↦ absurd (n e)
-      | inr dir ↦ (u.entries key dir.0 after here (c.retells.parent ∙ dir.1)).comment
+      | inr dir ↦ (dir.0, u.entries key dir.0 after here (c.retells.parent ∙ dir.1))
     ]
 
-    field_told : (i : ℕ) → Telling t key after i → IsKeyField old new t key i
-    field_told = telling_field old new t s key node after at (λ e. (u.nodes key after here).name) comment_told
+    field_told : (i : ℕ) → Telling t key after i → IsKeyField new t key i
+    field_told = telling_field old new t s key node after at (λ n. (entry_told n).1.secondary) (λ e. (u.nodes key after here).name) (λ n. (entry_told n).1.comment)
 
-    field_at : (b i : ℕ) → Summed key low high b i → IsKeyField old new t b i
-    field_at b i (inl w) = subst (λ (k : ℕ). IsKeyField old new t k i) (sym w.0) (field_told i (c.within i w.1 w.2))
-    field_at b i (inr w) = subst (λ (k : ℕ). IsKeyField old new t k i) (sym w.0) (field_told i (Telling.sum w.1))
+    field_at : (b i : ℕ) → Summed key low high b i → IsKeyField new t b i
+    field_at b i (inl w) = subst (λ (k : ℕ). IsKeyField new t k i) (sym w.0) (field_told i (c.within i w.1 w.2))
+    field_at b i (inr w) = subst (λ (k : ℕ). IsKeyField new t k i) (sym w.0) (field_told i (Telling.sum w.1))
 
     told_at : (b i : ℕ) → Summed key low high b i → IsTold t b i
     told_at b i (inl w) = subst (λ (k : ℕ). IsTold t k i) (sym w.0) (telling_told old new t s key after c.retells.name c.retells.comment i (c.within i w.1 w.2))
@@ -242,7 +242,7 @@ module _ (old new : List ℕ) (t : Tree) (s : Stands old t) (key : ℕ) (node : 
     keeps_retold : (r : ℕ) → r ≡ root t → SameBut (Restamped r key low high) old new → KeepsRest old new
     keeps_retold r e rest = keeps_fields old new t s (Restamped r key low high) rest (λ b i l w. field b i w) told
       where
-        field : (b i : ℕ) → Restamped r key low high b i → IsKeyField old new t b i
+        field : (b i : ℕ) → Restamped r key low high b i → IsKeyField new t b i
         field b i (inl w) = field_at b i w
         field b i (inr (inl w)) = disk_date_field old new t s b (w.0 ∙ e) i (inr (w.1, w.2))
         field b i (inr (inr w)) = disk_date_field old new t s b (w.0 ∙ e) i (inl w.1)

@@ -21,51 +21,48 @@ use Rattle.ados_tree.specs.NewBlocks.{KeepsRest, TakesNone}
 use Rattle.ados_tree.specs.Keys.{HasFileKey}
 use Rattle.ados_tree.specs.Untold.{KeepsData, KeepsUntold, data_at}
 use Rattle.ados_tree.proofs.FilesStay.{data_blocks_stay, data_serves, extension_blocks_stay, file_of_key, files_stay}
-use Rattle.ados_tree.proofs.Nodes.{root_or_parent}
 use Rattle.ados_tree.proofs.Keeping.{header_stays, none_taken}
 use Rattle.ados_tree.proofs.Standing.{StandsAt, count_same, reached_stands, same_place, serves_at, duty_of, root_at, slice_get-index}
 use Rattle.change_fields.proofs.Retold.{Telling}
 
--- byte i of a key's block is part of a field in its role, in the old or in the new image
-pub data IsKeyField (old new : List ℕ) (t : Tree) (b i : ℕ) : Type 0 where
-  root_field : b ≡ root t → (IsField old b roles.Root i ⊎ IsField new b roles.Root i) → IsKeyField old new t b i
-  entry_field : b ≢ root t → IsSome (t.nodes b) → ((dir s : ℕ) → IsField old b (roles.Entry dir s) i) ⊎ ((dir s : ℕ) → IsField new b (roles.Entry dir s) i) → IsKeyField old new t b i
+-- byte i of a key's block is part of a field in its role
+pub data IsKeyField (image : List ℕ) (t : Tree) (b i : ℕ) : Type 0 where
+  root_field : b ≡ root t → IsField image b roles.Root i → IsKeyField image t b i
+  entry_field : b ≢ root t → IsSome (t.nodes b) → ((dir s : ℕ) → IsField image b (roles.Entry dir s) i) → IsKeyField image t b i
 
 -- byte i of a block is of its sum, or behind the pointers of a file, and then neither of its size nor of its extension; in the root it is behind the pages, too
 abbrev pub IsTold : Tree → ℕ → ℕ → Type 0
 IsTold t b i = (i / 4 ≡ 5) ⊎ ((320 ≤ i) × (i < 504) × (i / 4 ≢ 81) × (b ≡ root t → 420 ≤ i))
 
 module _ (old new : List ℕ) (t : Tree) (s : Stands old t) where
-  is_key : (b i : ℕ) → IsKeyField old new t b i → IsSome (t.nodes b)
+  is_key : (b i : ℕ) → IsKeyField new t b i → IsSome (t.nodes b)
   is_key b i (root_field e f) = rw (ap t.nodes e ∙ s.proper.root_node.1) refl
   is_key b i (entry_field n k f) = k
 
   -- a key's block has no other role
-  no_field : (b i k : ℕ) (role role' : Role) → StandsAt old t s role k b → Alike role role' → ¬ IsField old b role i → ¬ IsField new b role' i → IsKeyField old new t b i → ⊥
-  no_field b i k role role' at alike n m f = go role role' at alike n m f (s.fits.one_duty b (duty_of old t s role k) Duty.Key (serves_at old t s role k b at) (is_key b i f))
+  no_field : (b i k : ℕ) (role role' : Role) → StandsAt old t s role k b → Alike role role' → ¬ IsField new b role' i → IsKeyField new t b i → ⊥
+  no_field b i k role role' at alike m f = go role role' at alike m f (s.fits.one_duty b (duty_of old t s role k) Duty.Key (serves_at old t s role k b at) (is_key b i f))
     where
-      go : (role role' : Role) → StandsAt old t s role k b → Alike role role' → ¬ IsField old b role i → ¬ IsField new b role' i → IsKeyField old new t b i → duty_of old t s role k ≡ Duty.Key → ⊥
-      go roles.Root roles.Root at alike n m (root_field e (inl f)) d = n f
-      go roles.Root roles.Root at alike n m (root_field e (inr f)) d = m f
-      go roles.Root roles.Root at alike n m (entry_field o key f) d = o (root_at old t s k b at)
-      go (roles.Entry dir q) (roles.Entry dir' q') at alike n m (entry_field o key (inl f)) d = n (f dir q)
-      go (roles.Entry dir q) (roles.Entry dir' q') at alike n m (entry_field o key (inr f)) d = m (f dir' q')
-      go (roles.Entry dir q) role' at alike n m (root_field e f) d =
+      go : (role role' : Role) → StandsAt old t s role k b → Alike role role' → ¬ IsField new b role' i → IsKeyField new t b i → duty_of old t s role k ≡ Duty.Key → ⊥
+      go roles.Root roles.Root at alike m (root_field e f) d = m f
+      go roles.Root roles.Root at alike m (entry_field o key f) d = o (root_at old t s k b at)
+      go (roles.Entry dir q) (roles.Entry dir' q') at alike m (entry_field o key f) d = m (f dir' q')
+      go (roles.Entry dir q) role' at alike m (root_field e f) d =
           let root_stands : StandsAt old t s roles.Root 0 b = record { within = omega arith; here = sym e; holder = tt } in
           cc (same_place old t s (roles.Entry dir q) roles.Root k 0 b at root_stands).0
-      go roles.Page role' at alike n m f d = cc d
-      go (roles.Data file) role' at alike n m f d = cc d
-      go (roles.Extension file) role' at alike n m f d = cc d
-      go roles.Root roles.Page at alike n m f d = absurd alike
-      go roles.Root (roles.Entry dir q) at alike n m f d = absurd alike
-      go roles.Root (roles.Data file) at alike n m f d = absurd alike
-      go roles.Root (roles.Extension file) at alike n m f d = absurd alike
-      go (roles.Entry dir q) roles.Root at alike n m f d = absurd alike
-      go (roles.Entry dir q) roles.Page at alike n m f d = absurd alike
-      go (roles.Entry dir q) (roles.Data file) at alike n m f d = absurd alike
-      go (roles.Entry dir q) (roles.Extension file) at alike n m f d = absurd alike
+      go roles.Page role' at alike m f d = cc d
+      go (roles.Data file) role' at alike m f d = cc d
+      go (roles.Extension file) role' at alike m f d = cc d
+      go roles.Root roles.Page at alike m f d = absurd alike
+      go roles.Root (roles.Entry dir q) at alike m f d = absurd alike
+      go roles.Root (roles.Data file) at alike m f d = absurd alike
+      go roles.Root (roles.Extension file) at alike m f d = absurd alike
+      go (roles.Entry dir q) roles.Root at alike m f d = absurd alike
+      go (roles.Entry dir q) roles.Page at alike m f d = absurd alike
+      go (roles.Entry dir q) (roles.Data file) at alike m f d = absurd alike
+      go (roles.Entry dir q) (roles.Extension file) at alike m f d = absurd alike
 
-  module _ (changed : ℕ → ℕ → Type 0) (h : SameBut changed old new) (fields : (b i : ℕ) → i < 512 → changed b i → IsKeyField old new t b i) (told : (b i : ℕ) → changed b i → IsTold t b i) where
+  module _ (changed : ℕ → ℕ → Type 0) (h : SameBut changed old new) (fields : (b i : ℕ) → i < 512 → changed b i → IsKeyField new t b i) (told : (b i : ℕ) → changed b i → IsTold t b i) where
     boot_byte : (k : ℕ) → k < 1024 → slice_index new k ≡ slice_index old k
     unfolding byte_at
     boot_byte k l =
@@ -95,7 +92,7 @@ module _ (old new : List ℕ) (t : Tree) (s : Stands old t) where
     kept_fields = record {
       size = h.same_length;
       boot = boot_kept;
-      others = λ b i role role' l a a' alike n m. h.same_byte b i l (λ w. let at = reached_stands old t s a in no_field b i at.0 role role' at.1 alike n m (fields b i l w));
+      others = λ b i role role' l a a' alike m. h.same_byte b i l (λ w. let at = reached_stands old t s a in no_field b i at.0 role role' at.1 alike m (fields b i l w));
       first = λ b f g. header_stays old new b (front_stays b 2 (omega arith) (omega arith)) (λ i l. front_stays b (77 - i) (omega arith) (omega (arith, l))) (front_stays b 4 (omega arith) (omega arith));
     }
 
@@ -191,19 +188,16 @@ module _ (old new : List ℕ) (t : Tree) (s : Stands old t) where
   telling_told key after name short i (Telling.comment n l m) = inr (omega (arith, l), omega (arith, m, short.short), λ z. omega (arith, l, z), λ e. absurd (n e))
 
   -- the sum or the disk date of the root
-  pub disk_date_field : (b : ℕ) → b ≡ root t → (i : ℕ) → (i / 4 ≡ 5) ⊎ ((472 ≤ i) × (i < 484)) → IsKeyField old new t b i
-  disk_date_field b e i (inl f) = root_field e (inl (root_longs (2, (5, 78), omega arith, refl, (omega (arith, f), omega (arith, f)))))
-  disk_date_field b e i (inr f) = root_field e (inl (root_longs (5, (118, 123), omega arith, refl, (omega (arith, f.0), omega (arith, f.1)))))
+  pub disk_date_field : (b : ℕ) → b ≡ root t → (i : ℕ) → (i / 4 ≡ 5) ⊎ ((472 ≤ i) × (i < 484)) → IsKeyField new t b i
+  disk_date_field b e i (inl f) = root_field e (root_longs (2, (5, 78), omega arith, refl, (omega (arith, f), omega (arith, f))))
+  disk_date_field b e i (inr f) = root_field e (root_longs (5, (118, 123), omega arith, refl, (omega (arith, f.0), omega (arith, f.1))))
 
-  module _ (key : ℕ) (node after : Node) (at : t.nodes key ≡ Some node) where
+  module _ (key : ℕ) (node after : Node) (at : t.nodes key ≡ Some node) (typed : key ≢ root t → secondary_type new key ≡ type_of after.content) where
     -- the sum, the protection and the date of an entry
-    entry_longs : key ≢ root t → (i : ℕ) → (i / 4 ≡ 5) ⊎ ((i / 4 ≡ 80) ⊎ ((420 ≤ i) × (i < 432))) → (dir q : ℕ) → IsField old key (roles.Entry dir q) i
-    entry_longs n i place dir q = elim (root_or_parent t s.proper key node at) [
-      | inl e ↦ absurd (n e)
-      | inr p ↦ by_content node.content (s.entries key p.0 node at p.1).secondary place
-    ]
+    entry_longs : key ≢ root t → (i : ℕ) → (i / 4 ≡ 5) ⊎ ((i / 4 ≡ 80) ⊎ ((420 ≤ i) × (i < 432))) → (dir q : ℕ) → IsField new key (roles.Entry dir q) i
+    entry_longs n i place dir q = by_content after.content (typed n) place
       where
-        by_content : (c : Content) → secondary_type old key ≡ type_of c → (i / 4 ≡ 5) ⊎ ((i / 4 ≡ 80) ⊎ ((420 ≤ i) × (i < 432))) → IsField old key (roles.Entry dir q) i
+        by_content : (c : Content) → secondary_type new key ≡ type_of c → (i / 4 ≡ 5) ⊎ ((i / 4 ≡ 80) ⊎ ((420 ≤ i) × (i < 432))) → IsField new key (roles.Entry dir q) i
         by_content (Directory keys) e (inl f) = directory_longs e (1, (5, 77), omega arith, refl, (omega (arith, f), omega (arith, f)))
         by_content (Directory keys) e (inr (inl f)) = directory_longs e (2, (80, 80), omega arith, refl, (omega (arith, f), omega (arith, f)))
         by_content (Directory keys) e (inr (inr f)) = directory_longs e (3, (105, 107), omega arith, refl, (omega (arith, f.0), omega (arith, f.1)))
@@ -215,19 +209,19 @@ module _ (old new : List ℕ) (t : Tree) (s : Stands old t) where
     key_serves = rw at refl
 
     -- the sum or the date, of the root or of an entry
-    summed_or_dated : (i : ℕ) → (i / 4 ≡ 5) ⊎ ((420 ≤ i) × (i < 432)) → IsKeyField old new t key i
+    summed_or_dated : (i : ℕ) → (i / 4 ≡ 5) ⊎ ((420 ≤ i) × (i < 432)) → IsKeyField new t key i
     summed_or_dated i place = elim (cases_eq key (root t)) [
-      | inl e ↦ root_field e (inl (elim place [
+      | inl e ↦ root_field e (elim place [
         | inl f ↦ root_longs (2, (5, 78), omega arith, refl, (omega (arith, f), omega (arith, f)))
         | inr f ↦ root_longs (4, (105, 107), omega arith, refl, (omega (arith, f.0), omega (arith, f.1)))
-      ]))
-      | inr n ↦ entry_field n key_serves (inl (entry_longs n i (elim place [ inl f ↦ inl f | inr f ↦ inr (inr f) ])))
+      ])
+      | inr n ↦ entry_field n key_serves (entry_longs n i (elim place [ inl f ↦ inl f | inr f ↦ inr (inr f) ]))
     ]
 
-    pub telling_field : (key ≡ root t → HasText new key name_byte after.name) → (key ≢ root t → HasText new key comment_byte after.comment) → (i : ℕ) → Telling t key after i → IsKeyField old new t key i
+    pub telling_field : (key ≡ root t → HasText new key name_byte after.name) → (key ≢ root t → HasText new key comment_byte after.comment) → (i : ℕ) → Telling t key after i → IsKeyField new t key i
     telling_field name comment i (Telling.sum e) = summed_or_dated i (inl e)
     telling_field name comment i (Telling.date l m) = summed_or_dated i (inr (l, m))
-    telling_field name comment i (Telling.root_name e l m) = root_field e (inr (root_name (l, omega (arith, m, (name e).counted))))
+    telling_field name comment i (Telling.root_name e l m) = root_field e (root_name (l, omega (arith, m, (name e).counted)))
     telling_field name comment i (Telling.disk_date e l m) = disk_date_field key e i (inr (l, m))
-    telling_field name comment i (Telling.bits n l m) = entry_field n key_serves (inl (entry_longs n i (inr (inl (omega (arith, l, m))))))
-    telling_field name comment i (Telling.comment n l m) = entry_field n key_serves (inr (λ dir q. entry_comment (l, omega (arith, m, (comment n).counted))))
+    telling_field name comment i (Telling.bits n l m) = entry_field n key_serves (entry_longs n i (inr (inl (omega (arith, l, m)))))
+    telling_field name comment i (Telling.comment n l m) = entry_field n key_serves (λ dir q. entry_comment (l, omega (arith, m, (comment n).counted)))

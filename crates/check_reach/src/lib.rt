@@ -9,4 +9,5 @@ mod places;
 mod reaching;
 
 pub use file_system::check_kind;
+pub use places::place_role;
 pub use reaching::reach;

@@ -21,7 +21,7 @@ pub(crate) fn has_places(role: Role) -> bool
 }
 
 /// The role that long `i` of a block gives to the block that it names, if it is a place of names.
-pub(crate) fn place_role(image: &Image, block: u32, role: Role, i: u32) -> Option<Role>
+pub fn place_role(image: &Image, block: u32, role: Role, i: u32) -> Option<Role>
     requires inside { block < block_count image.now }
     requires long { i < 128 }
     ensures { (next : Role) → (result ≡ Some next) ↔ IsPlace image.now block role i next }

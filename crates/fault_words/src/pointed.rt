@@ -6,8 +6,8 @@ use crate::marked::{mark_at, role_at};
 use adf_block::Image;
 use adf_block::layout::{BOOT_BLOCKS, FIRST_SLOT, NEXT_DATA, SECONDARY_TYPE};
 use ados_tree::Role;
-use all_faults::place_role;
 use check_marks::Mark;
+use check_reach::place_role;
 use std::alloc::{AllocError, Global};
 
 /// Of a place that names no block of the image, or of a wrong link from data block to data block.

@@ -2,7 +2,7 @@
 use Rattle.std.proofs.Common.{◌≡◌, ℕ, inl, inr, ◌+◌, ◌-◌, ◌*◌, ◌%◌, ◌==◌, if◌then◌else◌, ◌/◌, ◌<◌, ◌≤◌, List, length, take, drop, min, slice_index, Option, Some, Ok, refl, sym, ap, ◌∙◌, subst, arith, length-take, length-drop}
 use Rattle.std.proofs.lemmas.Bool.{cases_eq, cases_lt}
 use Rattle.std.proofs.lemmas.List.{get_or-drop, get_or-take, get_or_past}
-use Rattle.adf_block.specs.Image.{byte_at, long, total}
+use Rattle.adf_block.specs.Image.{byte_at, long}
 use Rattle.adf_block.specs.Boot.{boot_long, boot_sum, carried_sum}
 use Rattle.adf_block.specs.Frame.{OnlyBlock, OnlyLong, SameBut, Within}
 use Rattle.adf_block.proofs.Frames.{same_long}
@@ -94,11 +94,6 @@ boot_long_same old new rest k lt = elim (cases_eq k 1) [
 pub sum_is : (old new : List ℕ) → OnlyLong 0 1 old new → boot_sum new ≡ boot_sum old
 unfolding boot_sum
 sum_is old new rest = ap (λ (t : ℕ). 4294967295 - carried_sum t) (total-same (boot_long old) (boot_long new) 256 (boot_long_same old new rest))
-
--- the sum that is set is that of the image
-pub complement : (image : List ℕ) (all sum : ℕ) → all ≡ total (boot_long image) 256 → sum ≡ carried_sum all → 4294967295 - sum ≡ boot_sum image
-unfolding boot_sum
-complement image all sum counted carried = ap (λ (s : ℕ). 4294967295 - s) (carried ∙ ap carried_sum counted)
 
 -- code that fits is put, and the sum set
 pub booted : {A : Type 0} (o : Option (List ℕ)) (code old mid new : List ℕ) (a : A) → o ≡ Some code → length code ≤ 1024 → HoldsCode 4 code old mid → OnlyLong 0 1 mid new → long new 0 1 ≡ boot_sum new → Boots o old new (Ok a)

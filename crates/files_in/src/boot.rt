@@ -1,13 +1,13 @@
 //! The boot block: the first two blocks of an image, from which a machine starts.
 
-ghost use Rattle.std.specs.Prelude.{◌≡◌, ◌<◌, ◌≤◌, ◌^◌, ℕ, length, option_copied, slice_index};
-ghost use Rattle.adf_block.specs.Image.{block_count, byte_at, long, total};
+ghost use Rattle.std.specs.Prelude.{◌≡◌, ◌<◌, ◌≤◌, ℕ, length, option_copied, slice_index};
+ghost use Rattle.adf_block.specs.Image.{block_count, byte_at, long};
 ghost use Rattle.adf_block.specs.Frame.{OnlyBlock, OnlyLong};
-ghost use Rattle.adf_block.specs.Boot.{boot_long, boot_sum, carried_sum};
+ghost use Rattle.adf_block.specs.Boot.{boot_sum};
 ghost use Rattle.files_in.specs.Boot.{Boots, HoldsCode};
 
 use adf_block::Image;
-use adf_block::layout::{BLOCK_BYTES, BLOCK_LONGS, BOOT_BLOCKS, BOOT_SUM, KIND};
+use adf_block::layout::{BLOCK_BYTES, BOOT_BLOCKS, BOOT_SUM, KIND};
 use thiserror::Error;
 
 /// The bytes are more than the two boot blocks have.
@@ -73,31 +73,6 @@ fn settle_boot(image: &mut Image)
     ensures rest { OnlyLong 0 1 image.old image.new }
 {
     prove!(image.blocks() >= 16);
-    let sum = !carry_round(boot_total(image));
+    let sum = image.boot_sum();
     image.set_long(0, BOOT_SUM, sum);
-}
-
-/// The sum of the 256 boot longs but for the boot sum's own, with no wrap.
-fn boot_total(image: &Image) -> u64
-    ensures total { result ≡ total (boot_long image.now) 256 }
-    ensures bound { result ≤ 2 ^ 40 }
-{
-    prove!(image.blocks() >= 16);
-    let mut total = 0_u64;
-    for k in 0..BOOT_BLOCKS * BLOCK_LONGS {
-        if k != BOOT_SUM {
-            total += u64::from(image.long(k / BLOCK_LONGS, k % BLOCK_LONGS));
-        }
-    }
-    total
-}
-
-/// The sum whose carries out of 32 bits were added in again.
-fn carry_round(total: u64) -> u32
-    requires { total ≤ 2 ^ 40 }
-    ensures { result ≡ carried_sum total }
-{
-    let once = (total & 0xffff_ffff) + (total >> 32);
-    let twice = (once & 0xffff_ffff) + (once >> 32);
-    twice as u32
 }

@@ -6,6 +6,7 @@ ghost use Rattle.port_ends.specs.Ends.{ClientView, PutAccepted, PutIsRefused, To
 ghost use Rattle.port_ends.specs.steps.HandlerEnds.{Heard};
 ghost use Rattle.port_ends.specs.steps.Views.{client_view};
 
+use crate::bell::Rest;
 use crate::closing_mark::CloseReader;
 use crate::desk::Desk;
 use crate::queue::PutEnd;
@@ -106,6 +107,7 @@ impl<S: Server> ClientEnd<S> {
             return None;
         }
         let (_, answer) = self.inlet.take()?;
+        self.queue.bell().ring_for_room();
         self.count += 1;
         if S::closes(&answer) {
             self.shut = true;
@@ -114,6 +116,40 @@ impl<S: Server> ClientEnd<S> {
             number: self.count,
             answer,
         })
+    }
+
+    /// Takes the next reply as `take` does, with at most so many looks for it.
+    ///
+    /// Between two looks it rests, and sleeps until a reply is posted or the server has died, for a millisecond at most.
+    pub fn take_within<R: Wait>(&mut self, rt: &R, looks: u64) -> Option<Reply<S::Reply>>
+        ensures some { IfSome result (λ reply. TookReply S.is_closing self.old self.new reply) }
+        ensures none { IfNone result (self.new ≡ self.old) }
+        ensures same { self.new ≡ record self.old { taken = self.new.taken; knows = self.new.knows } }
+    {
+        for look in 0..looks {
+            let rest = Rest::after(look);
+            self.announce(rest);
+            if let Some(reply) = self.take() {
+                return Some(reply);
+            }
+            self.nap(rt, rest);
+        }
+        None
+    }
+
+    /// Wakes the handler where it sleeps, for what it looks at beside the port.
+    pub fn wake_handler(&self) {
+        self.queue.bell().ring();
+    }
+
+    // Announces that this end sleeps after its next look, where it rests so and the look is in vain.
+    fn announce(&self, rest: Rest) {
+        self.inlet.announce(rest);
+    }
+
+    // Rests after a look in vain.
+    fn nap<R: Wait>(&self, rt: &R, rest: Rest) {
+        self.inlet.nap(rt, rest);
     }
 
     // How many packets were put.

@@ -8,11 +8,12 @@ ghost use Rattle.port_ends.specs.steps.Rooms.{HasUntaken};
 ghost use Rattle.port_ends.specs.Ends.{HandlerView, IsNew, IsSound, Serves};
 ghost use Rattle.port_ends.specs.Batches.{ServesSome, ServesSoMany, OnlyOffers, EndsAs, empty_batches};
 
+use crate::bell::Rest;
 use crate::client::ClientEnd;
 use crate::closing_mark::CloseSetter;
 use crate::desk::Desk;
 use crate::open::OpenRefused;
-use crate::outlets::{post_all, reserve_all, send_to};
+use crate::outlets::{any_waits, post_all, reserve_all, ring_all, send_to};
 use crate::queue::{TakeEnd, open_queue};
 use crate::ring::{Outlet, open_ring};
 use port_history::Server;
@@ -107,13 +108,37 @@ impl<S: Server> HandlerEnd<S> {
             return Err(ServeFault::NoMemory);
         }
         let served = self.serve_up_to(rt, moment, limit);
+        self.tell_death();
         self.witness();
         Ok(served)
     }
 
+    /// Announces that the handler sleeps after its next look, where it rests so and the look is in vain. What it waits for has
+    /// to be looked at between this and `rest`.
+    pub fn announce(&self, rest: Rest) {
+        if rest != Rest::Sleep {
+            return;
+        }
+        if any_waits(&self.outlets) {
+            self.queue.bell().announce_for_room();
+        } else {
+            self.queue.bell().announce();
+        }
+    }
+
+    /// Wakes each client that sleeps, so that it looks for its reply once more.
+    pub fn wake_clients(&self) {
+        ring_all(&self.outlets);
+    }
+
+    /// Rests after a look in vain. A sleep ends with a put, with a take that gives room to a reply that waits, or as a client wakes the handler.
+    pub fn rest<R: Wait>(&self, rt: &R, rest: Rest) {
+        self.queue.bell().rest(rt, rest);
+    }
+
     /// Serves batches of 64 until the server has died and a batch found nothing, or until `idle_limit` batches in a row found nothing.
     ///
-    /// What earlier batches served stays served where a later one finds no memory.
+    /// Between batches that found nothing it rests, and sleeps no longer than a millisecond. What earlier batches served stays served where a later one finds no memory.
     pub fn serve_until_closed<R: Wait>(
         &mut self,
         rt: &R,
@@ -128,6 +153,8 @@ impl<S: Server> HandlerEnd<S> {
     {
         let mut idle = 0u64;
         for _ in rt.forever() {
+            let rest = Rest::after(idle);
+            self.announce(rest);
             if self.serve_batch(rt, moment, BATCH)? > 0 {
                 idle = 0;
                 continue;
@@ -139,8 +166,21 @@ impl<S: Server> HandlerEnd<S> {
             if idle >= idle_limit {
                 return Ok(ServeEnd::Idle);
             }
+            self.nap(rt, rest);
         }
         unreachable!()
+    }
+
+    // Rests after a look in vain, and sleeps for a millisecond at most.
+    fn nap<R: Wait>(&self, rt: &R, rest: Rest) {
+        self.queue.bell().nap(rt, rest);
+    }
+
+    // Wakes each client that sleeps where the server has died, so that it finds the mark set.
+    fn tell_death(&self) {
+        if self.server().died() {
+            self.wake_clients();
+        }
     }
 
     // Takes one packet, serves it and sends its reply.

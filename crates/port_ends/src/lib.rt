@@ -1,6 +1,7 @@
 //! The running port: each client puts packets to one queue and takes its replies from a ring of its own, and the handler serves what it finds in the queue.
 #![tactic(auto)]
 
+mod bell;
 mod client;
 mod closing_mark;
 mod desk;
@@ -14,6 +15,7 @@ mod ring;
 mod seat;
 mod trail;
 
+pub use bell::Rest;
 pub use client::ClientEnd;
 pub use gathering::{GatherRefused, Gathered, gather};
 pub use handler::{HandlerEnd, ServeEnd, ServeFault};

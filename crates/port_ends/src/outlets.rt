@@ -1,5 +1,5 @@
 //! All clients' outlets.
-ghost use Rattle.std.specs.Prelude.{◌≡◌, ◌+◌, ◌<◌, ◌≤◌, ◌^◌, length, OnOk};
+ghost use Rattle.std.specs.Prelude.{◌≡◌, ◌+◌, ◌<◌, ◌≤◌, ◌^◌, length, OnOk, IsFalse};
 ghost use Rattle.port_ends.specs.Rings.{Each, EachOffers, waiting_count};
 ghost use Rattle.port_ends.specs.steps.Sending.{EachGetsRoom, EachHasRoom, SendsTo};
 
@@ -28,6 +28,26 @@ pub fn post_all<T: Drop>(outlets: &mut Vec<Outlet<T>>) -> usize
         waiting += outlet.post_waiting();
     }
     waiting
+}
+
+/// Whether a reply waits beside any ring.
+pub fn any_waits<T: Drop>(outlets: &Vec<Outlet<T>>) -> bool
+    ensures { IsFalse result → waiting_count outlets.now.items ≡ 0 }
+{
+    for i in 0..outlets.len() {
+        let outlet = &outlets[i];
+        if outlet.waiting() > 0 {
+            return true;
+        }
+    }
+    false
+}
+
+/// Wakes each client that sleeps.
+pub fn ring_all<T: Drop>(outlets: &Vec<Outlet<T>>) {
+    for i in 0..outlets.len() {
+        outlets[i].ring();
+    }
 }
 
 /// Gets room in each for this many more to wait.

@@ -2,20 +2,23 @@
 ghost use Rattle.std.specs.Prelude.{◌≡◌, ◌+◌, ◌<◌, [], ◌∷◌, ◌++◌, length, IfOk, MatchResult, IfSome, IfNone, OnErr};
 ghost use Rattle.port_ends.specs.steps.QueueCalls.{AddsPacket, HandsBack, AddsPutEnd, TakesPacket, FindsNothing};
 
+use crate::bell::Bell;
 use crate::seat::{Gathers, Opens, Port, PortPass, Puts, Takes};
 use std::alloc::{AllocError, Global};
 use std::marker::Model;
 use std::sync::{Arc, Wait};
 
-// The queue that all ends share.
+// The queue that all ends share, and the handler's bell.
 pub struct PortBox<Q: Drop> {
     queue: Port<Q>,
+    bell: Bell,
 }
 
 impl<Q: Drop> Drop for PortBox<Q> {
     fn drop(self) {
-        let Self { queue } = self;
+        let Self { queue, bell } = self;
         queue.destroy();
+        drop(bell);
     }
 }
 
@@ -55,7 +58,12 @@ impl<Q: Drop> PutEnd<Q> {
         self.count
     }
 
-    /// Puts a packet, and answers its number. A refusal hands it back, and changes nothing.
+    /// The bell that the handler sleeps at.
+    pub fn bell(&self) -> &Bell {
+        &self.port.bell
+    }
+
+    /// Puts a packet, wakes the handler, and answers the packet's number. A refusal hands it back, and changes nothing.
     pub fn put<R: Wait>(&mut self, rt: &R, packet: Q) -> Result<u64, Q>
         ensures put { MatchResult result (λ number. AddsPacket self.old packet self.new number) (λ back. HandsBack self.old packet self.new back) }
     {
@@ -68,6 +76,7 @@ impl<Q: Drop> PutEnd<Q> {
             .push_as::<Puts, R>(rt, &mut self.pass, (self.number, packet))
         {
             Ok(()) => {
+                self.port.bell.ring();
                 self.count += 1;
                 Ok(self.count)
             }
@@ -102,7 +111,8 @@ pub fn open_queue<Q: Drop>(alloc: Global) -> Result<TakeEnd<Q>, AllocError>
     ensures { IfOk result (λ e. (e.clients ≡ 0) × (e.taken ≡ []) × (e.known ≡ [])) }
 {
     let (queue, pass) = Port::with_rule(alloc)?;
-    let port = Arc::new(alloc, PortBox { queue })?;
+    let bell = Bell::new();
+    let port = Arc::new(alloc, PortBox { queue, bell })?;
     Ok(TakeEnd {
         port,
         pass,
@@ -111,6 +121,11 @@ pub fn open_queue<Q: Drop>(alloc: Global) -> Result<TakeEnd<Q>, AllocError>
 }
 
 impl<Q: Drop> TakeEnd<Q> {
+    /// The bell that the handler sleeps at.
+    pub fn bell(&self) -> &Bell {
+        &self.port.bell
+    }
+
     /// The end of one more client.
     pub fn add_client(&mut self) -> Result<PutEnd<Q>, AllocError>
         requires { self.old.clients < 18446744073709551615 }

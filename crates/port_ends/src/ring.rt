@@ -7,12 +7,14 @@ ghost use Rattle.port_ends.specs.Rings.{OutView, Offers, StaysPosted, all_of};
 ghost use Rattle.port_ends.specs.steps.Sending.{GetsRoom};
 ghost use Rattle.port_ends.specs.steps.Rooms.{FitIn};
 
+use crate::bell::{Bell, Rest};
 use crate::trail::Trail;
 use port_history::Reply;
 use rtrb::{Consumer, Producer, PushError, RingBuffer};
 use std::alloc::{AllocError, Global};
 use std::collections::VecDeque;
 use std::marker::Model;
+use std::sync::{Arc, Wait};
 
 /// The sending end. What finds the ring full waits beside it.
 #[derive(Drop)]
@@ -20,6 +22,7 @@ pub struct Outlet<T: Drop> {
     producer: Producer<T>,
     waiting: VecDeque<T>,
     looks: Trail<usize>,
+    bell: Arc<Bell, Global>,
 }
 
 impl<T: Drop> Model for Outlet<T> {
@@ -44,6 +47,7 @@ impl<T: Drop> Model for Outlet<T> {
 #[derive(Drop)]
 pub struct Inlet<T: Drop> {
     consumer: Consumer<T>,
+    bell: Arc<Bell, Global>,
 }
 
 impl<T: Drop> Model for Inlet<T> {
@@ -62,20 +66,28 @@ pub fn open_ring<T: Drop>(alloc: Global, places: usize) -> Result<(Outlet<T>, In
     ensures { IfOk result (λ r. (r.0.ring ≡ r.1.ring) × (r.0.posted ≡ []) × (r.0.waiting ≡ []) × (r.1.taken ≡ []) × (r.0.places ≡ places)) }
 {
     let (producer, consumer) = RingBuffer::new(alloc, places)?;
+    let bell = Arc::new(alloc, Bell::new())?;
+    let there = Arc::try_clone(&bell)?;
     let outlet = Outlet {
         producer,
         waiting: VecDeque::new(alloc),
         looks: Trail::new(),
+        bell: there,
     };
-    Ok((outlet, Inlet { consumer }))
+    Ok((outlet, Inlet { consumer, bell }))
 }
 
-// How many places of the ring are free, by a look at it, which is noted.
-fn look<T: Drop>(producer: &mut Producer<T>, looks: &mut Trail<usize>) -> usize
+// How many places of the ring are free, by a look at it, which is noted. Where nothing waits the ring is left alone, and what is known of it will do.
+fn look<T: Drop>(producer: &mut Producer<T>, waits: bool, looks: &mut Trail<usize>) -> usize
     ensures same { ProducerLooked producer.old producer.new }
     ensures found { result ≡ known_free producer.new }
     ensures noted { looks.new ≡ looks.old ++ result ∷ [] }
 {
+    if !waits {
+        let known = producer.cached_slots();
+        looks.push(known);
+        return known;
+    }
     let free = producer.slots();
     looks.push(free);
     free
@@ -90,22 +102,24 @@ impl<T: Drop> Outlet<T> {
         self.waiting.reserve(more)
     }
 
-    /// Posts what fits, in order, and answers how many still wait.
+    /// Posts what fits, in order, wakes the receiving end, and answers how many still wait.
     pub fn post_waiting(&mut self) -> usize
         ensures offers { Offers self.old self.new }
         ensures count { result ≡ length self.new.waiting }
     {
-        let free = look(&mut self.producer, &mut self.looks);
+        let waits = !self.waiting.is_empty();
+        let free = look(&mut self.producer, waits, &mut self.looks);
         for _ in 0..free {
             let Some(reply) = self.waiting.pop_front() else {
                 break;
             };
             self.producer.push_reserved(reply);
+            self.bell.ring();
         }
         self.waiting.len()
     }
 
-    /// Posts a reply, or lets it wait behind those that wait.
+    /// Posts a reply and wakes the receiving end, or lets the reply wait behind those that wait.
     pub fn send(&mut self, reply: T)
         requires { 0 < self.old.room }
         ensures posted { StaysPosted self.old self.new }
@@ -116,7 +130,10 @@ impl<T: Drop> Outlet<T> {
         let mut reply = reply;
         if self.waiting.is_empty() {
             match self.producer.push(reply) {
-                Ok(()) => return,
+                Ok(()) => {
+                    self.bell.ring();
+                    return;
+                }
                 Err(PushError::Full(back)) => reply = back,
             }
         }
@@ -127,6 +144,18 @@ impl<T: Drop> Outlet<T> {
 }
 
 impl<T: Drop> Inlet<T> {
+    /// Announces that this end sleeps after its next look, where it rests so and the look is in vain.
+    pub fn announce(&self, rest: Rest) {
+        if rest == Rest::Sleep {
+            self.bell.announce();
+        }
+    }
+
+    /// Rests after a look in vain, and sleeps for a millisecond at most.
+    pub fn nap<R: Wait>(&self, rt: &R, rest: Rest) {
+        self.bell.nap(rt, rest);
+    }
+
     pub fn take(&mut self) -> Option<T>
         ensures ring { self.new.ring ≡ self.old.ring }
         ensures some { IfSome result (λ x. self.new.taken ≡ self.old.taken ++ x ∷ []) }
@@ -146,6 +175,11 @@ impl<T: Drop> Inlet<T> {
 }
 
 impl<T: Drop> Outlet<T> {
+    /// Wakes who sleeps at the receiving end.
+    pub fn ring(&self) {
+        self.bell.ring();
+    }
+
     pub fn waiting(&self) -> usize
         ensures { result ≡ length self.now.waiting }
     {

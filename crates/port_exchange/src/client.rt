@@ -53,6 +53,7 @@ impl<A: Drop> Client<A> {
     }
 
     /// Keeps the reply to a packet that waited, in the place that is reserved.
+    #[inline(always)]
     pub(crate) fn answer(&mut self, reply: A)
         requires { 0 < self.old.waiting }
         ensures replies { self.new.replies.items ≡ self.old.replies.items ++ reply ∷ [] }
@@ -65,6 +66,7 @@ impl<A: Drop> Client<A> {
     }
 
     /// Hands out the first reply.
+    #[inline(always)]
     pub(crate) fn take(&mut self) -> Option<Reply<A>>
         ensures accepted { self.new.accepted ≡ self.old.accepted }
         ensures waiting { self.new.waiting ≡ self.old.waiting }

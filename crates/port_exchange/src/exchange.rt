@@ -65,6 +65,9 @@ impl<S: Server> Exchange<S> {
     }
 
     /// Does one step. A put that is accepted has the place of its reply, so that neither its serve nor its take needs memory.
+    ///
+    /// It is made part of its caller, where mostly the kind of step is known: called, it moves room for any packet there and back.
+    #[inline(always)]
     pub fn step(&mut self, step: Step<S::Request, S::Moment>) -> Outcome<S::Request, S::Reply>
         ensures gives { StepGives S.gives S.has_died self.old step result self.new }
         ensures history { PortHistory S.gives S.has_died self.old (step ∷ []) (result ∷ []) self.new }

@@ -5,7 +5,7 @@ ghost use Rattle.port_ends.specs.Batches.{ServesSome};
 ghost use Rattle.port_threads.specs.Grown.{Did, EachDid};
 
 use crate::client::Client;
-use port_ends::{ClientEnd, HandlerEnd};
+use port_ends::{ClientEnd, HandlerEnd, Rest};
 use port_history::Server;
 use std::alloc::Global;
 use std::collections::VecDeque;
@@ -44,7 +44,7 @@ pub enum ServeClientsFault {
     Thread,
 }
 
-// A client's thread. It counts itself as ended.
+// A client's thread. It counts itself as ended, and wakes the handler.
 fn run_client<S: Server, C: Client<S>, R: Wait>(
     rt: &R,
     end: ClientEnd<S>,
@@ -56,6 +56,7 @@ fn run_client<S: Server, C: Client<S>, R: Wait>(
     let mut end = end;
     let report = job.run(rt, &mut end);
     ended.fetch_add(1, Ordering::SeqCst);
+    end.wake_handler();
     (end, report)
 }
 
@@ -89,7 +90,7 @@ where
 
 // Serves until this many threads have ended and a batch found nothing.
 //
-// A batch that is refused memory is tried again as long as a thread runs. After the last one has ended it is a fault.
+// After batches that found nothing it sleeps until a client wakes it. A batch that is refused memory is tried again as long as a thread runs, and has its clients look once more. After the last one has ended it is a fault.
 fn serve_until_ended<S: Server, R: Wait>(
     rt: &R,
     handler: &mut HandlerEnd<S>,
@@ -99,20 +100,25 @@ fn serve_until_ended<S: Server, R: Wait>(
 ) -> Result<(), ServeClientsFault>
     ensures { ServesSome S.gives moment handler.old handler.new }
 {
+    let mut looks = 0u64;
     for _ in rt.forever() {
+        let rest = Rest::after(looks);
+        handler.announce(rest);
         let all = ended.load(Ordering::SeqCst) == threads;
         match handler.serve_batch(rt, moment, BATCH) {
             Ok(0) => {
                 if all {
                     break;
                 }
-                thread::yield_now();
+                handler.rest(rt, rest);
+                looks = looks.saturating_add(1);
             }
-            Ok(_) => {}
+            Ok(_) => looks = 0,
             Err(_) => {
                 if all {
                     return Err(ServeClientsFault::Memory);
                 }
+                handler.wake_clients();
                 thread::yield_now();
             }
         }

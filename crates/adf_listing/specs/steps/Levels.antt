@@ -3,12 +3,17 @@ use Rattle.std.specs.Prelude.{◌≡◌, ℕ, suc, ◌+◌, ◌*◌, ◌<◌, �
 use Rattle.ados_tree.specs.Change.{entries_after}
 use Rattle.ados_tree.specs.Keys.{HasDirectory}
 use Rattle.ados_tree.specs.Tree.{Tree, LeadsToRoot, name_of}
+use Rattle.ados_volume.specs.Order.{IsPlaceIn}
 use Rattle.adf_listing.specs.declared.listing.Level.{Level}
 use Rattle.adf_listing.specs.Listing.{Listed, below, listing}
 
--- each level is of a directory of the tree that the image stands for
-abbrev pub AreDirectories : List ℕ → List Level → Type 0
-AreDirectories image levels = All (λ level. HasDirectory image level.dir) levels
+-- a level is of a directory of the tree that the image stands for, and its entry that was listed last is a place in it
+abbrev pub IsPlaceInDirectory : List ℕ → Level → Type 0
+IsPlaceInDirectory image level = HasDirectory image level.dir × IsPlaceIn image level.dir level.last
+
+-- so is each level
+abbrev pub ArePlacesInDirectories : List ℕ → List Level → Type 0
+ArePlacesInDirectories image levels = All (IsPlaceInDirectory image) levels
 
 -- an entry with this path
 abbrev pub entry_at : List ℕ → ℕ → Listed

@@ -14,7 +14,7 @@ use Rattle.adf_listing.proofs.listing.write_list.Goals as goal
 use Rattle.adf_listing.proofs.listing.write_list.Goals.{else-loop-test, then-loop-test+in_ok-go_on+then-not-branch}
 
 pub loop-init : goal.loop-init
-loop-init g c = (c.in_ok-listing.ensures.directories, λ t s. written_none t c.args.dir c.args.letters _ _ (c.in_ok-listing.ensures.starts t s))
+loop-init g c = (c.in_ok-listing.ensures.places, λ t s. written_none t c.args.dir c.args.letters _ _ (c.in_ok-listing.ensures.starts t s))
 
 pub returns-in_err-listing-clause-front : goal.returns-in_err-listing-clause-front
 returns-in_err-listing-clause-front g c =
@@ -43,7 +43,7 @@ returns-in_err-write_when_long-clause-front g c =
 
 pub loop-preserved : goal.loop-preserved
 loop-preserved g c = (
-  same_are c.args.volume.now.image _ _ c.write_when_long.ensures.levels c.in_ok-go_on.ensures.directories,
+  same_are c.args.volume.now.image _ _ c.write_when_long.ensures.levels c.in_ok-go_on.ensures.places,
   λ t s.
       let w = c.loop.invariant.1 t s in
       let on = written_on t c.args.dir c.args.letters _ _ c.loop.listing c.go_on.new.self c.loop.counter w

@@ -1,6 +1,6 @@
 use Rattle.std.proofs.Common.{◌≡◌, ◌≢◌, ◌<◌, ◌/◌, ◌⊎◌, inl, inr, ℕ, sym, ◌∙◌, arith}
 use Rattle.adf_block.specs.Fields.{secondary_type_long, parent_long, next_extension}
-use Rattle.adf_block.proofs.Frames.{same_long}
+use Rattle.adf_block.proofs.Frames.{same_long, same_sum}
 use Rattle.ados_data.specs.steps.Edits.{AtExtensionFields}
 use Rattle.ados_data.proofs.Beside.{beside_field, sum_beside_field, empty_long}
 use Rattle.ados_data.proofs.Untouched.{extension_kept}
@@ -19,7 +19,8 @@ returns c =
       no_next = other next_extension (omega arith) ∙ same_long (AtExtensionFields c.args.e) c.args.image.now c.make_extension.new.image c.make_extension.ensures.rest c.args.e next_extension (omega arith) (λ k m at. not_these k next_extension m (omega arith) (omega arith) (omega arith) (omega arith) (omega arith) at.1)
           ∙ empty_long c.args.image.now c.args.e c.requires.empty next_extension (omega arith);
       link = c.set_field.ensures.set;
-      sum = c.set_field.ensures.sum;
+      sum = λ z.
+          c.set_field.ensures.sum (same_sum (AtExtensionFields c.args.e) c.args.image.now c.make_extension.new.image c.make_extension.ensures.rest c.args.holder (λ k l at. c.requires.apart (sym at.0)) ∙ z);
       rest = record {
         same_length = c.set_field.ensures.rest.same_length ∙ c.make_extension.ensures.rest.same_length;
         same_byte = λ b k l un. c.set_field.ensures.rest.same_byte b k l (λ x. un (inr x)) ∙ c.make_extension.ensures.rest.same_byte b k l (λ x. un (inl x));

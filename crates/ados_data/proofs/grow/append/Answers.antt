@@ -1,10 +1,16 @@
 use Rattle.std.proofs.Common.{◌/◌, ℕ, length, sym, ap, ◌∙◌, arith}
 use Rattle.ados_data.specs.File.{data_blocks, extension_blocks, contents}
 use Rattle.ados_data.proofs.Appending.{appended_call, room_of, file_inside, last_apart, new_apart}
+use Rattle.ados_data.proofs.Bounds.{below_stays}
 use Rattle.ados_data.proofs.grow.append.Goals as goal
 
 pub new_block-last-requires-clause-map : goal.new_block-last-requires-clause-map
 new_block-last-requires-clause-map c = (room_of c.args.image.now c.args.format c.args.file c.args.end c.requires.writable (omega (arith, c.blocks-2.ensures.count, c.blocks-2.ensures.size), omega (arith, c.blocks-2.ensures.count, c.blocks-2.ensures.size)) c.requires.format c.requires.end c.pointer_room-holder.result c.pointer_room-holder.new.image c.pointer_room-holder.ensures).stands.map
+
+pub new_block-last-requires-clause-below : goal.new_block-last-requires-clause-below
+new_block-last-requires-clause-below c =
+    let room = room_of c.args.image.now c.args.format c.args.file c.args.end c.requires.writable (omega (arith, c.blocks-2.ensures.count, c.blocks-2.ensures.size), omega (arith, c.blocks-2.ensures.count, c.blocks-2.ensures.size)) c.requires.format c.requires.end c.pointer_room-holder.result c.pointer_room-holder.new.image c.pointer_room-holder.ensures in
+    below_stays c.args.image.now c.pointer_room-holder.new.image c.args.from (ap (λ (n : ℕ). n / 512) room.leaves.same_length) room.gains.marks c.requires.below
 
 pub new_block-last-requires-clause-free : goal.new_block-last-requires-clause-free
 new_block-last-requires-clause-free c = omega (arith, (room_of c.args.image.now c.args.format c.args.file c.args.end c.requires.writable (omega (arith, c.blocks-2.ensures.count, c.blocks-2.ensures.size), omega (arith, c.blocks-2.ensures.count, c.blocks-2.ensures.size)) c.requires.format c.requires.end c.pointer_room-holder.result c.pointer_room-holder.new.image c.pointer_room-holder.ensures).count, c.requires.free, c.requires.end.counted)

@@ -10,7 +10,12 @@ use Rattle.ados_data.proofs.Leaving.{leaves_both, beside_gains, gains_both}
 use Rattle.ados_data.proofs.Lengthening.{more_zeros}
 use Rattle.ados_data.proofs.Grown.{front_both}
 use Rattle.ados_data.proofs.Composing.{HasGrown, keeps_calls, whole_front}
+use Rattle.ados_map.specs.Pages.{NoneFreeBelow}
+use Rattle.ados_data.proofs.Bounds.{below_stays, below_taken}
 use Rattle.ados_data.proofs.grow.extend.Goals as goal
+
+pub long-requires-clause-block : goal.long-requires-clause-block
+long-requires-clause-block c = omega (arith, c.requires.writable.lawful.places.headers_inside 0 (omega arith))
 
 pub loop-reached-preserved : goal.loop-reached-preserved
 loop-reached-preserved c =
@@ -30,6 +35,9 @@ loop-reached-preserved c =
     let before : HasGrown c.args.image.now c.args.file c.loop-reached.image = record { before = c.requires.writable.lawful; after = c.loop-reached.invariant.writable.lawful; leaves = c.loop-reached.invariant.leaves; same_format = c.loop-reached.invariant.same_format ∙ c.format-format.ensures; size = omega (arith, now_long, c.loop-reached.invariant.over); blocks = c.loop-reached.invariant.blocks; extensions = c.loop-reached.invariant.extensions } in
     let behind : HasGrown c.loop-reached.image c.args.file c.append-end.new.image = record { before = c.loop-reached.invariant.writable.lawful; after = c.append-end.ensures.writable.lawful; leaves = c.append-end.ensures.leaves; same_format = c.append-end.ensures.format ∙ sym c.loop-reached.invariant.same_format; size = omega (arith, next_long); blocks = c.append-end.ensures.blocks; extensions = c.append-end.ensures.extensions } in
     let counts : block_count c.append-end.new.image ≡ block_count c.args.image.now = ap (λ (n : ℕ). n / 512) (c.append-end.ensures.leaves.same_length ∙ c.loop-reached.invariant.leaves.same_length) in
+    let last = length (data_blocks c.append-end.new.image c.args.file) - 1 in
+    let last_behind : length (data_blocks c.loop-reached.image c.args.file) ≤ last = omega (arith, c.append-end.ensures.end.counted, c.append-end.ensures.count, c.loop-reached.invariant.end_is.counted) in
+    let last_within : last < length (data_blocks c.append-end.new.image c.args.file) = omega (arith, c.append-end.ensures.end.counted, c.append-end.ensures.count) in
     record {
       below = omega (arith, c.min-next.ensures);
       over = omega (arith, c.loop-reached.invariant.over, next_over, here);
@@ -46,6 +54,10 @@ loop-reached-preserved c =
       blocks = front_both (data_blocks c.args.image.now c.args.file) (data_blocks c.loop-reached.image c.args.file) (data_blocks c.append-end.new.image c.args.file) c.loop-reached.invariant.blocks c.append-end.ensures.blocks;
       extensions = front_both (extension_blocks c.args.image.now c.args.file) (extension_blocks c.loop-reached.image c.args.file) (extension_blocks c.append-end.new.image c.args.file) c.loop-reached.invariant.extensions c.append-end.ensures.extensions;
       keeps = keeps_calls c.args.image.now c.loop-reached.image c.append-end.new.image c.args.file before behind c.loop-reached.invariant.keeps c.append-end.ensures.keeps;
+      bound = subst (NoneFreeBelow c.append-end.new.image) (sym c.append-end.ensures.end.last_is)
+          (below_taken c.loop-reached.image c.append-end.new.image c.args.file (data_blocks c.loop-reached.image c.args.file) (extension_blocks c.loop-reached.image c.args.file) (data_blocks c.append-end.new.image c.args.file) (extension_blocks c.append-end.new.image c.args.file)
+          (ap (λ (n : ℕ). n / 512) c.append-end.ensures.leaves.same_length) c.append-end.ensures.gains last last_behind last_within
+          (c.append-end.ensures.writable.lawful.places.data_inside last last_within) (c.append-end.ensures.writable.data_used last last_within).marked);
       full = λ l. omega (arith, l, c.min-next.ensures, here, room, c.append-end.ensures.count, ap (λ (n : ℕ). data_size c.format-format.result * n) c.append-end.ensures.count);
       bytes = more_zeros (contents c.args.image.now c.args.file) (contents c.loop-reached.image c.args.file) (contents c.append-end.new.image c.args.file) (length (contents c.args.image.now c.args.file)) c.loop-reached.reached c.min-next.result
           c.loop-reached.invariant.over (omega (arith, next_over, here)) now_long c.loop-reached.invariant.bytes c.append-end.ensures.bytes;
@@ -82,6 +94,7 @@ loop-reached-init c =
       extensions = whole_front (extension_blocks c.args.image.now c.args.file) (extension_blocks c.fill_last-reached.new.image c.args.file) c.fill_last-reached.ensures.extensions;
       keeps = c.fill_last-reached.ensures.keeps;
       end_is = c.fill_last-reached.ensures.end;
+      bound = below_stays c.args.image.now c.fill_last-reached.new.image c.args.from (ap (λ (n : ℕ). n / 512) c.fill_last-reached.ensures.leaves.same_length) c.fill_last-reached.ensures.gains.marks c.requires.below;
       full = c.fill_last-reached.ensures.full;
       bytes = c.fill_last-reached.ensures.bytes;
       free = omega (arith, c.fill_last-reached.ensures.free, count, ap extension_count count);

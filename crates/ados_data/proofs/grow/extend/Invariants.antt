@@ -1,5 +1,6 @@
 use Rattle.std.proofs.Common.{◌-◌, ◌≡◌, ◌≤◌, ◌<◌, ◌+◌, ◌*◌, ◌++◌, length, replicate, take}
 use Rattle.adf_block.specs.Image.{free_bit_count}
+use Rattle.ados_map.specs.Pages.{NoneFreeBelow}
 use Rattle.ados_data.specs.Cost.{block_cost, data_size}
 use Rattle.ados_data.specs.File.{contents, data_blocks, extension_blocks, format_of}
 use Rattle.ados_data.specs.Changing.{WritableFile}
@@ -20,6 +21,7 @@ invariant-loop-reached l = record {
   extensions : take (length (extension_blocks l.fn.image l.file)) (extension_blocks l.image l.file) ≡ extension_blocks l.fn.image l.file;
   keeps : KeepsUnnamed l.fn.image l.file (data_blocks l.fn.image l.file) (extension_blocks l.fn.image l.file) l.image (data_blocks l.image l.file) (extension_blocks l.image l.file);
   end_is : IsEnd l.image l.file l.end;
+  bound : NoneFreeBelow l.image l.bound;
   full : l.reached < l.size → l.reached ≡ data_size l.format * l.end.count;
   bytes : contents l.image l.file ≡ contents l.fn.image l.file ++ replicate (l.reached - length (contents l.fn.image l.file)) 0;
   free : free_bit_count l.image + block_cost l.format l.reached ≡ free_bit_count l.fn.image + block_cost l.format (length (contents l.fn.image l.file));

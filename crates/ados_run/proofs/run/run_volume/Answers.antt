@@ -14,3 +14,8 @@ pub returns-in-Err-run : goal.returns-in-Err-run
 returns-in-Err-run c =
     let same = ap (λ (s : HandlerState). s.image) (c.into_server.ensures ∙ ap (λ p. p.server) (c.in-Err-run.ensures.history.0 ∙ c.in-Ok.ensures)) ∙ c.new-handler.ensures.image in
     rw (c.no_memory-in-Err-run.ensures, same) (c.in_ok-volume.volume.was_validated, c.in_ok-volume.ensures)
+
+pub returns-in-Err : goal.returns-in-Err
+returns-in-Err c =
+    let same = ap (λ (s : HandlerState). s.image) c.in-Err.ensures ∙ c.new-handler.ensures.image in
+    rw (c.no_memory.ensures, same) (c.in_ok-volume.volume.was_validated, c.in_ok-volume.ensures)

@@ -1,12 +1,11 @@
-use Rattle.std.proofs.Common.{◌≡◌, ℕ, List, Some, None, sym, ap, ◌∙◌}
-use Rattle.ados_tree.specs.Tree.{Tree, name_in, name_of, parent_of}
-use Rattle.ados_tree.specs.Stands.{Stands}
+use Rattle.std.proofs.Common.{◌≡◌, sym, ap, ◌∙◌}
+use Rattle.ados_tree.specs.Tree.{name_in, name_of}
 use Rattle.ados_tree.proofs.Nodes.{some_in}
 use Rattle.ados_volume.proofs.Moved.{forgets, no_child_here}
 use Rattle.ados_volume.proofs.entries.forget.Goals as goal
 
-pub returns-in-Some : goal.returns-in-Some
-returns-in-Some c = λ d n k p.
+pub returns-in-Some-clause-names : goal.returns-in-Some-clause-names
+returns-in-Some-clause-names c = λ d n k p.
     let taken = c.take_out.ensures d n k p in (
       taken.0,
       λ t s.
@@ -15,8 +14,8 @@ returns-in-Some c = λ d n k p.
           forgets c.args.image.now t s c.args.key c.in-Some.dir c.name_in.result (sym (c.in-Some.ensures t s)) own d n taken.1,
     )
 
-pub returns-in_default : goal.returns-in_default
-returns-in_default c = λ d n k p. (
+pub returns-in_default-clause-names : goal.returns-in_default-clause-names
+returns-in_default-clause-names c = λ d n k p. (
   p,
   λ t s. no_child_here c.args.image.now t s c.args.key (sym (c.in_default.ensures t s)) d n,
 )

@@ -1,6 +1,10 @@
 use Rattle.std.proofs.Common.{sym, ◌∙◌}
 use Rattle.ados_tree.proofs.Listed.{next_has_key}
+use Rattle.ados_volume.proofs.Ordered.{told_place}
 use Rattle.bench.proofs.told.entry_behind.Goals as goal
 
-pub returns-in-Entry : goal.returns-in-Entry
-returns-in-Entry c = next_has_key c.args.volume.now.image c.args.dir c.args.last c.in-Entry.key (λ t s. sym c.in-Entry.is ∙ c.next.ensures t s)
+pub returns-in-Entry-clause-key : goal.returns-in-Entry-clause-key
+returns-in-Entry-clause-key c = next_has_key c.args.volume.now.image c.args.dir c.args.last c.in-Entry.key (λ t s. sym c.in-Entry.is ∙ c.next_from.ensures t s)
+
+pub returns-in-Entry-clause-place : goal.returns-in-Entry-clause-place
+returns-in-Entry-clause-place c = told_place c.args.volume.now.image c.args.dir c.args.last c.in-Entry.key (λ t s. sym c.in-Entry.is ∙ c.next_from.ensures t s)

@@ -8,7 +8,7 @@ use Rattle.ados_tree.specs.Stands.{Stands}
 use Rattle.ados_tree.specs.Change.{rewritten}
 use Rattle.change_bytes.proofs.Calls.{of_cut}
 use Rattle.change_bytes.proofs.Relaid.{IsRewritten}
-use Rattle.change_bytes.proofs.Renewed.{bytes_in, size_in, mid_writable, same_contents, stands_rewritten, keeps_rest, inside_mid, marks_mid}
+use Rattle.change_bytes.proofs.Renewed.{bytes_in, size_in, mid_writable, same_contents, header_stamped, stands_rewritten, keeps_rest, inside_mid, marks_mid}
 use Rattle.change_bytes.proofs.change.cut.Goals as goal
 
 pub cut-requires-clause-writable : goal.cut-requires-clause-writable
@@ -47,3 +47,7 @@ pub returns-clause-none : goal.returns-clause-none
 returns-clause-none c = λ b inside free.
     c.cut.ensures.free_stays b (inside_mid c.args.moment c.args.image.now c.stamp.new.image c.args.file c.requires.tree c.requires.file c.stamp.ensures b inside)
     (marks_mid c.args.moment c.args.image.now c.stamp.new.image c.args.file c.requires.tree c.requires.file c.stamp.ensures b inside ∙ free)
+
+pub returns-clause-header : goal.returns-clause-header
+returns-clause-header c = λ k l fields stamps.
+    c.cut.ensures.header k l fields ∙ header_stamped c.args.moment c.args.image.now c.stamp.new.image c.args.file c.requires.tree c.requires.file c.stamp.ensures k l stamps

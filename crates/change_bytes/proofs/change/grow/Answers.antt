@@ -8,16 +8,24 @@ use Rattle.ados_tree.specs.Stands.{Stands}
 use Rattle.ados_tree.specs.Change.{rewritten}
 use Rattle.change_bytes.proofs.Calls.{of_gains}
 use Rattle.change_bytes.proofs.Relaid.{IsRewritten}
-use Rattle.change_bytes.proofs.Renewed.{bytes_in, size_in, room_enough, lacks_room, mid_writable, same_contents, same_room, stands_rewritten, keeps_rest}
+use Rattle.change_bytes.proofs.Renewed.{bytes_in, size_in, room_enough, lacks_room, mid_writable, below_mid, same_contents, same_place, same_room, stands_rewritten, keeps_rest}
 use Rattle.change_bytes.proofs.change.grow.Goals as goal
 
 pub returns-then-not-has_room-clause-done : goal.returns-then-not-has_room-clause-done
 returns-then-not-has_room-clause-done c =
     (refl, λ t s. lacks_room c.args.image.now t s c.args.file c.args.size c.requires.file c.if-not-has_room.ensures)
 
+pub extend-requires-clause-near : goal.extend-requires-clause-near
+extend-requires-clause-near c =
+    same_place c.args.moment c.args.image.now c.stamp.new.image c.args.file c.requires.tree c.requires.file c.stamp.ensures c.args.near c.requires.near
+
 pub extend-requires-clause-writable : goal.extend-requires-clause-writable
 extend-requires-clause-writable c =
     mid_writable c.args.moment c.args.image.now c.stamp.new.image c.args.file c.requires.tree c.requires.file c.stamp.ensures
+
+pub extend-requires-clause-below : goal.extend-requires-clause-below
+extend-requires-clause-below c =
+    below_mid c.args.moment c.args.image.now c.stamp.new.image c.args.file c.requires.tree c.requires.file c.stamp.ensures c.args.from c.requires.below
 
 pub extend-requires-clause-longer : goal.extend-requires-clause-longer
 extend-requires-clause-longer c =

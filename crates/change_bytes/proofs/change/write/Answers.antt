@@ -12,7 +12,7 @@ use Rattle.ados_tree.specs.Change.{rewritten, written}
 use Rattle.change_bytes.specs.Renewed.{NeedsMore}
 use Rattle.change_bytes.proofs.Calls.{of_gains}
 use Rattle.change_bytes.proofs.Relaid.{IsRewritten}
-use Rattle.change_bytes.proofs.Renewed.{bytes_in, size_in, room_enough, lacks_room, mid_writable, same_contents, same_room, stands_rewritten, keeps_rest}
+use Rattle.change_bytes.proofs.Renewed.{bytes_in, size_in, room_enough, lacks_room, mid_writable, below_mid, same_contents, same_place, same_room, stands_rewritten, keeps_rest}
 use Rattle.change_bytes.proofs.change.write.Goals as goal
 
 -- with no bytes nothing is written, and none more are needed
@@ -45,18 +45,26 @@ returns-then-not-has_room-clause-done c = (
       subst (NeedsMore t c.args.file) size (lacks_room c.args.image.now t s c.args.file c.max-size.result c.requires.file c.if-not-has_room.ensures),
 )
 
-pub write_at-requires-clause-writable : goal.write_at-requires-clause-writable
-write_at-requires-clause-writable c =
+pub write_at-bound-requires-clause-near : goal.write_at-bound-requires-clause-near
+write_at-bound-requires-clause-near c =
+    same_place c.args.moment c.args.image.now c.stamp.new.image c.args.file c.requires.tree c.requires.file c.stamp.ensures c.args.near c.requires.near
+
+pub write_at-bound-requires-clause-writable : goal.write_at-bound-requires-clause-writable
+write_at-bound-requires-clause-writable c =
     mid_writable c.args.moment c.args.image.now c.stamp.new.image c.args.file c.requires.tree c.requires.file c.stamp.ensures
 
-pub write_at-requires-clause-start : goal.write_at-requires-clause-start
-write_at-requires-clause-start c =
+pub write_at-bound-requires-clause-below : goal.write_at-bound-requires-clause-below
+write_at-bound-requires-clause-below c =
+    below_mid c.args.moment c.args.image.now c.stamp.new.image c.args.file c.requires.tree c.requires.file c.stamp.ensures c.args.from c.requires.below
+
+pub write_at-bound-requires-clause-start : goal.write_at-bound-requires-clause-start
+write_at-bound-requires-clause-start c =
     let same = ap length (same_contents c.args.moment c.args.image.now c.stamp.new.image c.args.file c.requires.tree c.requires.file c.stamp.ensures) in
     let size = size_in c.args.image.now c.requires.tree.0 c.requires.tree.1 c.args.file c.requires.file in
     omega (arith, same, size, c.requires.start c.requires.tree.0 c.requires.tree.1)
 
-pub write_at-requires-clause-free : goal.write_at-requires-clause-free
-write_at-requires-clause-free c =
+pub write_at-bound-requires-clause-free : goal.write_at-bound-requires-clause-free
+write_at-bound-requires-clause-free c =
     let same = ap length (same_contents c.args.moment c.args.image.now c.stamp.new.image c.args.file c.requires.tree c.requires.file c.stamp.ensures) ∙ size_in c.args.image.now c.requires.tree.0 c.requires.tree.1 c.args.file c.requires.file in
     let size = c.max-size.ensures ∙ ap (λ (n : ℕ). max n (c.args.pos + length c.args.bytes.now)) (c.size_of.ensures c.requires.tree.0 c.requires.tree.1 ∙ sym same) in
     subst (HasFree c.stamp.new.image c.args.file) size
@@ -75,31 +83,31 @@ length-overlaid xs pos ys l =
     )
 
 -- the file is rewritten, in as many blocks more as it needs
-written_over : (c : goal.Else-prove-2) → IsRewritten c.stamp.new.image c.args.file (data_blocks c.stamp.new.image c.args.file) (extension_blocks c.stamp.new.image c.args.file) c.write_at.new.image (data_blocks c.write_at.new.image c.args.file) (extension_blocks c.write_at.new.image c.args.file) (contents c.write_at.new.image c.args.file)
+written_over : (c : goal.Else-prove-2) → IsRewritten c.stamp.new.image c.args.file (data_blocks c.stamp.new.image c.args.file) (extension_blocks c.stamp.new.image c.args.file) c.write_at-bound.new.image (data_blocks c.write_at-bound.new.image c.args.file) (extension_blocks c.write_at-bound.new.image c.args.file) (contents c.write_at-bound.new.image c.args.file)
 written_over c =
-    let e = c.write_at.ensures in
+    let e = c.write_at-bound.ensures in
     let same = ap length (same_contents c.args.moment c.args.image.now c.stamp.new.image c.args.file c.requires.tree c.requires.file c.stamp.ensures) in
     let size = size_in c.args.image.now c.requires.tree.0 c.requires.tree.1 c.args.file c.requires.file in
     let within : c.args.pos ≤ length (contents c.stamp.new.image c.args.file) = omega (arith, same, size, c.requires.start c.requires.tree.0 c.requires.tree.1) in
     let lengths = ap length e.bytes ∙ length-overlaid (contents c.stamp.new.image c.args.file) c.args.pos c.args.bytes.now within in
-    let balance = ap (λ (n : ℕ). free_bit_count c.write_at.new.image + block_cost (format_of c.stamp.new.image) n) lengths ∙ e.free in
-    of_gains c.stamp.new.image c.write_at.new.image c.args.file
+    let balance = ap (λ (n : ℕ). free_bit_count c.write_at-bound.new.image + block_cost (format_of c.stamp.new.image) n) lengths ∙ e.free in
+    of_gains c.stamp.new.image c.write_at-bound.new.image c.args.file
     (mid_writable c.args.moment c.args.image.now c.stamp.new.image c.args.file c.requires.tree c.requires.file c.stamp.ensures) e.writable e.format e.leaves e.gains e.blocks e.extensions balance
 
 pub returns-clause-done : goal.returns-clause-done
 returns-clause-done c = λ t s.
     let same = same_contents c.args.moment c.args.image.now c.stamp.new.image c.args.file c.requires.tree c.requires.file c.stamp.ensures ∙ bytes_in c.args.image.now t s c.args.file c.requires.file in
-    let bytes : contents c.write_at.new.image c.args.file ≡ overlaid (bytes_of t c.args.file) c.args.pos c.args.bytes.now =
-    c.write_at.ensures.bytes ∙ ap (λ (xs : List ℕ). overlaid xs c.args.pos c.args.bytes.now) same in
+    let bytes : contents c.write_at-bound.new.image c.args.file ≡ overlaid (bytes_of t c.args.file) c.args.pos c.args.bytes.now =
+    c.write_at-bound.ensures.bytes ∙ ap (λ (xs : List ℕ). overlaid xs c.args.pos c.args.bytes.now) same in
     let size = c.max-size.ensures ∙ ap (λ (n : ℕ). max n (c.args.pos + length c.args.bytes.now)) (c.size_of.ensures t s) in
     let some : length c.args.bytes.now ≢ 0 = eqb-false (length c.args.bytes.now) 0 (sym c.if-is_empty.ensures) in (
       subst (λ (n : ℕ). ¬ NeedsMore t c.args.file n) size (room_enough c.args.image.now t s c.args.file c.max-size.result c.requires.file c.if-not-has_room.ensures),
-      subst (Stands c.write_at.new.image) (some_written c.args.moment c.args.file c.args.pos c.args.bytes.now t some)
-          (subst (λ (xs : List ℕ). Stands c.write_at.new.image (rewritten c.args.moment c.args.file xs t)) bytes
-          (stands_rewritten c.args.moment c.args.image.now c.stamp.new.image c.args.file c.requires.tree c.requires.file c.stamp.ensures c.write_at.new.image (written_over c) t s)),
+      subst (Stands c.write_at-bound.new.image) (some_written c.args.moment c.args.file c.args.pos c.args.bytes.now t some)
+          (subst (λ (xs : List ℕ). Stands c.write_at-bound.new.image (rewritten c.args.moment c.args.file xs t)) bytes
+          (stands_rewritten c.args.moment c.args.image.now c.stamp.new.image c.args.file c.requires.tree c.requires.file c.stamp.ensures c.write_at-bound.new.image (written_over c) t s)),
     )
 
 pub returns-clause-keeps : goal.returns-clause-keeps
 returns-clause-keeps c =
-    keeps_rest c.args.moment c.args.image.now c.stamp.new.image c.args.file c.requires.tree c.requires.file c.stamp.ensures c.write_at.new.image (written_over c) c.write_at.ensures.keeps
-    (λ same. (c.blocks-2.ensures.image, c.blocks-3.ensures.image)) c.write_at.ensures.gains.lowest c.write_at.ensures.gains.data_rises c.write_at.ensures.gains.extensions_rise
+    keeps_rest c.args.moment c.args.image.now c.stamp.new.image c.args.file c.requires.tree c.requires.file c.stamp.ensures c.write_at-bound.new.image (written_over c) c.write_at-bound.ensures.keeps
+    (λ same. (c.blocks-2.ensures.image, c.blocks-3.ensures.image)) c.write_at-bound.ensures.gains.lowest c.write_at-bound.ensures.gains.data_rises c.write_at-bound.ensures.gains.extensions_rise

@@ -1,11 +1,11 @@
 use Rattle.std.proofs.Common.{subst, sym}
 use Rattle.ados_tree.specs.NewBlocks.{KeepsRest}
 use Rattle.ados_tree.proofs.Keeping.{same_keeps}
-use Rattle.change_entries.proofs.Created.{created, created_keeps, insertable, pages_of_standing, room}
+use Rattle.change_entries.proofs.Created.{created, created_below, created_keeps, insertable, pages_of_standing, room}
 use Rattle.change_entries.proofs.entry_made.create.Goals as goal
 
-pub take_first-requires : goal.take_first-requires
-take_first-requires c = pages_of_standing c.args.image.now c.requires.tree.0 c.requires.tree.1
+pub take_first-requires-clause-pages : goal.take_first-requires-clause-pages
+take_first-requires-clause-pages c = pages_of_standing c.args.image.now c.requires.tree.0 c.requires.tree.1
 
 pub insert_last-requires : goal.insert_last-requires
 insert_last-requires c =
@@ -25,6 +25,11 @@ returns-clause-stands c = λ t s.
 pub returns-clause-keeps : goal.returns-clause-keeps
 returns-clause-keeps c =
     created_keeps c.args.image.now c.take_first.new.image c.make_entry.new.image c.requires.tree.0 c.requires.tree.1 c.args.moment c.args.dir c.in-Some.key c.args.name.now c.args.kind (c.requires.can c.requires.tree.0 c.requires.tree.1)
+    c.in-Some.ensures.none.0 c.in-Some.ensures.none.1 c.make_entry.ensures.rest c.make_entry.ensures.entry c.insert_last.new.image c.insert_last.ensures.inserts c.touch.new.image c.stamp.new.image c.touch.ensures.dated c.stamp.ensures.dated
+
+pub returns-clause-below : goal.returns-clause-below
+returns-clause-below c =
+    created_below c.args.image.now c.take_first.new.image c.make_entry.new.image c.requires.tree.0 c.requires.tree.1 c.args.moment c.args.dir c.in-Some.key c.args.name.now c.args.kind (c.requires.can c.requires.tree.0 c.requires.tree.1)
     c.in-Some.ensures.none.0 c.in-Some.ensures.none.1 c.make_entry.ensures.rest c.make_entry.ensures.entry c.insert_last.new.image c.insert_last.ensures.inserts c.touch.new.image c.stamp.new.image c.touch.ensures.dated c.stamp.ensures.dated
 
 pub returns-in_default-clause-keeps : goal.returns-in_default-clause-keeps

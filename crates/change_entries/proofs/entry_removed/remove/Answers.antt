@@ -18,11 +18,11 @@ returns-clause-keeps c =
     let t = c.requires.tree.0 in
     let st = c.requires.tree.1 in
     keeps_away c.args.key c.args.image.now c.empty.new.image c.remove_empty.new.image t st (c.requires.can t st) c.empty.ensures.keeps c.empty.ensures.none
-    (c.remove_empty.ensures.kept c.args.image.now c.empty.ensures.keeps.kept) c.remove_empty.ensures.gives c.args.moment c.empty.ensures.empties c.remove_empty.ensures.untold (returns-clause-stands c t st)
+    (c.remove_empty.ensures.kept c.args.image.now c.empty.ensures.keeps.kept) c.remove_empty.ensures.gives c.empty.ensures.entry c.args.moment c.empty.ensures.empties c.remove_empty.ensures.untold (returns-clause-stands c t st)
 
 pub returns-clause-none : goal.returns-clause-none
 returns-clause-none c =
     let t = c.requires.tree.0 in
     let st = c.requires.tree.1 in
     takes_none c.args.key c.args.image.now c.empty.new.image c.remove_empty.new.image t st (c.requires.can t st) c.empty.ensures.keeps c.empty.ensures.none
-    (c.remove_empty.ensures.kept c.args.image.now c.empty.ensures.keeps.kept) c.remove_empty.ensures.gives
+    (c.remove_empty.ensures.kept c.args.image.now c.empty.ensures.keeps.kept) c.remove_empty.ensures.gives c.empty.ensures.entry

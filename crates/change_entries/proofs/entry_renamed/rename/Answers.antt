@@ -1,6 +1,6 @@
 use Rattle.std.proofs.Common.{refl}
 use Rattle.adf_block.specs.Fields.{parent_key}
-use Rattle.change_entries.proofs.Renamed.{dir_inside, from_inside, insertable, key_inside, key_still, moved, moved_behind, moved_keeps, moved_none, unlinkable}
+use Rattle.change_entries.proofs.Renamed.{dir_inside, from_inside, insertable, key_inside, key_still, moved, moved_behind, moved_gives_none, moved_keeps, moved_none, unlinkable}
 use Rattle.change_entries.proofs.entry_renamed.rename.Goals as goal
 
 pub long-from-requires-clause-block : goal.long-from-requires-clause-block
@@ -34,6 +34,11 @@ returns-clause-keeps c =
 pub returns-clause-none : goal.returns-clause-none
 returns-clause-none c =
     moved_none c.args.image.now c.requires.tree.0 c.requires.tree.1 c.args.moment c.args.key c.args.dir c.args.name.now (c.requires.can c.requires.tree.0 c.requires.tree.1) c.long-from.result c.long-from.ensures c.unlink.new.image c.unlink.ensures.unlinks c.touch.new.image c.touch.ensures.dated c.put_title.new.image c.put_title.ensures.titled
+    c.insert_last.new.image c.insert_last.ensures.inserts c.touch-2.new.image c.stamp.new.image c.touch-2.ensures.dated c.stamp.ensures.dated
+
+pub returns-clause-gives_none : goal.returns-clause-gives_none
+returns-clause-gives_none c =
+    moved_gives_none c.args.image.now c.requires.tree.0 c.requires.tree.1 c.args.moment c.args.key c.args.dir c.args.name.now (c.requires.can c.requires.tree.0 c.requires.tree.1) c.long-from.result c.long-from.ensures c.unlink.new.image c.unlink.ensures.unlinks c.touch.new.image c.touch.ensures.dated c.put_title.new.image c.put_title.ensures.titled
     c.insert_last.new.image c.insert_last.ensures.inserts c.touch-2.new.image c.stamp.new.image c.touch-2.ensures.dated c.stamp.ensures.dated
 
 pub returns-clause-behind : goal.returns-clause-behind

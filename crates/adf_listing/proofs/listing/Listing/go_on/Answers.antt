@@ -2,6 +2,7 @@ use Rattle.std.proofs.Common.{ℕ, ◌++◌, List, [], ◌∷◌, refl, sym, ap,
 use Rattle.std.proofs.lemmas.Bool.{false≢true}
 use Rattle.ados_packet.specs.declared.info.FileInfo.{FileInfo}
 use Rattle.ados_tree.specs.Tree.{name_in}
+use Rattle.ados_volume.proofs.Ordered.{own_place}
 use Rattle.adf_listing.specs.declared.listing.Level.{Level}
 use Rattle.adf_listing.specs.declared.listing.Listing.{Listing}
 use Rattle.adf_listing.specs.Listing.{IsLine, shown}
@@ -11,21 +12,29 @@ use Rattle.adf_listing.proofs.Left.{ends, lists_file, lists_directory}
 use Rattle.adf_listing.proofs.Levels.{last_is, others_are, pushed_are}
 use Rattle.adf_listing.proofs.listing.Listing.go_on.Goals as goal
 
-pub returns-in_default-entry_behind-clause-directories : goal.returns-in_default-entry_behind-clause-directories
-returns-in_default-entry_behind-clause-directories c = others_are c.args.volume.now.image _ _ c.pop.result c.pop.ensures.items c.requires
-
-pub returns-in_ok-push-3-clause-directories : goal.returns-in_ok-push-3-clause-directories
-returns-in_ok-push-3-clause-directories c =
-    let rest = others_are c.args.volume.now.image _ _ c.pop.result c.pop.ensures.items c.requires in
+pub entry_behind-requires : goal.entry_behind-requires
+entry_behind-requires c =
     let own = last_is c.args.volume.now.image _ _ c.pop.result c.in-Some.level c.pop.ensures.items c.in-Some.is c.requires in
-    let first = pushed_are c.args.volume.now.image _ _ _ c.in_ok-push.ensures.items rest own in
-    pushed_are c.args.volume.now.image _ _ _ c.in_ok-push-3.ensures.items first (c.describe-info.ensures.directory (c.is_directory.ensures.0 c.if-is_directory.true))
+    record { dir = own.0; place = own.1 }
 
-pub returns-else-is_directory-clause-directories : goal.returns-else-is_directory-clause-directories
-returns-else-is_directory-clause-directories c =
-    let rest = others_are c.args.volume.now.image _ _ c.pop.result c.pop.ensures.items c.requires in
-    let own = last_is c.args.volume.now.image _ _ c.pop.result c.in-Some.level c.pop.ensures.items c.in-Some.is c.requires in
-    pushed_are c.args.volume.now.image _ _ _ c.in_ok-push.ensures.items rest own
+pub returns-in_default-entry_behind-clause-places : goal.returns-in_default-entry_behind-clause-places
+returns-in_default-entry_behind-clause-places c = others_are c.args.volume.now.image _ _ c.pop.result c.pop.ensures.items c.requires
+
+pub returns-in_ok-push-3-clause-places : goal.returns-in_ok-push-3-clause-places
+returns-in_ok-push-3-clause-places c =
+    let image = c.args.volume.now.image in
+    let rest = others_are image _ _ c.pop.result c.pop.ensures.items c.requires in
+    let own = last_is image _ _ c.pop.result c.in-Some.level c.pop.ensures.items c.in-Some.is c.requires in
+    let first = pushed_are image _ _ _ c.in_ok-push.ensures.items rest (own.0, c.in-Some-entry_behind.ensures.place) in
+    let directory = c.describe-info.ensures.directory (c.is_directory.ensures.0 c.if-is_directory.true) in
+    pushed_are image _ _ _ c.in_ok-push-3.ensures.items first (directory, own_place image c.in-Some-entry_behind.key)
+
+pub returns-else-is_directory-clause-places : goal.returns-else-is_directory-clause-places
+returns-else-is_directory-clause-places c =
+    let image = c.args.volume.now.image in
+    let rest = others_are image _ _ c.pop.result c.pop.ensures.items c.requires in
+    let own = last_is image _ _ c.pop.result c.in-Some.level c.pop.ensures.items c.in-Some.is c.requires in
+    pushed_are image _ _ _ c.in_ok-push.ensures.items rest (own.0, c.in-Some-entry_behind.ensures.place)
 
 pub returns-in_default-entry_behind-clause-goes : goal.returns-in_default-entry_behind-clause-goes
 returns-in_default-entry_behind-clause-goes c = λ t dir s first left so.

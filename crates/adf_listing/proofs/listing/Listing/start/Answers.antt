@@ -2,14 +2,22 @@ use Rattle.std.proofs.Common.{ℕ, ◌++◌, List, [], ◌∷◌, refl, sym, ap,
 use Rattle.std.specs.Prelude.{codes}
 use Rattle.ados_packet.specs.declared.info.FileInfo.{FileInfo}
 use Rattle.ados_tree.specs.Tree.{name_in}
+use Rattle.ados_volume.proofs.Ordered.{own_place}
 use Rattle.adf_listing.specs.declared.listing.Level.{Level}
 use Rattle.adf_listing.specs.Listing.{shown}
 use Rattle.adf_listing.proofs.Directories.{node_of, node_there}
 use Rattle.adf_listing.proofs.Left.{starts}
+use Rattle.adf_listing.proofs.Levels.{none_are, pushed_are}
 use Rattle.adf_listing.proofs.listing.Listing.start.Goals as goal
 
 pub front_of-requires : goal.front_of-requires
 front_of-requires c = λ t s. node_there t c.args.dir (c.requires t s)
+
+pub returns-clause-places : goal.returns-clause-places
+returns-clause-places c =
+    let image = c.args.volume.now.image in
+    let level : Level = record { dir = c.args.dir; last = c.args.dir; path = c.len.result } in
+    pushed_are image _ _ level c.in_ok-push-2.ensures.items (none_are image _ c.new-levels.ensures.items) (c.requires, own_place image c.args.dir)
 
 pub returns-clause-starts : goal.returns-clause-starts
 returns-clause-starts c = λ t s.

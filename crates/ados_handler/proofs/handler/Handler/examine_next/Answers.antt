@@ -1,31 +1,40 @@
-use Rattle.std.proofs.Common.{refl, sym, ap, ◌∙◌, subst}
+use Rattle.std.proofs.Common.{sym, ap, ◌∙◌, subst}
 use Rattle.std.specs.Prelude.{is_some}
 use Rattle.ados_tree.specs.Stands.{Stands}
 use Rattle.ados_packet.specs.declared.packet.Packet.TheVariants.{ExamineNext}
 use Rattle.ados_handler.specs.Handler.{HandlerState}
+use Rattle.ados_handler.specs.steps.Methods.{MethodMeans}
 use Rattle.ados_handler.proofs.Leaving.{leaves_all}
 use Rattle.ados_tree.proofs.Listed.{next_node}
 use Rattle.ados_handler.proofs.NextEntry.{next_means}
 use Rattle.ados_handler.proofs.handler.Handler.examine_next.Goals as goal
 
 pub examine-requires : goal.examine-requires
-examine-requires c = λ t stands. ap is_some (next_node t stands.proper c.in-Some.dir c.args.key c.in-Entry.next (sym (c.next.ensures t stands) ∙ c.in-Entry.is)).1
+examine-requires c = λ t stands.
+    let stood = subst (λ (h : HandlerState). Stands h.image t) (c.self-2.view_is ∙ c.entry_after.ensures.same) stands in
+    ap is_some (next_node t stands.proper c.in-Some.dir c.args.key c.in-Entry.next (sym (c.entry_after.ensures.next t stood) ∙ c.in-Entry.is)).1
 
-pub returns-in-Entry : goal.returns-in-Entry
-returns-in-Entry c now =
-    let t = c.self.invariant.tree in
-    let stands = c.self.invariant.stands in
-    let stood = subst (λ (h : HandlerState). Stands h.image t) c.self.view_is stands in
+pub returns : goal.returns
+returns c =
+    let same = c.entry_after.ensures.same in
+    let t = c.self-2.invariant.tree in
+    let stands = c.self-2.invariant.stands in
+    let now_stands = subst (λ (h : HandlerState). Stands h.image t) c.self-2.view_is stands in
+    let stood = subst (λ (h : HandlerState). Stands h.image t) same now_stands in
+    let opened = subst (λ (h : HandlerState). Stands h.image t) (sym c.self.view_is) stood in
     let alive = sym (ap (λ (h : HandlerState). h.session.died) c.self.view_is) ∙ c.if-self.false in
-    let first = sym (c.next.ensures t stands) ∙ c.in-Entry.is in
+    let first = sym (c.entry_after.ensures.next t stood) ∙ c.in-Entry.is in
     let found = next_node t stands.proper c.in-Some.dir c.args.key c.in-Entry.next first in
     record {
-      old_tree = t;
-      new_tree = t;
-      stood = stood;
-      stands = stood;
-      means = next_means t c.args.self.now.session c.args.lock c.in-Some.dir c.args.key alive (sym (c.in-Some.ensures.object t stood)) (sym (c.if-is_file.ensures.file t stands))
-          c.in-Entry.next found.0 c.examine.result now c.done.result first found.1 (c.examine.ensures t found.0 stands found.1) c.done.ensures;
-      leaves = leaves_all t c.args.self.now (ExamineNext c.args.lock c.args.key) c.args.self.now c.done.result refl;
-      validated = refl;
+      gives = λ now. record {
+        old_tree = t;
+        new_tree = t;
+        stood = stood;
+        stands = now_stands;
+        means = subst (λ (h : HandlerState). MethodMeans t c.args.self.now.session (ExamineNext c.args.lock c.args.key) now t h.session c.done.result) (sym same)
+            (next_means t c.args.self.now.session c.args.lock c.in-Some.dir c.args.key alive (sym (c.in-Some.ensures.object t stood)) (sym (c.if-is_file.ensures.file t opened))
+            c.in-Entry.next found.0 c.examine.result now c.done.result first found.1 (c.examine.ensures t found.0 stands found.1) c.done.ensures);
+        leaves = leaves_all t c.args.self.now (ExamineNext c.args.lock c.args.key) c.entry_after.new.self c.done.result (ap (λ (h : HandlerState). h.image) same);
+        validated = ap (λ (h : HandlerState). h.was_validated) same;
+      };
     }

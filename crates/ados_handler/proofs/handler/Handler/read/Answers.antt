@@ -5,7 +5,7 @@ use Rattle.ados_tree.specs.Tree.{bytes_of}
 use Rattle.ados_tree.specs.Stands.{Stands}
 use Rattle.ados_packet.specs.declared.packet.Packet.TheVariants.{Read}
 use Rattle.ados_handler.specs.Handler.{HandlerState}
-use Rattle.ados_handler.proofs.HandleFiles.{sound_moved}
+use Rattle.ados_handler.proofs.HandleFiles.{sound_read}
 use Rattle.ados_handler.proofs.ReadingBytes.{filled_length, read_gives}
 use Rattle.ados_handler.proofs.handler.Handler.read.Goals as goal
 
@@ -25,9 +25,11 @@ returns c =
     record {
       gives =
           read_gives _ c.args.self.now c.self.view_is t stands c.args.handle c.args.buffer hold (sym c.hold_of.ensures.hold ∙ c.in-Some.is)
-          c.read_some-count.result (rw was at count) c.from_vec.result c.set_position.new.self.held c.counted.result c.if-self.false readable
+          c.read_some-count.result (rw was at count) c.read_some-count.new.volume c.read_some-count.ensures.same c.from_vec.result c.set_position.new.self.held c.counted.result c.if-self.false readable
           (c.from_vec.ensures ∙ full ∙ rw was at bytes) c.set_position.ensures.held c.counted.ensures;
     }
 
 pub invariant_of-self : goal.invariant_of-self
-invariant_of-self c = sound_moved _ c.args.self.now c.self.view_is c.set_position.new.self.held (Read c.args.handle c.args.buffer) c.counted.result tt c.self.invariant (returns c).gives
+invariant_of-self c =
+    sound_read _ c.args.self.now c.self.view_is c.set_position.new.self.held (Read c.args.handle c.args.buffer) c.counted.result c.read_some-count.new.volume c.read_some-count.ensures.same tt
+    c.self.invariant (returns c).gives

@@ -1,6 +1,0 @@
-use Rattle.std.proofs.Common.{◌≡◌}
-use Rattle.ados_data.specs.File.{pointer_block}
-use Rattle.ados_data.proofs.fields.pointer_block.Given as goal
-
-abbrev pub invariant-loop-passed : goal.invariant-loop-passed
-invariant-loop-passed l = l.holder ≡ pointer_block l.image l.file l._passed

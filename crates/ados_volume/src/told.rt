@@ -1,0 +1,51 @@
+//! Which entries were told last, so that the next ones need not be sought through a chain.
+
+ghost use Rattle.std.specs.Prelude.{◌≡◌, IfOk, IsTrue, List, ℕ, Contains, []};
+ghost use Rattle.ados_volume.specs.steps.Listed.{AreListed, IsListed};
+
+use lru::LruCache;
+use std::alloc::{AllocError, Global};
+use std::num::NonZeroUsize;
+
+/// How many directories have an entry that is kept (this project's own choice).
+const KEPT_TOLD: usize = 64;
+
+/// The entries that were told last, one of each directory, by the directory's key.
+#[derive(Drop)]
+pub struct ToldCache {
+    entries: LruCache<u32, u32>,
+}
+
+impl ToldCache {
+    /// An empty cache.
+    pub fn new(alloc: Global) -> Result<ToldCache, AllocError>
+        ensures { IfOk result (λ cache. cache.entries.entries ≡ []) }
+    {
+        let entries = LruCache::new(alloc, NonZeroUsize::new(KEPT_TOLD).unwrap())?;
+        Ok(ToldCache { entries })
+    }
+
+    /// Whether this entry is the one that was told last of the directory.
+    pub fn is_last(&self, dir: u32, key: u32) -> bool
+        ensures { IsTrue result → Contains self.now.entries.entries (dir, key) }
+    {
+        match self.entries.peek(&dir).copied() {
+            Some(last) => last == key,
+            None => false,
+        }
+    }
+
+    /// Keeps an entry of a directory. Where its memory is refused, it is not kept.
+    pub fn keep(&mut self, dir: u32, key: u32)
+        ensures { (image : List ℕ) → IsListed image dir key → AreListed image self.old.entries.entries → AreListed image self.new.entries.entries }
+    {
+        let _ = self.entries.put(dir, key);
+    }
+
+    /// Drops all.
+    pub fn clear(&mut self)
+        ensures { self.new.entries.entries ≡ [] }
+    {
+        self.entries.clear();
+    }
+}
