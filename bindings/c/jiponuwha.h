@@ -305,7 +305,7 @@ static inline int32_t jip_close(jip_handle *handle) {
 /* Serves one packet, and answers it. JIP_DONE: the answer is written, and its two results say what the packet came to, also where
    it is refused; an action that is not known is answered 209. READ fills the buffer, from its first byte, with res1 bytes, and
    leaves the rest; no other action writes to it, so that what WRITE reads may be const. Texts and buffer stay the caller's.
-   JIP_NO_MEMORY (for a copy of the buffer), JIP_WRONG_ARGUMENT: nothing is served or written. */
+   JIP_NO_MEMORY (for a copy of the texts or the buffer), JIP_WRONG_ARGUMENT: nothing is served or written. */
 static inline int32_t jip_serve(jip_handle *handle, const jip_packet *packet, jip_answer *answer) {
     const uint8_t no_path = 0, no_text = 0, no_bytes = 0;
     uint8_t no_buffer = 0;

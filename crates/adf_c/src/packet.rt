@@ -1,12 +1,13 @@
 //! What C asks.
 
-ghost use Rattle.std.specs.Prelude.{◌≡◌};
+ghost use Rattle.std.specs.Prelude.{◌≡◌, IfOk};
 ghost use Rattle.ados_name.specs.Path.{IsPathText};
 ghost use Rattle.adf_c.specs.Spelling.{IsActionOf, date_of, packet_of};
 
 use crate::texts::rename_disk;
 use ados_name::Date3;
 use ados_packet::{Action, Buffer, Packet};
+use std::alloc::{AllocError, Global};
 
 /// A date as C has it: days since 1 January 1978, minutes past midnight, ticks of 1/50 second past the minute.
 #[repr(C)]
@@ -67,32 +68,40 @@ impl JipPacket {
         action_of_number(self.action)
     }
 
-    /// The packet of this action with the struct's arguments, these texts and these bytes. Each packet with texts has a
-    /// function of its own, since a function clears room for all its values when it begins.
-    pub(crate) fn packet(&self, action: Action, path: &[u8], text: &[u8], buffer: Buffer) -> Packet
+    /// The packet of this action with the struct's arguments, these texts and these bytes, where there is memory for the texts
+    /// that it takes. Each packet with texts has a function of its own, since a function clears room for all its values when it
+    /// begins.
+    pub(crate) fn packet(
+        &self,
+        alloc: Global,
+        action: Action,
+        path: &[u8],
+        text: &[u8],
+        buffer: Buffer,
+    ) -> Result<Packet, AllocError>
         requires path { IsPathText path.now }
         requires text { IsPathText text.now }
-        ensures { result ≡ packet_of action self.now path.now text.now buffer }
+        ensures { IfOk result (λ packet. packet ≡ packet_of action self.now path.now text.now buffer) }
     {
         let (lock, to_lock, handle) = (self.lock, self.to_lock, self.handle);
         let (key, offset, mode) = (self.key, self.offset, self.mode);
-        match action {
+        let packet = match action {
             Action::Die => Packet::Die,
-            Action::LocateObject => self.locate_object(path),
-            Action::RenameDisk => rename_disk(path),
+            Action::LocateObject => self.locate_object(alloc, path)?,
+            Action::RenameDisk => rename_disk(alloc, path)?,
             Action::FreeLock => Packet::FreeLock { lock },
-            Action::DeleteObject => self.delete_object(path),
-            Action::RenameObject => self.rename_object(path, text),
+            Action::DeleteObject => self.delete_object(alloc, path)?,
+            Action::RenameObject => self.rename_object(alloc, path, text)?,
             Action::CopyDir => Packet::CopyDir { lock },
-            Action::SetProtect => self.set_protect(path),
-            Action::CreateDir => self.create_dir(path),
+            Action::SetProtect => self.set_protect(alloc, path)?,
+            Action::CreateDir => self.create_dir(alloc, path)?,
             Action::ExamineObject => Packet::ExamineObject { lock },
             Action::ExamineNext => Packet::ExamineNext { lock, key },
             Action::DiskInfo => Packet::DiskInfo,
             Action::Info => Packet::Info { lock },
-            Action::SetComment => self.set_comment(path, text),
+            Action::SetComment => self.set_comment(alloc, path, text)?,
             Action::Parent => Packet::Parent { lock },
-            Action::SetDate => self.set_date(path),
+            Action::SetDate => self.set_date(alloc, path)?,
             Action::SameLock => Packet::SameLock {
                 first: lock,
                 second: to_lock,
@@ -102,9 +111,9 @@ impl JipPacket {
                 handle,
                 bytes: buffer,
             },
-            Action::FindUpdate => self.find_update(path),
-            Action::FindInput => self.find_input(path),
-            Action::FindOutput => self.find_output(path),
+            Action::FindUpdate => self.find_update(alloc, path)?,
+            Action::FindInput => self.find_input(alloc, path)?,
+            Action::FindOutput => self.find_output(alloc, path)?,
             Action::End => Packet::End { handle },
             Action::Seek => Packet::Seek {
                 handle,
@@ -117,7 +126,8 @@ impl JipPacket {
                 mode,
             },
             Action::Other(number) => Packet::Other { action: number },
-        }
+        };
+        Ok(packet)
     }
 }
 

@@ -3,7 +3,7 @@
 ghost use Rattle.std.specs.Prelude.{◌≡◌, ◌↔◌, IsTrue};
 ghost use Rattle.ados_name.specs.Path.{IsPathText};
 ghost use Rattle.adf_c.specs.Calls.{LoadComes, ServeComes, ServeEnds, ServedBy};
-ghost use Rattle.adf_c.specs.Spelling.{carried, date_of, packet_of};
+ghost use Rattle.adf_c.specs.Spelling.{carried};
 ghost use Rattle.adf_c.specs.Telling.{fills as fills_buffer, handed_back};
 
 use crate::answer::JipAnswer;
@@ -11,7 +11,7 @@ use crate::desk::Desk;
 use crate::handle::JipHandle;
 use crate::packet::JipPacket;
 use crate::refusal::Refusal;
-use ados_name::PathText;
+use ados_name::{Date3, PathText};
 use ados_packet::{Action, Body, Buffer, Packet};
 use std::alloc::Global;
 
@@ -19,8 +19,8 @@ use std::alloc::Global;
 /// struct's moment, and answers it: the status 0. The answer's two results say what the packet came to, also where it is
 /// refused, as 209 for an action that is not known. The buffer stays as it was but behind a READ.
 ///
-/// No memory for a copy of the bytes or the buffer is the status 2; a text past 255 bytes and a closed handle are the status
-/// 3. The handle, the buffer and the answer are then as they were.
+/// No memory for a copy of the texts, the bytes or the buffer is the status 2; a text past 255 bytes and a closed handle are
+/// the status 3. The handle, the buffer and the answer are then as they were.
 #[unsafe(no_mangle)]
 pub extern "C" fn jip_lib_serve(
     alloc: Global,
@@ -56,10 +56,13 @@ fn serve(
 {
     let action = packet.kind();
     let load = load(alloc, action, path, text, bytes, buffer)?;
+    let Ok(spelled) = packet.packet(alloc, action, path, text, load) else {
+        return Err(Refusal::NoMemory);
+    };
     let Some(mut desk) = handle.take(alloc) else {
         return Err(Refusal::WrongArgument);
     };
-    let told = serve_at(&mut desk, action, packet, path, text, load, buffer);
+    let told = serve_at(&mut desk, spelled, packet.moment.date(), buffer);
     handle.put(desk);
     Ok(told)
 }
@@ -104,23 +107,12 @@ fn carried_by<'a>(action: Action, bytes: &'a [u8], buffer: &'a [u8]) -> &'a [u8]
     }
 }
 
-/// Serves the packet of an action at a desk, and puts the bytes that a READ's answer hands back into the buffer.
-fn serve_at(
-    desk: &mut Desk,
-    action: Action,
-    packet: &JipPacket,
-    path: &[u8],
-    text: &[u8],
-    load: Buffer,
-    buffer: &mut [u8],
-) -> JipAnswer
-    requires path { IsPathText path.now }
-    requires text { IsPathText text.now }
-    ensures { ServedBy desk.old desk.new (packet_of action packet.now path.now text.now load) (date_of packet.now.moment) buffer.old buffer.new result }
+/// Serves the packet at a desk, and puts the bytes that a READ's answer hands back into the buffer.
+fn serve_at(desk: &mut Desk, packet: Packet, moment: Date3, buffer: &mut [u8]) -> JipAnswer
+    ensures { ServedBy desk.old desk.new packet moment buffer.old buffer.new result }
 {
-    let spelled = packet.packet(action, path, text, load);
-    let fills = fills(&spelled);
-    let answer = desk.serve(spelled, packet.moment.date());
+    let fills = fills(&packet);
+    let answer = desk.serve(packet, moment);
     if fills {
         hand_back(&answer.body, buffer);
     }

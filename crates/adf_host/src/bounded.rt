@@ -28,8 +28,9 @@ impl From<Error> for BoundedFault {
     }
 }
 
-/// How many bytes one read asks for where nobody knows how many there are.
-const CHUNK: usize = 65_536;
+/// The most bytes that are cleared before a read, and that it asks for: so few that they are still in the processor's cache
+/// when they are read over.
+const PIECE: usize = 65_536;
 
 /// The bytes of a reader up to its end, or so many of them where it has more. It takes none from the reader beyond those
 /// that it gives, so a reader without an end does no harm.
@@ -43,9 +44,8 @@ pub fn read_bounded<R: Read>(
     read_expected(alloc, reader, None, most)
 }
 
-/// As [`read_bounded`], of a reader of which may be known how many bytes to expect. Those are read straight into memory that
-/// is taken for all of them at once; where there are fewer or more, they come as ever.
-#[tactic(auto, using(crate::proofs::Bounds::full_and_on, crate::proofs::Bounds::short_of))]
+/// As [`read_bounded`], of a reader of which may be known how many bytes to expect. Memory is taken for all of those at once;
+/// where there are fewer or more, they come as ever.
 pub fn read_expected<R: Read>(
     alloc: Global,
     reader: &mut R,
@@ -54,28 +54,8 @@ pub fn read_expected<R: Read>(
 ) -> Result<Vec<u8>, BoundedFault>
     ensures { IfOk result (λ bytes. ReadsUpTo most (R.remaining reader.old) (R.remaining reader.new) bytes.items) }
 {
-    let room = room_ahead(expected, most);
-    let mut bytes = read_at_once(alloc, reader, room)?;
-    if bytes.len() == room {
-        read_on(reader, &mut bytes, most)?;
-    }
-    Ok(bytes)
-}
-
-/// The bytes of a reader up to its end, or as many of them as there is memory for, which is taken at once.
-#[tactic(auto, using(crate::proofs::Bounds::with_room))]
-fn read_at_once<R: Read>(
-    alloc: Global,
-    reader: &mut R,
-    room: usize,
-) -> Result<Vec<u8>, BoundedFault>
-    ensures within { IfOk result (λ bytes. length bytes.items ≤ room) }
-    ensures bytes { IfOk result (λ bytes. ReadsUpTo room (R.remaining reader.old) (R.remaining reader.new) bytes.items) }
-{
-    let mut bytes = Vec::with_capacity(alloc, room)?;
-    bytes.resize(room, 0)?;
-    let count = fill(reader, &mut bytes)?;
-    bytes.truncate(count);
+    let mut bytes = Vec::with_capacity(alloc, room_ahead(expected, most))?;
+    read_on(reader, &mut bytes, most)?;
     Ok(bytes)
 }
 
@@ -89,21 +69,48 @@ fn room_ahead(expected: Option<usize>, most: usize) -> usize
     }
 }
 
-/// Reads over the front of a buffer, until it is full or the reader at its end, and answers how many bytes that is.
-#[tactic(auto, using(crate::proofs::Bounds::fill_more, crate::proofs::Bounds::fill_ended, crate::proofs::Bounds::fill_full))]
-fn fill<R: Read>(reader: &mut R, buffer: &mut [u8]) -> IoResult<usize>
-    ensures within { IfOk result (λ count. count ≤ length buffer.new) }
-    ensures bytes { IfOk result (λ count. ReadsUpTo (length buffer.old) (R.remaining reader.old) (R.remaining reader.new) (take count buffer.new)) }
+/// Appends the bytes of a reader up to its end, as far as there are then so many at most.
+fn read_on<R: Read>(reader: &mut R, bytes: &mut Vec<u8>, most: usize) -> Result<(), BoundedFault>
+    requires { length bytes.old.items ≤ most }
+    ensures { OnOk result (ReadsOn most (R.remaining reader.old) (R.remaining reader.new) bytes.old.items bytes.new.items) }
 {
-    let mut filled = 0;
-    while filled < buffer.len() {
-        let count = read_at(reader, buffer, filled)?;
-        filled += count;
-        if count == 0 {
-            return Ok(filled);
+    while bytes.len() < most {
+        if read_piece(reader, bytes, most)? == 0 {
+            return Ok(());
         }
     }
-    Ok(filled)
+    Ok(())
+}
+
+/// Appends what one read gives, over a piece that is cleared for it, and answers how many bytes that is.
+fn read_piece<R: Read>(
+    reader: &mut R,
+    bytes: &mut Vec<u8>,
+    most: usize,
+) -> Result<usize, BoundedFault>
+    requires { length bytes.old.items < most }
+    ensures { IfOk result (ReadsPart (most - length bytes.old.items) (R.remaining reader.old) (R.remaining reader.new) bytes.old.items bytes.new.items) }
+{
+    let start = bytes.len();
+    let end = piece_end(start, bytes.capacity(), most);
+    bytes.resize(end, 0)?;
+    let count = read_at(reader, bytes, start)?;
+    bytes.truncate(start + count);
+    Ok(count)
+}
+
+/// Where the piece from a place on ends: within the memory that is taken, and behind it only where that is full.
+fn piece_end(start: usize, capacity: usize, most: usize) -> usize
+    requires { start < most }
+    ensures behind { start < result }
+    ensures within { result ≤ most }
+{
+    let limit = if start < capacity {
+        capacity.min(most)
+    } else {
+        most
+    };
+    start.saturating_add(PIECE).min(limit)
 }
 
 /// One read into a buffer from a place on, which answers how many bytes it gave.
@@ -115,36 +122,6 @@ fn read_at<R: Read>(reader: &mut R, buffer: &mut [u8], at: usize) -> IoResult<us
     ensures bytes { IfOk result (λ count. ReadsPart (length buffer.old - at) (R.remaining reader.old) (R.remaining reader.new) (take at buffer.old) (take (at + count) buffer.new) count) }
 {
     read_some(reader, &mut buffer[at..])
-}
-
-/// Appends the bytes of a reader up to its end, as far as there are then so many at most.
-#[inline(never)]
-fn read_on<R: Read>(reader: &mut R, bytes: &mut Vec<u8>, most: usize) -> Result<(), BoundedFault>
-    requires { length bytes.old.items ≤ most }
-    ensures { OnOk result (ReadsOn most (R.remaining reader.old) (R.remaining reader.new) bytes.old.items bytes.new.items) }
-{
-    let mut chunk = [0u8; CHUNK];
-    while bytes.len() < most {
-        let room = CHUNK.min(most - bytes.len());
-        let count = read_onto(reader, bytes, &mut chunk[..room])?;
-        if count == 0 {
-            return Ok(());
-        }
-    }
-    Ok(())
-}
-
-/// Appends what one read gives, and answers how many bytes that is.
-fn read_onto<R: Read>(
-    reader: &mut R,
-    bytes: &mut Vec<u8>,
-    chunk: &mut [u8],
-) -> Result<usize, BoundedFault>
-    ensures { IfOk result (ReadsPart (length chunk.old) (R.remaining reader.old) (R.remaining reader.new) bytes.old.items bytes.new.items) }
-{
-    let count = read_some(reader, chunk)?;
-    bytes.extend_from_slice(&chunk[..count])?;
-    Ok(count)
 }
 
 /// One read, which is tried again where it was interrupted.

@@ -1,5 +1,5 @@
 -- One packet through a port that nothing waits at.
-use Rattle.std.proofs.Common.{◌≡◌, ◌⊎◌, inl, inr, ℕ, ◌+◌, ◌-◌, Bool, true, false, List, [], ◌∷◌, ◌++◌, sym, ap, subst, ◌∙◌}
+use Rattle.std.proofs.Common.{◌≡◌, ◌≢◌, ◌⊎◌, inl, inr, ℕ, ◌+◌, ◌-◌, Bool, true, false, List, [], ◌∷◌, ◌++◌, sym, ap, subst, ◌∙◌}
 use Rattle.std.specs.Prelude.{slice_set, Some}
 use Rattle.std.specs.Bool.{MatchBool}
 use Rattle.ados_packet.specs.declared.packet.Packet.{Packet}
@@ -70,6 +70,19 @@ module _ {S M : Type 0} (gives : S → Packet → M → S → Answer → Type 0)
       in let is_rest : w.1 ≡ [] = cc
       in let is_reply : reply ≡ record { number = count + 1; answer = w.0 } = let e = w.3 in cc
       in (ap (λ r. r.number) is_reply, w.4 ∙ ap (λ l. record { server = server; clients = record { accepted = count + 1; taken = count + 1; untaken = l } ∷ []; waiting = [] }) is_rest)
+
+  -- a packet that was put and served has its reply
+  pub reply_is_there : (old : PortState S Packet Answer) (count : ℕ) → IsQuiet old count → (packet : Packet) (moment : M) (number : ℕ) (put served new : PortState S Packet Answer) (outcome last : Outcome Packet Answer)
+      → PutGives has_died old 1 packet (Accepted number) put → ServeGives gives put moment outcome served → TakeGives served 1 last new
+      → ((reply : Reply Answer) → last ≢ Taken reply) → ⊥
+  reply_is_there old count quiet packet moment number put served new outcome last a b c none =
+      let first = put_accepted old.server count number packet put (subst (λ o. PutGives has_died o 1 packet (Accepted number) put) quiet a)
+      in let second = serve_first old.server count packet moment outcome served (subst (λ o. ServeGives gives o moment outcome served) first.1 b)
+      in by second.1 (subst (λ o. TakeGives o 1 last new) second.3 c)
+    where
+      by : {after : S} (answer : Answer) → TakeGives (served_port after count answer) 1 last new → ⊥
+      by answer (inl w) = let e = w.0 in cc
+      by answer (inr w) = none (record { number = count + 1; answer = w.0 }) w.3
 
   -- a packet goes through
   pub called : (old : PortState S Packet Answer) (count : ℕ) → IsQuiet old count → (packet : Packet) (moment : M) (number : ℕ) (put served new : PortState S Packet Answer) (outcome : Outcome Packet Answer) (reply : Reply Answer)

@@ -1,5 +1,5 @@
 //! Fields behind the word of a line, read off the front of what is left. Each stands behind one space.
-ghost use Rattle.std.specs.Prelude.{◌≡◌, ◌≢◌, ◌∷◌, ◌++◌, [], ℕ, false, List, Option, replicate, IfSome, MatchOption};
+ghost use Rattle.std.specs.Prelude.{◌≡◌, ◌≢◌, ◌∷◌, ◌++◌, [], ℕ, false, List, Option, replicate, IfOk, IfSome, MatchOption};
 ghost use Rattle.ados_name.specs.Path.{IsPathText};
 ghost use Rattle.adf_script.specs.Pieces.{IsCut};
 ghost use Rattle.adf_script.specs.steps.Reading.{IsQuoted, IsUnquoted, a_value, a_number, a_signed, a_text, a_long_text, a_buffer, an_object, a_date, ReadsNone, Reads};
@@ -8,6 +8,8 @@ use crate::numbers::{number, value};
 use crate::pieces::{behind, cut, split_once};
 use crate::signed::signed;
 use ados_name::{Date3, PathText};
+use ados_packet::Text;
+use std::alloc::{AllocError, Global};
 
 /// The most bytes that a READ of a script asks for.
 const LONGEST_READ: u32 = 1_048_576;
@@ -103,13 +105,13 @@ pub(crate) fn text_field(rest: &[u8]) -> Option<(&[u8], &[u8])>
     Some((text, behind))
 }
 
-/// A text that was read as a path, a name or a comment.
-pub(crate) fn path_of(text: &[u8]) -> PathText
+/// The text of a packet, of bytes that were read as a path, a name or a comment.
+pub(crate) fn text_of(alloc: Global, text: &[u8]) -> Result<Text, AllocError>
     requires { IsPathText text.now }
-    ensures { result ≡ text.now }
+    ensures { IfOk result (λ made. made ≡ text.now) }
 {
     match PathText::new(text) {
-        Ok(path) => path,
+        Ok(path) => Text::new(alloc, path),
         Err(_) => unreachable!(),
     }
 }

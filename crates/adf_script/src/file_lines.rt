@@ -4,33 +4,48 @@ ghost use Rattle.adf_script.specs.Grammar.{Value, LongText, Zeros, SpellsFields}
 ghost use Rattle.adf_script.specs.steps.Words.{Puts, PutsNone};
 ghost use Rattle.adf_script.specs.declared.words.Word.TheVariants as word;
 
-use crate::fields::{long_text_field, path_of, value_field, zeros_field};
+use crate::fields::{long_text_field, value_field, zeros_field};
 use crate::shapes::{end, object, one_value, target};
 use ados_packet::{Buffer, Packet};
 use std::alloc::{AllocError, Global};
 
-pub(crate) fn update(values: &[Option<u32>], rest: &[u8]) -> Option<Packet>
-    ensures { Puts word.Update values.now rest.now result }
+pub(crate) fn update(
+    alloc: Global,
+    values: &[Option<u32>],
+    rest: &[u8],
+) -> Result<Option<Packet>, AllocError>
+    ensures { IfOk result (λ found. Puts word.Update values.now rest.now found) }
 {
-    let (lock, text) = object(values, rest)?;
-    let path = path_of(text);
-    Some(Packet::FindUpdate { lock, path })
+    let Some((lock, path)) = object(alloc, values, rest)? else {
+        return Ok(None);
+    };
+    Ok(Some(Packet::FindUpdate { lock, path }))
 }
 
-pub(crate) fn input(values: &[Option<u32>], rest: &[u8]) -> Option<Packet>
-    ensures { Puts word.Input values.now rest.now result }
+pub(crate) fn input(
+    alloc: Global,
+    values: &[Option<u32>],
+    rest: &[u8],
+) -> Result<Option<Packet>, AllocError>
+    ensures { IfOk result (λ found. Puts word.Input values.now rest.now found) }
 {
-    let (lock, text) = object(values, rest)?;
-    let path = path_of(text);
-    Some(Packet::FindInput { lock, path })
+    let Some((lock, path)) = object(alloc, values, rest)? else {
+        return Ok(None);
+    };
+    Ok(Some(Packet::FindInput { lock, path }))
 }
 
-pub(crate) fn output(values: &[Option<u32>], rest: &[u8]) -> Option<Packet>
-    ensures { Puts word.Output values.now rest.now result }
+pub(crate) fn output(
+    alloc: Global,
+    values: &[Option<u32>],
+    rest: &[u8],
+) -> Result<Option<Packet>, AllocError>
+    ensures { IfOk result (λ found. Puts word.Output values.now rest.now found) }
 {
-    let (lock, text) = object(values, rest)?;
-    let path = path_of(text);
-    Some(Packet::FindOutput { lock, path })
+    let Some((lock, path)) = object(alloc, values, rest)? else {
+        return Ok(None);
+    };
+    Ok(Some(Packet::FindOutput { lock, path }))
 }
 
 pub(crate) fn end_line(values: &[Option<u32>], rest: &[u8]) -> Option<Packet>

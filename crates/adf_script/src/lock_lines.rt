@@ -1,20 +1,34 @@
 //! The packets of lines about locks.
+ghost use Rattle.std.specs.Prelude.{IfOk};
 ghost use Rattle.adf_script.specs.steps.Words.{Puts};
 ghost use Rattle.adf_script.specs.declared.words.Word.TheVariants as word;
 
-use crate::fields::{path_of, signed_field, text_field, value_field};
+use crate::fields::{signed_field, text_field, text_of, value_field};
 use crate::shapes::{end, one_value, two_values};
 use ados_packet::Packet;
+use std::alloc::{AllocError, Global};
 
-pub(crate) fn locate(values: &[Option<u32>], rest: &[u8]) -> Option<Packet>
-    ensures { Puts word.Locate values.now rest.now result }
+pub(crate) fn locate(
+    alloc: Global,
+    values: &[Option<u32>],
+    rest: &[u8],
+) -> Result<Option<Packet>, AllocError>
+    ensures { IfOk result (λ found. Puts word.Locate values.now rest.now found) }
 {
-    let (lock, rest) = value_field(values, rest)?;
-    let (mode, rest) = signed_field(rest)?;
-    let (text, rest) = text_field(rest)?;
-    end(rest)?;
-    let path = path_of(text);
-    Some(Packet::LocateObject { lock, path, mode })
+    let Some((lock, rest)) = value_field(values, rest) else {
+        return Ok(None);
+    };
+    let Some((mode, rest)) = signed_field(rest) else {
+        return Ok(None);
+    };
+    let Some((text, rest)) = text_field(rest) else {
+        return Ok(None);
+    };
+    let Some(()) = end(rest) else {
+        return Ok(None);
+    };
+    let path = text_of(alloc, text)?;
+    Ok(Some(Packet::LocateObject { lock, path, mode }))
 }
 
 pub(crate) fn free(values: &[Option<u32>], rest: &[u8]) -> Option<Packet>

@@ -1,10 +1,10 @@
 //! The fields of lines that several packets share, read to the line's end.
-ghost use Rattle.std.specs.Prelude.{◌≡◌, ◌≢◌, [], IfSome, MatchOption};
-ghost use Rattle.ados_name.specs.Path.{IsPathText};
-ghost use Rattle.adf_script.specs.Grammar.{SpellsFields};
-ghost use Rattle.adf_script.specs.steps.Reading.{a_value, a_pair, an_object, a_target, SpellsNone, ReadsToEnd};
+ghost use Rattle.std.specs.Prelude.{◌≡◌, ◌≢◌, [], IfOk, MatchOption};
+ghost use Rattle.adf_script.specs.steps.Reading.{a_value, a_pair, an_object, a_target, ReadsToEnd};
 
-use crate::fields::{object_fields, signed_field, value_field};
+use crate::fields::{object_fields, signed_field, text_of, value_field};
+use ados_packet::Text;
+use std::alloc::{AllocError, Global};
 
 /// Whether nothing is left of the line.
 pub(crate) fn end(rest: &[u8]) -> Option<()>
@@ -33,15 +33,21 @@ pub(crate) fn two_values(values: &[Option<u32>], rest: &[u8]) -> Option<(u32, u3
 }
 
 /// A lock and a path.
-pub(crate) fn object<'a>(values: &[Option<u32>], rest: &'a [u8]) -> Option<(u32, &'a [u8])>
-    ensures reads { MatchOption result
-        (SpellsNone values.now an_object rest.now)
-        (λ object. SpellsFields values.now (an_object (object.0, object.1.now)) rest.now) }
-    ensures short { IfSome result (λ object. IsPathText object.1.now) }
+pub(crate) fn object(
+    alloc: Global,
+    values: &[Option<u32>],
+    rest: &[u8],
+) -> Result<Option<(u32, Text)>, AllocError>
+    ensures { IfOk result (λ found. ReadsToEnd values.now an_object rest.now found) }
 {
-    let (lock, path, rest) = object_fields(values, rest)?;
-    end(rest)?;
-    Some((lock, path))
+    let Some((lock, text, rest)) = object_fields(values, rest) else {
+        return Ok(None);
+    };
+    let Some(()) = end(rest) else {
+        return Ok(None);
+    };
+    let path = text_of(alloc, text)?;
+    Ok(Some((lock, path)))
 }
 
 /// A handle, and an offset with its mode.

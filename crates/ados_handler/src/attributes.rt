@@ -9,8 +9,8 @@ use ados_packet::{Body, DosError, Results};
 
 impl Handler {
     /// RENAME_DISK.
-    pub(crate) fn rename_disk(&mut self, name: PathText, now: Date3) -> Results
-        ensures { MethodGives self.old (RenameDisk name) now self.new result }
+    pub(crate) fn rename_disk(&mut self, name: &PathText, now: Date3) -> Results
+        ensures { MethodGives self.old (RenameDisk name.now) now self.new result }
     {
         if self.died {
             return Results::refused(DosError::DeviceNotMounted);
@@ -27,16 +27,16 @@ impl Handler {
     pub(crate) fn set_protect(
         &mut self,
         lock: u32,
-        path: PathText,
+        path: &PathText,
         bits: u32,
         now: Date3,
     ) -> Results
-        ensures { MethodGives self.old (SetProtect lock path bits) now self.new result }
+        ensures { MethodGives self.old (SetProtect lock path.now bits) now self.new result }
     {
         if self.died {
             return Results::refused(DosError::DeviceNotMounted);
         }
-        let key = match self.walked(lock, &path) {
+        let key = match self.walked(lock, path) {
             Ok(key) => key,
             Err(error) => return Results::refused(error),
         };
@@ -51,16 +51,16 @@ impl Handler {
     pub(crate) fn set_comment(
         &mut self,
         lock: u32,
-        path: PathText,
-        comment: PathText,
+        path: &PathText,
+        comment: &PathText,
         now: Date3,
     ) -> Results
-        ensures { MethodGives self.old (SetComment lock path comment) now self.new result }
+        ensures { MethodGives self.old (SetComment lock path.now comment.now) now self.new result }
     {
         if self.died {
             return Results::refused(DosError::DeviceNotMounted);
         }
-        let key = match self.walked(lock, &path) {
+        let key = match self.walked(lock, path) {
             Ok(key) => key,
             Err(error) => return Results::refused(error),
         };
@@ -76,13 +76,19 @@ impl Handler {
     }
 
     /// SET_DATE.
-    pub(crate) fn set_date(&mut self, lock: u32, path: PathText, date: Date3, now: Date3) -> Results
-        ensures { MethodGives self.old (SetDate lock path date) now self.new result }
+    pub(crate) fn set_date(
+        &mut self,
+        lock: u32,
+        path: &PathText,
+        date: Date3,
+        now: Date3,
+    ) -> Results
+        ensures { MethodGives self.old (SetDate lock path.now date) now self.new result }
     {
         if self.died {
             return Results::refused(DosError::DeviceNotMounted);
         }
-        let key = match self.walked(lock, &path) {
+        let key = match self.walked(lock, path) {
             Ok(key) => key,
             Err(error) => return Results::refused(error),
         };

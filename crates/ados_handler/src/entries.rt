@@ -16,13 +16,13 @@ use ados_volume::{Next, NodeKind};
 
 impl Handler {
     /// DELETE_OBJECT.
-    pub(crate) fn delete_object(&mut self, lock: u32, path: PathText, now: Date3) -> Results
-        ensures { MethodGives self.old (DeleteObject lock path) now self.new result }
+    pub(crate) fn delete_object(&mut self, lock: u32, path: &PathText, now: Date3) -> Results
+        ensures { MethodGives self.old (DeleteObject lock path.now) now self.new result }
     {
         if self.died {
             return Results::refused(DosError::DeviceNotMounted);
         }
-        let key = match self.walked(lock, &path) {
+        let key = match self.walked(lock, path) {
             Ok(key) => key,
             Err(error) => return Results::refused(error),
         };
@@ -43,13 +43,13 @@ impl Handler {
     }
 
     /// CREATE_DIR. The new lock is exclusive.
-    pub(crate) fn create_dir(&mut self, lock: u32, path: PathText, now: Date3) -> Results
-        ensures { MethodGives self.old (CreateDir lock path) now self.new result }
+    pub(crate) fn create_dir(&mut self, lock: u32, path: &PathText, now: Date3) -> Results
+        ensures { MethodGives self.old (CreateDir lock path.now) now self.new result }
     {
         if self.died {
             return Results::refused(DosError::DeviceNotMounted);
         }
-        let (dir, name) = match self.placed(lock, &path) {
+        let (dir, name) = match self.placed(lock, path) {
             Ok(found) => found,
             Err(error) => return Results::refused(error),
         };

@@ -15,13 +15,13 @@ use ados_packet::{Body, DosError, Results};
 
 impl Handler {
     /// FINDINPUT.
-    pub(crate) fn find_input(&mut self, lock: u32, path: PathText) -> Results
-        ensures gives { (now : Moment) → MethodGives self.old (FindInput lock path) now self.new result }
+    pub(crate) fn find_input(&mut self, lock: u32, path: &PathText) -> Results
+        ensures gives { (now : Moment) → MethodGives self.old (FindInput lock path.now) now self.new result }
     {
         if self.died {
             return Results::refused(DosError::DeviceNotMounted);
         }
-        match self.walked(lock, &path) {
+        match self.walked(lock, path) {
             Ok(key) => self.open_file(key),
             Err(error) => Results::refused(error),
         }

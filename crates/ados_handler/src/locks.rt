@@ -16,13 +16,13 @@ use ados_packet::{Body, DosError, NO_LOCK, Results};
 
 impl Handler {
     /// LOCATE_OBJECT.
-    pub(crate) fn locate_object(&mut self, lock: u32, path: PathText, mode: i32) -> Results
-        ensures gives { (now : Moment) → MethodGives self.old (LocateObject lock path mode) now self.new result }
+    pub(crate) fn locate_object(&mut self, lock: u32, path: &PathText, mode: i32) -> Results
+        ensures gives { (now : Moment) → MethodGives self.old (LocateObject lock path.now mode) now self.new result }
     {
         if self.died {
             return Results::refused(DosError::DeviceNotMounted);
         }
-        let key = match self.walked(lock, &path) {
+        let key = match self.walked(lock, path) {
             Ok(key) => key,
             Err(error) => return Results::refused(error),
         };

@@ -17,17 +17,17 @@ impl Handler {
     pub(crate) fn rename_object(
         &mut self,
         from_lock: u32,
-        from: PathText,
+        from: &PathText,
         to_lock: u32,
-        to: PathText,
+        to: &PathText,
         now: Date3,
     ) -> Results
-        ensures { MethodGives self.old (RenameObject from_lock from to_lock to) now self.new result }
+        ensures { MethodGives self.old (RenameObject from_lock from.now to_lock to.now) now self.new result }
     {
         if self.died {
             return Results::refused(DosError::DeviceNotMounted);
         }
-        let (key, (dir, name)) = match self.source_and_place(from_lock, &from, to_lock, &to) {
+        let (key, (dir, name)) = match self.source_and_place(from_lock, from, to_lock, to) {
             Ok(found) => found,
             Err(error) => return Results::refused(error),
         };

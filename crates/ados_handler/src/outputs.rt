@@ -18,13 +18,13 @@ use ados_volume::NodeKind;
 
 impl Handler {
     /// FINDUPDATE.
-    pub(crate) fn find_update(&mut self, lock: u32, path: PathText, now: Date3) -> Results
-        ensures { MethodGives self.old (FindUpdate lock path) now self.new result }
+    pub(crate) fn find_update(&mut self, lock: u32, path: &PathText, now: Date3) -> Results
+        ensures { MethodGives self.old (FindUpdate lock path.now) now self.new result }
     {
         if self.died {
             return Results::refused(DosError::DeviceNotMounted);
         }
-        let (dir, name) = match self.placed(lock, &path) {
+        let (dir, name) = match self.placed(lock, path) {
             Ok(found) => found,
             Err(error) => return Results::refused(error),
         };
@@ -35,13 +35,13 @@ impl Handler {
     }
 
     /// FINDOUTPUT.
-    pub(crate) fn find_output(&mut self, lock: u32, path: PathText, now: Date3) -> Results
-        ensures { MethodGives self.old (FindOutput lock path) now self.new result }
+    pub(crate) fn find_output(&mut self, lock: u32, path: &PathText, now: Date3) -> Results
+        ensures { MethodGives self.old (FindOutput lock path.now) now self.new result }
     {
         if self.died {
             return Results::refused(DosError::DeviceNotMounted);
         }
-        let (dir, name) = match self.placed(lock, &path) {
+        let (dir, name) = match self.placed(lock, path) {
             Ok(found) => found,
             Err(error) => return Results::refused(error),
         };

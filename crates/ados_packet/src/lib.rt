@@ -8,6 +8,7 @@ pub mod dos_error;
 pub mod info;
 pub mod packet;
 pub mod results;
+pub mod text;
 
 pub use action::Action;
 pub use answer::{Answer, Body};
@@ -16,6 +17,7 @@ pub use dos_error::DosError;
 pub use info::{DiskInfo, FileInfo};
 pub use packet::{NO_LOCK, Packet};
 pub use results::Results;
+pub use text::Text;
 
 #[cfg(test)]
 mod tests;

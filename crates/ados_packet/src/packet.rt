@@ -4,7 +4,8 @@ ghost use Rattle.ados_packet.specs.Packet.{action_of, kind_of};
 
 use crate::action::Action;
 use crate::buffer::Buffer;
-use ados_name::{Date3, PathText};
+use crate::text::Text;
+use ados_name::Date3;
 
 /// The number that stands for no lock: for the root of the disk (ZERO of the AmigaDOS Technical Reference).
 pub const NO_LOCK: u32 = 0;
@@ -19,12 +20,12 @@ pub enum Packet {
     /// LOCATE_OBJECT: a lock on an object, exclusive with mode -1, and shared with any other.
     LocateObject {
         lock: u32,
-        path: PathText,
+        path: Text,
         mode: i32,
     },
     /// RENAME_DISK: another name for the volume.
     RenameDisk {
-        name: PathText,
+        name: Text,
     },
     /// FREE_LOCK: the lock is given up.
     FreeLock {
@@ -33,14 +34,14 @@ pub enum Packet {
     /// DELETE_OBJECT: a file or an empty directory is taken away.
     DeleteObject {
         lock: u32,
-        path: PathText,
+        path: Text,
     },
     /// RENAME_OBJECT: an object moves to another place.
     RenameObject {
         from_lock: u32,
-        from: PathText,
+        from: Text,
         to_lock: u32,
-        to: PathText,
+        to: Text,
     },
     /// COPY_DIR: one more shared lock on the object of a lock.
     CopyDir {
@@ -49,13 +50,13 @@ pub enum Packet {
     /// SET_PROTECT: an object's protection bits.
     SetProtect {
         lock: u32,
-        path: PathText,
+        path: Text,
         bits: u32,
     },
     /// CREATE_DIR: a new directory, with a lock on it.
     CreateDir {
         lock: u32,
-        path: PathText,
+        path: Text,
     },
     /// EXAMINE_OBJECT: what there is to tell of the object of a lock.
     ExamineObject {
@@ -75,8 +76,8 @@ pub enum Packet {
     /// SET_COMMENT: an object's comment.
     SetComment {
         lock: u32,
-        path: PathText,
-        comment: PathText,
+        path: Text,
+        comment: Text,
     },
     /// PARENT: a shared lock on the directory that holds the object of a lock.
     Parent {
@@ -85,7 +86,7 @@ pub enum Packet {
     /// SET_DATE: an object's date.
     SetDate {
         lock: u32,
-        path: PathText,
+        path: Text,
         date: Date3,
     },
     /// SAME_LOCK: whether two locks stand for one object.
@@ -106,17 +107,17 @@ pub enum Packet {
     /// FINDUPDATE: a shared handle on a file, which is made where there is none.
     FindUpdate {
         lock: u32,
-        path: PathText,
+        path: Text,
     },
     /// FINDINPUT: a shared handle on a file that is there.
     FindInput {
         lock: u32,
-        path: PathText,
+        path: Text,
     },
     /// FINDOUTPUT: an exclusive handle on a file with no bytes, which is made where there is none.
     FindOutput {
         lock: u32,
-        path: PathText,
+        path: Text,
     },
     /// END: the handle is given up.
     End {

@@ -4,7 +4,10 @@ use crate::dos_error::DosError;
 use crate::info::DiskInfo;
 use crate::packet::Packet;
 use crate::results::Results;
+use crate::text::Text;
 use ados_name::PathText;
+use std::alloc::{AllocError, Global};
+use std::test::Fail;
 
 #[test]
 fn actions(rt: HostRuntime) {
@@ -38,23 +41,37 @@ fn a_count_and_a_refused_count(rt: HostRuntime) {
     assert_eq!(rt; (failed.action, failed.res1, failed.res2), (1008, -1, 219));
 }
 
-fn path() -> PathText {
+fn text(alloc: Global) -> Result<Text, AllocError> {
     match PathText::new(b"a/b") {
-        Ok(path) => path,
+        Ok(path) => Text::new(alloc, path),
         Err(_) => unreachable!(),
     }
 }
 
 #[test]
-fn actions_with_a_path(rt: HostRuntime) {
-    let (lock, path) = (0, path());
-    let mode = -2;
+fn a_text_is_read_as_a_path(rt: HostRuntime) -> Result<(), Fail> {
+    let text = text(rt.alloc())?;
+    assert_eq!(rt; text.path().bytes(), b"a/b".as_slice());
+    Ok(())
+}
+
+#[test]
+fn actions_with_a_path(rt: HostRuntime) -> Result<(), Fail> {
+    let alloc = rt.alloc();
+    let (lock, mode) = (0, -2);
+    let path = text(alloc)?;
     assert_eq!(rt; Packet::LocateObject { lock, path, mode }.action(), 8);
+    let path = text(alloc)?;
     assert_eq!(rt; Packet::DeleteObject { lock, path }.action(), 16);
+    let path = text(alloc)?;
     assert_eq!(rt; Packet::CreateDir { lock, path }.action(), 22);
+    let path = text(alloc)?;
     assert_eq!(rt; Packet::FindUpdate { lock, path }.action(), 1004);
+    let path = text(alloc)?;
     assert_eq!(rt; Packet::FindInput { lock, path }.action(), 1005);
+    let path = text(alloc)?;
     assert_eq!(rt; Packet::FindOutput { lock, path }.action(), 1006);
+    Ok(())
 }
 
 #[test]

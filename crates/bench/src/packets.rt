@@ -4,7 +4,7 @@ use crate::blank::{MOMENT, blank_volume};
 use adf_block::Format;
 use ados_handler::Handler;
 use ados_name::{Date3, PathText};
-use ados_packet::{Answer, Body, Buffer, Packet};
+use ados_packet::{Answer, Body, Buffer, Packet, Text};
 use ados_port::{Exchange, Outcome, Server, Step};
 use anyhow::{Result, bail};
 use std::alloc::Global;
@@ -32,9 +32,9 @@ const SHARED: i32 = -2;
 /// Counts a SEEK from the beginning of the file.
 const BEGINNING: i32 = -1;
 
-fn path(bytes: &[u8]) -> Result<PathText> {
+fn path(alloc: Global, bytes: &[u8]) -> Result<Text> {
     match PathText::new(bytes) {
-        Ok(path) => Ok(path),
+        Ok(path) => Ok(Text::new(alloc, path)?),
         Err(_) => bail!("a path is too long"),
     }
 }
@@ -62,9 +62,9 @@ fn lock_of(answer: &Answer) -> Result<u32> {
 }
 
 /// Makes so many directories in the root.
-fn make_entries(handler: &mut Handler, entries: u32) -> Result<()> {
+fn make_entries(alloc: Global, handler: &mut Handler, entries: u32) -> Result<()> {
     for n in 0..entries {
-        let path = path(&name_of(n))?;
+        let path = path(alloc, &name_of(n))?;
         let lock = lock_of(&serve(handler, Packet::CreateDir { lock: 0, path })?)?;
         serve(handler, Packet::FreeLock { lock })?;
     }
@@ -72,17 +72,17 @@ fn make_entries(handler: &mut Handler, entries: u32) -> Result<()> {
 }
 
 /// So many shared locks on the root.
-fn hold(handler: &mut Handler, locks: u32) -> Result<()> {
+fn hold(alloc: Global, handler: &mut Handler, locks: u32) -> Result<()> {
     for _ in 0..locks {
-        let (lock, path, mode) = (0, path(b"")?, SHARED);
+        let (lock, path, mode) = (0, path(alloc, b"")?, SHARED);
         serve(handler, Packet::LocateObject { lock, path, mode })?;
     }
     Ok(())
 }
 
 /// A handle on a new file.
-fn open(handler: &mut Handler) -> Result<u32> {
-    let path = path(b"file")?;
+fn open(alloc: Global, handler: &mut Handler) -> Result<u32> {
+    let path = path(alloc, b"file")?;
     match serve(handler, Packet::FindUpdate { lock: 0, path })?.body {
         Body::Handle(handle) => Ok(handle),
         _ => bail!("no handle"),
@@ -99,7 +99,7 @@ fn packet(alloc: Global, n: u32, lock: u32, handle: u32, entry: u32) -> Result<P
     Ok(match n % ROUND {
         0 => Packet::LocateObject {
             lock: 0,
-            path: path(b"file")?,
+            path: path(alloc, b"file")?,
             mode: SHARED,
         },
         1 => Packet::ExamineObject { lock },
@@ -189,9 +189,9 @@ pub(crate) fn time<R: Clock + Print + Eprint>(
     entries: u32,
 ) -> Result<()> {
     let mut handler = Handler::new(alloc, blank_volume(alloc, Format::Ffs, BLOCKS)?);
-    make_entries(&mut handler, entries)?;
-    let handle = open(&mut handler)?;
-    hold(&mut handler, locks)?;
+    make_entries(alloc, &mut handler, entries)?;
+    let handle = open(alloc, &mut handler)?;
+    hold(alloc, &mut handler, locks)?;
     let (lock, entry) = (locks.saturating_add(1), handler.volume().root());
 
     let start = Instant::now(rt)?;

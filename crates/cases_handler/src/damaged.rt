@@ -18,8 +18,8 @@ fn filled(rt: &impl Abort, alloc: Global, format: Format) -> Result<Image, Fail>
     let write = write_line(alloc, size)?;
     let written = format!(in alloc; "{size} 0")?;
     let mut desk = Desk::floppy(alloc, format)?;
-    desk.directory(b"A")?;
-    desk.directory(b"DP")?;
+    desk.directory(alloc, b"A")?;
+    desk.directory(alloc, b"DP")?;
     desk.tell(
         rt,
         alloc,

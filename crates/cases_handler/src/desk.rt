@@ -6,7 +6,7 @@ use adf_script::text::results_text;
 use adf_script::values::keep_value;
 use ados_handler::Handler;
 use ados_name::{Date3, PathText};
-use ados_packet::{Answer, Body, DiskInfo, FileInfo, Packet};
+use ados_packet::{Answer, Body, DiskInfo, FileInfo, Packet, Text};
 use ados_port::Server;
 use ados_volume::Volume;
 use cases_drawn::{START, checked, copy, is_same, work};
@@ -29,9 +29,9 @@ pub(crate) struct Desk {
     pub(crate) moment: Date3,
 }
 
-/// The text of a path, a name or a comment.
-pub(crate) fn text(bytes: &[u8]) -> Result<PathText, Fail> {
-    Ok(PathText::new(bytes)?)
+/// The text of a packet: a path, a name or a comment.
+pub(crate) fn text(alloc: Global, bytes: &[u8]) -> Result<Text, Fail> {
+    Ok(Text::new(alloc, PathText::new(bytes)?)?)
 }
 
 /// A line that writes so many `x` to the handle of the first line.
@@ -128,8 +128,8 @@ impl Desk {
     }
 
     /// CREATE_DIR from a lock, which is to give a lock.
-    pub(crate) fn make_dir(&mut self, lock: u32, path: &[u8]) -> Result<u32, Fail> {
-        let path = text(path)?;
+    pub(crate) fn make_dir(&mut self, alloc: Global, lock: u32, path: &[u8]) -> Result<u32, Fail> {
+        let path = text(alloc, path)?;
         match self.ask(Packet::CreateDir { lock, path }) {
             Answer { res1, res2: 0, .. } if res1 > 0 => Ok(res1 as u32),
             answer => Err(no_lock(&answer)),
@@ -137,8 +137,8 @@ impl Desk {
     }
 
     /// CREATE_DIR, whose lock is freed.
-    pub(crate) fn directory(&mut self, path: &[u8]) -> Result<(), Fail> {
-        let lock = self.make_dir(0, path)?;
+    pub(crate) fn directory(&mut self, alloc: Global, path: &[u8]) -> Result<(), Fail> {
+        let lock = self.make_dir(alloc, 0, path)?;
         match self.ask(Packet::FreeLock { lock }).res2 {
             0 => Ok(()),
             _ => Err(Fail::from("a lock that is not freed")),

@@ -61,9 +61,9 @@ fn list_and_rename(rt: HostRuntime) -> Result<(), Fail> {
 /// A floppy with the directories `B`, `A` and `DP`, on which there is no hold.
 fn with_directories(alloc: Global) -> Result<Desk, Fail> {
     let mut desk = Desk::floppy(alloc, Format::Ffs)?;
-    desk.directory(b"B")?;
-    desk.directory(b"A")?;
-    desk.directory(b"DP")?;
+    desk.directory(alloc, b"B")?;
+    desk.directory(alloc, b"A")?;
+    desk.directory(alloc, b"DP")?;
     Ok(desk)
 }
 

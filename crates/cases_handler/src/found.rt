@@ -56,7 +56,7 @@ fn tell_each(rt: &impl Abort, alloc: Global, desk: &mut Desk) -> Result<(), Fail
 fn three_hundred_names(rt: HostRuntime) -> Result<(), Fail> {
     let mut desk = Desk::floppy(rt.alloc(), Format::Ffs)?;
     for n in 1..301 {
-        desk.directory(numbered(rt.alloc(), n)?.as_bytes())?;
+        desk.directory(rt.alloc(), numbered(rt.alloc(), n)?.as_bytes())?;
     }
     tell_each(&rt, rt.alloc(), &mut desk)?;
     tell_each(&rt, rt.alloc(), &mut desk)?;
@@ -64,11 +64,11 @@ fn three_hundred_names(rt: HostRuntime) -> Result<(), Fail> {
 }
 
 /// So many directories, each in the one before: the locks of the first and of the last.
-fn nested(desk: &mut Desk, count: u32) -> Result<(u32, u32), Fail> {
-    let first = desk.make_dir(0, b"d")?;
+fn nested(alloc: Global, desk: &mut Desk, count: u32) -> Result<(u32, u32), Fail> {
+    let first = desk.make_dir(alloc, 0, b"d")?;
     let mut last = first;
     for _ in 1..count {
-        last = desk.make_dir(last, b"d")?;
+        last = desk.make_dir(alloc, last, b"d")?;
     }
     Ok((first, last))
 }
@@ -78,7 +78,7 @@ fn nested(desk: &mut Desk, count: u32) -> Result<(u32, u32), Fail> {
 fn deep_directories(rt: HostRuntime) -> Result<(), Fail> {
     let alloc = rt.alloc();
     let mut desk = Desk::floppy(alloc, Format::Ffs)?;
-    let (first, last) = nested(&mut desk, 1_756)?;
+    let (first, last) = nested(alloc, &mut desk, 1_756)?;
     let mkdir = format!(in alloc; "mkdir {last} \"d\"")?;
     let free = format!(in alloc; "free {first}")?;
     let rename = format!(in alloc; "rename 0 \"d\" {last} \"e\"")?;

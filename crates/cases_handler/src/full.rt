@@ -121,7 +121,7 @@ fn resize_full_disk(rt: HostRuntime) -> Result<(), Fail> {
 fn with_directories(alloc: Global) -> Result<Desk, Fail> {
     let mut desk = Desk::floppy(alloc, Format::Ffs)?;
     for n in 1..1_757 {
-        desk.directory(numbered(alloc, n)?.as_bytes())?;
+        desk.directory(alloc, numbered(alloc, n)?.as_bytes())?;
     }
     Ok(desk)
 }

@@ -58,7 +58,7 @@ const LATER: Date3 = Date3 {
 #[test]
 fn set_date(rt: HostRuntime) -> Result<(), Fail> {
     let mut desk = Desk::floppy(rt.alloc(), Format::Ffs)?;
-    desk.directory(b"d")?;
+    desk.directory(rt.alloc(), b"d")?;
     desk.moment = LATER;
     desk.tell(
         &rt,
@@ -81,7 +81,7 @@ fn set_comment(rt: HostRuntime) -> Result<(), Fail> {
     let comment = format!(in alloc; "comment 0 \"d\" \"{longest}\"")?;
     let comment_more = format!(in alloc; "comment 0 \"d\" \"{longest}c\"")?;
     let mut desk = Desk::floppy(alloc, Format::Ffs)?;
-    desk.directory(b"d")?;
+    desk.directory(alloc, b"d")?;
     desk.tell(
         &rt,
         alloc,

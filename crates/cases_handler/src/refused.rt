@@ -43,27 +43,28 @@ fn small(alloc: Global) -> Result<Desk, Fail> {
 /// How often each of them is served.
 const TURNS: u8 = 9;
 
-/// A name for each turn.
-fn name_of(number: u8) -> [u8; 1] {
-    [b'k' + number % TURNS]
+/// The path that such a packet brings, where it brings one: of what is there, or a name for each turn.
+fn path_of(hold: Hold, number: u8) -> [u8; 1] {
+    match hold {
+        Hold::Locate => [b'd'],
+        Hold::Input => [b'f'],
+        _ => [b'k' + number % TURNS],
+    }
 }
 
 /// One of these packets. With another number it makes another object, where it makes one.
-fn packet_of(hold: Hold, lock: u32, number: u8) -> Result<Packet, Fail> {
-    let path = text(&name_of(number))?;
+fn packet_of(alloc: Global, hold: Hold, lock: u32, number: u8) -> Result<Packet, Fail> {
+    let path = text(alloc, &path_of(hold, number))?;
     Ok(match hold {
         Hold::Locate => Packet::LocateObject {
             lock: 0,
-            path: text(b"d")?,
+            path,
             mode: -2,
         },
         Hold::Copy => Packet::CopyDir { lock },
         Hold::Parent => Packet::Parent { lock },
         Hold::Create => Packet::CreateDir { lock, path },
-        Hold::Input => Packet::FindInput {
-            lock: 0,
-            path: text(b"f")?,
-        },
+        Hold::Input => Packet::FindInput { lock: 0, path },
         Hold::Output => Packet::FindOutput { lock, path },
         Hold::Emptied => Packet::FindOutput { lock: 0, path },
         Hold::Update => Packet::FindUpdate { lock, path },
@@ -80,10 +81,10 @@ fn expect_hold(
     number: u8,
 ) -> Result<(), Fail> {
     let was = copy(alloc, desk.image())?;
-    let mut refused = desk.ask(packet_of(hold, lock, number)?).res2;
+    let mut refused = desk.ask(packet_of(alloc, hold, lock, number)?).res2;
     if refused == NO_MEMORY {
         assert!(rt; is_same(desk.image(), &was));
-        refused = desk.ask(packet_of(hold, lock, number)?).res2;
+        refused = desk.ask(packet_of(alloc, hold, lock, number)?).res2;
     }
     assert_eq!(rt; refused, 0);
     Ok(())
@@ -91,7 +92,7 @@ fn expect_hold(
 
 /// A directory `d`, the file `f`, and a file of one byte for each turn, on which there is no hold.
 fn make_entries(rt: &impl Abort, alloc: Global, desk: &mut Desk) -> Result<(), Fail> {
-    desk.directory(b"d")?;
+    desk.directory(alloc, b"d")?;
     for name in [b'f', b'k', b'l', b'm', b'n', b'o', b'p', b'q', b'r', b's'] {
         desk.renumber();
         let output = format!(in alloc; "output 0 \"{}\"", char::from(name))?;

@@ -4,7 +4,7 @@ ghost use Rattle.std.specs.Prelude.{◌≡◌, false, IfOk};
 use adf_block::Format;
 use ados_handler::Handler;
 use ados_name::{Date3, Name, PathText};
-use ados_packet::Packet;
+use ados_packet::{Packet, Text};
 use ados_port::Server;
 use ados_volume::blank;
 use std::alloc::Global;
@@ -31,7 +31,7 @@ pub(crate) fn handler_with(alloc: Global, directory: &[u8]) -> Result<Handler, F
     ensures { IfOk result (λ handler. handler.session.died ≡ false) }
 {
     let mut handler = blank_handler(alloc)?;
-    let path = PathText::new(directory)?;
+    let path = Text::new(alloc, PathText::new(directory)?)?;
     let made = handler.serve(Packet::CreateDir { lock: 0, path }, START);
     if made.res2 != 0 {
         return Err(Fail::from("no directory"));

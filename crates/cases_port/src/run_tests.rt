@@ -4,7 +4,7 @@ ghost use Rattle.std.specs.Prelude.{◌≤◌};
 use adf_block::{Format, Image};
 use ados_handler::Handler;
 use ados_name::{Date3, Name, PathText};
-use ados_packet::{Answer, Body, Packet};
+use ados_packet::{Answer, Body, Packet, Text};
 use ados_port::{Outcome, PutRefused, RunDone, Step};
 use ados_run::{RunFault, run_volume};
 use ados_volume::{FaultKind, blank};
@@ -41,11 +41,11 @@ fn floppy(alloc: Global) -> Result<Image, Fail> {
 }
 
 /// LOCATE_OBJECT of the root, for a shared lock.
-fn locate_root() -> Result<Packet, Fail> {
+fn locate_root(alloc: Global) -> Result<Packet, Fail> {
     let path = PathText::new(b"").map_err(|_| Fail::from("no path"))?;
     Ok(Packet::LocateObject {
         lock: 0,
-        path,
+        path: Text::new(alloc, path)?,
         mode: -2,
     })
 }
@@ -54,7 +54,7 @@ fn locate_root() -> Result<Packet, Fail> {
 fn die_then_locate(alloc: Global) -> Result<Vec<Asked>, Fail> {
     let mut steps = Vec::new(alloc);
     steps.push(put(1, Packet::Die))?;
-    steps.push(put(2, locate_root()?))?;
+    steps.push(put(2, locate_root(alloc)?))?;
     steps.push(serve())?;
     steps.push(put(2, Packet::DiskInfo))?;
     steps.push(serve())?;
@@ -247,7 +247,7 @@ fn too_many_clients(rt: HostRuntime) -> Result<(), Fail> {
 fn locks_and_info(alloc: Global) -> Result<Vec<Asked>, Fail> {
     let mut steps = Vec::new(alloc);
     for packet in [
-        locate_root()?,
+        locate_root(alloc)?,
         Packet::CopyDir { lock: 1 },
         Packet::DiskInfo,
     ] {

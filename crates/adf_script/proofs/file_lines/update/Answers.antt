@@ -1,9 +1,4 @@
-use Rattle.std.proofs.Common.{refl}
 use Rattle.adf_script.proofs.file_lines.update.Goals as goal
 
-pub returns-in_err-lock : goal.returns-in_err-lock
-returns-in_err-lock c = rw c.from_residual.ensures (λ lock path s. c.in_err-lock.ensures.reads (lock, path) s)
-
-pub returns : goal.returns
-returns c =
-    rw (c.path_of-path.ensures) (refl, c.in_ok-lock.ensures.reads)
+pub returns-in_default : goal.returns-in_default
+returns-in_default c = λ lock path s. (rw c.in_default.is at c.in_ok-lock.ensures) (lock, path) s

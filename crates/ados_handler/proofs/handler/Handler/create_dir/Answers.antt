@@ -45,8 +45,8 @@ returns-in-Err c =
     let stood = subst (λ (h : HandlerState). Stands h.image t) c.self.view_is c.self.invariant.stands in
     let alive = sym (ap (λ (h : HandlerState). h.session.died) c.self.view_is) ∙ c.if-self.false in
     let none = sym (c.placed.ensures.place t stood) ∙ c.in-Err.is in
-    refused_gives old c.placed.new.self (CreateDir c.args.lock c.args.path) c.args.now c.refused-in-Err.result t c.in-Err.error stood c.placed.ensures.same
-    (place_refused t old.session (CreateDir c.args.lock c.args.path) c.args.lock c.args.path c.in-Err.error _ refl alive none) c.refused-in-Err.ensures
+    refused_gives old c.placed.new.self (CreateDir c.args.lock c.args.path.now) c.args.now c.refused-in-Err.result t c.in-Err.error stood c.placed.ensures.same
+    (place_refused t old.session (CreateDir c.args.lock c.args.path.now) c.args.lock c.args.path.now c.in-Err.error _ refl alive none) c.refused-in-Err.ensures
 
 pub returns-then-is_err : goal.returns-then-is_err
 returns-then-is_err c =
@@ -60,8 +60,8 @@ returns-then-is_err c =
     let none = ap is_some (sym (c.child.ensures.child t opened)) ∙ sym c.is_some.ensures ∙ c.if-is_some.false in
     let room = not_lacking (lacks t 1) (sym (c.has_room.ensures t stands) ∙ c.if-not-has_room.false) in
     let held : ◌≡◌ {A = HandlerState} (record { image = c.child.new.self.image; was_validated = c.child.new.self.was_validated; session = record { locks = c.reserve.new.self.held; handles = c.self-2.inside.handles.held; died = c.self-2.inside.died } }) (record { image = c.self-2.inside.volume.image; was_validated = c.self-2.inside.volume.was_validated; session = record { locks = c.self-2.inside.locks.held; handles = c.self-2.inside.handles.held; died = c.self-2.inside.died } }) = λ i. record { image = (c.child.ensures.same i).image; was_validated = (c.child.ensures.same i).was_validated; session = record { locks = c.reserve.ensures.held i; handles = c.self-2.inside.handles.held; died = c.self-2.inside.died } } in
-    no_memory_gives c.args.self.now _ (CreateDir c.args.lock c.args.path) c.args.now c.refused-then-is_err.result t stood (held ∙ same)
-    (create_dir_passes t c.args.self.now.session c.in-Ok.found c.args.lock c.args.path alive place none room) refl c.refused-then-is_err.ensures
+    no_memory_gives c.args.self.now _ (CreateDir c.args.lock c.args.path.now) c.args.now c.refused-then-is_err.result t stood (held ∙ same)
+    (create_dir_passes t c.args.self.now.session c.in-Ok.found c.args.lock c.args.path.now alive place none room) refl c.refused-then-is_err.ensures
 
 pub returns : goal.returns
 returns c =
@@ -93,9 +93,9 @@ returns c =
       new_tree = u;
       stood = stood;
       stands = c.in-Ok-create.ensures.done.1 t stands;
-      means = subst (λ (r : Results). MethodMeans t s (CreateDir c.args.lock c.args.path) c.args.now u new r) (sym c.counted.ensures)
-          (create_dir_means t s new c.args.now there key number fresh free is c.args.lock c.args.path alive place none room);
-      leaves = leaves_rest t c.args.self.now (CreateDir c.args.lock c.args.path) _ c.counted.result (subst (λ (h : HandlerState). KeepsRest h.image c.create.new.self.image) same keeps) (ap (λ (r : Results). r.res2) c.counted.ensures) refl;
+      means = subst (λ (r : Results). MethodMeans t s (CreateDir c.args.lock c.args.path.now) c.args.now u new r) (sym c.counted.ensures)
+          (create_dir_means t s new c.args.now there key number fresh free is c.args.lock c.args.path.now alive place none room);
+      leaves = leaves_rest t c.args.self.now (CreateDir c.args.lock c.args.path.now) _ c.counted.result (subst (λ (h : HandlerState). KeepsRest h.image c.create.new.self.image) same keeps) (ap (λ (r : Results). r.res2) c.counted.ensures) refl;
       validated = c.create.ensures.validated ∙ ap (λ (v : Shown). v.was_validated) c.child.ensures.same ∙ ap (λ (h : HandlerState). h.was_validated) same;
     }
 

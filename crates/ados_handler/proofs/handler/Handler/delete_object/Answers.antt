@@ -42,15 +42,15 @@ returns-then-denies_delete c =
     let empty = sym (c.has_entries.ensures t stands) ∙ c.if-has_entries.false in
     let n = some_in (t.nodes key) (c.in-Ok.ensures.key t stood) in
     let denied = denial_told t key n.0 c.examine.result c.denies_delete.result n.1 (c.examine.ensures t n.0 opened n.1) c.denies_delete.ensures ∙ c.if-denies_delete.true in
-    let some = delete_refusal t c.args.self.now.session c.args.lock c.args.path key alive walk other free empty ∙ ap (λ b. first_refusal (refuse DeleteProtected b ∷ [])) denied in
+    let some = delete_refusal t c.args.self.now.session c.args.lock c.args.path.now key alive walk other free empty ∙ ap (λ b. first_refusal (refuse DeleteProtected b ∷ [])) denied in
     record {
       old_tree = t;
       new_tree = t;
       stood = stood;
       stands = stands;
-      means = refused_means t c.args.self.now.session c.walked.new.self.session (DeleteObject c.args.lock c.args.path) c.args.now c.refused-then-denies_delete.result DeleteProtected some
-          (record { tree = refl; session = ap (λ (h : HandlerState). h.session) c.walked.ensures.same; answered = ap (answer_to (DeleteObject c.args.lock c.args.path)) c.refused-then-denies_delete.ensures });
-      leaves = leaves_all t c.args.self.now (DeleteObject c.args.lock c.args.path) c.walked.new.self c.refused-then-denies_delete.result (ap (λ (h : HandlerState). h.image) c.walked.ensures.same);
+      means = refused_means t c.args.self.now.session c.walked.new.self.session (DeleteObject c.args.lock c.args.path.now) c.args.now c.refused-then-denies_delete.result DeleteProtected some
+          (record { tree = refl; session = ap (λ (h : HandlerState). h.session) c.walked.ensures.same; answered = ap (answer_to (DeleteObject c.args.lock c.args.path.now)) c.refused-then-denies_delete.ensures });
+      leaves = leaves_all t c.args.self.now (DeleteObject c.args.lock c.args.path.now) c.walked.new.self c.refused-then-denies_delete.result (ap (λ (h : HandlerState). h.image) c.walked.ensures.same);
       validated = ap (λ (h : HandlerState). h.was_validated) c.walked.ensures.same;
     }
 
@@ -76,14 +76,14 @@ returns c =
       new_tree = removed c.args.now key t;
       stood = stood;
       stands = c.remove.ensures.stands t opened;
-      means = subst (λ (r : Results). MethodMeans t c.args.self.now.session (DeleteObject c.args.lock c.args.path) c.args.now (removed c.args.now key t) held r) (sym c.done.ensures)
-          (delete_means t c.args.self.now.session c.args.lock c.args.path key alive walk other free empty c.args.now held allowed kept);
-      leaves = leaves_rest t c.args.self.now (DeleteObject c.args.lock c.args.path) _ c.done.result (subst (λ (h : HandlerState). KeepsRest h.image c.remove.new.self.image) same c.remove.ensures.keeps) (ap (λ (r : Results). r.res2) c.done.ensures) refl;
+      means = subst (λ (r : Results). MethodMeans t c.args.self.now.session (DeleteObject c.args.lock c.args.path.now) c.args.now (removed c.args.now key t) held r) (sym c.done.ensures)
+          (delete_means t c.args.self.now.session c.args.lock c.args.path.now key alive walk other free empty c.args.now held allowed kept);
+      leaves = leaves_rest t c.args.self.now (DeleteObject c.args.lock c.args.path.now) _ c.done.result (subst (λ (h : HandlerState). KeepsRest h.image c.remove.new.self.image) same c.remove.ensures.keeps) (ap (λ (r : Results). r.res2) c.done.ensures) refl;
       validated = c.remove.ensures.validated ∙ ap (λ (h : HandlerState). h.was_validated) same;
     }
 
 pub invariant_of-self : goal.invariant_of-self
 invariant_of-self c =
     let same = c.self-2.view_is ∙ c.walked.ensures.same in
-    sound_after c.args.self.now _ (DeleteObject c.args.lock c.args.path) c.args.now c.done.result (delete_keeps c.args.lock c.args.path)
+    sound_after c.args.self.now _ (DeleteObject c.args.lock c.args.path.now) c.args.now c.done.result (delete_keeps c.args.lock c.args.path.now)
     (subst (λ (h : HandlerState). IsSoundHandler h.image h.session) same c.self-2.invariant) (returns c)

@@ -7,6 +7,6 @@ pub returns-in-Ok : goal.returns-in-Ok
 returns-in-Ok c =
     let alive = sym (ap (λ (h : HandlerState). h.session.died) c.self.view_is) ∙ c.if-self.false in
     record {
-      gives = λ now. input_gives c.args.self.now c.args.lock c.args.path c.in-Ok.key alive c.walked.new.self _ _ now (λ t stood. sym (c.walked.ensures.walk t stood) ∙ c.in-Ok.is)
+      gives = λ now. input_gives c.args.self.now c.args.lock c.args.path.now c.in-Ok.key alive c.walked.new.self _ _ now (λ t stood. sym (c.walked.ensures.walk t stood) ∙ c.in-Ok.is)
           c.walked.ensures.same c.open_file.ensures.opens c.open_file.ensures.image;
     }

@@ -22,19 +22,19 @@ returns-in-Err c =
     let stood = subst (λ (h : HandlerState). Stands h.image t) c.self.view_is c.self.invariant.stands in
     let alive = sym (ap (λ (h : HandlerState). h.session.died) c.self.view_is) ∙ c.if-self.false in
     let none = sym (c.placed.ensures.place t stood) ∙ c.in-Err.is in
-    refused_gives old c.placed.new.self (FindOutput c.args.lock c.args.path) c.args.now c.refused-in-Err.result t c.in-Err.error stood c.placed.ensures.same
-    (place_refused t old.session (FindOutput c.args.lock c.args.path) c.args.lock c.args.path c.in-Err.error _ refl alive none) c.refused-in-Err.ensures
+    refused_gives old c.placed.new.self (FindOutput c.args.lock c.args.path.now) c.args.now c.refused-in-Err.result t c.in-Err.error stood c.placed.ensures.same
+    (place_refused t old.session (FindOutput c.args.lock c.args.path.now) c.args.lock c.args.path.now c.in-Err.error _ refl alive none) c.refused-in-Err.ensures
 
 pub returns-in-Some : goal.returns-in-Some
 returns-in-Some c =
     let alive = sym (ap (λ (h : HandlerState). h.session.died) c.self.view_is) ∙ c.if-self.false in
     let session : Session = record { locks = c.self-2.inside.locks.held; handles = c.self-2.inside.handles.held; died = c.self-2.inside.died } in
-    output_empties c.args.self.now c.args.lock c.args.path c.args.now c.in-Ok.found alive (λ t stood. sym (c.placed.ensures.place t stood) ∙ c.in-Ok.is) c.self-2.inside.volume c.child.new.self session
+    output_empties c.args.self.now c.args.lock c.args.path.now c.args.now c.in-Ok.found alive (λ t stood. sym (c.placed.ensures.place t stood) ∙ c.in-Ok.is) c.self-2.inside.volume c.child.new.self session
     c.child.ensures.same (c.self-2.view_is ∙ c.placed.ensures.same) _ c.empty_file.result c.in-Some.key (λ t stands. sym (c.child.ensures.child t stands) ∙ c.in-Some.is) c.empty_file.ensures
 
 pub returns-in-None : goal.returns-in-None
 returns-in-None c =
     let alive = sym (ap (λ (h : HandlerState). h.session.died) c.self.view_is) ∙ c.if-self.false in
     let session : Session = record { locks = c.self-2.inside.locks.held; handles = c.self-2.inside.handles.held; died = c.self-2.inside.died } in
-    output_makes c.args.self.now c.args.lock c.args.path c.args.now c.in-Ok.found alive (λ t stood. sym (c.placed.ensures.place t stood) ∙ c.in-Ok.is) c.self-2.inside.volume c.child.new.self session
+    output_makes c.args.self.now c.args.lock c.args.path.now c.args.now c.in-Ok.found alive (λ t stood. sym (c.placed.ensures.place t stood) ∙ c.in-Ok.is) c.self-2.inside.volume c.child.new.self session
     c.child.ensures.same (c.self-2.view_is ∙ c.placed.ensures.same) _ c.make_file.result (λ t stands. sym (c.child.ensures.child t stands) ∙ c.in-None.is) c.make_file.ensures

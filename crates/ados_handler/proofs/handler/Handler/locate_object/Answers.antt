@@ -17,7 +17,7 @@ returns c =
         stood = stood;
         stands = subst (λ (xs : List ℕ). Stands xs t) (sym image) stood;
         means = search rules;
-        leaves = leaves_all t c.args.self.now (LocateObject c.args.lock c.args.path c.args.mode) _ c.bring_lock.result image;
+        leaves = leaves_all t c.args.self.now (LocateObject c.args.lock c.args.path.now c.args.mode) _ c.bring_lock.result image;
         validated = c.bring_lock.ensures.validated ∙ ap (λ (h : HandlerState). h.was_validated) c.walked.ensures.same;
       };
     }

@@ -21,9 +21,9 @@ returns-in-Err c =
     let t = c.self.invariant.tree in
     let stood = subst (λ (h : HandlerState). Stands h.image t) c.self.view_is c.self.invariant.stands in
     let alive = sym (ap (λ (h : HandlerState). h.session.died) c.self.view_is) ∙ c.if-self.false in
-    let fault : first_fault c.args.name ≡ Some c.in-Err.field-0 = ap first_fault (sym c.bytes.ensures.value) ∙ c.in-Err.ensures.fault in
-    refused_gives c.args.self.now c.args.self.now (RenameDisk c.args.name) c.args.now c.refused-in-Err.result t InvalidComponentName stood refl
-    (no_name_refused t c.args.self.now.session c.args.name c.in-Err.field-0 alive fault) c.refused-in-Err.ensures
+    let fault : first_fault c.args.name.now ≡ Some c.in-Err.field-0 = ap first_fault (sym c.bytes.ensures.value) ∙ c.in-Err.ensures.fault in
+    refused_gives c.args.self.now c.args.self.now (RenameDisk c.args.name.now) c.args.now c.refused-in-Err.result t InvalidComponentName stood refl
+    (no_name_refused t c.args.self.now.session c.args.name.now c.in-Err.field-0 alive fault) c.refused-in-Err.ensures
 
 pub returns : goal.returns
 returns c =
@@ -35,16 +35,16 @@ returns c =
     let text = c.in-Ok.ensures.ok ∙ c.bytes.ensures.value in
     record {
       old_tree = t;
-      new_tree = disk_renamed c.args.now c.args.name t;
+      new_tree = disk_renamed c.args.now c.args.name.now t;
       stood = subst (λ (h : HandlerState). Stands h.image t) c.self.view_is c.self.invariant.stands;
       stands = subst (λ (x : List ℕ). Stands c.rename_disk.new.self.image (disk_renamed c.args.now x t)) text (c.rename_disk.ensures.stands t c.self.invariant.stands);
-      means = subst (λ (r : Results). MethodMeans t c.args.self.now.session (RenameDisk c.args.name) c.args.now (disk_renamed c.args.now c.args.name t) held r) (sym c.done.ensures)
-          (rename_disk_means t c.args.self.now.session held c.args.name c.args.now alive is kept);
-      leaves = leaves_rest t c.args.self.now (RenameDisk c.args.name) _ c.done.result (subst (λ (h : HandlerState). KeepsRest h.image c.rename_disk.new.self.image) c.self.view_is c.rename_disk.ensures.keeps) (ap (λ (r : Results). r.res2) c.done.ensures) refl;
+      means = subst (λ (r : Results). MethodMeans t c.args.self.now.session (RenameDisk c.args.name.now) c.args.now (disk_renamed c.args.now c.args.name.now t) held r) (sym c.done.ensures)
+          (rename_disk_means t c.args.self.now.session held c.args.name.now c.args.now alive is kept);
+      leaves = leaves_rest t c.args.self.now (RenameDisk c.args.name.now) _ c.done.result (subst (λ (h : HandlerState). KeepsRest h.image c.rename_disk.new.self.image) c.self.view_is c.rename_disk.ensures.keeps) (ap (λ (r : Results). r.res2) c.done.ensures) refl;
       validated = c.rename_disk.ensures.validated ∙ ap (λ (h : HandlerState). h.was_validated) c.self.view_is;
     }
 
 pub invariant_of-self : goal.invariant_of-self
 invariant_of-self c =
-    sound_after c.args.self.now _ (RenameDisk c.args.name) c.args.now c.done.result (rename_disk_keeps c.args.name c.bytes.ensures.valid)
+    sound_after c.args.self.now _ (RenameDisk c.args.name.now) c.args.now c.done.result (rename_disk_keeps c.args.name.now c.bytes.ensures.valid)
     (subst (λ (h : HandlerState). IsSoundHandler h.image h.session) c.self.view_is c.self.invariant) (returns c)

@@ -28,8 +28,8 @@ returns-in-Err c =
     let alive = sym (ap (λ (h : HandlerState). h.session.died) c.self.view_is) ∙ c.if-self.false in
     let none = sym (c.source_and_place.ensures.found t stood) ∙ c.in-Err.is in
     let told : ◌≡◌ {A = Results} c.refused-in-Err.result (record { res1 = pos 0; res2 = pos (error_number c.in-Err.error); body = Empty }) = search rules in
-    refused_gives old c.source_and_place.new.self (RenameObject c.args.from_lock c.args.from c.args.to_lock c.args.to) c.args.now c.refused-in-Err.result t c.in-Err.error stood c.source_and_place.ensures.same
-    (source_refused t old.session c.args.from_lock c.args.from c.args.to_lock c.args.to alive c.in-Err.error none) told
+    refused_gives old c.source_and_place.new.self (RenameObject c.args.from_lock c.args.from.now c.args.to_lock c.args.to.now) c.args.now c.refused-in-Err.result t c.in-Err.error stood c.source_and_place.ensures.same
+    (source_refused t old.session c.args.from_lock c.args.from.now c.args.to_lock c.args.to.now alive c.in-Err.error none) told
 
 pub returns-in-Some : goal.returns-in-Some
 returns-in-Some c =
@@ -42,8 +42,8 @@ returns-in-Some c =
     let between : Stands c.source_and_place.new.self.image t = subst (λ (h : HandlerState). Stands h.image t) (sym first) stood in
     let against = ap (λ (h : HandlerState). move_refusal t h.session c.in-Ok.found.0 c.in-Ok.found.1.0 c.in-Ok.found.1.1) (sym first) ∙ sym (c.move_refusal.ensures.refusal t between) ∙ c.in-Some.is in
     let told : ◌≡◌ {A = Results} c.refused-in-Some.result (record { res1 = pos 0; res2 = pos (error_number c.in-Some.error); body = Empty }) = search rules in
-    refused_gives old c.move_refusal.new.self (RenameObject c.args.from_lock c.args.from c.args.to_lock c.args.to) c.args.now c.refused-in-Some.result t c.in-Some.error stood (c.move_refusal.ensures.same ∙ first)
-    (move_refused t old.session c.args.from_lock c.args.from c.args.to_lock c.args.to alive c.in-Ok.found.0 c.in-Ok.found.1 found c.in-Some.error against) told
+    refused_gives old c.move_refusal.new.self (RenameObject c.args.from_lock c.args.from.now c.args.to_lock c.args.to.now) c.args.now c.refused-in-Some.result t c.in-Some.error stood (c.move_refusal.ensures.same ∙ first)
+    (move_refused t old.session c.args.from_lock c.args.from.now c.args.to_lock c.args.to.now alive c.in-Ok.found.0 c.in-Ok.found.1 found c.in-Some.error against) told
 
 pub rename-requires : goal.rename-requires
 rename-requires c = λ t stands.
@@ -60,7 +60,7 @@ pub returns : goal.returns
 returns c =
     let t = c.self.invariant.tree in
     let old = c.args.self.now in
-    let packet : Packet = RenameObject c.args.from_lock c.args.from c.args.to_lock c.args.to in
+    let packet : Packet = RenameObject c.args.from_lock c.args.from.now c.args.to_lock c.args.to.now in
     let moved : Tree = renamed c.args.now c.in-Ok.found.0 c.in-Ok.found.1.0 c.in-Ok.found.1.1 t in
     let stood : Stands old.image t = subst (λ (h : HandlerState). Stands h.image t) c.self.view_is c.self.invariant.stands in
     let alive = sym (ap (λ (h : HandlerState). h.session.died) c.self.view_is) ∙ c.if-self.false in
@@ -78,12 +78,12 @@ returns c =
       stood = stood;
       stands = c.rename.ensures.stands t (subst (λ (h : HandlerState). Stands h.image t) (sym same) stood);
       means = subst (λ (r : Results). MethodMeans t old.session packet c.args.now moved held r) (sym c.done.ensures)
-          (rename_object_means t old.session c.args.from_lock c.args.from c.args.to_lock c.args.to alive c.in-Ok.found.0 c.in-Ok.found.1 found c.args.now held free kept);
+          (rename_object_means t old.session c.args.from_lock c.args.from.now c.args.to_lock c.args.to.now alive c.in-Ok.found.0 c.in-Ok.found.1 found c.args.now held free kept);
       leaves = leaves_rest t old packet _ c.done.result (subst (λ (h : HandlerState). KeepsRest h.image c.rename.new.self.image) same c.rename.ensures.keeps) (ap (λ (r : Results). r.res2) c.done.ensures) refl;
       validated = c.rename.ensures.validated ∙ ap (λ (h : HandlerState). h.was_validated) same;
     }
 
 pub invariant_of-self : goal.invariant_of-self
 invariant_of-self c =
-    sound_after c.args.self.now _ (RenameObject c.args.from_lock c.args.from c.args.to_lock c.args.to) c.args.now c.done.result (rename_keeps c.args.from_lock c.args.from c.args.to_lock c.args.to c.bytes.ensures.valid)
+    sound_after c.args.self.now _ (RenameObject c.args.from_lock c.args.from.now c.args.to_lock c.args.to.now) c.args.now c.done.result (rename_keeps c.args.from_lock c.args.from.now c.args.to_lock c.args.to.now c.bytes.ensures.valid)
     (subst (λ (h : HandlerState). IsSoundHandler h.image h.session) c.self.view_is c.self.invariant) (returns c)

@@ -24,7 +24,7 @@ returns-in-Err-new c =
       stood = subst (λ (h : HandlerState). Stands h.image t) c.self.view_is c.self.invariant.stands;
       stands = subst (λ (h : HandlerState). Stands h.image t) (c.self.view_is ∙ sym same) c.self.invariant.stands;
       means = search rules;
-      leaves = leaves_all t c.args.self.now (SetComment c.args.lock c.args.path c.args.comment) _ c.refused-in-Err-new.result (ap (λ (h : HandlerState). h.image) same);
+      leaves = leaves_all t c.args.self.now (SetComment c.args.lock c.args.path.now c.args.comment.now) _ c.refused-in-Err-new.result (ap (λ (h : HandlerState). h.image) same);
       validated = ap (λ (h : HandlerState). h.was_validated) same;
     }
 
@@ -42,17 +42,17 @@ returns c =
     let text = c.in-Ok-new.ensures.ok ∙ c.bytes.ensures.value in
     record {
       old_tree = t;
-      new_tree = with_comment c.args.now c.in-Ok.key c.args.comment t;
+      new_tree = with_comment c.args.now c.in-Ok.key c.args.comment.now t;
       stood = stood;
       stands = subst (λ (x : List ℕ). Stands c.set_comment.new.self.image (with_comment c.args.now c.in-Ok.key x t)) text (c.set_comment.ensures.stands t c.self-2.invariant.stands);
-      means = subst (λ (r : Results). MethodMeans t c.args.self.now.session (SetComment c.args.lock c.args.path c.args.comment) c.args.now (with_comment c.args.now c.in-Ok.key c.args.comment t) held r) (sym c.done.ensures)
-          (set_comment_means t c.args.self.now.session c.args.lock c.args.path c.args.comment c.args.now c.in-Ok.key alive walk held other kept is);
-      leaves = leaves_rest t c.args.self.now (SetComment c.args.lock c.args.path c.args.comment) _ c.done.result (subst (λ (h : HandlerState). KeepsRest h.image c.set_comment.new.self.image) same c.set_comment.ensures.keeps) (ap (λ (r : Results). r.res2) c.done.ensures) refl;
+      means = subst (λ (r : Results). MethodMeans t c.args.self.now.session (SetComment c.args.lock c.args.path.now c.args.comment.now) c.args.now (with_comment c.args.now c.in-Ok.key c.args.comment.now t) held r) (sym c.done.ensures)
+          (set_comment_means t c.args.self.now.session c.args.lock c.args.path.now c.args.comment.now c.args.now c.in-Ok.key alive walk held other kept is);
+      leaves = leaves_rest t c.args.self.now (SetComment c.args.lock c.args.path.now c.args.comment.now) _ c.done.result (subst (λ (h : HandlerState). KeepsRest h.image c.set_comment.new.self.image) same c.set_comment.ensures.keeps) (ap (λ (r : Results). r.res2) c.done.ensures) refl;
       validated = c.set_comment.ensures.validated ∙ ap (λ (h : HandlerState). h.was_validated) same;
     }
 
 pub invariant_of-self : goal.invariant_of-self
 invariant_of-self c =
     let same = c.self-2.view_is ∙ c.walked.ensures.same in
-    sound_after c.args.self.now _ (SetComment c.args.lock c.args.path c.args.comment) c.args.now c.done.result (set_comment_keeps c.args.lock c.args.path c.args.comment c.bytes.ensures.valid)
+    sound_after c.args.self.now _ (SetComment c.args.lock c.args.path.now c.args.comment.now) c.args.now c.done.result (set_comment_keeps c.args.lock c.args.path.now c.args.comment.now c.bytes.ensures.valid)
     (subst (λ (h : HandlerState). IsSoundHandler h.image h.session) same c.self-2.invariant) (returns c)

@@ -28,14 +28,14 @@ returns c =
       new_tree = with_date c.args.now c.in-Ok.key c.args.date t;
       stood = stood;
       stands = c.set_date.ensures.stands t c.self-2.invariant.stands;
-      means = subst (λ (r : Results). MethodMeans t c.args.self.now.session (SetDate c.args.lock c.args.path c.args.date) c.args.now (with_date c.args.now c.in-Ok.key c.args.date t) held r) (sym c.done.ensures)
-          (set_date_means t c.args.self.now.session held c.args.lock c.args.path c.args.now c.in-Ok.key alive walk other kept c.args.date);
-      leaves = leaves_rest t c.args.self.now (SetDate c.args.lock c.args.path c.args.date) _ c.done.result (subst (λ (h : HandlerState). KeepsRest h.image c.set_date.new.self.image) same c.set_date.ensures.keeps) (ap (λ (r : Results). r.res2) c.done.ensures) refl;
+      means = subst (λ (r : Results). MethodMeans t c.args.self.now.session (SetDate c.args.lock c.args.path.now c.args.date) c.args.now (with_date c.args.now c.in-Ok.key c.args.date t) held r) (sym c.done.ensures)
+          (set_date_means t c.args.self.now.session held c.args.lock c.args.path.now c.args.now c.in-Ok.key alive walk other kept c.args.date);
+      leaves = leaves_rest t c.args.self.now (SetDate c.args.lock c.args.path.now c.args.date) _ c.done.result (subst (λ (h : HandlerState). KeepsRest h.image c.set_date.new.self.image) same c.set_date.ensures.keeps) (ap (λ (r : Results). r.res2) c.done.ensures) refl;
       validated = c.set_date.ensures.validated ∙ ap (λ (h : HandlerState). h.was_validated) same;
     }
 
 pub invariant_of-self : goal.invariant_of-self
 invariant_of-self c =
     let same = c.self-2.view_is ∙ c.walked.ensures.same in
-    sound_after c.args.self.now _ (SetDate c.args.lock c.args.path c.args.date) c.args.now c.done.result (set_date_keeps c.args.lock c.args.path c.args.date)
+    sound_after c.args.self.now _ (SetDate c.args.lock c.args.path.now c.args.date) c.args.now c.done.result (set_date_keeps c.args.lock c.args.path.now c.args.date)
     (subst (λ (h : HandlerState). IsSoundHandler h.image h.session) same c.self-2.invariant) (returns c)

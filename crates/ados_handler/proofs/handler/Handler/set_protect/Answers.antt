@@ -28,14 +28,14 @@ returns c =
       new_tree = with_protection c.args.now c.in-Ok.key c.args.bits t;
       stood = stood;
       stands = c.set_protect.ensures.stands t c.self-2.invariant.stands;
-      means = subst (λ (r : Results). MethodMeans t c.args.self.now.session (SetProtect c.args.lock c.args.path c.args.bits) c.args.now (with_protection c.args.now c.in-Ok.key c.args.bits t) held r) (sym c.done.ensures)
-          (set_protect_means t c.args.self.now.session held c.args.lock c.args.path c.args.now c.in-Ok.key alive walk other kept c.args.bits);
-      leaves = leaves_rest t c.args.self.now (SetProtect c.args.lock c.args.path c.args.bits) _ c.done.result (subst (λ (h : HandlerState). KeepsRest h.image c.set_protect.new.self.image) same c.set_protect.ensures.keeps) (ap (λ (r : Results). r.res2) c.done.ensures) refl;
+      means = subst (λ (r : Results). MethodMeans t c.args.self.now.session (SetProtect c.args.lock c.args.path.now c.args.bits) c.args.now (with_protection c.args.now c.in-Ok.key c.args.bits t) held r) (sym c.done.ensures)
+          (set_protect_means t c.args.self.now.session held c.args.lock c.args.path.now c.args.now c.in-Ok.key alive walk other kept c.args.bits);
+      leaves = leaves_rest t c.args.self.now (SetProtect c.args.lock c.args.path.now c.args.bits) _ c.done.result (subst (λ (h : HandlerState). KeepsRest h.image c.set_protect.new.self.image) same c.set_protect.ensures.keeps) (ap (λ (r : Results). r.res2) c.done.ensures) refl;
       validated = c.set_protect.ensures.validated ∙ ap (λ (h : HandlerState). h.was_validated) same;
     }
 
 pub invariant_of-self : goal.invariant_of-self
 invariant_of-self c =
     let same = c.self-2.view_is ∙ c.walked.ensures.same in
-    sound_after c.args.self.now _ (SetProtect c.args.lock c.args.path c.args.bits) c.args.now c.done.result (set_protect_keeps c.args.lock c.args.path c.args.bits)
+    sound_after c.args.self.now _ (SetProtect c.args.lock c.args.path.now c.args.bits) c.args.now c.done.result (set_protect_keeps c.args.lock c.args.path.now c.args.bits)
     (subst (λ (h : HandlerState). IsSoundHandler h.image h.session) same c.self-2.invariant) (returns c)
