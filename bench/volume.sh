@@ -40,7 +40,10 @@ for blocks in ${*:-1760 16000 101602}; do
     done
 done
 
-echo "Milliseconds, with the start of the program, which alone is $(best true) microseconds; how many times those of cat;"
+small=$room/small.adf
+"$room/full_image" ffs 16 "$small" > /dev/null
+echo "Milliseconds, with the start of the program. For an image of 16 blocks that is $(best cat "$small") microseconds of cat,"
+echo "and $(best "$serve" check "$small") of adf_serve check. How many times those of cat;"
 echo "and the nanoseconds for each block that the check alone takes, and the reading of all files alone."
 echo
 awk 'BEGIN { print "blocks kind     cat   whole   check    list    read   unadf   whole check  list  read   check   read" }

@@ -143,21 +143,39 @@ fn serve_rounds(
     Ok(())
 }
 
+/// Puts a packet of client 1.
+fn put(exchange: &mut Exchange<Handler>, packet: Packet) -> Result<()> {
+    match exchange.step(Step::Put { client: 1, packet }) {
+        Outcome::Accepted(_) => Ok(()),
+        _ => bail!("a packet is not accepted"),
+    }
+}
+
+/// Serves the packet that waits.
+fn serve_next(exchange: &mut Exchange<Handler>) -> Result<()> {
+    match exchange.step(Step::Serve { moment: MOMENT }) {
+        Outcome::Served => Ok(()),
+        _ => bail!("no packet waits"),
+    }
+}
+
+/// Takes the reply of client 1.
+fn take(exchange: &mut Exchange<Handler>) -> Result<Answer> {
+    match exchange.step(Step::Take { client: 1 }) {
+        Outcome::Taken(reply) => Ok(reply.answer),
+        _ => bail!("no reply"),
+    }
+}
+
 /// Does one packet of client 1 as steps of a port: a Put, a Serve and a Take.
 fn serve_by_steps(exchange: &mut Exchange<Handler>, packet: Packet) -> Result<Answer> {
-    let Outcome::Accepted(_) = exchange.step(Step::Put { client: 1, packet }) else {
-        bail!("a packet is not accepted");
-    };
-    let Outcome::Served = exchange.step(Step::Serve { moment: MOMENT }) else {
-        bail!("no packet waits");
-    };
-    let Outcome::Taken(reply) = exchange.step(Step::Take { client: 1 }) else {
-        bail!("no reply");
-    };
-    if reply.answer.res2 != 0 {
+    put(exchange, packet)?;
+    serve_next(exchange)?;
+    let answer = take(exchange)?;
+    if answer.res2 != 0 {
         bail!("a packet is refused");
     }
-    Ok(reply.answer)
+    Ok(answer)
 }
 
 /// The same rounds as steps of a port, each made when the one before it is done.
