@@ -8,20 +8,23 @@ use adf_jobs::{Change, ChangeJob, ImageJob};
 use clap::{ArgMatches, Command};
 use std::alloc::{AllocError, Global};
 
-/// A program with the commands that change an image.
-pub(crate) fn changing_commands<'a>(
+/// The command of a name, if it is one that changes an image.
+pub(crate) fn changing_command<'a>(
     alloc: Global,
-    program: Command<'a>,
-) -> Result<Command<'a>, AllocError> {
-    program
-        .subcommand(add(alloc)?)?
-        .subcommand(mkdir(alloc)?)?
-        .subcommand(delete(alloc)?)?
-        .subcommand(rename(alloc)?)?
-        .subcommand(protect(alloc)?)?
-        .subcommand(comment(alloc)?)?
-        .subcommand(relabel(alloc)?)?
-        .subcommand(boot(alloc)?)
+    name: &str,
+) -> Result<Option<Command<'a>>, AllocError> {
+    let command = match name {
+        "add" => add(alloc)?,
+        "mkdir" => mkdir(alloc)?,
+        "delete" => delete(alloc)?,
+        "rename" => rename(alloc)?,
+        "protect" => protect(alloc)?,
+        "comment" => comment(alloc)?,
+        "relabel" => relabel(alloc)?,
+        "boot" => boot(alloc)?,
+        _ => return Ok(None),
+    };
+    Ok(Some(command))
 }
 
 /// The command `add`.

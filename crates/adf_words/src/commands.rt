@@ -1,31 +1,51 @@
 //! The program's commands, as `clap` reads and explains them.
-use crate::changing::changing_commands;
+use crate::changing::changing_command;
 use crate::parts::{flag, option, with_moment, word, words};
 use crate::taking::{check, extract, list, print};
 use clap::Command;
 use std::alloc::{AllocError, Global};
 
-/// The program with all its commands.
-pub(crate) fn program<'a>(alloc: Global) -> Result<Command<'a>, AllocError> {
-    let program = Command::new(alloc, "adf_serve")
+/// The names of the commands, in the order of the help. A name that is not among them is that of none.
+const NAMES: [&str; 15] = [
+    "blank", "info", "check", "list", "print", "extract", "add", "mkdir", "delete", "rename",
+    "protect", "comment", "relabel", "boot", "serve",
+];
+
+/// The program with all its commands, or with the one that the first word names: its words meet no other, and no `help`.
+pub(crate) fn program<'a>(alloc: Global, first: &str) -> Result<Command<'a>, AllocError> {
+    let is_named = NAMES.contains(&first);
+    let mut program = Command::new(alloc, "adf_serve")
         .bin_name("adf_serve")?
         .no_binary_name(true)
+        .disable_help_subcommand(is_named)
         .about(
             "Serves Amiga floppy images as an AmigaDOS file system handler does. Without a command it runs a script from standard input over a blank floppy `Work`.",
         )
-        .after_help("`adf_serve COMMAND --help` shows the words of a command, and an example.")
-        .subcommand(blank(alloc)?)?
-        .subcommand(of_file(
-            alloc,
-            "info",
-            "Prints what DISK_INFO tells of an image, and whether it boots",
-            "Example:\n  adf_serve info work.adf",
-        )?)?
-        .subcommand(check(alloc)?)?
-        .subcommand(list(alloc)?)?
-        .subcommand(print(alloc)?)?
-        .subcommand(extract(alloc)?)?;
-    changing_commands(alloc, program)?.subcommand(serve(alloc)?)
+        .after_help("`adf_serve COMMAND --help` shows the words of a command, and an example.");
+    for name in NAMES {
+        if is_named && name != first {
+            continue;
+        }
+        if let Some(command) = command_of(alloc, name)? {
+            program = program.subcommand(command)?;
+        }
+    }
+    Ok(program)
+}
+
+/// The command of a name.
+fn command_of<'a>(alloc: Global, name: &str) -> Result<Option<Command<'a>>, AllocError> {
+    let command = match name {
+        "blank" => blank(alloc)?,
+        "info" => info(alloc)?,
+        "check" => check(alloc)?,
+        "list" => list(alloc)?,
+        "print" => print(alloc)?,
+        "extract" => extract(alloc)?,
+        "serve" => serve(alloc)?,
+        _ => return changing_command(alloc, name),
+    };
+    Ok(Some(command))
 }
 
 /// The command `blank`.
@@ -52,6 +72,14 @@ fn blank<'a>(alloc: Global) -> Result<Command<'a>, AllocError> {
         .arg(word(alloc, "FILE", "The file to write"))
 }
 
+/// The command `info`.
+fn info<'a>(alloc: Global) -> Result<Command<'a>, AllocError> {
+    Command::new(alloc, "info")
+        .about("Prints what DISK_INFO tells of an image, and whether it boots")
+        .after_help("Example:\n  adf_serve info work.adf")
+        .arg(word(alloc, "FILE", "The image"))
+}
+
 /// The command `serve`.
 fn serve<'a>(alloc: Global) -> Result<Command<'a>, AllocError> {
     let command = Command::new(alloc, "serve")
@@ -75,17 +103,4 @@ fn serve<'a>(alloc: Global) -> Result<Command<'a>, AllocError> {
     with_moment(alloc, command)?
         .arg(word(alloc, "IMAGE", "The image"))?
         .arg(words(alloc, "SCRIPT", "A file of lines, one for each client"))
-}
-
-/// A command on one image.
-fn of_file<'a>(
-    alloc: Global,
-    name: &'static str,
-    about: &'static str,
-    example: &'static str,
-) -> Result<Command<'a>, AllocError> {
-    Command::new(alloc, name)
-        .about(about)
-        .after_help(example)
-        .arg(word(alloc, "FILE", "The image"))
 }

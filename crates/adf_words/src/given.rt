@@ -12,22 +12,39 @@ use std::rt::Env;
 /// The bytes of the longest word that Linux gives a program.
 const LONGEST: usize = 131_072;
 
+/// Room for most words: memory for the longest is made and filled where one needs it.
+const USUAL: usize = 1_024;
+
 /// The words behind the program's own name. One that is not UTF-8 is a wrong command line, whose text says which it is.
 pub fn given_words<E: Env>(rt: &E, alloc: Global) -> Result<Vec<String>, WordsFault> {
     let mut words = Vec::new(alloc);
-    let mut buffer = vec![in alloc; 0u8; LONGEST]?;
+    let mut buffer = vec![in alloc; 0u8; USUAL]?;
     for place in 1..usize::MAX {
-        match rt.arg(place, &mut buffer) {
-            Ok(length) => words.push(word_of(alloc, place, &buffer[..length])?)?,
-            Err(FillError::NotPresent) => return Ok(words),
-            Err(FillError::TooLong) => {
-                return Err(WordsFault::Usage(format!(in alloc;
-                    "error: word {place} is too long\n\nFor more information, try '--help'.\n"
-                )?));
-            }
+        match given_word(rt, alloc, place, &mut buffer)? {
+            Some(word) => words.push(word)?,
+            None => return Ok(words),
         }
     }
     Ok(words)
+}
+
+/// The word at a place, and none behind the last. The buffer grows where it has no room for the word.
+fn given_word<E: Env>(
+    rt: &E,
+    alloc: Global,
+    place: usize,
+    buffer: &mut Vec<u8>,
+) -> Result<Option<String>, WordsFault> {
+    if let Err(FillError::TooLong) = rt.arg(place, buffer) {
+        buffer.resize(LONGEST, 0)?;
+    }
+    match rt.arg(place, buffer) {
+        Ok(length) => Ok(Some(word_of(alloc, place, &buffer[..length])?)),
+        Err(FillError::NotPresent) => Ok(None),
+        Err(FillError::TooLong) => Err(WordsFault::Usage(format!(in alloc;
+            "error: word {place} is too long\n\nFor more information, try '--help'.\n"
+        )?)),
+    }
 }
 
 /// The word of these bytes, which stands at this place, the first behind the program's own name at 1.

@@ -24,10 +24,10 @@ pub fn read_words<'a>(alloc: Global, words: &'a [String]) -> Result<Job<'a>, Wor
     ensures none { words.now ≡ [] → result ≡ Ok Job.Script }
     ensures some { result ≡ Ok Job.Script → words.now ≡ [] }
 {
-    if words.is_empty() {
+    let Some(first) = words.first() else {
         return Ok(Job::Script);
-    }
-    let mut command = program(alloc)?;
+    };
+    let mut command = program(alloc, first.as_str())?;
     let matches = match command.try_get_matches_from_mut(words) {
         Ok(matches) => matches,
         Err(error) => return Err(WordsFault::Usage(error.to_string(alloc)?)),
