@@ -14,6 +14,7 @@ use adf_block::Image;
 use adf_host::ImageFault;
 use ados_tree::{FaultKind, VolumeFault};
 use ados_volume::{Rejected, Volume, check};
+use check_image::accepted_kind;
 use std::alloc::{AllocError, Global};
 
 /// What is asked of an image besides whether it is accepted.
@@ -27,14 +28,36 @@ pub struct Detail {
     pub texts: bool,
 }
 
-/// What the check says of an image file.
+/// What the check says of an image file. Most are told of by a sketch of them; the rest are read whole.
 pub fn report_file<R: ReadImages>(rt: &R, alloc: Global, path: &str, detail: Detail) -> ImageReport
     ensures { IsReportOfSome result }
 {
+    let sketched = if detail.contents {
+        None
+    } else {
+        report_sketch(rt, alloc, path)
+    };
+    if let Some(report) = sketched {
+        return report;
+    }
     match rt.read_image(alloc, path) {
         Ok(image) => report_image(alloc, image, detail),
         Err(fault) => unread(fault),
     }
+}
+
+/// The report of an image that is accepted as it is, where a sketch shows that it is.
+fn report_sketch<R: ReadImages>(rt: &R, alloc: Global, path: &str) -> Option<ImageReport>
+    ensures { IfSome result IsReportOfSome }
+{
+    let sketch = rt.read_sketch(alloc, path)?;
+    let kind = accepted_kind(alloc, &sketch)?;
+    Some(ImageReport::Accepted(AcceptedImage {
+        kind,
+        blocks: sketch.blocks(),
+        validated: false,
+        contents: None,
+    }))
 }
 
 /// The report of a file that gives no image.

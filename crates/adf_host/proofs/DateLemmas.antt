@@ -1,5 +1,5 @@
 -- Dates and a host's times.
-use Rattle.std.proofs.Common.{◌≡◌, ℕ, ◌+◌, ◌*◌, ◌<◌, ◌≤◌, ⊎_elim, arith}
+use Rattle.std.proofs.Common.{◌≡◌, ◌+◌, ◌*◌, ◌<◌, ◌≤◌, ⊎_elim, arith}
 use Rattle.std.proofs.lemmas.Bool.{cases_lt}
 use Rattle.ados_name.specs.declared.Date3.{Date3}
 use Rattle.adf_host.specs.Dates.{ticks_of, first_ticks, last_day, nanos_of, IsWithinDay, IsDateAt}

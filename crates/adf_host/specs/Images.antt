@@ -1,5 +1,5 @@
 -- Lengths of image files, and what a read that gives no image tells.
-use Rattle.std.specs.Prelude.{◌≡◌, ℕ, ◌/◌, ◌%◌, ◌≤◌, ◌*◌, List, length, Option, ⊤}
+use Rattle.std.specs.Prelude.{◌≡◌, ℕ, ◌/◌, ◌%◌, ◌≤◌, List, length, Option, ⊤}
 use Rattle.std.specs.Io.KnownBytes.{Consumes, IsAtEnd}
 use Rattle.adf_block.specs.Image.{IsSize}
 use Rattle.adf_block.specs.Size.{IsSizeFault}

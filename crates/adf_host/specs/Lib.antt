@@ -5,4 +5,5 @@ pub mod Dates
 pub mod Images
 pub mod Notes
 pub mod Paths
+pub mod Sketched
 pub mod Writing

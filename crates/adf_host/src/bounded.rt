@@ -1,5 +1,5 @@
 //! Input of which no more is read than a bound.
-ghost use Rattle.std.specs.Prelude.{◌≡◌, ◌+◌, ◌-◌, ◌<◌, ◌≤◌, take, length, IfOk, OnOk};
+ghost use Rattle.std.specs.Prelude.{◌≡◌, ◌+◌, ◌-◌, ◌<◌, ◌≤◌, min, take, length, IfOk, IfSome, OnOk};
 ghost use Rattle.std.specs.Io.KnownBytes.{ReadConsumes};
 ghost use Rattle.std.specs.Io.{ReadsAtMost};
 ghost use Rattle.adf_host.specs.Bounded.{ReadsOn, ReadsPart, ReadsUpTo};
@@ -32,6 +32,15 @@ impl From<Error> for BoundedFault {
 /// when they are read over.
 const PIECE: usize = 65_536;
 
+/// The bytes of a huge page of the system.
+const HUGE_PAGE: usize = 2_097_152;
+
+/// The fewest bytes for which huge pages are worth their room.
+const LARGE: usize = 524_288;
+
+/// The most bytes that the allocator takes of its own from the memory that it asks the system for.
+const ALLOCATOR_BYTES: usize = 32;
+
 /// The bytes of a reader up to its end, or so many of them where it has more. It takes none from the reader beyond those
 /// that it gives, so a reader without an end does no harm.
 pub fn read_bounded<R: Read>(
@@ -61,12 +70,23 @@ pub fn read_expected<R: Read>(
 
 /// How much memory is taken at once: room for a byte more than is expected, so that the end is met before it is full.
 fn room_ahead(expected: Option<usize>, most: usize) -> usize
-    ensures { result ≤ most }
+    ensures { IfSome expected (λ length. min (length + 1) most ≤ result) }
 {
     match expected {
-        Some(length) => length.saturating_add(1).min(most),
+        Some(length) => whole_pages(length.saturating_add(1).min(most)),
         None => 0,
     }
+}
+
+/// So much room, and where it is large as much as makes whole huge pages with what the allocator takes for itself: the system
+/// gives huge pages only to memory that is a whole number of them, and each is one fault of the processor in place of 512.
+fn whole_pages(room: usize) -> usize
+    ensures { room ≤ result }
+{
+    if room < LARGE {
+        return room;
+    }
+    (room / HUGE_PAGE * HUGE_PAGE + (HUGE_PAGE - ALLOCATOR_BYTES)).max(room)
 }
 
 /// Appends the bytes of a reader up to its end, as far as there are then so many at most.
@@ -115,7 +135,7 @@ fn piece_end(start: usize, capacity: usize, most: usize) -> usize
 
 /// One read into a buffer from a place on, which answers how many bytes it gave.
 #[tactic(auto, using(crate::proofs::Bounds::part_in_place))]
-fn read_at<R: Read>(reader: &mut R, buffer: &mut [u8], at: usize) -> IoResult<usize>
+pub(crate) fn read_at<R: Read>(reader: &mut R, buffer: &mut [u8], at: usize) -> IoResult<usize>
     requires { at < length buffer.old }
     ensures length { length buffer.new ≡ length buffer.old }
     ensures within { IfOk result (λ count. at + count ≤ length buffer.new) }

@@ -1,4 +1,5 @@
-//! Files of the host: read no further than a bound, replaced whole, held, gone through, and written below a directory.
+//! Files of the host: read no further than a bound, replaced whole, held, gone through, and written below a directory. An
+//! image file is read whole, or piece by piece for its sketch.
 #![tactic(auto)]
 
 mod beside;
@@ -9,6 +10,7 @@ mod image_file;
 mod notes;
 mod paths;
 mod replacing;
+mod sketched;
 mod walk;
 mod writing;
 
@@ -20,6 +22,7 @@ pub use image_file::{ImageFault, load_bounded, read_image_file, size_fault};
 pub use notes::{note_name, noted_name};
 pub use paths::{HostPath, target_path};
 pub use replacing::{ReplaceFault, replace_file};
+pub use sketched::{read_sketch, sketch_image_file};
 pub use walk::{HostEntry, HostKind, HostTree, PassedOver, PassedWhy, WalkFault, host_tree};
 pub use writing::{Content, HostItem, WriteFault, WriteWhy, write_tree};
 

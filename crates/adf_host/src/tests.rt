@@ -1,8 +1,11 @@
 //! Readers and writers that fail in mid-stream. The built program shows the rest, on real files.
 mod faulty;
 
-use crate::tests::faulty::{Faulty, Halting, Step};
-use crate::{Content, HostItem, HostPath, ImageFault, load_bounded, replace_file, write_tree};
+use crate::tests::faulty::{Ending, Faulty, Halting, Step};
+use crate::{
+    BoundedFault, Content, HostItem, HostPath, ImageFault, load_bounded, read_sketch, replace_file,
+    write_tree,
+};
 use ados_name::{Date3, Name};
 use std::alloc::Global;
 use std::fs;
@@ -74,6 +77,38 @@ fn written_in_part(rt: HostRuntime) -> Result<(), Fail> {
 fn read_in_part(rt: HostRuntime) {
     let mut reader = Halting { reads: 40 };
     assert!(rt; matches!(load_bounded(rt.alloc(), &mut reader), Err(ImageFault::Read)));
+}
+
+#[test]
+fn sketched_in_part(rt: HostRuntime) {
+    let mut reader = Halting { reads: 40 };
+    assert!(rt;
+        matches!(
+            read_sketch(rt.alloc(), &mut reader, 300),
+            Err(BoundedFault::Read)
+        )
+    );
+}
+
+#[test]
+fn sketched_whole(rt: HostRuntime) {
+    assert!(rt; matches!(is_sketched(rt.alloc(), 153_600), Ok(true)));
+}
+
+#[test]
+fn sketched_too_short(rt: HostRuntime) {
+    assert!(rt; matches!(is_sketched(rt.alloc(), 153_599), Ok(false)));
+}
+
+#[test]
+fn sketched_too_long(rt: HostRuntime) {
+    assert!(rt; matches!(is_sketched(rt.alloc(), 153_601), Ok(false)));
+}
+
+/// Whether there is a sketch of 300 blocks, of a reader that has so many bytes.
+fn is_sketched(alloc: Global, bytes: usize) -> Result<bool, BoundedFault> {
+    let mut reader = Ending { left: bytes };
+    Ok(read_sketch(alloc, &mut reader, 300)?.is_some())
 }
 
 /// A directory `d`, and in it a file `f`.

@@ -12,6 +12,7 @@ use ados_tree::{FaultKind, VolumeFault};
 use check_files::check_sound;
 use check_marks::{Mark, checked_has_pages, checked_is_accepted};
 use check_reach::{check_kind, reach};
+use check_source::Source;
 use std::alloc::{AllocError, Global};
 
 /// A fault that the image shows, if it shows one.
@@ -30,8 +31,9 @@ fn checked_marks(alloc: Global, image: &Image) -> Result<Vec<Option<Mark>>, Volu
     ensures { MatchResult result (λ marks. IsChecked image.now marks.items) (λ fault. IsRefusal image.now fault) }
 {
     check_kind(image)?;
-    let marks = reach(alloc, image)?;
-    check_sound(alloc, image, &marks)?;
+    let source = Source::whole(image);
+    let marks = reach(alloc, &source)?;
+    check_sound(alloc, &source, &marks)?;
     Ok(marks)
 }
 

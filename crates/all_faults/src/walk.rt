@@ -1,7 +1,7 @@
 //! From the root over each place of each block that is reached, past all that is wrong.
 ghost use Rattle.std.specs.Prelude.{◌≡◌, ◌≢◌, ◌<◌, ◌⊎◌, ◌∷◌, [], IfOk, IsTrue, None, replicate};
 ghost use Rattle.adf_block.specs.Image.{IsImage, block_count};
-ghost use Rattle.ados_tree.specs.Faults.{InImage, PlaceNames, Reached};
+ghost use Rattle.ados_tree.specs.Faults.{InImage, IsPlace, PlaceNames, Reached};
 ghost use Rattle.all_faults.specs.steps.Walked.{IsStep, IsWalked, root_step};
 
 use crate::bits::is_inside;
@@ -11,6 +11,7 @@ use adf_block::layout::{FIRST_SLOT, SECONDARY_TYPE};
 use ados_tree::{FaultKind, Role};
 use check_marks::Mark;
 use check_reach::place_role;
+use check_source::Source;
 use std::alloc::{AllocError, Global};
 use std::collections::BTreeSet;
 
@@ -96,22 +97,23 @@ impl Walk {
         requires step { IsStep image.now step }
         ensures { IfOk result (λ _. IsWalked image.now self.new.notes.cells.items self.new.marks.items self.new.steps.items) }
     {
+        let source = Source::whole(image);
         for i in FIRST_SLOT..SECONDARY_TYPE {
-            self.pass(image, step, i)?;
+            if let Some(role) = place_role(&source, step.block, step.role, i) {
+                self.pass(image, step, role, i)?;
+            }
         }
         Ok(())
     }
 
-    /// Goes through one long.
-    fn pass(&mut self, image: &Image, step: Step, i: u32) -> Result<(), AllocError>
+    /// Goes through one long, which is a place of names that gives the role.
+    fn pass(&mut self, image: &Image, step: Step, role: Role, i: u32) -> Result<(), AllocError>
         requires walked { IsWalked image.now self.old.notes.cells.items self.old.marks.items self.old.steps.items }
         requires step { IsStep image.now step }
         requires long { i < 128 }
+        requires place { IsPlace image.now step.block step.role i role }
         ensures { IfOk result (λ _. IsWalked image.now self.new.notes.cells.items self.new.marks.items self.new.steps.items) }
     {
-        let Some(role) = place_role(image, step.block, step.role, i) else {
-            return Ok(());
-        };
         let block = image.long(step.block, i);
         if is_inside(image, block) {
             let mark = Mark {

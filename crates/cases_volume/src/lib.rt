@@ -41,6 +41,8 @@ mod damaged;
 mod mended;
 #[cfg(test)]
 mod refused;
+#[cfg(test)]
+mod sketched;
 
 // Blank volumes, and what is told of a volume.
 #[cfg(test)]

@@ -5,6 +5,7 @@ use ados_tree::{FaultKind, Role, VolumeFault};
 use cases_drawn::{put, settle, zeros};
 use check_marks::Mark;
 use check_reach::{check_kind, reach};
+use check_source::Source;
 use std::alloc::{AllocError, Global};
 use std::process::Abort;
 use std::test::Fail;
@@ -52,7 +53,7 @@ fn with_directory(alloc: Global) -> Result<Image, AllocError> {
 
 /// The blocks that are marked, in order, each with its mark.
 fn marked(alloc: Global, image: &Image) -> Result<Vec<(usize, Mark)>, Fail> {
-    let Ok(marks) = reach(alloc, image) else {
+    let Ok(marks) = reach(alloc, &Source::whole(image)) else {
         return Err("a fault was met".into());
     };
     let mut found = Vec::new(alloc);
@@ -72,7 +73,11 @@ fn expect_fault(
     fault: VolumeFault,
     long: u32,
 ) -> Result<(), Fail> {
-    assert_eq!(rt; reach(alloc, image).err(), Some(fault), "at {long}");
+    assert_eq!(rt;
+        reach(alloc, &Source::whole(image)).err(),
+        Some(fault),
+        "at {long}"
+    );
     Ok(())
 }
 

@@ -8,3 +8,4 @@ pub mod Linked
 pub mod UpperNames
 pub mod Marked
 pub mod Entered
+pub mod ToldLemmas

@@ -54,6 +54,12 @@ module _ (image : List ℕ) (file count : ℕ) (r : IsReachedFile image file) (h
   block_inside : (place : ℕ) → place < count → InImage image (slice_index (blocks_upto image file count) place)
   block_inside place l = subst (InImage image) (sym (block-at image file count place l)) (data_inside image file count r h place l)
 
+  -- each data block of an OFS file has its fields
+  pub block_sound : IsOfs image → (place : ℕ) → place < count → IsSoundData image (slice_index (blocks_upto image file count) place) file
+  block_sound ofs place l =
+      subst (λ (b : ℕ). IsSoundData image b file) (sym (block-at image file count place l))
+      (r.data_fields ofs (place / 72) (place % 72) (holder_within image file count r h place l) (is_pointer image file count r h place l))
+
   pub before_inside : (place : ℕ) → place ≤ count → slice_index (file ∷ blocks_upto image file count) place < block_count image
   before_inside zero l = header_inside image file r 0 (omega arith)
   before_inside (suc k) l = (block_inside k (omega arith)).1
@@ -162,8 +168,7 @@ module _ (image : List ℕ) (file count : ℕ) (r : IsReachedFile image file) (h
           fields = subst (λ (xs : List ℕ). (i : ℕ) → i < length xs → HasOfsData image file (file_size image file) i (slice_index xs i)) (blocks_are image file count size)
               (λ i l.
               let below : i < count = omega (arith, l, total) in
-              let data_fields = r.data_fields ofs (i / 72) (i % 72) (holder_within image file count r h i below) (is_pointer image file count r h i below) in
-              let fields = subst (λ (b : ℕ). IsSoundData image b file) (sym (block-at image file count i below)) data_fields in
+              let fields = block_sound ofs i below in
               record {
                 primary = fields.primary;
                 header = fields.header;

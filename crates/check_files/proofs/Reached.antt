@@ -11,7 +11,7 @@ use Rattle.ados_tree.specs.declared.role.Role.TheVariants as roles
 use Rattle.ados_tree.specs.Faults.{InImage, IsPlace, IsPointer, Reached}
 use Rattle.ados_tree.specs.Faults.IsPlace.{header_pointer, first_extension, extension_pointer, further_extension}
 use Rattle.check_marks.specs.declared.mark.Mark.{Mark}
-use Rattle.check_marks.specs.Marks.{mark_at, AreReached}
+use Rattle.check_marks.specs.Marks.{mark_at, AreReached, IsSound, IsSoundEntry}
 use Rattle.check_marks.proofs.Paths.{mark_of, IsPath, follow, follow-path, follow-chained, holder_along, long_along, AreMarkedAlong, marked_along, once_along}
 use Rattle.check_marks.proofs.Counting.{AreDifferent}
 use Rattle.check_marks.proofs.Roles.{IsMarkedFile, marked_inside}
@@ -88,6 +88,9 @@ module _ (image : List ℕ) (marks : List (Option Mark)) (im : IsImage image) (c
       let m = marked_at q (omega arith) in
       (mark_of (roles.Extension file) m.0 m.1, m.2, λ p h. extension_pointer h)
 
+  entry : IsSoundEntry image file f.dir f.slot_of_chain
+  entry = subst (IsSound image file) f.role (c.sound file f.mark f.marked)
+
   pub reached_file : IsReachedFile image file
   reached_file = record {
     is_file = record {
@@ -96,6 +99,8 @@ module _ (image : List ℕ) (marks : List (Option Mark)) (im : IsImage image) (c
       reached = subst (Reached image file) f.role (c.reached file f.mark f.marked);
       secondary = f.secondary;
     };
+    primary = entry.primary;
+    sum = entry.sum;
     extensions = length (extensions_of image file);
     ends = ends_there;
     inside = inside_at;

@@ -1,66 +1,68 @@
 //! The data blocks of an OFS file, which lead from one to the next and know their places.
-ghost use Rattle.std.specs.Prelude.{◌≡◌, ◌<◌, MatchResult};
+ghost use Rattle.std.specs.Prelude.{◌≡◌, ◌<◌, ℕ, MatchResult};
 ghost use Rattle.adf_block.specs.Image.{block_count};
 ghost use Rattle.adf_block.specs.Fields.{file_size};
 ghost use Rattle.ados_data.specs.Cost.{data_count};
 ghost use Rattle.ados_data.specs.File.{format_of};
 ghost use Rattle.ados_tree.specs.declared.fault.FaultKind.TheVariants.{BadPointer};
 ghost use Rattle.ados_tree.specs.Faults.{IsOfs, Shows};
+ghost use Rattle.check_source.specs.Source.{Tells, header_longs};
 ghost use Rattle.check_files.specs.steps.Files.{HasCounts, HasPlace, IsDataOf, IsLinked, IsReachedFile};
 
 use crate::counts::bad_count;
-use adf_block::Image;
 use adf_block::layout::{
     FIRST_POINTER, HELD, NEXT_DATA, NEXT_EXTENSION, OFS_ROOM, SEQUENCE, SIZE, TABLE_LONGS,
 };
 use ados_tree::{FaultKind, VolumeFault};
+use check_source::Source;
 
 /// Follows the data blocks of a file along its pointers: each names the next, has its place, and
 /// is full but for the last, and together they hold as many bytes as the file has.
-pub(crate) fn check_chain(image: &Image, file: u32, count: u32) -> Result<(), VolumeFault>
-    requires ofs { IsOfs image.now }
-    requires reached { IsReachedFile image.now file }
-    requires counts { HasCounts image.now file count }
-    requires size { count ≡ data_count (format_of image.now) (file_size image.now file) }
-    ensures { MatchResult result (λ _. IsLinked image.now file) (λ fault. Shows image.now fault.kind fault.block) }
+pub(crate) fn check_chain(source: &Source<'_>, file: u32, count: u32) -> Result<(), VolumeFault>
+    requires ofs { IsOfs source.now.bytes }
+    requires reached { IsReachedFile source.now.bytes file }
+    requires counts { HasCounts source.now.bytes file count }
+    requires size { count ≡ data_count (format_of source.now.bytes) (file_size source.now.bytes file) }
+    ensures { MatchResult result (λ _. IsLinked source.now.bytes file) (λ fault. Shows source.now.bytes fault.kind fault.block) }
 {
     let mut holder = file;
     let mut before = file;
     let mut sum = 0_u64;
     for place in 0..count {
-        let block = image.long(holder, FIRST_POINTER - place % TABLE_LONGS);
-        if image.long(before, NEXT_DATA) != block {
+        let block = source.long(holder, FIRST_POINTER - place % TABLE_LONGS);
+        if source.long(before, NEXT_DATA) != block {
             return Err(bad_link(before));
         }
-        sum += u64::from(held_in(image, block, place, count)?);
+        sum += u64::from(held_in(source, block, place, count)?);
         before = block;
         if place % TABLE_LONGS == TABLE_LONGS - 1 {
-            holder = image.long(holder, NEXT_EXTENSION);
+            holder = source.long(holder, NEXT_EXTENSION);
         }
     }
-    if image.long(before, NEXT_DATA) != 0 {
+    if source.long(before, NEXT_DATA) != 0 {
         return Err(bad_link(before));
     }
-    if sum != u64::from(image.long(file, SIZE)) {
+    if sum != u64::from(source.long(file, SIZE)) {
         return Err(bad_count(file));
     }
     Ok(())
 }
 
 /// How many bytes a data block holds, if it is the one at this place of the file's `count`.
-fn held_in(image: &Image, block: u32, place: u32, count: u32) -> Result<u32, VolumeFault>
-    requires inside { block < block_count image.now }
-    requires ofs { IsOfs image.now }
-    requires of_file { IsDataOf image.now block place count }
-    ensures { MatchResult result (HasPlace image.now block place count) (λ fault. Shows image.now fault.kind fault.block) }
+fn held_in(source: &Source<'_>, block: u32, place: u32, count: u32) -> Result<u32, VolumeFault>
+    requires inside { block < block_count source.now.bytes }
+    requires ofs { IsOfs source.now.bytes }
+    requires of_file { IsDataOf source.now.bytes block place count }
+    requires told { (i : ℕ) → i < header_longs → Tells source.now block i }
+    ensures { MatchResult result (HasPlace source.now.bytes block place count) (λ fault. Shows source.now.bytes fault.kind fault.block) }
 {
-    if image.long(block, SEQUENCE) != place + 1 {
+    if source.long(block, SEQUENCE) != place + 1 {
         return Err(VolumeFault {
             kind: FaultKind::BadSequence,
             block,
         });
     }
-    let held = image.long(block, HELD);
+    let held = source.long(block, HELD);
     if held == 0 {
         return Err(bad_count(block));
     }

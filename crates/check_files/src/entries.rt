@@ -6,35 +6,35 @@ ghost use Rattle.check_marks.specs.Marks.{AreReached, IsMarkedEntry};
 ghost use Rattle.check_files.specs.Entries.{AreSoundFiles, IsSoundIfFile};
 
 use crate::file::check_file;
-use adf_block::Image;
 use adf_block::layout::{FILE_TYPE, SECONDARY_TYPE};
 use ados_tree::{Role, VolumeFault};
 use check_marks::Mark;
+use check_source::Source;
 
 /// Tests that the blocks of each marked file bear out its counts and its size. The time is linear
 /// in the blocks of the image.
-pub fn check_files(image: &Image, marks: &[Option<Mark>]) -> Result<(), VolumeFault>
-    requires { AreReached image.now marks.now }
-    ensures { MatchResult result (λ _. AreSoundFiles image.now marks.now) (λ fault. Shows image.now fault.kind fault.block) }
+pub fn check_files(source: &Source<'_>, marks: &[Option<Mark>]) -> Result<(), VolumeFault>
+    requires { AreReached source.now.bytes marks.now }
+    ensures { MatchResult result (λ _. AreSoundFiles source.now.bytes marks.now) (λ fault. Shows source.now.bytes fault.kind fault.block) }
 {
-    for block in 0..image.blocks() {
-        check_marked(image, marks, block)?;
+    for block in 0..source.blocks() {
+        check_marked(source, marks, block)?;
     }
     Ok(())
 }
 
 /// Tests a block if it is marked as an entry, and a file.
-fn check_marked(image: &Image, marks: &[Option<Mark>], block: u32) -> Result<(), VolumeFault>
-    requires image { IsImage image.now }
-    requires reached { AreReached image.now marks.now }
-    requires inside { block < block_count image.now }
-    ensures { MatchResult result (λ _. IsSoundIfFile image.now marks.now block) (λ fault. Shows image.now fault.kind fault.block) }
+fn check_marked(source: &Source<'_>, marks: &[Option<Mark>], block: u32) -> Result<(), VolumeFault>
+    requires image { IsImage source.now.bytes }
+    requires reached { AreReached source.now.bytes marks.now }
+    requires inside { block < block_count source.now.bytes }
+    ensures { MatchResult result (λ _. IsSoundIfFile source.now.bytes marks.now block) (λ fault. Shows source.now.bytes fault.kind fault.block) }
 {
     let Some(_dir) = directory_of(marks, block) else {
         return Ok(());
     };
-    if image.long(block, SECONDARY_TYPE) == FILE_TYPE {
-        check_file(image, block)?;
+    if source.long(block, SECONDARY_TYPE) == FILE_TYPE {
+        check_file(source, block)?;
     }
     Ok(())
 }

@@ -8,18 +8,22 @@ ghost use Rattle.check_marks.specs.Marks.{AreReached, IsChecked};
 
 use crate::entries::check_files;
 use crate::names::check_names;
-use adf_block::Image;
 use ados_tree::VolumeFault;
 use check_marks::Mark;
+use check_source::Source;
 use std::alloc::Global;
 
 /// Tests what the blocks of a walked image do not tell one by one. An image that passes shows no
 /// fault but perhaps in its bitmap.
-pub fn check_sound(alloc: Global, image: &Image, marks: &[Option<Mark>]) -> Result<(), VolumeFault>
-    requires boot { bytes_at image.now 0 0 4 ≡ kind_bytes (format_of image.now) }
-    requires reached { AreReached image.now marks.now }
-    ensures { MatchResult result (λ _. IsChecked image.now marks.now) (IsRefusal image.now) }
+pub fn check_sound(
+    alloc: Global,
+    source: &Source<'_>,
+    marks: &[Option<Mark>],
+) -> Result<(), VolumeFault>
+    requires boot { bytes_at source.now.bytes 0 0 4 ≡ kind_bytes (format_of source.now.bytes) }
+    requires reached { AreReached source.now.bytes marks.now }
+    ensures { MatchResult result (λ _. IsChecked source.now.bytes marks.now) (IsRefusal source.now.bytes) }
 {
-    check_files(image, marks)?;
-    check_names(alloc, image, marks)
+    check_files(source, marks)?;
+    check_names(alloc, source, marks)
 }

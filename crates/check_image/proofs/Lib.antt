@@ -1,2 +1,4 @@
 -- The reached blocks that are marked free.
 mod Free
+pub mod Told
+pub mod BootBytes

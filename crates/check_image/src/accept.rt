@@ -10,6 +10,7 @@ use crate::bitmap::{has_valid_bitmap, mend, reached_and_free};
 use adf_block::Image;
 use ados_tree::{FaultKind, VolumeFault};
 use check_marks::{Mark, checked_is_accepted, mended_is_accepted};
+use check_source::Source;
 use std::alloc::Global;
 
 /// An image that stands for a tree, and whether its bitmap had to be mended.
@@ -37,7 +38,7 @@ pub fn accept_checked(
     ensures answer { AcceptsOrHandsBack image result }
     ensures stands { IfOk result (λ accepted. (t : Tree) × Stands accepted.image t) }
 {
-    if has_valid_bitmap(&image) {
+    if has_valid_bitmap(&Source::whole(&image)) {
         accept_valid(image, marks)
     } else {
         accept_mended(alloc, image, marks)
@@ -52,7 +53,7 @@ fn accept_valid(image: Image, marks: &[Option<Mark>]) -> Result<Accepted, Reject
     ensures stands { IfOk result (λ accepted. (t : Tree) × Stands accepted.image t) }
 {
     checked_is_accepted();
-    match reached_and_free(&image, marks) {
+    match reached_and_free(&Source::whole(&image), marks) {
         None => Ok(Accepted {
             image,
             was_validated: false,

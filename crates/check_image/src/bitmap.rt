@@ -1,39 +1,61 @@
 //! The bitmap of an image whose reached blocks are known.
 ghost use Rattle.std.specs.Prelude.{◌≡◌, ◌↔◌, ◌<◌, ◌≤◌, IsTrue, map, is_some, IfOk, IfErr, MatchOption};
-ghost use Rattle.adf_block.specs.Image.{IsImage, HasFreeBit, block_count};
+ghost use Rattle.adf_block.specs.Image.{IsImage, IsInside, block_count, has_free_bit};
 ghost use Rattle.ados_tree.specs.Rebuilt.{HasValidBitmap};
 ghost use Rattle.ados_tree.specs.Faults.{IsReachedAndFree};
+ghost use Rattle.ados_map.specs.Pages.{LawfulPages};
 ghost use Rattle.check_marks.specs.Laws.{AreInUse, IsMended};
-ghost use Rattle.check_marks.specs.Marks.{mark_at, IsChecked};
+ghost use Rattle.check_marks.specs.Marks.{IsChecked};
+ghost use Rattle.check_image.specs.Told.{TellsBitmap};
 
 use adf_block::Image;
-use adf_block::layout::{BITMAP_FLAG, BITMAP_VALID, BOOT_BLOCKS, SUM};
-use ados_map::{is_free, rebuild};
+use adf_block::layout::{
+    BITMAP_FLAG, BITMAP_VALID, BOOT_BLOCKS, FIRST_MAP_LONG, FIRST_PAGE, LONG_BITS, MOST_BLOCKS,
+    PAGE_BITS, SUM,
+};
+use ados_map::rebuild;
 use check_marks::{Mark, checked_has_pages};
+use check_source::Source;
 use std::alloc::{AllocError, Global};
 
 /// Whether the root says that the bitmap is valid.
-pub(crate) fn has_valid_bitmap(image: &Image) -> bool
-    ensures { IsTrue result ↔ HasValidBitmap image.now }
+pub(crate) fn has_valid_bitmap(source: &Source<'_>) -> bool
+    requires { TellsBitmap source.now }
+    ensures { IsTrue result ↔ HasValidBitmap source.now.bytes }
 {
-    prove!(image.blocks() >= 16);
-    image.long(image.root(), BITMAP_FLAG) == BITMAP_VALID
+    prove!(source.blocks() >= 16);
+    source.long(source.root(), BITMAP_FLAG) == BITMAP_VALID
 }
 
 /// The first reached block that is marked free.
-pub(crate) fn reached_and_free(image: &Image, marks: &[Option<Mark>]) -> Option<u32>
-    requires checked { IsChecked image.now marks.now }
-    requires valid { HasValidBitmap image.now }
-    ensures found { MatchOption result (AreInUse image.now marks.now) (λ block. IsReachedAndFree image.now block) }
-    ensures image { IsImage image.now }
+pub(crate) fn reached_and_free(source: &Source<'_>, marks: &[Option<Mark>]) -> Option<u32>
+    requires checked { IsChecked source.now.bytes marks.now }
+    requires valid { HasValidBitmap source.now.bytes }
+    requires told { TellsBitmap source.now }
+    ensures found { MatchOption result (AreInUse source.now.bytes marks.now) (λ block. IsReachedAndFree source.now.bytes block) }
+    ensures image { IsImage source.now.bytes }
 {
     checked_has_pages();
-    for block in BOOT_BLOCKS..image.blocks() {
-        if marks[block as usize].is_some() && is_free(image, block) {
+    for block in BOOT_BLOCKS..source.blocks() {
+        if marks[block as usize].is_some() && is_free(source, block) {
             return Some(block);
         }
     }
     None
+}
+
+/// Whether a block is marked free.
+fn is_free(source: &Source<'_>, block: u32) -> bool
+    requires pages { LawfulPages source.now.bytes }
+    requires inside { IsInside (block_count source.now.bytes) block }
+    requires told { TellsBitmap source.now }
+    ensures { result ≡ has_free_bit source.now.bytes block }
+{
+    prove!(source.blocks() <= MOST_BLOCKS);
+    let bit = block - BOOT_BLOCKS;
+    let page = source.long(source.root(), FIRST_PAGE + bit / PAGE_BITS);
+    let bits = source.long(page, FIRST_MAP_LONG + bit % PAGE_BITS / LONG_BITS);
+    bits & (1 << (bit % LONG_BITS)) != 0
 }
 
 /// For each block whether it is reached.

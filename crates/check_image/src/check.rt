@@ -1,7 +1,9 @@
 //! The whole check.
-ghost use Rattle.std.specs.Prelude.{IfOk, MatchResult};
+ghost use Rattle.std.specs.Prelude.{◌≡◌, IfOk, MatchResult};
+ghost use Rattle.adf_block.specs.Image.{bytes_at};
+ghost use Rattle.ados_data.specs.File.{format_of};
 ghost use Rattle.ados_tree.specs.Tree.{Tree};
-ghost use Rattle.ados_tree.specs.Stands.{Stands};
+ghost use Rattle.ados_tree.specs.Stands.{Stands, kind_bytes};
 ghost use Rattle.ados_tree.specs.Accepted.{IsRefusal};
 ghost use Rattle.check_marks.specs.Marks.{IsChecked};
 ghost use Rattle.check_image.specs.Answer.{AcceptsOrHandsBack};
@@ -12,6 +14,7 @@ use ados_tree::VolumeFault;
 use check_files::check_sound;
 use check_marks::Mark;
 use check_reach::{check_kind, reach};
+use check_source::Source;
 use std::alloc::Global;
 
 /// Accepts an image that shows no fault, and hands every other one back with a fault that it shows.
@@ -33,7 +36,18 @@ fn checked_marks(alloc: Global, image: &Image) -> Result<Vec<Option<Mark>>, Volu
     ensures { MatchResult result (λ marks. IsChecked image.now marks.items) (λ fault. IsRefusal image.now fault) }
 {
     check_kind(image)?;
-    let marks = reach(alloc, image)?;
-    check_sound(alloc, image, &marks)?;
+    sound_marks(alloc, &Source::whole(image))
+}
+
+/// The same of a source whose first bytes name the old or the fast file system.
+pub(crate) fn sound_marks(
+    alloc: Global,
+    source: &Source<'_>,
+) -> Result<Vec<Option<Mark>>, VolumeFault>
+    requires { bytes_at source.now.bytes 0 0 4 ≡ kind_bytes (format_of source.now.bytes) }
+    ensures { MatchResult result (λ marks. IsChecked source.now.bytes marks.items) (λ fault. IsRefusal source.now.bytes fault) }
+{
+    let marks = reach(alloc, source)?;
+    check_sound(alloc, source, &marks)?;
     Ok(marks)
 }

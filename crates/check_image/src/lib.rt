@@ -4,6 +4,8 @@
 mod accept;
 mod bitmap;
 mod check;
+mod sketched;
 
 pub use accept::{Accepted, Rejected, accept_checked};
 pub use check::check_image;
+pub use sketched::accepted_kind;

@@ -1,4 +1,5 @@
 -- The places of each role, and the walk's moves over them.
+pub mod ToldLemmas
 pub mod PlaceLemmas
 pub mod ReachLemmas
 pub mod KindLemmas

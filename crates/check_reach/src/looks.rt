@@ -5,101 +5,103 @@ ghost use Rattle.ados_data.specs.File.{HasExtension};
 ghost use Rattle.ados_tree.specs.declared.role.Role.TheVariants.{Page, Entry, Data, Extension};
 ghost use Rattle.ados_tree.specs.Faults.{IsEntry, IsOfs, Reached, Shows, root_of};
 ghost use Rattle.check_marks.specs.Marks.{HasEntryType, IsSound, IsSoundData, IsSoundEntry, IsSoundRoot};
+ghost use Rattle.check_reach.specs.Told.{TellsAll};
 
 use crate::naming::name_of;
-use adf_block::Image;
 use adf_block::layout::{
     COMMENT_BYTE, DATA_TYPE, DIRECTORY_LINK_TYPE, DIRECTORY_TYPE, FILE_LINK_TYPE, FILE_TYPE,
-    HEADER_TYPE, KIND_BYTE, LIST_TYPE, OWN_KEY, PARENT, PRIMARY_TYPE, ROOT_TYPE, SECONDARY_TYPE,
+    HEADER_TYPE, LIST_TYPE, OWN_KEY, PARENT, PRIMARY_TYPE, ROOT_TYPE, SECONDARY_TYPE,
     SOFT_LINK_TYPE, TABLE_LONGS, TABLE_SIZE,
 };
 use ados_tree::{FaultKind, Role};
+use check_source::Source;
 
 /// Looks at a block in the role in which it is reached. What is wrong shows at the block itself.
-pub(crate) fn look(image: &Image, block: u32, role: Role) -> Result<(), FaultKind>
-    requires inside { block < block_count image.now }
-    requires reached { Reached image.now block role }
-    ensures { MatchResult result (λ _. IsSound image.now block role) (λ kind. Shows image.now kind block) }
+pub(crate) fn look(source: &Source<'_>, block: u32, role: Role) -> Result<(), FaultKind>
+    requires inside { block < block_count source.now.bytes }
+    requires reached { Reached source.now.bytes block role }
+    ensures { MatchResult result (λ _. IsSound source.now.bytes block role) (λ kind. Shows source.now.bytes kind block) }
 {
     match role {
-        Role::Root => look_root(image, block),
-        Role::Page => look_page(image, block),
-        Role::Entry(dir, slot) => look_entry(image, block, dir, slot),
-        Role::Data(file) => look_data(image, block, file),
-        Role::Extension(file) => look_extension(image, block, file),
+        Role::Root => look_root(source, block),
+        Role::Page => look_page(source, block),
+        Role::Entry(dir, slot) => look_entry(source, block, dir, slot),
+        Role::Data(file) => look_data(source, block, file),
+        Role::Extension(file) => look_extension(source, block, file),
     }
 }
 
-fn look_root(image: &Image, block: u32) -> Result<(), FaultKind>
-    requires inside { block < block_count image.now }
-    requires root { block ≡ root_of image.now }
-    ensures { MatchResult result (λ _. IsSoundRoot image.now block) (λ kind. Shows image.now kind block) }
+fn look_root(source: &Source<'_>, block: u32) -> Result<(), FaultKind>
+    requires inside { block < block_count source.now.bytes }
+    requires root { block ≡ root_of source.now.bytes }
+    ensures { MatchResult result (λ _. IsSoundRoot source.now.bytes block) (λ kind. Shows source.now.bytes kind block) }
 {
-    if image.sum(block) != 0 {
+    if !source.has_sum(block) {
         return Err(FaultKind::BadSum);
     }
-    if image.long(block, PRIMARY_TYPE) != HEADER_TYPE {
+    if source.long(block, PRIMARY_TYPE) != HEADER_TYPE {
         return Err(FaultKind::BadType);
     }
-    if image.long(block, TABLE_SIZE) != TABLE_LONGS {
+    if source.long(block, TABLE_SIZE) != TABLE_LONGS {
         return Err(FaultKind::BadType);
     }
-    if image.long(block, SECONDARY_TYPE) != ROOT_TYPE {
+    if source.long(block, SECONDARY_TYPE) != ROOT_TYPE {
         return Err(FaultKind::BadType);
     }
-    if image.long(block, PARENT) != 0 {
+    if source.long(block, PARENT) != 0 {
         return Err(FaultKind::BadParent);
     }
-    name_of(image, block)?;
+    name_of(source, block)?;
     Ok(())
 }
 
-fn look_page(image: &Image, block: u32) -> Result<(), FaultKind>
-    requires inside { block < block_count image.now }
-    requires reached { Reached image.now block Page }
-    ensures { MatchResult result (λ _. block_sum image.now block ≡ 0) (λ kind. Shows image.now kind block) }
+fn look_page(source: &Source<'_>, block: u32) -> Result<(), FaultKind>
+    requires inside { block < block_count source.now.bytes }
+    requires reached { Reached source.now.bytes block Page }
+    ensures { MatchResult result (λ _. block_sum source.now.bytes block ≡ 0) (λ kind. Shows source.now.bytes kind block) }
 {
-    if image.sum(block) != 0 {
+    if !source.has_sum(block) {
         return Err(FaultKind::BadSum);
     }
     Ok(())
 }
 
-fn look_entry(image: &Image, block: u32, dir: u32, slot: u32) -> Result<(), FaultKind>
-    requires inside { block < block_count image.now }
-    requires reached { Reached image.now block (Entry dir slot) }
-    ensures { MatchResult result (λ _. IsSoundEntry image.now block dir slot) (λ kind. Shows image.now kind block) }
+fn look_entry(source: &Source<'_>, block: u32, dir: u32, slot: u32) -> Result<(), FaultKind>
+    requires inside { block < block_count source.now.bytes }
+    requires reached { Reached source.now.bytes block (Entry dir slot) }
+    ensures { MatchResult result (λ _. IsSoundEntry source.now.bytes block dir slot) (λ kind. Shows source.now.bytes kind block) }
 {
-    if image.sum(block) != 0 {
+    if !source.has_sum(block) {
         return Err(FaultKind::BadSum);
     }
-    if image.long(block, PRIMARY_TYPE) != HEADER_TYPE {
+    if source.long(block, PRIMARY_TYPE) != HEADER_TYPE {
         return Err(FaultKind::BadType);
     }
-    look_secondary(image, block)?;
-    if image.long(block, OWN_KEY) != block {
+    look_secondary(source, block)?;
+    if source.long(block, OWN_KEY) != block {
         return Err(FaultKind::BadOwnKey);
     }
-    if image.long(block, PARENT) != dir {
+    if source.long(block, PARENT) != dir {
         return Err(FaultKind::BadParent);
     }
-    let name = name_of(image, block)?;
+    let name = name_of(source, block)?;
     if name.slot() != slot {
         return Err(FaultKind::WrongChain);
     }
-    if image.byte(block, COMMENT_BYTE) > 79 {
+    if source.byte(block, COMMENT_BYTE) > 79 {
         return Err(FaultKind::BadComment);
     }
     Ok(())
 }
 
 /// An entry is a directory or a file: links are refused by a kind of their own.
-fn look_secondary(image: &Image, block: u32) -> Result<(), FaultKind>
-    requires inside { block < block_count image.now }
-    requires entry { IsEntry image.now block }
-    ensures { MatchResult result (λ _. HasEntryType image.now block) (λ kind. Shows image.now kind block) }
+fn look_secondary(source: &Source<'_>, block: u32) -> Result<(), FaultKind>
+    requires inside { block < block_count source.now.bytes }
+    requires entry { IsEntry source.now.bytes block }
+    requires told { TellsAll source.now block }
+    ensures { MatchResult result (λ _. HasEntryType source.now.bytes block) (λ kind. Shows source.now.bytes kind block) }
 {
-    let kind = image.long(block, SECONDARY_TYPE);
+    let kind = source.long(block, SECONDARY_TYPE);
     if kind == DIRECTORY_TYPE || kind == FILE_TYPE {
         return Ok(());
     }
@@ -110,44 +112,44 @@ fn look_secondary(image: &Image, block: u32) -> Result<(), FaultKind>
 }
 
 /// Only in OFS has a data block fields.
-fn look_data(image: &Image, block: u32, file: u32) -> Result<(), FaultKind>
-    requires inside { block < block_count image.now }
-    requires reached { Reached image.now block (Data file) }
-    ensures { MatchResult result (λ _. IsOfs image.now → IsSoundData image.now block file) (λ kind. Shows image.now kind block) }
+fn look_data(source: &Source<'_>, block: u32, file: u32) -> Result<(), FaultKind>
+    requires inside { block < block_count source.now.bytes }
+    requires reached { Reached source.now.bytes block (Data file) }
+    ensures { MatchResult result (λ _. IsOfs source.now.bytes → IsSoundData source.now.bytes block file) (λ kind. Shows source.now.bytes kind block) }
 {
-    if image.byte(0, KIND_BYTE) != 0 {
+    if source.kind_byte() != 0 {
         return Ok(());
     }
-    if image.sum(block) != 0 {
+    if !source.has_sum(block) {
         return Err(FaultKind::BadSum);
     }
-    if image.long(block, PRIMARY_TYPE) != DATA_TYPE {
+    if source.long(block, PRIMARY_TYPE) != DATA_TYPE {
         return Err(FaultKind::BadType);
     }
-    if image.long(block, OWN_KEY) != file {
+    if source.long(block, OWN_KEY) != file {
         return Err(FaultKind::BadParent);
     }
     Ok(())
 }
 
-fn look_extension(image: &Image, block: u32, file: u32) -> Result<(), FaultKind>
-    requires inside { block < block_count image.now }
-    requires reached { Reached image.now block (Extension file) }
-    ensures { MatchResult result (λ _. HasExtension image.now file block) (λ kind. Shows image.now kind block) }
+fn look_extension(source: &Source<'_>, block: u32, file: u32) -> Result<(), FaultKind>
+    requires inside { block < block_count source.now.bytes }
+    requires reached { Reached source.now.bytes block (Extension file) }
+    ensures { MatchResult result (λ _. HasExtension source.now.bytes file block) (λ kind. Shows source.now.bytes kind block) }
 {
-    if image.sum(block) != 0 {
+    if !source.has_sum(block) {
         return Err(FaultKind::BadSum);
     }
-    if image.long(block, PRIMARY_TYPE) != LIST_TYPE {
+    if source.long(block, PRIMARY_TYPE) != LIST_TYPE {
         return Err(FaultKind::BadType);
     }
-    if image.long(block, SECONDARY_TYPE) != FILE_TYPE {
+    if source.long(block, SECONDARY_TYPE) != FILE_TYPE {
         return Err(FaultKind::BadType);
     }
-    if image.long(block, OWN_KEY) != block {
+    if source.long(block, OWN_KEY) != block {
         return Err(FaultKind::BadOwnKey);
     }
-    if image.long(block, PARENT) != file {
+    if source.long(block, PARENT) != file {
         return Err(FaultKind::BadParent);
     }
     Ok(())

@@ -9,10 +9,10 @@ ghost use Rattle.check_reach.specs.steps.Reaching.{IsBetween, IsInHand, work};
 
 use crate::looks::look;
 use crate::places::{has_places, place_role};
-use adf_block::Image;
 use adf_block::layout::{BOOT_BLOCKS, FIRST_SLOT, SECONDARY_TYPE};
 use ados_tree::{FaultKind, Role, VolumeFault};
 use check_marks::Mark;
+use check_source::Source;
 use std::alloc::Global;
 
 /// The marks so far, and the marked blocks whose places are still to be gone through.
@@ -31,30 +31,30 @@ const NO_MEMORY: VolumeFault = VolumeFault {
 /// The marks of all blocks that are reached, a cell for each block of the image; or a fault that is met on the way.
 ///
 /// This takes time and memory in the size of the image. `NoMemory` says that one of its two lists could not be made.
-pub fn reach(alloc: Global, image: &Image) -> Result<Vec<Option<Mark>>, VolumeFault>
-    ensures { MatchResult result (λ marks. AreReached image.now marks.items) (λ fault. IsRefusal image.now fault) }
+pub fn reach(alloc: Global, source: &Source<'_>) -> Result<Vec<Option<Mark>>, VolumeFault>
+    ensures { MatchResult result (λ marks. AreReached source.now.bytes marks.items) (λ fault. IsRefusal source.now.bytes fault) }
 {
-    let mut progress = Progress::start(alloc, image)?;
-    while let Some((block, role)) = progress.next(image) {
-        progress.go_through(image, block, role)?;
+    let mut progress = Progress::start(alloc, source)?;
+    while let Some((block, role)) = progress.next(source) {
+        progress.go_through(source, block, role)?;
     }
     Ok(progress.marks)
 }
 
 impl Progress {
     /// Marks the root, and nothing else.
-    fn start(alloc: Global, image: &Image) -> Result<Progress, VolumeFault>
-        ensures between { IfOk result (λ progress. IsBetween image.now progress.marks.items progress.pending.items) }
-        ensures capacity { IfOk result (λ progress. block_count image.now ≤ vec_capacity progress.pending) }
-        ensures refused { IfErr result (λ fault. IsRefusal image.now fault) }
+    fn start(alloc: Global, source: &Source<'_>) -> Result<Progress, VolumeFault>
+        ensures between { IfOk result (λ progress. IsBetween source.now.bytes progress.marks.items progress.pending.items) }
+        ensures capacity { IfOk result (λ progress. block_count source.now.bytes ≤ vec_capacity progress.pending) }
+        ensures refused { IfErr result (λ fault. IsRefusal source.now.bytes fault) }
     {
-        let root = image.root();
-        let mut marks = no_marks(alloc, image.blocks())?;
-        let mut pending = match Vec::with_capacity(alloc, image.blocks() as usize) {
+        let root = source.root();
+        let mut marks = no_marks(alloc, source.blocks())?;
+        let mut pending = match Vec::with_capacity(alloc, source.blocks() as usize) {
             Ok(pending) => pending,
             Err(_) => return Err(NO_MEMORY),
         };
-        if let Err(kind) = look(image, root, Role::Root) {
+        if let Err(kind) = look(source, root, Role::Root) {
             return Err(VolumeFault { kind, block: root });
         }
         marks[root as usize] = Some(Mark {
@@ -67,14 +67,14 @@ impl Progress {
     }
 
     /// Takes a pending block in hand.
-    fn next(&mut self, image: &Image) -> Option<(u32, Role)>
-        requires between { IsBetween image.now self.old.marks.items self.old.pending.items }
-        ensures ended { IfNone result (AreReached image.now self.new.marks.items) }
-        ensures hand { IfSome result (λ found. IsInHand image.now self.new.marks.items self.new.pending.items found.0 found.1 first_slot) }
+    fn next(&mut self, source: &Source<'_>) -> Option<(u32, Role)>
+        requires between { IsBetween source.now.bytes self.old.marks.items self.old.pending.items }
+        ensures ended { IfNone result (AreReached source.now.bytes self.new.marks.items) }
+        ensures hand { IfSome result (λ found. IsInHand source.now.bytes self.new.marks.items self.new.pending.items found.0 found.1 first_slot) }
         ensures less { IfSome result (λ _. work self.new.marks.items self.new.pending.items < work self.old.marks.items self.old.pending.items) }
         ensures capacity { vec_capacity self.new.pending ≡ vec_capacity self.old.pending }
     {
-        prove!(image.blocks() >= 16);
+        prove!(source.blocks() >= 16);
         let block = self.pending.pop()?;
         match self.marks[block as usize] {
             Some(mark) => Some((block, mark.role)),
@@ -83,39 +83,45 @@ impl Progress {
     }
 
     /// Goes through the places of the block in hand.
-    fn go_through(&mut self, image: &Image, block: u32, role: Role) -> Result<(), VolumeFault>
-        requires hand { IsInHand image.now self.old.marks.items self.old.pending.items block role first_slot }
-        requires capacity { block_count image.now ≤ vec_capacity self.old.pending }
-        ensures between { IfOk result (λ _. IsBetween image.now self.new.marks.items self.new.pending.items) }
+    fn go_through(&mut self, source: &Source<'_>, block: u32, role: Role) -> Result<(), VolumeFault>
+        requires hand { IsInHand source.now.bytes self.old.marks.items self.old.pending.items block role first_slot }
+        requires capacity { block_count source.now.bytes ≤ vec_capacity self.old.pending }
+        ensures between { IfOk result (λ _. IsBetween source.now.bytes self.new.marks.items self.new.pending.items) }
         ensures work { IfOk result (λ _. work self.new.marks.items self.new.pending.items ≤ work self.old.marks.items self.old.pending.items) }
         ensures capacity { vec_capacity self.new.pending ≡ vec_capacity self.old.pending }
-        ensures shown { IfErr result (λ fault. Shows image.now fault.kind fault.block) }
+        ensures shown { IfErr result (λ fault. Shows source.now.bytes fault.kind fault.block) }
     {
-        prove!(image.blocks() >= 16);
+        prove!(source.blocks() >= 16);
         if !has_places(role) {
             return Ok(());
         }
         for i in FIRST_SLOT..SECONDARY_TYPE {
-            self.pass(image, block, role, i)?;
+            self.pass(source, block, role, i)?;
         }
         Ok(())
     }
 
     /// Goes through one long: what it names, if it is a place, is marked, looked at and put to the pending blocks.
-    fn pass(&mut self, image: &Image, holder: u32, role: Role, i: u32) -> Result<(), VolumeFault>
-        requires hand { IsInHand image.now self.old.marks.items self.old.pending.items holder role i }
+    fn pass(
+        &mut self,
+        source: &Source<'_>,
+        holder: u32,
+        role: Role,
+        i: u32,
+    ) -> Result<(), VolumeFault>
+        requires hand { IsInHand source.now.bytes self.old.marks.items self.old.pending.items holder role i }
         requires long { i < secondary_type_long }
-        requires capacity { block_count image.now ≤ vec_capacity self.old.pending }
-        ensures hand { IfOk result (λ _. IsInHand image.now self.new.marks.items self.new.pending.items holder role (i + 1)) }
+        requires capacity { block_count source.now.bytes ≤ vec_capacity self.old.pending }
+        ensures hand { IfOk result (λ _. IsInHand source.now.bytes self.new.marks.items self.new.pending.items holder role (i + 1)) }
         ensures work { IfOk result (λ _. work self.new.marks.items self.new.pending.items ≤ work self.old.marks.items self.old.pending.items) }
         ensures capacity { vec_capacity self.new.pending ≡ vec_capacity self.old.pending }
-        ensures shown { IfErr result (λ fault. Shows image.now fault.kind fault.block) }
+        ensures shown { IfErr result (λ fault. Shows source.now.bytes fault.kind fault.block) }
     {
-        let Some(next) = place_role(image, holder, role, i) else {
+        let Some(next) = place_role(source, holder, role, i) else {
             return Ok(());
         };
-        let block = image.long(holder, i);
-        if block < BOOT_BLOCKS || image.blocks() <= block {
+        let block = source.long(holder, i);
+        if block < BOOT_BLOCKS || source.blocks() <= block {
             return Err(VolumeFault {
                 kind: FaultKind::BadPointer,
                 block: holder,
@@ -127,7 +133,7 @@ impl Progress {
                 block,
             });
         }
-        if let Err(kind) = look(image, block, next) {
+        if let Err(kind) = look(source, block, next) {
             return Err(VolumeFault { kind, block });
         }
         self.marks[block as usize] = Some(Mark {

@@ -8,6 +8,7 @@ use adf_block::layout::{BOOT_BLOCKS, FIRST_SLOT, NEXT_DATA, SECONDARY_TYPE};
 use ados_tree::Role;
 use check_marks::Mark;
 use check_reach::place_role;
+use check_source::Source;
 use std::alloc::{AllocError, Global};
 
 /// Of a place that names no block of the image, or of a wrong link from data block to data block.
@@ -39,10 +40,11 @@ fn outside_place(image: &Image, block: u32, role: Role) -> Option<u32>
     requires { block < block_count image.now }
     ensures { IfSome result (λ i. i < 128) }
 {
+    let source = Source::whole(image);
     for i in FIRST_SLOT..SECONDARY_TYPE {
         let named = image.long(block, i);
         let outside = named < BOOT_BLOCKS || image.blocks() <= named;
-        if outside && place_role(image, block, role, i).is_some() {
+        if outside && place_role(&source, block, role, i).is_some() {
             return Some(i);
         }
     }

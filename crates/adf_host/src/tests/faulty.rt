@@ -1,4 +1,4 @@
-//! Files of the host of which one kind of step fails, and a reader that fails.
+//! Files of the host of which one kind of step fails, and readers that fail or give few bytes at a time.
 use std::alloc::Allocator;
 use std::fs::{FileTimes, Metadata, OpenFile, OpenOptions, Permissions};
 use std::io::{Error, ErrorKind, Read, Result as IoResult, Seek, SeekFrom, Write};
@@ -46,6 +46,21 @@ impl Read for Halting {
         }
         let count = buffer.len().min(512);
         buffer[..count].fill(0);
+        Ok(count)
+    }
+}
+
+/// Gives zeros, at most 500 at a time, until there are none left.
+#[derive(Drop)]
+pub struct Ending {
+    pub left: usize,
+}
+
+impl Read for Ending {
+    fn read(&mut self, buffer: &mut [u8]) -> IoResult<usize> {
+        let count = buffer.len().min(500).min(self.left);
+        buffer[..count].fill(0);
+        self.left -= count;
         Ok(count)
     }
 }

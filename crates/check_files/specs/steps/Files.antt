@@ -1,8 +1,8 @@
 -- What is known of a file before its check, and what the parts of the check find out.
 use Rattle.std.specs.Prelude.{◌≡◌, ◌≢◌, ℕ, suc, ◌+◌, ◌*◌, ◌<◌, ◌≤◌, List, length, slice_index, Bool, false}
-use Rattle.adf_block.specs.Image.{long}
+use Rattle.adf_block.specs.Image.{long, block_sum}
 use Rattle.adf_block.specs.Chained.{Chained}
-use Rattle.adf_block.specs.Fields.{pointer, pointer_count, sequence_number, held_count, next_data, file_size, next_extension, table_longs, ofs_room}
+use Rattle.adf_block.specs.Fields.{primary_type, pointer_count, sequence_number, held_count, next_data, pointer, file_size, next_extension, header_type, table_longs, ofs_room}
 use Rattle.ados_data.specs.File.{HasExtension, HasOfsData, pointer_block, data_blocks}
 use Rattle.ados_tree.specs.declared.role.Role.TheVariants.{Extension}
 use Rattle.ados_tree.specs.Faults.{InImage, IsDataAt, IsFile, IsOfs, IsPointer, Reached}
@@ -19,6 +19,8 @@ pointed_block image file q i = pointer image (pointer_block image file q) i
 -- a file of which each block is reached, inside the image and right by itself, with so many extension blocks, all different
 pub record IsReachedFile (image : List ℕ) (file : ℕ) : Type 0 where
   pub is_file : IsFile image file
+  pub primary : primary_type image file ≡ header_type
+  pub sum : block_sum image file ≡ 0
   pub extensions : ℕ
   pub ends : pointer_block image file (suc extensions) ≡ 0
   pub inside : (q : ℕ) → q ≤ extensions → InImage image (pointer_block image file q)

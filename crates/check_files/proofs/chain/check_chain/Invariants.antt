@@ -8,10 +8,10 @@ use Rattle.check_files.proofs.chain.check_chain.Given as goal
 
 abbrev pub invariant-loop-place : goal.invariant-loop-place
 invariant-loop-place l = record {
-  holder : l.holder ≡ pointer_block l.image l.file (l.place / 72);
-  before : l.before ≡ slice_index (l.file ∷ blocks_upto l.image l.file l.count) l.place;
-  linked : (k : ℕ) → k < l.place → IsLinkedAt l.image l.file l.count k;
-  placed : (k : ℕ) → k < l.place → IsPlacedAt l.image l.file l.count k;
-  sum : l.sum ≡ sum_by (held_count l.image) (take l.place (blocks_upto l.image l.file l.count));
+  holder : l.holder ≡ pointer_block l.source.bytes l.file (l.place / 72);
+  before : l.before ≡ slice_index (l.file ∷ blocks_upto l.source.bytes l.file l.count) l.place;
+  linked : (k : ℕ) → k < l.place → IsLinkedAt l.source.bytes l.file l.count k;
+  placed : (k : ℕ) → k < l.place → IsPlacedAt l.source.bytes l.file l.count k;
+  sum : l.sum ≡ sum_by (held_count l.source.bytes) (take l.place (blocks_upto l.source.bytes l.file l.count));
   few : l.sum ≤ 488 * l.place;
 }

@@ -5,7 +5,7 @@ use Rattle.check_files.proofs.counts.count_blocks.Given as goal
 
 abbrev pub invariant-loop-passed : goal.invariant-loop-passed
 invariant-loop-passed l = record {
-  holder : l.holder ≡ pointer_block l.image l.file l.passed;
-  goes_on : (p : ℕ) → p < l.passed → pointer_block l.image l.file (suc p) ≢ 0;
-  full : (p : ℕ) → p < l.passed → pointer_count l.image (pointer_block l.image l.file p) ≡ 72;
+  holder : l.holder ≡ pointer_block l.source.bytes l.file l.passed;
+  goes_on : (p : ℕ) → p < l.passed → pointer_block l.source.bytes l.file (suc p) ≢ 0;
+  full : (p : ℕ) → p < l.passed → pointer_count l.source.bytes (pointer_block l.source.bytes l.file p) ≡ 72;
 }

@@ -3,4 +3,4 @@ use Rattle.check_files.specs.Entries.{IsSoundIfFile}
 use Rattle.check_files.proofs.entries.check_files.Given as goal
 
 abbrev pub invariant-loop-block : goal.invariant-loop-block
-invariant-loop-block l = (file : ℕ) → file < l.block → IsSoundIfFile l.image l.marks file
+invariant-loop-block l = (file : ℕ) → file < l.block → IsSoundIfFile l.source.bytes l.marks file

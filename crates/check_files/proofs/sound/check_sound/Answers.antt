@@ -11,6 +11,6 @@ mapped image marks (Err e) f h = h
 
 pub returns : goal.returns
 returns c =
-    mapped c.args.image.now c.args.marks.now c.check_names.result
+    mapped c.args.source.now.bytes c.args.marks.now c.check_names.result
     (λ unlike. record { boot = c.requires.boot; reached = c.requires.reached; files = c.in_ok-check_files.ensures; unlike = unlike })
     c.check_names.ensures

@@ -1,9 +1,18 @@
+use Rattle.std.proofs.Common.{List, ℕ, ap, subst}
+use Rattle.adf_block.specs.Image.{IsImage}
+use Rattle.check_marks.specs.Laws.{AreInUse}
+use Rattle.check_source.specs.Source.{SourceView}
 use Rattle.check_image.proofs.accept.accept_valid.Goals as goal
 
 pub returns-in-None-clause-answer : goal.returns-in-None-clause-answer
 returns-in-None-clause-answer c =
-    c.checked_is_accepted.ensures c.args.image c.args.marks.now c.in-None.ensures.image c.requires.checked c.requires.valid c.in-None.ensures.found
+    let same = ap (λ (source : SourceView). source.bytes) c.whole.ensures in
+    c.checked_is_accepted.ensures c.args.image c.args.marks.now (subst (λ (bytes : List ℕ). IsImage bytes) same c.in-None.ensures.image) c.requires.checked c.requires.valid
+    (subst (λ (bytes : List ℕ). AreInUse bytes c.args.marks.now) same c.in-None.ensures.found)
 
 pub returns-in-None-clause-stands : goal.returns-in-None-clause-stands
 returns-in-None-clause-stands c =
-    (c.checked_is_accepted.ensures c.args.image c.args.marks.now c.in-None.ensures.image c.requires.checked c.requires.valid c.in-None.ensures.found).3
+    let same = ap (λ (source : SourceView). source.bytes) c.whole.ensures in
+    let accepted = c.checked_is_accepted.ensures c.args.image c.args.marks.now (subst (λ (bytes : List ℕ). IsImage bytes) same c.in-None.ensures.image) c.requires.checked c.requires.valid
+    (subst (λ (bytes : List ℕ). AreInUse bytes c.args.marks.now) same c.in-None.ensures.found) in
+    accepted.3

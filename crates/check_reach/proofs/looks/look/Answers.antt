@@ -6,4 +6,4 @@ use Rattle.check_reach.proofs.looks.look.Goals as goal
 
 pub look_root-requires-clause-root : goal.look_root-requires-clause-root
 look_root-requires-clause-root c =
-    reached_root c.args.image.now c.args.block (subst (λ (r : Role). Reached c.args.image.now c.args.block r) c.in-Root.is c.requires.reached)
+    reached_root c.args.source.now.bytes c.args.block (subst (λ (r : Role). Reached c.args.source.now.bytes c.args.block r) c.in-Root.is c.requires.reached)

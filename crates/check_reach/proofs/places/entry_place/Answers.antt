@@ -9,7 +9,7 @@ use Rattle.check_reach.proofs.places.entry_place.Goals as goal
 
 pub returns-then-is_named : goal.returns-then-is_named
 returns-then-is_named c =
-    let image = c.args.image.now in
+    let image = c.args.source.now.bytes in
     let here = c.if-i-eq-NEXT_IN_CHAIN.true in
     is_only (λ (next : Role). IsPlace image c.args.block (Entry c.args.dir c.args.slot) c.args.i next) (Entry c.args.dir c.args.slot)
     (next_place image c.args.block c.args.i c.args.dir c.args.slot here (λ z. c.if-is_named.true (c.long-is_named.ensures ∙ z)))
@@ -22,7 +22,7 @@ returns-then-is_named c =
 
 pub returns-then-is_named-2 : goal.returns-then-is_named-2
 returns-then-is_named-2 c =
-    let image = c.args.image.now in
+    let image = c.args.source.now.bytes in
     let kind : secondary_type image c.args.block ≡ 2 = sym c.long-kind.ensures ∙ c.if-kind-eq-DIRECTORY_TYPE.true in
     let range = c.is_slot.ensures.0 c.if-is_slot.true in
     is_only (λ (next : Role). IsPlace image c.args.block (Entry c.args.dir c.args.slot) c.args.i next) (Entry c.args.block (c.args.i - 6))
@@ -36,7 +36,7 @@ returns-then-is_named-2 c =
 
 pub returns-then-is_pointer : goal.returns-then-is_pointer
 returns-then-is_pointer c =
-    let image = c.args.image.now in
+    let image = c.args.source.now.bytes in
     let kind : secondary_type image c.args.block ≡ file_type = sym c.long-kind.ensures ∙ c.if-kind.true in
     let at = c.is_pointer.ensures.0 c.if-is_pointer.true in
     is_only (λ (next : Role). IsPlace image c.args.block (Entry c.args.dir c.args.slot) c.args.i next) (Data c.args.block)
@@ -50,7 +50,7 @@ returns-then-is_pointer c =
 
 pub returns-then-is_named-3 : goal.returns-then-is_named-3
 returns-then-is_named-3 c =
-    let image = c.args.image.now in
+    let image = c.args.source.now.bytes in
     let kind : secondary_type image c.args.block ≡ file_type = sym c.long-kind.ensures ∙ c.if-kind-2.true in
     let here = c.if-i-eq-NEXT_EXTENSION.true in
     is_only (λ (next : Role). IsPlace image c.args.block (Entry c.args.dir c.args.slot) c.args.i next) (Extension c.args.block)

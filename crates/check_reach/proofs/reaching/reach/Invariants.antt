@@ -5,8 +5,8 @@ use Rattle.check_reach.proofs.reaching.reach.Given as goal
 
 abbrev pub invariant-loop-block : goal.invariant-loop-block
 invariant-loop-block l = record {
-  between : IsBetween l.image l.progress.marks.items l.progress.pending.items;
-  capacity : block_count l.image ≤ vec_capacity l.progress.pending;
+  between : IsBetween l.source.bytes l.progress.marks.items l.progress.pending.items;
+  capacity : block_count l.source.bytes ≤ vec_capacity l.progress.pending;
 }
 
 abbrev pub decreases-loop-block : goal.decreases-loop-block

@@ -7,12 +7,10 @@ use Rattle.all_faults.proofs.walk.Walk.pass.Goals as goal
 
 pub note-requires-clause-shown : goal.note-requires-clause-shown
 note-requires-clause-shown c =
-    let place = (c.place_role.ensures c.in-Some.role).0 c.in-Some.is in
-    outside c.requires.step.reached place (λ inside. false≢true (sym c.if-is_inside.false ∙ c.is_inside.ensures.1 (subst (InImage c.args.image.now) (sym c.long-block.ensures) inside)))
+    outside c.requires.step.reached c.requires.place (λ inside. false≢true (sym c.if-is_inside.false ∙ c.is_inside.ensures.1 (subst (InImage c.args.image.now) (sym c.long-block.ensures) inside)))
 
 pub meet-requires-clause-reached : goal.meet-requires-clause-reached
 meet-requires-clause-reached c =
-    let place = (c.place_role.ensures c.in-Some.role).0 c.in-Some.is in
     let inside = c.is_inside.ensures.0 c.if-is_inside.true in
-    subst (λ (b : ℕ). Reached c.args.image.now b c.in-Some.role) (sym c.long-block.ensures)
-    (named c.requires.step.reached place (subst (InImage c.args.image.now) c.long-block.ensures inside))
+    subst (λ (b : ℕ). Reached c.args.image.now b c.args.role) (sym c.long-block.ensures)
+    (named c.requires.step.reached c.requires.place (subst (InImage c.args.image.now) c.long-block.ensures inside))

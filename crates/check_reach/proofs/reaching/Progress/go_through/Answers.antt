@@ -6,7 +6,7 @@ use Rattle.check_reach.proofs.reaching.Progress.go_through.Goals as goal
 
 pub returns-clause-between : goal.returns-clause-between
 returns-clause-between c =
-    let image = c.args.image.now in
+    let image = c.args.source.now.bytes in
     let marks = c.loop-i.self.marks.items in
     let pending = c.loop-i.self.pending.items in
     let pages : page_count (block_count image) ≤ 25 = omega (arith, c.blocks-2.ensures.count, c.blocks-2.ensures.size) in
@@ -15,5 +15,5 @@ returns-clause-between c =
 
 pub returns-then-not-has_places-clause-between : goal.returns-then-not-has_places-clause-between
 returns-then-not-has_places-clause-between c =
-    let image = c.args.image.now in
+    let image = c.args.source.now.bytes in
     put_away_unseen image c.args.self.now.marks.items c.args.self.now.pending.items c.args.block 6 c.args.role (c.has_places.ensures c.if-not-has_places.true image c.args.block) c.requires.hand

@@ -15,7 +15,7 @@ pub index-requires : goal.index-requires
 index-requires c =
     let marks = c.args.self.now.marks in
     let block = c.in_ok-block.block in
-    let last = last_marked c.args.image.now marks.items c.args.self.now.pending.items c.pop.new.self.items block c.requires.between c.in_ok-block.ensures.items in
+    let last = last_marked c.args.source.now.bytes marks.items c.args.self.now.pending.items c.pop.new.self.items block c.requires.between c.in_ok-block.ensures.items in
     let within : block < length marks.items = marked_within marks.items block last.0 last.1 in
     omega (arith, within, marks.ok.0)
 
@@ -23,7 +23,7 @@ pub unreachable-requires : goal.unreachable-requires
 unreachable-requires c =
     let marks = c.args.self.now.marks in
     let block = c.in_ok-block.block in
-    let last = last_marked c.args.image.now marks.items c.args.self.now.pending.items c.pop.new.self.items block c.requires.between c.in_ok-block.ensures.items in
+    let last = last_marked c.args.source.now.bytes marks.items c.args.self.now.pending.items c.pop.new.self.items block c.requires.between c.in_ok-block.ensures.items in
     let within : block < length marks.items = marked_within marks.items block last.0 last.1 in
     let h : Some last.0 ≡ None = sym last.1 ∙ mark_read marks.items block c.index.result.now within c.index.ensures ∙ c.in-None.is in
     cc h
@@ -31,7 +31,7 @@ unreachable-requires c =
 pub returns-clause-hand : goal.returns-clause-hand
 returns-clause-hand c =
     let marks = c.args.self.now.marks in
-    let image = c.args.image.now in
+    let image = c.args.source.now.bytes in
     let block = c.in_ok-block.block in
     let last = last_marked image marks.items c.args.self.now.pending.items c.pop.new.self.items block c.requires.between c.in_ok-block.ensures.items in
     let within : block < length marks.items = marked_within marks.items block last.0 last.1 in

@@ -2,15 +2,16 @@ use Rattle.std.proofs.Common.{◌≡◌, ◌<◌, ℕ, length, None, Some, sym, 
 use Rattle.std.proofs.lemmas.Option.{same_Some}
 use Rattle.adf_block.specs.Image.{long}
 use Rattle.ados_tree.specs.Faults.{InImage, Reached, IsUsedTwice}
-use Rattle.check_marks.specs.Marks.{mark_at}
+use Rattle.check_marks.specs.Marks.{IsSound, mark_at}
 use Rattle.check_reach.proofs.MarkLemmas.{marked_within, mark_read, some_is, none_is}
 use Rattle.check_reach.proofs.Moves.{skipped, took_at, reached_next, points_outside, used_twice}
+use Rattle.check_reach.proofs.ToldLemmas.{place_told}
 use Rattle.check_reach.proofs.reaching.Progress.pass.Goals as goal
 use Rattle.check_reach.proofs.reaching.Progress.pass.Goals.{then-block-lt-BOOT_BLOCKS-via-then-block-lt-BOOT_BLOCKS, then-block-lt-BOOT_BLOCKS-via-else-block-lt-BOOT_BLOCKS+then-blocks-block}
 
 pub returns-in_default-clause-hand : goal.returns-in_default-clause-hand
 returns-in_default-clause-hand c =
-    skipped c.args.image.now c.args.self.now.marks.items c.args.self.now.pending.items c.args.holder c.args.i c.args.role c.requires.hand
+    skipped c.args.source.now.bytes c.args.self.now.marks.items c.args.self.now.pending.items c.args.holder c.args.i c.args.role c.requires.hand
     (λ next p. c.in_default.not-Some next ((c.place_role.ensures next).1 p))
 
 pub long-block-requires-clause-block : goal.long-block-requires-clause-block
@@ -18,9 +19,15 @@ long-block-requires-clause-block c =
     let hand = c.requires.hand in
     omega (arith, marked_within c.args.self.now.marks.items c.args.holder hand.mark hand.held, hand.but.size)
 
+pub long-block-requires-clause-told : goal.long-block-requires-clause-told
+long-block-requires-clause-told c =
+    let hand = c.requires.hand in
+    let sound = subst (IsSound c.args.source.now.bytes c.args.holder) hand.of_role (hand.but.sound c.args.holder hand.mark hand.held) in
+    place_told c.args.source.now c.args.holder c.args.i c.args.role c.in-Some.next ((c.place_role.ensures c.in-Some.next).0 c.in-Some.is) sound
+
 pub returns-then-block-lt-BOOT_BLOCKS-clause-shown : goal.returns-then-block-lt-BOOT_BLOCKS-clause-shown
 returns-then-block-lt-BOOT_BLOCKS-clause-shown c =
-    let image = c.args.image.now in
+    let image = c.args.source.now.bytes in
     let place = (c.place_role.ensures c.in-Some.next).0 c.in-Some.is in
     let not_in : ¬ InImage image (long image c.args.holder c.args.i) = λ within. elim c.then-block-lt-BOOT_BLOCKS.branch [
       | then-block-lt-BOOT_BLOCKS-via-then-block-lt-BOOT_BLOCKS w ↦ omega (arith, within.0, c.long-block.ensures, w.if-block-lt-BOOT_BLOCKS.true)
@@ -30,7 +37,7 @@ returns-then-block-lt-BOOT_BLOCKS-clause-shown c =
 
 pub returns-then-is_some-clause-shown : goal.returns-then-is_some-clause-shown
 returns-then-is_some-clause-shown c =
-    let image = c.args.image.now in
+    let image = c.args.source.now.bytes in
     let marks = c.args.self.now.marks.items in
     let block = c.long-block.result in
     let place = (c.place_role.ensures c.in-Some.next).0 c.in-Some.is in
@@ -45,7 +52,7 @@ returns-then-is_some-clause-shown c =
 
 pub look-requires-clause-reached : goal.look-requires-clause-reached
 look-requires-clause-reached c =
-    let image = c.args.image.now in
+    let image = c.args.source.now.bytes in
     let block = c.long-block.result in
     let place = (c.place_role.ensures c.in-Some.next).0 c.in-Some.is in
     let inside : InImage image block = (c.if-block-lt-BOOT_BLOCKS.false, omega (arith, c.if-blocks-block.false, c.blocks-else-block-lt-BOOT_BLOCKS.ensures.count)) in
@@ -55,7 +62,7 @@ look-requires-clause-reached c =
 
 pub returns-clause-hand : goal.returns-clause-hand
 returns-clause-hand c =
-    let image = c.args.image.now in
+    let image = c.args.source.now.bytes in
     let marks = c.args.self.now.marks.items in
     let block = c.long-block.result in
     let place = (c.place_role.ensures c.in-Some.next).0 c.in-Some.is in

@@ -1,0 +1,8 @@
+-- Images that are read piece by piece.
+use Rattle.std.specs.Prelude.{ℕ, ◌≡◌, ◌*◌, List, length, Option}
+use Rattle.adf_files.specs.Load.{ReadsAll}
+
+-- these are all bytes that the reader gave up to its end, and they are so many blocks
+pub record ReadsBlocks (blocks : ℕ) (old new : Option (List ℕ)) (image : List ℕ) : Type 0 where
+  pub all : ReadsAll old new image
+  pub size : length image ≡ 512 * blocks
