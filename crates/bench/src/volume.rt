@@ -5,11 +5,10 @@ ghost use Rattle.ados_tree.specs.Keys.{HasDirectory, HasFileKey, HasKey};
 use crate::blank::blank_volume;
 use crate::told::{DIRECTORY, FILE, describe, entry_behind};
 use adf_block::{Format, Image};
-use adf_files::load_image;
+use adf_host::read_image_file;
 use ados_volume::{Volume, check};
 use anyhow::{Result, bail};
 use std::alloc::{AllocError, Global};
-use std::fs;
 use std::rt::{Clock, Files};
 use std::time::Instant;
 
@@ -105,10 +104,9 @@ fn open_image<R: Files>(rt: &R, alloc: Global, file: Option<&str>) -> Result<Ima
     let Some(file) = file else {
         return Ok(blank_volume(alloc, Format::Ffs, BLOCKS)?.into_image());
     };
-    let mut reader = fs::open(rt, file)?;
-    match load_image(alloc, &mut reader) {
+    match read_image_file(rt, alloc, file) {
         Ok(image) => Ok(image),
-        Err(_) => bail!("{file} is no image that can be read"),
+        Err(fault) => bail!("{file}: {fault}"),
     }
 }
 
