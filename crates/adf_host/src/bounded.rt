@@ -4,6 +4,7 @@ ghost use Rattle.std.specs.Io.KnownBytes.{ReadConsumes};
 ghost use Rattle.std.specs.Io.{ReadsAtMost};
 ghost use Rattle.adf_host.specs.Bounded.{ReadsOn, ReadsPart, ReadsUpTo};
 
+use check_source::whole_pages;
 use std::alloc::{AllocError, Global};
 use std::io::{Error, ErrorKind, Read, Result as IoResult};
 
@@ -32,14 +33,8 @@ impl From<Error> for BoundedFault {
 /// when they are read over.
 const PIECE: usize = 65_536;
 
-/// The bytes of a huge page of the system.
-const HUGE_PAGE: usize = 2_097_152;
-
-/// The fewest bytes for which huge pages are worth their room.
+/// The fewest bytes that are read into huge pages.
 const LARGE: usize = 524_288;
-
-/// The most bytes that the allocator takes of its own from the memory that it asks the system for.
-const ALLOCATOR_BYTES: usize = 32;
 
 /// The bytes of a reader up to its end, or so many of them where it has more. It takes none from the reader beyond those
 /// that it gives, so a reader without an end does no harm.
@@ -73,20 +68,9 @@ fn room_ahead(expected: Option<usize>, most: usize) -> usize
     ensures { IfSome expected (λ length. min (length + 1) most ≤ result) }
 {
     match expected {
-        Some(length) => whole_pages(length.saturating_add(1).min(most)),
+        Some(length) => whole_pages(length.saturating_add(1).min(most), LARGE),
         None => 0,
     }
-}
-
-/// So much room, and where it is large as much as makes whole huge pages with what the allocator takes for itself: the system
-/// gives huge pages only to memory that is a whole number of them, and each is one fault of the processor in place of 512.
-fn whole_pages(room: usize) -> usize
-    ensures { room ≤ result }
-{
-    if room < LARGE {
-        return room;
-    }
-    (room / HUGE_PAGE * HUGE_PAGE + (HUGE_PAGE - ALLOCATOR_BYTES)).max(room)
 }
 
 /// Appends the bytes of a reader up to its end, as far as there are then so many at most.

@@ -2,7 +2,7 @@
 use Rattle.std.proofs.Common.{◌≡◌, ◌≢◌, ◌↔◌, ℕ, ◌+◌, ◌<◌, ◌≤◌, inl, inr, List, [], ◌∷◌, ◌++◌, length, replicate, Contains, Option, None, Some, refl, sym, ap, ◌∙◌, subst, arith}
 use Rattle.std.proofs.lemmas.List.{length-append, length-replicate}
 use Rattle.std.proofs.Math.ListN.{set}
-use Rattle.std.proofs.lemmas.Bool.{cases_eq}
+use Rattle.std.proofs.lemmas.Bool.{cases_eq, cases_lt}
 use Rattle.adf_block.specs.Image.{block_count, page_count, long}
 use Rattle.ados_tree.specs.declared.role.Role.{Role}
 use Rattle.ados_tree.specs.declared.role.Role.TheVariants.{Root}
@@ -22,25 +22,40 @@ use Rattle.check_reach.proofs.ReachMoves.{mark_of, in_hand, with_left, all_reach
 fresh : (marks : List (Option Mark)) (block other : ℕ) (mark : Mark) → mark_at marks block ≡ None → mark_at marks other ≡ Some mark → other ≢ block
 fresh marks block other mark none e z = let h : None ≡ Some mark = sym none ∙ sym (ap (mark_at marks) z) ∙ e in cc h
 
--- a long that is no place
-pub skipped : (image : List ℕ) (marks : List (Option Mark)) (pending : List ℕ) (hand i : ℕ) (role : Role) → IsInHand image marks pending hand role i → ((next : Role) → ¬ IsPlace image hand role i next) → IsInHand image marks pending hand role (i + 1)
-skipped image marks pending hand i role h none = record {
+-- the pending blocks but the last
+without_last : (image : List ℕ) (marks : List (Option Mark)) (rest : List ℕ) (block : ℕ) → ArePending image marks (rest ++ block ∷ []) → ArePending image marks rest
+without_last image marks rest block waiting = record {
+  marked = λ other q. waiting.marked other (pushed_has_old rest block other q);
+  once = once_rest rest block waiting.once;
+  room = omega (arith, waiting.room, length-append rest (block ∷ []));
+}
+
+-- longs that are no places
+pub skipped_all : (image : List ℕ) (marks : List (Option Mark)) (pending : List ℕ) (hand from to : ℕ) (role : Role) → from ≤ to → ((i : ℕ) → from ≤ i → i < to → (next : Role) → ¬ IsPlace image hand role i next)
+    → IsInHand image marks pending hand role from → IsInHand image marks pending hand role to
+skipped_all image marks pending hand from to role order none h = record {
   mark = h.mark;
   held = h.held;
   of_role = h.of_role;
   beside = h.beside;
   waiting = h.waiting;
-  but = with_left image marks (IsLeft pending hand i) (IsLeft pending hand (i + 1)) (λ block j mark next e p. (
+  but = with_left image marks (IsLeft pending hand from) (IsLeft pending hand to) (λ block j mark next e p. (
     λ l. elim l [
       | inl q ↦ inl q
-      | inr a ↦ elim (cases_eq j i) [
-        | inl z ↦ absurd (none next (subst (λ (r : Role). IsPlace image hand r i next) h.of_role (in_hand image marks hand i block j h.mark mark next h.held e a.0 z p)))
-        | inr ne ↦ inr (a.0, omega (arith, a.1, ne))
+      | inr a ↦ elim (cases_lt j to) [
+        | inl before ↦ absurd (none j a.1 before next (subst (λ (r : Role). IsPlace image hand r j next) h.of_role (in_hand image marks hand j block j h.mark mark next h.held e a.0 refl p)))
+        | inr past ↦ inr (a.0, past)
       ]
     ],
-    λ l. elim l [ inl q ↦ inl q | inr a ↦ inr (a.0, omega (arith, a.1)) ],
+    λ l. elim l [ inl q ↦ inl q | inr a ↦ inr (a.0, omega (arith, a.1, order)) ],
   )) h.but;
 }
+
+-- a long that is no place
+pub skipped : (image : List ℕ) (marks : List (Option Mark)) (pending : List ℕ) (hand i : ℕ) (role : Role) → IsInHand image marks pending hand role i → ((next : Role) → ¬ IsPlace image hand role i next) → IsInHand image marks pending hand role (i + 1)
+skipped image marks pending hand i role h none =
+    skipped_all image marks pending hand i (i + 1) role (omega arith)
+    (λ j from to next p. let z : j ≡ i = omega (arith, from, to) in none next (subst (λ (k : ℕ). IsPlace image hand role k next) z p)) h
 
 -- a place whose block had no mark, and now has one and is pending
 module _ (image : List ℕ) (marks new : List (Option Mark)) (pending : List ℕ) (hand i : ℕ) (role next : Role)
@@ -112,7 +127,36 @@ took_at image marks pending pushed hand i role next block e h place only within 
     subst (λ (xs : List ℕ). IsInHand image (set marks block (Some (mark_of next hand i))) xs hand role (i + 1)) (sym added)
     (subst (λ (b : ℕ). IsInHand image (set marks b (Some (mark_of next hand i))) (pending ++ b ∷ []) hand role (i + 1)) (sym e) moved)
 
+-- a block whose role has no places need not be pending
+not_waiting : (image : List ℕ) (marks : List (Option Mark)) (pending : List ℕ) (block hand from : ℕ) (role : Role) (mark : Mark) → mark_at marks block ≡ Some mark → ((i : ℕ) (next : Role) → ¬ IsPlace image block mark.role i next)
+    → IsInHand image marks (pending ++ block ∷ []) hand role from → IsInHand image marks pending hand role from
+not_waiting image marks pending block hand from role mark at none h = record {
+  mark = h.mark;
+  held = h.held;
+  of_role = h.of_role;
+  beside = λ q. h.beside (pushed_has_old pending block hand q);
+  but = with_left image marks (IsLeft (pending ++ block ∷ []) hand from) (IsLeft pending hand from) (λ other i m next e p. (
+    λ l. elim l [
+      | inl q ↦ elim (in_pushed pending block other q) [ inl old ↦ inl old | inr z ↦ absurd (none i next (in_hand image marks block i other i mark m next at e z refl p)) ]
+      | inr a ↦ inr a
+    ],
+    λ l. elim l [ inl q ↦ inl (pushed_has_old pending block other q) | inr a ↦ inr a ],
+  )) h.but;
+  waiting = without_last image marks pending block h.waiting;
+}
+
 module _ (image : List ℕ) (marks : List (Option Mark)) where
+  -- a place whose block is marked, and has no places itself
+  pub took_unplaced : (pending : List ℕ) (hand i : ℕ) (role next : Role) (block : ℕ) → block ≡ long image hand i
+      → IsInHand image marks pending hand role i → IsPlace image hand role i next → ((other : Role) → IsPlace image hand role i other → other ≡ next)
+      → InImage image block → IsSound image block next → mark_at marks block ≡ None → ((j : ℕ) (other : Role) → ¬ IsPlace image block next j other)
+      → IsInHand image (set marks block (Some (mark_of next hand i))) pending hand role (i + 1)
+  took_unplaced pending hand i role next block e h place only within sound none unplaced =
+      let there : block < length marks = omega (arith, within.1, h.but.size) in
+      not_waiting image (set marks block (Some (mark_of next hand i))) pending block hand (i + 1) role (mark_of next hand i)
+      (marked_more marks block (mark_of next hand i) there none).is unplaced
+      (took_at image marks pending (pending ++ block ∷ []) hand i role next block e h place only within sound none refl)
+
   -- the last of the pending blocks is taken in hand
   pub taken_up : (rest : List ℕ) (block : ℕ) (mark : Mark) → page_count (block_count image) ≤ 25 → IsBetween image marks (rest ++ block ∷ []) → mark_at marks block ≡ Some mark → IsInHand image marks rest block mark.role 6
   taken_up rest block mark pages b e = record {
@@ -127,11 +171,7 @@ module _ (image : List ℕ) (marks : List (Option Mark)) where
         | inr a ↦ subst (λ (x : ℕ). Contains (rest ++ block ∷ []) x) (sym a.0) (pushed_has_new rest block)
       ],
     )) b.but;
-    waiting = record {
-      marked = λ other q. b.waiting.marked other (pushed_has_old rest block other q);
-      once = once_rest rest block b.waiting.once;
-      room = omega (arith, b.waiting.room, length-append rest (block ∷ []));
-    };
+    waiting = without_last image marks rest block b.waiting;
   }
 
   -- a block that was gone through is put away
@@ -139,19 +179,6 @@ module _ (image : List ℕ) (marks : List (Option Mark)) where
   put_away pending hand role pages h = record {
     but = with_left image marks (IsLeft pending hand 127) (λ block i. Contains pending block) (λ block i m next at p. (
       λ l. elim l [ inl q ↦ q | inr a ↦ absurd (omega (arith, a.1, (place_within p pages).1)) ],
-      λ q. inl q,
-    )) h.but;
-    waiting = h.waiting;
-  }
-
-  -- so is one whose role has no places
-  pub put_away_unseen : (pending : List ℕ) (hand from : ℕ) (role : Role) → ((i : ℕ) (next : Role) → ¬ IsPlace image hand role i next) → IsInHand image marks pending hand role from → IsBetween image marks pending
-  put_away_unseen pending hand from role none h = record {
-    but = with_left image marks (IsLeft pending hand from) (λ block i. Contains pending block) (λ block i m next at p. (
-      λ l. elim l [
-        | inl q ↦ q
-        | inr a ↦ absurd (none i next (subst (λ (r : Role). IsPlace image hand r i next) h.of_role (in_hand image marks hand i block i h.mark m next h.held at a.0 refl p)))
-      ],
       λ q. inl q,
     )) h.but;
     waiting = h.waiting;

@@ -1,7 +1,7 @@
 //! Which longs of a block name other blocks.
 ghost use Rattle.std.specs.Prelude.{◌≡◌, ◌<◌, ◌+◌, ◌-◌, ◌≤◌, ◌↔◌, ℕ, List, IsTrue, Some, false};
 ghost use Rattle.adf_block.specs.Image.{block_count, page_count};
-ghost use Rattle.adf_block.specs.Fields.{first_slot, first_pointer, table_longs};
+ghost use Rattle.adf_block.specs.Fields.{first_slot, first_pointer, secondary_type_long, table_longs};
 ghost use Rattle.ados_tree.specs.declared.role.Role.{Role};
 ghost use Rattle.ados_tree.specs.declared.role.Role.TheVariants.{Root, Entry, Extension};
 ghost use Rattle.ados_tree.specs.Faults.{IsPlace, IsPointer};
@@ -20,6 +20,41 @@ pub(crate) fn has_places(role: Role) -> bool
     ensures { result ≡ false → (image : List ℕ) → (block i : ℕ) → (next : Role) → ¬ IsPlace image block role i next }
 {
     !matches!(role, Role::Page | Role::Data(_))
+}
+
+/// The long behind the table of a block.
+pub(crate) const TABLE_END: u32 = FIRST_POINTER + 1;
+
+/// The first long up to the end of a block's table that may name another: the pointers of a file stand at the table's end.
+pub(crate) fn table_from(source: &Source<'_>, block: u32, role: Role) -> u32
+    requires inside { block < block_count source.now.bytes }
+    requires told { TellsOf source.now block role }
+    ensures from { first_slot ≤ result }
+    ensures within { result ≤ first_slot + table_longs }
+    ensures none { (i : ℕ) → i < result → (next : Role) → ¬ IsPlace source.now.bytes block role i next }
+{
+    let has_pointers = match role {
+        Role::Entry(_, _) => source.long(block, SECONDARY_TYPE) == FILE_TYPE,
+        Role::Extension(_) => true,
+        Role::Root | Role::Page | Role::Data(_) => false,
+    };
+    if has_pointers {
+        TABLE_END - source.long(block, POINTER_COUNT).min(TABLE_LONGS)
+    } else {
+        FIRST_SLOT
+    }
+}
+
+/// The first long behind a block's table that may name another.
+pub(crate) fn fields_from(role: Role) -> u32
+    ensures from { first_slot + table_longs ≤ result }
+    ensures within { result < secondary_type_long }
+    ensures none { (image : List ℕ) → (block i : ℕ) → first_slot + table_longs ≤ i → i < result → (next : Role) → ¬ IsPlace image block role i next }
+{
+    match role {
+        Role::Root => FIRST_PAGE,
+        _ => NEXT_IN_CHAIN,
+    }
 }
 
 /// The role that long `i` of a block gives to the block that it names, if it is a place of names.

@@ -8,8 +8,8 @@ ghost use Rattle.check_marks.specs.Marks.{AreReached};
 ghost use Rattle.check_reach.specs.steps.Reaching.{IsBetween, IsInHand, work};
 
 use crate::looks::look;
-use crate::places::{has_places, place_role};
-use adf_block::layout::{BOOT_BLOCKS, FIRST_SLOT, SECONDARY_TYPE};
+use crate::places::{TABLE_END, fields_from, has_places, place_role, table_from};
+use adf_block::layout::{BOOT_BLOCKS, SECONDARY_TYPE};
 use ados_tree::{FaultKind, Role, VolumeFault};
 use check_marks::Mark;
 use check_source::Source;
@@ -92,16 +92,38 @@ impl Progress {
         ensures shown { IfErr result (λ fault. Shows source.now.bytes fault.kind fault.block) }
     {
         prove!(source.blocks() >= 16);
-        if !has_places(role) {
-            return Ok(());
-        }
-        for i in FIRST_SLOT..SECONDARY_TYPE {
+        let from = table_from(source, block, role);
+        self.pass_all(source, block, role, from, TABLE_END)?;
+        self.pass_all(source, block, role, fields_from(role), SECONDARY_TYPE)?;
+        Ok(())
+    }
+
+    /// Goes through the longs in a part of the block in hand.
+    fn pass_all(
+        &mut self,
+        source: &Source<'_>,
+        block: u32,
+        role: Role,
+        from: u32,
+        to: u32,
+    ) -> Result<(), VolumeFault>
+        requires hand { IsInHand source.now.bytes self.old.marks.items self.old.pending.items block role from }
+        requires part { from ≤ to }
+        requires longs { to ≤ secondary_type_long }
+        requires capacity { block_count source.now.bytes ≤ vec_capacity self.old.pending }
+        ensures hand { IfOk result (λ _. IsInHand source.now.bytes self.new.marks.items self.new.pending.items block role to) }
+        ensures work { IfOk result (λ _. work self.new.marks.items self.new.pending.items ≤ work self.old.marks.items self.old.pending.items) }
+        ensures capacity { vec_capacity self.new.pending ≡ vec_capacity self.old.pending }
+        ensures shown { IfErr result (λ fault. Shows source.now.bytes fault.kind fault.block) }
+    {
+        for i in from..to {
             self.pass(source, block, role, i)?;
         }
         Ok(())
     }
 
-    /// Goes through one long: what it names, if it is a place, is marked, looked at and put to the pending blocks.
+    /// Goes through one long: what it names, if it is a place, is looked at, marked, and put to the
+    /// pending blocks where it may name others itself.
     fn pass(
         &mut self,
         source: &Source<'_>,
@@ -141,7 +163,9 @@ impl Progress {
             holder,
             long: i,
         });
-        self.pending.push_reserved(block);
+        if has_places(next) {
+            self.pending.push_reserved(block);
+        }
         Ok(())
     }
 }

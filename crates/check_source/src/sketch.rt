@@ -6,6 +6,7 @@ ghost use Rattle.adf_block.specs.Image.{IsImage, IsSize, block_count, block_sum,
 ghost use Rattle.check_source.specs.Source.{IsKept};
 ghost use Rattle.check_source.specs.Keeping.{AreKept, kept_length};
 
+use crate::room::whole_pages;
 use adf_block::layout::{BLOCK_BYTES, BLOCK_LONGS, DATA_TYPE};
 use byteorder::{BigEndian, ByteOrder};
 use std::alloc::{AllocError, Global};
@@ -17,6 +18,9 @@ const BLOCK: usize = BLOCK_BYTES as usize;
 
 /// The bytes of an OFS data block in front of those of its file.
 const DATA_HEADER: usize = 24;
+
+/// The fewest bytes of an image whose sketch fills huge pages: that of a smaller one may touch less than one.
+const LARGE: usize = 16_777_216;
 
 /// The pieces that a sketch was made of. No value of it is kept.
 #[derive(Drop)]
@@ -50,7 +54,7 @@ impl Model for Sketch {
 }
 
 impl Sketch {
-    /// That of no bytes, with room for the notes of so many blocks.
+    /// That of no bytes, with room for so many blocks: all of it is taken at once, and touched only as it fills.
     pub fn new(alloc: Global, blocks: u32) -> Result<Sketch, AllocError>
         ensures { IfOk result (λ sketch. sketch ≡ []) }
     {
@@ -58,7 +62,7 @@ impl Sketch {
         Ok(Sketch {
             boot: [0; 4],
             starts: Vec::with_capacity(alloc, blocks as usize)?,
-            kept: Vec::new(alloc),
+            kept: Vec::with_capacity(alloc, whole_pages(blocks as usize * BLOCK, LARGE))?,
             pieces: Snapshot::of(&start),
         })
     }

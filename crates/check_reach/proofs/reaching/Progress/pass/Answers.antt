@@ -4,7 +4,7 @@ use Rattle.adf_block.specs.Image.{long}
 use Rattle.ados_tree.specs.Faults.{InImage, Reached, IsUsedTwice}
 use Rattle.check_marks.specs.Marks.{IsSound, mark_at}
 use Rattle.check_reach.proofs.MarkLemmas.{marked_within, mark_read, some_is, none_is}
-use Rattle.check_reach.proofs.Moves.{skipped, took_at, reached_next, points_outside, used_twice}
+use Rattle.check_reach.proofs.Moves.{skipped, took_at, took_unplaced, reached_next, points_outside, used_twice}
 use Rattle.check_reach.proofs.ToldLemmas.{place_told}
 use Rattle.check_reach.proofs.reaching.Progress.pass.Goals as goal
 use Rattle.check_reach.proofs.reaching.Progress.pass.Goals.{then-block-lt-BOOT_BLOCKS-via-then-block-lt-BOOT_BLOCKS, then-block-lt-BOOT_BLOCKS-via-else-block-lt-BOOT_BLOCKS+then-blocks-block}
@@ -60,8 +60,8 @@ look-requires-clause-reached c =
     subst (λ (b : ℕ). Reached image b c.in-Some.next) (sym c.long-block.ensures)
     (reached_next image c.args.self.now.marks.items c.args.self.now.pending.items c.args.holder c.args.i c.args.role c.in-Some.next c.requires.hand place within)
 
-pub returns-clause-hand : goal.returns-clause-hand
-returns-clause-hand c =
+pub returns-then-has_places-clause-hand : goal.returns-then-has_places-clause-hand
+returns-then-has_places-clause-hand c =
     let image = c.args.source.now.bytes in
     let marks = c.args.self.now.marks.items in
     let block = c.long-block.result in
@@ -72,3 +72,16 @@ returns-clause-hand c =
     took_at image marks c.args.self.now.pending.items c.push_reserved.new.self.items c.args.holder c.args.i c.args.role c.in-Some.next block c.long-block.ensures c.requires.hand place
     (λ other p. same_Some other c.in-Some.next (sym ((c.place_role.ensures other).1 p) ∙ c.in-Some.is))
     inside c.in_default-look.ensures none c.push_reserved.ensures.items
+
+pub returns-else-has_places-clause-hand : goal.returns-else-has_places-clause-hand
+returns-else-has_places-clause-hand c =
+    let image = c.args.source.now.bytes in
+    let marks = c.args.self.now.marks.items in
+    let block = c.long-block.result in
+    let place = (c.place_role.ensures c.in-Some.next).0 c.in-Some.is in
+    let inside : InImage image block = (c.if-block-lt-BOOT_BLOCKS.false, omega (arith, c.if-blocks-block.false, c.blocks-else-block-lt-BOOT_BLOCKS.ensures.count)) in
+    let there : block < length marks = omega (arith, inside.1, c.requires.hand.but.size) in
+    let none : mark_at marks block ≡ None = mark_read marks block c.index.result.now there c.index.ensures ∙ none_is c.index.result.now (sym c.is_some.ensures ∙ c.if-is_some.false) in
+    took_unplaced image marks c.args.self.now.pending.items c.args.holder c.args.i c.args.role c.in-Some.next block c.long-block.ensures c.requires.hand place
+    (λ other p. same_Some other c.in-Some.next (sym ((c.place_role.ensures other).1 p) ∙ c.in-Some.is))
+    inside c.in_default-look.ensures none (c.has_places.ensures c.if-has_places.false image block)

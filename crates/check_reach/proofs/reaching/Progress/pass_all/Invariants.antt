@@ -1,6 +1,6 @@
 use Rattle.std.proofs.Common.{◌≡◌, ◌≤◌, vec_capacity}
 use Rattle.check_reach.specs.steps.Reaching.{IsInHand, work}
-use Rattle.check_reach.proofs.reaching.Progress.go_through.Given as goal
+use Rattle.check_reach.proofs.reaching.Progress.pass_all.Given as goal
 
 abbrev pub invariant-loop-i : goal.invariant-loop-i
 invariant-loop-i l = record {
