@@ -7,7 +7,7 @@ pub returns-clause-stands : goal.returns-clause-stands
 returns-clause-stands c = λ t s.
     let entry = c.requires.key t s in
     let n = some_in (t.nodes c.args.key) entry.0 in
-    protected_stands c.args.image.now c.settle_long.new.image t s c.args.key n.0 n.1 c.settle_long.ensures.sum c.args.bits.0 entry.1 c.settle_long.ensures.rest (c.settle_long.ensures.long ∙ c.bits.ensures)
+    protected_stands c.args.image.now c.settle_long.new.image t s c.args.key n.0 n.1 (c.settle_long.ensures.sum (s.nodes c.args.key n.0 n.1).sum) c.args.bits.0 entry.1 c.settle_long.ensures.rest (c.settle_long.ensures.long ∙ c.bits.ensures)
 
 pub returns-clause-kept : goal.returns-clause-kept
 returns-clause-kept c =
