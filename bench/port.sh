@@ -1,7 +1,7 @@
 #!/bin/sh
 # Prints round trips a second through the port for 1, 2, 4 and 8 client threads, and beside them the same over channels of
 # Rust's own library and of `crossbeam`, once taken by `recv`, which sleeps where nothing comes, and once by looks with a yield
-# between them; the best of three runs of each. It needs the machine's rustc beside the kit, and for crossbeam its cargo and
+# between them; the best of five runs of each. It needs the machine's rustc beside the kit, and for crossbeam its cargo and
 # Debian's package librust-crossbeam-channel-dev.
 . "$(dirname "$0")/setup.sh"
 bench=$(program bench)
@@ -20,7 +20,7 @@ else
     RUSTFLAGS= rustc --edition 2021 -O -Awarnings -o "$room/port_peer" "$here/port_peer.rs"
 fi
 
-for run in 1 2 3; do
+for run in 1 2 3 4 5; do
     "$bench" port 100000 2>> "$room/told"
     "$room/port_peer" >> "$room/told"
 done

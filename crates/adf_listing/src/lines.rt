@@ -1,6 +1,5 @@
 //! The lines of a list.
-ghost use Rattle.std.specs.Prelude.{◌≡◌, ◌++◌, IfOk, OnOk};
-ghost use Rattle.std.specs.String.{string_bytes};
+ghost use Rattle.std.specs.Prelude.{◌≡◌, ◌++◌, OnOk};
 ghost use Rattle.ados_name.specs.Protection.{letters};
 ghost use Rattle.adf_script.specs.Text.{line, spaced};
 ghost use Rattle.adf_listing.specs.Listing.{right_in, shown, size_text};
@@ -8,6 +7,7 @@ ghost use Rattle.adf_listing.specs.steps.Going.{PushesLine};
 
 use adf_text::letter_text;
 use ados_packet::FileInfo;
+use itoa::Buffer;
 use std::alloc::{AllocError, Global};
 
 /// The entry type of a file.
@@ -26,7 +26,8 @@ pub(crate) fn push_entry(
 ) -> Result<(), AllocError>
     ensures { OnOk result (PushesLine letters text.old.items text.new.items info.now path.now) }
 {
-    let size = size_text(alloc, info)?;
+    let mut digits = Buffer::new();
+    let size = size_word(&mut digits, info);
     let date = info.date.text(alloc)?;
     push_right(text, size.as_bytes())?;
     push_spaced(text, &info.protection.letters())?;
@@ -55,14 +56,13 @@ pub(crate) fn push_names(
 }
 
 /// The bytes of a file as a number, or `dir`.
-fn size_text(alloc: Global, info: &FileInfo) -> Result<String, AllocError>
-    ensures { IfOk result (λ text. string_bytes text ≡ size_text info.now) }
+fn size_word<'a>(digits: &'a mut Buffer, info: &FileInfo) -> &'a str
+    ensures { result.now ≡ size_text info.now }
 {
     if info.entry_type == FILE {
-        let size = info.size;
-        format!(in alloc; "{size}")
+        digits.format(info.size)
     } else {
-        String::from_str(alloc, "dir")
+        "dir"
     }
 }
 

@@ -3,7 +3,7 @@
 use adf_block::{BootKind, Format, Image};
 use cases_drawn::{checked, filled_image, floppy, long_at, put, settle, settle_page};
 use check_image::accepted_kind;
-use check_source::Sketch;
+use check_source::{Sketch, whole_pages};
 use std::alloc::Global;
 use std::test::Fail;
 
@@ -60,5 +60,21 @@ fn sketch_of_a_page_like_data(rt: HostRuntime) -> Result<(), Fail> {
     put(&mut image, 881, &[(0, 8), (100, sum.wrapping_sub(8))]);
     assert_eq!(&rt; shown(rt.alloc(), &image)?, None);
     checked(rt.alloc(), image)?;
+    Ok(())
+}
+
+/// Room below the bound stays as it is; other room makes whole huge pages with the 32 bytes of the allocator.
+#[test]
+fn room_in_whole_huge_pages(rt: HostRuntime) -> Result<(), Fail> {
+    let rows = [
+        (901_121, 16_777_216, 901_121),
+        (901_121, 524_288, 2_097_120),
+        (2_097_120, 524_288, 2_097_120),
+        (2_097_152, 524_288, 4_194_272),
+        (52_020_224, 16_777_216, 52_428_768),
+    ];
+    for (room, least, whole) in rows {
+        assert_eq!(&rt; whole_pages(room, least), whole, "for {room} bytes");
+    }
     Ok(())
 }

@@ -7,7 +7,7 @@ use Rattle.adf_listing.proofs.lines.push_entry.Goals as goal
 
 pub returns : goal.returns
 returns c =
-    let size = c.in_ok-push_right.ensures ∙ ap (λ (w : List ℕ). c.args.text.now.items ++ right_in 8 w) (c.as_bytes.ensures.value ∙ c.in_ok-size.ensures) in
+    let size = c.in_ok-push_right.ensures ∙ ap (λ (w : List ℕ). c.args.text.now.items ++ right_in 8 w) (c.as_bytes.ensures.value ∙ c.size_word-size.ensures) in
     let letters = c.in_ok-push_spaced.ensures ∙ ap₂ (λ (l w : List ℕ). l ++ spaced w) size c.letters.ensures in
     let date = c.in_ok-push_spaced-2.ensures ∙ ap₂ (λ (l w : List ℕ). l ++ spaced w) letters c.as_bytes-2.ensures.value in
     let names = shown c.args.letters c.args.path.now in
