@@ -1,6 +1,7 @@
 #!/bin/sh
 # Prints one table of this program beside ADFlib in process (built from Debian's source of `unadf`, which is fetched), `unadf`
-# where the machine has it, and `cat` of the image's file as the limit: full images that are listed, checked and read, files
+# where the machine has it, and two limits: `cat` of the image's file, and a program that reads it and adds up each block, the
+# least that a check can do (`bench/summed.rs`). The rows are full images that are listed, checked and read, files
 # that are made in ten directories and in the root, and one file of 819,200 bytes, in both kinds. The word is the size of the
 # full images in blocks, 1,760 if there is none. Each time is the best of 5 runs. It needs the machine's rustc and cc,
 # `apt-get`, and dpkg-source of Debian's dpkg-dev.
@@ -9,7 +10,7 @@ runs=5
 blocks=${1:-1760}
 serve=$(program adf_serve)
 bench=$(program bench)
-tools full_image best_of
+tools full_image best_of summed
 build adf_serve
 build bench changes
 
@@ -27,7 +28,7 @@ least() {
             END { for (i = 2; i <= NF; i++) printf "%d ", best[i] }'
 }
 
-row() { printf '%-4s %-34s %10s %10s %10s %10s\n' "$@"; }
+row() { printf '%-4s %-34s %10s %10s %10s %10s %10s\n' "$@"; }
 
 # The figure before the first, and what the second took behind the first.
 first() { echo "$1"; }
@@ -36,7 +37,7 @@ second() { echo "$(($2 - $1))"; }
 echo "Microseconds, best of $runs; full images of $blocks blocks with the start of the program, changes in a volume's memory"
 echo "(this program) or image file (ADFlib) without it."
 echo
-row kind what adf_serve ADFlib unadf cat
+row kind what adf_serve ADFlib unadf cat summed
 for kind in ofs ffs; do
     file=$room/$kind.adf
     "$room/full_image" $kind "$blocks" "$file" > "$room/written"
@@ -46,16 +47,17 @@ for kind in ofs ffs; do
     unadf=-
     if command -v unadf > /dev/null; then unadf=$(best unadf -lr "$file"); fi
     cat=$(best cat "$file")
-    row $kind list "$(best "$serve" list "$file")" "$(best "$room/peer" list "$file")" "$unadf" "$cat"
-    row $kind check "$(best "$serve" check "$file")" - - "$cat"
-    row $kind 'read of all files' "$(best "$bench" volume "$file")" "$(best "$room/peer" read "$file")" - "$cat"
+    summed=$(best "$room/summed" "$file")
+    row $kind list "$(best "$serve" list "$file")" "$(best "$room/peer" list "$file")" "$unadf" "$cat" "$summed"
+    row $kind check "$(best "$serve" check "$file")" - - "$cat" "$summed"
+    row $kind 'read of all files' "$(best "$bench" volume "$file")" "$(best "$room/peer" read "$file")" - "$cat" "$summed"
     for dirs in 10 0; do
         where=$([ $dirs = 0 ] && echo 'in the root' || echo 'in ten directories')
         row $kind "1,000 files made $where" "$(first $(least small "$bench" changes 1000 $dirs $kind))" \
-            "$(first $(least small "$room/peer" changes "$room/new" $kind 1000 $dirs))" - -
+            "$(first $(least small "$room/peer" changes "$room/new" $kind 1000 $dirs))" - - -
     done
     ours=$(least large "$bench" changes 20 2 $kind)
     theirs=$(least large "$room/peer" changes "$room/new" $kind 20 2)
-    row $kind '819,200 bytes in one call' "$(first $ours)" "$(first $theirs)" - -
-    row $kind '819,200 bytes in calls of 512' "$(second $ours)" "$(second $theirs)" - -
+    row $kind '819,200 bytes in one call' "$(first $ours)" "$(first $theirs)" - - -
+    row $kind '819,200 bytes in calls of 512' "$(second $ours)" "$(second $theirs)" - - -
 done
