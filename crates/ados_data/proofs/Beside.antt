@@ -1,8 +1,9 @@
 -- What stays where fields of one block are set.
-use Rattle.std.proofs.Common.{◌≡◌, ◌≢◌, ℕ, ◌+◌, ◌*◌, ◌<◌, inl, inr, List, sym, ◌∙◌, arith}
+use Rattle.std.proofs.Common.{◌≡◌, ◌≢◌, ℕ, ◌+◌, ◌*◌, ◌%◌, ◌^◌, ◌<◌, inl, inr, List, sym, ap, ◌∙◌, arith}
 use Rattle.adf_block.specs.Image.{byte_at, long, block_sum}
 use Rattle.adf_block.specs.Frame.{SameBut}
 use Rattle.adf_block.proofs.Longs.{long-bytes}
+use Rattle.adf_block.proofs.Totals.{total-same}
 use Rattle.adf_block.proofs.Frames.{same_long, same_sum}
 use Rattle.ados_data.specs.steps.Edits.{AtField, AtFields}
 
@@ -31,3 +32,8 @@ pub empty_long : (image : List ℕ) (b : ℕ) → ((k : ℕ) → k < 512 → byt
 empty_long image b h i l =
     long-bytes image b i
     ∙ omega (arith, h (4 * i + 0) (omega arith), h (4 * i + 1) (omega arith), h (4 * i + 2) (omega arith), h (4 * i + 3) (omega arith))
+
+-- the sum of such a block
+pub empty_sum : (image : List ℕ) (b : ℕ) → ((k : ℕ) → k < 512 → byte_at image b k ≡ 0) → block_sum image b ≡ 0
+unfolding block_sum
+empty_sum image b h = ap (λ (n : ℕ). n % 2 ^ 32) (total-same (λ i. 0) (long image b) 128 (λ i l. empty_long image b h i l))

@@ -1,5 +1,5 @@
 -- Below which block none is free.
-use Rattle.std.proofs.Common.{◌≡◌, ℕ, ◌/◌, ◌≤◌, ◌<◌, List, length, slice_index, inl, inr, false, sym, ap, subst, arith}
+use Rattle.std.proofs.Common.{◌≡◌, ℕ, ◌≤◌, ◌<◌, List, length, slice_index, inl, inr, false, subst, arith}
 use Rattle.adf_block.specs.Image.{block_count, has_free_bit, IsInside}
 use Rattle.ados_map.specs.Pages.{NoneFreeBelow}
 use Rattle.ados_data.specs.Others.{Gains}

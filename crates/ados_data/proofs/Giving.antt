@@ -85,7 +85,7 @@ module _ (old : List ℕ) (b : ℕ) (new : List ℕ) (m : BitChanged old b true 
     header = λ k l f. untouched_given file header_beside k l;
     header_sum = λ e. untouched_sum old new file (untouched_given file header_beside) ∙ e;
     page_sums = λ p l e. elim (cases_eq p (page_of b)) [
-      | inl same ↦ ap (λ (x : ℕ). block_sum new (page_block old x)) same ∙ m.sum
+      | inl same ↦ ap (λ (x : ℕ). block_sum new (page_block old x)) same ∙ m.sum ∙ ap (λ (x : ℕ). block_sum old (page_block old x)) (sym same) ∙ e
       | inr ne ↦ untouched_sum old new (page_block old p) (λ k r. m.rest.same_byte (page_block old p) k r (λ at. ne (map.pages.apart p (page_of b) l page_within at.0))) ∙ e
     ];
   }

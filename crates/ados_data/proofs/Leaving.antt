@@ -92,7 +92,7 @@ leaves_taken old b new file blocks extensions n ok m header_used = record {
   header = λ k l f. n.rest.same_byte file k l (no_header k);
   header_sum = λ e. untouched_sum old new file (λ k l. n.rest.same_byte file k l (no_header k)) ∙ e;
   page_sums = λ p l e. elim (cases_eq p (page_of b)) [
-    | inl same ↦ ap (λ (x : ℕ). block_sum new (page_block old x)) same ∙ n.page_sum
+    | inl same ↦ ap (λ (x : ℕ). block_sum new (page_block old x)) same ∙ n.page_sum ∙ ap (λ (x : ℕ). block_sum old (page_block old x)) (sym same) ∙ e
     | inr ne ↦ untouched_sum old new (page_block old p) (λ k r. n.rest.same_byte (page_block old p) k r (no_page p k l ne)) ∙ e
   ];
 }

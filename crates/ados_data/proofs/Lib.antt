@@ -24,6 +24,7 @@ pub mod Appending
 pub mod Overlaid
 pub mod Filling
 pub mod Overlaying
+pub mod LongerBytes
 pub mod Lengthening
 pub mod Giving
 pub mod CutKeeping

@@ -1,7 +1,7 @@
 -- A list with others over a part of it.
-use Rattle.std.proofs.Common.{◌≡◌, ℕ, ◌+◌, ◌-◌, ◌<◌, ◌≤◌, ◌++◌, inl, inr, List, length, replicate, take, drop, slice_index, sym, ap, ◌∙◌, arith}
+use Rattle.std.proofs.Common.{◌≡◌, ℕ, ◌+◌, ◌-◌, ◌<◌, ◌≤◌, ◌++◌, inl, inr, List, length, replicate, take, drop, slice_index, refl, sym, ap, ◌∙◌, arith}
 use Rattle.std.proofs.lemmas.Bool.{cases_lt}
-use Rattle.std.proofs.lemmas.List.{ext_get_or, get_or_append_left, get_or-append_right, get_or-take, get_or-drop, length-take, length-drop, length-append, length-replicate}
+use Rattle.std.proofs.lemmas.List.{ext_get_or, get_or_append_left, get_or-append_right, get_or-take, get_or-drop, length-take, length-drop, length-append, length-replicate, get_or-replicate}
 use Rattle.ados_data.specs.File.{overlaid}
 
 module _ (xs : List ℕ) (pos : ℕ) (ys : List ℕ) (room : pos ≤ length xs) where
@@ -81,5 +81,24 @@ overlaid_zeros xs pos ys n h e =
       | inr a ↦ elim (cases_lt k (pos + length ys)) [
         | inl b ↦ overlaid_within (xs ++ replicate n 0) pos ys (omega (arith, zl)) k a b ∙ sym (overlaid_within xs pos ys h k a b)
         | inr b ↦ overlaid_behind (xs ++ replicate n 0) pos ys (omega (arith, zl)) k b ∙ get_or_append_left xs (replicate n 0) 0 k (omega (arith, l, left, zl, e, b)) ∙ sym (overlaid_behind xs pos ys h k b)
+      ]
+    ])
+
+-- zeros over zeros
+pub zeros_over : (xs : List ℕ) (n part : ℕ) (ys : List ℕ) → part ≤ n → part ≤ 512 → ys ≡ take part (replicate 512 0) → overlaid (xs ++ replicate n 0) (length xs) ys ≡ xs ++ replicate n 0
+zeros_over xs n part ys l few e =
+    let whole : length (xs ++ replicate n 0) ≡ length xs + n = length-append xs (replicate n 0) ∙ ap (λ (m : ℕ). length xs + m) (length-replicate {A = ℕ} n 0) in
+    let count : length ys ≡ part = ap length e ∙ length-take part (replicate 512 0) ∙ omega (arith, few, length-replicate {A = ℕ} 512 0) in
+    let same : length (overlaid (xs ++ replicate n 0) (length xs) ys) ≡ length (xs ++ replicate n 0) = length-overlaid (xs ++ replicate n 0) (length xs) ys (omega (arith, whole)) (omega (arith, whole, count, l)) in
+    ext_get_or 0 (overlaid (xs ++ replicate n 0) (length xs) ys) (xs ++ replicate n 0) same
+    (λ k m. elim (cases_lt k (length xs)) [
+      | inl a ↦ overlaid_before (xs ++ replicate n 0) (length xs) ys (omega (arith, whole)) k a
+      | inr a ↦ elim (cases_lt k (length xs + length ys)) [
+        | inl b ↦
+            let there : slice_index ys (k - length xs) ≡ 0 =
+            ap (λ (zs : List ℕ). slice_index zs (k - length xs)) e ∙ get_or-take part (replicate 512 0) (k - length xs) 0 (omega (arith, a, b, count)) ∙ get_or-replicate 512 (k - length xs) 0 0 (omega (arith, a, b, count, few)) in
+            let here : slice_index (xs ++ replicate n 0) k ≡ 0 = get_or-append_right xs (replicate n 0) (length xs) k 0 refl a ∙ get_or-replicate n (k - length xs) 0 0 (omega (arith, a, b, count, l)) in
+            overlaid_within (xs ++ replicate n 0) (length xs) ys (omega (arith, whole)) k a b ∙ there ∙ sym here
+        | inr b ↦ overlaid_behind (xs ++ replicate n 0) (length xs) ys (omega (arith, whole)) k b
       ]
     ])

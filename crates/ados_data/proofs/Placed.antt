@@ -1,5 +1,5 @@
 -- The place where a call stands in a file.
-use Rattle.std.proofs.Common.{◌≡◌, ℕ, ◌≤◌, List, ◌∷◌, length, take, slice_index, sym, ap, ◌∙◌, arith}
+use Rattle.std.proofs.Common.{◌≡◌, ℕ, List, ◌∷◌, length, take, slice_index, sym, ap, ◌∙◌, arith}
 use Rattle.std.proofs.lemmas.List.{length-take}
 use Rattle.adf_block.specs.declared.Format.{Format}
 use Rattle.adf_block.specs.Fields.{file_size}

@@ -106,3 +106,13 @@ some_blocks Ffs a l = omega arith
 pub ofs_count : (format : Format) (d size : ℕ) → d ≡ data_count format size → format ≡ Ofs → (d ≡ (size + 487) / 488) × (488 * (d - 1) ≤ size)
 ofs_count Ofs d size e t = (omega arith, omega arith)
 ofs_count Ffs d size e t = cc
+
+-- bytes within the blocks of a file
+pub within_blocks : (format : Format) (k size : ℕ) → k < size → k < data_size format * data_count format size
+within_blocks Ofs k size l = omega arith
+within_blocks Ffs k size l = omega arith
+
+-- a size past so many blocks takes more
+pub more_blocks : (format : Format) (d size : ℕ) → data_size format * d < size → d < data_count format size
+more_blocks Ofs d size l = omega arith
+more_blocks Ffs d size l = omega arith

@@ -1,11 +1,11 @@
 -- Bytes put into a file's data blocks, and its size, keep the rest to the byte.
-use Rattle.std.proofs.Common.{◌≡◌, ℕ, suc, ◌+◌, ◌-◌, ◌/◌, ◌%◌, ◌<◌, ◌≤◌, ◌⊎◌, inl, inr, List, ◌∷◌, length, slice_index, sym, ◌∙◌, subst, arith}
+use Rattle.std.proofs.Common.{◌≡◌, ℕ, suc, ◌+◌, ◌-◌, ◌/◌, ◌%◌, ◌<◌, ◌≤◌, ◌⊎◌, inl, inr, List, ◌∷◌, length, slice_index, sym, subst, arith}
 use Rattle.std.proofs.lemmas.Bool.{cases_lt, cases_eq}
 use Rattle.adf_block.specs.declared.Format.{Format}
 use Rattle.adf_block.specs.declared.Format.TheVariants.{Ofs, Ffs}
 use Rattle.adf_block.specs.Fields.{pointer_count, file_size, pointer_count_long, size_long, next_extension, next_data}
 use Rattle.adf_block.specs.Frame.{SameBut}
-use Rattle.adf_block.proofs.Frames.{same_long, same_trans, same_weaken}
+use Rattle.adf_block.proofs.Frames.{same_long}
 use Rattle.ados_data.specs.Cost.{data_size, data_start}
 use Rattle.ados_data.specs.steps.Edits.{AtData, AtFields}
 use Rattle.ados_data.specs.File.{format_of}
@@ -59,46 +59,40 @@ module _ (old : List ℕ) (format : Format) (file : ℕ) (blocks extensions : Li
       (λ j k l at. in_format (file_size new file) j k (put_within (file_size new file) j k reached l at))
       (same_long Put old new h file 4 (omega arith) (λ k e. header_beside 0 k (omega arith)))
 
-  -- bytes, and then the size
-  module _ (mid new : List ℕ) (size' : ℕ) (some : 0 < length blocks) (h : SameBut (AtData format (slice_index blocks i) low high) old mid)
-      (y : IsResized mid format file (slice_index (file ∷ extensions) (length extensions)) (slice_index blocks (length blocks - 1)) (length blocks) size' new) (reached : high ≤ data_end format size' i) where
-    abbrev Resized : ℕ → ℕ → Type 0
-    Resized c k = AtEnd format (length blocks) (slice_index blocks (length blocks - 1)) c k ⊎ (AtFields (slice_index (file ∷ extensions) (length extensions)) pointer_count_long next_extension c k ⊎ AtFields file next_data size_long c k)
+-- the size alone
+module _ (old new : List ℕ) (format : Format) (file : ℕ) (blocks extensions : List ℕ) (size size' : ℕ) (s : Standing old format file blocks extensions size) (some : 0 < length blocks)
+    (y : IsResized old format file (slice_index (file ∷ extensions) (length extensions)) (slice_index blocks (length blocks - 1)) (length blocks) size' new) where
+  abbrev Resized : ℕ → ℕ → Type 0
+  Resized c k = AtEnd format (length blocks) (slice_index blocks (length blocks - 1)) c k ⊎ (AtFields (slice_index (file ∷ extensions) (length extensions)) pointer_count_long next_extension c k ⊎ AtFields file next_data size_long c k)
 
-    abbrev Changed : ℕ → ℕ → Type 0
-    Changed c k = Put c k ⊎ Resized c k
+  beside : (c k : ℕ) → IsBeside old file blocks extensions c → ¬ Resized c k
+  beside c k o (inl at) = o.beside_data (length blocks - 1) (omega (arith, some)) at.2.0
+  beside c k o (inr (inl at)) = o.beside_headers (length extensions) (omega arith) at.0
+  beside c k o (inr (inr at)) = o.beside_headers 0 (omega arith) at.0
 
-    rest : SameBut Changed old new
-    rest = same_trans Changed old mid new (same_weaken Put Changed old mid (λ c k at. inl at) h) (same_weaken Resized Changed mid new (λ c k at. inr at) y.rest)
+  in_header : (q k : ℕ) → q ≤ length extensions → Resized (slice_index (file ∷ extensions) q) k → IsPointerField (pointer_count new (slice_index (file ∷ extensions) q)) (k / 4) ⊎ ((slice_index (file ∷ extensions) q ≡ file) × ((k / 4 ≡ 4) ⊎ (k / 4 ≡ size_long)))
+  in_header q k l (inl at) = absurd (s.places.apart q (length blocks - 1) l (omega (arith, some)) at.2.0)
+  in_header q k l (inr (inl (at, inl z))) = inl (inl z)
+  in_header q k l (inr (inl (at, inr (inl z)))) = inl (inr (inr (inr z)))
+  in_header q k l (inr (inl (at, inr (inr z)))) = inl (inr (inl z))
+  in_header q k l (inr (inr (at, inl z))) = inr (at, inl z)
+  in_header q k l (inr (inr (at, inr (inl z)))) = inr (at, inr z)
+  in_header q k l (inr (inr (at, inr (inr z)))) = inl (inr (inl z))
 
-    beside : (c k : ℕ) → IsBeside old file blocks extensions c → ¬ Changed c k
-    beside c k o (inl at) = o.beside_data i within at.0
-    beside c k o (inr (inl at)) = o.beside_data (length blocks - 1) (omega (arith, some)) at.2.0
-    beside c k o (inr (inr (inl at))) = o.beside_headers (length extensions) (omega arith) at.0
-    beside c k o (inr (inr (inr at))) = o.beside_headers 0 (omega arith) at.0
+  in_data : (j k : ℕ) → j < length blocks → Resized (slice_index blocks j) k → k < data_end (format_of old) size' j
+  in_data j k l at = subst (λ (f : Format). k < data_end f size' j) (sym s.format_is) (there at)
+    where
+      there : Resized (slice_index blocks j) k → k < data_end format size' j
+      there (inl (f, c, (at, inl z))) = header_within format size' j k f (omega (arith, z))
+      there (inl (f, c, (at, inr (inl z)))) = header_within format size' j k f (omega (arith, z))
+      there (inl (f, c, (at, inr (inr z)))) = header_within format size' j k f (omega (arith, z))
+      there (inr (inl at)) = absurd (s.places.apart (length extensions) j (omega arith) l (sym at.0))
+      there (inr (inr at)) = absurd (s.places.apart 0 j (omega arith) l (sym at.0))
 
-    in_header : (q k : ℕ) → q ≤ length extensions → Changed (slice_index (file ∷ extensions) q) k → IsPointerField (pointer_count new (slice_index (file ∷ extensions) q)) (k / 4) ⊎ ((slice_index (file ∷ extensions) q ≡ file) × ((k / 4 ≡ 4) ⊎ (k / 4 ≡ size_long)))
-    in_header q k l (inl at) = absurd (header_beside q k l at)
-    in_header q k l (inr (inl at)) = absurd (s.places.apart q (length blocks - 1) l (omega (arith, some)) at.2.0)
-    in_header q k l (inr (inr (inl (at, inl z)))) = inl (inl z)
-    in_header q k l (inr (inr (inl (at, inr (inl z))))) = inl (inr (inr (inr z)))
-    in_header q k l (inr (inr (inl (at, inr (inr z))))) = inl (inr (inl z))
-    in_header q k l (inr (inr (inr (at, inl z)))) = inr (at, inl z)
-    in_header q k l (inr (inr (inr (at, inr (inl z))))) = inr (at, inr z)
-    in_header q k l (inr (inr (inr (at, inr (inr z))))) = inl (inr (inl z))
-
-    in_data : (j k : ℕ) → j < length blocks → Changed (slice_index blocks j) k → k < data_end format size' j
-    in_data j k l (inl at) = put_within size' j k reached l at
-    in_data j k l (inr (inl (f, c, (at, inl z)))) = header_within format size' j k f (omega (arith, z))
-    in_data j k l (inr (inl (f, c, (at, inr (inl z))))) = header_within format size' j k f (omega (arith, z))
-    in_data j k l (inr (inl (f, c, (at, inr (inr z))))) = header_within format size' j k f (omega (arith, z))
-    in_data j k l (inr (inr (inl at))) = absurd (s.places.apart (length extensions) j (omega arith) l (sym at.0))
-    in_data j k l (inr (inr (inr at))) = absurd (s.places.apart 0 j (omega arith) l (sym at.0))
-
-    pub keeps_filled : KeepsUnnamed old file blocks extensions new blocks extensions
-    keeps_filled =
-        keeps_within Changed old new file blocks extensions rest beside
-        (λ k at. elim (in_header 0 k (omega arith) at) [ inl z ↦ inl z | inr z ↦ inr z.1 ])
-        (λ q k l at. elim (in_header (suc q) k (omega arith) at) [ inl z ↦ z | inr z ↦ absurd (s.places.headers_once 0 (suc q) (omega arith) (omega arith) (sym z.0)) ])
-        (λ j k l at. subst (λ (n : ℕ). k < data_end (format_of old) n j) (sym y.sized) (in_format size' j k (in_data j k l at)))
-        (y.first some ∙ same_long Put old mid h file 4 (omega arith) (λ k e. header_beside 0 k (omega arith)))
+  pub keeps_resized : KeepsUnnamed old file blocks extensions new blocks extensions
+  keeps_resized =
+      keeps_within Resized old new file blocks extensions y.rest beside
+      (λ k at. elim (in_header 0 k (omega arith) at) [ inl z ↦ inl z | inr z ↦ inr z.1 ])
+      (λ q k l at. elim (in_header (suc q) k (omega arith) at) [ inl z ↦ z | inr z ↦ absurd (s.places.headers_once 0 (suc q) (omega arith) (omega arith) (sym z.0)) ])
+      (λ j k l at. subst (λ (n : ℕ). k < data_end (format_of old) n j) (sym y.sized) (in_data j k l at))
+      (y.first some)

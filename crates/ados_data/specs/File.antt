@@ -1,8 +1,8 @@
 -- What a file's blocks spell.
-use Rattle.std.specs.Prelude.{◌≡◌, ◌≢◌, ℕ, zero, suc, ◌+◌, ◌-◌, ◌*◌, ◌/◌, ◌%◌, ◌<◌, ◌≤◌, ◌==◌, min, List, ◌∷◌, ◌++◌, length, take, drop, map, slice_index, if◌then◌else◌}
+use Rattle.std.specs.Prelude.{◌≡◌, ◌≢◌, ℕ, zero, suc, ◌+◌, ◌-◌, ◌*◌, ◌/◌, ◌%◌, ◌<◌, ◌≤◌, min, List, ◌∷◌, ◌++◌, length, take, drop, map, slice_index}
 use Rattle.std.specs.List.{range_with_len}
 use Rattle.adf_block.specs.declared.Format.{Format}
-use Rattle.adf_block.specs.declared.Format.TheVariants.{Ofs, Ffs}
+use Rattle.adf_block.specs.declared.Format.TheVariants.{Ofs}
 use Rattle.adf_block.specs.Image.{byte_at, long, block_sum, block_count, IsInside}
 use Rattle.adf_block.specs.Chained.{Chained}
 use Rattle.adf_block.specs.Fields.{primary_type, own_key, pointer_count, sequence_number, held_count, next_data, pointer, file_size, parent_key, next_extension, secondary_type, file_type, data_type, list_type, table_longs, ofs_room}

@@ -61,7 +61,8 @@ pub fn make_extension(image: &mut Image, b: u32, file: u32)
 /// Makes block `b`, which is empty, a data block of a file, the one with this sequence number. It holds
 /// nothing yet; in FFS it has no fields.
 pub fn make_data(image: &mut Image, format: Format, b: u32, file: u32, sequence: u32)
-    requires { b < block_count image.old }
+    requires inside { b < block_count image.old }
+    requires settled { block_sum image.old b ≡ 0 }
     ensures primary { format ≡ Format.Ofs → primary_type image.new b ≡ 8 }
     ensures header { format ≡ Format.Ofs → own_key image.new b ≡ file }
     ensures sequence { format ≡ Format.Ofs → sequence_number image.new b ≡ sequence }
@@ -71,9 +72,7 @@ pub fn make_data(image: &mut Image, format: Format, b: u32, file: u32, sequence:
     ensures rest { SameBut (AtDataFields format b) image.old image.new }
 {
     if format == Format::Ofs {
-        image.set_long(b, PRIMARY_TYPE, DATA_TYPE);
-        image.set_long(b, OWN_KEY, file);
-        image.set_long(b, SEQUENCE, sequence);
-        image.settle(b, SUM);
+        set_fields(image, b, PRIMARY_TYPE, DATA_TYPE, OWN_KEY, file);
+        set_field(image, b, SEQUENCE, sequence);
     }
 }

@@ -8,7 +8,7 @@ ghost use Rattle.ados_data.specs.Cost.{data_size};
 ghost use Rattle.ados_data.specs.File.{LawfulFile, contents, data_blocks, extension_blocks, format_of};
 ghost use Rattle.ados_data.specs.Changing.{HasFree, PaysFor, WritableFile};
 ghost use Rattle.ados_data.specs.Place.{IsPlace};
-ghost use Rattle.ados_data.specs.steps.FileEnd.{IsEnd};
+ghost use Rattle.ados_data.specs.steps.FileEnd.{IsEnd, IsLonger};
 ghost use Rattle.ados_data.specs.Others.{FileGains, LeavesOthers};
 ghost use Rattle.ados_data.specs.Unnamed.{FileKeepsUnnamed};
 
@@ -17,13 +17,9 @@ use crate::blocks::{new_block, pointer_room};
 use crate::cost::{data_count, data_size, extension_count};
 use crate::fields::data_block;
 use crate::place::{Place, pointer_block};
-use crate::put::put_data;
 use crate::resize::resize;
-use adf_block::layout::{FFS_ROOM, MOST_BLOCKS, SIZE};
+use adf_block::layout::{MOST_BLOCKS, SIZE};
 use adf_block::{Format, Image};
-
-/// The most bytes that a data block has room for.
-const ROOM: usize = FFS_ROOM as usize;
 
 /// The end of a file.
 #[derive(Clone, Copy)]
@@ -58,7 +54,7 @@ pub fn end_of(image: &Image, format: Format, file: u32, near: Place) -> End
 }
 
 /// Makes a file longer within its last data block, up to this size if there is room, and answers the size
-/// that it then has. The bytes it gets are 0.
+/// that it then has. The bytes it gets are those that stand there.
 fn fill_last(image: &mut Image, format: Format, file: u32, end: End, size: u32) -> u32
     requires writable { WritableFile image.old file }
     requires format { format ≡ format_of image.old }
@@ -70,7 +66,7 @@ fn fill_last(image: &mut Image, format: Format, file: u32, end: End, size: u32) 
     ensures reached { result ≤ size }
     ensures over { length (contents image.old file) ≤ result }
     ensures full { result < size → result ≡ data_size format * end.count }
-    ensures bytes { contents image.new file ≡ contents image.old file ++ replicate (result - length (contents image.old file)) 0 }
+    ensures bytes { IsLonger format (contents image.old file) result (contents image.new file) }
     ensures free { free_bit_count image.new ≡ free_bit_count image.old }
     ensures leaves { LeavesOthers image.old file image.new }
     ensures gains { FileGains image.old file image.new }
@@ -86,8 +82,6 @@ fn fill_last(image: &mut Image, format: Format, file: u32, end: End, size: u32) 
         return old;
     }
     let part = (room - from).min((size - old) as usize);
-    let zeros = [0; ROOM];
-    put_data(image, format, end.last, from, &zeros[..part]);
     let reached = old + part as u32;
     resize(
         image, format, file, end.holder, end.last, end.count, reached,
@@ -131,11 +125,10 @@ fn append(image: &mut Image, format: Format, file: u32, end: End, size: u32, fro
     }
 }
 
-/// Makes a file longer, to this size. The bytes it gets are 0, and each block it gets is the lowest free
-/// one. It keeps its blocks. Bytes of them that no field names and the file doesn't reach stay, and so
-/// do all blocks but these and the pages; what the file doesn't use of a new block is 0. No block below
-/// `from` is free; the answer is such a bound for the next search.
-pub fn extend(image: &mut Image, file: u32, near: Place, size: u32, from: u32) -> u32
+/// Makes a file longer, to this size. What it gets of its last data block is what stands there, and 0 behind that. Each block
+/// it gets is the lowest free one, and what the file doesn't use of it is 0. It keeps its blocks. No block below `from` is
+/// free; the answer is such a bound for the next search.
+pub fn lengthen(image: &mut Image, file: u32, near: Place, size: u32, from: u32) -> u32
     requires writable { WritableFile image.old file }
     requires near { IsPlace image.old file near }
     requires below { NoneFreeBelow image.old from }
@@ -143,7 +136,7 @@ pub fn extend(image: &mut Image, file: u32, near: Place, size: u32, from: u32) -
     requires free { HasFree image.old file size }
     ensures writable { WritableFile image.new file }
     ensures format { format_of image.new ≡ format_of image.old }
-    ensures bytes { contents image.new file ≡ contents image.old file ++ replicate (size - length (contents image.old file)) 0 }
+    ensures bytes { IsLonger (format_of image.old) (contents image.old file) size (contents image.new file) }
     ensures below { NoneFreeBelow image.new result }
     ensures free { PaysFor image.old file size image.new }
     ensures leaves { LeavesOthers image.old file image.new }

@@ -16,8 +16,7 @@ mod write;
 
 pub use cost::blocks_of;
 pub use fields::format_of;
-pub use grow::extend;
 pub use place::{Place, place_at};
 pub use read::read_at;
 pub use shorten::cut;
-pub use write::write_at;
+pub use write::{extend, write_at};

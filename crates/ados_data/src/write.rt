@@ -1,8 +1,9 @@
 //! Writing over the bytes of a file.
 
-ghost use Rattle.std.specs.Prelude.{◌≡◌, ℕ, ◌≤◌, ◌+◌, length, max, take};
+ghost use Rattle.std.specs.Prelude.{◌≡◌, ℕ, ◌<◌, ◌≤◌, ◌+◌, ◌-◌, ◌*◌, ◌++◌, length, max, min, replicate, take};
 ghost use Rattle.adf_block.specs.Image.{has_free_bit, free_bit_count};
 ghost use Rattle.ados_map.specs.Pages.{HasBit, NoneFreeBelow};
+ghost use Rattle.ados_data.specs.Cost.{data_count, data_size};
 ghost use Rattle.ados_data.specs.Others.{FileGains, LeavesOthers};
 ghost use Rattle.ados_data.specs.Unnamed.{FileKeepsUnnamed};
 ghost use Rattle.ados_data.specs.File.{contents, data_blocks, extension_blocks, format_of, overlaid};
@@ -11,11 +12,14 @@ ghost use Rattle.ados_data.specs.Place.{IsPlace};
 
 use crate::cost::data_size;
 use crate::fields::data_block;
-use crate::grow::extend;
+use crate::grow::lengthen;
 use crate::place::{Place, pointer_block};
 use crate::put::put_data;
 use adf_block::Image;
-use adf_block::layout::{MOST_BLOCKS, NEXT_EXTENSION, SIZE, TABLE_LONGS};
+use adf_block::layout::{FFS_ROOM, MOST_BLOCKS, NEXT_EXTENSION, SIZE, TABLE_LONGS};
+
+/// The most bytes that a data block has room for.
+const ROOM: usize = FFS_ROOM as usize;
 
 /// Writes bytes over those of a file from byte `pos` on; all of these are there.
 fn overlay(image: &mut Image, file: u32, near: Place, pos: u64, bytes: &[u8])
@@ -53,6 +57,41 @@ fn overlay(image: &mut Image, file: u32, near: Place, pos: u64, bytes: &[u8])
     }
 }
 
+/// Makes a file longer, to this size, and writes bytes over its own from byte `pos` on. They reach over all that the file gets
+/// of what was its last data block; behind them it gets zeros.
+fn write_longer(
+    image: &mut Image,
+    file: u32,
+    near: Place,
+    size: u32,
+    pos: u64,
+    bytes: &[u8],
+    from: u32,
+) -> u32
+    requires writable { WritableFile image.old file }
+    requires near { IsPlace image.old file near }
+    requires below { NoneFreeBelow image.old from }
+    requires longer { length (contents image.old file) ≤ size }
+    requires start { pos ≤ length (contents image.old file) }
+    requires within { pos + length bytes.now ≤ size }
+    requires over { length (contents image.old file) < size → min size (data_size (format_of image.old) * data_count (format_of image.old) (length (contents image.old file))) ≤ pos + length bytes.now }
+    requires free { HasFree image.old file size }
+    ensures writable { WritableFile image.new file }
+    ensures format { format_of image.new ≡ format_of image.old }
+    ensures bytes { contents image.new file ≡ overlaid (contents image.old file ++ replicate (size - length (contents image.old file)) 0) pos bytes.now }
+    ensures below { NoneFreeBelow image.new result }
+    ensures free { PaysFor image.old file size image.new }
+    ensures leaves { LeavesOthers image.old file image.new }
+    ensures gains { FileGains image.old file image.new }
+    ensures blocks { take (length (data_blocks image.old file)) (data_blocks image.new file) ≡ data_blocks image.old file }
+    ensures extensions { take (length (extension_blocks image.old file)) (extension_blocks image.new file) ≡ extension_blocks image.old file }
+    ensures keeps { FileKeepsUnnamed image.old file image.new }
+{
+    let bound = lengthen(image, file, near, size, from);
+    overlay(image, file, near, pos, bytes);
+    bound
+}
+
 /// Writes bytes to a file from byte `pos` on, over those that are there and behind them. Each block that the
 /// file gets is the lowest free one. Like `extend`, it changes no byte that it need not, and
 /// answers a bound for the next search.
@@ -75,7 +114,34 @@ pub fn write_at(image: &mut Image, file: u32, near: Place, pos: u64, bytes: &[u8
 {
     prove!(image.blocks() <= MOST_BLOCKS);
     let size = (image.long(file, SIZE) as u64).max(pos + bytes.len() as u64);
-    let bound = extend(image, file, near, size as u32, from);
-    overlay(image, file, near, pos, bytes);
-    bound
+    write_longer(image, file, near, size as u32, pos, bytes, from)
+}
+
+/// Makes a file longer, to this size. The bytes it gets are 0, and each block it gets is the lowest free
+/// one. It keeps its blocks. Bytes of them that no field names and the file doesn't reach stay, and so
+/// do all blocks but these and the pages; what the file doesn't use of a new block is 0. No block below
+/// `from` is free; the answer is such a bound for the next search.
+pub fn extend(image: &mut Image, file: u32, near: Place, size: u32, from: u32) -> u32
+    requires writable { WritableFile image.old file }
+    requires near { IsPlace image.old file near }
+    requires below { NoneFreeBelow image.old from }
+    requires longer { length (contents image.old file) ≤ size }
+    requires free { HasFree image.old file size }
+    ensures writable { WritableFile image.new file }
+    ensures format { format_of image.new ≡ format_of image.old }
+    ensures bytes { contents image.new file ≡ contents image.old file ++ replicate (size - length (contents image.old file)) 0 }
+    ensures below { NoneFreeBelow image.new result }
+    ensures free { PaysFor image.old file size image.new }
+    ensures leaves { LeavesOthers image.old file image.new }
+    ensures gains { FileGains image.old file image.new }
+    ensures blocks { take (length (data_blocks image.old file)) (data_blocks image.new file) ≡ data_blocks image.old file }
+    ensures extensions { take (length (extension_blocks image.old file)) (extension_blocks image.new file) ≡ extension_blocks image.old file }
+    ensures keeps { FileKeepsUnnamed image.old file image.new }
+{
+    prove!(image.blocks() <= MOST_BLOCKS);
+    let room = data_size(image.format());
+    let old = image.long(file, SIZE);
+    let part = (room - old as usize % room).min((size - old) as usize);
+    let zeros = [0; ROOM];
+    write_longer(image, file, near, size, old as u64, &zeros[..part], from)
 }

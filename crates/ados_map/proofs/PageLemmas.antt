@@ -93,11 +93,11 @@ other_mark old mid new k free lawful size inside first second put j has ne =
           ap (λ (v : ℕ). mark v ((j - 2) % 32)) (kept_long b l old mid new first second (page_block old (page_of j)) (map_long j) place behind (inl apart))
     ]
 
--- the bit of a block put into its map long, and then the sum settled
+-- the bit of a block put into its map long, and then the sum long moved against it
 pub marked_by : (old mid new : List ℕ) (k : ℕ) (free : Bool) → LawfulPages old → block_count old ≤ 101602 → IsInside (block_count old) k
     → OnlyLong (page_block old (page_of k)) (map_long k) old mid → OnlyLong (page_block old (page_of k)) 0 mid new
     → IsBitPut (long old (page_block old (page_of k)) (map_long k)) ((k - 2) % 32) free (long mid (page_block old (page_of k)) (map_long k))
-    → block_sum new (page_block old (page_of k)) ≡ 0 → BitChanged old k free new
+    → block_sum new (page_block old (page_of k)) ≡ block_sum old (page_block old (page_of k)) → BitChanged old k free new
 marked_by old mid new k free lawful size inside first second put sum =
     let b = page_block old (page_of k) in
     let k_page : page_of k < pages_of old = omega (arith, inside.0, inside.1) in

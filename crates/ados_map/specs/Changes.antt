@@ -10,11 +10,11 @@ use Rattle.ados_map.specs.Pages.{page_block, page_of, pages_of, map_long, HasBit
 abbrev pub MapPlace : List ℕ → ℕ → ℕ → ℕ → Type 0
 MapPlace image k c i = (c ≡ page_block image (page_of k)) × ((i / 4 ≡ page_sum_long) ⊎ (i / 4 ≡ map_long k))
 
--- the bit of block k is now as given, and the sum of its page is 0; no other bit, and no other byte, was changed
+-- the bit of block k is now as given, and the sum of its page is what it was; no other bit, and no other byte, was changed
 pub record BitChanged (old : List ℕ) (k : ℕ) (free : Bool) (new : List ℕ) : Type 0 where
   pub bit : has_free_bit new k ≡ free
   pub others : (j : ℕ) → HasBit old j → j ≢ k → has_free_bit new j ≡ has_free_bit old j
-  pub sum : block_sum new (page_block old (page_of k)) ≡ 0
+  pub sum : block_sum new (page_block old (page_of k)) ≡ block_sum old (page_block old (page_of k))
   pub rest : SameBut (MapPlace old k) old new
 
 -- the lowest free block was marked used, or none is free and nothing was changed

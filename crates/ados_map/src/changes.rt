@@ -36,7 +36,7 @@ pub fn give_back(image: &mut Image, b: u32)
     put_mark(image, b, true);
 }
 
-/// Sets or clears the bit of block `b`, and settles its page.
+/// Sets or clears the bit of block `b`. The sum long of its page moves against it, so that the page's sum stays.
 fn put_mark(image: &mut Image, b: u32, free: bool)
     requires pages { LawfulPages image.old }
     requires inside { IsInside (block_count image.old) b }
@@ -46,11 +46,12 @@ fn put_mark(image: &mut Image, b: u32, free: bool)
 {
     let page = page_at(image, (b - BOOT_BLOCKS) / PAGE_BITS);
     let long = FIRST_MAP_LONG + (b - BOOT_BLOCKS) % PAGE_BITS / LONG_BITS;
-    let bits = image.long(page, long);
-    image.set_long(
-        page,
-        long,
-        with_bit(bits, (b - BOOT_BLOCKS) % LONG_BITS, free),
-    );
-    image.settle(page, PAGE_SUM);
+    let old = image.long(page, long);
+    let new = with_bit(old, (b - BOOT_BLOCKS) % LONG_BITS, free);
+    let sum = image
+        .long(page, PAGE_SUM)
+        .wrapping_add(old)
+        .wrapping_sub(new);
+    image.set_long(page, long, new);
+    image.set_long(page, PAGE_SUM, sum);
 }

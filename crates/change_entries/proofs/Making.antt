@@ -137,7 +137,7 @@ module _ (old m1 m2 : List ℕ) (t : Tree) (st : Stands old t) (moment : Date3) 
           let here : page_block old m.0 ≡ page = page_there m.0 within ∙ at in
           let other : page ≢ key = λ e. key_no_page m.0 within (here ∙ e) in
           other_block_sum key m1 m2 filled page other ∙ elim (cases_eq (page_block old (page_of key)) page) [
-            | inl e ↦ ap (block_sum m1) (sym e) ∙ taken.sum
+            | inl e ↦ ap (block_sum m1) (sym e) ∙ taken.sum ∙ ap (block_sum old) e ∙ st.pages page m
             | inr n ↦ same_sum (MapPlace old key) old m1 taken.rest page (λ k o w. n (sym w.0)) ∙ st.pages page m
           ]
 

@@ -1,14 +1,13 @@
 -- What each small step of a change does: a block that is taken, linked in, or made the last one.
-use Rattle.std.specs.Prelude.{◌≡◌, ◌≢◌, ℕ, ◌+◌, ◌-◌, ◌*◌, ◌/◌, ◌%◌, ◌<◌, ◌≤◌, ◌⊎◌, List, ◌∷◌, length, slice_index, false}
+use Rattle.std.specs.Prelude.{◌≡◌, ◌≢◌, ℕ, ◌+◌, ◌-◌, ◌*◌, ◌/◌, ◌%◌, ◌<◌, ◌⊎◌, List, false}
 use Rattle.adf_block.specs.Fields.{primary_type_long, own_key_long, data_type, table_longs, pointer_count_long, first_pointer, size_long, next_extension, sequence_long, held_long, next_data, ofs_room}
 use Rattle.adf_block.specs.declared.Format.{Format}
 use Rattle.adf_block.specs.declared.Format.TheVariants.{Ofs}
-use Rattle.adf_block.specs.Image.{byte_at, long, block_sum, block_count, root_key, has_free_bit, free_bit_count}
+use Rattle.adf_block.specs.Image.{byte_at, long, block_sum, has_free_bit, free_bit_count}
 use Rattle.adf_block.specs.Frame.{SameBut}
-use Rattle.ados_map.specs.Pages.{LawfulPages, pages_of, page_block, page_of, HasBit, IsLowestFree}
+use Rattle.ados_map.specs.Pages.{LawfulPages, page_block, page_of, HasBit, IsLowestFree}
 use Rattle.ados_map.specs.Changes.{MapPlace}
-use Rattle.ados_data.specs.Cost.{block_cost}
-use Rattle.ados_data.specs.File.{format_of, HasExtension, IsLawful, data_blocks, extension_blocks, contents}
+use Rattle.ados_data.specs.File.{HasExtension}
 use Rattle.ados_data.specs.steps.Edits.{AtField, AtFields, AtExtensionFields, AtDataFields}
 
 -- the lowest free block was taken, and is empty; nothing else was changed but its bit
@@ -17,7 +16,7 @@ pub record IsNewBlock (old : List ℕ) (b : ℕ) (new : List ℕ) : Type 0 where
   pub marked : has_free_bit new b ≡ false
   pub others : (j : ℕ) → HasBit old j → j ≢ b → has_free_bit new j ≡ has_free_bit old j
   pub count : free_bit_count new + 1 ≡ free_bit_count old
-  pub page_sum : block_sum new (page_block old (page_of b)) ≡ 0
+  pub page_sum : block_sum new (page_block old (page_of b)) ≡ block_sum old (page_block old (page_of b))
   pub pages : LawfulPages new
   pub empty : (k : ℕ) → k < 512 → byte_at new b k ≡ 0
   pub rest : SameBut (λ c k. MapPlace old b c k ⊎ (c ≡ b)) old new

@@ -5,9 +5,12 @@ use Rattle.adf_block.specs.Image.{block_sum}
 use Rattle.adf_block.proofs.Frames.{same_long, same_sum}
 use Rattle.ados_data.specs.steps.Edits.{AtDataFields}
 use Rattle.ados_data.specs.steps.Blocks.{AtLink}
-use Rattle.ados_data.proofs.Beside.{beside_field, beside_fields, sum_beside_field, sum_beside_fields, empty_long}
+use Rattle.ados_data.proofs.Beside.{beside_field, beside_fields, sum_beside_field, sum_beside_fields, empty_long, empty_sum}
 use Rattle.ados_data.proofs.attach.attach_data.Goals as goal
 use Rattle.ados_data.proofs.attach.attach_data.Goals.{then-count-eq0, else-count-eq0}
+
+pub make_data-requires-clause-settled : goal.make_data-requires-clause-settled
+make_data-requires-clause-settled c = empty_sum c.args.image.now c.args.b c.requires.empty
 
 pub returns : goal.returns
 returns c =

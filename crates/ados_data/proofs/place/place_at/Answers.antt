@@ -1,4 +1,4 @@
-use Rattle.std.proofs.Common.{◌≡◌, ◌≤◌, ◌/◌, ℕ, length, min, ap, ap₂, ◌∙◌, arith}
+use Rattle.std.proofs.Common.{◌≤◌, ◌/◌, ℕ, length, min, ap, ap₂, ◌∙◌, arith}
 use Rattle.ados_data.specs.Cost.{data_size}
 use Rattle.ados_data.specs.File.{extension_blocks}
 use Rattle.ados_data.proofs.Placed.{last_place}

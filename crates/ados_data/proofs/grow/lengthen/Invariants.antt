@@ -1,4 +1,4 @@
-use Rattle.std.proofs.Common.{◌-◌, ◌≡◌, ◌≤◌, ◌<◌, ◌+◌, ◌*◌, ◌++◌, length, replicate, take}
+use Rattle.std.proofs.Common.{◌-◌, ◌≡◌, ◌≤◌, ◌<◌, ◌+◌, ◌*◌, length, take}
 use Rattle.adf_block.specs.Image.{free_bit_count}
 use Rattle.ados_map.specs.Pages.{NoneFreeBelow}
 use Rattle.ados_data.specs.Cost.{block_cost, data_size}
@@ -6,8 +6,8 @@ use Rattle.ados_data.specs.File.{contents, data_blocks, extension_blocks, format
 use Rattle.ados_data.specs.Changing.{WritableFile}
 use Rattle.ados_data.specs.Others.{Gains, LeavesOthers}
 use Rattle.ados_data.specs.Unnamed.{KeepsUnnamed}
-use Rattle.ados_data.specs.steps.FileEnd.{IsEnd}
-use Rattle.ados_data.proofs.grow.extend.Given as goal
+use Rattle.ados_data.specs.steps.FileEnd.{IsEnd, IsLonger}
+use Rattle.ados_data.proofs.grow.lengthen.Given as goal
 
 abbrev pub invariant-loop-reached : goal.invariant-loop-reached
 invariant-loop-reached l = record {
@@ -23,7 +23,7 @@ invariant-loop-reached l = record {
   end_is : IsEnd l.image l.file l.end;
   bound : NoneFreeBelow l.image l.bound;
   full : l.reached < l.size → l.reached ≡ data_size l.format * l.end.count;
-  bytes : contents l.image l.file ≡ contents l.fn.image l.file ++ replicate (l.reached - length (contents l.fn.image l.file)) 0;
+  bytes : IsLonger l.format (contents l.fn.image l.file) l.reached (contents l.image l.file);
   free : free_bit_count l.image + block_cost l.format l.reached ≡ free_bit_count l.fn.image + block_cost l.format (length (contents l.fn.image l.file));
 }
 

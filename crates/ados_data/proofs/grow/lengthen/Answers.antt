@@ -4,15 +4,16 @@ use Rattle.ados_data.specs.Cost.{block_cost, data_count, data_size, extension_co
 use Rattle.ados_data.specs.File.{contents}
 use Rattle.ados_data.proofs.Sizes.{few_bytes, one_more_cost}
 use Rattle.adf_block.specs.declared.Format.{Format}
-use Rattle.adf_block.specs.Image.{block_count, IsInside}
+use Rattle.adf_block.specs.Image.{block_count, free_bit_count, IsInside}
 use Rattle.ados_data.specs.File.{data_blocks, extension_blocks}
 use Rattle.ados_data.proofs.Leaving.{leaves_both, beside_gains, gains_both}
-use Rattle.ados_data.proofs.Lengthening.{more_zeros}
+use Rattle.ados_data.proofs.LongerBytes.{longer_zeros}
 use Rattle.ados_data.proofs.Grown.{front_both}
 use Rattle.ados_data.proofs.Composing.{HasGrown, keeps_calls, whole_front}
 use Rattle.ados_map.specs.Pages.{NoneFreeBelow}
 use Rattle.ados_data.proofs.Bounds.{below_stays, below_taken}
-use Rattle.ados_data.proofs.grow.extend.Goals as goal
+use Rattle.ados_data.specs.steps.FileEnd.{IsLonger}
+use Rattle.ados_data.proofs.grow.lengthen.Goals as goal
 
 pub long-requires-clause-block : goal.long-requires-clause-block
 long-requires-clause-block c = omega (arith, c.requires.writable.lawful.places.headers_inside 0 (omega arith))
@@ -26,9 +27,7 @@ loop-reached-preserved c =
     let some = few_bytes c.format-format.result in
     let next_over : data_size c.format-format.result * c.loop-reached.end.count < c.min-next.result = omega (arith, c.min-next.ensures, c.loop-reached-test.true, here, room, some) in
     let next_within : c.min-next.result ≤ data_size c.format-format.result * (c.loop-reached.end.count + 1) = omega (arith, c.min-next.ensures, c.loop-reached-test.true, here, room) in
-    let now_long : length (contents c.loop-reached.image c.args.file) ≡ c.loop-reached.reached =
-    ap length c.loop-reached.invariant.bytes ∙ length-append (contents c.args.image.now c.args.file) (replicate (c.loop-reached.reached - length (contents c.args.image.now c.args.file)) 0)
-    ∙ omega (arith, length-replicate {A = ℕ} (c.loop-reached.reached - length (contents c.args.image.now c.args.file)) 0, c.loop-reached.invariant.over) in
+    let now_long : length (contents c.loop-reached.image c.args.file) ≡ c.loop-reached.reached = c.loop-reached.invariant.bytes.count in
     let next_long : length (contents c.append-end.new.image c.args.file) ≡ length (contents c.loop-reached.image c.args.file) + (c.min-next.result - length (contents c.loop-reached.image c.args.file)) =
     ap length c.append-end.ensures.bytes ∙ length-append (contents c.loop-reached.image c.args.file) (replicate (c.min-next.result - length (contents c.loop-reached.image c.args.file)) 0)
     ∙ ap (λ (n : ℕ). length (contents c.loop-reached.image c.args.file) + n) (length-replicate {A = ℕ} (c.min-next.result - length (contents c.loop-reached.image c.args.file)) 0) in
@@ -59,23 +58,18 @@ loop-reached-preserved c =
           (ap (λ (n : ℕ). n / 512) c.append-end.ensures.leaves.same_length) c.append-end.ensures.gains last last_behind last_within
           (c.append-end.ensures.writable.lawful.places.data_inside last last_within) (c.append-end.ensures.writable.data_used last last_within).marked);
       full = λ l. omega (arith, l, c.min-next.ensures, here, room, c.append-end.ensures.count, ap (λ (n : ℕ). data_size c.format-format.result * n) c.append-end.ensures.count);
-      bytes = more_zeros (contents c.args.image.now c.args.file) (contents c.loop-reached.image c.args.file) (contents c.append-end.new.image c.args.file) (length (contents c.args.image.now c.args.file)) c.loop-reached.reached c.min-next.result
-          c.loop-reached.invariant.over (omega (arith, next_over, here)) now_long c.loop-reached.invariant.bytes c.append-end.ensures.bytes;
+      bytes = longer_zeros c.format-format.result (contents c.args.image.now c.args.file) (contents c.loop-reached.image c.args.file) (contents c.append-end.new.image c.args.file) c.loop-reached.reached c.min-next.result
+          c.loop-reached.invariant.over (omega (arith, next_over, here)) c.loop-reached.invariant.bytes c.append-end.ensures.bytes;
       free = omega (arith, c.loop-reached.invariant.free, c.append-end.ensures.free, one_more_cost c.format-format.result c.loop-reached.end.count c.min-next.result next_over next_within, ap (block_cost c.format-format.result) here);
     }
 
 pub append-end-requires-clause-full : goal.append-end-requires-clause-full
 append-end-requires-clause-full c =
-    let now_long : length (contents c.loop-reached.image c.args.file) ≡ c.loop-reached.reached =
-    ap length c.loop-reached.invariant.bytes ∙ length-append (contents c.args.image.now c.args.file) (replicate (c.loop-reached.reached - length (contents c.args.image.now c.args.file)) 0)
-    ∙ omega (arith, length-replicate {A = ℕ} (c.loop-reached.reached - length (contents c.args.image.now c.args.file)) 0, c.loop-reached.invariant.over) in
-    now_long ∙ c.loop-reached.invariant.full c.loop-reached-test.true
+    c.loop-reached.invariant.bytes.count ∙ c.loop-reached.invariant.full c.loop-reached-test.true
 
 pub loop-reached-init : goal.loop-reached-init
 loop-reached-init c =
-    let now_long : length (contents c.fill_last-reached.new.image c.args.file) ≡ c.fill_last-reached.result =
-    ap length c.fill_last-reached.ensures.bytes ∙ length-append (contents c.args.image.now c.args.file) (replicate (c.fill_last-reached.result - length (contents c.args.image.now c.args.file)) 0)
-    ∙ omega (arith, length-replicate {A = ℕ} (c.fill_last-reached.result - length (contents c.args.image.now c.args.file)) 0, c.fill_last-reached.ensures.over) in
+    let now_long : length (contents c.fill_last-reached.new.image c.args.file) ≡ c.fill_last-reached.result = c.fill_last-reached.ensures.bytes.count in
     let count : data_count c.format-format.result c.fill_last-reached.result ≡ data_count c.format-format.result (length (contents c.args.image.now c.args.file)) =
     ap (data_count c.format-format.result) (sym now_long)
     ∙ ap (λ (f : Format). data_count f (length (contents c.fill_last-reached.new.image c.args.file))) (sym c.fill_last-reached.ensures.format)
@@ -99,3 +93,15 @@ loop-reached-init c =
       bytes = c.fill_last-reached.ensures.bytes;
       free = omega (arith, c.fill_last-reached.ensures.free, count, ap extension_count count);
     }
+
+pub returns-clause-bytes : goal.returns-clause-bytes
+returns-clause-bytes c =
+    subst (λ (f : Format). IsLonger f (contents c.args.image.now c.args.file) c.args.size (contents c.loop-reached.image c.args.file)) c.format-format.ensures
+    (subst (λ (n : ℕ). IsLonger c.format-format.result (contents c.args.image.now c.args.file) n (contents c.loop-reached.image c.args.file)) (omega (arith, c.loop-reached.invariant.below, c.loop-reached-test.false)) c.loop-reached.invariant.bytes)
+
+pub returns-clause-free : goal.returns-clause-free
+returns-clause-free c =
+    let whole : c.loop-reached.reached ≡ c.args.size = omega (arith, c.loop-reached.invariant.below, c.loop-reached-test.false) in
+    let paid = ap (block_cost c.format-format.result) (sym whole) in
+    subst (λ (f : Format). free_bit_count c.loop-reached.image + block_cost f c.args.size ≡ free_bit_count c.args.image.now + block_cost f (length (contents c.args.image.now c.args.file))) c.format-format.ensures
+    (omega (arith, paid, c.loop-reached.invariant.free))
