@@ -7,7 +7,7 @@ ghost use Rattle.adf_commands.specs.Refusals.{told_line};
 use crate::refusal::{DosRefusal, Refusal, Room};
 use adf_archive::ArchiveFault;
 use adf_clients::ScriptsFault;
-use adf_host::{HoldFault, ReplaceFault, WriteFault};
+use adf_host::{HoldFault, ReplaceFault};
 use adf_input::InputFault;
 use adf_listing::PrintFault;
 use adf_transfer::Refused;
@@ -16,6 +16,7 @@ use ados_run::RunFault;
 use ados_volume::VolumeFault;
 use files_in::InFault;
 use files_out::OutFault;
+use host_trees::WriteFault;
 use std::alloc::{AllocError, Global};
 use thiserror::Error;
 

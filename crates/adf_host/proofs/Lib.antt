@@ -1,5 +1,3 @@
--- Lemmas on input that is read up to a bound or piece by piece, on dates, and on paths below a directory.
+-- Lemmas on input that is read up to a bound or piece by piece.
 mod Bounds
-mod DateLemmas
-mod PathLemmas
 mod Sketching

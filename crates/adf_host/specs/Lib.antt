@@ -1,9 +1,5 @@
--- What is promised of names, bytes and dates of a host's files.
+-- What is promised of bytes, images and the names of files beside others.
 pub mod Beside
 pub mod Bounded
-pub mod Dates
 pub mod Images
-pub mod Notes
-pub mod Paths
 pub mod Sketched
-pub mod Writing

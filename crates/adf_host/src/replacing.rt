@@ -76,8 +76,9 @@ fn write_straight<R: Files>(rt: &R, path: &str, bytes: &[u8]) -> Result<(), Repl
     file.write_all(bytes).map_err(ReplaceFault::Write)
 }
 
-/// Writes a new file beside a regular one, or beside where there is none yet, and renames it. It gets this time.
-pub(crate) fn write_beside<R: Files>(
+/// Writes a new file beside a regular one, or beside where there is none yet, and renames it. It gets this time, or that of now.
+/// After a fault what was there is there, and the file beside is gone.
+pub fn write_beside<R: Files>(
     rt: &R,
     alloc: Global,
     path: &str,

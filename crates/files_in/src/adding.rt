@@ -12,13 +12,13 @@ use crate::progress::Progress;
 use crate::put::{enter_directory, noted_file, put_file};
 use crate::words::Word;
 use adf_block::layout::BLOCK_BYTES;
-use adf_host::{HostEntry, HostKind, PassedOver, host_tree};
 use adf_text::Uaem;
 use adf_transfer::NotPut;
 use ados_data::blocks_of;
 use ados_name::{Date3, Name};
 use ados_packet::DosError;
 use ados_volume::Volume;
+use host_trees::{HostEntry, HostKind, PassedOver, host_tree};
 use std::alloc::Global;
 use std::rt::Files;
 

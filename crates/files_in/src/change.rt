@@ -6,10 +6,10 @@ use crate::adding::{How, add};
 use crate::each::{Each, change_each};
 use crate::fault::InFault;
 use crate::single::{rename, set_bits, set_comment, set_name};
-use adf_host::PassedOver;
 use adf_jobs::Change;
 use ados_name::Date3;
 use ados_volume::Volume;
+use host_trees::PassedOver;
 use std::alloc::Global;
 use std::rt::Files;
 

@@ -2,10 +2,10 @@
 
 ghost use Rattle.files_in.specs.Words.{IsRefusal};
 
-use adf_host::WalkFault;
 use adf_text::UaemFault;
 use adf_transfer::Refused;
 use ados_packet::DosError;
+use host_trees::WalkFault;
 use std::alloc::{AllocError, AllocFailed, Global};
 use std::{error, fmt};
 use thiserror::Error;

@@ -1,10 +1,11 @@
 //! What files of the host say: their names, their bytes, and what is noted beside them.
 
 use crate::fault::{InFault, NoteFault, refused};
-use adf_host::{BoundedFault, HostEntry, read_bounded};
+use adf_host::{BoundedFault, read_bounded};
 use adf_text::{LettersFault, Uaem, UaemFault, host_name_bytes, read_uaem};
 use ados_name::{Comment, Name, Protect};
 use ados_packet::DosError;
+use host_trees::HostEntry;
 use std::alloc::Global;
 use std::fs;
 use std::rt::Files;

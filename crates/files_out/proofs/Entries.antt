@@ -3,8 +3,8 @@ use Rattle.std.proofs.Common.{◌≡◌, Bool, false, true, List, [], ◌∷◌,
 use Rattle.ados_packet.specs.declared.info.FileInfo.{FileInfo}
 use Rattle.ados_tree.specs.Tree.{Node, Tree}
 use Rattle.ados_volume.specs.Examined.{file_info}
-use Rattle.adf_host.specs.declared.writing.HostItem.{HostItem}
-use Rattle.adf_host.specs.Notes.{note_of}
+use Rattle.host_trees.specs.declared.writing.HostItem.{HostItem}
+use Rattle.host_trees.specs.Notes.{note_of}
 use Rattle.adf_transfer.specs.Located.{Located}
 use Rattle.files_out.specs.Items.{AreItems, GoesOut, HasLine, Holds, IsItem, host_path, noted}
 

@@ -4,7 +4,7 @@ use Rattle.std.proofs.lemmas.Bool.{ne_eqb}
 use Rattle.std.proofs.lemmas.Grind.{flat_map-append}
 use Rattle.std.proofs.lemmas.List.{append-nil, map-append, take_more}
 use Rattle.ados_tree.specs.Tree.{Tree, entries, name_of, root}
-use Rattle.adf_host.specs.declared.writing.HostItem.{HostItem}
+use Rattle.host_trees.specs.declared.writing.HostItem.{HostItem}
 use Rattle.adf_transfer.specs.Located.{Located}
 use Rattle.adf_transfer.specs.Below.{AreBelow, located, slash}
 use Rattle.files_out.specs.Items.{AllGoOut, EachGoesOut, GoesOut, tops}

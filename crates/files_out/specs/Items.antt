@@ -9,10 +9,10 @@ use Rattle.ados_volume.specs.Examined.{file_info}
 use Rattle.adf_text.specs.declared.uaem.Uaem.{Uaem}
 use Rattle.adf_text.specs.HostNames.{host_name}
 use Rattle.adf_text.specs.Uaem.{IsLineOf}
-use Rattle.adf_host.specs.declared.writing.Content.{Content as Written}
-use Rattle.adf_host.specs.declared.writing.Content.TheVariants as written
-use Rattle.adf_host.specs.declared.writing.HostItem.{HostItem}
-use Rattle.adf_host.specs.Notes.{note_of}
+use Rattle.host_trees.specs.declared.writing.Content.{Content as Written}
+use Rattle.host_trees.specs.declared.writing.Content.TheVariants as written
+use Rattle.host_trees.specs.declared.writing.HostItem.{HostItem}
+use Rattle.host_trees.specs.Notes.{note_of}
 use Rattle.adf_transfer.specs.Located.{Located}
 use Rattle.adf_transfer.specs.Below.{AreBelow}
 use Rattle.files_out.specs.Words.{AreAsked}

@@ -5,15 +5,15 @@ ghost use Rattle.ados_tree.specs.Tree.{Node, Tree};
 ghost use Rattle.ados_tree.specs.Stands.{Stands};
 ghost use Rattle.ados_tree.specs.Keys.{HasKey};
 ghost use Rattle.adf_text.specs.Uaem.{IsLineOf};
-ghost use Rattle.adf_host.specs.declared.writing.HostItem.{HostItem as Item};
+ghost use Rattle.host_trees.specs.declared.writing.HostItem.{HostItem as Item};
 ghost use Rattle.files_out.specs.Items.{names_in, Holds, HasLine, GoesOut, noted};
 
 use crate::paths::host_path;
-use adf_host::{Content, HostItem, HostPath};
 use adf_text::{Uaem, uaem_line};
 use adf_transfer::read_file;
 use ados_packet::FileInfo;
 use ados_volume::Volume;
+use host_trees::{Content, HostItem, HostPath};
 use std::alloc::{AllocError, Global};
 
 /// Puts the item of an entry behind others, and where notes are wanted the note of it.

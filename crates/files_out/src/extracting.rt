@@ -6,9 +6,9 @@ ghost use Rattle.files_out.specs.Words.{IsExtractFault};
 
 use crate::fault::OutFault;
 use crate::items::outgoing;
-use adf_host::write_tree;
 use adf_jobs::ExtractJob;
 use ados_volume::Volume;
+use host_trees::write_tree;
 use std::alloc::Global;
 use std::rt::Files;
 

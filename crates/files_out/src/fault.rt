@@ -1,7 +1,7 @@
 //! Why nothing goes out, or not all.
 
-use adf_host::WriteFault;
 use adf_transfer::Refused;
+use host_trees::WriteFault;
 use std::alloc::{AllocError, AllocFailed};
 use thiserror::Error;
 

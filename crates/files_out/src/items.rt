@@ -3,7 +3,7 @@ ghost use Rattle.std.specs.Prelude.{◌≡◌, ◌++◌, [], ◌∷◌, List, ma
 ghost use Rattle.ados_tree.specs.Tree.{Tree};
 ghost use Rattle.ados_tree.specs.Stands.{Stands};
 ghost use Rattle.ados_tree.specs.Keys.{HasKey};
-ghost use Rattle.adf_host.specs.declared.writing.HostItem.{HostItem as Item};
+ghost use Rattle.host_trees.specs.declared.writing.HostItem.{HostItem as Item};
 ghost use Rattle.files_out.specs.Items.{AllGoOut, AreOutgoing, EachGoesOut};
 ghost use Rattle.files_out.specs.Words.{IsFaultOfSome};
 ghost use Rattle.files_out.specs.steps.Behind.{behind, HasNames};
@@ -11,9 +11,9 @@ ghost use Rattle.files_out.specs.steps.Behind.{behind, HasNames};
 use crate::entry::push_entry;
 use crate::fault::OutFault;
 use crate::words::asked_objects;
-use adf_host::HostItem;
 use adf_transfer::{Below, entries_below};
 use ados_volume::Volume;
+use host_trees::HostItem;
 use std::alloc::{AllocError, Global};
 
 /// The files and directories of the host for what these words lead to: each entry with all that is below it, and for the root

@@ -4,9 +4,9 @@ ghost use Rattle.std.specs.List.{before_first, after_first};
 ghost use Rattle.ados_name.specs.Name.{IsName, is_slash};
 ghost use Rattle.files_out.specs.Items.{host_path, names_in};
 
-use adf_host::HostPath;
 use ados_name::Name;
 use bstr::ByteSlice;
+use host_trees::HostPath;
 use std::alloc::{AllocError, Global};
 
 /// The host's path of an entry: its names as names of the host's files.

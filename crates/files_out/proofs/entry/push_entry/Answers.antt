@@ -1,7 +1,7 @@
 use Rattle.std.proofs.Common.{refl, ap, ◌∙◌}
 use Rattle.ados_tree.proofs.Nodes.{some_in}
-use Rattle.adf_host.specs.declared.writing.HostItem.{HostItem}
-use Rattle.adf_host.specs.Notes.{note_of}
+use Rattle.host_trees.specs.declared.writing.HostItem.{HostItem}
+use Rattle.host_trees.specs.Notes.{note_of}
 use Rattle.files_out.proofs.Entries.{alone, with_note}
 use Rattle.files_out.proofs.entry.push_entry.Goals as goal
 

@@ -4,7 +4,7 @@ use Rattle.ados_packet.specs.declared.info.FileInfo.{FileInfo}
 use Rattle.ados_tree.specs.Tree.{Tree, name_in, name_of}
 use Rattle.ados_tree.specs.Stands.{Stands}
 use Rattle.ados_tree.proofs.Nodes.{some_in}
-use Rattle.adf_host.specs.declared.writing.HostItem.{HostItem}
+use Rattle.host_trees.specs.declared.writing.HostItem.{HostItem}
 use Rattle.adf_transfer.specs.Located.{Located}
 use Rattle.adf_transfer.specs.Below.{located, slash}
 use Rattle.files_out.specs.Items.{AllGoOut, EachGoesOut, GoesOut, names_in}

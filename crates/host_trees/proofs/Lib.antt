@@ -1,0 +1,3 @@
+-- Lemmas on dates, and on paths below a directory.
+mod DateLemmas
+mod PathLemmas
