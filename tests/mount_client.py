@@ -231,7 +231,11 @@ def shadow(mounted, other, steps, seed):
 
 
 class Killed:
-    """One mount that is killed while a client changes it, a step and a save at a time."""
+    """One mount that is killed while a client changes it, a step and a save at a time. The disk is never full: a file that was
+    cut when it was opened, and then found no room, would be a state between two steps."""
+
+    # Where the files have more bytes than this, one is deleted. A step adds 60,000 at most, and a floppy has room for both.
+    MANY = 600_000
 
     def __init__(self, words, chance):
         self.adf_mount, self.adf_serve, self.image, self.place = words
@@ -256,6 +260,8 @@ class Killed:
         """What is done next, as a function, and the state after it."""
         after, names = dict(state), sorted(state)
         kind = self.random.choice(["write", "write", "write", "part", "delete", "move"]) if names else "write"
+        if sum(map(len, state.values())) > self.MANY:
+            kind = "delete"
         name = self.random.choice(names) if kind != "write" else f"f{self.random.randrange(12)}"
         path, data = os.path.join(self.place, name), self.random.randbytes(self.random.randrange(1, 60000))
 
@@ -315,8 +321,10 @@ class Killed:
             if beside.startswith(os.path.basename(self.image) + "."):
                 os.unlink(os.path.join(os.path.dirname(self.image), beside))
         allowed = [count for count in range(self.done, len(self.states)) if self.states[count] == found]
-        self.done = allowed[0] if allowed else 0
-        return None if allowed else f"the file is no state before or after step {self.done} of {len(self.states) - 1}"
+        if not allowed:
+            return f"the file is no state before or after step {self.done + 1} of {len(self.states) - 1}"
+        self.done = allowed[0]
+        return None
 
 
 def kill(adf_mount, adf_serve, image, place, rounds, seed):
