@@ -6,7 +6,7 @@
 #   tools/dist.sh [TO]
 #
 # TO is the archive to write, out/jiponuwha-COMMIT-KIND.tar.gz if it is left out. Nothing is proved or built but the mount: run
-# `./test`, or `./adf_serve` and bindings/c/build.sh, before. GATE is a file with what `./test` printed, out/test.log if it is
+# `./prove` or `./test` before; a program that is not proved is not packed. GATE is a file with what `./test` printed, out/test.log if it is
 # left out. LIBRARY names another folder with the library, as bindings/c/build.sh makes it, and PROGRAM another program.
 set -euo pipefail
 top=$(cd "$(dirname "$0")/.." && pwd)
@@ -97,7 +97,8 @@ build_file() {
     if [ -f "$gate" ]; then echo "gate $(tail -n 1 "$gate")"; else echo 'gate not told'; fi
 }
 
-need "$program" './adf_serve builds it'
+need "$program" './prove makes it'
+"$top/tools/sources" current "$program" src specs proofs || { echo "dist.sh: $program is not proved, or is not of these sources; ./prove makes it" >&2; exit 2; }
 mkdir -p "$dist/bin" "$(dirname "$to")"
 install -m 755 "$program" "$dist/bin/adf_serve"
 library
