@@ -11,13 +11,6 @@ use std::io::IsTerminal;
 use std::process::ExitCode;
 pub use words::{run_words, tell_wrong_words};
 
-#[cfg(test)]
-mod command_tests;
-#[cfg(test)]
-mod script_tests;
-#[cfg(test)]
-mod stream_tests;
-
 fn main(rt: HostRuntime) -> ExitCode {
     let alloc = rt.alloc();
     let (mut reader, mut writer, mut faults) = (rt.stdin(), rt.stdout(), rt.stderr());
