@@ -1,6 +1,0 @@
-use Rattle.std.proofs.Common.{ℕ, ◌<◌}
-use Rattle.cases_drawn.specs.HandFile.{IsPointerBlock}
-use Rattle.cases_drawn.proofs.hand_file.are_pointer_blocks.Given as goal
-
-abbrev pub invariant-loop-i : goal.invariant-loop-i
-invariant-loop-i l = (k : ℕ) → k < l.i → IsPointerBlock l.image l.all l.extensions k

@@ -1,7 +1,0 @@
-use Rattle.std.proofs.Common.{All}
-use Rattle.ados_tree.specs.Keys.{HasDirectory}
-use Rattle.cases_drawn.proofs.walked.walk_tree.Given as goal
-
--- what is still to be walked are directories of the volume
-abbrev pub invariant-loop : goal.invariant-loop
-invariant-loop l = All (HasDirectory l.volume.image) l.told.dirs.items

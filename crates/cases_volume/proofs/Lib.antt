@@ -1,1 +1,0 @@
--- None that cases share: each case's lemmas stand beside its proof.
