@@ -1,15 +1,16 @@
 #!/bin/sh
 # Prints how long changes of a volume take, in memory and without the start of the program: files of 100 bytes that are made,
-# read and taken away, among ten directories and in the root alone, and a file of 819,200 bytes that is written in one call
-# and in calls of 512 bytes, read and taken away. Each time is the best of 5 runs.
+# read and removed, in ten directories and in the root alone, and a file of 819,200 bytes that is written in one call and in
+# calls of 512 bytes, read and removed. A C program does it with packets, by the library for C (bench/library_volume.c), so that
+# a file is opened, written and closed by three packets. Each time is the best of 5 runs. It needs the machine's cc; LIBRARY
+# names a folder with the library as bindings/c/build.sh makes it, if it is not to be made.
 . "$(dirname "$0")/setup.sh"
 runs=5
-bench=$(program bench)
-build bench changes
+over_library library_volume
 
 for counts in "1000 10" "500 0" "1000 0" "2000 0" "4000 0" "8000 0"; do
     for run in $(seq $runs); do
-        "$bench" changes $counts 2>&1 > "$room/told" | sed "s/^/$counts /" >> "$room/figures"
+        "$room/library_volume" changes ffs $counts 2>&1 > "$room/told" | sed "s/^/$counts /" >> "$room/figures"
         grep -q " 819200 bytes; 6 blocks left in use$" "$room/told" || { cat "$room/told" >&2; exit 1; }
     done
 done
@@ -31,5 +32,5 @@ awk 'function least(what, micros) { if (!(what in best) || micros < best[what]) 
         }
         print ""
         print "a file of 819,200 bytes, in millions of bytes a second"
-        printf "written in one call %.1f, in calls of 512 bytes %.1f, read %.1f; two of them taken away in %d microseconds\n", 819200 / best["once"], 819200 / best["pieces"], 819200 / best["read"], best["removed"]
+        printf "written in one call %.1f, in calls of 512 bytes %.1f, read %.1f; two of them removed in %d microseconds\n", 819200 / best["once"], 819200 / best["pieces"], 819200 / best["read"], best["removed"]
     }' "$room/figures"

@@ -6,4 +6,4 @@ bench=$(program bench)
 build bench idle 1
 cc -O2 -std=c11 -o "$room/measured" "$here/measured.c"
 "$room/measured" "$room/told" "$bench" idle 3 2> "$room/figures" | awk '{ printf "8 clients, 3 round trips each: %s wall seconds, %s processor seconds\n", $1, $2 }'
-grep -q '^idle 8 24 ' "$room/figures" || { cat "$room/figures" >&2; exit 1; }
+grep -qx 'idle 8: 24 right replies' "$room/told" || { cat "$room/told" >&2; exit 1; }

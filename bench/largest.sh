@@ -1,17 +1,18 @@
 #!/bin/sh
 # Prints how long changes of a volume of 101,602 blocks take, in memory and without the start of the program, in both kinds:
 # a file of 50,000,000 bytes (47,000,000 in OFS) that is written in one call and in calls of 512 bytes, and 50,000 files of
-# 100 bytes, in 500 directories one after another, until the volume is nearly full. Each time is the best of 5 runs.
+# 100 bytes, in 500 directories one after another, until the volume is nearly full. A C program does it with packets, by the
+# library for C (bench/library_volume.c). Each time is the best of 5 runs. It needs the machine's cc; LIBRARY names a folder with
+# the library as bindings/c/build.sh makes it, if it is not to be made.
 . "$(dirname "$0")/setup.sh"
 runs=5
-bench=$(program bench)
-build bench largest
+over_library library_volume
 
 for kind in ofs ffs; do
     bytes=$([ $kind = ofs ] && echo 47000000 || echo 50000000)
     : > "$room/figures"
     for run in $(seq $runs); do
-        "$bench" largest $bytes 500 $kind 2>> "$room/figures" > "$room/told"
+        "$room/library_volume" largest $kind $bytes 500 2>> "$room/figures" > "$room/told"
         grep -q "^$bytes bytes; 500 directories; 100526 blocks in use$" "$room/told" || { cat "$room/told" >&2; exit 1; }
     done
     awk -v kind=$kind -v bytes=$bytes '

@@ -9,12 +9,7 @@ runs=5
 rounds=20000
 bench=$(program bench)
 build bench packets
-library=${LIBRARY:-$room/library}
-if [ -z "$LIBRARY" ]; then
-    "$here/../bindings/c/build.sh" "$library" > "$room/log" 2>&1 || { cat "$room/log" >&2; exit 1; }
-fi
-"${CC:-cc}" -O2 -std=c11 -Wall -Wextra -Wpedantic -Werror -I "$library/include" -o "$room/library_packets" \
-    "$here/library_packets.c" -L "$library/lib" -ljiponuwha
+over_library library_packets
 
 echo "locks entries  handler alone  library for C  ratio  (packets a second)"
 for counts in "0 10" "10 10" "1000 10" "0 1000"; do

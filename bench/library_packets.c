@@ -3,34 +3,17 @@
  *
  *   library_packets ROUNDS LOCKS ENTRIES     with so many locks held and so many entries in the root
  */
-#include <jiponuwha.h>
-#include <stdio.h>
-#include <stdlib.h>
-#include <time.h>
+#include "library.h"
 
 enum { BLOCKS = 20000, PIECE = 512, ROUND = 7 };
 
-static const jip_date moment = {0, 0, 0};
-
-static jip_answer serve(jip_handle *handle, const jip_packet *packet) {
-    jip_answer answer;
-    if (jip_serve(handle, packet, &answer) != JIP_DONE || answer.res2 != 0) {
-        fprintf(stderr, "a packet is refused\n");
-        exit(1);
-    }
-    return answer;
-}
-
-/* Makes directories in the root, a file, and locks on the root. Answers the handle of the file. */
+/* Makes directories in the root, a file, and locks on the root. Returns the handle of the file. */
 static uint32_t prepare(jip_handle *handle, unsigned long locks, unsigned long entries) {
     jip_packet packet;
     for (unsigned long n = 0; n < entries; n++) {
         char name[32];
         snprintf(name, sizeof name, "%05lu", n);
-        jip_create_dir(&packet, moment, 0, name);
-        const uint32_t lock = (uint32_t)serve(handle, &packet).res1;
-        jip_free_lock(&packet, moment, lock);
-        serve(handle, &packet);
+        make_directory(handle, name);
     }
     jip_findupdate(&packet, moment, 0, "file");
     const uint32_t file = serve(handle, &packet).handle;
@@ -57,12 +40,6 @@ static void serve_round(jip_handle *handle, uint32_t file, uint32_t root, uint8_
     serve(handle, &packet);
     jip_free_lock(&packet, moment, lock);
     serve(handle, &packet);
-}
-
-static double microseconds(void) {
-    struct timespec time;
-    timespec_get(&time, TIME_UTC);
-    return (double)time.tv_sec * 1e6 + (double)time.tv_nsec / 1e3;
 }
 
 int main(int count, char **words) {

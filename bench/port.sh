@@ -1,8 +1,8 @@
 #!/bin/sh
 # Prints round trips a second through the port for 1, 2, 4 and 8 client threads, and beside them the same over channels of
 # Rust's own library and of `crossbeam`, once taken by `recv`, which sleeps where nothing comes, and once by looks with a yield
-# between them; the best of five runs of each. It needs the machine's rustc beside the kit, and for crossbeam its cargo and
-# Debian's package librust-crossbeam-channel-dev.
+# between them; the best of five runs of each. The start of the threads is in each time, and in the port's its opening. It needs
+# the machine's rustc beside the kit, and for crossbeam its cargo and Debian's package librust-crossbeam-channel-dev.
 . "$(dirname "$0")/setup.sh"
 bench=$(program bench)
 build bench port 1
@@ -21,7 +21,8 @@ else
 fi
 
 for run in 1 2 3 4 5; do
-    "$bench" port 100000 2>> "$room/told"
+    "$bench" port 100000 2>> "$room/told" > "$room/replies"
+    [ "$(cat "$room/replies")" = "$(for n in 1 2 4 8; do echo "port $n: ${n}00000 right replies"; done)" ] || { cat "$room/replies" >&2; exit 1; }
     "$room/port_peer" >> "$room/told"
 done
 awk '{ if (!(($1, $2) in best) || $3 > best[$1, $2]) best[$1, $2] = $3 }

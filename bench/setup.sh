@@ -26,3 +26,15 @@ tools() {
         rustc --edition 2021 -O -o "$room/$tool" "$here/$tool.rs"
     done
 }
+
+# Builds programs of this directory into the room, over the library for C in the folder LIBRARY, or over one that is made.
+over_library() {
+    library=${LIBRARY:-$room/library}
+    if [ -z "$LIBRARY" ]; then
+        "$here/../bindings/c/build.sh" ${BUILT:+--built} "$library" > "$room/log" 2>&1 || { cat "$room/log" >&2; exit 1; }
+    fi
+    for tool; do
+        "${CC:-cc}" -O2 -std=c11 -Wall -Wextra -Wpedantic -Werror -I "$library/include" -o "$room/$tool" "$here/$tool.c" \
+            -L "$library/lib" -ljiponuwha
+    done
+}

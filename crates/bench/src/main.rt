@@ -1,80 +1,75 @@
-//! Times what its first word names: round trips through a port, the check and the reading of a volume, changes of a volume,
-//! also of the largest, or packets. The scripts in `bench/`, at the top of the repository, run it and say what it tells.
+//! Times what its first argument names: round trips through a port by clients on threads of their own, or packets as steps
+//! of a port on one thread. The scripts in `bench/`, at the top of the repository, run it and say what it prints.
 #![tactic(auto)]
 
-mod blank;
-mod by_path;
-mod changes;
-mod largest;
 mod packets;
 mod port;
-mod told;
-mod volume;
 
-use adf_block::Format;
 use anyhow::{Result, bail};
 use std::env;
 
-/// What the words may be. `all` times each thing, with the counts that are taken where no word gives another.
+/// What the arguments may be. `all` times each thing, with the counts that are taken where no argument gives another.
 const USAGE: &str =
-    "usage: bench port [TRIPS] | idle [TRIPS] | volume [FILE] | changes [FILES [DIRS [ofs|ffs]]] | largest [BYTES [DIRS [ofs|ffs]]] | packets [ROUNDS [LOCKS [ENTRIES]]] | all";
+    "usage: bench port [TRIPS] | idle [TRIPS] | packets [ROUNDS [LOCKS [ENTRIES]]] | all";
 
-/// A number from a word, or another where there is no word.
-fn number(word: Option<String>, otherwise: u32) -> Result<u32> {
-    match word {
-        Some(word) => Ok(word.as_str().parse::<u32>()?),
-        None => Ok(otherwise),
+/// How many numbers may follow the first argument.
+const NUMBERS: usize = 3;
+
+/// What is timed.
+#[derive(Copy, Clone)]
+enum Timed {
+    Port,
+    Idle,
+    Packets,
+    All,
+}
+
+/// What an argument says is timed.
+fn named(argument: Option<&str>) -> Option<Timed> {
+    match argument {
+        Some("port") => Some(Timed::Port),
+        Some("idle") => Some(Timed::Idle),
+        Some("packets") => Some(Timed::Packets),
+        Some("all") => Some(Timed::All),
+        _ => None,
     }
 }
 
-/// The kind of a volume from a word, FFS where there is none.
-fn kind(word: Option<String>) -> Result<Format> {
-    match word.as_deref() {
-        None | Some("ffs") => Ok(Format::Ffs),
-        Some("ofs") => Ok(Format::Ofs),
-        Some(_) => bail!("{USAGE}"),
+/// The number that an argument is, where there is one.
+fn number(argument: Option<String>) -> Result<Option<u32>> {
+    match argument {
+        Some(argument) => Ok(Some(argument.as_str().parse::<u32>()?)),
+        None => Ok(None),
     }
+}
+
+/// What the arguments say is timed, and the numbers that follow.
+fn arguments(rt: &HostRuntime) -> Result<(Option<Timed>, [Option<u32>; NUMBERS])> {
+    let mut arguments = env::args(rt)?.skip(1);
+    let timed = named(arguments.next().as_deref());
+    let mut numbers = [None; NUMBERS];
+    for place in numbers.iter_mut() {
+        *place = number(arguments.next())?;
+    }
+    Ok((timed, numbers))
 }
 
 fn main(rt: HostRuntime) -> Result<()> {
     let alloc = rt.alloc();
-    let mut words = env::args(&rt)?.skip(1);
-    match words.next().as_deref() {
-        Some("port") => port::time(&rt, alloc, number(words.next(), port::TRIPS)?),
-        Some("idle") => port::time_idle(&rt, alloc, number(words.next(), port::IDLE_TRIPS)?),
-        Some("volume") => volume::time(&rt, alloc, words.next().as_deref()),
-        Some("changes") => {
-            let files = number(words.next(), changes::FILES)?;
-            let dirs = number(words.next(), changes::DIRS)?;
-            let format = kind(words.next())?;
-            changes::time(&rt, alloc, format, files, dirs)
-        }
-        Some("largest") => {
-            let bytes = number(words.next(), largest::BYTES)?;
-            let dirs = number(words.next(), largest::DIRS)?;
-            let format = kind(words.next())?;
-            largest::time(&rt, alloc, format, bytes, dirs)
-        }
-        Some("packets") => {
-            let rounds = number(words.next(), packets::ROUNDS)?;
-            let locks = number(words.next(), packets::LOCKS)?;
-            let entries = number(words.next(), packets::ENTRIES)?;
-            packets::time(&rt, alloc, rounds, locks, entries)
-        }
-        Some("all") => {
-            port::time(&rt, alloc, port::TRIPS)?;
-            port::time_idle(&rt, alloc, port::IDLE_TRIPS)?;
-            volume::time(&rt, alloc, None)?;
-            changes::time(&rt, alloc, Format::Ffs, changes::FILES, changes::DIRS)?;
-            largest::time(&rt, alloc, Format::Ffs, largest::BYTES, largest::DIRS)?;
-            packets::time(
-                &rt,
-                alloc,
-                packets::ROUNDS,
-                packets::LOCKS,
-                packets::ENTRIES,
-            )
-        }
-        _ => bail!("{USAGE}"),
+    let (Some(timed), [first, second, third]) = arguments(&rt)? else {
+        bail!("{USAGE}");
+    };
+    if matches!(timed, Timed::Port | Timed::All) {
+        port::time(&rt, alloc, first.unwrap_or(port::TRIPS))?;
     }
+    if matches!(timed, Timed::Idle | Timed::All) {
+        port::time_idle(&rt, alloc, first.unwrap_or(port::IDLE_TRIPS))?;
+    }
+    if matches!(timed, Timed::Packets | Timed::All) {
+        let rounds = first.unwrap_or(packets::ROUNDS);
+        let locks = second.unwrap_or(packets::LOCKS);
+        let entries = third.unwrap_or(packets::ENTRIES);
+        packets::time(&rt, alloc, rounds, locks, entries)?;
+    }
+    Ok(())
 }

@@ -11,13 +11,16 @@ use std::sync::atomic::AtomicU64;
 use std::thread::Threads;
 use std::time::{Duration, Instant};
 
-/// How many round trips each client makes where no word says.
+/// How many round trips each client makes where no argument says.
 pub(crate) const TRIPS: u32 = 1_000;
 
 /// How many each idle client makes, and how many of those there are.
 pub(crate) const IDLE_TRIPS: u32 = 1;
 
 const IDLE_CLIENTS: usize = 8;
+
+/// The places of a client's ring of replies.
+const RING: usize = 8;
 
 /// Answers each number with itself, and dies at 0.
 #[derive(Drop)]
@@ -72,7 +75,7 @@ impl Client<Echo> for RoundTrips {
 
     ghost does = { λ job old new report. Unit {0} };
 
-    /// Answers how many replies were right.
+    /// Returns how many replies were right.
     fn run<R: Wait>(self, rt: &R, end: &mut ClientEnd<Echo>) -> u64 {
         let mut right = 0u64;
         for number in 0..self.count {
@@ -102,7 +105,7 @@ fn trip<R: Wait>(rt: &R, end: &mut ClientEnd<Echo>, number: u64) -> bool
     }
 }
 
-/// Takes the next reply, and answers whether it is this number.
+/// Takes the next reply, and returns whether it is this number.
 fn take_one<R: Wait>(rt: &R, end: &mut ClientEnd<Echo>, number: u64) -> bool
     ensures { Grown end.old end.new }
 {
@@ -131,55 +134,85 @@ fn jobs(
     Ok(jobs)
 }
 
-/// Lets so many clients make round trips, and answers how many were right and how many microseconds they took.
-fn round_trips<R: Threads + Wait + Clock + Copy + Send + Drop + 'static>(
+/// Lets so many clients make round trips, and returns how many replies were right.
+fn round_trips<R: Threads + Wait + Copy + Send + Drop + 'static>(
     rt: &R,
     alloc: Global,
     clients: usize,
     trips: u64,
     pause: u64,
-) -> Result<(u128, u128)>
+) -> Result<u64>
     requires { 0 < clients }
 {
     let jobs = jobs(alloc, clients, trips, pause)?;
-    let Ok((handler, ends)) = open_port(alloc, Echo { died: false }, clients, 8) else {
+    let Ok((handler, ends)) = open_port(alloc, Echo { died: false }, clients, RING) else {
         bail!("no port");
     };
-    let start = Instant::now(rt)?;
     let Ok(served) = serve_clients(rt, alloc, handler, ends, jobs, 0) else {
         bail!("a fault");
     };
-    let micros = start.elapsed(rt)?.as_micros();
-    let mut trips = 0u128;
-    for report in served.reports.iter() {
-        trips = trips.wrapping_add(*report as u128);
-    }
-    Ok((trips, micros))
+    Ok(sum(&served.reports))
 }
 
-/// Tells nothing on standard output. The figures go to standard error, since they are others each time: the round trips a
-/// second of 1, 2 and 4 clients, each of so many round trips.
-pub(crate) fn time<R: Threads + Wait + Clock + Eprint + Copy + Send + Drop + 'static>(
+/// How many replies were right in all.
+fn sum(reports: &[u64]) -> u64 {
+    let mut right = 0u64;
+    for report in reports.iter() {
+        right = right.wrapping_add(*report);
+    }
+    right
+}
+
+/// How many replies of so many clients were right, and the microseconds of their round trips, the opening of the port and
+/// the starts of the threads among them.
+fn timed<R: Threads + Wait + Clock + Copy + Send + Drop + 'static>(
+    rt: &R,
+    alloc: Global,
+    clients: usize,
+    trips: u64,
+    pause: u64,
+) -> Result<(u64, u128)>
+    requires { 0 < clients }
+{
+    let start = Instant::now(rt)?;
+    let right = round_trips(rt, alloc, clients, trips, pause)?;
+    let micros = start.elapsed(rt)?.as_micros();
+    Ok((right, micros))
+}
+
+/// Prints how many replies were right. The figure goes to standard error, since it differs each time.
+fn print<R: Print + Eprint>(
+    rt: &R,
+    what: &str,
+    clients: usize,
+    right: u64,
+    figure: u128,
+) -> Result<()> {
+    eprintln!(rt; "{what} {clients} {figure}")?;
+    println!(rt; "{what} {clients}: {right} right replies")?;
+    Ok(())
+}
+
+/// Prints the round trips a second of 1, 2, 4 and 8 clients that each make so many.
+pub(crate) fn time<R: Threads + Wait + Clock + Print + Eprint + Copy + Send + Drop + 'static>(
     rt: &R,
     alloc: Global,
     trips: u32,
 ) -> Result<()> {
     for clients in [1usize, 2, 4, 8] {
-        let (right, micros) = round_trips(rt, alloc, clients, trips as u64, 0)?;
-        let trips = right.wrapping_mul(1_000_000) / micros.max(1);
-        eprintln!(rt; "port {clients} {trips}")?;
+        let (right, micros) = timed(rt, alloc, clients, trips as u64, 0)?;
+        let a_second = (right as u128).wrapping_mul(1_000_000) / micros.max(1);
+        print(rt, "port", clients, right, a_second)?;
     }
     Ok(())
 }
 
-/// Tells on standard error how many milliseconds clients took that each wait a second before each of so many round trips.
-pub(crate) fn time_idle<R: Threads + Wait + Clock + Eprint + Copy + Send + Drop + 'static>(
+/// Prints the milliseconds of 8 clients that each wait a second before each of so many round trips.
+pub(crate) fn time_idle<R: Threads + Wait + Clock + Print + Eprint + Copy + Send + Drop + 'static>(
     rt: &R,
     alloc: Global,
     trips: u32,
 ) -> Result<()> {
-    let (right, micros) = round_trips(rt, alloc, IDLE_CLIENTS, trips as u64, 1)?;
-    let millis = micros / 1_000;
-    eprintln!(rt; "idle {IDLE_CLIENTS} {right} {millis}")?;
-    Ok(())
+    let (right, micros) = timed(rt, alloc, IDLE_CLIENTS, trips as u64, 1)?;
+    print(rt, "idle", IDLE_CLIENTS, right, micros / 1_000)
 }

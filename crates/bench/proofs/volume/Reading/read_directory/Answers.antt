@@ -1,5 +1,0 @@
-use Rattle.ados_volume.proofs.Ordered.{own_place}
-use Rattle.bench.proofs.volume.Reading.read_directory.Goals as goal
-
-pub loop-init : goal.loop-init
-loop-init c = (c.requires.dirs, own_place c.args.volume.now.image c.args.dir)

@@ -1,8 +1,0 @@
-use Rattle.std.proofs.Common.{All}
-use Rattle.ados_tree.specs.Keys.{HasDirectory}
-use Rattle.ados_volume.specs.Order.{IsPlaceIn}
-use Rattle.bench.proofs.volume.Reading.read_directory.Given as goal
-
--- what is still to be read are directories of the volume, and this one was read up to a place in it
-abbrev pub invariant-loop : goal.invariant-loop
-invariant-loop l = All (HasDirectory l.volume.image) l.self.dirs.items × IsPlaceIn l.volume.image l.dir l.last
