@@ -1,106 +1,117 @@
-//! The program's commands, as `clap` reads and explains them.
-use crate::changing::changing_command;
-use crate::parts::{flag, option, with_moment, word, words};
-use crate::taking::{check, extract, list, print};
-use clap::Command;
+//! The commands of the table, as `clap` reads and explains them.
+use crate::table::{ArgumentRow, CHANGING, COMMANDS, CommandRow, Kind};
+use clap::{Arg, ArgAction, Command};
 use std::alloc::{AllocError, Global};
 
-/// The names of the commands, in the order of the help. A name that is not among them is that of none.
-const NAMES: [&str; 15] = [
-    "blank", "info", "check", "list", "print", "extract", "add", "mkdir", "delete", "rename",
-    "protect", "comment", "relabel", "boot", "serve",
-];
-
-/// The program with all its commands, or with the one that the first word names: its words meet no other, and no `help`.
+/// The program with all its commands, or with the one that the first argument names: its arguments meet no other, and no
+/// `help`.
 pub(crate) fn program<'a>(alloc: Global, first: &str) -> Result<Command<'a>, AllocError> {
-    let is_named = NAMES.contains(&first);
-    let mut program = Command::new(alloc, "adf_serve")
-        .bin_name("adf_serve")?
-        .no_binary_name(true)
-        .disable_help_subcommand(is_named)
-        .about(
-            "Serves Amiga floppy images as an AmigaDOS file system handler does. Without a command it runs a script from standard input over a blank floppy `Work`.",
-        )
-        .after_help("`adf_serve COMMAND --help` shows the words of a command, and an example.");
-    for name in NAMES {
-        if is_named && name != first {
-            continue;
-        }
-        if let Some(command) = command_of(alloc, name)? {
-            program = program.subcommand(command)?;
+    program_of(alloc, first, &COMMANDS)
+}
+
+/// The program with the commands of these rows. They are passed in, since a function that names the table takes long to prove.
+fn program_of<'a>(
+    alloc: Global,
+    first: &str,
+    rows: &[CommandRow],
+) -> Result<Command<'a>, AllocError> {
+    let is_named = is_name(first, rows);
+    let mut program = empty_program(alloc, is_named)?;
+    for row in rows {
+        if !is_named || row.name == first {
+            program = program.subcommand(command_of(alloc, row)?)?;
         }
     }
     Ok(program)
 }
 
-/// The command of a name.
-fn command_of<'a>(alloc: Global, name: &str) -> Result<Option<Command<'a>>, AllocError> {
-    let command = match name {
-        "blank" => blank(alloc)?,
-        "info" => info(alloc)?,
-        "check" => check(alloc)?,
-        "list" => list(alloc)?,
-        "print" => print(alloc)?,
-        "extract" => extract(alloc)?,
-        "serve" => serve(alloc)?,
-        _ => return changing_command(alloc, name),
-    };
-    Ok(Some(command))
+/// The program without its commands, and without `help` where a command is named.
+fn empty_program<'a>(alloc: Global, is_named: bool) -> Result<Command<'a>, AllocError> {
+    Ok(
+        Command::new(alloc, "adf_serve")
+            .bin_name("adf_serve")?
+            .no_binary_name(true)
+            .disable_help_subcommand(is_named)
+            .about(
+                "Serves Amiga floppy images as an AmigaDOS file system handler does. Without a command it runs a script from standard input over a blank floppy `Work`.",
+            )
+            .after_help("`adf_serve COMMAND --help` shows the words of a command, and an example."),
+    )
 }
 
-/// The command `blank`.
-fn blank<'a>(alloc: Global) -> Result<Command<'a>, AllocError> {
-    let command = Command::new(alloc, "blank")
-        .about(
-            "Writes a blank image: the Old File System on a double-density floppy, if nothing else is said",
-        )
-        .after_help("Example:\n  adf_serve blank --ffs Work work.adf")
-        .arg(flag(alloc, "ffs", "The Fast File System"))?
-        .arg(flag(alloc, "hd", "A high-density floppy, of 3,520 blocks").conflicts_with("blocks")?)?
-        .arg(option(alloc, "blocks", "N", "How many blocks, from 16 to 101,602"))?
-        .arg(flag(
-            alloc,
-            "letters",
-            "Takes NAME by its letters, which are those of ISO 8859-1",
-        ))?;
-    with_moment(alloc, command)?
-        .arg(word(
-            alloc,
-            "NAME",
-            "The volume's name: 1 to 30 bytes without `/` and `:`",
-        ))?
-        .arg(word(alloc, "FILE", "The file to write"))
+/// Whether one of these rows has this name.
+fn is_name(name: &str, rows: &[CommandRow]) -> bool {
+    for row in rows {
+        if row.name == name {
+            return true;
+        }
+    }
+    false
 }
 
-/// The command `info`.
-fn info<'a>(alloc: Global) -> Result<Command<'a>, AllocError> {
-    Command::new(alloc, "info")
-        .about("Prints what DISK_INFO tells of an image, and whether it boots")
-        .after_help("Example:\n  adf_serve info work.adf")
-        .arg(word(alloc, "FILE", "The image"))
+/// The command of a row.
+fn command_of<'a>(alloc: Global, row: &CommandRow) -> Result<Command<'a>, AllocError> {
+    let mut command = Command::new(alloc, row.name)
+        .about(row.about)
+        .after_help(row.examples);
+    if row.changes {
+        command = with_arguments(alloc, command, &CHANGING)?;
+    }
+    with_arguments(alloc, command, row.arguments)
 }
 
-/// The command `serve`.
-fn serve<'a>(alloc: Global) -> Result<Command<'a>, AllocError> {
-    let command = Command::new(alloc, "serve")
-        .about(
-            "Runs scripts over an image, each as a client on a thread of its own, and prints what each client was told",
-        )
-        .after_help("Example:\n  adf_serve serve --out after.adf work.adf one.txt two.txt")
-        .arg(option(
-            alloc,
-            "out",
-            "FILE",
-            "Writes the image to this file at the end",
-        ))?
-        .arg(option(
-            alloc,
-            "turns",
-            "N",
-            "How often a client tries to put a packet, and to take its reply",
-        )
-        .default_value("100000000"))?;
-    with_moment(alloc, command)?
-        .arg(word(alloc, "IMAGE", "The image"))?
-        .arg(words(alloc, "SCRIPT", "A file of lines, one for each client"))
+/// The command with these arguments behind its own.
+fn with_arguments<'a>(
+    alloc: Global,
+    command: Command<'a>,
+    rows: &[ArgumentRow],
+) -> Result<Command<'a>, AllocError> {
+    let mut command = command;
+    for row in rows {
+        command = command.arg(argument_of(alloc, row)?)?;
+    }
+    Ok(command)
+}
+
+/// The argument of a row.
+fn argument_of<'a>(alloc: Global, row: &ArgumentRow) -> Result<Arg<'a>, AllocError> {
+    let argument = Arg::new(alloc, row.name).help(row.help);
+    Ok(match row.kind {
+        Kind::Flag { excludes } => {
+            let flag = argument.long(row.name).action(ArgAction::SetTrue);
+            return excluding(flag, excludes);
+        }
+        Kind::Option { value, default } => {
+            let option = argument.long(row.name).action(ArgAction::Set);
+            with_default(option.value_name(value), default)
+        }
+        Kind::One => argument.action(ArgAction::Set).required(true),
+        Kind::Dashed => argument
+            .action(ArgAction::Set)
+            .required(true)
+            .allow_hyphen_values(true),
+        Kind::Optional => argument.action(ArgAction::Set),
+        Kind::OneOrMore => argument
+            .action(ArgAction::Append)
+            .required(true)
+            .num_args(1..),
+        Kind::Any => argument.action(ArgAction::Append).num_args(1..),
+    })
+}
+
+/// The argument, which may not be given with any of these.
+fn excluding<'a>(argument: Arg<'a>, names: &[&'static str]) -> Result<Arg<'a>, AllocError> {
+    let mut argument = argument;
+    for name in names {
+        argument = argument.conflicts_with(*name)?;
+    }
+    Ok(argument)
+}
+
+/// The option with this value where it is left out.
+fn with_default<'a>(option: Arg<'a>, default: Option<&'static str>) -> Arg<'a> {
+    match default {
+        Some(value) => option.default_value(value),
+        None => option,
+    }
 }

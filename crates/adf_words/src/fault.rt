@@ -10,6 +10,16 @@ pub enum WordsFault {
     Memory,
 }
 
+impl WordsFault {
+    /// A wrong command line with this text, or no memory where there was none for the text.
+    pub(crate) fn usage(text: Result<String, AllocError>) -> WordsFault {
+        match text {
+            Ok(text) => WordsFault::Usage(text),
+            Err(_) => WordsFault::Memory,
+        }
+    }
+}
+
 impl From<AllocError> for WordsFault {
     ghost use Rattle.std.specs.Prelude.{◌≡◌};
     ghost use Rattle.adf_words.specs.declared.fault.WordsFault.TheVariants.{Memory};

@@ -41,9 +41,9 @@ fn given_word<E: Env>(
     match rt.arg(place, buffer) {
         Ok(length) => Ok(Some(word_of(alloc, place, &buffer[..length])?)),
         Err(FillError::NotPresent) => Ok(None),
-        Err(FillError::TooLong) => Err(WordsFault::Usage(format!(in alloc;
+        Err(FillError::TooLong) => Err(WordsFault::usage(format!(in alloc;
             "error: word {place} is too long\n\nFor more information, try '--help'.\n"
-        )?)),
+        ))),
     }
 }
 

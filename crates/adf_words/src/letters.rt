@@ -16,9 +16,9 @@ pub(crate) fn letters_of<'a>(alloc: Global, word: &'a str) -> Result<&'a str, Wo
     match letter_bytes(alloc, word) {
         Ok(_) => Ok(word),
         Err(LettersFault::Memory) => Err(WordsFault::Memory),
-        Err(LettersFault::NoByte { letter, .. }) => Err(WordsFault::Usage(format!(in alloc;
+        Err(LettersFault::NoByte { letter, .. }) => Err(WordsFault::usage(format!(in alloc;
             "error: the letter '{letter}' of '{word}' stands for no byte: names, paths and comments have letters up to U+00FF\n\nFor more information, try '--help'.\n"
-        )?)),
+        ))),
     }
 }
 
@@ -29,8 +29,8 @@ pub(crate) fn protection_word<'a>(alloc: Global, word: &'a str) -> Result<&'a st
 {
     match protection_of_letters(word.as_bytes()) {
         Some(_) => Ok(word),
-        None => Err(WordsFault::Usage(format!(in alloc;
+        None => Err(WordsFault::usage(format!(in alloc;
             "error: invalid value '{word}' for '<LETTERS>': some letters of 'hsparwed', or these eight with a dash for each that is not there, are expected\n\nFor more information, try '--help'.\n"
-        )?)),
+        ))),
     }
 }

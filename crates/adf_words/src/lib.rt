@@ -7,8 +7,8 @@ mod fault;
 mod given;
 mod letters;
 mod numbers;
-mod parts;
 mod reading;
+mod table;
 mod taking;
 mod wanted;
 

@@ -2,19 +2,17 @@
 ghost use Rattle.std.specs.Prelude.{◌≤◌, IfOk, IfSome};
 
 use crate::fault::WordsFault;
+use crate::table::{JOBS, NumberRange, TIME_STAMP};
 use ados_name::Date3;
 use clap::ArgMatches;
 use std::alloc::Global;
 
-/// The largest number of a moment.
-const LARGEST: u64 = 4_294_967_295;
-
 /// The moment of a command, 0 for each number of it that is left out.
 pub(crate) fn moment_of(alloc: Global, words: &ArgMatches<'_>) -> Result<Date3, WordsFault> {
     Ok(Date3 {
-        days: number_of(alloc, words, "days", 0, LARGEST)? as u32,
-        minutes: number_of(alloc, words, "minutes", 0, LARGEST)? as u32,
-        ticks: number_of(alloc, words, "ticks", 0, LARGEST)? as u32,
+        days: number_of(alloc, words, "days", &TIME_STAMP)? as u32,
+        minutes: number_of(alloc, words, "minutes", &TIME_STAMP)? as u32,
+        ticks: number_of(alloc, words, "ticks", &TIME_STAMP)? as u32,
     })
 }
 
@@ -32,39 +30,38 @@ pub(crate) fn given_moment(
     Ok(None)
 }
 
-/// How many, at least one, where the option is given.
-pub(crate) fn count_of(
-    alloc: Global,
-    words: &ArgMatches<'_>,
-    id: &str,
-) -> Result<Option<u32>, WordsFault>
+/// How many images are checked at a time, at least one, where that is given.
+pub(crate) fn jobs_of(alloc: Global, words: &ArgMatches<'_>) -> Result<Option<u32>, WordsFault>
     ensures { IfOk result (λ count. IfSome count (λ n. 1 ≤ n)) }
 {
-    match words.get_str(id) {
-        Some(_) => Ok(Some(number_of(alloc, words, id, 1, LARGEST)? as u32)),
+    match words.get_str("jobs") {
+        Some(_) => Ok(Some(number_of(alloc, words, "jobs", &JOBS)? as u32)),
         None => Ok(None),
     }
 }
 
-/// The value of a number's option, 0 where it is left out. It is digits alone: a parse by `clap` would take a sign too.
+/// The value of a number's option, 0 where it is left out. It is digits alone: a parse would accept a `+` before them too.
 pub(crate) fn number_of(
     alloc: Global,
     words: &ArgMatches<'_>,
     id: &str,
-    least: u64,
-    most: u64,
+    range: &NumberRange,
 ) -> Result<u64, WordsFault>
-    ensures { IfOk result (λ number. (least ≤ number) × (number ≤ most)) }
+    ensures { IfOk result (λ number. (range.now.least ≤ number) × (number ≤ range.now.most)) }
 {
     let text = words.get_str(id).unwrap_or("0");
-    if text.as_bytes().iter().all(|byte| byte.is_ascii_digit()) {
-        if let Ok(number) = text.parse::<u64>() {
-            if least <= number && number <= most {
-                return Ok(number);
-            }
+    match text.parse::<u64>() {
+        Ok(number) if range.least <= number && number <= range.most && !text.starts_with('+') => {
+            Ok(number)
         }
+        _ => Err(wrong_number(alloc, id, range, text)),
     }
-    Err(WordsFault::Usage(format!(in alloc;
-        "error: invalid value '{text}' for '--{id} <N>': a decimal number from {least} to {most} is expected\n\nFor more information, try '--help'.\n"
-    )?))
+}
+
+/// That an option's value is no number of its range.
+fn wrong_number(alloc: Global, id: &str, range: &NumberRange, text: &str) -> WordsFault {
+    WordsFault::usage(format!(in alloc;
+        "error: invalid value '{text}' for '--{id} <N>': a decimal number from {} to {} is expected\n\nFor more information, try '--help'.\n",
+        range.least, range.most
+    ))
 }

@@ -6,12 +6,12 @@ use crate::commands::program;
 use crate::fault::WordsFault;
 use crate::letters::letters_of;
 use crate::numbers::{moment_of, number_of};
+use crate::table::{BLOCKS, TURNS};
 use crate::taking::{check_job, extract_job, list_job, print_job};
 use crate::wanted::{missing, word_for, words_for};
 use adf_block::Format;
-use adf_block::layout::{FEWEST_BLOCKS, MOST_BLOCKS};
 use adf_jobs::{ImageJob, Job, ServeJob};
-use clap::ArgMatches;
+use clap::{ArgMatches, Command};
 use std::alloc::Global;
 
 /// The blocks of a double-density and of a high-density floppy.
@@ -28,17 +28,33 @@ pub fn read_words<'a>(alloc: Global, words: &'a [String]) -> Result<Job<'a>, Wor
         return Ok(Job::Script);
     };
     let mut command = program(alloc, first.as_str())?;
-    let matches = match command.try_get_matches_from_mut(words) {
-        Ok(matches) => matches,
-        Err(error) => return Err(WordsFault::Usage(error.to_string(alloc)?)),
-    };
-    let job = match matches.subcommand() {
-        Some((name, inner)) => job_of(alloc, name, inner)?,
-        None => None,
-    };
-    match job {
-        Some(job) => Ok(Job::OnImage(job)),
-        None => Err(WordsFault::Usage(command.render_help()?)),
+    Ok(Job::OnImage(asked_job(alloc, &mut command, words)?))
+}
+
+/// The job that these words ask for. Where they name no command, the help is shown.
+fn asked_job<'a>(
+    alloc: Global,
+    program: &mut Command<'a>,
+    words: &'a [String],
+) -> Result<ImageJob<'a>, WordsFault> {
+    match named_job(alloc, program, words)? {
+        Some(job) => Ok(job),
+        None => Err(WordsFault::usage(program.render_help())),
+    }
+}
+
+/// The job of the command that these words name, if they name one.
+fn named_job<'a>(
+    alloc: Global,
+    program: &mut Command<'a>,
+    words: &'a [String],
+) -> Result<Option<ImageJob<'a>>, WordsFault> {
+    match program.try_get_matches_from_mut(words) {
+        Ok(matches) => match matches.subcommand() {
+            Some((name, inner)) => job_of(alloc, name, inner),
+            None => Ok(None),
+        },
+        Err(error) => Err(WordsFault::usage(error.to_string(alloc))),
     }
 }
 
@@ -49,45 +65,29 @@ fn job_of<'a>(
     words: &ArgMatches<'a>,
 ) -> Result<Option<ImageJob<'a>>, WordsFault> {
     let job = match name {
-        "blank" => blank_job(alloc, words)?,
-        "info" => ImageJob::Info {
-            file: word_for(alloc, words, "FILE")?,
-        },
-        "check" => check_job(alloc, words)?,
-        "list" => list_job(alloc, words)?,
-        "print" => print_job(alloc, words)?,
-        "extract" => extract_job(alloc, words)?,
-        "boot" => boot_job(alloc, words)?,
-        "serve" => serve_job(alloc, words)?,
+        "blank" => blank_job(alloc, words),
+        "info" => info_job(alloc, words),
+        "check" => check_job(alloc, words),
+        "list" => list_job(alloc, words),
+        "print" => print_job(alloc, words),
+        "extract" => extract_job(alloc, words),
+        "boot" => boot_job(alloc, words),
+        "serve" => serve_job(alloc, words),
         _ => return change_job(alloc, name, words),
     };
-    Ok(Some(job))
+    Ok(Some(job?))
 }
 
 /// The job of `blank`.
 fn blank_job<'a>(alloc: Global, words: &ArgMatches<'a>) -> Result<ImageJob<'a>, WordsFault> {
-    let (fewest, most) = (u64::from(FEWEST_BLOCKS), u64::from(MOST_BLOCKS));
-    let given = match words.get_str("blocks") {
-        Some(_) => Some(number_of(alloc, words, "blocks", fewest, most)? as u32),
-        None => None,
-    };
-    let usual = if words.get_flag("hd") {
-        HIGH_DENSITY
-    } else {
-        DOUBLE_DENSITY
-    };
-    let format = if words.get_flag("ffs") {
-        Format::Ffs
-    } else {
-        Format::Ofs
-    };
+    let blocks = blocks_of(alloc, words)?;
     let (name, letters) = (word_for(alloc, words, "NAME")?, words.get_flag("letters"));
     if letters {
         letters_of(alloc, name)?;
     }
     Ok(ImageJob::Blank {
-        format,
-        blocks: given.unwrap_or(usual),
+        format: format_of(words),
+        blocks,
         moment: moment_of(alloc, words)?,
         name,
         letters,
@@ -95,17 +95,48 @@ fn blank_job<'a>(alloc: Global, words: &ArgMatches<'a>) -> Result<ImageJob<'a>, 
     })
 }
 
+/// How many blocks a blank image is to have.
+fn blocks_of(alloc: Global, words: &ArgMatches<'_>) -> Result<u32, WordsFault> {
+    if words.get_str("blocks").is_some() {
+        return Ok(number_of(alloc, words, "blocks", &BLOCKS)? as u32);
+    }
+    Ok(if words.get_flag("hd") {
+        HIGH_DENSITY
+    } else {
+        DOUBLE_DENSITY
+    })
+}
+
+/// The format of a blank image.
+fn format_of(words: &ArgMatches<'_>) -> Format {
+    if words.get_flag("ffs") {
+        Format::Ffs
+    } else {
+        Format::Ofs
+    }
+}
+
+/// The job of `info`.
+fn info_job<'a>(alloc: Global, words: &ArgMatches<'a>) -> Result<ImageJob<'a>, WordsFault> {
+    Ok(ImageJob::Info {
+        file: word_for(alloc, words, "FILE")?,
+    })
+}
+
 /// The job of `serve`.
 fn serve_job<'a>(alloc: Global, words: &ArgMatches<'a>) -> Result<ImageJob<'a>, WordsFault> {
+    let image = word_for(alloc, words, "IMAGE")?;
+    let turns = number_of(alloc, words, "turns", &TURNS)?;
+    let moment = moment_of(alloc, words)?;
     let scripts = words_for(alloc, words, "SCRIPT")?;
     if scripts.is_empty() {
-        return Err(missing(alloc, "SCRIPT")?);
+        return Err(missing(alloc, "SCRIPT"));
     }
     Ok(ImageJob::Serve(ServeJob {
-        image: word_for(alloc, words, "IMAGE")?,
+        image,
         scripts,
         out: words.get_str("out"),
-        turns: number_of(alloc, words, "turns", 0, u64::MAX)?,
-        moment: moment_of(alloc, words)?,
+        turns,
+        moment,
     }))
 }

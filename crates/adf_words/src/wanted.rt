@@ -2,7 +2,7 @@
 use crate::fault::WordsFault;
 use crate::letters::letters_of;
 use clap::ArgMatches;
-use std::alloc::{AllocError, Global};
+use std::alloc::Global;
 
 /// The word of a command that has to be there.
 pub(crate) fn word_for<'a>(
@@ -12,15 +12,15 @@ pub(crate) fn word_for<'a>(
 ) -> Result<&'a str, WordsFault> {
     match words.get_str(id) {
         Some(word) => Ok(word),
-        None => Err(missing(alloc, id)?),
+        None => Err(missing(alloc, id)),
     }
 }
 
 /// That a word is missing.
-pub(crate) fn missing(alloc: Global, id: &str) -> Result<WordsFault, AllocError> {
-    Ok(WordsFault::Usage(format!(in alloc;
+pub(crate) fn missing(alloc: Global, id: &str) -> WordsFault {
+    WordsFault::usage(format!(in alloc;
         "error: <{id}> is missing\n\nFor more information, try '--help'.\n"
-    )?))
+    ))
 }
 
 /// The words of a command that may be many.
@@ -46,9 +46,8 @@ pub(crate) fn paths_for<'a>(
     alloc: Global,
     words: &ArgMatches<'a>,
 ) -> Result<Vec<&'a str>, WordsFault> {
-    let paths = words_for(alloc, words, "PATH")?;
-    for path in paths.iter() {
+    for path in words.get_strs("PATH").unwrap_or(&[]) {
         letters_of(alloc, *path)?;
     }
-    Ok(paths)
+    words_for(alloc, words, "PATH")
 }

@@ -1,0 +1,467 @@
+//! The commands and their arguments, with the texts of their help.
+use adf_block::layout::{FEWEST_BLOCKS, MOST_BLOCKS};
+
+/// A command.
+#[derive(Clone, Copy)]
+pub(crate) struct CommandRow {
+    pub(crate) name: &'static str,
+    pub(crate) about: &'static str,
+    pub(crate) examples: &'static str,
+    /// Whether it changes an image. Then it has the arguments `CHANGING`, before its own.
+    pub(crate) changes: bool,
+    /// Its own arguments, in the order of the help.
+    pub(crate) arguments: &'static [ArgumentRow],
+}
+
+/// An argument of a command.
+#[derive(Clone, Copy)]
+pub(crate) struct ArgumentRow {
+    /// Its name. An option is given by two dashes and its name.
+    pub(crate) name: &'static str,
+    pub(crate) kind: Kind,
+    pub(crate) help: &'static str,
+}
+
+/// What an argument is.
+#[derive(Clone, Copy)]
+pub(crate) enum Kind {
+    /// An option without a value, and the names of the arguments that may not be given with it.
+    Flag {
+        excludes: &'static [&'static str],
+    },
+    /// An option with a value, what the help calls the value, and the value of an option that is left out.
+    Option {
+        value: &'static str,
+        default: Option<&'static str>,
+    },
+    /// One value that is required.
+    One,
+    /// One value that is required and may begin with a dash.
+    Dashed,
+    /// One value that may be left out.
+    Optional,
+    /// One value or more.
+    OneOrMore,
+    /// Any number of values.
+    Any,
+}
+
+/// The numbers that an option accepts, the least and the greatest among them.
+#[derive(Clone, Copy)]
+pub(crate) struct NumberRange {
+    pub(crate) least: u64,
+    pub(crate) most: u64,
+}
+
+/// The numbers of `blocks`.
+pub(crate) const BLOCKS: NumberRange = NumberRange {
+    least: FEWEST_BLOCKS as u64,
+    most: MOST_BLOCKS as u64,
+};
+
+/// The numbers of `jobs`.
+pub(crate) const JOBS: NumberRange = NumberRange {
+    least: 1,
+    most: 4_294_967_295,
+};
+
+/// The numbers of `turns`.
+pub(crate) const TURNS: NumberRange = NumberRange {
+    least: 0,
+    most: 18_446_744_073_709_551_615,
+};
+
+/// The numbers of `days`, `minutes` and `ticks`.
+pub(crate) const TIME_STAMP: NumberRange = NumberRange {
+    least: 0,
+    most: 4_294_967_295,
+};
+
+const FLAG: Kind = Kind::Flag { excludes: &[] };
+
+/// An option with a number, and without a default.
+const NUMBER: Kind = Kind::Option {
+    value: "N",
+    default: None,
+};
+
+/// An option with a number, 0 where it is left out.
+const NUMBER_OR_ZERO: Kind = Kind::Option {
+    value: "N",
+    default: Some("0"),
+};
+
+const DAYS_OR_ZERO: ArgumentRow = ArgumentRow {
+    name: "days",
+    kind: NUMBER_OR_ZERO,
+    help: "Days since 1 January 1978",
+};
+
+const MINUTES_OR_ZERO: ArgumentRow = ArgumentRow {
+    name: "minutes",
+    kind: NUMBER_OR_ZERO,
+    help: "Minutes past midnight",
+};
+
+const TICKS_OR_ZERO: ArgumentRow = ArgumentRow {
+    name: "ticks",
+    kind: NUMBER_OR_ZERO,
+    help: "Ticks of 1/50 second past the minute",
+};
+
+const IMAGE: ArgumentRow = ArgumentRow {
+    name: "IMAGE",
+    kind: Kind::One,
+    help: "The image",
+};
+
+const FORCE: ArgumentRow = ArgumentRow {
+    name: "force",
+    kind: FLAG,
+    help: "Replaces files that are there",
+};
+
+const ENTRY: ArgumentRow = ArgumentRow {
+    name: "PATH",
+    kind: Kind::One,
+    help: "Its path, from the root",
+};
+
+/// The arguments of each command that changes an image.
+pub(crate) const CHANGING: [ArgumentRow; 5] = [
+    ArgumentRow {
+        name: "out",
+        kind: Kind::Option {
+            value: "FILE",
+            default: None,
+        },
+        help: "Writes the image to this file, and leaves IMAGE as it is",
+    },
+    ArgumentRow {
+        name: "days",
+        kind: NUMBER,
+        help: "The moment: days since 1 January 1978. Without a number of it that of the clock (UTC)",
+    },
+    ArgumentRow {
+        name: "minutes",
+        kind: NUMBER,
+        help: "The moment: minutes past midnight",
+    },
+    ArgumentRow {
+        name: "ticks",
+        kind: NUMBER,
+        help: "The moment: ticks of 1/50 second past the minute",
+    },
+    IMAGE,
+];
+
+/// All commands, in the order of the help.
+pub(crate) const COMMANDS: [CommandRow; 15] = [
+    CommandRow {
+        name: "blank",
+        about: "Writes a blank image: the Old File System on a double-density floppy, if nothing else is said",
+        examples: "Example:\n  adf_serve blank --ffs Work work.adf",
+        changes: false,
+        arguments: &[
+            ArgumentRow {
+                name: "ffs",
+                kind: FLAG,
+                help: "The Fast File System",
+            },
+            ArgumentRow {
+                name: "hd",
+                kind: Kind::Flag {
+                    excludes: &["blocks"],
+                },
+                help: "A high-density floppy, of 3,520 blocks",
+            },
+            ArgumentRow {
+                name: "blocks",
+                kind: NUMBER,
+                help: "How many blocks, from 16 to 101,602",
+            },
+            ArgumentRow {
+                name: "letters",
+                kind: FLAG,
+                help: "Takes NAME by its letters, which are those of ISO 8859-1",
+            },
+            DAYS_OR_ZERO,
+            MINUTES_OR_ZERO,
+            TICKS_OR_ZERO,
+            ArgumentRow {
+                name: "NAME",
+                kind: Kind::One,
+                help: "The volume's name: 1 to 30 bytes without `/` and `:`",
+            },
+            ArgumentRow {
+                name: "FILE",
+                kind: Kind::One,
+                help: "The file to write",
+            },
+        ],
+    },
+    CommandRow {
+        name: "info",
+        about: "Prints what DISK_INFO tells of an image, and whether it boots",
+        examples: "Example:\n  adf_serve info work.adf",
+        changes: false,
+        arguments: &[ArgumentRow {
+            name: "FILE",
+            kind: Kind::One,
+            help: "The image",
+        }],
+    },
+    CommandRow {
+        name: "check",
+        about: "Prints `ok`, or why an image is refused; of several images, and of all in a directory, a line each",
+        examples: "Examples:\n  adf_serve check work.adf\n  adf_serve check --jobs 4 --all floppies more/work.adf",
+        changes: false,
+        arguments: &[
+            ArgumentRow {
+                name: "jobs",
+                kind: NUMBER,
+                help: "How many images are checked at a time, as many as there are processors if left out",
+            },
+            ArgumentRow {
+                name: "all",
+                kind: FLAG,
+                help: "Prints every fault, not one alone",
+            },
+            ArgumentRow {
+                name: "json",
+                kind: FLAG,
+                help: "Prints a JSON object for each image",
+            },
+            ArgumentRow {
+                name: "FILE",
+                kind: Kind::OneOrMore,
+                help: "An image, or a directory: its files with the endings `.adf` and `.hdf`, and those of all directories below",
+            },
+        ],
+    },
+    CommandRow {
+        name: "list",
+        about: "Prints the directories and files of an image",
+        examples: "Examples:\n  adf_serve list work.adf\n  adf_serve list --letters work.adf s",
+        changes: false,
+        arguments: &[
+            ArgumentRow {
+                name: "letters",
+                kind: FLAG,
+                help: "Prints names as letters, which are those of ISO 8859-1",
+            },
+            IMAGE,
+            ArgumentRow {
+                name: "PATH",
+                kind: Kind::Optional,
+                help: "A directory: what is in it, and no more",
+            },
+        ],
+    },
+    CommandRow {
+        name: "print",
+        about: "Writes the bytes of a file to standard output",
+        examples: "Example:\n  adf_serve print work.adf s/startup-sequence",
+        changes: false,
+        arguments: &[
+            IMAGE,
+            ArgumentRow {
+                name: "PATH",
+                kind: Kind::One,
+                help: "The file, from the root",
+            },
+        ],
+    },
+    CommandRow {
+        name: "extract",
+        about: "Writes files and directories of an image as those of the host",
+        examples: "Examples:\n  adf_serve extract --to here work.adf\n  adf_serve extract --meta --to here work.adf s c/dir\n  adf_serve extract --damaged --to here work.adf",
+        changes: false,
+        arguments: &[
+            ArgumentRow {
+                name: "to",
+                kind: Kind::Option {
+                    value: "DIR",
+                    default: Some("."),
+                },
+                help: "The directory to write to, which is made if need be",
+            },
+            ArgumentRow {
+                name: "meta",
+                kind: FLAG,
+                help: "Writes the protection, the date and the comment of each `x` to `x.uaem`",
+            },
+            FORCE,
+            ArgumentRow {
+                name: "damaged",
+                kind: Kind::Flag {
+                    excludes: &["force", "PATH"],
+                },
+                help: "Writes all that can be trusted of an image that may be refused, and prints a line for each file and directory",
+            },
+            IMAGE,
+            ArgumentRow {
+                name: "PATH",
+                kind: Kind::Any,
+                help: "What to write, with all that is in it; without any, all that is in the image",
+            },
+        ],
+    },
+    CommandRow {
+        name: "add",
+        about: "Puts files of the host, and directories with all that is in them, into an image",
+        examples: "Example:\n  adf_serve add --to s work.adf startup-sequence",
+        changes: true,
+        arguments: &[
+            ArgumentRow {
+                name: "to",
+                kind: Kind::Option {
+                    value: "PATH",
+                    default: None,
+                },
+                help: "The directory to put them into, the root if left out",
+            },
+            FORCE,
+            ArgumentRow {
+                name: "FILE",
+                kind: Kind::OneOrMore,
+                help: "A file or directory of the host. What `x.uaem` tells of `x` is kept",
+            },
+        ],
+    },
+    CommandRow {
+        name: "mkdir",
+        about: "Makes directories",
+        examples: "Example:\n  adf_serve mkdir work.adf s c devs devs/keymaps",
+        changes: true,
+        arguments: &[ArgumentRow {
+            name: "PATH",
+            kind: Kind::OneOrMore,
+            help: "A directory to make, from the root",
+        }],
+    },
+    CommandRow {
+        name: "delete",
+        about: "Deletes files and empty directories",
+        examples: "Example:\n  adf_serve delete --all work.adf devs",
+        changes: true,
+        arguments: &[
+            ArgumentRow {
+                name: "all",
+                kind: FLAG,
+                help: "Deletes a directory with all that is in it",
+            },
+            ArgumentRow {
+                name: "force",
+                kind: FLAG,
+                help: "Deletes also what is protected from it",
+            },
+            ArgumentRow {
+                name: "PATH",
+                kind: Kind::OneOrMore,
+                help: "What to delete, from the root",
+            },
+        ],
+    },
+    CommandRow {
+        name: "rename",
+        about: "Moves a file or a directory to another place",
+        examples: "Example:\n  adf_serve rename work.adf s/old c/new",
+        changes: true,
+        arguments: &[
+            ArgumentRow {
+                name: "OLD",
+                kind: Kind::One,
+                help: "Its path, from the root",
+            },
+            ArgumentRow {
+                name: "NEW",
+                kind: Kind::One,
+                help: "Its new path, from the root",
+            },
+        ],
+    },
+    CommandRow {
+        name: "protect",
+        about: "Sets the protection of a file or a directory",
+        examples: "Examples:\n  adf_serve protect work.adf c/dir rwed\n  adf_serve protect work.adf s/startup-sequence -s--rw-d",
+        changes: true,
+        arguments: &[
+            ENTRY,
+            ArgumentRow {
+                name: "LETTERS",
+                kind: Kind::Dashed,
+                help: "Letters of `hsparwed`, with or without dashes for those left out",
+            },
+        ],
+    },
+    CommandRow {
+        name: "comment",
+        about: "Sets the comment of a file or a directory",
+        examples: "Example:\n  adf_serve comment work.adf c/dir 'lists directories'",
+        changes: true,
+        arguments: &[
+            ENTRY,
+            ArgumentRow {
+                name: "TEXT",
+                kind: Kind::One,
+                help: "The comment, of at most 79 letters",
+            },
+        ],
+    },
+    CommandRow {
+        name: "relabel",
+        about: "Gives the volume another name",
+        examples: "Example:\n  adf_serve relabel work.adf Games",
+        changes: true,
+        arguments: &[ArgumentRow {
+            name: "NAME",
+            kind: Kind::One,
+            help: "The name: 1 to 30 letters without `/` and `:`",
+        }],
+    },
+    CommandRow {
+        name: "boot",
+        about: "Writes a boot block with the right sum, or takes the boot code away",
+        examples: "Examples:\n  adf_serve boot work.adf boot.bin\n  adf_serve boot work.adf",
+        changes: true,
+        arguments: &[ArgumentRow {
+            name: "FILE",
+            kind: Kind::Optional,
+            help: "The boot block, of at most 1,024 bytes; its first four become those of the image",
+        }],
+    },
+    CommandRow {
+        name: "serve",
+        about: "Runs scripts over an image, each as a client on a thread of its own, and prints what each client was told",
+        examples: "Example:\n  adf_serve serve --out after.adf work.adf one.txt two.txt",
+        changes: false,
+        arguments: &[
+            ArgumentRow {
+                name: "out",
+                kind: Kind::Option {
+                    value: "FILE",
+                    default: None,
+                },
+                help: "Writes the image to this file at the end",
+            },
+            ArgumentRow {
+                name: "turns",
+                kind: Kind::Option {
+                    value: "N",
+                    default: Some("100000000"),
+                },
+                help: "How often a client tries to put a packet, and to take its reply",
+            },
+            DAYS_OR_ZERO,
+            MINUTES_OR_ZERO,
+            TICKS_OR_ZERO,
+            IMAGE,
+            ArgumentRow {
+                name: "SCRIPT",
+                kind: Kind::OneOrMore,
+                help: "A file of lines, one for each client",
+            },
+        ],
+    },
+];
