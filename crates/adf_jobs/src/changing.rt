@@ -3,7 +3,7 @@
 use ados_name::Date3;
 
 /// A change of a volume, and where the image goes.
-#[derive(Debug, Drop)]
+#[derive(Drop)]
 pub struct ChangeJob<'a> {
     pub image: &'a str,
     /// The file to write in place of the image's own.
@@ -14,7 +14,7 @@ pub struct ChangeJob<'a> {
 }
 
 /// A change of a volume, which is made whole or not at all.
-#[derive(Debug, Drop)]
+#[derive(Drop)]
 pub enum Change<'a> {
     /// `add`: files and directories of the host into a directory.
     Add {

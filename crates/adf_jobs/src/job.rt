@@ -7,7 +7,7 @@ use adf_block::Format;
 use ados_name::Date3;
 
 /// A job of the program.
-#[derive(Debug, Drop)]
+#[derive(Drop)]
 pub enum Job<'a> {
     /// No words: a script from standard input over a blank floppy.
     Script,
@@ -19,7 +19,7 @@ pub enum Job<'a> {
 ///
 /// Names and paths of files of the host are the words themselves. So are names, paths and comments of an image: their
 /// letters U+0000 to U+00FF stand for the bytes of the same number, and no byte stands for any other letter.
-#[derive(Debug, Drop)]
+#[derive(Drop)]
 pub enum ImageJob<'a> {
     /// `blank`: a blank image of so many blocks. With `letters` the name's letters stand for bytes, else its bytes are
     /// those of the word.
@@ -61,7 +61,7 @@ pub enum ImageJob<'a> {
 }
 
 /// What `serve` is asked for.
-#[derive(Debug, Drop)]
+#[derive(Drop)]
 pub struct ServeJob<'a> {
     pub image: &'a str,
     /// The scripts of the clients 1, 2 and so on.

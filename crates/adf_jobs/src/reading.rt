@@ -2,7 +2,7 @@
 ghost use Rattle.std.specs.Prelude.{◌<◌, length};
 
 /// What `check` is asked for.
-#[derive(Debug, Drop)]
+#[derive(Drop)]
 pub struct CheckJob<'a> {
     /// Image files, and directories with image files in them.
     pub files: Vec<&'a str>,
@@ -16,7 +16,7 @@ pub struct CheckJob<'a> {
 }
 
 /// What `list` is asked for.
-#[derive(Debug, Drop)]
+#[derive(Drop)]
 pub struct ListJob<'a> {
     pub image: &'a str,
     /// The directory whose entries are listed, the root where none is named.
@@ -26,7 +26,7 @@ pub struct ListJob<'a> {
 }
 
 /// What `extract` is asked for.
-#[derive(Debug, Drop)]
+#[derive(Drop)]
 pub struct ExtractJob<'a> {
     pub image: &'a str,
     /// The entries, each with all that lies below it; with none, all that lies in the root.
@@ -40,7 +40,7 @@ pub struct ExtractJob<'a> {
 }
 
 /// What `extract --damaged` is asked for.
-#[derive(Debug, Drop)]
+#[derive(Drop)]
 pub struct SalvageJob<'a> {
     pub image: &'a str,
     /// The directory of the host that is written to.
