@@ -1,36 +1,38 @@
 #!/usr/bin/env bash
-# Refuses each growth of memory in turn while a crate's tests run, and tells how the tests then end.
+# Refuses each growth of memory in turn while the tests of `cases` run, and tells how they then end.
 #
-#   tools/growths.sh CRATE [TEST..]
+#   tools/growths.sh [TEST..]
 #
-# The tests are those of the program crates/CRATE/out/CRATE_tests, which `rt ci` leaves; each is run once for each growth
-# that it makes, with that one refused (by the shim tests/growths.c, which needs `cc`). A test that
-# passes, or ends with want of memory as its error, is well; one that ends in another way is printed with its message, and
-# the status is then 1. Runs take milliseconds, but there are as many as growths, so this isn't a part of `rt ci`.
+# The tests are these, or those with `refused` in their names, of the program crates/cases/out/cases_tests, which `rt ci`
+# leaves. Each is run once with the shim tests/growths.c, which needs `cc`: at each growth a child process goes on with that
+# one refused. A child that passes, or ends with out of memory as its error, is well; what any other writes is printed, and
+# its test has failed. Without `cc` it says so, and each test is run with nothing refused.
 set -euo pipefail
-name=${1:?the name of a crate}
-tests=$(cd "$(dirname "$0")/../crates/$name/out" && pwd)/${name}_tests
+top=$(cd "$(dirname "$0")/.." && pwd)
+tests=$top/crates/cases/out/cases_tests
 room=$(mktemp -d)
 trap 'rm -rf "$room"' EXIT
+shim=$room/shim.so
+passed=0 failed=0
 
-cc -O2 -shared -fPIC -o "$room/shim.so" "$(dirname "$0")/../tests/growths.c" -ldl
-
-status=0
-[ $# -gt 1 ] || set -- "$name" $("$tests" --list | sed -n "s/: test$//p")
-for test in "${@:2}"; do
-    COUNTED=$room/counted LD_PRELOAD=$room/shim.so "$tests" "$test" > "$room/told" 2>&1 || { cat "$room/told"; exit 1; }
-    growths=$(od -An -t d8 "$room/counted" | tr -d ' ')
-    passed=0 wanting=0
-    for ((n = 1; n <= growths; n++)); do
-        if { REFUSED=$n LD_PRELOAD=$room/shim.so "$tests" "$test" > "$room/told" 2>&1; } 2> /dev/null; then
-            passed=$((passed + 1))
-        elif grep -qE '^error: .*(AllocError|AllocFailed|NoMemory)' "$room/told"; then
-            wanting=$((wanting + 1))
-        else
-            echo "$test, growth $n: $(cat "$room/told")"
-            status=1
-        fi
-    done
-    echo "$test: $growths growths, $passed passed, $wanting ended with want of memory"
+if ! command -v cc >/dev/null || ! cc -std=c11 -O2 -shared -fPIC -o "$shim" "$top/tests/growths.c" -ldl; then
+    echo 'skip  growths that are refused: there is no cc'
+    shim=
+fi
+# shellcheck disable=SC2046
+[ $# -gt 0 ] || set -- $("$tests" --list | sed -n '/refused/s/: test$//p')
+for test in "$@"; do
+    growths=0 whole=0 wanting=0 status=0
+    EACH=$room/counts LD_PRELOAD=$shim "$tests" "$test" >"$room/told" 2>&1 || status=$?
+    [ ! -s "$room/counts" ] || read -r growths whole wanting < <(od -An -t d8 -w24 "$room/counts")
+    if [ "$status" = 0 ] && [ $((whole + wanting)) = "$growths" ]; then
+        passed=$((passed + 1))
+        echo "ok    $test: $growths growths, $whole passed, $wanting ended with out of memory"
+    else
+        failed=$((failed + 1))
+        echo "FAIL  $test: $growths growths, $whole passed, $wanting ended with out of memory"
+        cat "$room/told"
+    fi
 done
-exit $status
+echo "$passed passed, $failed failed"
+[ "$failed" = 0 ]

@@ -15,6 +15,3 @@ pub use held::{HeldFile, HoldFault, hold, hold_target};
 pub use image_file::{ImageFault, load_bounded, read_image_file, size_fault};
 pub use replacing::{ReplaceFault, replace_file, write_beside};
 pub use sketched::{read_sketch, sketch_image_file};
-
-#[cfg(test)]
-mod tests;

@@ -18,6 +18,3 @@ pub use info::{DiskInfo, FileInfo};
 pub use packet::{NO_LOCK, Packet};
 pub use results::Results;
 pub use text::Text;
-
-#[cfg(test)]
-mod tests;

@@ -1,8 +1,11 @@
-//! Blank volumes `Work`.
+//! Handlers over a blank volume `Work`, and what a case that goes as it says tells.
+ghost use Rattle.std.specs.Prelude.{◌≡◌, false, IfOk};
 ghost use Rattle.adf_block.specs.Image.{IsSize};
 
 use adf_block::Format;
+use ados_handler::Handler;
 use ados_name::{Date3, Name};
+use ados_port::Server;
 use ados_volume::{Volume, blank};
 use std::alloc::{AllocError, Global};
 
@@ -24,4 +27,11 @@ pub(crate) fn work(alloc: Global, blocks: u32) -> Result<Volume, AllocError>
         Ok(name) => blank(alloc, Format::Ffs, blocks, name, START),
         Err(_) => Err(AllocError),
     }
+}
+
+/// The handler of the blank floppy. It has not died.
+pub(crate) fn blank_handler(alloc: Global) -> Result<Handler, AllocError>
+    ensures { IfOk result (λ handler. handler.session.died ≡ false) }
+{
+    Ok(Handler::new(alloc, work(alloc, FLOPPY)?))
 }

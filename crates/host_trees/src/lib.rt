@@ -12,6 +12,3 @@ pub use notes::{note_name, noted_name};
 pub use paths::{HostPath, target_path};
 pub use walk::{HostEntry, HostKind, HostTree, PassedOver, PassedWhy, WalkFault, host_tree};
 pub use writing::{Content, HostItem, WriteFault, WriteWhy, write_tree};
-
-#[cfg(test)]
-mod tests;

@@ -1,0 +1,221 @@
+//! Cases of the ends of a port, over the handler of the blank floppy: each is a text whose rows are gone through.
+use crate::fixtures::{START, blank_handler};
+use crate::playing::play;
+use std::alloc::Global;
+use std::process::Abort;
+use std::sync::Wait;
+use std::test::Fail;
+
+/// A case goes as it says.
+pub(crate) fn expect<R: Abort + Wait>(rt: &R, alloc: Global, case: &str) -> Result<(), Fail> {
+    let handler = blank_handler(alloc)?;
+    let strayed = play(rt, alloc, handler, START, case)?;
+    assert!(rt; strayed.is_empty(), "{strayed}");
+    Ok(())
+}
+
+/// A reply waits where the ring is full, and is posted once there is a place.
+const RINGS: &str = "\
+open 1 1
+put 1 other 999 = accepted 1
+put 1 other 999 = accepted 2
+put 1 other 999 = accepted 3
+batch 8 = served 3
+post = 2 wait
+take 1 = 1 0 209
+post = 1 wait
+take 1 = 2 0 209
+gather = alive, untaken 1 3-3 0 209";
+
+/// Each batch first posts what waits, also where no packet waits to be served.
+const BATCHES_POST: &str = "\
+open 1 1
+many 1 3 other 999 = accepted 1 to 3
+batch 8 = served 3
+take 1 = 1 0 209
+take 1 = nothing
+batch 8 = served 0
+take 1 = 2 0 209
+batch 0 = served 0
+take 1 = 3 0 209
+gather = alive, untaken 1";
+
+/// The packets that are left stand in the order in which they were put, whoever put them.
+const LEFT_IN_ORDER: &str = "\
+open 3 8
+put 2 other 999 = accepted 1
+put 3 diskinfo = accepted 1
+put 1 other 999 = accepted 1
+put 2 die = accepted 2
+put 1 diskinfo = accepted 2
+put 3 other 999 = accepted 2
+batch 1 = served 1
+gather = alive, unanswered 3 25, unanswered 1 999, unanswered 2 5, unanswered 1 25, unanswered 3 999, \
+untaken 1, untaken 2 1-1 0 209, untaken 3";
+
+/// A packet behind two that were served is left.
+const HALF_SERVED: &str = "\
+open 2 8
+put 1 other 999 = accepted 1
+put 1 other 999 = accepted 2
+put 2 diskinfo = accepted 1
+batch 2 = served 2
+gather = alive, unanswered 2 25, untaken 1 1-2 0 209, untaken 2";
+
+/// After DIE every put is refused.
+const CLOSE: &str = "\
+open 2 8
+put 1 die = accepted 1
+put 2 other 999 = accepted 1
+batch 8 = served 2
+take 1 = 1 -1 0
+take 2 = 1 0 218
+ask 1 = shut
+ask 2 = shut
+put 1 other 999 = closed 999
+put 2 other 999 = closed 999
+batches = closed
+gather = dead, untaken 1, untaken 2";
+
+/// A client knows of the close before it takes the reply to its DIE, and after.
+const DIE_IN_THE_RING: &str = "\
+open 1 1
+ask 1 = open
+put 1 die = accepted 1
+batch 1 = served 1
+ask 1 = shut
+take 1 = 1 -1 0
+ask 1 = shut
+put 1 other 999 = closed 999
+gather = dead, untaken 1";
+
+/// A client that has put and taken nothing knows of the close.
+const NEWS_OF_THE_CLOSE: &str = "\
+open 3 8
+put 1 die = accepted 1
+batch 1 = served 1
+ask 3 = shut
+put 3 other 999 = closed 999
+take 3 = nothing
+gather = dead, untaken 1 1-1 -1 0, untaken 2, untaken 3";
+
+/// Batches end where three in a row found nothing.
+const IDLE_LIMIT: &str = "\
+open 1 2
+batches = idle
+put 1 other 999 = accepted 1
+put 1 other 999 = accepted 2
+batches = idle
+take 1 = 1 0 209
+take 1 = 2 0 209
+gather = alive, untaken 1";
+
+/// Neither the queue nor the list beside a ring has an end.
+const A_THOUSAND_PUTS: &str = "\
+open 1 1
+many 1 1000 other 999 = accepted 1 to 1000
+batch 64 = served 64
+batch 64 = served 64
+batch 64 = served 64
+batch 64 = served 64
+batch 64 = served 64
+batch 64 = served 64
+batch 64 = served 64
+batch 64 = served 64
+batch 64 = served 64
+batch 64 = served 64
+batch 64 = served 64
+batch 64 = served 64
+batch 64 = served 64
+batch 64 = served 64
+batch 64 = served 64
+batch 64 = served 40
+batch 64 = served 0
+post = 999 wait
+gather = alive, untaken 1 1-1000 0 209";
+
+/// Packets behind a DIE are left where no batch came to them.
+const UNANSWERED_AFTER_DIE: &str = "\
+open 2 8
+put 1 die = accepted 1
+many 2 3 other 999 = accepted 1 to 3
+batch 2 = served 2
+gather = dead, unanswered 2 999, unanswered 2 999, untaken 1 1-1 -1 0, untaken 2 1-1 0 218";
+
+/// A batch for which there is no memory serves nothing: no list has room for so many. The next one serves every packet.
+pub(crate) const BATCH_REFUSED: &str = "\
+open 2 1 again
+put 1 other 999 = accepted 1
+put 2 other 999 = accepted 1
+put 1 other 999 = accepted 2
+batch 18446744073709551615 = no memory
+take 1 = nothing
+batch 8 = served 3
+gather = alive, untaken 1 1-2 0 209, untaken 2 1-1 0 209";
+
+/// Each call is made once more where its growth was refused: `tools/growths.sh` refuses each in turn.
+pub(crate) const GATHER_REFUSED: &str = "\
+open 2 1 again
+many 1 40 other 999 = accepted 1 to 40
+batches = idle
+put 2 die = accepted 1
+take 1 = 1 0 209
+gather = alive, unanswered 2 5, untaken 1 2-40 0 209, untaken 2";
+
+/// A port over the server that was handed back serves and closes.
+pub(crate) const PORT_REFUSED: &str = "\
+open 1 1 again
+put 1 die = accepted 1
+put 1 other 999 = accepted 2
+batches = closed
+gather = dead, untaken 1 1-1 -1 0 2-2 0 218";
+
+#[test]
+fn rings(rt: HostRuntime) -> Result<(), Fail> {
+    expect(&rt, rt.alloc(), RINGS)
+}
+
+#[test]
+fn batches_post(rt: HostRuntime) -> Result<(), Fail> {
+    expect(&rt, rt.alloc(), BATCHES_POST)
+}
+
+#[test]
+fn left_in_order(rt: HostRuntime) -> Result<(), Fail> {
+    expect(&rt, rt.alloc(), LEFT_IN_ORDER)
+}
+
+#[test]
+fn half_served(rt: HostRuntime) -> Result<(), Fail> {
+    expect(&rt, rt.alloc(), HALF_SERVED)
+}
+
+#[test]
+fn close(rt: HostRuntime) -> Result<(), Fail> {
+    expect(&rt, rt.alloc(), CLOSE)
+}
+
+#[test]
+fn die_in_the_ring(rt: HostRuntime) -> Result<(), Fail> {
+    expect(&rt, rt.alloc(), DIE_IN_THE_RING)
+}
+
+#[test]
+fn news_of_the_close(rt: HostRuntime) -> Result<(), Fail> {
+    expect(&rt, rt.alloc(), NEWS_OF_THE_CLOSE)
+}
+
+#[test]
+fn idle_limit(rt: HostRuntime) -> Result<(), Fail> {
+    expect(&rt, rt.alloc(), IDLE_LIMIT)
+}
+
+#[test]
+fn a_thousand_puts(rt: HostRuntime) -> Result<(), Fail> {
+    expect(&rt, rt.alloc(), A_THOUSAND_PUTS)
+}
+
+#[test]
+fn unanswered_after_die(rt: HostRuntime) -> Result<(), Fail> {
+    expect(&rt, rt.alloc(), UNANSWERED_AFTER_DIE)
+}

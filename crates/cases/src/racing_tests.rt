@@ -1,0 +1,71 @@
+//! Cases of clients that put at the same time, over the handler of the blank floppy.
+use crate::fixtures::{START, blank_handler};
+use crate::left::left_text;
+use crate::racing::{Plan, race};
+use crate::share::is_parted;
+use std::alloc::Global;
+use std::process::Abort;
+use std::sync::Wait;
+use std::test::Fail;
+use std::thread::Threads;
+
+/// Each client counts all its packets or replies, and this is left.
+fn expect<R: Threads + Wait + Abort + Copy + Send + Drop + 'static>(
+    rt: &R,
+    alloc: Global,
+    plan: Plan,
+    wanted: &str,
+) -> Result<(), Fail> {
+    let Some(raced) = race(rt, alloc, blank_handler(alloc)?, START, plan) else {
+        return Err(Fail::from("memory or a thread"));
+    };
+    assert!(rt; raced.counts.len() == plan.clients);
+    assert!(rt; raced.counts.iter().all(|count| *count == plan.puts));
+    let left = left_text(alloc, &raced.left)?;
+    assert_eq!(rt; left.as_str(), wanted);
+    Ok(())
+}
+
+#[test]
+fn four_threads_put(rt: HostRuntime) -> Result<(), Fail> {
+    let plan = Plan {
+        clients: 4,
+        ring: 8,
+        puts: 1_000,
+        die_at: None,
+        takes: false,
+    };
+    let wanted =
+        "alive, untaken 1 1-1000 0 209, untaken 2 1-1000 0 209, untaken 3 1-1000 0 209, untaken 4 1-1000 0 209";
+    expect(&rt, rt.alloc(), plan, wanted)
+}
+
+/// Each client puts all its packets before it takes a reply, so that replies wait beside a ring of one place until a batch posts them.
+#[test]
+fn put_ahead(rt: HostRuntime) -> Result<(), Fail> {
+    let plan = Plan {
+        clients: 2,
+        ring: 1,
+        puts: 100,
+        die_at: None,
+        takes: true,
+    };
+    expect(&rt, rt.alloc(), plan, "alive, untaken 1, untaken 2")
+}
+
+#[test]
+fn racing_die(rt: HostRuntime) -> Result<(), Fail> {
+    let plan = Plan {
+        clients: 4,
+        ring: 8,
+        puts: 1_000,
+        die_at: Some(500),
+        takes: false,
+    };
+    let Some(raced) = race(&rt, rt.alloc(), blank_handler(rt.alloc())?, START, plan) else {
+        return Err(Fail::from("memory or a thread"));
+    };
+    assert!(rt; raced.counts.len() == 4);
+    assert!(rt; is_parted(&raced, 500));
+    Ok(())
+}

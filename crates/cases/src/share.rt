@@ -1,0 +1,83 @@
+//! What a DIE in a race makes of each client's packets.
+use crate::racing::Raced;
+use crate::spoken::Spoken;
+use ados_port::Reply;
+
+/// The results of a packet that the server does not know, of the DIE that ends it, and of every packet behind that.
+const UNKNOWN: (i32, i32) = (0, 209);
+
+const ENDED: (i32, i32) = (-1, 0);
+
+const DEAD: (i32, i32) = (0, 218);
+
+/// A client's replies: how many stand before the DIE, whether it is among them, and how many stand behind it.
+#[derive(Clone, Copy)]
+struct Share {
+    before: usize,
+    ended: usize,
+    behind: usize,
+}
+
+impl Share {
+    fn count(self) -> usize {
+        self.before
+            .saturating_add(self.ended)
+            .saturating_add(self.behind)
+    }
+}
+
+// The share of a client whose replies are numbered from 1, and stand in the order of their kinds.
+fn share_of<S: Spoken>(replies: &[Reply<S::Reply>]) -> Option<Share> {
+    let mut share = Share {
+        before: 0,
+        ended: 0,
+        behind: 0,
+    };
+    let mut next = 1u64;
+    for reply in replies {
+        let results = S::results_of(&reply.answer);
+        if reply.number != next {
+            return None;
+        }
+        next = next.wrapping_add(1);
+        if results == UNKNOWN && share.ended == 0 && share.behind == 0 {
+            share.before = share.before.saturating_add(1);
+        } else if results == ENDED && share.ended == 0 && share.behind == 0 {
+            share.ended = 1;
+        } else if results == DEAD {
+            share.behind = share.behind.saturating_add(1);
+        } else {
+            return None;
+        }
+    }
+    Some(share)
+}
+
+/// Whether the first client's DIE behind so many other packets ended the server: each client's replies are 0 209 and then 0 218, with the DIE's own between those of the first client, and its served and unanswered packets are as many as it put.
+pub(crate) fn is_parted<S: Spoken>(raced: &Raced<S>, die_at: usize) -> bool {
+    let left = &raced.left;
+    if !left.server.died() || left.untaken.len() != raced.counts.len() {
+        return false;
+    }
+    let mut client = 0usize;
+    for (replies, accepted) in left.untaken.iter().zip(raced.counts.iter()) {
+        client = client.wrapping_add(1);
+        let Some(share) = share_of::<S>(replies) else {
+            return false;
+        };
+        let waiting = left
+            .unanswered
+            .iter()
+            .filter(|packet| packet.0 == client)
+            .count();
+        let is_fair = if client == 1 {
+            share.ended == 1 && share.before == die_at
+        } else {
+            share.ended == 0
+        };
+        if !is_fair || share.count().saturating_add(waiting) != *accepted {
+            return false;
+        }
+    }
+    true
+}

@@ -1,0 +1,195 @@
+//! Cases of steps that `run_volume` does over the blank floppy: each is a text whose rows are the steps and what they come to.
+ghost use Rattle.std.specs.Prelude.{◌≤◌};
+
+use crate::fixtures::{FLOPPY, work};
+use crate::steps::{Got, steps_of, strays};
+use ados_port::RunDone;
+use ados_run::run_volume;
+use std::alloc::{AllocError, Global};
+use std::process::Abort;
+use std::test::Fail;
+
+/// What the steps of a case with so many clients come to.
+fn outcomes_of(alloc: Global, clients: usize, case: &str) -> Result<Vec<Got>, Fail>
+    requires { 1 ≤ clients }
+{
+    let image = work(alloc, FLOPPY)?.into_image();
+    match run_volume(alloc, image, clients, steps_of(alloc, case)?) {
+        Ok(RunDone { outcomes, .. }) => Ok(outcomes),
+        Err(_) => Err(Fail::from("no run")),
+    }
+}
+
+/// A case with so many clients goes as it says.
+fn expect(rt: &impl Abort, alloc: Global, clients: usize, case: &str) -> Result<(), Fail>
+    requires { 1 ≤ clients }
+{
+    let outcomes = outcomes_of(alloc, clients, case)?;
+    let strayed = strays(alloc, case, &outcomes)?;
+    assert!(rt; strayed.is_empty(), "{strayed}");
+    Ok(())
+}
+
+/// What was accepted before DIE was served is answered, each packet once, and each put behind it is handed back.
+const BEHIND_DIE: &str = "\
+put 1 die = accepted 1
+put 2 locate 0 -2 \"\" = accepted 1
+serve = served
+put 2 diskinfo = closed 25
+serve = served
+serve = idle
+take 2 = 1 0 218
+take 1 = 1 -1 0
+take 1 = nothing
+put 1 die = closed 5
+put 3 die = no client 5";
+
+const DIE_THEN_INFO: &str = "\
+put 1 die = accepted 1
+put 1 diskinfo = accepted 2
+serve = served
+serve = served
+take 1 = 1 -1 0
+take 1 = 2 0 218
+take 1 = nothing
+put 1 diskinfo = closed 25";
+
+/// DIE waits until the lock is freed. A client that is none cannot put.
+const DIE: &str = "\
+put 1 locate 0 -2 \"\" = accepted 1
+put 1 die = accepted 2
+serve = served
+serve = served
+take 1 = 1 1 0
+take 1 = 2 0 202
+put 1 free 1 = accepted 3
+put 1 die = accepted 4
+serve = served
+serve = served
+take 1 = 3 -1 0
+take 1 = 4 -1 0
+put 2 diskinfo = closed 25
+put 3 diskinfo = no client 25";
+
+/// Client 1 has an exclusive handle while client 2 asks for one, writes, reads, and ends it before client 2 asks again.
+const TWO_CLIENTS: &str = "\
+put 1 output 0 \"f\" = accepted 1
+serve = served
+take 1 = 1 -1 0 handle 1
+put 2 input 0 \"f\" = accepted 1
+put 1 write 1 \"ab\" = accepted 2
+put 1 seek 1 0 -1 = accepted 3
+put 1 read 1 4 = accepted 4
+put 1 end 1 = accepted 5
+put 2 input 0 \"f\" = accepted 2
+put 2 other 999 = accepted 3
+serve = served
+serve = served
+serve = served
+serve = served
+serve = served
+serve = served
+serve = served
+serve = idle
+take 1 = 2 2 0 6162
+take 1 = 3 2 0
+take 1 = 4 2 0 61620000
+take 1 = 5 -1 0
+take 1 = nothing
+take 2 = 1 0 202
+take 2 = 2 -1 0 handle 1
+take 2 = 3 0 209
+take 2 = nothing";
+
+const IDLE_AND_NO_CLIENT: &str = "\
+serve = idle
+take 1 = nothing
+take 3 = no client
+take 0 = no client
+put 0 diskinfo = no client 25
+put 2 other 999 = no client 999
+serve = idle";
+
+/// Two clients put in turn; each takes its own replies in the order of its packets.
+const REPLIES_IN_ORDER: &str = "\
+put 1 other 999 = accepted 1
+put 2 die = accepted 1
+put 1 other 998 = accepted 2
+put 2 diskinfo = accepted 2
+put 1 other 997 = accepted 3
+serve = served
+serve = served
+serve = served
+serve = served
+serve = served
+serve = idle
+take 2 = 1 -1 0
+take 1 = 1 0 209
+take 2 = 2 0 218
+take 1 = 2 0 218
+take 2 = nothing
+take 1 = 3 0 218
+take 1 = nothing";
+
+const INFO: &str = "\
+put 1 diskinfo = accepted 1
+serve = served
+take 1 = 1 -1 0 state 82 of 1758 blocks 2 used";
+
+/// Rows of so many puts, and then as many serves and takes.
+fn many(alloc: Global, count: u64) -> Result<String, AllocError> {
+    let mut rows = String::new(alloc);
+    for number in 1..=count {
+        write!(rows, "put 1 other 999 = accepted {number}\n")?;
+    }
+    for _ in 0..count {
+        rows.push_str("serve = served\n")?;
+    }
+    for number in 1..=count {
+        write!(rows, "take 1 = {number} 0 209\n")?;
+    }
+    rows.push_str("take 1 = nothing")?;
+    Ok(rows)
+}
+
+#[test]
+fn behind_die(rt: HostRuntime) -> Result<(), Fail> {
+    expect(&rt, rt.alloc(), 2, BEHIND_DIE)
+}
+
+#[test]
+fn die_then_info(rt: HostRuntime) -> Result<(), Fail> {
+    expect(&rt, rt.alloc(), 1, DIE_THEN_INFO)
+}
+
+#[test]
+fn die(rt: HostRuntime) -> Result<(), Fail> {
+    expect(&rt, rt.alloc(), 2, DIE)
+}
+
+#[test]
+fn two_clients(rt: HostRuntime) -> Result<(), Fail> {
+    expect(&rt, rt.alloc(), 2, TWO_CLIENTS)
+}
+
+#[test]
+fn idle_and_no_client(rt: HostRuntime) -> Result<(), Fail> {
+    expect(&rt, rt.alloc(), 1, IDLE_AND_NO_CLIENT)
+}
+
+#[test]
+fn replies_in_order(rt: HostRuntime) -> Result<(), Fail> {
+    expect(&rt, rt.alloc(), 2, REPLIES_IN_ORDER)
+}
+
+#[test]
+fn info(rt: HostRuntime) -> Result<(), Fail> {
+    expect(&rt, rt.alloc(), 1, INFO)
+}
+
+/// No put is refused where memory is there, however many packets wait.
+#[test]
+fn many_puts(rt: HostRuntime) -> Result<(), Fail> {
+    let rows = many(rt.alloc(), 500)?;
+    expect(&rt, rt.alloc(), 1, rows.as_str())
+}

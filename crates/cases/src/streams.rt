@@ -1,0 +1,54 @@
+//! Readers and writers that fail, that do not end, and that give or take little at a time.
+use std::io::{Error, ErrorKind, Read, Result as IoResult, Write};
+
+/// Gives so many bytes, at most `step` a read, each read after one that was interrupted; and then its end or a fault.
+#[derive(Drop)]
+pub(crate) struct Bytes {
+    pub(crate) byte: u8,
+    pub(crate) left: usize,
+    pub(crate) step: usize,
+    pub(crate) fails: bool,
+    pub(crate) interrupted: bool,
+}
+
+impl Read for Bytes {
+    fn read(&mut self, buffer: &mut [u8]) -> IoResult<usize> {
+        self.interrupted = !self.interrupted;
+        if self.interrupted {
+            return Err(Error::from(ErrorKind::Interrupted));
+        }
+        if self.left == 0 && self.fails {
+            return Err(Error::from(ErrorKind::Other));
+        }
+        let count = self.left.min(self.step).min(buffer.len());
+        buffer[..count].fill(self.byte);
+        self.left -= count;
+        Ok(count)
+    }
+}
+
+/// Takes at most `step` bytes a write, and fails after so many writes.
+#[derive(Drop)]
+pub(crate) struct Narrow {
+    pub(crate) writes: usize,
+    pub(crate) step: usize,
+    pub(crate) flushes: bool,
+}
+
+impl Write for Narrow {
+    fn write(&mut self, bytes: &[u8]) -> IoResult<usize> {
+        if self.writes == 0 {
+            return Err(Error::from(ErrorKind::Other));
+        }
+        self.writes -= 1;
+        Ok(self.step.min(bytes.len()))
+    }
+
+    fn flush(&mut self) -> IoResult<()> {
+        if self.flushes {
+            Ok(())
+        } else {
+            Err(Error::from(ErrorKind::BrokenPipe))
+        }
+    }
+}

@@ -1,6 +1,0 @@
-use Rattle.std.proofs.Common.{◌≡◌, ◌++◌}
-use Rattle.ados_port.specs.Grown.{Grown}
-use Rattle.cases_port.proofs.ahead.AheadClient.run.Given as goal
-
-abbrev pub invariant-loop-packet : goal.invariant-loop-packet
-invariant-loop-packet g l = Grown l.fn.end l.end

@@ -1,5 +1,0 @@
-use Rattle.ados_port.specs.Grown.{Grown}
-use Rattle.cases_port.proofs.ahead.take_many.Given as goal
-
-abbrev pub invariant-loop-taken : goal.invariant-loop-taken
-invariant-loop-taken g l = Grown l.fn.end l.end

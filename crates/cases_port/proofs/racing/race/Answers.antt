@@ -1,8 +1,0 @@
-use Rattle.std.proofs.Common.{arith}
-use Rattle.cases_port.proofs.racing.race.Goals as goal
-
-pub serve_clients-requires-clause-all : goal.serve_clients-requires-clause-all
-serve_clients-requires-clause-all g c = λ lifetimes lives. c.in-Ok.ensures.2
-
-pub serve_clients-requires-clause-jobs : goal.serve_clients-requires-clause-jobs
-serve_clients-requires-clause-jobs g c = λ lifetimes lives. omega (arith, c.args.jobs.ok, c.len-clients.ensures, c.in-Ok.ensures.4)
