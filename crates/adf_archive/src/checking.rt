@@ -18,7 +18,7 @@ use check_image::accepted_kind;
 use std::alloc::{AllocError, Global};
 
 /// What is asked of an image besides whether it is accepted.
-#[derive(Clone, Copy, Debug)]
+#[derive(Clone, Copy)]
 pub struct Detail {
     /// Every fault in place of one.
     pub all: bool,

@@ -9,7 +9,7 @@ use std::path::Path;
 use std::rt::Files;
 
 /// The image files that the words of a command name, in their order.
-#[derive(Debug, Drop)]
+#[derive(Drop)]
 pub struct FoundImages {
     pub paths: Vec<String>,
     /// Whether a word names a directory.
@@ -17,7 +17,7 @@ pub struct FoundImages {
 }
 
 /// What is to be looked at.
-#[derive(Debug, Drop)]
+#[derive(Drop)]
 struct Waiting {
     path: String,
     /// Whether a word names it; else it was found in a directory.

@@ -5,7 +5,7 @@ use ados_tree::VolumeFault;
 use thiserror::Error;
 
 /// What the check says of an image file.
-#[derive(Debug, Drop)]
+#[derive(Drop)]
 pub enum ImageReport {
     Accepted(AcceptedImage),
     Refused(RefusedImage),
@@ -15,7 +15,7 @@ pub enum ImageReport {
 }
 
 /// An image that is accepted.
-#[derive(Debug, Drop)]
+#[derive(Drop)]
 pub struct AcceptedImage {
     pub kind: BootKind,
     pub blocks: u32,
@@ -26,7 +26,7 @@ pub struct AcceptedImage {
 }
 
 /// What an image has that is accepted.
-#[derive(Clone, Copy, Debug)]
+#[derive(Clone, Copy)]
 pub struct Contents {
     pub name: Name,
     pub files: usize,
@@ -37,7 +37,7 @@ pub struct Contents {
 }
 
 /// An image that is refused.
-#[derive(Debug, Drop)]
+#[derive(Drop)]
 pub struct RefusedImage {
     pub kind: BootKind,
     pub blocks: u32,
@@ -48,7 +48,7 @@ pub struct RefusedImage {
 }
 
 /// A fault that an image shows.
-#[derive(Debug, Drop)]
+#[derive(Drop)]
 pub struct ShownFault {
     pub fault: VolumeFault,
     /// The path of what it is in, where one leads there and it is asked for.

@@ -16,7 +16,7 @@ use std::alloc::{AllocError, Global};
 use std::io::Write;
 
 /// How images are told of.
-#[derive(Clone, Copy, Debug)]
+#[derive(Clone, Copy)]
 pub struct Form {
     /// Each by a JSON object, and not by lines.
     pub json: bool,
@@ -25,7 +25,7 @@ pub struct Form {
 }
 
 /// What images come to.
-#[derive(Clone, Copy, Debug, PartialEq, Eq)]
+#[derive(Clone, Copy)]
 pub struct Tally {
     /// Whether one is refused.
     pub refused: bool,

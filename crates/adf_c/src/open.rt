@@ -19,7 +19,7 @@ use std::alloc::Global;
 
 /// Why bytes are no image, and the block that shows it.
 #[repr(C)]
-#[derive(Clone, Copy, Debug, PartialEq, Eq)]
+#[derive(Clone, Copy)]
 pub struct JipFault {
     /// 1 to 17 as the header names them; 101 to 103 for a length that no image has.
     pub kind: i32,

@@ -11,7 +11,7 @@ use std::alloc::{AllocError, Global};
 
 /// A date as C has it: days since 1 January 1978, minutes past midnight, ticks of 1/50 second past the minute.
 #[repr(C)]
-#[derive(Clone, Copy, Debug, PartialEq, Eq)]
+#[derive(Clone, Copy)]
 pub struct JipDate {
     pub days: u32,
     pub minutes: u32,

@@ -4,7 +4,7 @@ ghost use Rattle.std.specs.Prelude.{◌≡◌, pos};
 ghost use Rattle.adf_c.specs.Status.{refusal_number, status_of};
 
 /// Why a call is refused. Nothing that C can ask for has changed then. The numbers are this project's own choice.
-#[derive(Clone, Copy, Debug, PartialEq, Eq)]
+#[derive(Clone, Copy)]
 pub enum Refusal {
     /// The bytes are no image of a volume: 1.
     NotAnImage,

@@ -9,7 +9,7 @@ use std::sync::Wait;
 use std::thread;
 
 /// Why a packet got no reply.
-#[derive(Clone, Copy, Debug, PartialEq, Eq)]
+#[derive(Clone, Copy)]
 pub(crate) enum Stopped {
     /// The port was closed, and the packet not put.
     Closed,

@@ -13,7 +13,7 @@ use adf_script::text::{closed_text, fault_text, no_reply_text, no_room_text, rep
 use adf_script::values::keep_value;
 use adf_script::{ClientEnding, NextLine, PacketLines};
 use ados_packet::{Answer, Packet};
-use ados_port::{ClientEnd, Server};
+use ados_port::{ClientEnd, Reply, Server};
 use std::alloc::{AllocError, Global};
 use std::sync::Wait;
 
@@ -60,16 +60,16 @@ fn keep(
     alloc: Global,
     client: usize,
     number: u64,
-    answer: &Answer,
+    reply: Reply<Answer>,
     text: &mut Vec<u8>,
     values: &mut Vec<Option<u32>>,
 ) -> Result<(), AllocError>
-    ensures text { OnOk result (text.new.items ≡ text.old.items ++ reply_line client number answer.now) }
-    ensures values { OnOk result (values.new.items ≡ values.old.items ++ answer_value answer.now ∷ []) }
+    ensures text { OnOk result (text.new.items ≡ text.old.items ++ reply_line client number reply.answer) }
+    ensures values { OnOk result (values.new.items ≡ values.old.items ++ answer_value reply.answer ∷ []) }
 {
-    let line = reply_text(alloc, client, number, answer)?;
+    let line = reply_text(alloc, client, number, &reply.answer)?;
     text.extend_from_slice(&line)?;
-    keep_value(values, answer)
+    keep_value(values, &reply.answer)
 }
 
 /// Puts the packets of a script, each after the reply to the one before it, and tells of the replies.
@@ -106,7 +106,7 @@ where
                 return finish(text, fault, ClientEnding::Script);
             }
             NextLine::Puts(number, packet) => match ask(rt, end, gate, number, packet, turns) {
-                Ok(reply) => keep(alloc, client, number, &reply.answer, &mut text, &mut values)?,
+                Ok(reply) => keep(alloc, client, number, reply, &mut text, &mut values)?,
                 Err(stopped) => return stop(alloc, client, number, stopped, text),
             },
         }

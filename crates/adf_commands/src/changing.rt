@@ -6,6 +6,7 @@ use adf_block::Image;
 use adf_host::{BoundedFault, read_bounded};
 use adf_jobs::ChangeJob;
 use ados_name::Date3;
+use ados_volume::Volume;
 use files_in::{boot_image, change_volume};
 use host_trees::{PassedOver, moment_of};
 use std::alloc::Global;
@@ -29,12 +30,29 @@ where
     F: Write,
 {
     let mut work = Work::begin(rt, job.image, job.out)?;
-    let mut volume = accept(alloc, work.read(alloc)?)?;
+    let image = work.read(alloc)?;
+    let volume = changed(rt, alloc, image, &job, faults)?;
+    work.end(rt, alloc, volume.image())
+}
+
+/// The volume of an image, changed. What is passed over is told on `faults`.
+fn changed<'a, R, F>(
+    rt: &R,
+    alloc: Global,
+    image: Image,
+    job: &ChangeJob<'a>,
+    faults: &mut F,
+) -> Result<Volume, CommandFault<'a>>
+where
+    R: Files<File = File> + Clock,
+    F: Write,
+{
+    let mut volume = accept(alloc, image)?;
     let moment = given_or_now(rt, job.moment)?;
     match change_volume(rt, alloc, &mut volume, &job.change, moment) {
         Ok(passed_over) => {
             tell_passed_over(&passed_over, faults);
-            work.end(rt, alloc, volume.image())
+            Ok(volume)
         }
         Err(fault) => Err(CommandFault::from(fault)),
     }
@@ -65,23 +83,38 @@ pub(crate) fn boot<'a, R: Files<File = File>>(
 ) -> Result<(), CommandFault<'a>> {
     let mut work = Work::begin(rt, image, out)?;
     let mut image = work.read(alloc)?;
-    accept(alloc, copy_of(alloc, &image)?)?;
-    let Some(file) = file else {
-        let _ = boot_image(&mut image, None);
-        return work.end(rt, alloc, &image);
-    };
-    let code = read_code(rt, alloc, file)?;
-    match boot_image(&mut image, Some(&code)) {
-        Ok(()) => work.end(rt, alloc, &image),
-        Err(_) => Err(CommandFault::LongBoot(file)),
+    accept_copy(alloc, &image)?;
+    put_boot(rt, alloc, &mut image, file)?;
+    work.end(rt, alloc, &image)
+}
+
+/// That an image is accepted. The check is made of a copy, since it may write a bitmap anew, which a boot block leaves as it is.
+fn accept_copy<'a>(alloc: Global, image: &Image) -> Result<(), CommandFault<'a>> {
+    let copy = Vec::from_slice(alloc, image.as_bytes())?;
+    match Image::from_bytes(copy) {
+        Ok(copy) => {
+            accept(alloc, copy)?;
+            Ok(())
+        }
+        Err(refused) => Err(CommandFault::Refused(Refusal::of_size(refused.fault))),
     }
 }
 
-/// The same image once more. The check may write a bitmap anew, which a boot block leaves as it is.
-fn copy_of<'a>(alloc: Global, image: &Image) -> Result<Image, CommandFault<'a>> {
-    match Image::from_bytes(Vec::from_slice(alloc, image.as_bytes())?) {
-        Ok(copy) => Ok(copy),
-        Err(refused) => Err(CommandFault::Refused(Refusal::of_size(refused.fault))),
+/// Puts the bytes of a file on an image as its boot block, or none.
+fn put_boot<'a, R: Files>(
+    rt: &R,
+    alloc: Global,
+    image: &mut Image,
+    file: Option<&'a str>,
+) -> Result<(), CommandFault<'a>> {
+    let Some(file) = file else {
+        let _ = boot_image(image, None);
+        return Ok(());
+    };
+    let code = read_code(rt, alloc, file)?;
+    match boot_image(image, Some(&code)) {
+        Ok(()) => Ok(()),
+        Err(_) => Err(CommandFault::LongBoot(file)),
     }
 }
 

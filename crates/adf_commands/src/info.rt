@@ -1,5 +1,6 @@
 //! The command `info`.
-ghost use Rattle.std.specs.Prelude.{◌≡◌, IfOk};
+ghost use Rattle.std.specs.Prelude.{◌≡◌, ℕ, List, IfOk};
+ghost use Rattle.ados_run.specs.Runs.{RunsVolume};
 ghost use Rattle.adf_commands.specs.Texts.{disk_info_steps, IsInfoText};
 ghost use Rattle.adf_commands.specs.Commands.{TellsOf, TellsSome};
 
@@ -7,9 +8,10 @@ use crate::fault::CommandFault;
 use crate::images::read_image;
 use adf_block::Image;
 use adf_listing::write_info;
+use ados_handler::Handler;
 use ados_name::Date3;
 use ados_packet::Packet;
-use ados_port::{Outcome, Step};
+use ados_port::{Outcome, RunDone, Step};
 use ados_run::run_volume;
 use std::alloc::{AllocError, Global};
 use std::io::Write;
@@ -44,6 +46,18 @@ fn tell_info<'a, W: Write>(
     ensures { TellsOf IsInfoText IsInfoText image (W.contents writer.old) (W.contents writer.new) result }
 {
     let done = run_volume(alloc, image, 1, disk_info(alloc)?)?;
+    tell_answer(alloc, &done, writer)
+}
+
+/// Tells the answer of a run of `disk_info`, and whether the image after it boots.
+fn tell_answer<'a, W: Write>(
+    alloc: Global,
+    done: &RunDone<Handler>,
+    writer: &mut W,
+) -> Result<(), CommandFault<'a>>
+    ensures { (image : List ℕ) → RunsVolume image 1 disk_info_steps done.now.outcomes.items done.now.exchange →
+        TellsOf IsInfoText IsInfoText image (W.contents writer.old) (W.contents writer.new) result }
+{
     match done.outcomes.last() {
         Some(Outcome::Taken(reply)) => {
             let image = done.exchange.server().volume().image();

@@ -36,17 +36,41 @@ where
         Some(file) => hold_out(rt, file)?,
         None => None,
     };
+    let served = serve_files(rt, alloc, &job)?;
+    finish(rt, alloc, &served, job.out, writer)
+}
+
+/// Runs the scripts of these files over the volume of the image.
+fn serve_files<'a, R>(
+    rt: &R,
+    alloc: Global,
+    job: &ServeJob<'a>,
+) -> Result<VolumeServed, CommandFault<'a>>
+where
+    R: Files<File = File> + Threads + Wait + Copy + Send + Drop + 'static,
+{
     let volume = open_volume(rt, alloc, job.image)?;
     let scripts = read_scripts(rt, alloc, job.scripts.as_slice())?;
-    let VolumeServed { handler, texts } = serve_volume(
-        rt, alloc, volume, scripts, job.moment, job.turns,
-    )?;
-    let told = tell_all(&texts, writer);
-    if let Some(file) = job.out {
-        write_image(rt, alloc, handler.volume().image(), file)?;
+    match serve_volume(rt, alloc, volume, scripts, job.moment, job.turns) {
+        Ok(served) => Ok(served),
+        Err(fault) => Err(CommandFault::from(fault)),
+    }
+}
+
+/// Prints what each client was told, writes the image where that is asked for, and judges what the clients came to.
+fn finish<'a, R: Files, W: Write>(
+    rt: &R,
+    alloc: Global,
+    served: &VolumeServed,
+    out: Option<&'a str>,
+    writer: &mut W,
+) -> Result<(), CommandFault<'a>> {
+    let told = tell_all(&served.texts, writer);
+    if let Some(file) = out {
+        write_image(rt, alloc, served.handler.volume().image(), file)?;
     }
     told?;
-    judge(&texts)
+    judge(&served.texts)
 }
 
 /// The scripts of these files, in their order. No packet of theirs is held back.

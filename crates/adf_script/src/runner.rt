@@ -2,10 +2,11 @@
 ghost use Rattle.std.specs.Prelude.{◌≡◌, ◌≢◌, ◌∷◌, ◌++◌, [], OnOk, false, true};
 ghost use Rattle.std.specs.Io.KnownBytes.{Appends};
 ghost use Rattle.adf_input.specs.Front.{GivesNoEnd};
+ghost use Rattle.ados_packet.specs.declared.packet.Packet.{Packet};
 ghost use Rattle.ados_port.specs.Port.{opening_port};
 ghost use Rattle.adf_script.specs.Lines.{is_too_long};
 ghost use Rattle.adf_script.specs.steps.Calls.{IsQuiet};
-ghost use Rattle.adf_script.specs.Text.{reply_line};
+ghost use Rattle.adf_script.specs.Text.{closed_line, reply_line};
 ghost use Rattle.adf_script.specs.Told.{WritesTold, ReadsAndTells};
 ghost use Rattle.adf_script.specs.Values.{answer_value};
 
@@ -50,8 +51,7 @@ where
             }
             NextLine::Puts(number, packet) => match call(exchange, moment, packet) {
                 Ok(reply) => tell_reply(alloc, writer, &mut values, reply)?,
-                Err(PutRefused::Closed(_)) => return write_closed(alloc, writer, number),
-                Err(PutRefused::NoRoom(_)) => return Err(TryFault::Memory),
+                Err(refused) => return tell_refused(alloc, writer, number, refused),
             },
         }
     }
@@ -73,6 +73,24 @@ fn tell_reply<W: Write>(
     write_reply(alloc, writer, &reply)?;
     keep_value(values, &reply.answer)?;
     Ok(())
+}
+
+/// Writes that the port was closed to the packet with this number, where that is why its put was refused.
+fn tell_refused<W: Write>(
+    alloc: Global,
+    writer: &mut W,
+    number: u64,
+    refused: PutRefused<Packet>,
+) -> Result<(), TryFault>
+    ensures closed { OnOk result ((packet : Packet) × (refused ≡ PutRefused.Closed packet)
+        × Appends (W.contents writer.old) (W.contents writer.new) (closed_line 1 number)) }
+    ensures no_script { result ≢ Err TryFault.Script }
+    ensures no_limit { result ≢ Err TryFault.TurnLimit }
+{
+    match refused {
+        PutRefused::Closed(_) => write_closed(alloc, writer, number),
+        PutRefused::NoRoom(_) => Err(TryFault::Memory),
+    }
 }
 
 /// Runs a script of which as much as is kept of a long one is given.

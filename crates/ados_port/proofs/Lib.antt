@@ -11,3 +11,4 @@ pub use Rattle.port_ends.proofs.Moves
 pub use Rattle.port_ends.proofs.Gathers
 pub use Rattle.port_threads.proofs.Growth
 pub use Rattle.port_threads.proofs.Joins
+pub use Rattle.port_threads.proofs.Parting

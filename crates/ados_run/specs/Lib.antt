@@ -5,4 +5,5 @@ pub mod TreeLists
 pub mod Rests
 pub mod Runs
 pub mod ServesVolume
+pub mod steps
 pub mod Laws

@@ -1,5 +1,9 @@
 //! Runs scripts at a handler over a volume, each as a client on a thread of its own.
-ghost use Rattle.std.specs.Prelude.{◌<◌, IfOk, length};
+ghost use Rattle.std.specs.Prelude.{◌≡◌, ◌<◌, IfOk, length, map};
+ghost use Rattle.ados_port.specs.Ends.{AreEnds, IsNew};
+ghost use Rattle.adf_clients.specs.Scripts.{AreUnused};
+ghost use Rattle.ados_run.specs.SideBySide.{handler_over};
+ghost use Rattle.ados_run.specs.steps.Gathered.{IsGathered};
 ghost use Rattle.ados_run.specs.ServesVolume.{ServesVolume, scripts_of, texts_of};
 
 use adf_clients::{
@@ -7,7 +11,7 @@ use adf_clients::{
 };
 use ados_handler::Handler;
 use ados_name::Date3;
-use ados_port::{gather, open_port};
+use ados_port::{ClientEnd, HandlerEnd, gather, open_port};
 use ados_volume::Volume;
 use std::alloc::Global;
 use std::sync::Wait;
@@ -21,6 +25,49 @@ const RING: usize = 8;
 pub struct VolumeServed {
     pub handler: Handler,
     pub texts: Vec<(Vec<u8>, ClientEnding)>,
+}
+
+/// The handler's end of a port, and those of its clients, each with its script and its gate.
+type OpenedClients<G> = (HandlerEnd<Handler>, Vec<(ClientEnd<Handler>, Vec<u8>, G)>);
+
+/// Opens a port to a handler over this volume, with a client for each script.
+fn open_clients<G: Drop>(
+    alloc: Global,
+    volume: Volume,
+    scripts: Vec<(Vec<u8>, G)>,
+) -> Result<OpenedClients<G>, ScriptsFault>
+    requires some { 0 < length scripts.items }
+    ensures handler { IfOk result (λ opened. IsNew (handler_over volume.image volume.was_validated) opened.0) }
+    ensures ends { IfOk result (λ opened. AreEnds opened.0 (map (λ c. c.0) opened.1.items)) }
+    ensures unused { IfOk result (λ opened. AreUnused (map (λ c. c.0) opened.1.items)) }
+    ensures scripts { IfOk result (λ opened. map (λ c. (c.1, c.2)) opened.1.items ≡ scripts.items) }
+{
+    let server = Handler::new(alloc, volume);
+    match open_port(alloc, server, scripts.len(), RING) {
+        Ok((handler, ends)) => Ok((handler, assign(alloc, ends, scripts)?)),
+        Err(_) => Err(ScriptsFault::Memory),
+    }
+}
+
+/// Gathers the ends of a port whose clients are done.
+fn gather_done<R: Wait>(
+    rt: &R,
+    alloc: Global,
+    done: ScriptsDone<Handler>,
+) -> Result<VolumeServed, ScriptsFault>
+    requires { AreEnds done.handler (map (λ d. d.client) done.clients.items) }
+    ensures { IfOk result (λ served. IsGathered done.handler (map (λ d. d.client) done.clients.items) served.handler
+        × (served.texts.items ≡ map (λ d. (d.text, d.end)) done.clients.items)) }
+{
+    let ScriptsDone { handler, clients } = done;
+    let (ends, texts) = part_done(alloc, clients)?;
+    match gather(rt, alloc, handler, ends) {
+        Ok(left) => Ok(VolumeServed {
+            handler: left.server,
+            texts,
+        }),
+        Err(_) => Err(ScriptsFault::Memory),
+    }
 }
 
 /// Opens a port to a handler over this volume with a client for each script, runs them as `serve_scripts` does, each packet
@@ -43,20 +90,7 @@ where
 {
     // This calls `image`, which tells that there is a tree.
     prove!(volume.image().blocks() >= 16);
-    let server = Handler::new(alloc, volume);
-    let Ok((handler, ends)) = open_port(alloc, server, scripts.len(), RING) else {
-        return Err(ScriptsFault::Memory);
-    };
-    let clients = assign(alloc, ends, scripts)?;
-    let ScriptsDone { handler, clients } = serve_scripts(
-        rt, alloc, handler, clients, moment, turns,
-    )?;
-    let (ends, texts) = part_done(alloc, clients)?;
-    match gather(rt, alloc, handler, ends) {
-        Ok(left) => Ok(VolumeServed {
-            handler: left.server,
-            texts,
-        }),
-        Err(_) => Err(ScriptsFault::Memory),
-    }
+    let (handler, clients) = open_clients(alloc, volume, scripts)?;
+    let done = serve_scripts(rt, alloc, handler, clients, moment, turns)?;
+    gather_done(rt, alloc, done)
 }

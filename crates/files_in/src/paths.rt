@@ -61,7 +61,7 @@ pub(crate) fn delete_all_at(
 }
 
 /// Why an entry is not moved, told of its old path or of its new one.
-#[derive(Clone, Copy, Debug, PartialEq, Eq)]
+#[derive(Clone, Copy)]
 pub(crate) enum MoveFault {
     Old(DosError),
     New(DosError),

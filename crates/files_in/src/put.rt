@@ -59,7 +59,7 @@ pub(crate) fn put_file(
 }
 
 /// A directory of a name in another, and whether it was made.
-#[derive(Clone, Copy, Debug, PartialEq, Eq)]
+#[derive(Clone, Copy)]
 pub(crate) struct Entered {
     pub key: u32,
     pub is_new: bool,

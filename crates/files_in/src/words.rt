@@ -13,7 +13,7 @@ use ados_packet::DosError;
 use std::alloc::Global;
 
 /// A word, and the bytes that its letters stand for.
-#[derive(Debug, Drop)]
+#[derive(Drop)]
 pub(crate) struct Word<'a> {
     text: &'a str,
     bytes: Vec<u8>,

@@ -15,7 +15,7 @@ use std::{fmt, fs};
 use thiserror::Error;
 
 /// What the words of a command lead to on the host.
-#[derive(Debug, Drop)]
+#[derive(Drop)]
 pub struct HostTree {
     /// The files and directories, a directory before what is in it, and that in the order of the bytes of its names.
     pub entries: Vec<HostEntry>,
@@ -24,7 +24,7 @@ pub struct HostTree {
 }
 
 /// A file or a directory of the host.
-#[derive(Debug, Drop)]
+#[derive(Drop)]
 pub struct HostEntry {
     pub path: String,
     /// The last name of the path.
@@ -39,7 +39,7 @@ pub struct HostEntry {
 }
 
 /// What an entry of the host is.
-#[derive(Clone, Copy, Debug, PartialEq, Eq)]
+#[derive(Clone, Copy)]
 pub enum HostKind {
     Directory,
     /// A regular file of so many bytes, or a link to one.
@@ -47,7 +47,7 @@ pub enum HostKind {
 }
 
 /// What is there on the host and is passed over.
-#[derive(Debug, Drop)]
+#[derive(Drop)]
 pub struct PassedOver {
     pub path: String,
     pub why: PassedWhy,
@@ -106,7 +106,7 @@ impl<T: Drop> From<AllocFailed<T>> for WalkFault {
 const MOST_LOOKS: usize = 1_048_576;
 
 /// What is to be looked at.
-#[derive(Debug, Drop)]
+#[derive(Drop)]
 struct Waiting {
     path: String,
     /// The last name of the path; empty for `/` and for what ends in `.` or `..`, which stand for what is in them.

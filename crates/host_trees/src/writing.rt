@@ -89,7 +89,7 @@ impl From<Error> for WriteWhy {
 }
 
 /// What stands at a path of the host, where a link is not followed.
-#[derive(Clone, Copy, Debug, PartialEq, Eq)]
+#[derive(Clone, Copy)]
 pub(crate) enum Standing {
     Nothing,
     Directory,

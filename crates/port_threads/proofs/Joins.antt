@@ -1,5 +1,6 @@
 -- What the joined threads hand back, client by client.
-use Rattle.std.proofs.Common.{◌≡◌, ℕ, zero, suc, List, [], ◌∷◌, ◌++◌, map, length, Some, slice_get, sym, refl, ap, ◌∙◌, subst, arith, append-nil, length-append, inl, inr}
+use Rattle.std.proofs.Common.{◌≡◌, ℕ, zero, suc, Result, Ok, Err, OnOk, List, [], ◌∷◌, ◌++◌, map, length, Some, slice_get, sym, refl, ap, ◌∙◌, subst, arith, append-nil, length-append, inl, inr}
+use Rattle.std.specs.Result.{result_and}
 use Rattle.std.proofs.lemmas.List.{length-map, map-append}
 use Rattle.std.proofs.lemmas.Option.{none-some}
 use Rattle.port_ends.specs.Ends.{ClientView}
@@ -80,3 +81,8 @@ module _ {Q M A J T : Type 0} (does : J → ClientView Q M A → ClientView Q M 
   joined_more jobv endv hs h new new' reports reports' n report each did is_new is_reports =
       rw (map-append jobv hs (h ∷ []), map-append endv hs (h ∷ []), is_new, is_reports)
       (each_did_more (map jobv hs) (map endv hs) new reports (jobv h) (endv h) n report (length-map hs jobv ∙ sym (length-map hs endv)) each did)
+
+-- what holds where the first of two results is well holds where both are
+pub first_ok : {F : Type 0} (P : Type 0) (first second : Result (Unit {0}) F) (done : Unit {0}) → result_and first second ≡ Ok done → OnOk first P → P
+first_ok P (Ok x) second done both p = p
+first_ok P (Err f) second done both p = absurd (cc both)

@@ -1,3 +1,4 @@
--- Lemmas on ends that grow, and on threads that are joined.
+-- Lemmas on ends that grow, on lists that are made of others, and on threads that are joined.
 pub mod Growth
 pub mod Joins
+pub mod Parting

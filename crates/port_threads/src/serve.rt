@@ -7,7 +7,7 @@ ghost use Rattle.port_threads.specs.Grown.{Did, EachDid};
 use crate::client::Client;
 use port_ends::{ClientEnd, HandlerEnd, Rest};
 use port_history::Server;
-use std::alloc::Global;
+use std::alloc::{AllocError, Global};
 use std::collections::VecDeque;
 use std::snapshot::Snapshot;
 use std::sync::atomic::{AtomicUsize, Ordering};
@@ -44,6 +44,43 @@ pub enum ServeClientsFault {
     Thread,
 }
 
+impl From<AllocError> for ServeClientsFault {
+    fn from(_: AllocError) -> Self {
+        ServeClientsFault::Memory
+    }
+}
+
+// What is there before any thread: the count of those that have ended, and room for all handles, ends and reports.
+struct Room<S: Server, C: Client<S>> {
+    ended: Arc<AtomicUsize, Global>,
+    handles: Vec<PromisedHandle<(ClientEnd<S>, C::Report), EndOf<S, C>>>,
+    ends: Vec<ClientEnd<S>>,
+    reports: Vec<C::Report>,
+}
+
+// Room for so many threads, of which none has ended.
+fn room_for<S: Server, C: Client<S>>(
+    alloc: Global,
+    threads: usize,
+) -> Result<Room<S, C>, ServeClientsFault>
+    ensures handles { IfOk result (λ room. (room.handles.items ≡ []) × (vec_capacity room.handles ≡ threads)) }
+    ensures empty { IfOk result (λ room. (room.ends.items ≡ []) × (room.reports.items ≡ [])) }
+    ensures room { IfOk result (λ room. (vec_capacity room.ends ≡ threads) × (vec_capacity room.reports ≡ threads)) }
+{
+    let Ok(ended) = Arc::new(alloc, AtomicUsize::new(0)) else {
+        return Err(ServeClientsFault::Memory);
+    };
+    let ends = Vec::with_capacity(alloc, threads)?;
+    let reports = Vec::with_capacity(alloc, threads)?;
+    let handles = Vec::with_capacity(alloc, threads)?;
+    Ok(Room {
+        ended,
+        handles,
+        ends,
+        reports,
+    })
+}
+
 // A client's thread. It counts itself as ended, and wakes the handler.
 fn run_client<S: Server, C: Client<S>, R: Wait>(
     rt: &R,
@@ -65,7 +102,7 @@ fn start_client<S, C, R>(
     rt: &R,
     end: ClientEnd<S>,
     job: C,
-    ended: Arc<AtomicUsize, Global>,
+    ended: &Arc<AtomicUsize, Global>,
 ) -> Result<PromisedHandle<(ClientEnd<S>, C::Report), EndOf<S, C>>, ServeClientsFault>
 where
     S: Server + Send + 'static,
@@ -77,6 +114,7 @@ where
     R: Threads + Wait + Copy + Send + Drop + 'static,
     ensures { IfOk result (λ h. (h.promise.end.value ≡ end) × (h.promise.job.value ≡ job)) }
 {
+    let ended = Arc::try_clone(ended)?;
     let there = *rt;
     let promise = EndOf {
         end: Snapshot::of(&end),
@@ -126,7 +164,7 @@ fn serve_until_ended<S: Server, R: Wait>(
     Ok(())
 }
 
-// Starts a thread for each client, in order. After a fault those that were started run on.
+// Starts a thread for each client, in order. The list has the room for their handles. After a fault those that were started run on.
 fn start_clients<S, C, R>(
     rt: &R,
     ends: Vec<ClientEnd<S>>,
@@ -144,6 +182,7 @@ where
     R: Threads + Wait + Copy + Send + Drop + 'static,
     requires jobs { length jobs.items ≡ length ends.items }
     requires empty { handles.old.items ≡ [] }
+    requires room { length ends.items ≤ vec_capacity handles.old }
     ensures ends { OnOk result (map (λ h. h.promise.end.value) handles.new.items ≡ ends.items) }
     ensures jobs { OnOk result (map (λ h. h.promise.job.value) handles.new.items ≡ jobs.items) }
     ensures few { length handles.new.items ≤ length ends.items }
@@ -153,13 +192,7 @@ where
         let Some(job) = jobs.pop_front() else {
             unreachable!()
         };
-        let Ok(there) = Arc::try_clone(ended) else {
-            return Err(ServeClientsFault::Memory);
-        };
-        if handles.reserve(1).is_err() {
-            return Err(ServeClientsFault::Memory);
-        }
-        let handle = start_client(rt, end, job, there)?;
+        let handle = start_client(rt, end, job, ended)?;
         handles.push_reserved(handle);
     }
     Ok(())
@@ -215,23 +248,18 @@ where
     ensures clients { IfOk result (λ r. EachDid C.does jobs.items ends.items r.ends.items r.reports.items) }
     ensures all { IfOk result (λ r. AreEnds r.handler r.ends.items) }
 {
-    let threads = ends.len();
-    let Ok(ended) = Arc::new(alloc, AtomicUsize::new(0)) else {
-        return Err(ServeClientsFault::Memory);
-    };
-    let Ok(kept) = Vec::with_capacity(alloc, threads) else {
-        return Err(ServeClientsFault::Memory);
-    };
-    let Ok(reports) = Vec::with_capacity(alloc, threads) else {
-        return Err(ServeClientsFault::Memory);
-    };
-    let mut handles = Vec::new(alloc);
+    let Room {
+        ended,
+        handles,
+        ends: kept,
+        reports,
+    } = room_for(alloc, ends.len())?;
+    let mut handles = handles;
     let started = start_clients(rt, ends, jobs, &ended, &mut handles);
     let mut handler = handler;
     let served = serve_until_ended(rt, &mut handler, moment, &ended, handles.len());
     let (ends, reports) = join_clients(rt, handles, kept, reports);
-    started?;
-    served?;
+    started.and(served)?;
     Ok(Served {
         handler,
         ends,

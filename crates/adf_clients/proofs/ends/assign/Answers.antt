@@ -1,6 +1,6 @@
 use Rattle.std.proofs.Common.{refl, ◌∙◌, arith}
 use Rattle.ados_port.proofs.Joins.{jobs_started, none_left}
-use Rattle.adf_clients.proofs.Parting.{gone_over, made_more, used_more}
+use Rattle.ados_port.proofs.Parting.{gone_over, made_more, used_more}
 use Rattle.adf_clients.proofs.ends.assign.Goals as goal
 
 pub loop-end-preserved : goal.loop-end-preserved

@@ -7,38 +7,20 @@ use Rattle.adf_script.specs.Next.{LinesView}
 use Rattle.adf_script.specs.Text.{fault_line, reply_line}
 use Rattle.adf_script.specs.Packets.{NextPuts, NextIsFaulty}
 use Rattle.adf_clients.specs.Asking.{stop_line, stop_ending}
-use Rattle.adf_clients.specs.Scripts.{IsUnused}
 use Rattle.adf_clients.proofs.Said.{SaidBy, tells_by, said_fault, replies, stops}
-use Rattle.adf_clients.proofs.speaking.speak.Given.{Over}
 use Rattle.adf_clients.proofs.speaking.speak.Goals as goal
-use Rattle.adf_clients.proofs.speaking.speak.Goals.{In_ok-keep-in-Ok}
-
--- what was told, with one more reply
-said_more : (g : Over) (c : In_ok-keep-in-Ok g) → IsUnused c.args.end.now
-    → SaidBy c.args.end.now.number c.args.script.now c.next.new.self.count c.keep.new.values.items c.keep.new.text.items c.ask.new.end
-said_more g c unused =
-    let next = rw c.deref.ensures.value at (rw c.in-Puts.is at c.in_ok-next.ensures) in
-    let puts = subst (λ (l : List (ℕ × List ℕ)). NextPuts l c.loop-text.values.items c.loop-text.lines.count c.in-Puts.packet) c.loop-text.invariant.lines next.1 in
-    let counted : c.next.new.self.count ≡ c.loop-text.lines.count + 1 = ap (λ (l : LinesView). l.count) next.2 ∙ next.0 in
-    subst (λ (n : ℕ). SaidBy c.args.end.now.number c.args.script.now n c.keep.new.values.items c.keep.new.text.items c.ask.new.end) (sym counted)
-    (replies c.args.end.now.number c.args.script.now c.requires c.loop-text.lines.count c.loop-text.values.items c.loop-text.text.items c.loop-text.end (c.loop-text.invariant.said unused)
-    c.in-Puts.packet puts c.ask.new.end c.in-Ok.reply _ _ c.in-Ok.ensures.asked c.in_ok-keep-in-Ok.ensures.values
-    (c.in_ok-keep-in-Ok.ensures.text ∙ (λ i. c.loop-text.text.items ++ reply_line (c.number-client.ensures i) (next.0 i) c.in-Ok.reply.answer)))
-
-pub loop-text-preserved-in_ok-keep-in-Ok : goal.loop-text-preserved-in_ok-keep-in-Ok
-loop-text-preserved-in_ok-keep-in-Ok g c =
-    let next = rw c.deref.ensures.value at (rw c.in-Puts.is at c.in_ok-next.ensures) in
-    record {
-      said = said_more g (goal.at.loop-text-preserved-in_ok-keep-in-Ok g c).In_ok-keep-in-Ok;
-      lines = ap (λ (l : LinesView). l.lines) next.2 ∙ c.loop-text.invariant.lines;
-      grown = grown_more _ _ _ c.loop-text.invariant.grown c.in-Ok.ensures.grown;
-    }
 
 pub loop-text-preserved : goal.loop-text-preserved
 loop-text-preserved g c =
     let next = rw c.deref.ensures.value at (rw c.in-Puts.is at c.in_ok-next.ensures) in
+    let puts = subst (λ (l : List (ℕ × List ℕ)). NextPuts l c.loop-text.values.items c.loop-text.lines.count c.in-Puts.packet) c.loop-text.invariant.lines next.1 in
+    let counted : c.next.new.self.count ≡ c.loop-text.lines.count + 1 = ap (λ (l : LinesView). l.count) next.2 ∙ next.0 in
     record {
-      said = said_more g (goal.at.loop-text-preserved g c).In_ok-keep-in-Ok;
+      said = λ unused.
+          subst (λ (n : ℕ). SaidBy c.args.end.now.number c.args.script.now n c.keep.new.values.items c.keep.new.text.items c.ask.new.end) (sym counted)
+          (replies c.args.end.now.number c.args.script.now c.requires c.loop-text.lines.count c.loop-text.values.items c.loop-text.text.items c.loop-text.end (c.loop-text.invariant.said unused)
+          c.in-Puts.packet puts c.ask.new.end c.in-Ok.reply _ _ c.in-Ok.ensures.asked c.in_ok-keep-in-Ok.ensures.values
+          (c.in_ok-keep-in-Ok.ensures.text ∙ (λ i. c.loop-text.text.items ++ reply_line (c.number-client.ensures i) (next.0 i) c.in-Ok.reply.answer)));
       lines = ap (λ (l : LinesView). l.lines) next.2 ∙ c.loop-text.invariant.lines;
       grown = grown_more _ _ _ c.loop-text.invariant.grown c.in-Ok.ensures.grown;
     }

@@ -40,14 +40,15 @@ loop-values-preserved g c =
       lines = rw c.in_ok-tell_reply-in-Ok.ensures.value (next.2 ∙ (λ i. record { lines = (c.loop-values.invariant.lines i).lines; count = (counted ∙ sym more) i }));
     }
 
-pub returns-in-Err-Closed-clause-whole : goal.returns-in-Err-Closed-clause-whole
-returns-in-Err-Closed-clause-whole g c =
+pub returns-in-Err-clause-whole : goal.returns-in-Err-clause-whole
+returns-in-Err-clause-whole g c =
     let next = rw c.deref.ensures.value at (rw c.in-Puts.is at c.in_ok-next.ensures)
     in let puts = subst (λ (l : LinesView). NextPuts l.lines c.loop-values.values.items l.count c.in-Puts.packet) c.loop-values.invariant.lines next.1
     in let counted : c.in-Puts.number ≡ length c.loop-values.values.items + 1 = next.0 ∙ ap (λ (l : LinesView). l.count + 1) c.loop-values.invariant.lines
-    in let step = rw c.in-Err-Closed.field-0-is at (c.in-Err-Closed.ensures (length c.loop-values.values.items) c.loop-values.invariant.told.quiet)
-    in on_ok_weaker c.write_closed.result
-    (told_closed g.S.Server.gives g.S.Server.has_died c.args.exchange.now c.args.moment c.args.script.now (g.W.Write.contents c.args.writer.now)
+    in let step = c.in-Err.ensures (length c.loop-values.values.items) c.loop-values.invariant.told.quiet
+    in on_ok_weaker c.tell_refused.result
+    (λ told.
+    told_closed g.S.Server.gives g.S.Server.has_died c.args.exchange.now c.args.moment c.args.script.now (g.W.Write.contents c.args.writer.now)
     c.loop-values.values.items c.loop-values.exchange (g.W.Write.contents c.loop-values.writer) c.loop-values.invariant.told
-    c.in-Puts.packet puts c.in-Err-Closed.field-0-0 c.call.new.exchange (g.W.Write.contents c.write_closed.new.writer) c.requires.short step)
-    (rw counted at c.write_closed.ensures.text)
+    c.in-Puts.packet puts told.0 c.call.new.exchange (g.W.Write.contents c.tell_refused.new.writer) c.requires.short (rw told.1 at step) (rw counted at told.2))
+    c.tell_refused.ensures.closed

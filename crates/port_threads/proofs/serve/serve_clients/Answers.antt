@@ -1,10 +1,15 @@
+use Rattle.std.proofs.Common.{◌≡◌, map, sym}
 use Rattle.port_threads.proofs.Growth.{ends_after}
-use Rattle.port_threads.proofs.Joins.{did_alike}
+use Rattle.port_threads.proofs.Joins.{did_alike, first_ok}
 use Rattle.port_threads.proofs.serve.serve_clients.Goals as goal
 
 pub returns-clause-clients : goal.returns-clause-clients
 returns-clause-clients g c =
-    did_alike g.C.Client.does _ _ _ _ _ _ c.in_ok-started.ensures.jobs c.in_ok-started.ensures.ends c.join_clients-ends.ensures
+    let both = sym c.in_ok-and.ensures in
+    let handles = c.start_clients-started.new.handles.items in
+    let jobs = first_ok (map (λ h. h.promise.job.value) handles ≡ c.args.jobs.items) _ _ _ both c.start_clients-started.ensures.jobs in
+    let ends = first_ok (map (λ h. h.promise.end.value) handles ≡ c.args.ends.items) _ _ _ both c.start_clients-started.ensures.ends in
+    did_alike g.C.Client.does _ _ _ _ _ _ jobs ends c.join_clients-ends.ensures
 
 pub returns-clause-all : goal.returns-clause-all
 returns-clause-all g c =

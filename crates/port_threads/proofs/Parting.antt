@@ -1,5 +1,5 @@
 -- Lists that are made element by element of others.
-use Rattle.std.proofs.Common.{◌≡◌, List, [], ◌∷◌, ◌++◌, map, refl, sym, ap, ◌∙◌, append_assoc}
+use Rattle.std.proofs.Common.{◌≡◌, ℕ, ◌+◌, List, [], ◌∷◌, ◌++◌, length, map, refl, sym, ap, ◌∙◌, append_assoc, length-append, arith}
 use Rattle.std.proofs.lemmas.List.{map-append}
 
 module _ {X : Type 0} where
@@ -16,3 +16,12 @@ module _ {X Y : Type 0} where
   pub used_more : (f : X → Y) (made made' : List X) (rest rest' all : List Y) (x : X) (y : Y) → map f made ++ rest ≡ all → rest ≡ y ∷ rest' → made' ≡ made ++ x ∷ [] → f x ≡ y → map f made' ++ rest' ≡ all
   used_more f made made' rest rest' all x y whole first longer of_this =
       ap (λ (l : List Y). l ++ rest') (made_more f made made' (map f made) x y refl longer of_this) ∙ gone_over (map f made) rest rest' all y whole first
+
+module _ {X Y : Type 0} where
+  -- as many are made and left as before
+  pub counted_more : (made made' : List X) (rest rest' : List Y) (x : X) (y : Y) (n : ℕ) → length made + length rest ≡ n → rest ≡ y ∷ rest' → made' ≡ made ++ x ∷ [] → length made' + length rest' ≡ n
+  counted_more made made' rest rest' x y n was first longer =
+      let fewer = ap (λ (l : List Y). length l) first in
+      let more = ap (λ (l : List X). length l) longer in
+      let sum = length-append made (x ∷ []) in
+      omega arith

@@ -1,0 +1,21 @@
+-- What is gathered of a handler's port once its clients are done.
+use Rattle.std.specs.Prelude.{◌≡◌, ℕ, List, Vec, length}
+use Rattle.std.specs.declared.alloc.Global.{Global}
+use Rattle.ados_name.specs.declared.Date3.{Date3}
+use Rattle.ados_packet.specs.declared.packet.Packet.{Packet}
+use Rattle.ados_packet.specs.declared.answer.Answer.{Answer}
+use Rattle.ados_port.specs.Reply.{Reply}
+use Rattle.ados_port.specs.Lawful.{Lawful}
+use Rattle.ados_port.specs.Ends.{ClientView, CloseMeansDeath, HandlerView}
+use Rattle.ados_port.specs.Gathering.{all_lists}
+use Rattle.ados_handler.specs.Handler.{HandlerState, HandlerGives}
+use Rattle.ados_run.specs.TreePort.{handler_died}
+
+-- the lists of these ends, with what was untaken and unanswered, are one history, and the handler stands where it ends; an
+-- end that knows of the close says that it has died
+pub record IsGathered (last : HandlerView HandlerState Packet Date3 Answer) (ends : List (ClientView Packet Date3 Answer)) (closing : HandlerState) : Type 0 where
+  pub untaken : List (Vec (Reply Answer) Global)
+  pub unanswered : List (ℕ × Packet)
+  pub lawful : Lawful HandlerGives last.opening (all_lists ends untaken) last.served unanswered closing
+  pub as_many : length untaken ≡ length ends
+  pub closed : CloseMeansDeath ends (handler_died closing)
