@@ -32,7 +32,7 @@ where
     R: Files<File = File> + Threads + Wait + Copy + Send + Drop + 'static,
     W: Write,
 {
-    let _held = match job.out {
+    let held = match job.out {
         Some(file) => hold_out(rt, file)?,
         None => None,
     };
@@ -43,7 +43,7 @@ where
     )?;
     let told = tell_all(&texts, writer);
     if let Some(file) = job.out {
-        write_image(rt, alloc, handler.volume().image(), file)?;
+        write_image(rt, alloc, handler.volume().image(), file, held.as_ref())?;
     }
     told?;
     judge(&texts)

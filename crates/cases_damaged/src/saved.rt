@@ -76,7 +76,7 @@ const ROWS: [Row; 9] = [
         block: 77,
         longs: &[(PRIMARY_TYPE, 0)],
         is_settled: false,
-        lines: "dir A\ndir DP\nbroken 1 of 36865 A/f\n",
+        lines: "dir A\ndir DP\nbroken 1 of 36864 A/f\n",
     },
     // The same, in a kind whose data blocks name each other.
     Row {

@@ -23,7 +23,7 @@ fn push_line(lines: &mut Vec<u8>, entry: &Salvaged) -> Result<(), AllocError> {
     match &entry.state {
         State::Directory => lines.extend_from_slice(b"dir ")?,
         State::Whole(bytes) => push_numbered(lines, b"whole ", bytes.len() as u64)?,
-        State::Broken { missing, bytes } => {
+        State::Broken { missing, bytes, .. } => {
             push_numbered(lines, b"broken ", u64::from(*missing))?;
             push_numbered(lines, b"of ", bytes.len() as u64)?;
         }

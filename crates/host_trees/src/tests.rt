@@ -42,7 +42,7 @@ fn replaced_whole(rt: HostRuntime) -> Result<(), Fail> {
         Step::Rename,
     ] {
         let faulty = Faulty { files: &rt, fails };
-        assert!(rt; replace_file(&faulty, alloc, "replaced_whole/one", b"new").is_err());
+        assert!(rt; replace_file(&faulty, alloc, "replaced_whole/one", None, b"new").is_err());
         let left = fs::read_to_string(&rt, "replaced_whole/one")?;
         assert_eq!(rt; left.as_str(), "old");
         assert_eq!(rt; count_in(&rt, alloc, "replaced_whole")?, 1);

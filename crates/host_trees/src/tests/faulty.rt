@@ -1,4 +1,5 @@
 //! Files of the host of which one kind of step fails.
+use adf_host::OwnedFile;
 use std::alloc::Allocator;
 use std::fs::{FileTimes, Metadata, OpenFile, OpenOptions, Permissions};
 use std::io::{Error, ErrorKind, Read, Result as IoResult, Seek, SeekFrom, Write};
@@ -85,6 +86,12 @@ impl<F: OpenFile + Drop> OpenFile for FaultyFile<F> {
 
     fn set_times(&self, times: FileTimes) -> IoResult<()> {
         self.file.set_times(times)
+    }
+}
+
+impl<F: OwnedFile + Drop> OwnedFile for FaultyFile<F> {
+    fn set_owner(&self, user: Option<u32>, group: Option<u32>) -> IoResult<()> {
+        self.file.set_owner(user, group)
     }
 }
 
