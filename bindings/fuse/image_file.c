@@ -69,7 +69,7 @@ static int write_all(int to, const uint8_t *bytes, size_t length) {
     return 0;
 }
 
-/* Gives a new file the bytes, and the mode and owner of the one that is held, on the disk and locked. */
+/* Gives a new file the bytes, and the owner and the rights of the one that is held, on the disk and locked. */
 static int fill(int to, int held, const uint8_t *bytes, size_t length) {
     struct stat stat;
     if (fstat(held, &stat) != 0) return errno;
@@ -77,7 +77,7 @@ static int fill(int to, int held, const uint8_t *bytes, size_t length) {
     if (error != 0) return error;
     /* Another's file stays theirs where the host lets it; where it does not, the bytes still count. */
     if (fchown(to, stat.st_uid, stat.st_gid) != 0 && errno != EPERM) return errno;
-    if (fchmod(to, stat.st_mode & 07777) != 0 || fsync(to) != 0 || flock(to, LOCK_EX | LOCK_NB) != 0) return errno;
+    if (fchmod(to, stat.st_mode & 0777) != 0 || fsync(to) != 0 || flock(to, LOCK_EX | LOCK_NB) != 0) return errno;
     return 0;
 }
 

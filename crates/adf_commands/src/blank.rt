@@ -70,6 +70,6 @@ pub(crate) fn write_new<'a, R: Files<File = File>>(
 ) -> Result<(), CommandFault<'a>>
     ensures { IfErr result IsNoRefusal }
 {
-    let _held = hold_out(rt, file)?;
-    write_image(rt, alloc, volume.image(), file)
+    let held = hold_out(rt, file)?;
+    write_image(rt, alloc, volume.image(), file, held.as_ref())
 }

@@ -57,16 +57,17 @@ pub(crate) fn accept<'a>(alloc: Global, image: Image) -> Result<Volume, CommandF
     }
 }
 
-/// Writes an image whole, in place of what the file is.
-pub(crate) fn write_image<'a, R: Files>(
+/// Writes an image whole, in place of what the file is, which is held where it can be.
+pub(crate) fn write_image<'a, R: Files<File = File>>(
     rt: &R,
     alloc: Global,
     image: &Image,
     file: &'a str,
+    held: Option<&HeldFile>,
 ) -> Result<(), CommandFault<'a>>
     ensures { IfErr result IsNoRefusal }
 {
-    match replace_file(rt, alloc, file, image.as_bytes()) {
+    match replace_file(rt, alloc, file, held, image.as_bytes()) {
         Ok(()) => Ok(()),
         Err(fault) => Err(CommandFault::Write(file, fault)),
     }
@@ -115,13 +116,13 @@ impl<'a> Work<'a> {
     }
 
     /// Writes the new image, and ends the work.
-    pub(crate) fn end<R: Files>(
+    pub(crate) fn end<R: Files<File = File>>(
         self,
         rt: &R,
         alloc: Global,
         image: &Image,
     ) -> Result<(), CommandFault<'a>> {
-        write_image(rt, alloc, image, self.out)
+        write_image(rt, alloc, image, self.out, self.held_out.as_ref())
     }
 }
 

@@ -97,7 +97,7 @@ where
         ImageJob::List(job) => print_list(rt, alloc, &job, writer),
         ImageJob::Print { image, path } => print_bytes(rt, alloc, image, path, writer),
         ImageJob::Extract(job) => take_out(rt, alloc, &job),
-        ImageJob::Salvage(job) => take_rescue(rt, alloc, &job, writer),
+        ImageJob::Salvage(job) => take_rescue(rt, alloc, &job, writer, faults),
         ImageJob::Change(job) => change(rt, alloc, job, faults),
         ImageJob::Boot { image, out, file } => boot(rt, alloc, image, out, file),
         ImageJob::Serve(job) => serve(rt, alloc, job, writer),

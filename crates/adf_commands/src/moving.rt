@@ -18,6 +18,7 @@ use ados_packet::DosError;
 use ados_volume::Volume;
 use files_out::{extract, locate_word, print_file};
 use std::alloc::Global;
+use std::fs::File;
 use std::io::Write;
 use std::rt::Files;
 
@@ -122,7 +123,7 @@ fn tell_bytes<'a, W: Write>(
 }
 
 /// Writes entries of an image file as files and directories of the host.
-pub(crate) fn take_out<'a, R: Files>(
+pub(crate) fn take_out<'a, R: Files<File = File>>(
     rt: &R,
     alloc: Global,
     job: &ExtractJob<'a>,

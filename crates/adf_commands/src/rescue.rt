@@ -10,23 +10,28 @@ use adf_block::Image;
 use adf_jobs::SalvageJob;
 use files_out::{OutFault, Rescue, extract_damaged};
 use std::alloc::Global;
+use std::fs::File;
 use std::io::Write;
 use std::rt::Files;
 
-/// Writes what can be trusted of an image file as files and directories of the host, and tells what that is.
-pub(crate) fn take_rescue<'a, R, W>(
+/// Writes what can be trusted of an image file as files and directories of the host, and tells what that is; on `faults` which
+/// files are cut short.
+pub(crate) fn take_rescue<'a, R, W, F>(
     rt: &R,
     alloc: Global,
     job: &SalvageJob<'a>,
     writer: &mut W,
+    faults: &mut F,
 ) -> Result<(), CommandFault<'a>>
 where
-    R: Files,
+    R: Files<File = File>,
     W: Write,
+    F: Write,
     ensures { DoesRescue (W.contents writer.old) (W.contents writer.new) result }
 {
     let image = read_image(rt, alloc, job.image)?;
     let rescue = rescue_of(rt, alloc, image, job)?;
+    tell_cut(&rescue.cut, faults);
     tell(writer, &rescue.lines)?;
     if rescue.whole {
         Ok(())
@@ -35,8 +40,19 @@ where
     }
 }
 
+/// Tells a person which files are cut short.
+fn tell_cut<F: Write>(cut: &[String], faults: &mut F) {
+    for path in cut {
+        let path = path.as_str();
+        let _ = write!(faults, "adf_serve: '{path}' is cut short: {CUT}\n");
+    }
+}
+
+/// Why a file is cut short.
+const CUT: &str = "all files that are not whole have four times the bytes of the image";
+
 /// What is taken out of an image.
-fn rescue_of<'a, R: Files>(
+fn rescue_of<'a, R: Files<File = File>>(
     rt: &R,
     alloc: Global,
     image: Image,

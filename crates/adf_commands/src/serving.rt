@@ -5,6 +5,7 @@ use crate::fault::CommandFault;
 use crate::images::{hold_out, open_volume, write_image};
 use crate::output::tell;
 use adf_clients::{ClientEnding, OpenGate};
+use adf_host::HeldFile;
 use adf_jobs::ServeJob;
 use adf_script::read_script;
 use ados_run::{VolumeServed, serve_volume};
@@ -32,12 +33,12 @@ where
     R: Files<File = File> + Threads + Wait + Copy + Send + Drop + 'static,
     W: Write,
 {
-    let _held = match job.out {
+    let held = match job.out {
         Some(file) => hold_out(rt, file)?,
         None => None,
     };
     let served = serve_files(rt, alloc, &job)?;
-    finish(rt, alloc, &served, job.out, writer)
+    finish(rt, alloc, &served, job.out, held.as_ref(), writer)
 }
 
 /// Runs the scripts of these files over the volume of the image.
@@ -58,16 +59,17 @@ where
 }
 
 /// Prints what each client was told, writes the image where that is asked for, and judges what the clients came to.
-fn finish<'a, R: Files, W: Write>(
+fn finish<'a, R: Files<File = File>, W: Write>(
     rt: &R,
     alloc: Global,
     served: &VolumeServed,
     out: Option<&'a str>,
+    held: Option<&HeldFile>,
     writer: &mut W,
 ) -> Result<(), CommandFault<'a>> {
     let told = tell_all(&served.texts, writer);
     if let Some(file) = out {
-        write_image(rt, alloc, served.handler.volume().image(), file)?;
+        write_image(rt, alloc, served.handler.volume().image(), file, held)?;
     }
     told?;
     judge(&served.texts)

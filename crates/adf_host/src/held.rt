@@ -3,7 +3,7 @@ use crate::image_file::{ImageFault, read_open};
 use adf_block::Image;
 use std::alloc::Global;
 use std::fs;
-use std::fs::{File, TryLockError};
+use std::fs::{File, Metadata, TryLockError};
 use std::os::unix::fs::MetadataExt;
 use std::rt::Files;
 use thiserror::Error;
@@ -47,15 +47,17 @@ pub fn hold<R: Files<File = File>>(rt: &R, path: &str) -> Result<HeldFile, HoldF
     Err(HoldFault::Busy)
 }
 
-/// Holds the file that a command is to write to, if a regular file is there that can be read, and is not the one that the
-/// command holds already. So it does not write over a file on which another one works.
+/// Holds the file that a command is to write to, if a regular file is there that can be read; where it is the one that the
+/// command holds already, once more. So it does not write over a file on which another one works.
 pub fn hold_target<R: Files<File = File>>(
     rt: &R,
     path: &str,
     held: Option<&HeldFile>,
 ) -> Result<Option<HeldFile>, HoldFault> {
-    if held.is_some_and(|held| is_named(rt, &held.file, path)) {
-        return Ok(None);
+    if let Some(held) = held {
+        if is_named(rt, &held.file, path) {
+            return held.again().map(Some);
+        }
     }
     if !fs::metadata(rt, path).is_ok_and(|found| found.is_file()) {
         return Ok(None);
@@ -79,14 +81,35 @@ fn lock(file: &File) -> Result<(), HoldFault> {
 /// Whether a path names this file.
 fn is_named<R: Files>(rt: &R, file: &File, path: &str) -> bool {
     match (file.metadata(), fs::metadata(rt, path)) {
-        (Ok(held), Ok(named)) => held.dev() == named.dev() && held.ino() == named.ino(),
+        (Ok(held), Ok(named)) => is_same(&held, &named),
         _ => false,
     }
+}
+
+/// Whether both tell of one file: of the same number on the same device.
+pub(crate) fn is_same(one: &Metadata, other: &Metadata) -> bool {
+    one.dev() == other.dev() && one.ino() == other.ino()
 }
 
 impl HeldFile {
     /// The image of the file, which is to be read once. A regular file of a wrong length is refused by it.
     pub fn read_image(&mut self, alloc: Global) -> Result<Image, ImageFault> {
         read_open(alloc, &mut self.file)
+    }
+
+    /// The same file, held until both are dropped.
+    fn again(&self) -> Result<HeldFile, HoldFault> {
+        match self.file.try_clone() {
+            Ok(file) => Ok(HeldFile { file }),
+            Err(_) => Err(HoldFault::Lock),
+        }
+    }
+
+    /// Whether it is the file of which this tells.
+    pub(crate) fn is(&self, found: &Metadata) -> bool {
+        match self.file.metadata() {
+            Ok(held) => is_same(&held, found),
+            Err(_) => false,
+        }
     }
 }

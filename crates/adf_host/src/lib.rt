@@ -6,6 +6,7 @@ mod beside;
 mod bounded;
 mod held;
 mod image_file;
+mod owned;
 mod replacing;
 mod sketched;
 
@@ -13,5 +14,6 @@ pub use beside::beside_path;
 pub use bounded::{BoundedFault, read_bounded};
 pub use held::{HeldFile, HoldFault, hold, hold_target};
 pub use image_file::{ImageFault, load_bounded, read_image_file, size_fault};
-pub use replacing::{ReplaceFault, replace_file, write_beside};
+pub use owned::OwnedFile;
+pub use replacing::{ReplaceFault, replace_file, replace_found};
 pub use sketched::{read_sketch, sketch_image_file};

@@ -1,10 +1,12 @@
 //! Files that are replaced whole: until the new bytes are on the disk the old ones stay.
 use crate::beside::beside_path;
+use crate::held::{HeldFile, is_same};
+use crate::owned::OwnedFile;
 use std::alloc::{AllocError, Global};
 use std::fs;
-use std::fs::{FileTimes, Metadata, OpenFile, OpenOptions};
+use std::fs::{FileTimes, Metadata, OpenFile, OpenOptions, Permissions};
 use std::io::{Error, ErrorKind, Write};
-use std::os::unix::fs::{MetadataExt, OpenOptionsExt, chown};
+use std::os::unix::fs::{MetadataExt, OpenOptionsExt, PermissionsExt};
 use std::path::{Path, PathBuf};
 use std::rt::Files;
 use std::time::SystemTime;
@@ -25,6 +27,9 @@ pub enum ReplaceFault {
     /// The new file cannot take its place.
     #[error("cannot be replaced: {0}")]
     Rename(Error),
+    /// Its path leads to another file than the one that was held or found.
+    #[error("cannot be written: another file has taken its place")]
+    Moved,
     /// There is no memory for a path.
     #[error("cannot be written: there is not enough memory")]
     Memory,
@@ -39,25 +44,38 @@ impl From<AllocError> for ReplaceFault {
 /// How many names are tried for the file beside another.
 const TRIES: u32 = 1_000;
 
+/// The mode bits that a file hands on to the one that takes its place: who may read, write and run it.
+const ACCESS_BITS: u32 = 0o777;
+
 /// Writes these bytes as the file at a path: to a new file beside it, which is brought to the disk and then renamed over
-/// it. The mode bits of a file that was there stay, and its owner and its group where the process may set them; a link
-/// stays, and what it leads to is replaced.
+/// it. Who may read, write and run a file that was there stays, and so do its owner and its group where the process may set
+/// them; a link stays, and what it leads to is replaced.
 ///
 /// After a fault the old bytes are there, and the file beside is gone. A file that is no regular one, as a device or a pipe,
-/// is written straight. One that the process may not write is refused.
+/// is written straight. One that the process may not write is refused, and so is a path that no longer leads to the file
+/// that is held for it.
 pub fn replace_file<R: Files>(
     rt: &R,
     alloc: Global,
     path: &str,
+    held: Option<&HeldFile>,
     bytes: &[u8],
-) -> Result<(), ReplaceFault> {
+) -> Result<(), ReplaceFault>
+where
+    R::File: OwnedFile,
+{
     match fs::metadata(rt, path) {
-        Ok(found) if !found.is_file() => write_straight(rt, path, bytes),
-        Ok(found) => {
+        Ok(found) if !may_be(held, &found) => Err(ReplaceFault::Moved),
+        Ok(found) if !found.is_file() => write_straight(rt, path, &found, bytes),
+        Ok(_) => {
             let real = rt.canonicalize(alloc, path).map_err(ReplaceFault::Target)?;
-            write_beside(rt, alloc, real.as_str(), Some(found), bytes, None)
+            let found = fs::symlink_metadata(rt, real.as_str()).map_err(ReplaceFault::Target)?;
+            if !may_be(held, &found) {
+                return Err(ReplaceFault::Moved);
+            }
+            replace_found(rt, alloc, real.as_str(), &found, bytes, None)
         }
-        Err(error) if error.kind() == ErrorKind::NotFound => {
+        Err(error) if error.kind() == ErrorKind::NotFound && held.is_none() => {
             if fs::symlink_metadata(rt, path).is_ok() {
                 return Err(ReplaceFault::Target(error));
             }
@@ -67,33 +85,75 @@ pub fn replace_file<R: Files>(
     }
 }
 
-/// Writes to what is no regular file.
-fn write_straight<R: Files>(rt: &R, path: &str, bytes: &[u8]) -> Result<(), ReplaceFault> {
-    let mut file = OpenOptions::new()
+/// Whether what was found at a path may be the file that is held for it.
+fn may_be(held: Option<&HeldFile>, found: &Metadata) -> bool {
+    match held {
+        Some(held) => held.is(found),
+        None => true,
+    }
+}
+
+/// Opens the file that was found at a path to write to it, if it is still there, and asks its handle what it is.
+fn open_found<R: Files>(
+    rt: &R,
+    path: &str,
+    found: &Metadata,
+) -> Result<(R::File, Metadata), ReplaceFault> {
+    let file = OpenOptions::new()
         .write(true)
         .open(rt, path)
         .map_err(ReplaceFault::Target)?;
+    let opened = file.metadata().map_err(ReplaceFault::Target)?;
+    if is_same(&opened, found) {
+        Ok((file, opened))
+    } else {
+        Err(ReplaceFault::Moved)
+    }
+}
+
+/// Writes to what is no regular file.
+fn write_straight<R: Files>(
+    rt: &R,
+    path: &str,
+    found: &Metadata,
+    bytes: &[u8],
+) -> Result<(), ReplaceFault> {
+    let (mut file, _) = open_found(rt, path, found)?;
     file.write_all(bytes).map_err(ReplaceFault::Write)
 }
 
-/// Writes a new file beside a regular one, or beside where there is none yet, and renames it. It gets this time, or that of now.
-/// After a fault what was there is there, and the file beside is gone.
-pub fn write_beside<R: Files>(
+/// Replaces a regular file that was found at a path, as [`replace_file`] does; a link that stands there by now is refused.
+/// The new file gets this time, or that of now.
+pub fn replace_found<R: Files>(
+    rt: &R,
+    alloc: Global,
+    path: &str,
+    found: &Metadata,
+    bytes: &[u8],
+    time: Option<SystemTime>,
+) -> Result<(), ReplaceFault>
+where
+    R::File: OwnedFile,
+{
+    let (_, old) = open_found(rt, path, found)?;
+    write_beside(rt, alloc, path, Some(old), bytes, time)
+}
+
+/// Writes a new file beside a regular one, of which its handle told this, or beside where there is none yet, and renames it. It
+/// gets this time, or that of now. After a fault what was there is there, and the file beside is gone.
+fn write_beside<R: Files>(
     rt: &R,
     alloc: Global,
     path: &str,
     old: Option<Metadata>,
     bytes: &[u8],
     time: Option<SystemTime>,
-) -> Result<(), ReplaceFault> {
-    if old.is_some() {
-        OpenOptions::new()
-            .write(true)
-            .open(rt, path)
-            .map_err(ReplaceFault::Target)?;
-    }
+) -> Result<(), ReplaceFault>
+where
+    R::File: OwnedFile,
+{
     let (file, beside) = make_beside(rt, alloc, path, old.is_some())?;
-    let mut done = fill(rt, file, beside.as_str(), old, bytes, time).map_err(ReplaceFault::Write);
+    let mut done = fill(file, old, bytes, time).map_err(ReplaceFault::Write);
     if done.is_ok() {
         done = fs::rename(rt, beside.as_str(), path).map_err(ReplaceFault::Rename);
     }
@@ -141,25 +201,29 @@ fn make_beside<R: Files>(
     Err(ReplaceFault::Beside(Error::from(ErrorKind::AlreadyExists)))
 }
 
-/// Writes the bytes, with the owner and the mode bits of the old file, and brings them to the disk.
-fn fill<R: Files>(
-    rt: &R,
-    mut file: R::File,
-    path: &str,
+/// Writes the bytes, with the owner and the mode bits of the old file, and brings them to the disk. All goes through the
+/// handle: by now its name may lead anywhere.
+fn fill<F: Write + OwnedFile + Drop>(
+    mut file: F,
     old: Option<Metadata>,
     bytes: &[u8],
     time: Option<SystemTime>,
 ) -> Result<(), Error> {
     file.write_all(bytes)?;
     if let Some(old) = old {
-        // Only who may gives a file away, and the bytes matter more than their owner.
-        if chown(rt, path, Some(old.uid()), Some(old.gid())).is_err() {
-            let _ = chown(rt, path, None, Some(old.gid()));
-        }
-        file.set_permissions(old.permissions())?;
+        take_after(&file, &old)?;
     }
     if let Some(time) = time {
         file.set_times(FileTimes::new().set_modified(time))?;
     }
     file.sync_all()
+}
+
+/// Gives a file the owner and the mode bits of the old one.
+fn take_after<F: OwnedFile>(file: &F, old: &Metadata) -> Result<(), Error> {
+    // Only who may gives a file away, and the bytes matter more than their owner.
+    if file.set_owner(Some(old.uid()), Some(old.gid())).is_err() {
+        let _ = file.set_owner(None, Some(old.gid()));
+    }
+    file.set_permissions(Permissions::from_mode(old.permissions().mode() & ACCESS_BITS))
 }

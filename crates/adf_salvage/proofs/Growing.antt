@@ -1,5 +1,5 @@
 -- The entries while they are gathered, one by one.
-use Rattle.std.proofs.Common.{◌≡◌, ◌≢◌, ℕ, zero, suc, ◌<◌, inl, inr, true, false, All, List, [], ◌∷◌, ◌++◌, length, map, slice_index, get_or-set_same, get_or-set_other, length-set, Contains, Option, None, Some, IsSome, is_some, replicate, refl, sym, ap, ◌∙◌, subst, arith}
+use Rattle.std.proofs.Common.{◌≡◌, ◌≢◌, ℕ, zero, suc, ◌+◌, ◌<◌, inl, inr, true, false, All, List, [], ◌∷◌, ◌++◌, length, map, slice_index, get_or-set_same, get_or-set_other, length-set, Contains, Option, None, Some, IsSome, is_some, replicate, refl, sym, ap, ap₂, ◌∙◌, subst, arith}
 use Rattle.std.proofs.Math.ListN.{set}
 use Rattle.std.proofs.lemmas.Bool.{cases_lt, cases_eq}
 use Rattle.std.proofs.lemmas.List.{get_or_default, get_or_append_left, get_or_push, length-append, length-map, length-replicate}
@@ -8,7 +8,7 @@ use Rattle.adf_block.specs.Image.{block_count}
 use Rattle.adf_transfer.specs.Located.{Located}
 use Rattle.adf_salvage.specs.declared.salvaged.Salvaged.{Salvaged}
 use Rattle.adf_salvage.specs.Sound.{IsSoundHeader}
-use Rattle.adf_salvage.specs.Salvaged.{AreSalvaged, IsSalvaged, headers_of, located_of}
+use Rattle.adf_salvage.specs.Salvaged.{AreSalvaged, IsSalvaged, broken_length, broken_total, headers_of, located_of}
 use Rattle.adf_salvage.specs.steps.Gathering.{AreGathered, GathersMore, IsNew, place_at}
 
 headers_more : (xs : List Salvaged) (e : Salvaged) → headers_of (xs ++ e ∷ []) ≡ headers_of xs ++ e.header ∷ []
@@ -20,6 +20,24 @@ all_more P xs e all last k d l = elim (cases_lt k (length xs)) [
   | inl a ↦ subst P (sym (get_or_append_left xs (e ∷ []) d k a)) (all k d a)
   | inr a ↦ (let here : length xs ≡ k = omega (arith, a, l, length-append xs (e ∷ [])) in subst P (sym (get_or_push xs e d k here)) last)
 ]
+
+-- one entry more is told with the header of another
+pub headers_grow : (found found' entries : List Salvaged) (e f : Salvaged) → headers_of found ≡ headers_of entries → found' ≡ found ++ f ∷ [] → f.header ≡ e.header → headers_of found' ≡ headers_of (entries ++ e ∷ [])
+headers_grow found found' entries e f same grown is =
+    ap headers_of grown ∙ headers_more found f ∙ ap₂ (λ (xs : List ℕ) (h : ℕ). xs ++ h ∷ []) same is ∙ sym (headers_more entries e)
+
+-- the bytes of files that are not whole, with one entry more
+pub broken_more : (xs : List Salvaged) (e : Salvaged) → broken_total (xs ++ e ∷ []) ≡ broken_total xs + broken_length e.state
+unfolding broken_total
+broken_more [] e = omega arith
+broken_more (x ∷ xs) e = omega (arith, broken_more xs e)
+
+pub none_broken : broken_total [] ≡ 0
+unfolding broken_total
+none_broken = refl
+
+pub none_told : (P : Salvaged → Type 0) → All P []
+none_told P k d l = absurd (omega (arith, l))
 
 none_met : (n b : ℕ) → place_at (replicate n None) b ≡ None
 none_met zero b = refl

@@ -1,5 +1,5 @@
 -- What is told of the entries of an image.
-use Rattle.std.specs.Prelude.{◌≡◌, ◌≢◌, ℕ, ◌⊎◌, Bool, List, [], All, AllPairs, Contains, map, Some, false, ⊤}
+use Rattle.std.specs.Prelude.{◌≡◌, ◌≢◌, ℕ, ◌+◌, ◌*◌, ◌≤◌, ◌⊎◌, Bool, List, [], ◌∷◌, length, All, AllPairs, Contains, map, Some, false, ⊤}
 use Rattle.adf_block.specs.Boot.{HasKind}
 use Rattle.adf_block.specs.declared.boot.BootKind.TheVariants.{Ofs, Ffs}
 use Rattle.adf_block.specs.Frame.{OnlyLong}
@@ -22,7 +22,7 @@ use Rattle.adf_salvage.specs.Sound.{IsSoundHeader, IsWhole}
 abbrev pub HasState : List ℕ → ℕ → State → Type 0
 HasState image block states.Directory = HasDirectoryType image block
 HasState image block (states.Whole bytes) = IsWhole image block × (bytes.items ≡ contents image block)
-HasState image block (states.Broken missing bytes) = HasFileType image block × ¬ IsWhole image block
+HasState image block (states.Broken missing cut bytes) = HasFileType image block × ¬ IsWhole image block
 
 -- the header is sound, and all but the path and whether it was found is told as it stands there
 pub record IsSalvaged (image : List ℕ) (entry : Salvaged) : Type 0 where
@@ -49,6 +49,16 @@ HoldsAll (Directory keys) states.Directory = ⊤
 HoldsAll (File bytes) (states.Whole held) = held.items ≡ bytes
 HoldsAll _ _ = ⊥
 
+-- how many bytes are told of a file that is not whole
+abbrev pub broken_length : State → ℕ
+broken_length (states.Broken missing cut bytes) = length bytes.items
+broken_length state = 0
+
+-- and of all of them
+unfoldable pub broken_total : List Salvaged → ℕ
+broken_total [] = 0
+broken_total (entry ∷ rest) = broken_length entry.state + broken_total rest
+
 -- an entry of the tree as it is, whole and not found
 pub record IsOfTree (t : Tree) (entry : Salvaged) : Type 0 where
   pub node : Node
@@ -74,8 +84,9 @@ pub record IsReadAs (image read : List ℕ) : Type 0 where
   pub known : HasKind image Ofs ⊎ HasKind image Ffs → read ≡ image
   pub rest : OnlyLong 0 0 image read
 
--- the image was accepted, perhaps with a new bitmap, and these are the entries of its tree; or they are its sound headers
+-- the image was accepted, perhaps with a new bitmap, and these are the entries of its tree; or they are its sound headers, and all
+-- files that are not whole have together at most four times as many bytes as the image
 abbrev pub Salvages : List ℕ → List Salvaged → Type 0
 Salvages image found =
     ((accepted : List ℕ) × (validated : Bool) × Accepts image validated accepted × ((t : Tree) → Stands accepted t → AreOfTree t found))
-    ⊎ ((read : List ℕ) × IsReadAs image read × AreSalvaged read found)
+    ⊎ ((read : List ℕ) × IsReadAs image read × AreSalvaged read found × (broken_total found ≤ 4 * length read))

@@ -5,6 +5,7 @@
 mod chains;
 mod claims;
 mod data;
+mod filling;
 mod gathered;
 mod header;
 mod holders;

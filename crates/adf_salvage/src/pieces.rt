@@ -1,5 +1,5 @@
 //! What is left of a file that is not whole.
-ghost use Rattle.std.specs.Prelude.{◌≡◌, ◌<◌, ◌≤◌, ◌+◌, length, IfSome, IsTrue};
+ghost use Rattle.std.specs.Prelude.{◌≡◌, ◌<◌, ◌≤◌, length, IfOk, IfSome, IsTrue, OnOk};
 ghost use Rattle.adf_block.specs.Image.{block_count};
 
 use crate::data::is_ofs_data;
@@ -14,29 +14,75 @@ use std::alloc::{AllocError, Global};
 /// The bytes of a block.
 const BLOCK: usize = BLOCK_BYTES as usize;
 
-/// How many data blocks of a file are missing, and its bytes: those of the blocks that are sound where they belong, and
-/// zeros elsewhere. It has as many bytes as its size says, and no more than all blocks of the image could hold.
-pub(crate) fn pieces(alloc: Global, image: &Image, file: u32) -> Result<(u32, Vec<u8>), AllocError>
+/// What is left of a file that is not whole.
+#[derive(Drop)]
+pub(crate) struct Remains {
+    /// How many of its data blocks are missing.
+    pub(crate) missing: u32,
+    /// Whether more is left than its bytes hold.
+    pub(crate) cut: bool,
+    pub(crate) bytes: Vec<u8>,
+}
+
+/// What is left of a file: the bytes of the blocks that are sound where they belong, up to the last of them, and zeros where
+/// blocks before it are missing; of all that at most so many bytes. It has no more blocks than its size says, and no more
+/// than the image.
+pub(crate) fn pieces(
+    alloc: Global,
+    image: &Image,
+    file: u32,
+    most: usize,
+) -> Result<Remains, AllocError>
     requires { file < block_count image.now }
+    ensures { IfOk result (λ left. length left.bytes.items ≤ most) }
 {
     let start = data_start(image);
     let room = BLOCK - start;
     let size = (image.long(file, SIZE) as usize).min(image.blocks() as usize * room);
-    let mut bytes = vec![in alloc; 0_u8; size]?;
-    let mut missing = 0;
+    let mut left = Remains {
+        missing: 0,
+        cut: false,
+        bytes: Vec::new(alloc),
+    };
     let mut holder = Some(file);
     let mut before = Some(file);
     for i in 0..size.div_ceil(room) as u32 {
         before = block_at(image, file, i, holder, before);
         match before {
-            Some(block) => put(image, block, start, i as usize * room, &mut bytes),
-            None => missing += 1,
+            Some(block) => {
+                let at = i as usize * room;
+                let end = start + room.min(size - at);
+                left.put(at, &image.block(block)[start..end], most)?;
+            }
+            None => left.missing += 1,
         }
         if i % TABLE_LONGS == TABLE_LONGS - 1 {
             holder = next_holder(image, file, holder);
         }
     }
-    Ok((missing, bytes))
+    Ok(left)
+}
+
+impl Remains {
+    /// Puts data at a place of the bytes, before which zeros stand where nothing was put, as far as there may be so many bytes.
+    fn put(&mut self, at: usize, data: &[u8], most: usize) -> Result<(), AllocError>
+        requires { length self.old.bytes.items ≤ most }
+        ensures bounded { OnOk result (length self.new.bytes.items ≤ most) }
+        ensures missing { self.new.missing ≡ self.old.missing }
+    {
+        let behind = at.saturating_add(data.len());
+        let end = behind.min(most);
+        if end < behind {
+            self.cut = true;
+        }
+        if self.bytes.len() < end {
+            self.bytes.resize(end, 0)?;
+        }
+        if at < end {
+            self.bytes[at..end].copy_from_slice(&data[..end - at]);
+        }
+        Ok(())
+    }
 }
 
 /// The byte of a data block where its data starts.
@@ -100,15 +146,4 @@ fn next_holder(image: &Image, file: u32, holder: Option<u32>) -> Option<u32>
         return Some(next);
     }
     None
-}
-
-/// Copies the data of a block, which starts at a byte of it, to a place of the bytes of its file, as much as fits.
-fn put(image: &Image, block: u32, start: usize, at: usize, bytes: &mut [u8])
-    requires inside { block < block_count image.now }
-    requires start { start ≤ 24 }
-    requires place { at ≤ length bytes.old }
-    ensures { length bytes.new ≡ length bytes.old }
-{
-    let count = (BLOCK - start).min(bytes.len() - at);
-    bytes[at..at + count].copy_from_slice(&image.block(block)[start..start + count]);
 }

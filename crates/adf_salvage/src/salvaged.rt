@@ -25,7 +25,12 @@ pub enum State {
     Directory,
     /// A whole file: its bytes.
     Whole(Vec<u8>),
-    /// A file that is not whole: the bytes of the blocks that are sound, where they belong, and zeros elsewhere. None is
-    /// missing where another sound file names a block of it.
-    Broken { missing: u32, bytes: Vec<u8> },
+    /// A file that is not whole: the bytes of the blocks that are sound, where they belong, up to the last of them, and zeros
+    /// where blocks before it are missing. None is missing where another sound file names a block of it.
+    Broken {
+        missing: u32,
+        /// Whether the bytes end before that last block, since no more are told of all files that are not whole.
+        cut: bool,
+        bytes: Vec<u8>,
+    },
 }

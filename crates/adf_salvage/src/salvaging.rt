@@ -1,11 +1,12 @@
 //! All that can be trusted of an image.
-ghost use Rattle.std.specs.Prelude.{IfOk};
+ghost use Rattle.std.specs.Prelude.{◌≤◌, ◌*◌, length, IfOk};
 ghost use Rattle.ados_tree.specs.Stands.{Stands};
 ghost use Rattle.ados_tree.specs.Tree.{Tree};
-ghost use Rattle.adf_salvage.specs.Salvaged.{AreOfTree, AreSalvaged, Salvages};
+ghost use Rattle.adf_salvage.specs.Salvaged.{AreOfTree, AreSalvaged, Salvages, broken_total};
 
 use crate::chains::add_reached;
 use crate::claims::claims;
+use crate::filling::with_pieces;
 use crate::gathered::Gathered;
 use crate::kind::with_kind;
 use crate::listing::volume_entries;
@@ -19,7 +20,8 @@ use std::alloc::{AllocError, Global};
 ///
 /// Of an image that the check accepts these are the entries of its tree. Of any other they are its sound headers: first what
 /// the chains lead to from the root, then what these did not lead to. Where its first four bytes name neither kind it is read
-/// as one of the kind that its blocks show.
+/// as one of the kind that its blocks show. All files that are not whole have together at most four times as many bytes as the
+/// image.
 pub fn salvage(alloc: Global, image: Image) -> Result<Vec<Salvaged>, AllocError>
     ensures salvages { IfOk result (λ found. Salvages image found.items) }
     ensures tree { IfOk result (λ found. (t : Tree) → Stands image t → AreOfTree t found.items) }
@@ -35,11 +37,12 @@ pub fn salvage(alloc: Global, image: Image) -> Result<Vec<Salvaged>, AllocError>
 
 /// The entries of all sound headers of an image.
 fn sound_headers(alloc: Global, image: &Image) -> Result<Vec<Salvaged>, AllocError>
-    ensures { IfOk result (λ found. AreSalvaged image.now found.items) }
+    ensures told { IfOk result (λ found. AreSalvaged image.now found.items) }
+    ensures bounded { IfOk result (λ found. broken_total found.items ≤ 4 * length image.now) }
 {
     let claims = claims(alloc, image)?;
     let mut gathered = Gathered::new(alloc, image)?;
     add_reached(alloc, image, &claims, &mut gathered)?;
     add_unreached(alloc, image, &claims, &mut gathered)?;
-    Ok(gathered.entries)
+    with_pieces(alloc, image, gathered.entries)
 }

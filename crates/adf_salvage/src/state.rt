@@ -9,14 +9,13 @@ ghost use Rattle.adf_salvage.specs.steps.Claims.{AreClaims};
 use crate::claims::{Claim, are_alone};
 use crate::header::is_file;
 use crate::intact::own_blocks;
-use crate::pieces::pieces;
 use crate::salvaged::State;
 use adf_block::Image;
 use adf_block::layout::SIZE;
 use ados_data::{Place, read_at};
 use std::alloc::{AllocError, Global};
 
-/// What a sound header is of, and how much is left of a file.
+/// What a sound header is of, and how much is left of a file. Of one that is not whole nothing is told yet.
 pub(crate) fn state_of(
     alloc: Global,
     image: &Image,
@@ -34,8 +33,11 @@ pub(crate) fn state_of(
     if is_whole(alloc, image, claims, block)? {
         return Ok(State::Whole(whole_bytes(alloc, image, block)?));
     }
-    let (missing, bytes) = pieces(alloc, image, block)?;
-    Ok(State::Broken { missing, bytes })
+    Ok(State::Broken {
+        missing: 0,
+        cut: false,
+        bytes: Vec::new(alloc),
+    })
 }
 
 /// Whether a file is whole.

@@ -10,7 +10,7 @@ use Rattle.files_out.specs.declared.fault.OutFault.TheVariants.{Host, Memory}
 
 -- it was reached from the root, and is no broken file
 abbrev pub is_sound : Bool → State → Bool
-is_sound found (Broken missing bytes) = false
+is_sound found (Broken missing cut bytes) = false
 is_sound true state = false
 is_sound false state = true
 
@@ -23,7 +23,7 @@ abbrev pub rescue_line : Bool → State → List ℕ → List ℕ
 rescue_line true Directory path = codes "found " ++ path ++ codes "\n"
 rescue_line false Directory path = []
 rescue_line found (Whole bytes) path = found_word found ++ codes "whole " ++ path ++ codes "\n"
-rescue_line found (Broken missing bytes) path = found_word found ++ codes "broken " ++ decimal missing ++ codes " " ++ path ++ codes "\n"
+rescue_line found (Broken missing cut bytes) path = found_word found ++ codes "broken " ++ decimal missing ++ codes " " ++ path ++ codes "\n"
 
 -- one entry more is told of, at this path of the host
 pub record TellsAt (path : List ℕ) (entry : Salvaged) (old new : Rescue) : Type 0 where

@@ -6,6 +6,7 @@ use crate::entry::line_of;
 use crate::fault::OutFault;
 use crate::paths::split_name;
 use adf_block::Image;
+use adf_host::OwnedFile;
 use adf_jobs::SalvageJob;
 use adf_salvage::{Salvaged, State, salvage};
 use adf_text::Uaem;
@@ -21,6 +22,8 @@ use std::str::from_utf8;
 pub struct Rescue {
     /// A line for each file, and for each directory that was found.
     pub lines: Vec<u8>,
+    /// The paths of the files that are cut short.
+    pub cut: Vec<String>,
     /// Whether all is whole.
     pub whole: bool,
 }
@@ -42,6 +45,8 @@ pub fn extract_damaged<R: Files>(
     image: Image,
     job: &SalvageJob<'_>,
 ) -> Result<Rescue, OutFault>
+where
+    R::File: OwnedFile,
     ensures told { IfOk result (IsRescue image) }
     ensures fault { IfErr result IsRescueFault }
 {
@@ -64,6 +69,7 @@ fn plan_of(alloc: Global, image: Image, meta: bool) -> Result<Plan, AllocError>
         directories: BTreeSet::new(alloc),
         rescue: Rescue {
             lines: Vec::new(alloc),
+            cut: Vec::new(alloc),
             whole: true,
         },
     };
@@ -79,6 +85,9 @@ impl Rescue {
         ensures { OnOk result (TellsAt path.now entry.now self.old self.new) }
     {
         push_line(alloc, &mut self.lines, entry.found, &entry.state, path)?;
+        if let State::Broken { cut: true, .. } = entry.state {
+            self.cut.push(String::from_str(alloc, path)?)?;
+        }
         self.whole = self.whole && is_sound(entry.found, &entry.state);
         Ok(())
     }

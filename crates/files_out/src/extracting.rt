@@ -6,6 +6,7 @@ ghost use Rattle.files_out.specs.Words.{IsExtractFault};
 
 use crate::fault::OutFault;
 use crate::items::outgoing;
+use adf_host::OwnedFile;
 use adf_jobs::ExtractJob;
 use ados_volume::Volume;
 use host_trees::write_tree;
@@ -23,6 +24,8 @@ pub fn extract<R: Files>(
     volume: &mut Volume,
     job: &ExtractJob<'_>,
 ) -> Result<(), OutFault>
+where
+    R::File: OwnedFile,
     ensures fault { IfErr result (λ fault. (t : Tree) → Stands volume.old.image t → IsExtractFault t (map (λ word. word.now) job.now.paths.items) fault) }
     ensures same { volume.new ≡ volume.old }
 {

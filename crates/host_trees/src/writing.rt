@@ -4,7 +4,7 @@ ghost use Rattle.host_trees.specs.Writing.{MayStand};
 
 use crate::dates::host_time;
 use crate::paths::{HostPath, target_path};
-use adf_host::{ReplaceFault, write_beside};
+use adf_host::{OwnedFile, ReplaceFault, replace_found};
 use ados_name::Date3;
 use std::alloc::{AllocError, Global};
 use std::fmt::{Display, Formatter};
@@ -110,6 +110,8 @@ pub fn write_tree<R: Files>(
     items: &[HostItem],
     force: bool,
 ) -> Result<(), WriteFault>
+where
+    R::File: OwnedFile,
     ensures { IfErr result (λ fault. fault.written ≤ length items.now) }
 {
     refuse_twice(alloc, directory, items)?;
@@ -266,6 +268,8 @@ fn write_items<R: Files>(
     items: &[HostItem],
     force: bool,
 ) -> Result<Vec<(String, SystemTime)>, WriteFault>
+where
+    R::File: OwnedFile,
     ensures { IfErr result (λ fault. fault.written ≤ length items.now) }
 {
     let mut made = Vec::new(alloc);
@@ -295,7 +299,10 @@ fn write_item<R: Files>(
     content: &Content,
     time: SystemTime,
     force: bool,
-) -> Result<bool, WriteWhy> {
+) -> Result<bool, WriteWhy>
+where
+    R::File: OwnedFile,
+{
     match content {
         Content::Directory => make_directory(rt, path),
         Content::File(bytes) => {
@@ -324,7 +331,10 @@ fn write_file<R: Files>(
     bytes: &[u8],
     time: SystemTime,
     force: bool,
-) -> Result<(), WriteWhy> {
+) -> Result<(), WriteWhy>
+where
+    R::File: OwnedFile,
+{
     match File::create_new(rt, path) {
         Ok(file) => {
             let done = fill_new(file, bytes, time);
@@ -347,12 +357,15 @@ fn replace_regular<R: Files>(
     path: &str,
     bytes: &[u8],
     time: SystemTime,
-) -> Result<(), WriteWhy> {
+) -> Result<(), WriteWhy>
+where
+    R::File: OwnedFile,
+{
     let found = fs::symlink_metadata(rt, path)?;
     if !found.is_file() {
         return Err(WriteWhy::NoFile);
     }
-    write_beside(rt, alloc, path, Some(found), bytes, Some(time)).map_err(WriteWhy::Replace)
+    replace_found(rt, alloc, path, &found, bytes, Some(time)).map_err(WriteWhy::Replace)
 }
 
 /// Writes the bytes of a new file, and sets its time.

@@ -1,9 +1,9 @@
-use Rattle.std.proofs.Common.{inl, inr, ℕ, List, subst}
+use Rattle.std.proofs.Common.{inl, inr, ℕ, ◌*◌, ◌≤◌, List, length, subst}
 use Rattle.ados_tree.specs.Stands.{Stands}
 use Rattle.ados_tree.specs.Tree.{Tree}
 use Rattle.ados_tree.proofs.NoFaults.{faults_have_no_tree}
-use Rattle.adf_salvage.specs.Salvaged.{AreOfTree, AreSalvaged, IsReadAs, Salvages}
-use Rattle.adf_salvage.proofs.Answering.{if_ok, same_tree}
+use Rattle.adf_salvage.specs.Salvaged.{AreOfTree, AreSalvaged, IsReadAs, Salvages, broken_total}
+use Rattle.adf_salvage.proofs.Answering.{both_ok, if_ok, same_tree}
 use Rattle.adf_salvage.proofs.salvaging.salvage.Goals as goal
 
 pub returns-in-Ok-clause-salvages : goal.returns-in-Ok-clause-salvages
@@ -18,8 +18,10 @@ returns-in-Ok-clause-tree c =
 
 pub returns-in_default-clause-salvages : goal.returns-in_default-clause-salvages
 returns-in_default-clause-salvages c =
-    if_ok c.sound_headers-in_default.result (λ found. AreSalvaged c.with_kind.result found.items) (λ found. Salvages c.args.image found.items)
-    (λ found told. inr (c.with_kind.result, subst (λ (xs : List ℕ). IsReadAs xs c.with_kind.result) c.in-Err.ensures.0 c.with_kind.ensures, told)) c.sound_headers-in_default.ensures
+    both_ok c.sound_headers-in_default.result (λ found. AreSalvaged c.with_kind.result found.items) (λ found. broken_total found.items ≤ 4 * length c.with_kind.result)
+    (λ found. Salvages c.args.image found.items)
+    (λ found told bounded. inr (c.with_kind.result, subst (λ (xs : List ℕ). IsReadAs xs c.with_kind.result) c.in-Err.ensures.0 c.with_kind.ensures, told, bounded))
+    c.sound_headers-in_default.ensures.told c.sound_headers-in_default.ensures.bounded
 
 pub returns-in_default-clause-tree : goal.returns-in_default-clause-tree
 returns-in_default-clause-tree c =
@@ -27,4 +29,4 @@ returns-in_default-clause-tree c =
     (λ found told t s. elim c.in-Err.ensures.1 [
       | inl shown ↦ absurd (faults_have_no_tree c.args.image t c.in-Err.rejected.fault.kind c.in-Err.rejected.fault.block shown s)
       | inr memory ↦ absurd (c.in_default.not-NoMemory memory.0)
-    ]) c.sound_headers-in_default.ensures
+    ]) c.sound_headers-in_default.ensures.told
