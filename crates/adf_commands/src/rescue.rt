@@ -31,7 +31,7 @@ where
 {
     let image = read_image(rt, alloc, job.image)?;
     let rescue = rescue_of(rt, alloc, image, job)?;
-    tell_cut(&rescue.cut, faults);
+    tell_cut(rescue.cut.as_slice(), faults);
     tell(writer, &rescue.lines)?;
     if rescue.whole {
         Ok(())
