@@ -153,7 +153,7 @@ class Pieces:
         """Does the pieces side by side, first those with the most lines behind them, and returns what became of each."""
         os.makedirs(self.state, exist_ok=True)
         waits, by_name = self.waits_of(kinds, names), {it.name: it for it in self.crates}
-        behind = {key: by_name[key[0]].count(rb"\n") * (key[1] == "proof") for key in waits}
+        behind: Dict[Key, int] = {key: by_name[key[0]].count(rb"\n") * (key[1] == "proof") for key in waits}
         for key in reversed([*waits]):
             for below in waits[key]:
                 behind[below] = max(behind[below], behind[key] + by_name[below[0]].count(rb"\n"))
