@@ -12,9 +12,9 @@ use crate::reading::ReadImages;
 use crate::report::{AcceptedImage, Contents, ImageReport, RefusedImage, WhyNot};
 use adf_block::Image;
 use adf_host::ImageFault;
+use ados_check::accepted_kind;
 use ados_tree::{FaultKind, VolumeFault};
 use ados_volume::{Rejected, Volume, check};
-use check_image::accepted_kind;
 use std::alloc::{AllocError, Global};
 
 /// What is asked of an image besides whether it is accepted.

@@ -6,9 +6,8 @@ ghost use Rattle.ados_tree.specs.Faults.{Shows};
 use crate::checking::Detail;
 use crate::report::ShownFault;
 use adf_block::Image;
+use ados_faults::{Mark, all_faults, explain, place_of};
 use ados_tree::VolumeFault;
-use all_faults::{Mark, all_faults};
-use fault_words::{explain, place_of};
 use std::alloc::{AllocError, Global};
 
 /// The most faults that are told of an image.

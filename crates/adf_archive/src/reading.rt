@@ -4,7 +4,7 @@ ghost use Rattle.adf_block.specs.Image.{IsSize, block_count};
 
 use adf_block::Image;
 use adf_host::{ImageFault, read_image_file, sketch_image_file};
-use check_source::Sketch;
+use ados_check::Sketch;
 use std::alloc::Global;
 
 /// A host whose image files any thread may read.

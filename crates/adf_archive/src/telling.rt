@@ -11,7 +11,7 @@ use crate::lines::push_lines;
 use crate::objects::push_object;
 use crate::report::ImageReport;
 use adf_block::SizeFault;
-use adf_files::write_output;
+use adf_io::write_output;
 use std::alloc::{AllocError, Global};
 use std::io::Write;
 

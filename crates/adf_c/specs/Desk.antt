@@ -4,7 +4,7 @@ use Rattle.ados_name.specs.declared.Date3.{Date3}
 use Rattle.ados_packet.specs.declared.packet.Packet.{Packet}
 use Rattle.ados_packet.specs.declared.packet.Packet.TheVariants.{RenameDisk, DeleteObject, RenameObject, SetProtect, CreateDir, SetComment, SetDate, Write, FindUpdate, FindOutput, SetFileSize}
 use Rattle.ados_packet.specs.declared.answer.Answer.{Answer}
-use Rattle.ados_handler.specs.Handler.{HandlerGives}
+use Rattle.ados_handler.specs.Gives.{HandlerGives}
 use Rattle.ados_handler.specs.Meaning.{is_number}
 use Rattle.adf_c.specs.declared.desk.Desk.{Desk}
 

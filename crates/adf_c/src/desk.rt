@@ -6,7 +6,6 @@ ghost use Rattle.adf_c.specs.Desk.{ServesPacket, may_change as changes};
 use ados_handler::Handler;
 use ados_name::Date3;
 use ados_packet::{Answer, Packet};
-use port_history::Server;
 
 /// A handler, with a count that tells when its image has changed.
 #[derive(Drop)]

@@ -13,9 +13,11 @@ use Rattle.ados_port.specs.Outcome.{Outcome}
 use Rattle.ados_port.specs.Outcome.TheVariants.{Accepted, Taken}
 use Rattle.ados_port.specs.Reply.{Reply}
 use Rattle.ados_port.specs.Step.{Step}
-use Rattle.ados_handler.specs.Handler.{HandlerState, HandlerGives}
+use Rattle.ados_handler.specs.Handler.{HandlerState}
+use Rattle.ados_handler.specs.Gives.{HandlerGives}
 use Rattle.ados_handler.specs.Meaning.{IsServed}
-use Rattle.ados_run.specs.Runs.{RunsVolume, port_over}
+use Rattle.ados_run.specs.Runs.{port_over}
+use Rattle.ados_run.specs.Keeping.{KeepsVolume}
 use Rattle.ados_run.specs.TreePort.{handler_died}
 use Rattle.ados_run.proofs.Following.{each_side_is_a_history}
 use Rattle.adf_listing.specs.Info.{info_text}
@@ -105,24 +107,24 @@ module _ (image : List ℕ) (was_validated : Bool) where
 
 -- what `info` tells of the reply and of the image after it
 pub info_text_of : (image : List ℕ) (outcomes : List (Outcome Packet Answer)) (closing : PortState HandlerState Packet Answer) (reply : Reply Answer)
-    → RunsVolume image 1 disk_info_steps outcomes closing → slice_get outcomes (length outcomes - 1) ≡ Some (Taken reply)
+    → KeepsVolume image 1 disk_info_steps outcomes closing → slice_get outcomes (length outcomes - 1) ≡ Some (Taken reply)
     → IsInfoText image (info_text reply.answer closing.server.image)
 info_text_of image outcomes closing reply r e =
-    let history = (each_side_is_a_history r.tree (port_over r.checked r.was_validated 1) disk_info_steps outcomes closing r.follows).1 in
-    let w = answered r.checked r.was_validated outcomes closing reply history e in
+    let history = (each_side_is_a_history r.runs.tree (port_over r.runs.checked r.runs.was_validated 1) disk_info_steps outcomes closing r.runs.follows).1 in
+    let w = answered r.runs.checked r.runs.was_validated outcomes closing reply history e in
     let g = w.1 in (
-      r.was_validated,
-      r.checked,
+      r.runs.was_validated,
+      r.runs.checked,
       g.old_tree,
       r.accepted,
       g.stood,
-      ap₂ info_text (disk_answered r.checked r.was_validated w.0 closing.server reply.answer g) (g.leaves.rest (inr refl)),
+      ap₂ info_text (disk_answered r.runs.checked r.runs.was_validated w.0 closing.server reply.answer g) (g.leaves.rest (inr refl)),
     )
 
 -- and of what was seen of both
 pub info_told : (image : List ℕ) (steps : List (Step Packet Date3)) (outcomes : List (Outcome Packet Answer)) (closing : PortState HandlerState Packet Answer) (reply : Reply Answer)
-    → RunsVolume image 1 steps outcomes closing → steps ≡ disk_info_steps → slice_get outcomes (length outcomes - 1) ≡ Some (Taken reply)
+    → KeepsVolume image 1 steps outcomes closing → steps ≡ disk_info_steps → slice_get outcomes (length outcomes - 1) ≡ Some (Taken reply)
     → (answer : Answer) (shown : List ℕ) → answer ≡ reply.answer → shown ≡ closing.server.image → IsInfoText image (info_text answer shown)
 info_told image steps outcomes closing reply r of_info last answer shown its_answer its_image =
-    let runs = subst (λ (s : List (Step Packet Date3)). RunsVolume image 1 s outcomes closing) of_info r in
+    let runs = subst (λ (s : List (Step Packet Date3)). KeepsVolume image 1 s outcomes closing) of_info r in
     subst (λ (text : List ℕ). IsInfoText image text) (sym (ap₂ info_text its_answer its_image)) (info_text_of image outcomes closing reply runs last)

@@ -8,7 +8,7 @@ use Rattle.ados_tree.specs.Faults.{Shows}
 use Rattle.ados_tree.specs.Stands.{Stands}
 use Rattle.ados_tree.specs.Tree.{Tree, bytes_of}
 use Rattle.ados_tree.specs.declared.fault.VolumeFault.{VolumeFault}
-use Rattle.ados_run.specs.Runs.{IsRunFault}
+use Rattle.ados_run.specs.Refused.{IsRunFault}
 use Rattle.ados_run.specs.declared.run.RunFault.{RunFault}
 use Rattle.ados_run.specs.declared.run.RunFault.TheVariants as of_run
 use Rattle.adf_script.specs.Streams.{Writes}

@@ -6,13 +6,12 @@ ghost use Rattle.adf_commands.specs.Refusals.{told_line};
 
 use crate::refusal::{DosRefusal, Refusal, Room};
 use adf_archive::ArchiveFault;
-use adf_clients::ScriptsFault;
 use adf_host::{HoldFault, ReplaceFault};
-use adf_input::InputFault;
+use adf_io::InputFault;
 use adf_listing::PrintFault;
 use adf_transfer::Refused;
 use ados_packet::DosError;
-use ados_run::RunFault;
+use ados_run::{RunFault, ScriptsFault};
 use ados_volume::VolumeFault;
 use files_in::InFault;
 use files_out::OutFault;

@@ -1,6 +1,6 @@
 //! The command `info`.
 ghost use Rattle.std.specs.Prelude.{◌≡◌, ℕ, List, IfOk};
-ghost use Rattle.ados_run.specs.Runs.{RunsVolume};
+ghost use Rattle.ados_run.specs.Keeping.{KeepsVolume};
 ghost use Rattle.adf_commands.specs.Texts.{disk_info_steps, IsInfoText};
 ghost use Rattle.adf_commands.specs.Commands.{TellsOf, TellsSome};
 
@@ -55,7 +55,7 @@ fn tell_answer<'a, W: Write>(
     done: &RunDone<Handler>,
     writer: &mut W,
 ) -> Result<(), CommandFault<'a>>
-    ensures { (image : List ℕ) → RunsVolume image 1 disk_info_steps done.now.outcomes.items done.now.exchange →
+    ensures { (image : List ℕ) → KeepsVolume image 1 disk_info_steps done.now.outcomes.items done.now.exchange →
         TellsOf IsInfoText IsInfoText image (W.contents writer.old) (W.contents writer.new) result }
 {
     match done.outcomes.last() {

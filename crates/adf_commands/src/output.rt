@@ -7,7 +7,7 @@ ghost use Rattle.adf_commands.specs.Faults.{IsNoRefusal};
 ghost use Rattle.adf_commands.specs.declared.fault.CommandFault.TheVariants.{Output};
 
 use crate::fault::CommandFault;
-use adf_files::write_output;
+use adf_io::write_output;
 use std::io::Write;
 
 /// Writes a text to standard output.

@@ -4,11 +4,10 @@ ghost use Rattle.std.specs.Prelude.{◌≡◌, length, IfOk};
 use crate::fault::CommandFault;
 use crate::images::{hold_out, open_volume, write_image};
 use crate::output::tell;
-use adf_clients::{ClientEnding, OpenGate};
 use adf_host::HeldFile;
 use adf_jobs::ServeJob;
 use adf_script::read_script;
-use ados_run::{VolumeServed, serve_volume};
+use ados_run::{ClientEnding, OpenGate, VolumeServed, serve_volume};
 use std::alloc::Global;
 use std::fs;
 use std::fs::File;
@@ -22,7 +21,8 @@ type ClientText = (Vec<u8>, ClientEnding);
 
 /// Runs the scripts of the clients over an image, prints what each client was told, and writes the image where that is asked for.
 ///
-/// The image is written even where standard output refuses the texts, or a script is faulty.
+/// The image is written even where standard output refuses the texts, or a script is faulty. The file that it goes to is held
+/// from the start; that another command holds it is a fault of writing, which comes after those of reading and of the work.
 pub(crate) fn serve<'a, R, W>(
     rt: &R,
     alloc: Global,
@@ -34,11 +34,11 @@ where
     W: Write,
 {
     let held = match job.out {
-        Some(file) => hold_out(rt, file)?,
-        None => None,
+        Some(file) => hold_out(rt, file),
+        None => Ok(None),
     };
     let served = serve_files(rt, alloc, &job)?;
-    finish(rt, alloc, &served, job.out, held.as_ref(), writer)
+    finish(rt, alloc, &served, job.out, held, writer)
 }
 
 /// Runs the scripts of these files over the volume of the image.
@@ -64,12 +64,19 @@ fn finish<'a, R: Files<File = File>, W: Write>(
     alloc: Global,
     served: &VolumeServed,
     out: Option<&'a str>,
-    held: Option<&HeldFile>,
+    held: Result<Option<HeldFile>, CommandFault<'a>>,
     writer: &mut W,
 ) -> Result<(), CommandFault<'a>> {
     let told = tell_all(&served.texts, writer);
     if let Some(file) = out {
-        write_image(rt, alloc, served.handler.volume().image(), file, held)?;
+        let held = held?;
+        write_image(
+            rt,
+            alloc,
+            served.handler.volume().image(),
+            file,
+            held.as_ref(),
+        )?;
     }
     told?;
     judge(&served.texts)

@@ -1,6 +1,6 @@
 -- Images that are read piece by piece.
 use Rattle.std.specs.Prelude.{ℕ, ◌≡◌, ◌*◌, List, length, Option}
-use Rattle.adf_files.specs.Load.{ReadsAll}
+use Rattle.adf_io.specs.Load.{ReadsAll}
 
 -- these are all bytes that the reader gave up to its end, and they are so many blocks
 pub record ReadsBlocks (blocks : ℕ) (old new : Option (List ℕ)) (image : List ℕ) : Type 0 where

@@ -4,7 +4,7 @@ ghost use Rattle.std.specs.Io.KnownBytes.{ReadConsumes};
 ghost use Rattle.std.specs.Io.{ReadsAtMost};
 ghost use Rattle.adf_host.specs.Bounded.{ReadsOn, ReadsPart, ReadsUpTo};
 
-use check_source::whole_pages;
+use ados_check::whole_pages;
 use std::alloc::{AllocError, Global};
 use std::io::{Error, ErrorKind, Read, Result as IoResult};
 

@@ -1,6 +1,6 @@
 //! Image files, of which no more is read than the largest image has bytes, and one.
 ghost use Rattle.std.specs.Prelude.{IfOk, IfErr, MatchOption};
-ghost use Rattle.adf_files.specs.Load.{ReadsAll};
+ghost use Rattle.adf_io.specs.Load.{ReadsAll};
 ghost use Rattle.adf_host.specs.Images.{IsImageLength, IsBoundedRefusal};
 ghost use Rattle.adf_block.specs.Size.{IsSizeFault};
 

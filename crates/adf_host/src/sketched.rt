@@ -2,13 +2,13 @@
 ghost use Rattle.std.specs.Prelude.{◌≡◌, ◌<◌, [], length, IfOk, IfSome, IsTrue};
 ghost use Rattle.std.specs.Io.KnownBytes.{Consumes};
 ghost use Rattle.adf_block.specs.Image.{IsSize, block_count};
-ghost use Rattle.adf_files.specs.Load.{ReadsAll};
+ghost use Rattle.adf_io.specs.Load.{ReadsAll};
 ghost use Rattle.adf_host.specs.Sketched.{ReadsBlocks};
 
 use crate::bounded::{BoundedFault, read_at};
 use crate::image_file::size_fault;
 use adf_block::layout::BLOCK_BYTES;
-use check_source::Sketch;
+use ados_check::Sketch;
 use std::alloc::Global;
 use std::fs;
 use std::fs::OpenFile;

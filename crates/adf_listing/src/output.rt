@@ -4,7 +4,7 @@ ghost use Rattle.std.specs.Io.KnownBytes.{Appends};
 ghost use Rattle.adf_listing.specs.Fronts.{WritesFront};
 
 use crate::fault::PrintFault;
-use adf_files::write_output;
+use adf_io::write_output;
 use std::io::Write;
 
 /// Writes a text whole, or, where the writer fails, a front of it.

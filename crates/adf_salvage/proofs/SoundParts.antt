@@ -11,7 +11,7 @@ use Rattle.ados_data.specs.File.{HasExtension, HasOfsData, AreApart, LawfulFile,
 use Rattle.ados_data.proofs.Chains.{chained, next_of}
 use Rattle.ados_data.proofs.Spelled.{link_of}
 use Rattle.ados_data.proofs.Sizes.{in_extensions}
-use Rattle.check_marks.proofs.Counting.{AreDifferent, different_few}
+use Rattle.ados_check.proofs.Counting.{AreDifferent, different_few}
 use Rattle.adf_salvage.specs.Sound.{own_blocks}
 use Rattle.adf_salvage.specs.steps.Parts.{HasHolders, HasData, AreOnce, data_needed, extensions_needed, data_before}
 

@@ -5,7 +5,7 @@ use Rattle.adf_block.specs.Fields.{primary_type, own_key, header_type, comment_b
 use Rattle.ados_name.specs.Name.{IsName}
 use Rattle.ados_data.specs.File.{LawfulFile, data_blocks, extension_blocks}
 use Rattle.ados_tree.specs.Faults.{HasFileType}
-use Rattle.check_marks.specs.Marks.{HasEntryType}
+use Rattle.ados_check.specs.Marks.{HasEntryType}
 
 -- the header of a directory or file with the right fields, in its own block
 pub record IsSoundHeader (image : List ℕ) (block : ℕ) : Type 0 where

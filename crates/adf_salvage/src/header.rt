@@ -3,7 +3,7 @@ ghost use Rattle.std.specs.Prelude.{◌≡◌, ◌<◌, ◌↔◌, IsTrue, Match
 ghost use Rattle.adf_block.specs.Image.{block_count};
 ghost use Rattle.adf_block.specs.Fields.{name_byte, text_at};
 ghost use Rattle.ados_name.specs.Name.{IsName};
-ghost use Rattle.check_marks.specs.Marks.{HasEntryType};
+ghost use Rattle.ados_check.specs.Marks.{HasEntryType};
 ghost use Rattle.ados_tree.specs.Faults.{HasFileType};
 ghost use Rattle.adf_salvage.specs.Sound.{IsSoundHeader};
 

@@ -12,7 +12,7 @@ use crate::intact::own_blocks;
 use crate::salvaged::State;
 use adf_block::Image;
 use adf_block::layout::SIZE;
-use ados_data::{Place, read_at};
+use ados_data::read_at;
 use std::alloc::{AllocError, Global};
 
 /// What a sound header is of, and how much is left of a file. Of one that is not whole nothing is told yet.
@@ -61,6 +61,6 @@ fn whole_bytes(alloc: Global, image: &Image, file: u32) -> Result<Vec<u8>, Alloc
 {
     let size = image.long(file, SIZE) as usize;
     let mut bytes = vec![in alloc; 0_u8; size]?;
-    read_at(image, file, Place::header(file), 0, bytes.as_mut_slice());
+    read_at(image, file, 0, bytes.as_mut_slice());
     Ok(bytes)
 }

@@ -1,8 +1,8 @@
 -- What goes from a reader to a writer.
 use Rattle.std.specs.Prelude.{List, ℕ, Option}
 use Rattle.std.specs.Io.KnownBytes.{Consumes, Appends, IsAtEnd}
-use Rattle.adf_input.specs.declared.input.InputFault.{InputFault}
-use Rattle.adf_input.specs.declared.input.InputFault.TheVariants as input
+use Rattle.adf_io.specs.declared.input.InputFault.{InputFault}
+use Rattle.adf_io.specs.declared.input.InputFault.TheVariants as input
 use Rattle.adf_script.specs.declared.fault.TryFault.{TryFault}
 use Rattle.adf_script.specs.declared.fault.TryFault.TheVariants.{Read, Memory, TurnLimit}
 

@@ -1,5 +1,5 @@
 //! Why a script comes to no good end.
-use adf_input::InputFault;
+use adf_io::InputFault;
 use std::alloc::AllocError;
 
 /// Why a script was not run to a good end.

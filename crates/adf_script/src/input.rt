@@ -1,8 +1,8 @@
 //! Reads a script.
 ghost use Rattle.std.specs.Prelude.{◌≡◌, IfOk};
-ghost use Rattle.adf_input.specs.Front.{GivesNoEnd, ReadsFront};
+ghost use Rattle.adf_io.specs.Front.{GivesNoEnd, ReadsFront};
 
-use adf_input::{InputFault, read_input};
+use adf_io::{InputFault, read_input};
 use std::alloc::Global;
 use std::io::Read;
 

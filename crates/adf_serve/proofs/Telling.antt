@@ -9,7 +9,8 @@ use Rattle.ados_port.specs.Port.{PortState, opening_port}
 use Rattle.ados_packet.specs.declared.packet.Packet.{Packet}
 use Rattle.ados_packet.specs.declared.answer.Answer.{Answer}
 use Rattle.ados_handler.specs.Session.{Session, opening_session}
-use Rattle.ados_handler.specs.Handler.{HandlerState, HandlerGives}
+use Rattle.ados_handler.specs.Handler.{HandlerState}
+use Rattle.ados_handler.specs.Gives.{HandlerGives}
 use Rattle.ados_run.specs.TreePort.{means, tree_died, handler_died, over_tree}
 use Rattle.ados_run.proofs.Following.{each_side_is_a_history, histories_follow_trees}
 use Rattle.adf_script.specs.Lines.{kept_lines, is_too_long}

@@ -4,10 +4,13 @@
 mod script;
 mod words;
 
+pub use adf_io::{LoadFault, StoreFault, load_image, store_image};
+pub use adf_script::TryFault;
 use adf_words::given_words;
-pub use ados_run::{RunFault, run_volume};
+pub use ados_run::{
+    ClientDone, Gate, RunFault, ScriptsDone, ScriptsFault, run_volume, serve_scripts,
+};
 pub use script::try_script;
-use std::io::IsTerminal;
 use std::process::ExitCode;
 pub use words::{run_words, tell_wrong_words};
 
@@ -19,7 +22,6 @@ fn main(rt: HostRuntime) -> ExitCode {
             &rt,
             alloc,
             words.as_slice(),
-            faults.is_terminal(),
             &mut reader,
             &mut writer,
             &mut faults,

@@ -11,7 +11,7 @@ use adf_script::TryFault;
 use adf_words::{WordsFault, read_words};
 use std::alloc::Global;
 use std::fs::File;
-use std::io::{Read, Write};
+use std::io::{IsTerminal, Read, Write};
 use std::rt::{Clock, Files};
 use std::sync::Wait;
 use std::thread::Threads;
@@ -19,12 +19,11 @@ use std::thread::Threads;
 /// Runs the program on the words behind its own name, and answers its exit status: 0 done, 1 a wrong command line,
 /// 2 a file or stream that cannot be read or written, no memory, no thread, or a client that ran out of tries, 3 an
 /// image, a name, a script or a change that is refused. What went wrong with the words, the files or the streams is told on
-/// `faults`.
+/// `faults`, and where that is a terminal, also how far the check of images has come.
 pub fn run_words<T, R, W, F>(
     rt: &T,
     alloc: Global,
     words: &[String],
-    terminal: bool,
     reader: &mut R,
     writer: &mut W,
     faults: &mut F,
@@ -42,7 +41,7 @@ where
         + 'static,
     R: Read,
     W: Write,
-    F: Write,
+    F: Write + IsTerminal,
     ensures whole { words.now ≡ [] → result ≡ 0 →
         RunsScript (R.remaining reader.old) (R.remaining reader.new) (W.contents writer.old) (W.contents writer.new) true }
     ensures faulty { words.now ≡ [] → result ≡ 3 →
@@ -52,7 +51,8 @@ where
     match read_words(alloc, words) {
         Ok(Job::Script) => run_script(alloc, reader, writer, faults),
         Ok(Job::OnImage(job)) => {
-            let done = run_job(rt, alloc, job, terminal, writer, faults);
+            let watched = faults.is_terminal();
+            let done = run_job(rt, alloc, job, watched, writer, faults);
             status_of(done, faults)
         }
         Err(fault) => tell_wrong_words(fault, faults),

@@ -6,7 +6,7 @@ use Rattle.ados_chain.proofs.Lists.{Contains-cases, Contains-here, Contains-late
 use Rattle.ados_name.specs.Protection.{denies_delete}
 use Rattle.ados_tree.specs.Tree.{Tree, Proper, entries}
 use Rattle.ados_tree.proofs.Nodes.{parent_in}
-use Rattle.change_entries.specs.Conditions.IsUnder.{itself}
+use Rattle.ados_change.specs.Conditions.IsUnder.{itself}
 use Rattle.ados_handler.specs.Objects.{protection_of}
 use Rattle.adf_transfer.specs.Located.{Located}
 use Rattle.adf_transfer.specs.Below.{AreBelow}

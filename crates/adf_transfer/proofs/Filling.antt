@@ -10,7 +10,7 @@ use Rattle.ados_tree.specs.Change.{changed, overlaid, rewritten, shortened, with
 use Rattle.ados_tree.specs.Stands.{Stands}
 use Rattle.ados_tree.proofs.Nodes.{content_in}
 use Rattle.ados_tree.proofs.OneTree.{one_tree}
-use Rattle.change_entries.proofs.Changed.{nodes_here, nodes_other}
+use Rattle.ados_change.proofs.Changed.{nodes_here, nodes_other}
 use Rattle.adf_transfer.specs.declared.put.NewFile.{NewFile}
 use Rattle.adf_transfer.specs.Changes.{described, filled}
 use Rattle.adf_transfer.specs.steps.CutBack.{cut_back}

@@ -5,8 +5,8 @@ use Rattle.std.proofs.lemmas.List.Elements.{Contains-append_cases, Contains-appe
 use Rattle.ados_chain.proofs.Lists.{Once, Once-before, Once-front, Contains-cases, Contains-here, Contains-later, Contains-nil, length-once}
 use Rattle.ados_tree.specs.Tree.{Tree, Proper, entries, parent_of}
 use Rattle.ados_tree.proofs.Nodes.{parent_in}
-use Rattle.change_entries.specs.Conditions.{IsUnder}
-use Rattle.change_entries.specs.Conditions.IsUnder.{itself, by_parent as under_parent}
+use Rattle.ados_change.specs.Conditions.{IsUnder}
+use Rattle.ados_change.specs.Conditions.IsUnder.{itself, by_parent as under_parent}
 use Rattle.adf_transfer.specs.Located.{Located}
 use Rattle.adf_transfer.specs.Below.{AreBelow, located, slash}
 use Rattle.adf_transfer.proofs.Loops.{no_loop}

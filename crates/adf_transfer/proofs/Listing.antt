@@ -11,7 +11,7 @@ use Rattle.ados_chain.proofs.Order.{behind-found, first-entry}
 use Rattle.ados_tree.specs.Tree.{Tree, Proper, entries, parent_of}
 use Rattle.ados_tree.specs.Change.{entries_after}
 use Rattle.ados_tree.proofs.Nodes.{entry_node}
-use Rattle.change_entries.specs.Conditions.IsUnder.{itself}
+use Rattle.ados_change.specs.Conditions.IsUnder.{itself}
 use Rattle.adf_transfer.proofs.Loops.{no_loop}
 
 -- these keys of a directory were listed, and those behind the last of them are left

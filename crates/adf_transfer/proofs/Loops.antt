@@ -3,8 +3,8 @@ use Rattle.std.proofs.Common.{◌≡◌, ℕ, Some, None, refl, sym, ap, ◌∙�
 use Rattle.std.specs.Prelude.{option_and_then}
 use Rattle.ados_tree.specs.Tree.{Tree, Proper, LeadsToRoot, parent_of, root}
 use Rattle.ados_tree.specs.Tree.LeadsToRoot.{at_root, by_parent}
-use Rattle.change_entries.specs.Conditions.{IsUnder}
-use Rattle.change_entries.specs.Conditions.IsUnder.{itself, by_parent as under_parent}
+use Rattle.ados_change.specs.Conditions.{IsUnder}
+use Rattle.ados_change.specs.Conditions.IsUnder.{itself, by_parent as under_parent}
 
 module _ (t : Tree) (proper : Proper t) where
   no_parent : (key dir : ℕ) → key ≡ root t → parent_of t key ≡ Some dir → ⊥

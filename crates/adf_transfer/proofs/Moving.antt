@@ -7,7 +7,7 @@ use Rattle.ados_tree.specs.Walk.{child_of}
 use Rattle.ados_tree.specs.Keys.{HasDirectory, HasKey}
 use Rattle.ados_tree.specs.Stands.{Stands}
 use Rattle.ados_tree.proofs.Nodes.{some_in}
-use Rattle.change_entries.specs.Conditions.{CanRename}
+use Rattle.ados_change.specs.Conditions.{CanRename}
 use Rattle.ados_volume.proofs.Looking.{is_child}
 use Rattle.ados_handler.specs.Objects.{is_under}
 use Rattle.ados_handler.specs.Refusals.{is_some_and}

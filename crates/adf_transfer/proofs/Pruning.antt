@@ -12,9 +12,9 @@ use Rattle.ados_tree.proofs.Nodes.{directory_node, parent_in}
 use Rattle.ados_tree.proofs.OneTree.{one_tree}
 use Rattle.ados_tree.specs.Stands.{Stands}
 use Rattle.ados_tree.specs.Change.{left, listed, removed}
-use Rattle.change_entries.specs.Conditions.{CanRemove, IsUnder}
-use Rattle.change_entries.specs.Conditions.IsUnder.{itself, by_parent as under_parent}
-use Rattle.change_entries.proofs.Changed.{nodes_here, nodes_other, relisted, listed_parents}
+use Rattle.ados_change.specs.Conditions.{CanRemove, IsUnder}
+use Rattle.ados_change.specs.Conditions.IsUnder.{itself, by_parent as under_parent}
+use Rattle.ados_change.proofs.Changed.{nodes_here, nodes_other, relisted, listed_parents}
 use Rattle.ados_handler.specs.Objects.{is_under}
 use Rattle.ados_handler.proofs.Under.{under_is_told}
 use Rattle.adf_transfer.specs.Located.{Located}

@@ -12,11 +12,12 @@ use Rattle.ados_tree.specs.Tree.{Node, Tree, content_at, cost_in, cost_of, entri
 use Rattle.ados_tree.specs.Tree.Content.{Directory, File}
 use Rattle.ados_tree.specs.Change.{enter, made, new_node, with_node}
 use Rattle.ados_tree.proofs.Nodes.{content_in}
-use Rattle.change_entries.specs.Conditions.{IsDirectoryKey, IsUnused}
+use Rattle.ados_tree.specs.Tree.{IsUnused}
+use Rattle.ados_change.specs.Conditions.{IsDirectoryKey}
 use Rattle.ados_packet.specs.declared.info.FileInfo.{FileInfo}
 use Rattle.ados_volume.specs.Examined.{file_info}
-use Rattle.change_bytes.specs.Renewed.{NeedsMore, written_size}
-use Rattle.change_entries.proofs.Changed.{nodes_here, nodes_other, relisted}
+use Rattle.ados_change.specs.Renewed.{NeedsMore, written_size}
+use Rattle.ados_change.proofs.Changed.{nodes_here, nodes_other, relisted}
 use Rattle.adf_transfer.specs.declared.put.NotPut.{NotPut}
 use Rattle.adf_transfer.specs.declared.put.NotPut.TheVariants.{NoRoom}
 use Rattle.adf_transfer.specs.Refusals.{more_blocks, or_no_room}

@@ -7,7 +7,7 @@ use Rattle.ados_packet.specs.declared.dos_error.DosError.TheVariants.{DeleteProt
 use Rattle.ados_tree.specs.Tree.{Tree, root}
 use Rattle.ados_tree.specs.Stands.{Stands}
 use Rattle.ados_tree.specs.Change.{removed}
-use Rattle.change_entries.specs.Conditions.{IsUnder}
+use Rattle.ados_change.specs.Conditions.{IsUnder}
 use Rattle.ados_volume.specs.Shown.{Shown}
 use Rattle.ados_handler.specs.Objects.{is_under, protection_of}
 

@@ -8,7 +8,7 @@ ghost use Rattle.ados_tree.specs.Change.{made, removed, renamed};
 ghost use Rattle.ados_tree.specs.Keys.{HasDirectory, HasKey};
 ghost use Rattle.ados_tree.specs.NewBlocks.{KeepsRest};
 ghost use Rattle.ados_name.specs.Protection.{denies_delete};
-ghost use Rattle.change_entries.specs.Conditions.{IsUnused};
+ghost use Rattle.ados_tree.specs.Tree.{IsUnused};
 ghost use Rattle.ados_handler.specs.Objects.{is_under, protection_of};
 ghost use Rattle.ados_handler.specs.Refusals.{is_empty, is_some_and};
 ghost use Rattle.ados_tree.specs.Walk.{child_of};

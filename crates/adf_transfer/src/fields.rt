@@ -54,7 +54,7 @@ pub fn comment(volume: &mut Volume, key: u32, text: &Comment, moment: Date3) -> 
     if key == volume.root() {
         return Err(DosError::ObjectWrongType);
     }
-    volume.set_comment(key, text, moment);
+    volume.set_comment(key, *text, moment);
     Ok(())
 }
 

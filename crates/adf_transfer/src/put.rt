@@ -6,7 +6,7 @@ ghost use Rattle.ados_tree.specs.Tree.{Tree, free};
 ghost use Rattle.ados_tree.specs.Stands.{Stands};
 ghost use Rattle.ados_tree.specs.Keys.{HasDirectory, HasEntryKey, HasFileKey, HasKey};
 ghost use Rattle.ados_tree.specs.NewBlocks.{KeepsRest};
-ghost use Rattle.change_entries.specs.Conditions.{IsUnused};
+ghost use Rattle.ados_tree.specs.Tree.{IsUnused};
 ghost use Rattle.ados_handler.specs.Objects.{protection_of};
 ghost use Rattle.adf_transfer.specs.Changes.{Changes, added, described, filled};
 ghost use Rattle.adf_transfer.specs.InTurn.{KeepsInTurn};
@@ -179,6 +179,6 @@ fn describe(volume: &mut Volume, key: u32, file: &NewFile<'_>, moment: Date3)
 {
     prove!(volume.image().blocks() >= 16);
     volume.set_protect(key, file.protection, moment);
-    volume.set_comment(key, &file.comment, moment);
+    volume.set_comment(key, file.comment, moment);
     volume.set_date(key, file.date, moment);
 }

@@ -30,6 +30,7 @@ pub mod Giving
 pub mod CutKeeping
 pub mod Cutting
 pub mod Leaving
+pub mod Summed
 pub mod Grown
 pub mod Gained
 pub mod Longer

@@ -1,7 +1,9 @@
 -- Which files can be changed.
 use Rattle.std.specs.Prelude.{◌≡◌, ◌≢◌, ℕ, ◌+◌, ◌<◌, ◌≤◌, List, ◌∷◌, length, slice_index, false}
-use Rattle.adf_block.specs.Image.{block_count, root_key, has_free_bit, free_bit_count}
+use Rattle.adf_block.specs.declared.Format.TheVariants.{Ofs}
+use Rattle.adf_block.specs.Image.{block_count, block_sum, root_key, has_free_bit, free_bit_count}
 use Rattle.ados_map.specs.Pages.{LawfulPages, pages_of, page_block}
+use Rattle.ados_map.specs.Changes.{SummedPages}
 use Rattle.ados_data.specs.Cost.{block_cost}
 use Rattle.ados_data.specs.File.{format_of, IsLawful, data_blocks, extension_blocks, contents}
 
@@ -27,6 +29,17 @@ pub record IsWritable (image : List ℕ) (file : ℕ) (blocks extensions bytes :
 -- the same of the file whose header is this block
 abbrev pub WritableFile : List ℕ → ℕ → Type 0
 WritableFile image file = IsWritable image file (data_blocks image file) (extension_blocks image file) (contents image file)
+
+-- the checksums are right: of the pages, and of each block of a file with these lists that has one, which in FFS data blocks have not
+pub record AreSummed (image : List ℕ) (file : ℕ) (blocks extensions : List ℕ) : Type 0 where
+  pub pages : SummedPages image
+  pub header : block_sum image file ≡ 0
+  pub extension : (q : ℕ) → q < length extensions → block_sum image (slice_index extensions q) ≡ 0
+  pub ofs_data : format_of image ≡ Ofs → (i : ℕ) → i < length blocks → block_sum image (slice_index blocks i) ≡ 0
+
+-- the same of the file whose header is this block
+abbrev pub SummedFile : List ℕ → ℕ → Type 0
+SummedFile image file = AreSummed image file (data_blocks image file) (extension_blocks image file)
 
 -- as many blocks are marked free as the file needs more for this size
 abbrev pub HasFree : List ℕ → ℕ → ℕ → Type 0

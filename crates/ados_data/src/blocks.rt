@@ -10,7 +10,7 @@ ghost use Rattle.ados_data.specs.steps.Blocks.{HasPointerRoom, IsNewBlock};
 use crate::attach::attach_extension;
 use adf_block::Image;
 use adf_block::layout::{MOST_BLOCKS, TABLE_LONGS};
-use ados_map::take_first;
+use ados_map::take_first_from;
 
 /// Takes the lowest free block, which is not below `from`, and fills it with zeros.
 pub fn new_block(image: &mut Image, from: u32) -> u32
@@ -20,7 +20,7 @@ pub fn new_block(image: &mut Image, from: u32) -> u32
     ensures { IsNewBlock image.old result image.new }
 {
     prove!(image.blocks() <= MOST_BLOCKS);
-    let Some(block) = take_first(image, from) else {
+    let Some(block) = take_first_from(image, from) else {
         unreachable!()
     };
     image.clear(block);

@@ -17,6 +17,6 @@ mod write;
 pub use cost::blocks_of;
 pub use fields::format_of;
 pub use place::{Place, place_at};
-pub use read::read_at;
+pub use read::{read_at, read_near};
 pub use shorten::cut;
-pub use write::{extend, write_at};
+pub use write::{extend, extend_near, write_at, write_near};

@@ -12,7 +12,16 @@ use adf_block::layout::{NEXT_EXTENSION, SIZE, TABLE_LONGS};
 
 /// Copies the bytes of a file from byte `pos` on into the buffer, as many as are there and fit, and
 /// answers how many these are. The rest of the buffer stays.
-pub fn read_at(image: &Image, file: u32, near: Place, pos: u64, buffer: &mut [u8]) -> usize
+pub fn read_at(image: &Image, file: u32, pos: u64, buffer: &mut [u8]) -> usize
+    requires { LawfulFile image.now file }
+    ensures count { result ≡ min (length buffer.old) (length (contents image.now file) - pos) }
+    ensures bytes { buffer.new ≡ take result (drop pos (contents image.now file)) ++ drop result buffer.old }
+{
+    read_near(image, file, Place::header(file), pos, buffer)
+}
+
+/// Does what `read_at` does, and walks to the bytes from the place `near`.
+pub fn read_near(image: &Image, file: u32, near: Place, pos: u64, buffer: &mut [u8]) -> usize
     requires lawful { LawfulFile image.now file }
     requires near { IsPlace image.now file near }
     ensures count { result ≡ min (length buffer.old) (length (contents image.now file) - pos) }

@@ -7,7 +7,7 @@ ghost use Rattle.ados_map.specs.Pages.{LawfulPages};
 ghost use Rattle.ados_data.specs.Cost.{block_cost, data_count, extension_count};
 ghost use Rattle.ados_data.specs.File.{contents, data_blocks, extension_blocks, format_of};
 ghost use Rattle.ados_data.specs.Cut.{CutsHeader, FreesData, FreesExtensions, KeepsData};
-ghost use Rattle.ados_data.specs.Changing.{PaysFor, WritableFile};
+ghost use Rattle.ados_data.specs.Changing.{PaysFor, SummedFile, WritableFile};
 ghost use Rattle.ados_data.specs.Others.{LeavesOthers};
 ghost use Rattle.ados_data.specs.Unnamed.{FileKeepsUnnamed};
 ghost use Rattle.ados_data.specs.steps.Giving.{IsEntered};
@@ -45,6 +45,7 @@ pub fn cut(image: &mut Image, file: u32, size: u32)
     ensures extensions { extension_blocks image.new file ≡ take (extension_count (data_count (format_of image.old) size)) (extension_blocks image.old file) }
     ensures freed { FreesData image.old file size image.new }
     ensures freed_extensions { FreesExtensions image.old file size image.new }
+    ensures sums { SummedFile image.old file → SummedFile image.new file }
 {
     prove!(image.blocks() <= MOST_BLOCKS);
     let format = image.format();

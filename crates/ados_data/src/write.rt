@@ -7,7 +7,7 @@ ghost use Rattle.ados_data.specs.Cost.{data_count, data_size};
 ghost use Rattle.ados_data.specs.Others.{FileGains, LeavesOthers};
 ghost use Rattle.ados_data.specs.Unnamed.{FileKeepsUnnamed};
 ghost use Rattle.ados_data.specs.File.{contents, data_blocks, extension_blocks, format_of, overlaid};
-ghost use Rattle.ados_data.specs.Changing.{HasFree, PaysFor, WritableFile};
+ghost use Rattle.ados_data.specs.Changing.{HasFree, PaysFor, SummedFile, WritableFile};
 ghost use Rattle.ados_data.specs.Place.{IsPlace};
 
 use crate::cost::data_size;
@@ -16,7 +16,7 @@ use crate::grow::lengthen;
 use crate::place::{Place, pointer_block};
 use crate::put::put_data;
 use adf_block::Image;
-use adf_block::layout::{FFS_ROOM, MOST_BLOCKS, NEXT_EXTENSION, SIZE, TABLE_LONGS};
+use adf_block::layout::{BOOT_BLOCKS, FFS_ROOM, MOST_BLOCKS, NEXT_EXTENSION, SIZE, TABLE_LONGS};
 
 /// The most bytes that a data block has room for.
 const ROOM: usize = FFS_ROOM as usize;
@@ -93,9 +93,35 @@ fn write_longer(
 }
 
 /// Writes bytes to a file from byte `pos` on, over those that are there and behind them. Each block that the
-/// file gets is the lowest free one. Like `extend`, it changes no byte that it need not, and
-/// answers a bound for the next search.
-pub fn write_at(image: &mut Image, file: u32, near: Place, pos: u64, bytes: &[u8], from: u32) -> u32
+/// file gets is the lowest free one. Like `extend`, it changes no byte that it need not.
+pub fn write_at(image: &mut Image, file: u32, pos: u64, bytes: &[u8])
+    requires writable { WritableFile image.old file }
+    requires start { pos ≤ length (contents image.old file) }
+    requires free { HasFree image.old file (max (length (contents image.old file)) (pos + length bytes.now)) }
+    ensures writable { WritableFile image.new file }
+    ensures format { format_of image.new ≡ format_of image.old }
+    ensures bytes { contents image.new file ≡ overlaid (contents image.old file) pos bytes.now }
+    ensures free { PaysFor image.old file (max (length (contents image.old file)) (pos + length bytes.now)) image.new }
+    ensures leaves { LeavesOthers image.old file image.new }
+    ensures gains { FileGains image.old file image.new }
+    ensures blocks { take (length (data_blocks image.old file)) (data_blocks image.new file) ≡ data_blocks image.old file }
+    ensures extensions { take (length (extension_blocks image.old file)) (extension_blocks image.new file) ≡ extension_blocks image.old file }
+    ensures keeps { FileKeepsUnnamed image.old file image.new }
+    ensures sums { SummedFile image.old file → SummedFile image.new file }
+{
+    write_near(image, file, Place::header(file), pos, bytes, BOOT_BLOCKS);
+}
+
+/// Does what `write_at` does, and walks to the bytes from the place `near`. No block below `from` is free; the answer is such
+/// a bound for the next search.
+pub fn write_near(
+    image: &mut Image,
+    file: u32,
+    near: Place,
+    pos: u64,
+    bytes: &[u8],
+    from: u32,
+) -> u32
     requires writable { WritableFile image.old file }
     requires near { IsPlace image.old file near }
     requires below { NoneFreeBelow image.old from }
@@ -111,6 +137,7 @@ pub fn write_at(image: &mut Image, file: u32, near: Place, pos: u64, bytes: &[u8
     ensures blocks { take (length (data_blocks image.old file)) (data_blocks image.new file) ≡ data_blocks image.old file }
     ensures extensions { take (length (extension_blocks image.old file)) (extension_blocks image.new file) ≡ extension_blocks image.old file }
     ensures keeps { FileKeepsUnnamed image.old file image.new }
+    ensures sums { SummedFile image.old file → SummedFile image.new file }
 {
     prove!(image.blocks() <= MOST_BLOCKS);
     let size = (image.long(file, SIZE) as u64).max(pos + bytes.len() as u64);
@@ -119,9 +146,28 @@ pub fn write_at(image: &mut Image, file: u32, near: Place, pos: u64, bytes: &[u8
 
 /// Makes a file longer, to this size. The bytes it gets are 0, and each block it gets is the lowest free
 /// one. It keeps its blocks. Bytes of them that no field names and the file doesn't reach stay, and so
-/// do all blocks but these and the pages; what the file doesn't use of a new block is 0. No block below
-/// `from` is free; the answer is such a bound for the next search.
-pub fn extend(image: &mut Image, file: u32, near: Place, size: u32, from: u32) -> u32
+/// do all blocks but these and the pages; what the file doesn't use of a new block is 0.
+pub fn extend(image: &mut Image, file: u32, size: u32)
+    requires writable { WritableFile image.old file }
+    requires longer { length (contents image.old file) ≤ size }
+    requires free { HasFree image.old file size }
+    ensures writable { WritableFile image.new file }
+    ensures format { format_of image.new ≡ format_of image.old }
+    ensures bytes { contents image.new file ≡ contents image.old file ++ replicate (size - length (contents image.old file)) 0 }
+    ensures free { PaysFor image.old file size image.new }
+    ensures leaves { LeavesOthers image.old file image.new }
+    ensures gains { FileGains image.old file image.new }
+    ensures blocks { take (length (data_blocks image.old file)) (data_blocks image.new file) ≡ data_blocks image.old file }
+    ensures extensions { take (length (extension_blocks image.old file)) (extension_blocks image.new file) ≡ extension_blocks image.old file }
+    ensures keeps { FileKeepsUnnamed image.old file image.new }
+    ensures sums { SummedFile image.old file → SummedFile image.new file }
+{
+    extend_near(image, file, Place::header(file), size, BOOT_BLOCKS);
+}
+
+/// Does what `extend` does, and walks to the file's end from the place `near`. No block below `from` is free; the answer is
+/// such a bound for the next search.
+pub fn extend_near(image: &mut Image, file: u32, near: Place, size: u32, from: u32) -> u32
     requires writable { WritableFile image.old file }
     requires near { IsPlace image.old file near }
     requires below { NoneFreeBelow image.old from }
@@ -137,6 +183,7 @@ pub fn extend(image: &mut Image, file: u32, near: Place, size: u32, from: u32) -
     ensures blocks { take (length (data_blocks image.old file)) (data_blocks image.new file) ≡ data_blocks image.old file }
     ensures extensions { take (length (extension_blocks image.old file)) (extension_blocks image.new file) ≡ extension_blocks image.old file }
     ensures keeps { FileKeepsUnnamed image.old file image.new }
+    ensures sums { SummedFile image.old file → SummedFile image.new file }
 {
     prove!(image.blocks() <= MOST_BLOCKS);
     let room = data_size(image.format());

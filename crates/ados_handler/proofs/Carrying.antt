@@ -4,7 +4,7 @@ use Rattle.std.proofs.lemmas.Bool.{cases_eq}
 use Rattle.ados_tree.specs.Tree.{Content, Node, Tree, size_in}
 use Rattle.ados_tree.specs.Walk.{holds_file}
 use Rattle.ados_tree.specs.Change.{changed, with_node}
-use Rattle.change_entries.proofs.Changed.{nodes_here, nodes_other}
+use Rattle.ados_change.proofs.Changed.{nodes_here, nodes_other}
 use Rattle.ados_handler.specs.Session.{Session}
 use Rattle.ados_handler.specs.ProperSession.{HoldNumber, hold_at, IsProperSession}
 use Rattle.ados_handler.specs.ProperSession.HoldNumber.{ByHandle}

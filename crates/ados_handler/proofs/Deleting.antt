@@ -6,7 +6,7 @@ use Rattle.ados_name.specs.Protection.{denies_delete}
 use Rattle.ados_tree.specs.Tree.{Node, Tree, Proper, entries, root}
 use Rattle.ados_tree.specs.Change.{removed}
 use Rattle.ados_tree.proofs.Nodes.{some_in}
-use Rattle.change_entries.specs.Conditions.{CanRemove}
+use Rattle.ados_change.specs.Conditions.{CanRemove}
 use Rattle.ados_volume.specs.Examined.{file_info}
 use Rattle.ados_packet.specs.declared.dos_error.DosError.{DosError}
 use Rattle.ados_packet.specs.declared.dos_error.DosError.TheVariants.{DeleteProtected, DeviceNotMounted, DirectoryNotEmpty, ObjectInUse, ObjectWrongType}

@@ -17,7 +17,8 @@ use Rattle.ados_handler.specs.Objects.{protection_of}
 use Rattle.ados_handler.specs.Refusals.{first_refusal, refuse}
 use Rattle.ados_handler.specs.Success.{GivesHandle}
 use Rattle.ados_handler.specs.ProperSession.{HoldNumber, hold_at, IsProperSession}
-use Rattle.ados_handler.specs.Handler.{HandlerState, IsSoundHandler}
+use Rattle.ados_handler.specs.Handler.{HandlerState}
+use Rattle.ados_handler.specs.Gives.{IsSoundHandler}
 use Rattle.ados_handler.specs.steps.Opening.{BringsHandle, Opens, empty_refusals}
 use Rattle.ados_handler.proofs.Holding.{not_held}
 use Rattle.ados_handler.proofs.Carrying.{carried_session}

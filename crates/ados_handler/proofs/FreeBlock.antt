@@ -9,8 +9,9 @@ use Rattle.ados_tree.specs.Layout.{Duty}
 use Rattle.ados_tree.specs.Walk.{child_of}
 use Rattle.ados_tree.proofs.Counting.{free_bits_count}
 use Rattle.ados_tree.proofs.Totals.{total-zero}
-use Rattle.change_entries.specs.Conditions.{CanMake, IsDirectoryKey, IsUnused}
-use Rattle.change_entries.proofs.Making.{unused}
+use Rattle.ados_tree.specs.Tree.{IsUnused}
+use Rattle.ados_change.specs.Conditions.{CanMake, IsDirectoryKey}
+use Rattle.ados_change.proofs.Making.{unused}
 use Rattle.ados_handler.specs.Objects.{lacks}
 use Rattle.ados_handler.specs.Success.{IsNewKey}
 use Rattle.ados_handler.proofs.Making.{no_child_new, none_there}

@@ -21,7 +21,8 @@ use Rattle.ados_handler.specs.Session.{Session, is_handle, handle_key, handle_po
 use Rattle.ados_handler.specs.declared.holds.HandleHold.{HandleHold}
 use Rattle.ados_handler.specs.Objects.{protection_in, protection_of}
 use Rattle.ados_handler.specs.Keeps.{HasPathTexts}
-use Rattle.ados_handler.specs.Handler.{HandlerState, IsSoundHandler}
+use Rattle.ados_handler.specs.Handler.{HandlerState}
+use Rattle.ados_handler.specs.Gives.{IsSoundHandler}
 use Rattle.ados_handler.specs.steps.Methods.{MethodGives, MethodMeans}
 use Rattle.ados_handler.specs.Refusals.{first_refusal, refuse}
 use Rattle.ados_handler.proofs.Rewriting.{file_node}

@@ -6,7 +6,8 @@ use Rattle.ados_tree.proofs.Keeping.{same_keeps}
 use Rattle.ados_packet.specs.declared.packet.Packet.{Packet}
 use Rattle.ados_packet.specs.declared.results.Results.{Results}
 use Rattle.ados_handler.specs.Meaning.{sets_disk_date}
-use Rattle.ados_handler.specs.Handler.{HandlerState, LeavesImage}
+use Rattle.ados_handler.specs.Handler.{HandlerState}
+use Rattle.ados_handler.specs.Gives.{LeavesImage}
 use Rattle.ados_handler.specs.steps.Methods.{answer_to}
 use Rattle.ados_handler.proofs.Holding.{true_false}
 

@@ -6,7 +6,7 @@ use Rattle.ados_tree.specs.Keys.{HasKey}
 use Rattle.ados_handler.specs.declared.holds.LockHold.{LockHold}
 use Rattle.ados_handler.specs.Session.{Session, is_in_use}
 use Rattle.ados_handler.specs.ProperSession.{IsProperSession}
-use Rattle.ados_handler.specs.Handler.{IsSoundHandler}
+use Rattle.ados_handler.specs.Gives.{IsSoundHandler}
 use Rattle.ados_handler.proofs.Holding.{not_in_use, proper_with_lock}
 
 -- it leaves the handler sound

@@ -15,9 +15,9 @@ use Rattle.ados_tree.specs.declared.path_fault.WalkFault.{WalkFault}
 use Rattle.ados_tree.specs.declared.path_fault.WalkFault.TheVariants.{DirectoryNotFound}
 use Rattle.ados_tree.specs.declared.path_fault.PlaceFault.TheVariants as faults
 use Rattle.ados_tree.specs.Change.{listed, made, new_node, rewritten, with_node}
-use Rattle.change_entries.specs.Conditions.{CanMake, IsDirectoryKey, IsEmpty, IsNewName}
-use Rattle.change_entries.proofs.Changed.{nodes_here, nodes_other, relisted}
-use Rattle.change_entries.proofs.ProperChanges.{directory_at, dir_not_key, made_is_proper}
+use Rattle.ados_change.specs.Conditions.{CanMake, IsDirectoryKey, IsEmpty, IsNewName}
+use Rattle.ados_change.proofs.Changed.{nodes_here, nodes_other, relisted}
+use Rattle.ados_change.proofs.ProperChanges.{directory_at, dir_not_key, made_is_proper}
 use Rattle.ados_packet.specs.declared.dos_error.DosError.TheVariants.{DeviceNotMounted, InvalidLock, ObjectExists, ObjectInUse, ObjectWrongType}
 use Rattle.ados_packet.specs.declared.packet.Packet.TheVariants.{CreateDir, FindUpdate, FindOutput}
 use Rattle.ados_handler.specs.Session.{Session, is_in_use, is_lock}

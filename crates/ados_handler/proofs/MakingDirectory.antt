@@ -7,7 +7,7 @@ use Rattle.ados_tree.specs.Tree.Content.{Directory}
 use Rattle.ados_tree.specs.Stands.{Stands}
 use Rattle.ados_tree.specs.Walk.{child_of}
 use Rattle.ados_tree.specs.Change.{made}
-use Rattle.change_entries.specs.Conditions.{CanMake}
+use Rattle.ados_change.specs.Conditions.{CanMake}
 use Rattle.ados_packet.specs.declared.dos_error.DosError.{DosError}
 use Rattle.ados_packet.specs.declared.dos_error.DosError.TheVariants.{DeviceNotMounted, DiskFull, ObjectExists}
 use Rattle.ados_packet.specs.declared.packet.Packet.TheVariants.{CreateDir}
@@ -17,7 +17,7 @@ use Rattle.ados_handler.specs.ProperSession.{IsProperSession}
 use Rattle.ados_handler.specs.Objects.{lacks, placed_at, spot}
 use Rattle.ados_handler.specs.Refusals.{first_refusal, refusal, refusals, refuse}
 use Rattle.ados_handler.specs.Success.{GivesLock, IsNewKey, after}
-use Rattle.ados_handler.specs.Handler.{IsSoundHandler}
+use Rattle.ados_handler.specs.Gives.{IsSoundHandler}
 use Rattle.ados_handler.specs.steps.Methods.{MethodMeans}
 use Rattle.ados_handler.proofs.Making.{made_lock}
 use Rattle.ados_handler.proofs.Meant.{counted, served_means}

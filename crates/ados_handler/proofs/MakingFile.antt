@@ -12,7 +12,7 @@ use Rattle.ados_tree.specs.Stands.{Stands}
 use Rattle.ados_tree.specs.Tree.{Tree}
 use Rattle.ados_tree.specs.Tree.Content.{File}
 use Rattle.ados_tree.specs.Walk.{child_of}
-use Rattle.change_entries.specs.Conditions.{CanMake}
+use Rattle.ados_change.specs.Conditions.{CanMake}
 use Rattle.ados_packet.specs.declared.dos_error.DosError.TheVariants.{DiskFull}
 use Rattle.ados_packet.specs.declared.results.Results.{Results}
 use Rattle.ados_handler.specs.declared.holds.HandleHold.{HandleHold}
@@ -20,7 +20,8 @@ use Rattle.ados_handler.specs.Session.{Session}
 use Rattle.ados_handler.specs.Objects.{lacks}
 use Rattle.ados_handler.specs.Refusals.{first_refusal, refuse}
 use Rattle.ados_handler.specs.Success.{MakesFile}
-use Rattle.ados_handler.specs.Handler.{HandlerState, IsSoundHandler}
+use Rattle.ados_handler.specs.Handler.{HandlerState}
+use Rattle.ados_handler.specs.Gives.{IsSoundHandler}
 use Rattle.ados_handler.specs.steps.Opening.{BringsHandle, Opens, make_refusals}
 use Rattle.ados_handler.proofs.FreeBlock.{new_key}
 use Rattle.ados_handler.proofs.Making.{made_handle, no_child_new}

@@ -24,7 +24,8 @@ use Rattle.ados_handler.specs.Success.{after}
 use Rattle.ados_handler.specs.Meaning.{IsRefused, IsServed, ServedOrNoMemory}
 use Rattle.ados_handler.specs.ProperSession.{IsProperSession}
 use Rattle.ados_handler.specs.Keeps.{KeepsProper}
-use Rattle.ados_handler.specs.Handler.{HandlerState, IsSoundHandler}
+use Rattle.ados_handler.specs.Handler.{HandlerState}
+use Rattle.ados_handler.specs.Gives.{IsSoundHandler}
 use Rattle.ados_handler.specs.steps.Methods.{MethodGives, MethodMeans, answer_to}
 
 -- what a packet that is done comes to, and one that is answered with a number

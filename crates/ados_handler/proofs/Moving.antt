@@ -13,7 +13,7 @@ use Rattle.ados_tree.specs.Change.{renamed}
 use Rattle.ados_tree.specs.declared.path_fault.WalkFault.{WalkFault}
 use Rattle.ados_tree.specs.declared.path_fault.PlaceFault.{PlaceFault}
 use Rattle.ados_tree.proofs.Nodes.{root_or_parent, some_in}
-use Rattle.change_entries.specs.Conditions.{CanRename}
+use Rattle.ados_change.specs.Conditions.{CanRename}
 use Rattle.ados_volume.proofs.Looking.{is_child}
 use Rattle.ados_packet.specs.declared.dos_error.DosError.{DosError}
 use Rattle.ados_packet.specs.declared.dos_error.DosError.TheVariants.{DeviceNotMounted, InvalidLock, NoFreeStore, ObjectExists, ObjectInUse, ObjectWrongType}

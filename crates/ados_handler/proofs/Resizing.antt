@@ -16,7 +16,7 @@ use Rattle.ados_tree.specs.Tree.{Tree, free, size_of}
 use Rattle.ados_tree.specs.Stands.{Stands}
 use Rattle.ados_tree.specs.NewBlocks.{KeepsRest}
 use Rattle.ados_tree.specs.Change.{grown, shortened}
-use Rattle.change_bytes.specs.Renewed.{NeedsMore}
+use Rattle.ados_change.specs.Renewed.{NeedsMore}
 use Rattle.ados_packet.specs.declared.dos_error.DosError.{DosError}
 use Rattle.ados_packet.specs.declared.dos_error.DosError.TheVariants.{DiskFull, SeekError, WriteProtected}
 use Rattle.ados_packet.specs.Numbers.{error_number}

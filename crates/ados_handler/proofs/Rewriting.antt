@@ -12,11 +12,11 @@ use Rattle.ados_tree.specs.Tree.{Content, Node, Tree, Proper, root, bytes_in, by
 use Rattle.ados_tree.specs.Tree.Content.{Directory, File}
 use Rattle.ados_tree.specs.Walk.{is_file, holds_file}
 use Rattle.ados_tree.specs.Change.{grown, overlaid, rewritten, shortened, without_archive, written}
-use Rattle.change_fields.proofs.Cases.{changed_node}
-use Rattle.change_bytes.specs.Stamps.{touched}
-use Rattle.change_bytes.proofs.Content.{file_not_root, proper_after as refilled_proper}
-use Rattle.change_bytes.proofs.Renewed.{is_rewritten}
-use Rattle.change_entries.proofs.Changed.{nodes_other}
+use Rattle.ados_change.proofs.Cases.{changed_node}
+use Rattle.ados_change.specs.Stamps.{touched}
+use Rattle.ados_change.proofs.Contents.{file_not_root, proper_after as refilled_proper}
+use Rattle.ados_change.proofs.Renewed.{is_rewritten}
+use Rattle.ados_change.proofs.Changed.{nodes_other}
 use Rattle.ados_packet.specs.declared.dos_error.DosError.TheVariants.{DeviceNotMounted, InvalidLock}
 use Rattle.ados_packet.specs.declared.packet.Packet.TheVariants.{Write, SetFileSize}
 use Rattle.ados_handler.specs.Session.{Session, at_position, handle_key, handle_position, is_handle, positions_within, within}

@@ -13,7 +13,7 @@ use Rattle.ados_handler.specs.declared.holds.LockHold.{LockHold}
 use Rattle.ados_handler.specs.declared.holds.HandleHold.{HandleHold}
 use Rattle.ados_handler.specs.ProperSession.{HoldNumber, hold_at, IsProperSession}
 use Rattle.ados_handler.specs.ProperSession.HoldNumber.{ByLock, ByHandle}
-use Rattle.ados_handler.specs.Handler.{IsSoundHandler}
+use Rattle.ados_handler.specs.Gives.{IsSoundHandler}
 use Rattle.ados_handler.proofs.Holding.{proper_with_lock, proper_without_lock, proper_without_handle, shared_free}
 
 -- nothing is held at the opening

@@ -8,9 +8,9 @@ use Rattle.ados_name.specs.Path.{IsPathText}
 use Rattle.ados_tree.specs.Tree.{Node, Tree, Proper, root}
 use Rattle.ados_tree.specs.Change.{changed, stamped, with_node}
 use Rattle.ados_tree.proofs.Nodes.{some_in}
-use Rattle.change_fields.proofs.Retells.{Retells, proper_after}
-use Rattle.change_fields.proofs.Cases.{bits_case, comment_case, date_case, name_case}
-use Rattle.change_entries.proofs.Loose.{stamped_is_proper}
+use Rattle.ados_change.proofs.Retells.{Retells, proper_after}
+use Rattle.ados_change.proofs.Cases.{bits_case, comment_case, date_case, name_case}
+use Rattle.ados_change.proofs.Loose.{stamped_is_proper}
 use Rattle.ados_packet.specs.declared.dos_error.DosError.TheVariants.{CommentTooBig, DeviceNotMounted, InvalidComponentName, InvalidLock, ObjectWrongType}
 use Rattle.ados_packet.specs.declared.packet.Packet.TheVariants.{SetProtect, SetComment, SetDate, RenameDisk}
 use Rattle.ados_handler.specs.Session.{Session, is_lock}

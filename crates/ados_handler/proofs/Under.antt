@@ -10,8 +10,8 @@ use Rattle.ados_chain.proofs.Lists.{Once, Contains-cases, Contains-here, Contain
 use Rattle.ados_tree.specs.Tree.{Tree, Proper, LeadsToRoot, parent_of, root}
 use Rattle.ados_tree.specs.Tree.LeadsToRoot.{at_root, by_parent}
 use Rattle.ados_tree.proofs.Nodes.{parent_in, some_in}
-use Rattle.change_entries.specs.Conditions.{IsUnder}
-use Rattle.change_entries.specs.Conditions.IsUnder.{itself, by_parent as under_parent}
+use Rattle.ados_change.specs.Conditions.{IsUnder}
+use Rattle.ados_change.specs.Conditions.IsUnder.{itself, by_parent as under_parent}
 use Rattle.ados_handler.specs.Objects.{upward}
 use Rattle.ados_handler.specs.Keeps.{UnderIsTold}
 

@@ -8,9 +8,9 @@ use Rattle.ados_tree.specs.Tree.{Node, Tree, Proper, entries, name_of, parent_of
 use Rattle.ados_tree.specs.Walk.{child_of}
 use Rattle.ados_tree.specs.Change.{changed, left, removed, renamed, with_node}
 use Rattle.ados_tree.proofs.Nodes.{directory_node, root_or_parent}
-use Rattle.change_entries.specs.Conditions.{CanRename, IsDirectoryKey}
-use Rattle.change_entries.proofs.Loose.{left_is}
-use Rattle.change_entries.proofs.ProperChanges.{into_directory, removed_is_proper, renamed_is_proper}
+use Rattle.ados_change.specs.Conditions.{CanRename, IsDirectoryKey}
+use Rattle.ados_change.proofs.Loose.{left_is}
+use Rattle.ados_change.proofs.ProperChanges.{into_directory, removed_is_proper, renamed_is_proper}
 use Rattle.ados_packet.specs.declared.dos_error.DosError.TheVariants.{DeviceNotMounted, DirectoryNotEmpty, InvalidLock, ObjectExists, ObjectInUse, ObjectWrongType}
 use Rattle.ados_packet.specs.declared.packet.Packet.TheVariants.{DeleteObject, RenameObject}
 use Rattle.ados_handler.specs.Session.{is_lock}

@@ -14,7 +14,7 @@ use Rattle.ados_tree.specs.Stands.{Stands}
 use Rattle.ados_tree.specs.Keys.{HasFileKey, HasTree}
 use Rattle.ados_tree.specs.Walk.{holds_file, is_file}
 use Rattle.ados_tree.specs.Change.{overlaid, written}
-use Rattle.change_bytes.specs.Renewed.{NeedsMore}
+use Rattle.ados_change.specs.Renewed.{NeedsMore}
 use Rattle.ados_packet.specs.declared.dos_error.DosError.TheVariants.{DiskFull, WriteProtected}
 use Rattle.ados_packet.specs.declared.packet.Packet.TheVariants.{Write}
 use Rattle.ados_packet.specs.declared.results.Results.{Results}
@@ -24,7 +24,8 @@ use Rattle.ados_handler.specs.declared.holds.HandleHold.{HandleHold}
 use Rattle.ados_handler.specs.Objects.{needs_more, protection_of}
 use Rattle.ados_handler.specs.Refusals.{first_refusal, refuse, refusal}
 use Rattle.ados_handler.specs.Success.{after}
-use Rattle.ados_handler.specs.Handler.{HandlerState, LeavesImage}
+use Rattle.ados_handler.specs.Handler.{HandlerState}
+use Rattle.ados_handler.specs.Gives.{LeavesImage}
 use Rattle.ados_handler.specs.steps.Methods.{MethodGives, MethodMeans, answer_to}
 use Rattle.ados_handler.proofs.Reading.{size_is}
 use Rattle.ados_handler.proofs.Rewriting.{file_node, rewritten_size}

@@ -1,15 +1,7 @@
--- What contracts see of a handler, and what it does with a packet.
-use Rattle.std.specs.Prelude.{◌≡◌, ◌≢◌, ◌⊎◌, ℕ, pos, List, Bool, false, refl}
+-- What contracts see of a handler.
+use Rattle.std.specs.Prelude.{ℕ, List, Bool, refl}
 use Rattle.std.specs.Coded.{Coded, code_by, coded×, coded_ℕ, coded_bool, coded_list}
-use Rattle.ados_name.specs.declared.Date3.{Date3}
-use Rattle.ados_tree.specs.NewBlocks.{KeepsRest}
-use Rattle.ados_tree.specs.Tree.{Tree}
-use Rattle.ados_tree.specs.Stands.{Stands}
-use Rattle.ados_packet.specs.declared.packet.Packet.{Packet}
-use Rattle.ados_packet.specs.declared.answer.Answer.{Answer}
 use Rattle.ados_handler.specs.Session.{Session, session_code}
-use Rattle.ados_handler.specs.ProperSession.{IsProperSession}
-use Rattle.ados_handler.specs.Meaning.{Meaning, sets_disk_date}
 
 -- the image of its volume, whether the bitmap was rebuilt when it was checked, and the holds
 pub record HandlerState : Type 0 where
@@ -23,24 +15,3 @@ handler_code =
     code_by (List ℕ × (Bool × Session)) (coded× (coded_list coded_ℕ) (coded× coded_bool session_code))
     (λ h. (h.image, (h.was_validated, h.session)))
     (λ p. record { image = p.0; was_validated = p.1.0; session = p.1.1 }) (λ _. refl)
-
--- the image stands for a tree, and the holds are those of that tree
-pub record IsSoundHandler (image : List ℕ) (session : Session) : Type 0 where
-  pub tree : Tree
-  pub stands : Stands image tree
-  pub holds : IsProperSession tree session
-
--- a packet keeps what is part of no field afterwards, the boot blocks too, and takes the lowest free blocks; where it is refused or sets no disk date it changes no byte at all
-pub record LeavesImage (t : Tree) (old : HandlerState) (packet : Packet) (new : HandlerState) (answer : Answer) : Type 0 where
-  pub keeps : KeepsRest old.image new.image
-  pub rest : (answer.res2 ≢ pos 0) ⊎ (sets_disk_date t old.session packet ≡ false) → new.image ≡ old.image
-
--- a packet is served at a moment: what it means leads from the tree and the holds to the new ones
-pub record HandlerGives (old : HandlerState) (packet : Packet) (now : Date3) (new : HandlerState) (answer : Answer) : Type 0 where
-  pub old_tree : Tree
-  pub new_tree : Tree
-  pub stood : Stands old.image old_tree
-  pub stands : Stands new.image new_tree
-  pub means : Meaning old_tree old.session packet now new_tree new.session answer
-  pub leaves : LeavesImage old_tree old packet new answer
-  pub validated : new.was_validated ≡ old.was_validated

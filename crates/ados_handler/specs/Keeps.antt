@@ -6,7 +6,7 @@ use Rattle.ados_tree.specs.Tree.{Tree, Proper}
 use Rattle.ados_packet.specs.declared.packet.Packet.{Packet}
 use Rattle.ados_packet.specs.declared.packet.Packet.TheVariants.{LocateObject, RenameDisk, DeleteObject, RenameObject, SetProtect, CreateDir, SetComment, SetDate, FindUpdate, FindInput, FindOutput}
 use Rattle.ados_packet.specs.declared.answer.Answer.{Answer}
-use Rattle.change_entries.specs.Conditions.{IsUnder}
+use Rattle.ados_change.specs.Conditions.{IsUnder}
 use Rattle.ados_handler.specs.Session.{Session}
 use Rattle.ados_handler.specs.Objects.{is_under}
 use Rattle.ados_handler.specs.ProperSession.{IsProperSession}

@@ -8,6 +8,7 @@ pub mod Refusals
 pub mod Success
 pub mod Meaning
 pub mod Handler
+pub mod Gives
 pub mod Keeps
 pub mod Closing
 pub mod steps

@@ -6,7 +6,7 @@ use Rattle.std.specs.Result.{result_unwrap_or}
 use Rattle.std.specs.FinMap as numbered
 use Rattle.ados_tree.specs.Tree.{Node, Tree, root, bytes_of, free, parent_of, size_of}
 use Rattle.ados_tree.specs.Walk.{child_of, place, walk}
-pub use Rattle.change_bytes.specs.Renewed.{needs_more}
+pub use Rattle.ados_tree.specs.Tree.{needs_more}
 use Rattle.ados_tree.specs.declared.path_fault.WalkFault.{WalkFault}
 use Rattle.ados_tree.specs.declared.path_fault.WalkFault.TheVariants as walks
 use Rattle.ados_tree.specs.declared.path_fault.PlaceFault.{PlaceFault}

@@ -5,7 +5,7 @@ use Rattle.ados_name.specs.declared.Date3.{Date3}
 use Rattle.ados_tree.specs.Tree.{Node, Tree, parent_of, size_of}
 use Rattle.ados_tree.specs.Tree.Content.{Directory, File}
 use Rattle.ados_tree.specs.Change.{disk_renamed, entries_after, grown, made, removed, renamed, rewritten, shortened, with_comment, with_date, with_protection, written}
-use Rattle.change_entries.specs.Conditions.{IsUnused}
+use Rattle.ados_tree.specs.Tree.{IsUnused}
 use Rattle.ados_volume.specs.Examined.{file_info}
 use Rattle.ados_volume.specs.Info.{disk_info}
 use Rattle.ados_packet.specs.Numbers.{no_lock}

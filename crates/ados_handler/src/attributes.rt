@@ -71,7 +71,7 @@ impl Handler {
         if key == self.volume.root() {
             return Results::refused(DosError::ObjectWrongType);
         }
-        self.volume.set_comment(key, &comment, now);
+        self.volume.set_comment(key, comment, now);
         Results::done(Body::Empty)
     }
 

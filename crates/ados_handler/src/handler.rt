@@ -20,7 +20,8 @@ pub struct Handler {
 
 impl Model for Handler {
     ghost use Rattle.ados_handler.specs.Session.{session_of};
-    ghost use Rattle.ados_handler.specs.Handler.{HandlerState, IsSoundHandler, handler_code};
+    ghost use Rattle.ados_handler.specs.Handler.{HandlerState, handler_code};
+    ghost use Rattle.ados_handler.specs.Gives.{IsSoundHandler};
 
     ghost Value = { HandlerState };
 

@@ -24,5 +24,6 @@ mod target;
 mod told;
 mod within;
 
+pub use ados_packet::{Action, Answer, Body, Packet};
 pub use handler::Handler;
 pub use holds::{HandleHold, LockHold};

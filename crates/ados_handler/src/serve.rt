@@ -3,12 +3,13 @@
 ghost use Rattle.std.specs.Prelude.{ℤ};
 ghost use Rattle.ados_name.specs.declared.Date3.{Date3 as Moment};
 ghost use Rattle.ados_packet.specs.declared.packet.Packet.TheVariants.{Die, Other};
+ghost use Rattle.ados_handler.specs.Gives.{HandlerGives};
 ghost use Rattle.ados_handler.specs.steps.Methods.{MethodGives};
 
 use crate::handler::Handler;
 use ados_name::Date3;
 use ados_packet::{Action, Answer, Body, DosError, Packet, Results};
-use port_history::Server;
+use ados_port::Server;
 
 impl Handler {
     /// DIE, which waits until nothing is held.
@@ -94,10 +95,18 @@ impl Handler {
             Packet::Other { .. } => self.unknown(),
         }
     }
+
+    /// Serves a packet at a moment, and answers it.
+    pub fn serve(&mut self, packet: Packet, now: Date3) -> Answer
+        ensures { HandlerGives self.old packet now self.new result }
+    {
+        let action = packet.action();
+        self.results_of(packet, now).to(action)
+    }
 }
 
 impl Server for Handler {
-    ghost use Rattle.ados_handler.specs.Handler.{HandlerGives};
+    ghost use Rattle.ados_handler.specs.Gives.{HandlerGives};
     ghost use Rattle.ados_handler.specs.Meaning.{is_closing};
     ghost use Rattle.ados_handler.specs.steps.Closes.{serves_dead, serves_closing};
 
@@ -114,8 +123,7 @@ impl Server for Handler {
     ghost is_closing = { is_closing };
 
     fn serve(&mut self, packet: Packet, now: Date3) -> Answer {
-        let action = packet.action();
-        self.results_of(packet, now).to(action)
+        Handler::serve(self, packet, now)
     }
 
     fn died(&self) -> bool {

@@ -1,13 +1,14 @@
 -- What changes leave of the marks, and of their number.
 use Rattle.std.proofs.Common.{◌≡◌, ℕ, zero, suc, ◌+◌, ◌-◌, ◌%◌, ◌<◌, ◌≤◌, Bool, true, false, cond, inl, inr, List, arith, ap, sym, ◌∙◌, refl}
-use Rattle.std.proofs.lemmas.Bool.{cases_lt}
-use Rattle.adf_block.specs.Image.{long, total, block_count, IsInside, has_free_bit, free_bit_count}
+use Rattle.std.proofs.lemmas.Bool.{cases_lt, cases_eq}
+use Rattle.adf_block.specs.Image.{long, total, block_count, block_sum, page_count, IsInside, has_free_bit, free_bit_count}
 use Rattle.adf_block.specs.Frame.{SameBut, InBlock, OnlyBlock}
-use Rattle.adf_block.proofs.Frames.{same_count, same_long, same_weaken}
+use Rattle.adf_block.proofs.Frames.{same_count, same_long, same_weaken, other_block_sum}
 use Rattle.adf_block.proofs.Totals.{total-same, total-one}
-use Rattle.ados_map.specs.Pages.{NoneFree, page_block, pages_of, page_of, map_long, HasBit}
-use Rattle.ados_map.specs.Changes.{MapPlace, BitChanged}
+use Rattle.ados_map.specs.Pages.{LawfulPages, NoneFree, page_block, pages_of, page_of, map_long, HasBit}
+use Rattle.ados_map.specs.Changes.{MapPlace, BitChanged, SummedPages}
 use Rattle.ados_map.proofs.BitLemmas.{mark, marked-is}
+use Rattle.ados_map.proofs.PageLemmas.{same_page}
 use Rattle.ados_map.proofs.Counting.{total-zero}
 
 -- ---- where no page was changed
@@ -39,6 +40,19 @@ marked_count_kept old new count same =
 -- nothing but the page was changed
 pub marked_page_only : (old : List ℕ) (k : ℕ) (free : Bool) (new : List ℕ) → BitChanged old k free new → OnlyBlock (page_block old (page_of k)) old new
 marked_page_only old k free new h = same_weaken (MapPlace old k) (InBlock (page_block old (page_of k))) old new (λ c i at. at.0) h.rest
+
+-- the checksums of the pages stay right
+pub marked_sums : (old : List ℕ) (k : ℕ) (free : Bool) (new : List ℕ) → LawfulPages old → block_count old ≤ 101602 → IsInside (block_count old) k → BitChanged old k free new
+    → SummedPages old → SummedPages new
+marked_sums old k free new lawful size inside h sums p lt =
+    let count : block_count new ≡ block_count old = same_count (MapPlace old k) old new h.rest in
+    let below : p < pages_of old = omega (arith, lt, ap page_count count) in
+    let k_page : page_of k < pages_of old = omega (arith, inside.0, inside.1) in
+    let named : page_block new p ≡ page_block old p = same_page (MapPlace old k) old new h.rest (λ i low high at. lawful.beside_root (page_of k) k_page (sym at.0)) p (omega arith) in
+    ap (block_sum new) named ∙ elim (cases_eq (page_block old p) (page_block old (page_of k))) [
+      | inl at ↦ ap (block_sum new) at ∙ h.sum ∙ ap (block_sum old) (sym at) ∙ sums p below
+      | inr apart ↦ other_block_sum (page_block old (page_of k)) old new (marked_page_only old k free new h) (page_block old p) apart ∙ sums p below
+    ]
 
 -- the number of marks moves with the bit
 pub marked_count_moved : (old : List ℕ) (k : ℕ) (free : Bool) (new : List ℕ) → BitChanged old k free new → IsInside (block_count old) k

@@ -17,6 +17,10 @@ pub record BitChanged (old : List ℕ) (k : ℕ) (free : Bool) (new : List ℕ) 
   pub sum : block_sum new (page_block old (page_of k)) ≡ block_sum old (page_block old (page_of k))
   pub rest : SameBut (MapPlace old k) old new
 
+-- the checksum of each page is right: its longs sum to 0
+abbrev pub SummedPages : List ℕ → Type 0
+SummedPages image = (p : ℕ) → p < pages_of image → block_sum image (page_block image p) ≡ 0
+
 -- the lowest free block was marked used, or none is free and nothing was changed
 abbrev pub TakesFirst : List ℕ → Option ℕ → List ℕ → Type 0
 TakesFirst old block new = MatchOption block (NoneFree old × (new ≡ old)) (λ b. IsLowestFree old b × BitChanged old b false new)

@@ -3,21 +3,33 @@
 ghost use Rattle.std.specs.Prelude.{◌≡◌, true, false};
 ghost use Rattle.adf_block.specs.Image.{IsImage, IsInside, block_count};
 ghost use Rattle.ados_map.specs.Pages.{LawfulPages, NoneFreeBelow};
-ghost use Rattle.ados_map.specs.Changes.{BitChanged, TakesFirst};
+ghost use Rattle.ados_map.specs.Changes.{BitChanged, SummedPages, TakesFirst};
 
 use crate::bits::{page_at, with_bit};
 use crate::reading::first_free;
 use adf_block::Image;
 use adf_block::layout::{BOOT_BLOCKS, FIRST_MAP_LONG, LONG_BITS, PAGE_BITS, PAGE_SUM};
 
-/// Takes the lowest free block, which is not below `from`, and marks it used; `None` where none is free. What stands in
-/// the block stays.
-pub fn take_first(image: &mut Image, from: u32) -> Option<u32>
+/// Takes the lowest free block and marks it used; `None` where none is free. What stands in the block stays.
+pub fn take_first(image: &mut Image) -> Option<u32>
+    requires { LawfulPages image.old }
+    ensures none { TakesFirst image.old result image.new }
+    ensures count { block_count image.new ≡ block_count image.old }
+    ensures pages { LawfulPages image.new }
+    ensures sums { SummedPages image.old → SummedPages image.new }
+    ensures image { IsImage image.new }
+{
+    take_first_from(image, BOOT_BLOCKS)
+}
+
+/// Does what `take_first` does, where no block below `from` is free: it looks for the block from there on.
+pub fn take_first_from(image: &mut Image, from: u32) -> Option<u32>
     requires pages { LawfulPages image.old }
     requires below { NoneFreeBelow image.old from }
     ensures none { TakesFirst image.old result image.new }
     ensures count { block_count image.new ≡ block_count image.old }
     ensures pages { LawfulPages image.new }
+    ensures sums { SummedPages image.old → SummedPages image.new }
     ensures image { IsImage image.new }
 {
     let block = first_free(image, from)?;
@@ -31,6 +43,7 @@ pub fn give_back(image: &mut Image, b: u32)
     requires inside { IsInside (block_count image.old) b }
     ensures freed { BitChanged image.old b true image.new }
     ensures pages { LawfulPages image.new }
+    ensures sums { SummedPages image.old → SummedPages image.new }
     ensures image { IsImage image.new }
 {
     put_mark(image, b, true);
@@ -42,6 +55,7 @@ fn put_mark(image: &mut Image, b: u32, free: bool)
     requires inside { IsInside (block_count image.old) b }
     ensures marked { BitChanged image.old b free image.new }
     ensures pages { LawfulPages image.new }
+    ensures sums { SummedPages image.old → SummedPages image.new }
     ensures image { IsImage image.new }
 {
     let page = page_at(image, (b - BOOT_BLOCKS) / PAGE_BITS);

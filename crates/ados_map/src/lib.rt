@@ -9,6 +9,6 @@ mod changes;
 mod reading;
 mod rebuilding;
 
-pub use changes::{give_back, take_first};
+pub use changes::{give_back, take_first, take_first_from};
 pub use reading::{count_free, has_free, is_free};
 pub use rebuilding::rebuild;

@@ -1,4 +1,7 @@
--- What the contracts of a port speak of: what is in use, what happens to it, and what its ends keep.
+-- What the contracts of a port speak of: what is in use, what happens to it, and what its ends keep; how an exchange shows its port, and what a client's thread may have done to its end. What only the calls inside speak of stands in steps.
+pub mod View
+pub mod Refused
+pub mod Grown
 pub use Rattle.port_history.specs.Port
 pub use Rattle.port_history.specs.declared.step.Step
 pub use Rattle.port_history.specs.declared.step.Outcome
@@ -14,4 +17,4 @@ pub use Rattle.port_history.specs.Laws
 pub use Rattle.port_ends.specs.Ends
 pub use Rattle.port_ends.specs.Batches
 pub use Rattle.port_ends.specs.Gathering
-pub use Rattle.port_threads.specs.Grown
+pub mod steps

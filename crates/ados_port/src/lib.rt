@@ -3,12 +3,23 @@
 //! end [`gather`] brings all ends together.
 #![tactic(auto)]
 
+// On one thread.
+mod counts;
+mod exchange;
+mod steps;
+
+// A thread for each client, and the handler on the first one.
+mod client;
+mod serve;
+
+pub use client::Client;
+pub use exchange::{Exchange, NewRefused};
 pub use port_ends::{
     ClientEnd, GatherRefused, Gathered, HandlerEnd, OpenRefused, Rest, ServeEnd, ServeFault,
     gather, open_port,
 };
-pub use port_exchange::{Exchange, NewRefused, RunDone, RunRefused, run};
 pub use port_history::{
     Outcome, PutRefused, Reply, Server, Step, closed_after_death, lists_have_a_history,
 };
-pub use port_threads::{Client, ServeClientsFault, Served, serve_clients};
+pub use serve::{ServeClientsFault, Served, serve_clients};
+pub use steps::{RunDone, RunRefused, run};

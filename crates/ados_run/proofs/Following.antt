@@ -13,9 +13,11 @@ use Rattle.ados_port.specs.History.{Event, PortHistory, Serving, Run, last_serve
 use Rattle.ados_packet.specs.declared.packet.Packet.{Packet}
 use Rattle.ados_packet.specs.declared.answer.Answer.{Answer}
 use Rattle.ados_handler.specs.Meaning.{Meaning}
-use Rattle.ados_handler.specs.Handler.{HandlerState, HandlerGives}
+use Rattle.ados_handler.specs.Handler.{HandlerState}
+use Rattle.ados_handler.specs.Gives.{HandlerGives}
 use Rattle.ados_run.specs.TreePort.{TreeState, means, tree_died, handler_died, with_tree}
-use Rattle.ados_run.specs.SideBySide.{BothSides, ServesBoth, both_died, handlers_of, beside, port_beside}
+use Rattle.ados_run.specs.SideBySide.{BothSides, both_died, handlers_of, beside, port_beside}
+use Rattle.ados_run.specs.Keeping.{ServesBoth}
 use Rattle.ados_run.specs.Laws.{EachSideIsAHistory, EachSideIsLawful, HistoriesFollowTrees, ListsFollowTrees}
 
 -- servers, each seen as another
@@ -85,7 +87,7 @@ both_run old t stood (s ∷ served) (new ∷ servers) run =
     let rest : BothRun new first.new_tree served servers = both_run new first.new_tree first.stands served servers run.1 in
     let meant : Meaning t old.session s.packet s.moment first.new_tree new.session s.answer =
     subst (λ (u : Tree). Meaning u old.session s.packet s.moment first.new_tree new.session s.answer) (one_tree old.image first.old_tree t first.stood stood) first.means in
-    let served_first : ServesBoth (beside t old) s.packet s.moment (beside first.new_tree new) s.answer = record { gives = first; means = meant; stands = first.stands } in
+    let served_first : ServesBoth (beside t old) s.packet s.moment (beside first.new_tree new) s.answer = record { gives = first; meant = record { means = meant; stands = first.stands } } in
     record {
       states = beside first.new_tree new ∷ rest.states;
       run = (served_first, rest.run);
@@ -134,7 +136,7 @@ lists_follow_trees t opening clients served unanswered closing stood h =
 
 -- what is served side by side is served on each side
 abbrev on_tree : (old new : BothSides) (packet : Packet) (moment : Date3) (answer : Answer) → ServesBoth old packet moment new answer → means (tree_side old) packet moment (tree_side new) answer
-on_tree old new packet moment answer given = given.means
+on_tree old new packet moment answer given = given.meant.means
 
 abbrev on_handler : (old new : BothSides) (packet : Packet) (moment : Date3) (answer : Answer) → ServesBoth old packet moment new answer → HandlerGives old.handler packet moment new.handler answer
 on_handler old new packet moment answer given = given.gives

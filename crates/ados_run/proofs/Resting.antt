@@ -12,7 +12,8 @@ use Rattle.ados_packet.specs.declared.dos_error.DosError.TheVariants.{DeviceNotM
 use Rattle.ados_handler.specs.Session.{Session}
 use Rattle.ados_handler.specs.Refusals.{first_refusal, refuse, refusals}
 use Rattle.ados_handler.specs.Meaning.{Meaning, IsRefused, ServedOrNoMemory, is_closing, is_number}
-use Rattle.ados_handler.specs.Handler.{HandlerState, HandlerGives}
+use Rattle.ados_handler.specs.Handler.{HandlerState}
+use Rattle.ados_handler.specs.Gives.{HandlerGives}
 use Rattle.ados_handler.specs.steps.Closes.{serves_closing}
 use Rattle.ados_handler.proofs.Holding.{true_false}
 use Rattle.ados_run.specs.TreePort.{handler_died}

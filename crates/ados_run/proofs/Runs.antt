@@ -13,11 +13,13 @@ use Rattle.ados_port.proofs.Closing.{closed_after_death}
 use Rattle.ados_packet.specs.declared.packet.Packet.{Packet}
 use Rattle.ados_packet.specs.declared.answer.Answer.{Answer}
 use Rattle.ados_handler.specs.Session.{opening_session}
-use Rattle.ados_handler.specs.Handler.{HandlerState, HandlerGives}
+use Rattle.ados_handler.specs.Handler.{HandlerState}
+use Rattle.ados_handler.specs.Gives.{HandlerGives}
 use Rattle.ados_handler.specs.steps.Closes.{serves_dead}
 use Rattle.ados_run.specs.TreePort.{handler_died}
-use Rattle.ados_run.specs.SideBySide.{BothSides, FollowsTree, ServesBoth, beside, both_died, handler_over, handlers_of, port_beside}
-use Rattle.ados_run.specs.Runs.{RunsVolume, port_over}
+use Rattle.ados_run.specs.SideBySide.{BothSides, FollowsTree, beside, both_died, handler_over, handlers_of, port_beside}
+use Rattle.ados_run.specs.Runs.{SaysValid, port_over}
+use Rattle.ados_run.specs.Keeping.{KeepsVolume, ServesBoth}
 use Rattle.ados_run.proofs.Following.{handlers_run, histories_follow_trees}
 use Rattle.ados_run.proofs.Resting.{dead_handlers_rest}
 
@@ -25,6 +27,11 @@ use Rattle.ados_run.proofs.Resting.{dead_handlers_rest}
 accepted_tree : (image checked : List ℕ) (was_validated : Bool) → Accepts image was_validated checked → (t : Tree) × Stands checked t
 accepted_tree image checked false a = a.3
 accepted_tree image checked true a = (a.2.0, a.2.1)
+
+-- and it is the image that was handed in, where that one says that its bitmap is valid
+accepted_as_it_is : (image checked : List ℕ) (was_validated : Bool) → Accepts image was_validated checked → SaysValid image → checked ≡ image
+accepted_as_it_is image checked false a valid = a.2
+accepted_as_it_is image checked true a valid = absurd (a.1.was_not_valid valid)
 
 -- the opening handler, of which the image, the validation and the holds are told apart
 pub opening_handler : (handler : HandlerState) (image : List ℕ) (was_validated : Bool) → handler.image ≡ image → handler.was_validated ≡ was_validated → handler.session ≡ opening_session
@@ -35,26 +42,29 @@ opening_handler handler image was_validated i v s j = record { image = i j; was_
 both_stay_dead : (old new : BothSides) (packet : Packet) (moment : Date3) (answer : Answer) → ServesBoth old packet moment new answer → both_died old ≡ true → both_died new ≡ true
 both_stay_dead old new packet moment answer given dead = serves_dead old.handler new.handler packet moment answer given.gives dead
 
-pub runs_volume : (image : List ℕ) (clients : ℕ) (steps : List (Step Packet Date3)) (outcomes : List (Outcome Packet Answer)) (closing : PortState HandlerState Packet Answer)
+pub keeps_volume : (image : List ℕ) (clients : ℕ) (steps : List (Step Packet Date3)) (outcomes : List (Outcome Packet Answer)) (closing : PortState HandlerState Packet Answer)
     (checked : List ℕ) (was_validated : Bool) → Accepts image was_validated checked
     → (handler : HandlerState) → handler ≡ record { image = checked; was_validated = was_validated; session = opening_session }
     → (opening : PortState HandlerState Packet Answer) → opening ≡ opening_port handler clients
-    → PortHistory HandlerGives handler_died opening steps outcomes closing → RunsVolume image clients steps outcomes closing
-runs_volume image clients steps outcomes closing checked was_validated accepted handler is opening opened h =
+    → PortHistory HandlerGives handler_died opening steps outcomes closing → KeepsVolume image clients steps outcomes closing
+keeps_volume image clients steps outcomes closing checked was_validated accepted handler is opening opened h =
     let first : PortState HandlerState Packet Answer = port_over checked was_validated clients in
     let from_first : PortHistory HandlerGives handler_died first steps outcomes closing =
     subst (λ (p : PortState HandlerState Packet Answer). PortHistory HandlerGives handler_died p steps outcomes closing) (opened ∙ ap (λ (s : HandlerState). opening_port s clients) is) h in
     let (t, stood) = accepted_tree image checked was_validated accepted in
-    let follows : FollowsTree t first steps outcomes closing = histories_follow_trees t first steps outcomes closing stood from_first in
+    let follows : FollowsTree ServesBoth t first steps outcomes closing = histories_follow_trees t first steps outcomes closing stood from_first in
     let both : BothSides = beside t (handler_over checked was_validated) in
     record {
-      checked = checked;
-      was_validated = was_validated;
       accepted = accepted;
-      tree = t;
-      stands = stood;
-      only = λ other stands. one_tree checked other t stands stood;
-      follows = follows;
-      closed = closed_after_death ServesBoth both_died both_stay_dead (port_beside t first) steps outcomes (port_beside follows.last_tree closing) follows.history;
-      rests = dead_handlers_rest both.handler follows.history.served (handlers_of follows.history.servers) (handlers_run both follows.history.served follows.history.servers follows.history.meaning);
+      runs = record {
+        checked = checked;
+        was_validated = was_validated;
+        as_it_is = accepted_as_it_is image checked was_validated accepted;
+        tree = t;
+        stands = stood;
+        only = λ other stands. one_tree checked other t stands stood;
+        follows = follows;
+        closed = closed_after_death ServesBoth both_died both_stay_dead (port_beside t first) steps outcomes (port_beside follows.last_tree closing) follows.history;
+        rests = dead_handlers_rest both.handler follows.history.served (handlers_of follows.history.servers) (handlers_run both follows.history.served follows.history.servers follows.history.meaning);
+      };
     }

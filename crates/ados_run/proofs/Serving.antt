@@ -19,14 +19,16 @@ use Rattle.ados_port.proofs.Replayed.{lists_have_a_history}
 use Rattle.ados_packet.specs.declared.packet.Packet.{Packet}
 use Rattle.ados_packet.specs.declared.answer.Answer.{Answer}
 use Rattle.ados_handler.specs.Session.{opening_session}
-use Rattle.ados_handler.specs.Handler.{HandlerState, HandlerGives}
+use Rattle.ados_handler.specs.Handler.{HandlerState}
+use Rattle.ados_handler.specs.Gives.{HandlerGives}
 use Rattle.adf_script.specs.declared.ending.ClientEnding.{ClientEnding}
 use Rattle.adf_script.specs.Spoken.{Spoken}
-use Rattle.adf_clients.specs.Scripts.{Tells, EachTells}
+use Rattle.ados_run.specs.Scripts.{Tells, EachTells}
 use Rattle.ados_run.specs.TreePort.{handler_died}
-use Rattle.ados_run.specs.SideBySide.{ServesBoth, beside, both_died, handler_over, handlers_of}
+use Rattle.ados_run.specs.SideBySide.{beside, both_died, handler_over, handlers_of}
 use Rattle.ados_run.specs.TreeLists.{ListsFollowTree}
-use Rattle.ados_run.specs.ServesVolume.{EachSpeaks, ServesVolume}
+use Rattle.ados_run.specs.ServesVolume.{EachSpeaks}
+use Rattle.ados_run.specs.Keeping.{KeepsServed, ServesBoth}
 use Rattle.ados_run.proofs.Closed.{spoken_closed}
 use Rattle.ados_run.proofs.Following.{handlers_run, lists_follow_trees}
 use Rattle.ados_run.proofs.Resting.{dead_handlers_rest}
@@ -91,7 +93,7 @@ each_speaks h given done untaken died tells ends long closed =
 
 -- clients with their ends and scripts, and with what they told when they were done
 module _ {C D : Type 0} (end_of : C → ClientView Packet Date3 Answer) (script_of : C → List ℕ) (client_of : D → ClientView Packet Date3 Answer) (told_of : D → List ℕ × ClientEnding) where
-  pub serves_volume : (image : List ℕ) (was_validated : Bool) (moment : Date3) (opening : HandlerState) (first last : HandlerView HandlerState Packet Date3 Answer) (served : List (Serving Packet Date3 Answer))
+  pub keeps_served : (image : List ℕ) (was_validated : Bool) (moment : Date3) (opening : HandlerState) (first last : HandlerView HandlerState Packet Date3 Answer) (served : List (Serving Packet Date3 Answer))
       (clients : List C) (done : List D) (scripts : List (List ℕ)) (ends : List (ClientView Packet Date3 Answer)) (told : List (List ℕ × ClientEnding)) (untaken : List (Vec (Reply Answer) Global)) (unanswered : List (ℕ × Packet)) (closing : HandlerState)
       → (t : Tree) × Stands image t
       → opening ≡ record { image = image; was_validated = was_validated; session = opening_session }
@@ -100,8 +102,8 @@ module _ {C D : Type 0} (end_of : C → ClientView Packet Date3 Answer) (script_
       → EachTells (map (λ c. (end_of c, script_of c)) clients) (map (λ d. (client_of d, told_of d)) done) → AreEnds last ends → length untaken ≡ length ends
       → Lawful HandlerGives last.opening (all_lists ends untaken) last.served unanswered closing
       → CloseMeansDeath ends (handler_died closing)
-      → ServesVolume image was_validated scripts moment told closing
-  serves_volume image was_validated moment opening first last served clients done scripts ends told untaken unanswered closing stood is new serves are_scripts are_ends are_told tells all_ends long lawful closed =
+      → KeepsServed image was_validated scripts moment told closing
+  keeps_served image was_validated moment opening first last served clients done scripts ends told untaken unanswered closing stood is new serves are_scripts are_ends are_told tells all_ends long lawful closed =
       let start : HandlerState = handler_over image was_validated in
       let opened : last.opening ≡ start = serves.opening ∙ (new.0 ∙ is) in
       let all_served : last.served ≡ served = serves.served_more ∙ ap (λ l. l ++ served) new.2 in
@@ -112,7 +114,7 @@ module _ {C D : Type 0} (end_of : C → ClientView Packet Date3 Answer) (script_
       let told_are : map (λ (d : Done). d.1) dones ≡ told = map-map (λ (d : Done). d.1) (λ d. (client_of d, told_of d)) done ∙ sym are_told in
       let speaks : EachSpeaks (map (λ (g : Given). g.1) given) (all_lists (ends_of dones) untaken) (handler_died closing) (map (λ (d : Done). d.1) dones) =
       each_speaks last given dones untaken (handler_died closing) tells (subst (λ l. AreEnds last l) (sym ends_are) all_ends) (long ∙ ap (λ (l : List (ClientView Packet Date3 Answer)). length l) (sym ends_are)) (subst (λ l. CloseMeansDeath l (handler_died closing)) (sym ends_are) closed) in
-      let follows : ListsFollowTree stood.0 start (all_lists ends untaken) served unanswered closing =
+      let follows : ListsFollowTree ServesBoth stood.0 start (all_lists ends untaken) served unanswered closing =
       lists_follow_trees stood.0 start (all_lists ends untaken) served unanswered closing stood.1
       (subst (λ (z : HandlerState × List (Serving Packet Date3 Answer)). Lawful HandlerGives z.0 (all_lists ends untaken) z.1 unanswered closing) (λ i. (opened i, all_served i)) lawful) in
       record {

@@ -4,6 +4,7 @@ use Rattle.std.specs.declared.alloc.Global.{Global}
 use Rattle.ados_name.specs.declared.Date3.{Date3}
 use Rattle.ados_tree.specs.Tree.{Tree}
 use Rattle.ados_tree.specs.Stands.{Stands}
+use Rattle.ados_port.specs.Serving.{ServerMeaning}
 use Rattle.ados_port.specs.Lawful.{ClientLists}
 use Rattle.ados_port.specs.Lists.{HasHistory}
 use Rattle.ados_port.specs.Ends.{AllAt}
@@ -13,7 +14,7 @@ use Rattle.ados_handler.specs.Handler.{HandlerState}
 use Rattle.adf_script.specs.declared.ending.ClientEnding.{ClientEnding}
 use Rattle.adf_script.specs.Spoken.{Spoken}
 use Rattle.ados_run.specs.TreePort.{PacketLists, ServedPackets, handler_died}
-use Rattle.ados_run.specs.SideBySide.{ServesBoth, beside, both_died, handler_over, handlers_of}
+use Rattle.ados_run.specs.SideBySide.{BothSides, MeansBoth, beside, both_died, handler_over, handlers_of}
 use Rattle.ados_run.specs.TreeLists.{ListsFollowTree}
 use Rattle.ados_run.specs.Rests.{RestsOnceDead}
 
@@ -35,9 +36,10 @@ EachSpeaks scripts clients died told =
     × Spoken (place + 1) script lists.put lists.taken died end.0 end.1)
 
 -- The volume's image stands for exactly one tree. Each client's text tells of its script, and what all of them put and took is
--- one history from that tree on, in which each packet was served at this moment, and image and tree changed side by side. Some
--- list of steps, run one after another, has that history. Once the handler had died each packet was refused, and no byte changed
-pub record ServesVolume (image : List ℕ) (was_validated : Bool) (scripts : List (List ℕ)) (moment : Date3)
+-- one history from that tree on, in which each packet was served at this moment, and image and tree changed together in this
+-- way. Some list of steps, run one after another, has that history. Once the handler had died each packet was refused, and no
+-- byte changed
+pub record ServesWith (together : ServerMeaning BothSides Packet Date3 Answer) (image : List ℕ) (was_validated : Bool) (scripts : List (List ℕ)) (moment : Date3)
     (told : List (List ℕ × ClientEnding)) (closing : HandlerState) : Type 0 where
   pub tree : Tree
   pub stands : Stands image tree
@@ -47,6 +49,10 @@ pub record ServesVolume (image : List ℕ) (was_validated : Bool) (scripts : Lis
   pub unanswered : List (ℕ × Packet)
   pub speaks : EachSpeaks scripts clients (handler_died closing) told
   pub moments : AllAt moment served
-  pub follows : ListsFollowTree tree (handler_over image was_validated) clients served unanswered closing
-  pub history : HasHistory ServesBoth both_died (beside tree (handler_over image was_validated)) clients served unanswered (beside follows.last_tree closing)
+  pub follows : ListsFollowTree together tree (handler_over image was_validated) clients served unanswered closing
+  pub history : HasHistory together both_died (beside tree (handler_over image was_validated)) clients served unanswered (beside follows.last_tree closing)
   pub rests : RestsOnceDead (handler_over image was_validated) served (handlers_of follows.lawful.meaning.0)
+
+-- each packet was answered as it is meant for the tree, which changed as the packet says
+abbrev pub ServesVolume : List ℕ → Bool → List (List ℕ) → Date3 → List (List ℕ × ClientEnding) → HandlerState → Type 0
+ServesVolume = ServesWith MeansBoth

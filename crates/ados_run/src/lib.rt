@@ -2,13 +2,26 @@
 //! scripts are run over a volume, each on a thread of its own.
 #![tactic(auto)]
 
+// A client and a thread for each script, at any port of packets.
+mod asking;
+mod client_job;
+mod ends;
+mod gate;
+mod scripts;
+mod speaking;
+
+// A handler over a volume.
 mod laws;
 mod run;
 mod serve;
 
+pub use adf_script::ClientEnding;
+pub use ends::{assign, part_done};
+pub use gate::{Gate, OpenGate};
 pub use laws::{
     dead_handlers_rest, each_side_is_a_history, each_side_is_lawful, histories_follow_trees,
     lines_over_trees_are_one_run, lists_follow_trees, trees_read_back,
 };
 pub use run::{RunFault, run_volume};
+pub use scripts::{ClientDone, ScriptsDone, ScriptsFault, serve_scripts};
 pub use serve::{VolumeServed, serve_volume};

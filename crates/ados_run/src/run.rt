@@ -1,6 +1,8 @@
 //! Runs port steps at a handler over an image.
 ghost use Rattle.std.specs.Prelude.{◌≡◌, ◌≤◌, MatchResult};
-ghost use Rattle.ados_run.specs.Runs.{IsRunFault, RunsVolume};
+ghost use Rattle.ados_run.specs.Keeping.{KeepsVolume};
+ghost use Rattle.ados_run.specs.Refused.{IsRunFault};
+ghost use Rattle.ados_run.specs.Runs.{RunsVolume};
 
 use adf_block::Image;
 use ados_handler::Handler;
@@ -40,7 +42,10 @@ pub fn run_volume(
     steps: Vec<Step<Packet, Date3>>,
 ) -> Result<RunDone<Handler>, RunFault>
     requires { 1 ≤ clients }
-    ensures { MatchResult result (λ done. RunsVolume image clients steps.items done.outcomes.items done.exchange) (IsRunFault image) }
+    ensures { MatchResult result
+        (λ done. RunsVolume image clients steps.items done.outcomes.items done.exchange
+        × KeepsVolume image clients steps.items done.outcomes.items done.exchange)
+        (IsRunFault image) }
 {
     let volume = check(alloc, image)?;
     let handler = Handler::new(alloc, volume);

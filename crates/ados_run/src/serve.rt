@@ -1,14 +1,16 @@
 //! Runs scripts at a handler over a volume, each as a client on a thread of its own.
 ghost use Rattle.std.specs.Prelude.{◌≡◌, ◌<◌, IfOk, length, map};
 ghost use Rattle.ados_port.specs.Ends.{AreEnds, IsNew};
-ghost use Rattle.adf_clients.specs.Scripts.{AreUnused};
+ghost use Rattle.ados_run.specs.Scripts.{AreUnused};
 ghost use Rattle.ados_run.specs.SideBySide.{handler_over};
 ghost use Rattle.ados_run.specs.steps.Gathered.{IsGathered};
+ghost use Rattle.ados_run.specs.Keeping.{KeepsServed};
 ghost use Rattle.ados_run.specs.ServesVolume.{ServesVolume, scripts_of, texts_of};
 
-use adf_clients::{
-    ClientEnding, Gate, ScriptsDone, ScriptsFault, assign, part_done, serve_scripts,
-};
+use crate::ends::{assign, part_done};
+use crate::gate::Gate;
+use crate::scripts::{ScriptsDone, ScriptsFault, serve_scripts};
+use adf_script::ClientEnding;
 use ados_handler::Handler;
 use ados_name::Date3;
 use ados_port::{ClientEnd, HandlerEnd, gather, open_port};
@@ -86,7 +88,9 @@ where
     G: Gate + Drop + Send + 'static,
     R: Threads + Wait + Copy + Send + Drop + 'static,
     requires some { 0 < length scripts.items }
-    ensures { IfOk result (λ done. ServesVolume volume.image volume.was_validated (scripts_of scripts.items) moment (texts_of done.texts.items) done.handler) }
+    ensures { IfOk result
+        (λ done. ServesVolume volume.image volume.was_validated (scripts_of scripts.items) moment (texts_of done.texts.items) done.handler
+        × KeepsServed volume.image volume.was_validated (scripts_of scripts.items) moment (texts_of done.texts.items) done.handler) }
 {
     // This calls `image`, which tells that there is a tree.
     prove!(volume.image().blocks() >= 16);

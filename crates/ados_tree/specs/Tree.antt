@@ -1,9 +1,9 @@
 -- A volume as a tree, without blocks.
-use Rattle.std.specs.Prelude.{◌≡◌, ◌≢◌, ℕ, ◌+◌, ◌-◌, ◌≤◌, ◌↔◌, List, [], length, Option, Some, None, Contains, AllPairs, is_some, option_map, option_and_then, cond}
+use Rattle.std.specs.Prelude.{◌≡◌, ◌≢◌, ℕ, ◌+◌, ◌-◌, ◌≤◌, ◌↔◌, List, [], length, Option, Some, None, Contains, AllPairs, is_some, option_map, option_and_then, cond, Bool, nat_lt}
 use Rattle.adf_block.specs.declared.Format.{Format}
 use Rattle.adf_block.specs.Image.{root_key, page_count, IsInside, IsSize, total}
 use Rattle.ados_name.specs.declared.Date3.{Date3}
-use Rattle.ados_data.specs.Cost.{data_count, extension_count}
+use Rattle.ados_data.specs.Cost.{block_cost, data_count, extension_count}
 use Rattle.ados_name.specs.Name.{Same, slot, IsName, IsComment}
 
 -- what a node holds: a directory the keys of its entries in order, a file its bytes
@@ -128,3 +128,12 @@ used t =
 -- the blocks that are left
 abbrev pub free : Tree → ℕ
 free t = t.blocks - 2 - used t
+
+-- with this size the file needs more blocks than it has and are free
+abbrev pub needs_more : Tree → ℕ → ℕ → Bool
+needs_more t file size = nat_lt (free t + block_cost t.format (size_of t file)) (block_cost t.format size)
+
+-- a block of the volume that is no node's key
+pub record IsUnused (t : Tree) (key : ℕ) : Type 0 where
+  pub inside : IsInside t.blocks key
+  pub no_node : t.nodes key ≡ None

@@ -17,7 +17,7 @@ use Rattle.ados_tree.specs.Kept.{IsField}
 use Rattle.ados_tree.specs.Stands.{format_byte}
 use Rattle.ados_tree.specs.Blank.{IsBlank}
 use Rattle.ados_volume.specs.steps.BlankParts.{IsBlankRoot, IsBetweenFields, NamesBlank}
-use Rattle.change_fields.proofs.Texts.{bytes_put}
+use Rattle.ados_change.proofs.Texts.{bytes_put}
 
 -- the pages behind a blank root are lawful
 module _ (n : ℕ) (name : List ℕ) (moment : Date3) (image : List ℕ) (size : IsSize n) (count : block_count image ≡ n) (root : IsBlankRoot n name moment image) where

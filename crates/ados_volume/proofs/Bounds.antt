@@ -12,7 +12,7 @@ use Rattle.ados_tree.specs.Stands.{Stands}
 use Rattle.ados_tree.specs.Faults.{root_of}
 use Rattle.ados_tree.specs.NewBlocks.{KeepsRest}
 use Rattle.ados_tree.proofs.Writable.{beside_pages, root_serves}
-use Rattle.change_fields.specs.Places.{OnlyRestamped, Restamped}
+use Rattle.ados_change.specs.Places.{OnlyRestamped, Restamped}
 
 -- the boot blocks have no bit
 pub below_boot : (image : List ℕ) → NoneFreeBelow image 2

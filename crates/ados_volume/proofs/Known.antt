@@ -19,7 +19,7 @@ use Rattle.ados_tree.specs.NewBlocks.{KeepsRest}
 use Rattle.ados_tree.specs.Untold.{AgreeInFront}
 use Rattle.ados_tree.proofs.OneTree.{one_tree}
 use Rattle.ados_tree.proofs.Writable.{format_is}
-use Rattle.change_bytes.proofs.Renewed.{bytes_in, file_writable}
+use Rattle.ados_change.proofs.Renewed.{bytes_in, file_writable}
 use Rattle.ados_volume.specs.steps.Places.{AreKnown, Drops, IsKnown}
 
 -- with no fewer bytes a file has no fewer extension blocks

@@ -11,8 +11,8 @@ use Rattle.ados_tree.specs.Stands.{Stands}
 use Rattle.ados_tree.specs.Walk.{child_of}
 use Rattle.ados_tree.specs.Change.{with_node, changed, listed, enter, entered, left, new_node, made, removed, renamed}
 use Rattle.ados_tree.proofs.Nodes.{content_in, directory_in, entry_node, parent_in}
-use Rattle.change_entries.proofs.Changed.{nodes_other, changed_keeps, listed_names, listed_here, listed_other}
-use Rattle.change_entries.proofs.Entering.{Contains-enter_kept, Contains-stays}
+use Rattle.ados_change.proofs.Changed.{nodes_other, changed_keeps, listed_names, listed_here, listed_other}
+use Rattle.ados_change.proofs.Entering.{Contains-enter_kept, Contains-stays}
 use Rattle.ados_volume.specs.declared.cache.Sought.{Sought}
 use Rattle.ados_volume.specs.steps.Cache.{AreChildren, Forgets}
 use Rattle.ados_volume.proofs.Walking.{has_node}

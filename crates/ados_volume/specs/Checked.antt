@@ -5,7 +5,7 @@ use Rattle.ados_tree.specs.Stands.{Stands}
 use Rattle.ados_tree.specs.Tree.{Tree}
 use Rattle.ados_tree.specs.declared.fault.FaultKind.TheVariants.{NoMemory}
 use Rattle.ados_volume.specs.Shown.{Shown}
-use Rattle.check_image.specs.declared.accept.Rejected.{Rejected}
+use Rattle.ados_check.specs.declared.accept.Rejected.{Rejected}
 
 -- a volume over the image as it is accepted, or the image handed back with why it is refused
 abbrev pub Checks : List ℕ → Result Shown Rejected → Type 0

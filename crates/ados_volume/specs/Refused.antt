@@ -2,7 +2,7 @@
 use Rattle.std.specs.Prelude.{◌≡◌, ℕ, List, Result, MatchResult}
 use Rattle.ados_map.specs.Pages.{NoneFree}
 use Rattle.ados_name.specs.declared.Date3.{Date3}
-use Rattle.change_bytes.specs.Renewed.{CannotGrow, CannotWrite, Grows, Writes}
+use Rattle.ados_change.specs.Renewed.{CannotGrow, CannotWrite, Grows, Writes}
 use Rattle.ados_volume.specs.Shown.{Shown}
 
 -- the volume is as it was, and has no room to write the bytes into the file

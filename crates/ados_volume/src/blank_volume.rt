@@ -18,9 +18,9 @@ use adf_block::layout::{
     PRIMARY_TYPE, ROOT_TYPE, SECONDARY_TYPE, SUM, TABLE_LONGS, TABLE_SIZE,
 };
 use adf_block::{Format, Image, page_count};
+use ados_change::{put_date, put_text};
 use ados_map::rebuild;
 use ados_name::{Date3, Name};
-use change_fields::{put_date, put_text};
 use std::alloc::{AllocError, Global};
 
 /// A volume with no directories and files, whose three dates are the moment. Its boot blocks hold the four bytes of the

@@ -7,8 +7,8 @@ use crate::places::PlaceCache;
 use crate::told::ToldCache;
 use crate::volume::Volume;
 use adf_block::Image;
+use ados_check::{Rejected, check_image};
 use ados_tree::{FaultKind, VolumeFault};
-use check_image::{Rejected, check_image};
 use std::alloc::Global;
 
 /// The volume of an image that shows no fault. Every other image is handed back as it was, with a fault that it shows.

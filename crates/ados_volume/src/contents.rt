@@ -10,10 +10,10 @@ ghost use Rattle.ados_volume.specs.Refused.{GrowsOrRefuses, WritesOrRefuses};
 
 use crate::volume::Volume;
 use adf_block::layout::BOOT_BLOCKS;
+use ados_change::{cut, grow, write};
 use ados_data::place_at;
 use ados_name::Date3;
 use ados_tree::Full;
-use change_bytes::{cut, grow, write};
 
 impl Volume {
     /// Writes bytes over those of a file from byte `pos` on, which may reach past its end. The moment becomes the file's date

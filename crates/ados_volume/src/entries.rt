@@ -6,9 +6,9 @@ ghost use Rattle.ados_tree.specs.Stands.{Stands};
 ghost use Rattle.ados_tree.specs.Keys.{HasKey, HasTree};
 ghost use Rattle.ados_tree.specs.NewBlocks.{KeepsRest, TakesNone};
 ghost use Rattle.ados_tree.specs.Change.{removed, renamed};
-ghost use Rattle.change_entries.specs.Behind.{KeepsBehindName};
-ghost use Rattle.change_entries.specs.Conditions.{CanMake, CanRemove, CanRename};
-ghost use Rattle.change_entries.specs.Kinds.{Makes};
+ghost use Rattle.ados_change.specs.Behind.{KeepsBehindName};
+ghost use Rattle.ados_change.specs.Conditions.{CanMake, CanRemove, CanRename};
+ghost use Rattle.ados_change.specs.Kinds.{Makes};
 ghost use Rattle.ados_volume.specs.Refused.{RefusesEntry};
 ghost use Rattle.ados_volume.specs.steps.Cache.{Forgets};
 
@@ -19,9 +19,9 @@ use crate::volume::Volume;
 use crate::walk::parent_in;
 use adf_block::Image;
 use adf_block::layout::BOOT_BLOCKS;
+use ados_change::{NodeKind, create, remove, rename};
 use ados_name::{Date3, Name};
 use ados_tree::Full;
-use change_entries::{NodeKind, create, remove, rename};
 
 impl Volume {
     /// Makes an entry with nothing in it, whose name no other entry of the directory has, and answers its key, the lowest free

@@ -17,11 +17,11 @@ mod volume;
 mod walk;
 
 pub use ados_chain::Next;
+pub use ados_change::NodeKind;
+pub use ados_check::Rejected;
 pub use ados_packet::{DiskInfo, FileInfo};
-pub use ados_tree::{FaultKind, Full, VolumeFault};
+pub use ados_tree::{FaultKind, Full, PlaceFault, VolumeFault, WalkFault};
 pub use blank_volume::blank;
-pub use change_entries::NodeKind;
-pub use check_image::Rejected;
 pub use checking::check;
 pub use laws::check_decides;
 pub use volume::Volume;

@@ -16,7 +16,7 @@ use crate::volume::Volume;
 use adf_block::Image;
 use adf_block::layout::{FILE_TYPE, SECONDARY_TYPE};
 use ados_chain::{Next, after, after_entry, find};
-use ados_data::{place_at, read_at};
+use ados_data::{place_at, read_near};
 use ados_name::{Name, same_name_same_slot};
 
 impl Volume {
@@ -96,7 +96,7 @@ impl Volume {
         ensures count { (t : Tree) → Stands self.now.image t → result ≡ min (length buffer.old) (length (bytes_of t key) - pos) }
         ensures bytes { (t : Tree) → Stands self.now.image t → buffer.new ≡ take result (drop pos (bytes_of t key)) ++ drop result buffer.old }
     {
-        read_at(&self.image, key, self.places.of(key), pos, buffer)
+        read_near(&self.image, key, self.places.of(key), pos, buffer)
     }
 
     /// Does what `read` does, and keeps where it stands in the file: a call for what comes behind goes on from there.
@@ -108,7 +108,7 @@ impl Volume {
     {
         let place = place_at(&self.image, key, self.places.of(key), pos);
         self.places.keep(key, place);
-        read_at(&self.image, key, place, pos, buffer)
+        read_near(&self.image, key, place, pos, buffer)
     }
 }
 

@@ -8,11 +8,11 @@ ghost use Rattle.ados_tree.specs.Keys.{HasEntryKey};
 ghost use Rattle.ados_tree.specs.Faults.{root_of};
 ghost use Rattle.ados_tree.specs.NewBlocks.{KeepsRest};
 ghost use Rattle.ados_tree.specs.Change.{disk_renamed, with_comment, with_date, with_protection};
-ghost use Rattle.change_fields.specs.Places.{OnlyRestamped};
+ghost use Rattle.ados_change.specs.Places.{OnlyRestamped};
 
 use crate::volume::Volume;
+use ados_change::{rename_disk, set_comment, set_date, set_protection};
 use ados_name::{Comment, Date3, Name, Protect};
-use change_fields::{rename_disk, set_comment, set_date, set_protection};
 
 impl Volume {
     /// Sets the protection bits of a directory or file. The disk date becomes the moment. But for these and the sums of both
@@ -29,14 +29,14 @@ impl Volume {
 
     /// Sets the comment of a directory or file. The disk date becomes the moment. But for these and the sums of both blocks
     /// every byte stays, those behind a shorter comment too.
-    pub fn set_comment(&mut self, key: u32, comment: &Comment, moment: Date3)
+    pub fn set_comment(&mut self, key: u32, comment: Comment, moment: Date3)
         requires { HasEntryKey self.old.image key }
-        ensures stands { (t : Tree) → Stands self.old.image t → Stands self.new.image (with_comment moment key comment.now t) }
+        ensures stands { (t : Tree) → Stands self.old.image t → Stands self.new.image (with_comment moment key comment t) }
         ensures keeps { KeepsRest self.old.image self.new.image }
-        ensures rest { OnlyRestamped key comment_byte (comment_byte + 1 + length comment.now) self.old.image self.new.image }
+        ensures rest { OnlyRestamped key comment_byte (comment_byte + 1 + length comment) self.old.image self.new.image }
         ensures validated { self.new.was_validated ≡ self.old.was_validated }
     {
-        set_comment(&mut self.image, key, comment, moment);
+        set_comment(&mut self.image, key, &comment, moment);
     }
 
     /// Sets the date of a directory or file. The disk date becomes the moment. But for these and the sums of both blocks every

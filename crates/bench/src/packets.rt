@@ -4,7 +4,7 @@ use adf_block::Format;
 use ados_handler::Handler;
 use ados_name::{Date3, Name, PathText};
 use ados_packet::{Answer, Buffer, NO_LOCK, Packet, Text};
-use ados_port::{Exchange, Outcome, Server, Step};
+use ados_port::{Exchange, Outcome, Step};
 use ados_volume::blank;
 use anyhow::{Result, bail};
 use std::alloc::Global;

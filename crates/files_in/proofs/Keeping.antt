@@ -10,8 +10,8 @@ use Rattle.ados_tree.specs.Keys.{HasTree}
 use Rattle.ados_tree.specs.Stands.{Stands}
 use Rattle.ados_tree.specs.Change.{changed, enter, made, new_node, rewritten, stamped, with_comment, with_date, with_node, with_protection, without_archive}
 use Rattle.ados_tree.proofs.Nodes.{content_in}
-use Rattle.change_entries.specs.Conditions.{IsDirectoryKey}
-use Rattle.change_entries.proofs.Changed.{nodes_here, nodes_other, relisted}
+use Rattle.ados_change.specs.Conditions.{IsDirectoryKey}
+use Rattle.ados_change.proofs.Changed.{nodes_here, nodes_other, relisted}
 use Rattle.adf_transfer.specs.declared.put.NewFile.{NewFile}
 use Rattle.adf_transfer.specs.Changes.{filled}
 use Rattle.adf_transfer.proofs.Filling.{IsEntry, after_change}

@@ -11,7 +11,8 @@ use Rattle.ados_tree.specs.Stands.{Stands}
 use Rattle.ados_tree.specs.Keys.{HasDirectory, HasEntryKey, HasKey, HasTree}
 use Rattle.ados_tree.specs.Change.{made}
 use Rattle.ados_tree.specs.Walk.{child_of, is_file}
-use Rattle.change_entries.specs.Conditions.{IsDirectoryKey, IsUnused}
+use Rattle.ados_tree.specs.Tree.{IsUnused}
+use Rattle.ados_change.specs.Conditions.{IsDirectoryKey}
 use Rattle.ados_volume.specs.Shown.{Shown}
 use Rattle.ados_handler.specs.Objects.{lacks, protection_of}
 use Rattle.ados_handler.specs.Refusals.{first_refusal, refuse}

@@ -7,7 +7,7 @@ use Rattle.ados_tree.specs.Change.{disk_renamed, made, removed, renamed, with_co
 use Rattle.ados_tree.specs.Stands.{Stands}
 use Rattle.ados_tree.specs.Tree.{Tree}
 use Rattle.ados_tree.specs.Tree.Content.{Directory}
-use Rattle.change_entries.specs.Conditions.{IsUnused}
+use Rattle.ados_tree.specs.Tree.{IsUnused}
 use Rattle.ados_volume.specs.Shown.{Shown}
 use Rattle.adf_jobs.specs.declared.changing.Change.{Change}
 use Rattle.adf_jobs.specs.declared.changing.Change.TheVariants.{Add, Comment, Delete, MakeDirectories, Protect, Relabel, Rename}

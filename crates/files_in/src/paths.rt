@@ -5,7 +5,7 @@ ghost use Rattle.ados_tree.specs.Tree.{Tree};
 ghost use Rattle.ados_tree.specs.Stands.{Stands};
 ghost use Rattle.ados_tree.specs.Change.{renamed};
 ghost use Rattle.ados_tree.specs.Keys.{HasDirectory, HasKey};
-ghost use Rattle.change_entries.specs.Conditions.{IsUnused};
+ghost use Rattle.ados_tree.specs.Tree.{IsUnused};
 ghost use Rattle.adf_transfer.specs.Changes.{Changes};
 ghost use Rattle.files_in.specs.Commands.{Comments, Deletes, MakesAt, Moves, Protects, Relabels};
 ghost use Rattle.files_in.specs.Paths.{entry_move_refusal, move_fault, object_at};

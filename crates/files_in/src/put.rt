@@ -130,6 +130,6 @@ pub(crate) fn note_directory(volume: &mut Volume, key: u32, note: &Uaem, moment:
 {
     prove!(volume.image().blocks() >= 16);
     volume.set_protect(key, note.protect, moment);
-    volume.set_comment(key, &note.comment, moment);
+    volume.set_comment(key, note.comment, moment);
     volume.set_date(key, note.date, moment);
 }

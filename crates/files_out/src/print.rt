@@ -6,7 +6,7 @@ ghost use Rattle.files_out.specs.Printing.{IsPrinted, IsPrintFault};
 
 use crate::fault::OutFault;
 use crate::words::{locate_word, refused};
-use adf_files::write_output;
+use adf_io::write_output;
 use adf_transfer::read_file;
 use ados_packet::DosError;
 use ados_volume::Volume;

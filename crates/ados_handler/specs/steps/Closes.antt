@@ -24,7 +24,8 @@ use Rattle.ados_handler.specs.Refusals.{refuse, first_refusal, refusal, refusals
 use Rattle.ados_handler.specs.Success.{after, Success}
 use Rattle.ados_handler.specs.Meaning.{IsRefused, ServedOrNoMemory, is_closing, is_number, is_dos_true}
 use Rattle.ados_handler.specs.Closing.{ClosingIsDead, DeadStays}
-use Rattle.ados_handler.specs.Handler.{HandlerState, HandlerGives}
+use Rattle.ados_handler.specs.Handler.{HandlerState}
+use Rattle.ados_handler.specs.Gives.{HandlerGives}
 
 true_false : true ≡ false → ⊥
 true_false e = subst (λ (b : Bool). MatchBool b (Unit {0}) ⊥) e tt

@@ -4,7 +4,7 @@ use Rattle.ados_name.specs.declared.Date3.{Date3}
 use Rattle.ados_tree.specs.Tree.{Tree, size_of}
 use Rattle.ados_tree.specs.Change.{written}
 use Rattle.ados_tree.specs.Stands.{Stands}
-use Rattle.change_bytes.specs.Renewed.{NeedsMore}
+use Rattle.ados_change.specs.Renewed.{NeedsMore}
 use Rattle.ados_volume.specs.Shown.{Shown}
 use Rattle.ados_handler.specs.Objects.{needs_more}
 use Rattle.ados_handler.specs.Success.{resized}

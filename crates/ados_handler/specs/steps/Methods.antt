@@ -7,7 +7,8 @@ use Rattle.ados_packet.specs.declared.answer.Answer.{Answer}
 use Rattle.ados_packet.specs.declared.results.Results.{Results}
 use Rattle.ados_handler.specs.Session.{Session}
 use Rattle.ados_handler.specs.Meaning.{Meaning}
-use Rattle.ados_handler.specs.Handler.{HandlerGives, HandlerState}
+use Rattle.ados_handler.specs.Handler.{HandlerState}
+use Rattle.ados_handler.specs.Gives.{HandlerGives}
 
 -- the answer to a packet that comes to these results
 abbrev pub answer_to : Packet → Results → Answer

@@ -8,7 +8,8 @@ use Rattle.ados_port.specs.Reply.{Reply}
 use Rattle.ados_port.specs.Lawful.{Lawful}
 use Rattle.ados_port.specs.Ends.{ClientView, CloseMeansDeath, HandlerView}
 use Rattle.ados_port.specs.Gathering.{all_lists}
-use Rattle.ados_handler.specs.Handler.{HandlerState, HandlerGives}
+use Rattle.ados_handler.specs.Handler.{HandlerState}
+use Rattle.ados_handler.specs.Gives.{HandlerGives}
 use Rattle.ados_run.specs.TreePort.{handler_died}
 
 -- the lists of these ends, with what was untaken and unanswered, are one history, and the handler stands where it ends; an

@@ -2,7 +2,7 @@ use Rattle.std.proofs.Common.{List, subst}
 use Rattle.ados_name.specs.declared.Date3.{Date3}
 use Rattle.ados_packet.specs.declared.packet.Packet.{Packet}
 use Rattle.ados_port.specs.Step.{Step}
-use Rattle.ados_run.specs.Runs.{RunsVolume}
+use Rattle.ados_run.specs.Keeping.{KeepsVolume}
 use Rattle.adf_commands.specs.Texts.{IsInfoText}
 use Rattle.adf_commands.proofs.Printing.{tells_no_run}
 use Rattle.adf_commands.proofs.info.tell_info.Goals as goal
@@ -14,5 +14,5 @@ returns-in_err-done g c =
 pub returns : goal.returns
 returns g c =
     let done = c.in_ok-done.done in
-    let runs = subst (λ (steps : List (Step Packet Date3)). RunsVolume c.args.image 1 steps done.outcomes.items done.exchange) c.in_ok-disk_info.ensures c.in_ok-done.ensures in
+    let runs = subst (λ (steps : List (Step Packet Date3)). KeepsVolume c.args.image 1 steps done.outcomes.items done.exchange) c.in_ok-disk_info.ensures c.in_ok-done.ensures.1 in
     c.tell_answer.ensures c.args.image runs

@@ -6,7 +6,7 @@ use Rattle.ados_tree.specs.Stands.{Stands}
 use Rattle.ados_tree.specs.Walk.{child_of}
 use Rattle.ados_volume.specs.Shown.{Shown}
 use Rattle.ados_handler.specs.Objects.{lacks}
-use Rattle.change_entries.proofs.Making.{unused}
+use Rattle.ados_change.proofs.Making.{unused}
 use Rattle.ados_handler.proofs.FreeBlock.{none_free_lacks}
 use Rattle.ados_handler.proofs.Holding.{true_false}
 use Rattle.ados_handler.proofs.Making.{none_there}

@@ -5,7 +5,7 @@ use Rattle.ados_tree.specs.Stands.{Stands}
 use Rattle.ados_tree.specs.Change.{removed}
 use Rattle.ados_tree.specs.Keys.{HasEntryKey}
 use Rattle.ados_tree.proofs.Nodes.{some_in}
-use Rattle.change_entries.specs.Conditions.{CanRemove}
+use Rattle.ados_change.specs.Conditions.{CanRemove}
 use Rattle.ados_handler.proofs.Unlisting.{parent_there}
 use Rattle.adf_transfer.specs.Located.{Located}
 use Rattle.adf_transfer.proofs.Going.{keys_of}

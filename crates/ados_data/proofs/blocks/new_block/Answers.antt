@@ -8,5 +8,5 @@ unreachable-requires c = omega (arith, c.requires.free, none_counted c.args.imag
 
 pub returns : goal.returns
 returns c =
-    new_block_taken c.args.image.now c.in-Some.block c.take_first.new.image c.clear.new.self (omega (arith, c.blocks-2.ensures.count, c.blocks-2.ensures.size), omega (arith, c.blocks-2.ensures.count, c.blocks-2.ensures.size))
-    c.requires.map c.in-Some.ensures.none.0 c.in-Some.ensures.none.1 c.take_first.ensures.pages c.clear.ensures.rest c.clear.ensures.empty
+    new_block_taken c.args.image.now c.in-Some.block c.take_first_from.new.image c.clear.new.self (omega (arith, c.blocks-2.ensures.count, c.blocks-2.ensures.size), omega (arith, c.blocks-2.ensures.count, c.blocks-2.ensures.size))
+    c.requires.map c.in-Some.ensures.none.0 c.in-Some.ensures.none.1 c.take_first_from.ensures.pages c.clear.ensures.rest c.clear.ensures.empty

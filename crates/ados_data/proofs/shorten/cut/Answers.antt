@@ -7,6 +7,7 @@ use Rattle.ados_data.specs.File.{contents, data_blocks, extension_blocks, pointe
 use Rattle.ados_data.specs.steps.Blocks.{IsResized}
 use Rattle.ados_data.proofs.Places.{header_inside}
 use Rattle.ados_data.proofs.Cutting.{Cutting, cutting_begun, holder_is_inside, last_inside, last_apart, entered_row, dropped, holder_in, block_inside, few, fewer, rows, is_cut}
+use Rattle.ados_data.proofs.Summed.{summed_after}
 use Rattle.ados_data.proofs.shorten.cut.Goals as goal
 
 pub long-old-requires-clause-block : goal.long-old-requires-clause-block
@@ -125,3 +126,6 @@ pub returns-clause-freed_extensions : goal.returns-clause-freed_extensions
 returns-clause-freed_extensions c =
     let done : c.loop-i.i ≡ length (data_blocks c.args.image.now c.args.file) = (omega (arith, c.loop-i.auto.i-end, c.loop-i-test.false, (c.data_count-all.ensures ∙ ap (data_count c.format-format.result) (c.long-old.ensures ∙ c.requires.writable.lawful.holds.size) ∙ ap (λ (f : Format). data_count f (length (contents c.args.image.now c.args.file))) c.format-format.ensures ∙ sym c.requires.writable.lawful.data_fits), few c.args.image.now c.args.file c.args.size c.data_count-count.result c.requires.writable (omega (arith, c.blocks-2.ensures.count, c.blocks-2.ensures.size), omega (arith, c.blocks-2.ensures.count, c.blocks-2.ensures.size)) (omega (arith, c.requires.shorter, c.if-size-old.false, c.long-old.ensures, c.requires.writable.lawful.holds.size)) (c.data_count-count.ensures ∙ ap (λ (f : Format). data_count f c.args.size) c.format-format.ensures))) in
     (is_cut c.args.image.now c.args.file c.args.size c.data_count-count.result c.requires.writable (omega (arith, c.blocks-2.ensures.count, c.blocks-2.ensures.size), omega (arith, c.blocks-2.ensures.count, c.blocks-2.ensures.size)) (omega (arith, c.requires.shorter, c.if-size-old.false, c.long-old.ensures, c.requires.writable.lawful.holds.size)) (c.data_count-count.ensures ∙ ap (λ (f : Format). data_count f c.args.size) c.format-format.ensures) ((c.loop-i.i - 1) / 72) c.loop-i.cursor.holder c.loop-i.cursor.next c.loop-i.image (ap (λ (n : ℕ). (n - 1) / 72) done) (subst (λ (n : ℕ). Cutting (data_blocks c.args.image.now c.args.file) (extension_blocks c.args.image.now c.args.file) (format_of c.args.image.now) c.args.file c.data_count-count.result c.args.size n ((c.loop-i.i - 1) / 72) c.loop-i.cursor.holder c.loop-i.cursor.next c.args.image.now c.loop-i.image) done c.loop-i.invariant)).freed_extensions
+
+pub returns-clause-sums : goal.returns-clause-sums
+returns-clause-sums c = summed_after c.args.image.now c.loop-i.image c.args.file (returns-clause-writable c) (returns-clause-leaves c)

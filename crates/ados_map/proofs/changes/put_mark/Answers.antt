@@ -6,6 +6,7 @@ use Rattle.ados_map.specs.Pages.{LawfulPages, page_block, page_of, map_long}
 use Rattle.ados_map.specs.Changes.{BitChanged}
 use Rattle.ados_map.specs.Bits.{IsBitPut}
 use Rattle.ados_map.proofs.PageLemmas.{marked_by}
+use Rattle.ados_map.proofs.MarkLemmas.{marked_sums}
 use Rattle.ados_map.proofs.changes.put_mark.Goals as goal
 
 -- the sum long takes up what the map long moves by
@@ -38,3 +39,6 @@ returns-clause-marked c =
     c.page_at-page.result c.long-old.result c.with_bit-new.result c.long.result (long c.set_long-2.new.self c.page_at-page.result 0) c.args.free
     c.page_at-page.ensures.page c.long-old.ensures c.set_long.ensures.long c.with_bit-new.type_inv c.long.ensures c.set_long-2.ensures.long refl
     c.requires.pages c.page_at-page.ensures.size.1 c.requires.inside c.set_long.ensures.rest c.set_long-2.ensures.rest c.with_bit-new.ensures
+
+pub returns-clause-sums : goal.returns-clause-sums
+returns-clause-sums c = marked_sums c.args.image.now c.args.b c.args.free c.set_long-2.new.self c.requires.pages c.page_at-page.ensures.size.1 c.requires.inside (returns-clause-marked c)

@@ -9,7 +9,8 @@ use Rattle.ados_packet.specs.declared.packet.Packet.TheVariants.{DeleteObject}
 use Rattle.ados_packet.specs.declared.results.Results.{Results}
 use Rattle.ados_handler.specs.Session.{Session, is_held}
 use Rattle.ados_handler.specs.Refusals.{first_refusal, is_empty, refuse}
-use Rattle.ados_handler.specs.Handler.{HandlerState, IsSoundHandler}
+use Rattle.ados_handler.specs.Handler.{HandlerState}
+use Rattle.ados_handler.specs.Gives.{IsSoundHandler}
 use Rattle.ados_handler.specs.steps.Methods.{MethodMeans, answer_to}
 use Rattle.ados_handler.proofs.Reading.{from_not}
 use Rattle.ados_handler.proofs.Leaving.{leaves_all, leaves_rest}

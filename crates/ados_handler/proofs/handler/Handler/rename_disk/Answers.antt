@@ -7,7 +7,8 @@ use Rattle.ados_packet.specs.declared.dos_error.DosError.TheVariants.{InvalidCom
 use Rattle.ados_packet.specs.declared.packet.Packet.TheVariants.{RenameDisk}
 use Rattle.ados_packet.specs.declared.results.Results.{Results}
 use Rattle.ados_handler.specs.Session.{Session}
-use Rattle.ados_handler.specs.Handler.{HandlerState, IsSoundHandler}
+use Rattle.ados_handler.specs.Handler.{HandlerState}
+use Rattle.ados_handler.specs.Gives.{IsSoundHandler}
 use Rattle.ados_handler.specs.steps.Methods.{MethodMeans}
 use Rattle.ados_handler.proofs.Telling.{rename_disk_keeps}
 use Rattle.ados_handler.proofs.Leaving.{leaves_rest}

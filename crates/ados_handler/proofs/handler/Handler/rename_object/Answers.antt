@@ -11,7 +11,8 @@ use Rattle.ados_packet.specs.declared.packet.Packet.TheVariants.{RenameObject}
 use Rattle.ados_packet.specs.declared.results.Results.{Results}
 use Rattle.ados_packet.specs.declared.answer.Body.TheVariants.{Empty}
 use Rattle.ados_handler.specs.Session.{Session}
-use Rattle.ados_handler.specs.Handler.{HandlerState, IsSoundHandler}
+use Rattle.ados_handler.specs.Handler.{HandlerState}
+use Rattle.ados_handler.specs.Gives.{IsSoundHandler}
 use Rattle.ados_handler.specs.steps.Methods.{MethodMeans}
 use Rattle.ados_handler.specs.steps.Moves.{move_refusal}
 use Rattle.ados_handler.proofs.Unlisting.{rename_keeps}

@@ -5,7 +5,8 @@ use Rattle.ados_tree.specs.Stands.{Stands}
 use Rattle.ados_packet.specs.declared.packet.Packet.TheVariants.{SetFileSize}
 use Rattle.ados_handler.specs.Session.{Session}
 use Rattle.ados_handler.specs.Objects.{is_bad_target, seek_target, target_number}
-use Rattle.ados_handler.specs.Handler.{HandlerState, IsSoundHandler}
+use Rattle.ados_handler.specs.Handler.{HandlerState}
+use Rattle.ados_handler.specs.Gives.{IsSoundHandler}
 use Rattle.ados_handler.proofs.Meant.{sound_after}
 use Rattle.ados_handler.proofs.Rewriting.{set_file_size_keeps}
 use Rattle.ados_handler.proofs.Resizing.{bad_gives, full_gives, sized_gives}

@@ -6,7 +6,8 @@ use Rattle.ados_tree.specs.Change.{with_protection}
 use Rattle.ados_packet.specs.declared.packet.Packet.TheVariants.{SetProtect}
 use Rattle.ados_packet.specs.declared.results.Results.{Results}
 use Rattle.ados_handler.specs.Session.{Session}
-use Rattle.ados_handler.specs.Handler.{HandlerState, IsSoundHandler}
+use Rattle.ados_handler.specs.Handler.{HandlerState}
+use Rattle.ados_handler.specs.Gives.{IsSoundHandler}
 use Rattle.ados_handler.specs.steps.Methods.{MethodMeans}
 use Rattle.ados_handler.proofs.Telling.{set_protect_keeps}
 use Rattle.ados_handler.proofs.Leaving.{leaves_rest}

@@ -3,8 +3,8 @@ use Rattle.ados_map.specs.Pages.{IsLowestFree, NoneFree, NoneFreeBelow}
 use Rattle.ados_tree.specs.Tree.{Tree}
 use Rattle.ados_tree.specs.Stands.{Stands}
 use Rattle.ados_tree.specs.Change.{made}
-use Rattle.change_entries.specs.Kinds.{Makes, content_of}
-use Rattle.change_entries.proofs.Making.{unused}
+use Rattle.ados_change.specs.Kinds.{Makes, content_of}
+use Rattle.ados_change.proofs.Making.{unused}
 use Rattle.ados_volume.specs.Refused.{RefusesEntry}
 use Rattle.ados_volume.specs.Shown.{Shown}
 use Rattle.ados_volume.specs.steps.Cache.{AreChildren}

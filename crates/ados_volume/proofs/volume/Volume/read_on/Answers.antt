@@ -1,7 +1,7 @@
 use Rattle.std.proofs.Common.{ℕ, ◌-◌, ◌++◌, min, List, length, take, drop, sym, subst, ap, ◌∙◌}
 use Rattle.ados_tree.specs.Keys.{HasFileKey}
 use Rattle.ados_tree.specs.Stands.{Stands}
-use Rattle.change_bytes.proofs.Renewed.{bytes_in, file_writable}
+use Rattle.ados_change.proofs.Renewed.{bytes_in, file_writable}
 use Rattle.ados_volume.specs.Shown.{Shown}
 use Rattle.ados_volume.proofs.volume.Volume.read_on.Goals as goal
 
@@ -12,8 +12,8 @@ place_at-place-requires-clause-lawful c =
 pub place_at-place-requires-clause-near : goal.place_at-place-requires-clause-near
 place_at-place-requires-clause-near c = c.of.ensures c.self.inside.image c.self.invariant.1
 
-pub read_at-requires-clause-lawful : goal.read_at-requires-clause-lawful
-read_at-requires-clause-lawful c =
+pub read_near-requires-clause-lawful : goal.read_near-requires-clause-lawful
+read_near-requires-clause-lawful c =
     (file_writable c.self.inside.image c.args.key c.self.invariant.0.0.0.0 (subst (λ (w : Shown). HasFileKey w.image c.args.key) (sym c.self.view_is) c.requires)).lawful
 
 pub invariant_of-self : goal.invariant_of-self
@@ -27,11 +27,11 @@ pub returns-clause-count : goal.returns-clause-count
 returns-clause-count c = λ t s.
     let key = subst (λ (w : Shown). HasFileKey w.image c.args.key) (sym c.self.view_is) c.requires in
     let stands = subst (λ (w : Shown). Stands w.image t) (sym c.self.view_is) s in
-    c.read_at.ensures.count ∙ ap (λ (xs : List ℕ). min (length c.args.buffer.now) (length xs - c.args.pos)) (bytes_in c.self.inside.image t stands c.args.key key)
+    c.read_near.ensures.count ∙ ap (λ (xs : List ℕ). min (length c.args.buffer.now) (length xs - c.args.pos)) (bytes_in c.self.inside.image t stands c.args.key key)
 
 pub returns-clause-bytes : goal.returns-clause-bytes
 returns-clause-bytes c = λ t s.
     let key = subst (λ (w : Shown). HasFileKey w.image c.args.key) (sym c.self.view_is) c.requires in
     let stands = subst (λ (w : Shown). Stands w.image t) (sym c.self.view_is) s in
-    c.read_at.ensures.bytes
-    ∙ ap (λ (xs : List ℕ). take c.read_at.result (drop c.args.pos xs) ++ drop c.read_at.result c.args.buffer.now) (bytes_in c.self.inside.image t stands c.args.key key)
+    c.read_near.ensures.bytes
+    ∙ ap (λ (xs : List ℕ). take c.read_near.result (drop c.args.pos xs) ++ drop c.read_near.result c.args.buffer.now) (bytes_in c.self.inside.image t stands c.args.key key)

@@ -4,7 +4,7 @@ use Rattle.ados_tree.specs.Tree.{root}
 use Rattle.ados_tree.specs.Stands.{Stands}
 use Rattle.ados_tree.specs.Change.{disk_renamed}
 use Rattle.ados_volume.specs.Shown.{Shown}
-use Rattle.change_fields.proofs.Retells.{entry_not_root}
+use Rattle.ados_change.proofs.Retells.{entry_not_root}
 use Rattle.ados_tree.specs.Faults.{root_of}
 use Rattle.ados_tree.proofs.Writable.{root_serves}
 use Rattle.ados_volume.proofs.Bounds.{below_restamped}

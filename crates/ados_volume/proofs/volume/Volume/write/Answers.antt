@@ -3,11 +3,11 @@ use Rattle.ados_map.specs.Pages.{NoneFreeBelow}
 use Rattle.ados_tree.specs.Tree.{Tree}
 use Rattle.ados_tree.specs.Stands.{Stands}
 use Rattle.ados_tree.specs.Change.{written}
-use Rattle.change_bytes.specs.Renewed.{Writes}
+use Rattle.ados_change.specs.Renewed.{Writes}
 use Rattle.ados_volume.specs.Refused.{RefusesWrite}
 use Rattle.ados_volume.specs.Shown.{Shown}
 use Rattle.ados_tree.specs.Keys.{HasFileKey}
-use Rattle.change_bytes.proofs.Renewed.{file_writable}
+use Rattle.ados_change.proofs.Renewed.{file_writable}
 use Rattle.ados_volume.specs.steps.Cache.{AreChildren}
 use Rattle.ados_volume.specs.steps.Listed.{AreListed}
 use Rattle.ados_volume.specs.steps.Places.{AreKnown}

@@ -1,2 +1,0 @@
--- Lemmas on input of which the front is kept.
-mod Fronts

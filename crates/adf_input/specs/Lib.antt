@@ -1,2 +1,0 @@
--- What is kept of input.
-pub mod Front

@@ -1,0 +1,205 @@
+-- A file that is rewritten keeps all that is no field.
+use Rattle.std.proofs.Common.{◌≡◌, ℕ, ◌+◌, ◌-◌, ◌*◌, ◌/◌, ◌%◌, ◌<◌, ◌≤◌, inl, inr, min, List, length, take, drop, slice_index, Some, refl, sym, ap, ◌∙◌, subst, arith, length-take, length-drop, eq-eqb}
+use Rattle.std.proofs.lemmas.Bool.{ne_eqb, cases_eq, cases_lt, false≢true}
+use Rattle.std.proofs.lemmas.List.{ext_get_or, get_or-take, get_or-drop}
+use Rattle.adf_block.specs.declared.Format.{Format}
+use Rattle.adf_block.specs.declared.Format.TheVariants.{Ofs, Ffs}
+use Rattle.adf_block.specs.Image.{byte_at, bytes_at, has_free_bit}
+use Rattle.adf_block.specs.Fields.{pointer_count, held_count, file_size, secondary_type, file_type}
+use Rattle.ados_data.specs.File.{HasFile, format_of}
+use Rattle.ados_data.specs.Unnamed.{KeepsUnnamed, IsPointerField, IsHeaderField, data_end}
+use Rattle.ados_tree.specs.Tree.{Node, Tree}
+use Rattle.ados_tree.specs.Tree.Content.{File}
+use Rattle.ados_tree.specs.Layout.{Layout}
+use Rattle.ados_tree.specs.Stands.{Stands, type_of}
+use Rattle.ados_tree.specs.declared.role.Role.{Role}
+use Rattle.ados_tree.specs.declared.role.Role.TheVariants as roles
+use Rattle.ados_tree.specs.Faults.{IsFile, IsOfs}
+use Rattle.ados_tree.specs.Kept.{Kept, IsField, Alike, KeepsFirstData}
+use Rattle.ados_tree.specs.Kept.IsField.{page_longs, file_longs, extension_longs, ofs_data_longs, ofs_data, ffs_data}
+use Rattle.ados_tree.proofs.Keeping.{header_stays}
+use Rattle.ados_tree.proofs.Standing.{StandsAt, reached_stands, serves_at, duty_of, root_at, entry_at}
+use Rattle.ados_tree.proofs.Writable.{named_used}
+use Rattle.ados_change.proofs.Contents.{refilled, holding, here}
+use Rattle.ados_change.proofs.Relaid.{IsRewritten, relaid, data_here, data_there, extensions_here, extensions_there}
+use Rattle.ados_change.proofs.FirstData.{keeps_first}
+use Rattle.ados_change.proofs.Unchanged.{long_as}
+use Rattle.ados_change.proofs.Refilled.{boot_stays, key_stays, root_stays, data_stays, extension_stays, stands_after, layout_after}
+
+-- ---- fields
+
+module _ (image : List ℕ) (b : ℕ) where
+  -- a long that a change of a header may write is a field
+  header_field : secondary_type image b ≡ file_type → (dir r i : ℕ) → IsHeaderField (pointer_count image b) (i / 4) → IsField image b (roles.Entry dir r) i
+  header_field e dir r i (inl (inl z)) = file_longs e (0, (0, 2), omega arith, refl, (omega (arith, z), omega (arith, z)))
+  header_field e dir r i (inl (inr (inl z))) = file_longs e (1, (4, 5), omega arith, refl, (omega (arith, z), omega (arith, z)))
+  header_field e dir r i (inl (inr (inr (inl z)))) = file_longs e (2, (78 - pointer_count image b, 77), omega arith, refl, (omega (arith, z.0), omega (arith, z.1)))
+  header_field e dir r i (inl (inr (inr (inr z)))) = file_longs e (5, (124, 127), omega arith, refl, (omega (arith, z), omega (arith, z)))
+  header_field e dir r i (inr (inl z)) = file_longs e (1, (4, 5), omega arith, refl, (omega (arith, z), omega (arith, z)))
+  header_field e dir r i (inr (inr z)) = file_longs e (3, (80, 81), omega arith, refl, (omega (arith, z), omega (arith, z)))
+
+  -- so is one of an extension block
+  extension_field : (f i : ℕ) → IsPointerField (pointer_count image b) (i / 4) → IsField image b (roles.Extension f) i
+  extension_field f i (inl z) = extension_longs (0, (0, 2), omega arith, refl, (omega (arith, z), omega (arith, z)))
+  extension_field f i (inr (inl z)) = extension_longs (1, (5, 5), omega arith, refl, (omega (arith, z), omega (arith, z)))
+  extension_field f i (inr (inr (inl z))) = extension_longs (2, (78 - pointer_count image b, 77), omega arith, refl, (omega (arith, z.0), omega (arith, z.1)))
+  extension_field f i (inr (inr (inr z))) = extension_longs (3, (125, 127), omega arith, refl, (omega (arith, z), omega (arith, z)))
+
+-- what is no field of an OFS data block stands behind the bytes that it holds
+pub data_field : (image : List ℕ) (b f i : ℕ) → IsOfs image → ¬ IsField image b (roles.Data f) i → 24 + held_count image b ≤ i
+data_field image b f i ofs n = elim (cases_lt i 24) [
+  | inl l ↦ absurd (n (ofs_data_longs ofs (0, (0, 5), omega arith, refl, (omega arith, omega (arith, l)))))
+  | inr l ↦ elim (cases_lt i (24 + held_count image b)) [
+    | inl m ↦ absurd (n (ofs_data ofs l m))
+    | inr m ↦ m
+  ]
+]
+
+-- a format by the byte in which it stands
+pub is_ofs : (image : List ℕ) → format_of image ≡ Ofs → IsOfs image
+is_ofs image e = go (byte_at image 0 3) refl e
+  where
+    go : (n : ℕ) → byte_at image 0 3 ≡ n → format_of image ≡ Ofs → byte_at image 0 3 ≡ 0
+    go n is e = elim (cases_eq (byte_at image 0 3) 0) [
+      | inl z ↦ z
+      | inr m ↦ absurd (let other : Format.Ffs ≡ Ofs = sym (rw (ne_eqb (byte_at image 0 3) 0 m) refl) ∙ e in cc other)
+    ]
+
+pub is_ffs : (image : List ℕ) → format_of image ≡ Ffs → ¬ IsOfs image
+is_ffs image e z = let other : Format.Ofs ≡ Ffs = sym (rw (eq-eqb (byte_at image 0 3) 0 z) refl) ∙ e in cc other
+
+module _ (old new : List ℕ) (t : Tree) (s : Stands old t) (file : ℕ) (node : Node) (bytes : List ℕ) (found : t.nodes file ≡ Some node) (is_file : node.content ≡ File bytes)
+    (blocks' extensions' bytes' : List ℕ) (h : IsRewritten old file (s.layout.file_data file) (s.layout.extensions file) new blocks' extensions' bytes')
+    (keeps : KeepsUnnamed old file (s.layout.file_data file) (s.layout.extensions file) new blocks' extensions') where
+  abbrev v : Tree
+  v = refilled file bytes' t
+
+  abbrev after : Stands new v
+  after = stands_after old new t s file node bytes found is_file blocks' extensions' bytes' h
+
+  layout_is : after.layout ≡ relaid s.layout file blocks' extensions'
+  layout_is = layout_after old new t s file node bytes found is_file blocks' extensions' bytes' h
+
+  after_file : HasFile new (format_of new) file blocks' extensions' bytes'
+  after_file = h.writable.lawful.holds
+
+  -- ---- the header
+
+  -- an entry that is the file is one of its type
+  new_type : (k dir r : ℕ) → StandsAt new v after (roles.Entry dir r) k file → secondary_type new file ≡ file_type
+  new_type k dir r m =
+      let n = entry_at new v after dir r k file m in
+      let is : n.node ≡ holding bytes' node = cc (n.at, here t file node bytes bytes' found is_file) in
+      (after.entries file dir n.node n.at n.parent).secondary ∙ ap type_of (ap (λ (a : Node). a.content) is)
+
+  entry_kept : (k k' dir r dir' r' block i : ℕ) → i < 512 → StandsAt old t s (roles.Entry dir r) k block → StandsAt new v after (roles.Entry dir' r') k' block → ¬ IsField new block (roles.Entry dir' r') i → byte_at new block i ≡ byte_at old block i
+  entry_kept k k' dir r dir' r' block i l m m' n = elim (cases_eq block file) [
+    | inr other ↦ let e = entry_at old t s dir r k block m in (key_stays old new t s file node bytes found is_file blocks' extensions' bytes' h block e.node e.at other).bytes i l (λ z. z)
+    | inl same ↦
+        let at = subst (StandsAt new v after (roles.Entry dir' r') k') same m' in
+        let none : ¬ IsHeaderField (pointer_count new file) (i / 4) = λ w. n (subst (λ (b : ℕ). IsField new b (roles.Entry dir' r') i) (sym same) (header_field new file (new_type k' dir' r' at) dir' r' i w)) in
+        ap (λ (b : ℕ). byte_at new b i) same ∙ keeps.header i l none ∙ ap (λ (b : ℕ). byte_at old b i) (sym same)
+  ]
+
+  -- ---- data blocks
+
+  -- what is no field of a block stands behind the file's bytes in it
+  behind_bytes : (j f block i : ℕ) → j < length blocks' → slice_index blocks' j ≡ block → ¬ IsField new block (roles.Data f) i → data_end (format_of old) (file_size new file) j ≤ i
+  behind_bytes j f block i l e n = go (format_of old) refl
+    where
+      go : (g : Format) → format_of old ≡ g → data_end g (file_size new file) j ≤ i
+      go Ffs is = absurd (n (ffs_data (is_ffs new (h.format ∙ is))))
+      go Ofs is =
+          let a = data_field new block f i (is_ofs new (h.format ∙ is)) n in
+          let held : held_count new block ≡ min 488 (length bytes' - 488 * j) = ap (held_count new) (sym e) ∙ (after_file.ofs_data (h.format ∙ is) j l).held in
+          omega (arith, a, held, after_file.size)
+
+  data_kept : (k k' f f' block i : ℕ) → i < 512 → StandsAt old t s (roles.Data f) k block → StandsAt new v after (roles.Data f') k' block → ¬ IsField new block (roles.Data f') i → byte_at new block i ≡ byte_at old block i
+  data_kept k k' f f' block i l m m' n = elim (cases_eq f' file) [
+    | inr other ↦
+        let lists : after.layout.file_data f' ≡ s.layout.file_data f' = ap (λ (l : Layout). l.file_data f') layout_is ∙ data_there s.layout file blocks' extensions' f' other in
+        let within : k' < length (s.layout.file_data f') = subst (λ (xs : List ℕ). k' < length xs) lists m'.within in
+        let at : slice_index (s.layout.file_data f') k' ≡ block = ap (λ (xs : List ℕ). slice_index xs k') (sym lists) ∙ m'.here in
+        ap (λ (b : ℕ). byte_at new b i) (sym at) ∙ (data_stays old new t s file node bytes found is_file blocks' extensions' bytes' h f' k' other within).bytes i l (λ z. z) ∙ ap (λ (b : ℕ). byte_at old b i) at
+    | inl same ↦
+        let lists : after.layout.file_data f' ≡ blocks' = ap (λ (l : Layout). l.file_data f') layout_is ∙ ap (relaid s.layout file blocks' extensions').file_data same ∙ data_here s.layout file blocks' extensions' in
+        let within : k' < length blocks' = subst (λ (xs : List ℕ). k' < length xs) lists m'.within in
+        let at : slice_index blocks' k' ≡ block = ap (λ (xs : List ℕ). slice_index xs k') (sym lists) ∙ m'.here in
+        elim (h.data_from k' within) [
+          | inl was ↦
+              let behind = behind_bytes k' f' block i within at n in
+              ap (λ (b : ℕ). byte_at new b i) (sym at) ∙ keeps.slack k' i was.0 within l behind ∙ ap (λ (b : ℕ). byte_at old b i) at
+          | inr free ↦ absurd (false≢true (sym (named_used old t s block (duty_of old t s (roles.Data f) k) (serves_at old t s (roles.Data f) k block m)) ∙ ap (has_free_bit old) (sym at) ∙ free.1))
+        ]
+  ]
+
+  -- ---- extension blocks
+
+  extension_kept : (k k' f f' block i : ℕ) → i < 512 → StandsAt old t s (roles.Extension f) k block → StandsAt new v after (roles.Extension f') k' block → ¬ IsField new block (roles.Extension f') i → byte_at new block i ≡ byte_at old block i
+  extension_kept k k' f f' block i l m m' n = elim (cases_eq f' file) [
+    | inr other ↦
+        let lists : after.layout.extensions f' ≡ s.layout.extensions f' = ap (λ (l : Layout). l.extensions f') layout_is ∙ extensions_there s.layout file blocks' extensions' f' other in
+        let within : k' < length (s.layout.extensions f') = subst (λ (xs : List ℕ). k' < length xs) lists m'.within in
+        let at : slice_index (s.layout.extensions f') k' ≡ block = ap (λ (xs : List ℕ). slice_index xs k') (sym lists) ∙ m'.here in
+        ap (λ (b : ℕ). byte_at new b i) (sym at) ∙ (extension_stays old new t s file node bytes found is_file blocks' extensions' bytes' h f' k' other within).bytes i l (λ z. z) ∙ ap (λ (b : ℕ). byte_at old b i) at
+    | inl same ↦
+        let lists : after.layout.extensions f' ≡ extensions' = ap (λ (l : Layout). l.extensions f') layout_is ∙ ap (relaid s.layout file blocks' extensions').extensions same ∙ extensions_here s.layout file blocks' extensions' in
+        let within : k' < length extensions' = subst (λ (xs : List ℕ). k' < length xs) lists m'.within in
+        let at : slice_index extensions' k' ≡ block = ap (λ (xs : List ℕ). slice_index xs k') (sym lists) ∙ m'.here in
+        elim (h.extensions_from k' within) [
+          | inl was ↦
+              let none : ¬ IsPointerField (pointer_count new (slice_index extensions' k')) (i / 4) = λ w. n (subst (λ (b : ℕ). IsField new b (roles.Extension f') i) at (extension_field new (slice_index extensions' k') f' i w)) in
+              ap (λ (b : ℕ). byte_at new b i) (sym at) ∙ keeps.extension k' i was.0 within l none ∙ ap (λ (b : ℕ). byte_at old b i) at
+          | inr free ↦ absurd (false≢true (sym (named_used old t s block (duty_of old t s (roles.Extension f) k) (serves_at old t s (roles.Extension f) k block m)) ∙ ap (has_free_bit old) (sym at) ∙ free.1))
+        ]
+  ]
+
+  -- ---- all blocks
+
+  block_kept : (k k' block i : ℕ) (role role' : Role) → i < 512 → StandsAt old t s role k block → StandsAt new v after role' k' block → Alike role role' → ¬ IsField new block role' i → byte_at new block i ≡ byte_at old block i
+  block_kept k k' block i roles.Root roles.Root l m m' alike n =
+      let at = root_at old t s k block m in
+      ap (λ (b : ℕ). byte_at new b i) at ∙ (root_stays old new t s file node bytes found is_file blocks' extensions' bytes' h).bytes i l (λ z. z) ∙ ap (λ (b : ℕ). byte_at old b i) (sym at)
+  block_kept k k' block i roles.Page roles.Page l m m' alike n = absurd (n (page_longs (0, (0, 127), omega arith, refl, (omega arith, omega (arith, l)))))
+  block_kept k k' block i (roles.Entry dir r) (roles.Entry dir' r') l m m' alike n = entry_kept k k' dir r dir' r' block i l m m' n
+  block_kept k k' block i (roles.Data f) (roles.Data f') l m m' alike n = data_kept k k' f f' block i l m m' n
+  block_kept k k' block i (roles.Extension f) (roles.Extension f') l m m' alike n = extension_kept k k' f f' block i l m m' n
+  block_kept k k' block i _ _ l m m' alike n = absurd alike
+
+  boot_byte : (k : ℕ) → k < 1024 → slice_index new k ≡ slice_index old k
+  unfolding byte_at
+  boot_byte k l =
+      let whole : 512 * (k / 512) + k % 512 ≡ k = omega arith in
+      ap (slice_index new) (sym whole) ∙ (boot_stays old new t s file node bytes found is_file blocks' extensions' bytes' h (k / 512) (omega (arith, l))).bytes (k % 512) (omega arith) (λ z. z) ∙ ap (slice_index old) whole
+
+  boot_kept : bytes_at new 0 0 1024 ≡ bytes_at old 0 0 1024
+  unfolding bytes_at
+  boot_kept =
+      ext_get_or 0 (take 1024 (drop (512 * 0 + 0) new)) (take 1024 (drop (512 * 0 + 0) old))
+      (omega (arith, length-take 1024 (drop (512 * 0 + 0) new), length-take 1024 (drop (512 * 0 + 0) old), length-drop (512 * 0 + 0) new, length-drop (512 * 0 + 0) old, h.leaves.same_length))
+      (λ k l.
+      let below : k < 1024 = omega (arith, l, length-take 1024 (drop (512 * 0 + 0) new)) in
+      get_or-take 1024 (drop (512 * 0 + 0) new) k 0 below ∙ get_or-drop (512 * 0 + 0) new k 0
+      ∙ boot_byte (512 * 0 + 0 + k) (omega (arith, below))
+      ∙ sym (get_or-take 1024 (drop (512 * 0 + 0) old) k 0 below ∙ get_or-drop (512 * 0 + 0) old k 0))
+
+  first_kept : (b : ℕ) → IsFile old b → KeepsFirstData old new b
+  first_kept b f = elim (cases_eq b file) [
+    | inl same ↦ subst (KeepsFirstData old new) (sym same) (keeps_first old new t s file node bytes found is_file blocks' extensions' bytes' h keeps)
+    | inr other ↦
+        let at = reached_stands old t s f.reached in
+        let e = entry_at old t s f.dir f.slot_of_chain at.0 b at.1 in
+        let stays = long_as old new b (key_stays old new t s file node bytes found is_file blocks' extensions' bytes' h b e.node e.at other) in
+        header_stays old new b (stays 2 (omega arith)) (λ i l. stays (77 - i) (omega arith)) (stays 4 (omega arith))
+  ]
+
+  pub kept : Kept old new
+  kept = record {
+    size = h.leaves.same_length;
+    boot = boot_kept;
+    others = λ b i role role' l r r' alike n.
+        let at = reached_stands old t s r in
+        let at' = reached_stands new v after r' in
+        block_kept at.0 at'.0 b i role role' l at.1 at'.1 alike n;
+    first = λ b f g. first_kept b f;
+  }

@@ -1,0 +1,99 @@
+-- What the calls on a file's data have done is a rewriting of the file.
+use Rattle.std.proofs.Common.{◌≡◌, ℕ, suc, ◌+◌, ◌/◌, ◌<◌, ◌≤◌, ◌⊎◌, inl, inr, true, List, length, take, slice_index, sym, ap, ap₂, ◌∙◌, arith}
+use Rattle.std.proofs.lemmas.Bool.{false≢true, cases_lt}
+use Rattle.std.proofs.lemmas.List.{get_or-take, length-take}
+use Rattle.adf_block.specs.declared.Format.{Format}
+use Rattle.adf_block.specs.Image.{IsInside, block_count, has_free_bit, free_bit_count}
+use Rattle.ados_data.specs.Cost.{block_cost, extension_count}
+use Rattle.ados_data.specs.File.{format_of, data_blocks, extension_blocks, contents}
+use Rattle.ados_data.specs.Changing.{WritableFile}
+use Rattle.ados_data.specs.Others.{Gains, LeavesOthers}
+use Rattle.ados_change.proofs.Relaid.{ComesFrom, GoesTo, IsRewritten}
+use Rattle.ados_change.proofs.Taken.{taken_is_got}
+
+-- ---- lists that lose their back
+
+front_from : (old : List ℕ) (n : ℕ) (xs ys : List ℕ) → ys ≡ take n xs → (i : ℕ) → i < length ys → ComesFrom old xs ys i
+front_from old n xs ys e i l =
+    let within : (i < n) × (i < length xs) = (omega (arith, l, ap length e, length-take n xs), omega (arith, l, ap length e, length-take n xs)) in
+    inl (within.1, ap (λ (zs : List ℕ). slice_index zs i) e ∙ get_or-take n xs i 0 within.0)
+
+front_to : (new : List ℕ) (n : ℕ) (xs ys : List ℕ) → ys ≡ take n xs → ((j : ℕ) → n ≤ j → j < length xs → has_free_bit new (slice_index xs j) ≡ true) → (i : ℕ) → i < length xs → GoesTo new xs ys i
+front_to new n xs ys e freed i l = elim (cases_lt i n) [
+  | inl m ↦ inl (omega (arith, l, m, ap length e, length-take n xs), ap (λ (zs : List ℕ). slice_index zs i) e ∙ get_or-take n xs i 0 m)
+  | inr m ↦ inr (freed i m l)
+]
+
+pub of_cut : (old new : List ℕ) (file count extensions : ℕ) → WritableFile new file → format_of new ≡ format_of old → LeavesOthers old file new
+    → ((c : ℕ) → IsInside (block_count old) c → has_free_bit old c ≡ true → has_free_bit new c ≡ true)
+    → data_blocks new file ≡ take count (data_blocks old file) → extension_blocks new file ≡ take extensions (extension_blocks old file)
+    → ((j : ℕ) → count ≤ j → j < length (data_blocks old file) → has_free_bit new (slice_index (data_blocks old file) j) ≡ true)
+    → ((q : ℕ) → extensions ≤ q → q < length (extension_blocks old file) → has_free_bit new (slice_index (extension_blocks old file) q) ≡ true)
+    → IsRewritten old file (data_blocks old file) (extension_blocks old file) new (data_blocks new file) (extension_blocks new file) (contents new file)
+of_cut old new file count extensions writable format leaves stays blocks lists freed freed_lists = record {
+  writable = writable;
+  format = format;
+  leaves = leaves;
+  data_from = front_from old count (data_blocks old file) (data_blocks new file) blocks;
+  extensions_from = front_from old extensions (extension_blocks old file) (extension_blocks new file) lists;
+  data_to = front_to new count (data_blocks old file) (data_blocks new file) blocks freed;
+  extensions_to = front_to new extensions (extension_blocks old file) (extension_blocks new file) lists freed_lists;
+  taken = λ c i was is. absurd (false≢true (sym is ∙ stays c i was));
+}
+
+-- ---- lists that grow
+
+at_place : (xs ys : List ℕ) → take (length xs) ys ≡ xs → (i : ℕ) → i < length xs → slice_index ys i ≡ slice_index xs i
+at_place xs ys e i l = sym (get_or-take (length xs) ys i 0 l) ∙ ap (λ (zs : List ℕ). slice_index zs i) e
+
+more_from : (old xs ys : List ℕ) → take (length xs) ys ≡ xs → (i : ℕ) → ((i < length xs) × (slice_index ys i ≡ slice_index xs i)) ⊎ ((2 ≤ slice_index ys i) × (has_free_bit old (slice_index ys i) ≡ true)) → ComesFrom old xs ys i
+more_from old xs ys e i h = elim (cases_lt i (length xs)) [
+  | inl l ↦ inl (l, at_place xs ys e i l)
+  | inr l ↦ elim h [ inl same ↦ absurd (omega (arith, l, same.0)) | inr free ↦ inr (l, free.1) ]
+]
+
+more_to : (new xs ys : List ℕ) → take (length xs) ys ≡ xs → (i : ℕ) → i < length xs → GoesTo new xs ys i
+more_to new xs ys e i l =
+    inl (omega (arith, l, ap length e, length-take (length xs) ys), at_place xs ys e i l)
+
+longer : (xs ys : List ℕ) → take (length xs) ys ≡ xs → length xs ≤ length ys
+longer xs ys e = omega (arith, ap length e, length-take (length xs) ys)
+
+pub of_gains : (old new : List ℕ) (file : ℕ) → WritableFile old file → WritableFile new file → format_of new ≡ format_of old → LeavesOthers old file new
+    → Gains old file (data_blocks old file) (extension_blocks old file) new (data_blocks new file) (extension_blocks new file)
+    → take (length (data_blocks old file)) (data_blocks new file) ≡ data_blocks old file → take (length (extension_blocks old file)) (extension_blocks new file) ≡ extension_blocks old file
+    → free_bit_count new + block_cost (format_of old) (length (contents new file)) ≡ free_bit_count old + block_cost (format_of old) (length (contents old file))
+    → IsRewritten old file (data_blocks old file) (extension_blocks old file) new (data_blocks new file) (extension_blocks new file) (contents new file)
+of_gains old new file was writable format leaves gains blocks lists balance = record {
+  writable = writable;
+  format = format;
+  leaves = leaves;
+  data_from = λ i l. more_from old (data_blocks old file) (data_blocks new file) blocks i (gains.data_blocks_of i l);
+  extensions_from = extension_from;
+  data_to = more_to new (data_blocks old file) (data_blocks new file) blocks;
+  extensions_to = more_to new (extension_blocks old file) (extension_blocks new file) lists;
+  taken = taken_is_got old new file (data_blocks old file) (extension_blocks old file) (data_blocks new file) (extension_blocks new file) (contents new file) writable gains
+      (ap (λ (n : ℕ). n / 512) leaves.same_length)
+      (longer (data_blocks old file) (data_blocks new file) blocks) (longer (extension_blocks old file) (extension_blocks new file) lists)
+      data_new extensions_new costs
+      (let inside = was.lawful.places.headers_inside 0 (omega arith) in omega (arith, inside.0, inside.1));
+}
+  where
+    extension_from : (q : ℕ) → q < length (extension_blocks new file) → ComesFrom old (extension_blocks old file) (extension_blocks new file) q
+    extension_from q l =
+        more_from old (extension_blocks old file) (extension_blocks new file) lists q (elim (gains.headers (suc q) (omega arith)) [ inl same ↦ inl (omega (arith, same.0), same.1) | inr free ↦ inr free ])
+
+    data_new : (i : ℕ) → length (data_blocks old file) ≤ i → i < length (data_blocks new file) → has_free_bit old (slice_index (data_blocks new file) i) ≡ true
+    data_new i l m = elim (gains.data_blocks_of i m) [ inl same ↦ absurd (omega (arith, l, same.0)) | inr free ↦ free.1 ]
+
+    extensions_new : (q : ℕ) → length (extension_blocks old file) ≤ q → q < length (extension_blocks new file) → has_free_bit old (slice_index (extension_blocks new file) q) ≡ true
+    extensions_new q l m = elim (extension_from q m) [ inl same ↦ absurd (omega (arith, l, same.0)) | inr free ↦ free.1 ]
+
+    cost_of : (image : List ℕ) → WritableFile image file → block_cost (format_of image) (length (contents image file)) ≡ length (data_blocks image file) + length (extension_blocks image file)
+    cost_of image w = ap₂ (λ (a b : ℕ). a + b) (sym w.lawful.data_fits) (ap extension_count (sym w.lawful.data_fits) ∙ sym w.lawful.extensions_fit)
+
+    costs : free_bit_count new + (length (data_blocks new file) + length (extension_blocks new file)) ≡ free_bit_count old + (length (data_blocks old file) + length (extension_blocks old file))
+    costs =
+        let after : block_cost (format_of old) (length (contents new file)) ≡ length (data_blocks new file) + length (extension_blocks new file) = ap (λ (f : Format). block_cost f (length (contents new file))) (sym format) ∙ cost_of new writable in
+        let before = cost_of old was in
+        ap (λ (n : ℕ). free_bit_count new + n) (sym after) ∙ balance ∙ ap (λ (n : ℕ). free_bit_count old + n) before

@@ -1,0 +1,269 @@
+-- Each change of a field: how it tells of the node anew, and so what the image stands for.
+use Rattle.std.proofs.Common.{◌≡◌, ◌≢◌, ℕ, ◌+◌, ◌<◌, ◌≤◌, ◌⊎◌, inl, inr, ◌==◌, List, length, Some, option_map, refl, sym, ap, ◌∙◌, subst, arith, eq-eqb, if◌then◌else◌}
+use Rattle.std.proofs.lemmas.Bool.{cases_eq, ne_eqb}
+use Rattle.adf_block.specs.Image.{block_sum}
+use Rattle.adf_block.specs.Fields.{HasText, protection, name_byte, comment_byte}
+use Rattle.adf_block.specs.Frame.{SameBut}
+use Rattle.adf_block.proofs.Frames.{same_weaken}
+use Rattle.ados_name.specs.declared.Date3.{Date3}
+use Rattle.ados_name.specs.Name.{IsName, IsComment}
+use Rattle.ados_tree.specs.Tree.{Node, Tree, Proper, IsRoot, root}
+use Rattle.ados_tree.specs.Stands.{HasEntry, Stands}
+use Rattle.ados_tree.specs.Dates.{date_at}
+use Rattle.ados_tree.specs.Change.{changed, stamped, with_node}
+use Rattle.ados_tree.specs.Kept.{Kept}
+use Rattle.ados_tree.specs.NewBlocks.{KeepsRest}
+use Rattle.ados_tree.proofs.Nodes.{root_or_parent}
+use Rattle.ados_change.specs.Places.{Summed, Restamped}
+use Rattle.ados_change.proofs.Retells.{retold, Retells}
+use Rattle.ados_change.proofs.Retold.{Telling, Tells, stands_retold}
+use Rattle.ados_change.proofs.FieldsKept.{IsKeyField, IsTold, kept_fields, keeps_fields, telling_field, telling_told, disk_date_field}
+use Rattle.ados_change.proofs.Summing.{text_beside, long_beside, date_beside}
+
+-- bytes low to high - 1 of the key's block may be those that tell of the node after
+pub record Case (t : Tree) (key : ℕ) (node after : Node) (d : Date3) (low high : ℕ) : Type 0 where
+  pub retells : Retells t key node after d
+  pub within : (i : ℕ) → low ≤ i → i < high → Telling t key after i
+
+-- ---- the five changes
+
+module _ (t : Tree) (p : Proper t) (key : ℕ) (node : Node) (at : t.nodes key ≡ Some node) where
+  is_root : key ≡ root t → IsRoot node
+  is_root e = let same : p.root_node.0 ≡ node = cc (p.root_node.1, ap t.nodes e, at) in subst IsRoot same p.root_node.2
+
+  pub date_case : (date : Date3) → Case t key node (record node { date = date }) t.disk_date 420 432
+  date_case date = record {
+    retells = record {
+      at = at;
+      parent = refl;
+      content = refl;
+      name = p.name key node at;
+      comment = p.comment key node at;
+      same_name = λ n. refl;
+      same_disk = λ n. refl;
+      no_protection = λ e. (is_root e).no_protection;
+      no_comment = λ e. (is_root e).no_comment;
+    };
+    within = λ i l m. Telling.date l m;
+  }
+
+  pub bits_case : (bits : ℕ) → key ≢ root t → Case t key node (record node { protection = bits }) t.disk_date 320 324
+  bits_case bits n = record {
+    retells = record {
+      at = at;
+      parent = refl;
+      content = refl;
+      name = p.name key node at;
+      comment = p.comment key node at;
+      same_name = λ _. refl;
+      same_disk = λ _. refl;
+      no_protection = λ e. absurd (n e);
+      no_comment = λ e. absurd (n e);
+    };
+    within = λ i l m. Telling.bits n l m;
+  }
+
+  pub comment_case : (comment : List ℕ) → IsComment comment → key ≢ root t → Case t key node (record node { comment = comment }) t.disk_date 328 (329 + length comment)
+  comment_case comment valid n = record {
+    retells = record {
+      at = at;
+      parent = refl;
+      content = refl;
+      name = p.name key node at;
+      comment = valid;
+      same_name = λ _. refl;
+      same_disk = λ _. refl;
+      no_protection = λ e. absurd (n e);
+      no_comment = λ e. absurd (n e);
+    };
+    within = λ i l m. Telling.comment n l m;
+  }
+
+  pub name_case : (name : List ℕ) → IsName name → key ≡ root t → Case t key node (record node { name = name }) t.disk_date 432 (433 + length name)
+  name_case name valid e = record {
+    retells = record {
+      at = at;
+      parent = refl;
+      content = refl;
+      name = valid;
+      comment = p.comment key node at;
+      same_name = λ n. absurd (n e);
+      same_disk = λ _. refl;
+      no_protection = λ _. (is_root e).no_protection;
+      no_comment = λ _. (is_root e).no_comment;
+    };
+    within = λ i l m. Telling.root_name e l m;
+  }
+
+  pub stamp_case : (moment : Date3) → key ≡ root t → Case t key node node moment 472 484
+  stamp_case moment e = record {
+    retells = record {
+      at = at;
+      parent = refl;
+      content = refl;
+      name = p.name key node at;
+      comment = p.comment key node at;
+      same_name = λ _. refl;
+      same_disk = λ n. absurd (n e);
+      no_protection = λ _. (is_root e).no_protection;
+      no_comment = λ _. (is_root e).no_comment;
+    };
+    within = λ i l m. Telling.disk_date e l m;
+  }
+
+-- a node that stays leaves the tree but for its disk date
+same_node : (t : Tree) (key : ℕ) (node : Node) → t.nodes key ≡ Some node → (moment : Date3) → retold key node moment t ≡ stamped moment t
+same_node t key node at moment = λ i. record t { disk_date = moment; nodes = λ k. as_it_was k i }
+  where
+    as_it_was : (k : ℕ) → (if k == key then Some node else t.nodes k) ≡ t.nodes k
+    as_it_was k = elim (cases_eq k key) [
+      | inl e ↦ let here = eq-eqb k key e in rw here (sym (ap t.nodes e ∙ at))
+      | inr n ↦ let other = ne_eqb k key n in rw other refl
+    ]
+
+-- the node of a key that is changed
+pub changed_node : (t : Tree) (key : ℕ) (node : Node) → t.nodes key ≡ Some node → (f : Node → Node) → (changed key f t).nodes key ≡ Some (f node)
+changed_node t key node at f = rw (eq-eqb key key refl) (ap (option_map f) at)
+
+-- ---- what the image stands for then
+
+module _ (old new : List ℕ) (t : Tree) (s : Stands old t) (key : ℕ) (node : Node) (at : t.nodes key ≡ Some node) (sum : block_sum new key ≡ 0) where
+  -- the fields that stay
+  module _ (low high : ℕ) (rest : SameBut (Summed key low high) old new) where
+    name_stays : (463 ≤ low) ⊎ (high ≤ 432) → HasText new key name_byte node.name
+    name_stays side =
+        let short = s.proper.name key node at in
+        text_beside key low high old new rest key name_byte node.name (omega arith) (omega (arith, short.short)) (elim side [ inl l ↦ inl (omega (arith, l, short.short)) | inr l ↦ inr l ]) (s.nodes key node at).name
+
+    date_stays : (432 ≤ low) ⊎ (high ≤ 420) → date_at new key 105 ≡ node.date
+    date_stays side = date_beside key low high old new rest key 105 (omega arith) (omega arith) side ∙ (s.nodes key node at).date
+
+    disk_stays : (484 ≤ low) ⊎ (high ≤ 472) → key ≡ root t → date_at new key 118 ≡ t.disk_date
+    disk_stays side e =
+        date_beside key low high old new rest key 118 (omega arith) (omega arith) side
+        ∙ ap (λ (b : ℕ). date_at old b 118) e ∙ s.root_fields.disk_date
+
+    dir_of : key ≢ root t → (dir : ℕ) × (node.parent ≡ Some dir)
+    dir_of n = elim (root_or_parent t s.proper key node at) [ inl e ↦ absurd (n e) | inr found ↦ found ]
+
+    bits_stay : (324 ≤ low) ⊎ (high ≤ 320) → key ≢ root t → protection new key ≡ node.protection
+    bits_stay side n =
+        let dir = dir_of n in
+        long_beside key low high old new rest key 80 (omega arith) (omega arith) side ∙ (s.entries key dir.0 node at dir.1).protection_field
+
+    comment_stays : (408 ≤ low) ⊎ (high ≤ 328) → key ≢ root t → HasText new key comment_byte node.comment
+    comment_stays side n =
+        let dir = dir_of n in
+        let short = s.proper.comment key node at in
+        text_beside key low high old new rest key comment_byte node.comment (omega arith) (omega (arith, short.short)) (elim side [ inl l ↦ inl (omega (arith, l, short.short)) | inr l ↦ inr l ]) (s.entries key dir.0 node at dir.1).comment
+
+  -- an image that tells so stands for the tree with the node after
+  told : (after : Node) (d : Date3) (low high : ℕ) → Case t key node after d low high → SameBut (Summed key low high) old new
+      → HasText new key name_byte after.name → date_at new key 105 ≡ after.date → (key ≢ root t → protection new key ≡ after.protection)
+      → (key ≢ root t → HasText new key comment_byte after.comment) → (key ≡ root t → date_at new key 118 ≡ d)
+      → Stands new (retold key after d t)
+  told after d low high c rest name date bits comment disk =
+      stands_retold old new t key node after d s c.retells (record {
+        rest = same_weaken (Summed key low high) (Tells t key after) old new (λ b i w. elim w [ inl x ↦ (x.0, c.within i x.1 x.2) | inr x ↦ (x.0, Telling.sum x.1) ]) rest;
+        sum = sum;
+        name = name;
+        date = date;
+        bits = bits;
+        comment = comment;
+        disk = disk;
+      })
+
+  -- the node with one field changed is that of the changed tree
+  from_changed : (f : Node → Node) (d : Date3) → Stands new (retold key (f node) d t) → Stands new (stamped d (changed key f t))
+  from_changed f d h = subst (λ o. Stands new (stamped d (with_node key o t))) (sym (ap (option_map f) at)) h
+
+  pub dated_stands : (date : Date3) → SameBut (Summed key 420 432) old new → date_at new key 105 ≡ date → Stands new (changed key (λ a. record a { date = date }) t)
+  dated_stands date rest put =
+      from_changed (λ a. record a { date = date }) t.disk_date
+      (told (record node { date = date }) t.disk_date 420 432 (date_case t s.proper key node at date) rest
+      (name_stays 420 432 rest (inr (omega arith))) put (bits_stay 420 432 rest (inl (omega arith))) (comment_stays 420 432 rest (inl (omega arith))) (disk_stays 420 432 rest (inr (omega arith))))
+
+  pub protected_stands : (bits : ℕ) → key ≢ root t → SameBut (Summed key 320 324) old new → protection new key ≡ bits → Stands new (changed key (λ a. record a { protection = bits }) t)
+  protected_stands bits n rest put =
+      from_changed (λ a. record a { protection = bits }) t.disk_date
+      (told (record node { protection = bits }) t.disk_date 320 324 (bits_case t s.proper key node at bits n) rest
+      (name_stays 320 324 rest (inr (omega arith))) (date_stays 320 324 rest (inr (omega arith))) (λ _. put) (comment_stays 320 324 rest (inr (omega arith))) (disk_stays 320 324 rest (inr (omega arith))))
+
+  pub commented_stands : (comment : List ℕ) → IsComment comment → key ≢ root t → SameBut (Summed key 328 (329 + length comment)) old new → HasText new key comment_byte comment → Stands new (changed key (λ a. record a { comment = comment }) t)
+  commented_stands comment valid n rest put =
+      from_changed (λ a. record a { comment = comment }) t.disk_date
+      (told (record node { comment = comment }) t.disk_date 328 (329 + length comment) (comment_case t s.proper key node at comment valid n) rest
+      (name_stays 328 (329 + length comment) rest (inr (omega (arith, valid.short)))) (date_stays 328 (329 + length comment) rest (inr (omega (arith, valid.short))))
+      (bits_stay 328 (329 + length comment) rest (inl (omega arith))) (λ _. put) (disk_stays 328 (329 + length comment) rest (inr (omega (arith, valid.short)))))
+
+  pub named_stands : (name : List ℕ) → IsName name → key ≡ root t → SameBut (Summed key 432 (433 + length name)) old new → HasText new key name_byte name → Stands new (changed (root t) (λ a. record a { name = name }) t)
+  named_stands name valid e rest put =
+      subst (λ (k : ℕ). Stands new (changed k (λ a. record a { name = name }) t)) e
+      (from_changed (λ a. record a { name = name }) t.disk_date
+      (told (record node { name = name }) t.disk_date 432 (433 + length name) (name_case t s.proper key node at name valid e) rest
+      put (date_stays 432 (433 + length name) rest (inl (omega arith))) (bits_stay 432 (433 + length name) rest (inl (omega arith)))
+      (comment_stays 432 (433 + length name) rest (inl (omega arith))) (disk_stays 432 (433 + length name) rest (inr (omega (arith, valid.short))))))
+
+  pub stamped_stands : (moment : Date3) → key ≡ root t → SameBut (Summed key 472 484) old new → date_at new key 118 ≡ moment → Stands new (stamped moment t)
+  stamped_stands moment e rest put =
+      subst (Stands new) (same_node t key node at moment)
+      (told node moment 472 484 (stamp_case t s.proper key node at moment e) rest
+      (name_stays 472 484 rest (inl (omega arith))) (date_stays 472 484 rest (inl (omega arith))) (bits_stay 472 484 rest (inl (omega arith)))
+      (comment_stays 472 484 rest (inl (omega arith))) (λ _. put))
+
+-- ---- what is kept
+
+module _ (old new : List ℕ) (t : Tree) (s : Stands old t) (key : ℕ) (node : Node) (at : t.nodes key ≡ Some node) (low high : ℕ) where
+  -- the bytes that tell of the node are fields
+  module _ (after : Node) (d moment : Date3) (c : Case t key node after d low high) (u : Stands new (retold key after moment t)) where
+    here : (retold key after moment t).nodes key ≡ Some after
+    here = rw (eq-eqb key key refl) refl
+
+    entry_told : key ≢ root t → (dir : ℕ) × HasEntry new key after dir
+    entry_told n = elim (root_or_parent t s.proper key node at) [
+      | inl e ↦ absurd (n e)
+      | inr dir ↦ (dir.0, u.entries key dir.0 after here (c.retells.parent ∙ dir.1))
+    ]
+
+    field_told : (i : ℕ) → Telling t key after i → IsKeyField new t key i
+    field_told = telling_field old new t s key node after at (λ n. (entry_told n).1.secondary) (λ e. (u.nodes key after here).name) (λ n. (entry_told n).1.comment)
+
+    field_at : (b i : ℕ) → Summed key low high b i → IsKeyField new t b i
+    field_at b i (inl w) = subst (λ (k : ℕ). IsKeyField new t k i) (sym w.0) (field_told i (c.within i w.1 w.2))
+    field_at b i (inr w) = subst (λ (k : ℕ). IsKeyField new t k i) (sym w.0) (field_told i (Telling.sum w.1))
+
+    told_at : (b i : ℕ) → Summed key low high b i → IsTold t b i
+    told_at b i (inl w) = subst (λ (k : ℕ). IsTold t k i) (sym w.0) (telling_told old new t s key after c.retells.name c.retells.comment i (c.within i w.1 w.2))
+    told_at b i (inr w) = inl w.1
+
+    kept_told : SameBut (Summed key low high) old new → Kept old new
+    kept_told rest = kept_fields old new t s (Summed key low high) rest (λ b i l w. field_at b i w) told_at
+
+    keeps_retold : (r : ℕ) → r ≡ root t → SameBut (Restamped r key low high) old new → KeepsRest old new
+    keeps_retold r e rest = keeps_fields old new t s (Restamped r key low high) rest (λ b i l w. field b i w) told
+      where
+        field : (b i : ℕ) → Restamped r key low high b i → IsKeyField new t b i
+        field b i (inl w) = field_at b i w
+        field b i (inr (inl w)) = disk_date_field old new t s b (w.0 ∙ e) i (inr (w.1, w.2))
+        field b i (inr (inr w)) = disk_date_field old new t s b (w.0 ∙ e) i (inl w.1)
+
+        told : (b i : ℕ) → Restamped r key low high b i → IsTold t b i
+        told b i (inl w) = told_at b i w
+        told b i (inr (inl w)) = inr (omega (arith, w.1), omega (arith, w.2), λ z. omega (arith, w.1, z), λ _. omega (arith, w.1))
+        told b i (inr (inr w)) = inl w.1
+
+  to_retold : (f : Node → Node) (d : Date3) → Stands new (stamped d (changed key f t)) → Stands new (retold key (f node) d t)
+  to_retold f d h = subst (λ o. Stands new (stamped d (with_node key o t))) (ap (option_map f) at) h
+
+  -- a field is changed
+  pub kept_changed : (f : Node → Node) → Case t key node (f node) t.disk_date low high → Stands new (changed key f t) → SameBut (Summed key low high) old new → Kept old new
+  kept_changed f c h rest = kept_told (f node) t.disk_date t.disk_date c (to_retold f t.disk_date h) rest
+
+  -- a field is changed, and then the disk date
+  pub keeps_restamped : (f : Node → Node) → Case t key node (f node) t.disk_date low high → (moment : Date3) → Stands new (stamped moment (changed key f t))
+      → (r : ℕ) → r ≡ root t → SameBut (Restamped r key low high) old new → KeepsRest old new
+  keeps_restamped f c moment h r e rest = keeps_retold (f node) t.disk_date moment c (to_retold f moment h) r e rest
+
+  -- the disk date is changed
+  pub kept_stamped : (moment : Date3) → Case t key node node moment low high → Stands new (stamped moment t) → SameBut (Summed key low high) old new → Kept old new
+  kept_stamped moment c h rest = kept_told node moment moment c (subst (Stands new) (sym (same_node t key node at moment)) h) rest

@@ -1,0 +1,227 @@
+-- A change of fields in the blocks of keys keeps all that is no field, and leaves the map as it is.
+use Rattle.std.proofs.Common.{◌≡◌, ◌≢◌, ℕ, ◌+◌, ◌-◌, ◌*◌, ◌/◌, ◌%◌, ◌^◌, ◌<◌, ◌≤◌, ◌⊎◌, inl, inr, ◌==◌, not, bit_and, List, length, take, drop, slice_index, Some, IsSome, refl, sym, ap, ◌∙◌, arith, length-take, length-drop}
+use Rattle.std.proofs.lemmas.Bool.{cases_eq}
+use Rattle.std.proofs.lemmas.List.{ext_get_or, get_or-take, get_or-drop}
+use Rattle.adf_block.specs.Image.{block_count, root_key, page_count, byte_at, bytes_at, long, has_free_bit}
+use Rattle.adf_block.specs.Fields.{HasText, secondary_type, name_byte, comment_byte}
+use Rattle.adf_block.specs.Frame.{SameBut}
+use Rattle.adf_block.proofs.Frames.{same_long, same_count}
+use Rattle.ados_map.specs.Pages.{page_block, pages_of}
+use Rattle.ados_name.specs.Name.{IsName, IsComment}
+use Rattle.ados_data.specs.File.{format_of}
+use Rattle.ados_tree.specs.Tree.{Content, Node, Tree, root}
+use Rattle.ados_tree.specs.Tree.Content.{Directory, File}
+use Rattle.ados_tree.specs.Layout.{Duty}
+use Rattle.ados_tree.specs.Stands.{Stands, type_of}
+use Rattle.ados_tree.specs.declared.role.Role.{Role}
+use Rattle.ados_tree.specs.declared.role.Role.TheVariants as roles
+use Rattle.ados_tree.specs.Kept.{Kept, IsField, Alike}
+use Rattle.ados_tree.specs.Kept.IsField.{root_longs, root_name, directory_longs, file_longs, entry_comment}
+use Rattle.ados_tree.specs.NewBlocks.{KeepsRest, TakesNone}
+use Rattle.ados_tree.specs.Keys.{HasFileKey}
+use Rattle.ados_tree.specs.Untold.{KeepsData, KeepsUntold, data_at}
+use Rattle.ados_tree.proofs.FilesStay.{data_blocks_stay, data_serves, extension_blocks_stay, file_of_key, files_stay}
+use Rattle.ados_tree.proofs.Keeping.{header_stays, none_taken}
+use Rattle.ados_tree.proofs.Standing.{StandsAt, count_same, reached_stands, same_place, serves_at, duty_of, root_at, slice_get-index}
+use Rattle.ados_change.proofs.Retold.{Telling}
+
+-- byte i of a key's block is part of a field in its role
+pub data IsKeyField (image : List ℕ) (t : Tree) (b i : ℕ) : Type 0 where
+  root_field : b ≡ root t → IsField image b roles.Root i → IsKeyField image t b i
+  entry_field : b ≢ root t → IsSome (t.nodes b) → ((dir s : ℕ) → IsField image b (roles.Entry dir s) i) → IsKeyField image t b i
+
+-- byte i of a block is of its sum, or behind the pointers of a file, and then neither of its size nor of its extension; in the root it is behind the pages, too
+abbrev pub IsTold : Tree → ℕ → ℕ → Type 0
+IsTold t b i = (i / 4 ≡ 5) ⊎ ((320 ≤ i) × (i < 504) × (i / 4 ≢ 81) × (b ≡ root t → 420 ≤ i))
+
+module _ (old new : List ℕ) (t : Tree) (s : Stands old t) where
+  is_key : (b i : ℕ) → IsKeyField new t b i → IsSome (t.nodes b)
+  is_key b i (root_field e f) = rw (ap t.nodes e ∙ s.proper.root_node.1) refl
+  is_key b i (entry_field n k f) = k
+
+  -- a key's block has no other role
+  no_field : (b i k : ℕ) (role role' : Role) → StandsAt old t s role k b → Alike role role' → ¬ IsField new b role' i → IsKeyField new t b i → ⊥
+  no_field b i k role role' at alike m f = go role role' at alike m f (s.fits.one_duty b (duty_of old t s role k) Duty.Key (serves_at old t s role k b at) (is_key b i f))
+    where
+      go : (role role' : Role) → StandsAt old t s role k b → Alike role role' → ¬ IsField new b role' i → IsKeyField new t b i → duty_of old t s role k ≡ Duty.Key → ⊥
+      go roles.Root roles.Root at alike m (root_field e f) d = m f
+      go roles.Root roles.Root at alike m (entry_field o key f) d = o (root_at old t s k b at)
+      go (roles.Entry dir q) (roles.Entry dir' q') at alike m (entry_field o key f) d = m (f dir' q')
+      go (roles.Entry dir q) role' at alike m (root_field e f) d =
+          let root_stands : StandsAt old t s roles.Root 0 b = record { within = omega arith; here = sym e; holder = tt } in
+          cc (same_place old t s (roles.Entry dir q) roles.Root k 0 b at root_stands).0
+      go roles.Page role' at alike m f d = cc d
+      go (roles.Data file) role' at alike m f d = cc d
+      go (roles.Extension file) role' at alike m f d = cc d
+      go roles.Root roles.Page at alike m f d = absurd alike
+      go roles.Root (roles.Entry dir q) at alike m f d = absurd alike
+      go roles.Root (roles.Data file) at alike m f d = absurd alike
+      go roles.Root (roles.Extension file) at alike m f d = absurd alike
+      go (roles.Entry dir q) roles.Root at alike m f d = absurd alike
+      go (roles.Entry dir q) roles.Page at alike m f d = absurd alike
+      go (roles.Entry dir q) (roles.Data file) at alike m f d = absurd alike
+      go (roles.Entry dir q) (roles.Extension file) at alike m f d = absurd alike
+
+  module _ (changed : ℕ → ℕ → Type 0) (h : SameBut changed old new) (fields : (b i : ℕ) → i < 512 → changed b i → IsKeyField new t b i) (told : (b i : ℕ) → changed b i → IsTold t b i) where
+    boot_byte : (k : ℕ) → k < 1024 → slice_index new k ≡ slice_index old k
+    unfolding byte_at
+    boot_byte k l =
+        let here : 512 * (k / 512) + k % 512 ≡ k = omega arith in
+        let unchanged : ¬ changed (k / 512) (k % 512) = λ w.
+        let inside = s.fits.inside (k / 512) Duty.Key (is_key (k / 512) (k % 512) (fields (k / 512) (k % 512) (omega arith) w)) in
+        omega (arith, l, inside.0) in
+        ap (slice_index new) (sym here) ∙ h.same_byte (k / 512) (k % 512) (omega arith) unchanged ∙ ap (slice_index old) here
+
+    boot_kept : bytes_at new 0 0 1024 ≡ bytes_at old 0 0 1024
+    unfolding bytes_at
+    boot_kept =
+        ext_get_or 0 (take 1024 (drop (512 * 0 + 0) new)) (take 1024 (drop (512 * 0 + 0) old))
+        (omega (arith, length-take 1024 (drop (512 * 0 + 0) new), length-take 1024 (drop (512 * 0 + 0) old), length-drop (512 * 0 + 0) new, length-drop (512 * 0 + 0) old, h.same_length))
+        (λ k l.
+        let below : k < 1024 = omega (arith, l, length-take 1024 (drop (512 * 0 + 0) new)) in
+        get_or-take 1024 (drop (512 * 0 + 0) new) k 0 below ∙ get_or-drop (512 * 0 + 0) new k 0
+        ∙ boot_byte (512 * 0 + 0 + k) (omega (arith, below))
+        ∙ sym (get_or-take 1024 (drop (512 * 0 + 0) old) k 0 below ∙ get_or-drop (512 * 0 + 0) old k 0))
+
+    -- what tells of a file's data stays
+    front_stays : (b j : ℕ) → j < 78 → j ≢ 5 → long new b j ≡ long old b j
+    front_stays b j l n = same_long changed old new h b j (omega (arith, l)) (λ k e w. elim (told b k w) [ inl f ↦ n (sym e ∙ f) | inr f ↦ omega (arith, e, l, f.0) ])
+
+    -- all else is kept
+    pub kept_fields : Kept old new
+    kept_fields = record {
+      size = h.same_length;
+      boot = boot_kept;
+      others = λ b i role role' l a a' alike m. h.same_byte b i l (λ w. let at = reached_stands old t s a in no_field b i at.0 role role' at.1 alike m (fields b i l w));
+      first = λ b f g. header_stays old new b (front_stays b 2 (omega arith) (omega arith)) (λ i l. front_stays b (77 - i) (omega arith) (omega (arith, l))) (front_stays b 4 (omega arith) (omega arith));
+    }
+
+    -- ---- the map
+
+    count : block_count new ≡ block_count old
+    count = same_count changed old new h
+
+    page_long : (p : ℕ) → p < page_count (block_count old) → long new (root t) (79 + p) ≡ long old (root t) (79 + p)
+    page_long p l =
+        let few : 79 + p < 105 = omega (arith, l, count_same old t s, s.proper.size.1) in
+        same_long changed old new h (root t) (79 + p) (omega (arith, few))
+        (λ k e w. elim (told (root t) k w) [ inl f ↦ omega (arith, e, f) | inr f ↦ let behind = f.3 refl in omega (arith, e, few, behind) ])
+
+    page_stays : (p k : ℕ) → p < length s.layout.pages → k < 512 → ¬ changed (slice_index s.layout.pages p) k
+    page_stays p k l m w =
+        let duty = s.fits.one_duty (slice_index s.layout.pages p) (Duty.Page p) Duty.Key (slice_get-index s.layout.pages p l) (is_key (slice_index s.layout.pages p) k (fields (slice_index s.layout.pages p) k m w)) in
+        cc duty
+
+    -- each bit is as it was, those past the end too
+    pub marks_stay : (b : ℕ) → (b - 2) / 4064 < page_count (block_count old) → has_free_bit new b ≡ has_free_bit old b
+    unfolding has_free_bit
+    marks_stay b l =
+        let within : (b - 2) / 4064 < length s.layout.pages = omega (arith, l, s.fits.pages, ap page_count (count_same old t s)) in
+        let root_new : root_key (block_count new) ≡ root t = ap root_key (count ∙ count_same old t s) in
+        let root_old : root_key (block_count old) ≡ root t = ap root_key (count_same old t s) in
+        let page_old : long old (root t) (79 + (b - 2) / 4064) ≡ slice_index s.layout.pages ((b - 2) / 4064) = s.root_fields.pages ((b - 2) / 4064) within in
+        let at_new : long new (root_key (block_count new)) (79 + (b - 2) / 4064) ≡ slice_index s.layout.pages ((b - 2) / 4064) = ap (λ (q : ℕ). long new q (79 + (b - 2) / 4064)) root_new ∙ page_long ((b - 2) / 4064) l ∙ page_old in
+        let at_old : long old (root_key (block_count old)) (79 + (b - 2) / 4064) ≡ slice_index s.layout.pages ((b - 2) / 4064) = ap (λ (q : ℕ). long old q (79 + (b - 2) / 4064)) root_old ∙ page_old in
+        let here : long new (slice_index s.layout.pages ((b - 2) / 4064)) (1 + (b - 2) % 4064 / 32) ≡ long old (slice_index s.layout.pages ((b - 2) / 4064)) (1 + (b - 2) % 4064 / 32) =
+        same_long changed old new h (slice_index s.layout.pages ((b - 2) / 4064)) (1 + (b - 2) % 4064 / 32) (omega arith) (λ k e w. page_stays ((b - 2) / 4064) k within (omega (arith, e)) w) in
+        let value = ap (λ (x : ℕ). long new x (1 + (b - 2) % 4064 / 32)) at_new ∙ here ∙ ap (λ (x : ℕ). long old x (1 + (b - 2) % 4064 / 32)) (sym at_old) in
+        ap (λ (x : ℕ). not (bit_and x (2 ^ ((b - 2) % 32)) == 0)) value
+
+    -- no block is taken, and none that is free was written
+    takes_none : TakesNone old new
+    takes_none b inside free = marks_stay b (omega (arith, inside.0, inside.1)) ∙ free
+
+    -- ---- what no tree tells of
+
+    page_names_stay : (p : ℕ) → p < pages_of old → page_block new p ≡ page_block old p
+    page_names_stay p l =
+        let root_old : root_key (block_count old) ≡ root t = ap root_key (count_same old t s) in
+        ap (λ (q : ℕ). long new q (79 + p)) (ap root_key count ∙ root_old) ∙ page_long p l ∙ ap (λ (q : ℕ). long old q (79 + p)) (sym root_old)
+
+    link_stays : (b : ℕ) → long new b 126 ≡ long old b 126
+    link_stays b = same_long changed old new h b 126 (omega arith) (λ k e w. elim (told b k w) [ inl f ↦ omega (arith, e, f) | inr f ↦ omega (arith, e, f.1) ])
+
+    size_stays : (b : ℕ) → long new b 81 ≡ long old b 81
+    size_stays b = same_long changed old new h b 81 (omega arith) (λ k e w. elim (told b k w) [ inl f ↦ omega (arith, e, f) | inr f ↦ f.2 e ])
+
+    format_stays : format_of new ≡ format_of old
+    format_stays =
+        let kind : byte_at new 0 3 ≡ byte_at old 0 3 = h.same_byte 0 3 (omega arith) (λ w. let inside = s.fits.inside 0 Duty.Key (is_key 0 3 (fields 0 3 (omega arith) w)) in omega (arith, inside.0)) in
+        rw kind refl
+
+    -- no data block is that of a key
+    data_stays : (file : ℕ) → HasFileKey old file → KeepsData old new file
+    data_stays file key =
+        let pointers : (b i : ℕ) → i < 72 → long new b (77 - i) ≡ long old b (77 - i) = λ b i l. front_stays b (77 - i) (omega arith) (omega (arith, l)) in
+        record {
+          blocks = data_blocks_stay old new link_stays pointers format_stays file (size_stays file);
+          extensions = extension_blocks_stay old new link_stays pointers format_stays file (size_stays file);
+          bytes = λ q i l m. h.same_byte (data_at old file q) i m (λ w.
+              let serves = data_serves old t s file (file_of_key old t s file key) q l in
+              let duty = s.fits.one_duty (data_at old file q) (Duty.Data file q) Duty.Key serves (is_key (data_at old file q) i (fields (data_at old file q) i m w)) in
+              cc duty);
+        }
+
+    untold_stays : KeepsUntold old new
+    untold_stays =
+        files_stay old new (record { pages = page_names_stay; bits = λ k has past. marks_stay k (omega (arith, has.0, has.1)) })
+        (λ file was is. data_stays file was)
+
+    pub keeps_fields : KeepsRest old new
+    keeps_fields = record {
+      kept = kept_fields;
+      lowest = none_taken old new takes_none;
+      freed = λ b i inside free entry l. h.same_byte b i l (λ w.
+          s.marked_free b (inside.0, omega (arith, inside.1, count_same old t s)) (sym (marks_stay b (omega (arith, inside.0, inside.1))) ∙ free) (Duty.Key, is_key b i (fields b i l w)));
+      untold = untold_stays;
+    }
+
+  -- ---- what tells of a node is part of a field
+
+  -- what tells of a node stands beside what tells of a file's data
+  pub telling_told : (key : ℕ) (after : Node) → IsName after.name → IsComment after.comment → (i : ℕ) → Telling t key after i → IsTold t key i
+  telling_told key after name short i (Telling.sum e) = inl e
+  telling_told key after name short i (Telling.date l m) = inr (omega (arith, l), omega (arith, m), λ z. omega (arith, l, z), λ _. l)
+  telling_told key after name short i (Telling.root_name e l m) = inr (omega (arith, l), omega (arith, m, name.short), λ z. omega (arith, l, z), λ _. omega (arith, l))
+  telling_told key after name short i (Telling.disk_date e l m) = inr (omega (arith, l), omega (arith, m), λ z. omega (arith, l, z), λ _. omega (arith, l))
+  telling_told key after name short i (Telling.bits n l m) = inr (l, omega (arith, m), λ z. omega (arith, m, z), λ e. absurd (n e))
+  telling_told key after name short i (Telling.comment n l m) = inr (omega (arith, l), omega (arith, m, short.short), λ z. omega (arith, l, z), λ e. absurd (n e))
+
+  -- the sum or the disk date of the root
+  pub disk_date_field : (b : ℕ) → b ≡ root t → (i : ℕ) → (i / 4 ≡ 5) ⊎ ((472 ≤ i) × (i < 484)) → IsKeyField new t b i
+  disk_date_field b e i (inl f) = root_field e (root_longs (2, (5, 78), omega arith, refl, (omega (arith, f), omega (arith, f))))
+  disk_date_field b e i (inr f) = root_field e (root_longs (5, (118, 123), omega arith, refl, (omega (arith, f.0), omega (arith, f.1))))
+
+  module _ (key : ℕ) (node after : Node) (at : t.nodes key ≡ Some node) (typed : key ≢ root t → secondary_type new key ≡ type_of after.content) where
+    -- the sum, the protection and the date of an entry
+    entry_longs : key ≢ root t → (i : ℕ) → (i / 4 ≡ 5) ⊎ ((i / 4 ≡ 80) ⊎ ((420 ≤ i) × (i < 432))) → (dir q : ℕ) → IsField new key (roles.Entry dir q) i
+    entry_longs n i place dir q = by_content after.content (typed n) place
+      where
+        by_content : (c : Content) → secondary_type new key ≡ type_of c → (i / 4 ≡ 5) ⊎ ((i / 4 ≡ 80) ⊎ ((420 ≤ i) × (i < 432))) → IsField new key (roles.Entry dir q) i
+        by_content (Directory keys) e (inl f) = directory_longs e (1, (5, 77), omega arith, refl, (omega (arith, f), omega (arith, f)))
+        by_content (Directory keys) e (inr (inl f)) = directory_longs e (2, (80, 80), omega arith, refl, (omega (arith, f), omega (arith, f)))
+        by_content (Directory keys) e (inr (inr f)) = directory_longs e (3, (105, 107), omega arith, refl, (omega (arith, f.0), omega (arith, f.1)))
+        by_content (File bytes) e (inl f) = file_longs e (1, (4, 5), omega arith, refl, (omega (arith, f), omega (arith, f)))
+        by_content (File bytes) e (inr (inl f)) = file_longs e (3, (80, 81), omega arith, refl, (omega (arith, f), omega (arith, f)))
+        by_content (File bytes) e (inr (inr f)) = file_longs e (4, (105, 107), omega arith, refl, (omega (arith, f.0), omega (arith, f.1)))
+
+    key_serves : IsSome (t.nodes key)
+    key_serves = rw at refl
+
+    -- the sum or the date, of the root or of an entry
+    summed_or_dated : (i : ℕ) → (i / 4 ≡ 5) ⊎ ((420 ≤ i) × (i < 432)) → IsKeyField new t key i
+    summed_or_dated i place = elim (cases_eq key (root t)) [
+      | inl e ↦ root_field e (elim place [
+        | inl f ↦ root_longs (2, (5, 78), omega arith, refl, (omega (arith, f), omega (arith, f)))
+        | inr f ↦ root_longs (4, (105, 107), omega arith, refl, (omega (arith, f.0), omega (arith, f.1)))
+      ])
+      | inr n ↦ entry_field n key_serves (entry_longs n i (elim place [ inl f ↦ inl f | inr f ↦ inr (inr f) ]))
+    ]
+
+    pub telling_field : (key ≡ root t → HasText new key name_byte after.name) → (key ≢ root t → HasText new key comment_byte after.comment) → (i : ℕ) → Telling t key after i → IsKeyField new t key i
+    telling_field name comment i (Telling.sum e) = summed_or_dated i (inl e)
+    telling_field name comment i (Telling.date l m) = summed_or_dated i (inr (l, m))
+    telling_field name comment i (Telling.root_name e l m) = root_field e (root_name (l, omega (arith, m, (name e).counted)))
+    telling_field name comment i (Telling.disk_date e l m) = disk_date_field key e i (inr (l, m))
+    telling_field name comment i (Telling.bits n l m) = entry_field n key_serves (entry_longs n i (inr (inl (omega (arith, l, m)))))
+    telling_field name comment i (Telling.comment n l m) = entry_field n key_serves (λ dir q. entry_comment (l, omega (arith, m, (comment n).counted)))

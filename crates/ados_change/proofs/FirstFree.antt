@@ -1,0 +1,207 @@
+-- A new entry takes the lowest free block, in which each byte of no field is 0.
+use Rattle.std.proofs.Common.{◌≡◌, ◌≢◌, ℕ, ◌+◌, ◌*◌, ◌/◌, ◌<◌, ◌≤◌, ◌⊎◌, inl, inr, nat_le, cond, List, [], length, slice_index, Option, Some, None, is_some, option_map, refl, sym, ap, ◌∙◌, subst, arith}
+use Rattle.std.proofs.lemmas.Bool.{cases_eq, cases_lt, cases_order, false≢true}
+use Rattle.adf_block.specs.Fields.{next_in_chain, name_byte, secondary_type, file_type}
+use Rattle.adf_block.specs.Frame.{SameBut}
+use Rattle.adf_block.specs.Image.{IsInside, HasFreeBit, byte_at, long}
+use Rattle.adf_block.proofs.Frames.{same_long, same_weaken}
+use Rattle.ados_chain.specs.Relinks.{AtLinks, Relinks}
+use Rattle.ados_map.specs.Pages.{IsLowestFree}
+use Rattle.ados_name.specs.Name.{slot}
+use Rattle.ados_name.specs.declared.Date3.{Date3}
+use Rattle.ados_tree.specs.Change.{enter, made, new_node, with_node}
+use Rattle.ados_tree.specs.Faults.{InImage, Reached, first_pointers}
+use Rattle.ados_tree.specs.Kept.{IsField, NamesFirstData}
+use Rattle.ados_tree.specs.Kept.IsField.{directory_longs, file_longs, entry_name}
+use Rattle.ados_tree.specs.Layout.{Duty, Named, HasDuty}
+use Rattle.ados_tree.specs.NewBlocks.{IsTaken, TakesLowest}
+use Rattle.ados_tree.specs.Stands.{Stands, type_of}
+use Rattle.ados_tree.specs.Tree.{Content, Node, Tree, entries, name_of, root}
+use Rattle.ados_tree.specs.Tree.Content.{Directory, File}
+use Rattle.ados_tree.specs.declared.role.Role.{Role}
+use Rattle.ados_tree.specs.declared.role.Role.TheVariants as roles
+use Rattle.ados_tree.proofs.Serving.{data_duty, extension_duty}
+use Rattle.ados_tree.proofs.Standing.{StandsAt, count_same, duty_of, reached_stands, root_at, serves_at}
+use Rattle.ados_change.specs.steps.Making.{IsNewEntry, IsNewField}
+use Rattle.ados_change.specs.steps.Writes.{AtDate, AtLongs, Dated}
+use Rattle.ados_change.proofs.Changed.{changed_keeps, nodes_here, nodes_other, relisted}
+use Rattle.ados_change.proofs.Making.{zero_long}
+use Rattle.ados_change.proofs.Relisted.{IsLinkPlace}
+use Rattle.ados_change.proofs.Relisted.IsLinkPlace.{in_table, in_entry}
+use Rattle.ados_change.proofs.Spells.{Spells}
+
+-- ---- what stands in the block
+
+-- the bytes of all other blocks, and of a key its sum and link
+abbrev pub AtLink : ℕ → ℕ → ℕ → Type 0
+AtLink key b i = (b ≢ key) ⊎ ((i / 4 ≡ 5) ⊎ (i / 4 ≡ next_in_chain))
+
+module _ (key dir : ℕ) (t : Tree) (apart : dir ≢ key) (no_root : key ≢ root t) where
+  pub dated_there : (moment : Date3) (m m' : List ℕ) → Dated dir 105 moment m m' → SameBut (AtLink key) m m'
+  dated_there moment m m' r = same_weaken (AtLongs (AtDate dir 105)) (AtLink key) m m' (λ b i w. inl (λ e. apart (sym w.0 ∙ e))) r.rest
+
+  pub stamped_there : (moment : Date3) (m m' : List ℕ) → Dated (root t) 118 moment m m' → SameBut (AtLink key) m m'
+  stamped_there moment m m' r = same_weaken (AtLongs (AtDate (root t) 118)) (AtLink key) m m' (λ b i w. inl (λ e. no_root (sym e ∙ w.0))) r.rest
+
+  pub linked_there : (u : Tree) (b0 i0 next : ℕ) → IsLinkPlace u dir b0 i0 → (m m' : List ℕ) → Relinks b0 i0 next key m m' → SameBut (AtLink key) m m'
+  linked_there u b0 i0 next place m m' r = same_weaken (AtLinks b0 i0 key) (AtLink key) m m' within r.rest
+    where
+      linked : IsLinkPlace u dir b0 i0 → (b i : ℕ) → b ≡ b0 → i / 4 ≡ i0 → AtLink key b i
+      linked (in_table d x y) b i e f = inl (λ same. apart (sym (e ∙ d) ∙ same))
+      linked (in_entry n g x d) b i e f = inr (inr (f ∙ d))
+
+      within : (b i : ℕ) → AtLinks b0 i0 key b i → AtLink key b i
+      within b i (inl (inl w)) = linked place b i w.0 w.1
+      within b i (inl (inr w)) = inr (inl w.1)
+      within b i (inr (inl w)) = inr (inr w.1)
+      within b i (inr (inr w)) = inr (inl w.1)
+
+module _ (filled new : List ℕ) (key dir : ℕ) (name : List ℕ) (content : Content) (moment : Date3) (entry : IsNewEntry filled key dir name content moment) (h : SameBut (AtLink key) filled new) where
+  type_is : secondary_type new key ≡ type_of content
+  type_is = same_long (AtLink key) filled new h key 127 (omega arith) (λ k e w. other k e w) ∙ entry.secondary
+    where
+      other : (k : ℕ) → k / 4 ≡ 127 → ¬ AtLink key key k
+      other k e (inl n) = n refl
+      other k e (inr w) = omega (arith, e, w)
+
+  counted : byte_at new key name_byte ≡ length name
+  counted = h.same_byte key name_byte (omega arith) other ∙ entry.named.counted
+    where
+      other : ¬ AtLink key key 432
+      other (inl n) = n refl
+      other (inr w) = omega (arith, w)
+
+  -- the bytes that a new entry fills are fields, and so are its sum and link
+  new_field : (d s i : ℕ) → IsNewField (length name) i ⊎ ((i / 4 ≡ 5) ⊎ (i / 4 ≡ next_in_chain)) → IsField new key (roles.Entry d s) i
+  new_field d s i f = go content type_is
+    where
+      text : 432 ≤ i → i < 433 + length name → IsField new key (roles.Entry d s) i
+      text l m = entry_name (l, omega (arith, m, counted))
+
+      of_directory : secondary_type new key ≡ 2 → IsNewField (length name) i ⊎ ((i / 4 ≡ 5) ⊎ (i / 4 ≡ next_in_chain)) → IsField new key (roles.Entry d s) i
+      of_directory e (inl (inl z)) = directory_longs e (0, (0, 1), omega arith, refl, (omega arith, omega (arith, z)))
+      of_directory e (inl (inr (inl z))) = directory_longs e (1, (5, 77), omega arith, refl, (omega (arith, z), omega (arith, z)))
+      of_directory e (inl (inr (inr (inl z)))) = elim (cases_lt i 432) [
+        | inl l ↦ directory_longs e (3, (105, 107), omega arith, refl, (omega (arith, z.0), omega (arith, l)))
+        | inr l ↦ text l z.1
+      ]
+      of_directory e (inl (inr (inr (inr (inl z))))) = directory_longs e (4, (124, 125), omega arith, refl, (omega (arith, z), omega (arith, z)))
+      of_directory e (inl (inr (inr (inr (inr z))))) = directory_longs e (5, (127, 127), omega arith, refl, (omega (arith, z), omega (arith, z)))
+      of_directory e (inr (inl z)) = directory_longs e (1, (5, 77), omega arith, refl, (omega (arith, z), omega (arith, z)))
+      of_directory e (inr (inr z)) = directory_longs e (4, (124, 125), omega arith, refl, (omega (arith, z), omega (arith, z)))
+
+      of_file : secondary_type new key ≡ file_type → IsNewField (length name) i ⊎ ((i / 4 ≡ 5) ⊎ (i / 4 ≡ next_in_chain)) → IsField new key (roles.Entry d s) i
+      of_file e (inl (inl z)) = file_longs e (0, (0, 2), omega arith, refl, (omega arith, omega (arith, z)))
+      of_file e (inl (inr (inl z))) = file_longs e (1, (4, 5), omega arith, refl, (omega (arith, z), omega (arith, z)))
+      of_file e (inl (inr (inr (inl z)))) = elim (cases_lt i 432) [
+        | inl l ↦ file_longs e (4, (105, 107), omega arith, refl, (omega (arith, z.0), omega (arith, l)))
+        | inr l ↦ text l z.1
+      ]
+      of_file e (inl (inr (inr (inr (inl z))))) = file_longs e (5, (124, 127), omega arith, refl, (omega (arith, z), omega (arith, z)))
+      of_file e (inl (inr (inr (inr (inr z))))) = file_longs e (5, (124, 127), omega arith, refl, (omega (arith, z), omega (arith, z)))
+      of_file e (inr (inl z)) = file_longs e (1, (4, 5), omega arith, refl, (omega (arith, z), omega (arith, z)))
+      of_file e (inr (inr z)) = file_longs e (5, (124, 127), omega arith, refl, (omega (arith, z), omega (arith, z)))
+
+      go : (c : Content) → secondary_type new key ≡ type_of c → IsField new key (roles.Entry d s) i
+      go (Directory keys) e = of_directory e f
+      go (File bytes) e = of_file e f
+
+  zero_else : (d s i : ℕ) → i < 512 → ¬ IsField new key (roles.Entry d s) i → byte_at new key i ≡ 0
+  zero_else d s i l n = h.same_byte key i l other ∙ entry.zeros i l (λ f. n (new_field d s i (inl f)))
+    where
+      other : ¬ AtLink key key i
+      other (inl m) = m refl
+      other (inr w) = n (new_field d s i (inr w))
+
+  -- it names its first data block: there is none
+  zero_at : (j : ℕ) → (j ≡ 2) ⊎ (j ≡ 4) → long new key j ≡ 0
+  zero_at j o = zero_long new key j (λ k p q. h.same_byte key k (omega (arith, o, q)) (other k p q) ∙ entry.zeros k (omega (arith, o, q)) (no_field k p q))
+    where
+      other : (k : ℕ) → 4 * j ≤ k → k < 4 * j + 4 → ¬ AtLink key key k
+      other k p q (inl m) = m refl
+      other k p q (inr w) = omega (arith, o, p, q, w)
+
+      no_field : (k : ℕ) → 4 * j ≤ k → k < 4 * j + 4 → ¬ IsNewField (length name) k
+      no_field k p q (inl f) = omega (arith, o, p, q, f)
+      no_field k p q (inr (inl f)) = omega (arith, o, p, q, f)
+      no_field k p q (inr (inr (inl f))) = omega (arith, o, p, q, f.0)
+      no_field k p q (inr (inr (inr f))) = omega (arith, o, p, q, f)
+
+  names_none : NamesFirstData new key
+  names_none = zero_at 4 (inr refl) ∙ sym (ap (λ (n : ℕ). slice_index (cond (nat_le n 72) (first_pointers new key n) []) 0) (zero_at 2 (inl refl)))
+
+  -- ---- which block it is
+
+  module _ (old : List ℕ) (t : Tree) (st : Stands old t) (low : IsLowestFree old key) (no_root : key ≢ root t)
+      (spelled : Spells new (made moment dir key name content t) st.layout) (after : Stands new (made moment dir key name content t)) where
+    abbrev begun : Tree
+    begun = with_node key (Some (new_node moment dir name content)) t
+
+    abbrev u : Tree
+    u = made moment dir key name content t
+
+    abbrev list : Node → Node
+    list = relisted moment (enter (λ k. slot (name_of begun k)) key (entries begun dir))
+
+    some_same : (b : ℕ) → is_some (u.nodes b) ≡ is_some (begun.nodes b)
+    some_same b = changed_keeps is_some list dir begun go b
+      where
+        go : (o : Option Node) → is_some (option_map list o) ≡ is_some o
+        go None = refl
+        go (Some a) = refl
+
+    was_named : (b : ℕ) → b ≢ key → Named u st.layout b → Named t st.layout b
+    was_named b n (Duty.Page p, m) = (Duty.Page p, m)
+    was_named b n (Duty.Key, m) = (Duty.Key, sym (some_same b ∙ ap is_some (nodes_other key (Some (new_node moment dir name content)) t b n)) ∙ m)
+    was_named b n (Duty.Data file i, m) = (Duty.Data file i, m)
+    was_named b n (Duty.Extension file i, m) = (Duty.Extension file i, m)
+    was_named b n (Duty.Lost, m) = (Duty.Lost, m)
+
+    is_key : (b : ℕ) → IsTaken old new b → b ≡ key
+    is_key b m = elim (cases_eq b key) [
+      | inl e ↦ e
+      | inr n ↦
+          let inside : IsInside t.blocks b = (m.inside.0, omega (arith, m.inside.1, count_same old t st)) in
+          absurd (st.marked_free b inside m.was_free (was_named b n (spelled.marked_used b inside m.in_use)))
+    ]
+
+    lowest_of : (block other : ℕ) → IsTaken old new block → InImage old other → HasFreeBit old other → HasFreeBit new other → block < other
+    lowest_of block other m i was is =
+        let here = is_key block m in
+        elim (cases_order block other) [
+          | inl same ↦ absurd (m.in_use (subst (HasFreeBit new) (sym same) is))
+          | inr (inl below) ↦ below
+          | inr (inr above) ↦ absurd (false≢true (sym (low.lowest other i.0 (omega (arith, above, here))) ∙ was))
+        ]
+
+    key_serves : HasDuty u st.layout key Duty.Key
+    key_serves = some_same key ∙ ap is_some (nodes_here key (Some (new_node moment dir name content)) t)
+
+    zero_in : (role : Role) (i : ℕ) → Reached new key role → i < 512 → ¬ IsField new key role i → byte_at new key i ≡ 0
+    zero_in role i r l n =
+        let at = reached_stands new u after r in
+        go role at.0 at.1 n (after.fits.one_duty key (duty_of new u after role at.0) Duty.Key (serves_at new u after role at.0 key at.1) key_serves)
+      where
+        go : (role : Role) (k : ℕ) → StandsAt new u after role k key → ¬ IsField new key role i → duty_of new u after role k ≡ Duty.Key → byte_at new key i ≡ 0
+        go roles.Root k at n e = absurd (no_root (root_at new u after k key at))
+        go (roles.Entry d s) k at n e = zero_else d s i l n
+        go roles.Page k at n e = absurd (cc e)
+        go (roles.Data file) k at n e = absurd (cc e)
+        go (roles.Extension file) k at n e = absurd (cc e)
+
+    pub takes_key : TakesLowest old new
+    takes_key = record {
+      lowest = lowest_of;
+      zero_else = λ b i role m r l n.
+          let e = is_key b m in
+          ap (λ (c : ℕ). byte_at new c i) e ∙ zero_in role i (subst (λ (c : ℕ). Reached new c role) e r) l (subst (λ (c : ℕ). ¬ IsField new c role i) e n);
+      first = λ b m f. subst (NamesFirstData new) (sym (is_key b m)) names_none;
+      data_rise = λ f k i j l m a b.
+          let serves : HasDuty u after.layout key (Duty.Data f i) = subst (λ (c : ℕ). HasDuty u after.layout c (Duty.Data f i)) (is_key _ a) (data_duty new u after f k i (omega (arith, l, m))) in
+          let duty : Duty.Data f i ≡ Duty.Key = after.fits.one_duty key (Duty.Data f i) Duty.Key serves key_serves in
+          absurd (cc duty);
+      extensions_rise = λ f k i j l m a b.
+          let serves : HasDuty u after.layout key (Duty.Extension f i) = subst (λ (c : ℕ). HasDuty u after.layout c (Duty.Extension f i)) (is_key _ a) (extension_duty new u after f k i (omega (arith, l, m))) in
+          let duty : Duty.Extension f i ≡ Duty.Key = after.fits.one_duty key (Duty.Extension f i) Duty.Key serves key_serves in
+          absurd (cc duty);
+    }

@@ -1,0 +1,122 @@
+-- In an image that spells a tree, pages and chains are lawful, also while a key is loose.
+use Rattle.std.proofs.Common.{◌≡◌, ◌≢◌, ℕ, ◌+◌, ◌<◌, ◌==◌, List, length, slice_index, true, Contains, Some, None, refl, sym, ap, ◌∙◌, subst, arith, eqb-true}
+use Rattle.std.proofs.lemmas.List.Elements.{All-contains, filter_passes}
+use Rattle.std.proofs.lemmas.List.Kept.{AllPairs-filter}
+use Rattle.adf_block.specs.Image.{IsInside, block_count, bytes_at, long, root_key}
+use Rattle.adf_block.specs.Fields.{name_byte, text_at, HasText}
+use Rattle.ados_name.specs.Name.{slot, IsName}
+use Rattle.ados_map.specs.Pages.{LawfulPages, page_block, pages_of}
+use Rattle.ados_chain.specs.Chains.{LawfulChains, IsEntryBlock, InChains, name_at, slot_at}
+use Rattle.ados_tree.specs.Tree.{Node, Tree, entries, name_of, parent_of, root}
+use Rattle.ados_tree.specs.Tree.Content.{Directory}
+use Rattle.ados_tree.specs.Layout.{Duty, Layout, HasDuty}
+use Rattle.ados_tree.specs.Stands.{in_slot}
+use Rattle.ados_tree.proofs.Nodes.{parent_in}
+use Rattle.ados_tree.proofs.Standing.{slice_get-index}
+use Rattle.ados_change.proofs.Entering.{Contains-part}
+use Rattle.ados_change.proofs.Loose.{Loose, LeadsLoosely}
+use Rattle.ados_change.proofs.Loose.LeadsLoosely.{to_root, to_loose, to_parent}
+use Rattle.ados_change.proofs.Spells.{Spells}
+
+-- the text of a block
+pub text_is : (image : List ℕ) (block i : ℕ) (text : List ℕ) → HasText image block i text → text_at image block i ≡ text
+text_is image block i text h = ap (bytes_at image block (i + 1)) h.counted ∙ h.follows
+
+module _ (image : List ℕ) (t : Tree) (l : Layout) (key : ℕ) (s : Spells image t l) (loose : Loose t key) where
+  pub count : block_count image ≡ t.blocks
+  count = omega (arith, s.whole)
+
+  pub root_is : root_key (block_count image) ≡ root t
+  root_is = ap root_key count
+
+  pub inside : (block : ℕ) (duty : Duty) → HasDuty t l block duty → IsInside (block_count image) block
+  inside block duty h = let i = s.fits.inside block duty h in (i.0, omega (arith, i.1, count))
+
+  pub key_serves : (k : ℕ) (node : Node) → t.nodes k ≡ Some node → HasDuty t l k Duty.Key
+  key_serves k node e = rw e refl
+
+  pub page_is : (p : ℕ) → p < length l.pages → page_block image p ≡ slice_index l.pages p
+  page_is p m = ap (λ (b : ℕ). long image b (79 + p)) root_is ∙ s.root_fields.pages p m
+
+  pub page_within : (p : ℕ) → p < pages_of image → p < length l.pages
+  page_within p m = omega (arith, m, s.fits.pages, count)
+
+  page_serves : (p : ℕ) → p < pages_of image → HasDuty t l (page_block image p) (Duty.Page p)
+  page_serves p m = slice_get-index l.pages p (page_within p m) ∙ ap Some (sym (page_is p (page_within p m)))
+
+  pub lawful_pages : LawfulPages image
+  lawful_pages = record {
+    inside = λ p m. inside (page_block image p) (Duty.Page p) (page_serves p m);
+    apart = λ p q m n e.
+        let also : HasDuty t l (page_block image p) (Duty.Page q) = page_serves q n ∙ ap Some (sym e) in
+        let same = s.fits.one_duty (page_block image p) (Duty.Page p) (Duty.Page q) (page_serves p m) also in
+        cc same;
+    beside_root = λ p m e.
+        let at_root : t.nodes (page_block image p) ≡ Some loose.root_node.0 = ap t.nodes (e ∙ root_is) ∙ loose.root_node.1 in
+        let same = s.fits.one_duty (page_block image p) (Duty.Page p) Duty.Key (page_serves p m) (key_serves _ loose.root_node.0 at_root) in
+        cc same;
+  }
+
+  pub name_is : (k : ℕ) (node : Node) → t.nodes k ≡ Some node → name_at image k ≡ node.name
+  name_is k node e = text_is image k name_byte node.name (s.nodes k node e).name
+
+  -- the slot of a node in the image is that of its name
+  pub slot_is : (k : ℕ) (node : Node) → t.nodes k ≡ Some node → slot_at image k ≡ slot (name_of t k)
+  slot_is k node e = ap slot (name_is k node e) ∙ sym (rw e refl)
+
+  pub name_valid : (k : ℕ) (node : Node) → t.nodes k ≡ Some node → IsName (name_at image k)
+  name_valid k node e = subst IsName (sym (name_is k node e)) (loose.name k node e)
+
+  -- a node with a parent is not the root
+  pub not_root : (k d : ℕ) → parent_of t k ≡ Some d → k ≢ root t
+  not_root k d p e =
+      let at : t.nodes k ≡ Some loose.root_node.0 = ap t.nodes e ∙ loose.root_node.1 in
+      let none : parent_of t k ≡ None = rw at loose.root_node.2.no_parent in
+      cc (none, p)
+
+  -- no entry is its own directory
+  not_own_parent : (k : ℕ) → LeadsLoosely t key k → k ≢ key → parent_of t k ≡ Some k → ⊥
+  not_own_parent k (to_root r) n p = not_root k k p r
+  not_own_parent k (to_loose e) n p = n e
+  not_own_parent k (to_parent {dir = d} m q rest) n p =
+      let same : d ≡ k = cc (q, p) in
+      not_own_parent d rest (λ e. n (sym same ∙ e)) (subst (λ (i : ℕ). parent_of t i ≡ Some i) (sym same) p)
+
+  -- the block of a node may be an entry's
+  pub node_block : (dir k : ℕ) (node : Node) → t.nodes k ≡ Some node → k ≢ root t → k ≢ dir → IsEntryBlock image dir k
+  node_block dir k node e n m = record { inside = inside k Duty.Key (key_serves k node e); not_root = λ r. n (r ∙ root_is); not_dir = m; name = name_valid k node e }
+
+  entry_block : (dir k : ℕ) → Contains (entries t dir) k → IsEntryBlock image dir k
+  entry_block dir k m =
+      let p = (loose.listed dir k).0 m in
+      let n = parent_in (t.nodes k) dir p.1 in
+      node_block dir k n.0 n.1 (not_root k dir p.1) (λ e. not_own_parent k (loose.rooted k n.0 n.1) p.0 (p.1 ∙ ap Some (sym e)))
+
+  pub in_part : (dir q k : ℕ) → Contains (in_slot t dir q) k → Contains (entries t dir) k
+  in_part dir q k m = Contains-part (λ k. slot (name_of t k) == q) (entries t dir) k m
+
+  pub slotted : (dir q k : ℕ) → Contains (in_slot t dir q) k → slot (name_of t k) ≡ q
+  slotted dir q k m = eqb-true (slot (name_of t k)) q (All-contains (λ k. (slot (name_of t k) == q) ≡ true) (in_slot t dir q) k (filter_passes (λ k. slot (name_of t k) == q) (entries t dir)) m)
+
+  pub lawful_chains : (dir : ℕ) (node : Node) (keys : List ℕ) → t.nodes dir ≡ Some node → node.content ≡ Directory keys → LawfulChains image dir (in_slot t dir)
+  lawful_chains dir node keys e c = record {
+    inside = inside dir Duty.Key (key_serves dir node e);
+    spelled = λ q m. s.chains dir node keys q e c m;
+    once = λ q m. AllPairs-filter (λ a b. a ≢ b) (λ k. slot (name_of t k) == q) (entries t dir) (loose.once dir);
+    entry = λ q k m n. entry_block dir k (in_part dir q k n);
+    slotted = λ q k m n.
+        let p = (loose.listed dir k).0 (in_part dir q k n) in
+        let a = parent_in (t.nodes k) dir p.1 in
+        slot_is k a.0 a.1 ∙ slotted dir q k n;
+  }
+
+  -- the loose key is in no chain
+  pub absent : (dir : ℕ) → ¬ InChains (in_slot t dir) key
+  absent dir c = ((loose.listed dir key).0 (in_part dir c.0 key c.2)).0 refl
+
+  -- an entry is in the chains of one directory
+  pub one_directory : (d dir k : ℕ) → InChains (in_slot t d) k → InChains (in_slot t dir) k → d ≡ dir
+  one_directory d dir k c e =
+      let p = (loose.listed d k).0 (in_part d c.0 k c.2) in
+      let q = (loose.listed dir k).0 (in_part dir e.0 k e.2) in
+      cc (p.1, q.1)

@@ -1,0 +1,151 @@
+-- An entry that is put into a directory's chain or taken out of it: what the image spells then.
+use Rattle.std.proofs.Common.{◌≡◌, ◌≢◌, ℕ, ◌+◌, ◌<◌, ◌≤◌, ◌⊎◌, inl, inr, List, ◌∷◌, filter, ◌==◌, Contains, Some, is_some, IsSome, refl, sym, ap, ◌∙◌, subst, arith, eq-eqb}
+use Rattle.std.proofs.lemmas.Bool.{cases_eq}
+use Rattle.std.proofs.lemmas.List.Elements.{Contains-append_left}
+use Rattle.adf_block.specs.Image.{block_sum, long}
+use Rattle.adf_block.specs.Chained.{Chained}
+use Rattle.adf_block.specs.Fields.{table_entry, next_in_chain}
+use Rattle.ados_name.specs.declared.Date3.{Date3}
+use Rattle.ados_name.specs.Name.{slot}
+use Rattle.ados_chain.specs.Chains.{slot_at, with_last}
+use Rattle.ados_chain.specs.Relinks.{CanInsert, CanUnlink, InsertsLast, Unlinks, link_block, link_long}
+use Rattle.ados_chain.proofs.Changes.{slot_at-small}
+use Rattle.ados_chain.proofs.Kept.{inserted-others_kept, unlinked-others_kept}
+use Rattle.ados_chain.proofs.Lists.{is_not}
+use Rattle.ados_tree.specs.Tree.{Node, Tree, root, entries, name_of, parent_of}
+use Rattle.ados_tree.specs.Tree.Content.{Directory}
+use Rattle.ados_tree.specs.Change.{listed, entered, enter, stamped}
+use Rattle.ados_tree.specs.Layout.{Layout}
+use Rattle.ados_tree.specs.Stands.{in_slot}
+use Rattle.ados_change.specs.steps.Writes.{AtDate, Dated}
+use Rattle.ados_change.proofs.Frame.{sum-kept, long-kept}
+use Rattle.ados_tree.proofs.Nodes.{parent_in}
+use Rattle.ados_change.proofs.Entering.{Contains-passes}
+use Rattle.ados_change.proofs.Loose.{Loose}
+use Rattle.ados_change.proofs.Spells.{Spells}
+use Rattle.ados_change.proofs.Slots.{slots_other, slots_entered, slots_left}
+use Rattle.ados_change.proofs.Lawful.{lawful_chains, absent, one_directory, not_root, slot_is, in_part, node_block}
+use Rattle.ados_change.proofs.Relisted.{IsLinkPlace, link_place, relisted_spells}
+use Rattle.ados_change.proofs.Relisted.IsLinkPlace.{in_table}
+use Rattle.ados_change.proofs.Reframed.{TellsOnly, Chained-stays, node_stays, entry_stays, reframed}
+use Rattle.ados_change.proofs.Reframed.Telling.{sum, heading}
+
+module _ (image : List ℕ) (t : Tree) (l : Layout) (loose_key : ℕ) (s : Spells image t l) (loose : Loose t loose_key) (dir : ℕ) (a : Node) (keys : List ℕ) (at : t.nodes dir ≡ Some a) (holds : a.content ≡ Directory keys) where
+  -- the link behind entries of a chain of the directory
+  pub place_behind : (q : ℕ) → q < 72 → (front : List ℕ) → ((k : ℕ) → Contains front k → Contains (in_slot t dir q) k) → IsLinkPlace t dir (link_block dir front) (link_long (6 + q) front)
+  place_behind q m front within =
+      link_place t dir dir (6 + q) front (in_table refl (omega arith) (omega arith))
+      (λ k n.
+      let p = (loose.listed dir k).0 (in_part image t l loose_key s loose dir q k (within k n)) in
+      let b = parent_in (t.nodes k) dir p.1 in
+      (b.0, b.1, not_root image t l loose_key s loose k dir p.1))
+
+  -- an entry of the directory can be taken out
+  pub can_unlink : (key : ℕ) → Contains (entries t dir) key → CanUnlink image dir key
+  can_unlink key m = record {
+    chains = in_slot t dir;
+    lawful = lawful_chains image t l loose_key s loose dir a keys at holds;
+    listed = (slot (name_of t key), omega arith, in_own_slot (entries t dir) key m);
+  }
+    where
+      in_own_slot : (xs : List ℕ) (k : ℕ) → Contains xs k → Contains (filter (λ j. slot (name_of t j) == slot (name_of t k)) xs) k
+      in_own_slot xs k n = Contains-passes (λ j. slot (name_of t j) == slot (name_of t k)) xs k n (eq-eqb (slot (name_of t k)) (slot (name_of t k)) refl)
+
+-- ---- the loose key is put in
+
+module _ (old mid new : List ℕ) (t : Tree) (l : Layout) (key : ℕ) (s : Spells old t l) (loose : Loose t key) (dir : ℕ) (a : Node) (keys : List ℕ) (at : t.nodes dir ≡ Some a) (holds : a.content ≡ Directory keys)
+    (node : Node) (at_key : t.nodes key ≡ Some node) (not_dir : key ≢ dir) where
+  pub can_insert : CanInsert old dir key
+  can_insert = record {
+    chains = in_slot t dir;
+    lawful = lawful_chains old t l key s loose dir a keys at holds;
+    entry = node_block old t l key s loose dir key node at_key loose.not_root not_dir;
+    absent = absent old t l key s loose dir;
+  }
+
+  module _ (inserts : InsertsLast dir key (in_slot t dir) old mid) (moment : Date3) (redated : Dated dir 105 moment mid new) where
+    own_slot : slot_at old key ≡ slot (name_of t key)
+    own_slot = slot_is old t l key s loose key node at_key
+
+    chains : (d : ℕ) (b : Node) (ks : List ℕ) (q : ℕ) → t.nodes d ≡ Some b → b.content ≡ Directory ks → q < 72 → Chained mid next_in_chain (table_entry mid d q) (in_slot (entered moment dir key t) d q)
+    chains d b ks q e c m = elim (cases_eq d dir) [
+      | inl same ↦
+          let lists : with_last (in_slot t dir) (slot_at old key) key q ≡ in_slot (entered moment dir key t) dir q = ap (λ (p : ℕ). with_last (in_slot t dir) p key q) own_slot ∙ sym (slots_entered t dir moment a at key (loose.rising dir) q) in
+          subst (λ (i : ℕ). Chained mid next_in_chain (table_entry mid i q) (in_slot (entered moment dir key t) i q)) (sym same)
+          (subst (Chained mid next_in_chain (table_entry mid dir q)) lists (inserts.lawful.spelled q m))
+      | inr other ↦
+          let kept = inserted-others_kept old mid dir key (in_slot t dir) inserts d (in_slot t d) (lawful_chains old t l key s loose d b ks e c) other (absent old t l key s loose d) (λ k x y. other (one_directory old t l key s loose d dir k x y)) in
+          subst (Chained mid next_in_chain (table_entry mid d q)) (sym (slots_other t dir moment (enter (λ k. slot (name_of t k)) key (entries t dir)) d q other)) (kept.spelled q m)
+    ]
+
+    pub entered_spells : Spells new (entered moment dir key t) l
+    entered_spells =
+        relisted_spells old mid new t l key s loose dir a keys at holds key node at_key loose.not_root
+        (link_block dir (in_slot t dir (slot_at old key))) (link_long (6 + slot_at old key) (in_slot t dir (slot_at old key))) key
+        (place_behind old t l key s loose dir a keys at holds (slot_at old key) (slot_at-small old key) (in_slot t dir (slot_at old key)) (λ k m. m)) inserts.relinks moment redated
+        (enter (λ k. slot (name_of t k)) key (entries t dir)) chains
+
+-- ---- an entry is taken out
+
+module _ (old mid new : List ℕ) (t : Tree) (l : Layout) (loose_key : ℕ) (s : Spells old t l) (loose : Loose t loose_key) (from : ℕ) (a : Node) (keys : List ℕ) (at : t.nodes from ≡ Some a) (holds : a.content ≡ Directory keys)
+    (key : ℕ) (node : Node) (at_key : t.nodes key ≡ Some node) (below : node.parent ≡ Some from)
+    (unlinks : Unlinks from key (in_slot t from) old mid) (moment : Date3) (redated : Dated from 105 moment mid new) where
+  chains_left : (d : ℕ) (b : Node) (ks : List ℕ) (q : ℕ) → t.nodes d ≡ Some b → b.content ≡ Directory ks → q < 72 → Chained mid next_in_chain (table_entry mid d q) (in_slot (listed moment from (filter (is_not key) (entries t from)) t) d q)
+  chains_left d b ks q e c m = elim (cases_eq d from) [
+    | inl same ↦
+        subst (λ (i : ℕ). Chained mid next_in_chain (table_entry mid i q) (in_slot (listed moment from (filter (is_not key) (entries t from)) t) i q)) (sym same)
+        (subst (Chained mid next_in_chain (table_entry mid from q)) (sym (slots_left t from moment a at key q)) (unlinks.lawful.spelled q m))
+    | inr other ↦
+        let kept = unlinked-others_kept old mid from key (in_slot t from) unlinks d (in_slot t d) (lawful_chains old t l loose_key s loose d b ks e c) other (λ k x y. other (one_directory old t l loose_key s loose d from k x y)) in
+        subst (Chained mid next_in_chain (table_entry mid d q)) (sym (slots_other t from moment (filter (is_not key) (entries t from)) d q other)) (kept.spelled q m)
+  ]
+
+  parent : parent_of t key ≡ Some from
+  parent = rw at_key below
+
+  pub left_spells : Spells new (listed moment from (filter (is_not key) (entries t from)) t) l
+  left_spells =
+      relisted_spells old mid new t l loose_key s loose from a keys at holds key node at_key (not_root old t l loose_key s loose key from parent)
+      (link_block from unlinks.front) (link_long (6 + slot_at old key) unlinks.front) (long old key next_in_chain)
+      (place_behind old t l loose_key s loose from a keys at holds (slot_at old key) (slot_at-small old key) unlinks.front
+      (λ k m. subst (λ (xs : List ℕ). Contains xs k) (sym unlinks.split) (Contains-append_left unlinks.front (key ∷ unlinks.back) k m)))
+      unlinks.relinks moment redated (filter (is_not key) (entries t from)) chains_left
+
+-- ---- the disk date
+
+module _ (old new : List ℕ) (t : Tree) (l : Layout) (key : ℕ) (s : Spells old t l) (loose : Loose t key) (moment : Date3) (r : Dated (root t) 118 moment old new) where
+  abbrev W : ℕ → ℕ → Type 0
+  W = AtDate (root t) 118
+
+  tells : TellsOnly t W
+  tells = record {
+    of_key = λ b j w. ap is_some (ap t.nodes w.0 ∙ loose.root_node.1);
+    telling = λ b j w. elim (w.1) [ inl e ↦ sum e | inr e ↦ heading (omega (arith, e.0)) e.1 ];
+  }
+
+  free : (b j : ℕ) → j ≢ 5 → (j < 118) ⊎ (121 ≤ j) → ¬ W b j
+  free b j n o w = elim (w.1) [ inl e ↦ n e | inr e ↦ elim o [ inl x ↦ omega (arith, e.0, x) | inr x ↦ omega (arith, e.1, x) ] ]
+
+  size : (t.blocks ≤ 101602) × (16 ≤ t.blocks)
+  size = (loose.size.1, loose.size.0)
+
+  root_some : IsSome (t.nodes (root t))
+  root_some = ap is_some loose.root_node.1
+
+  summed : (k : ℕ) → block_sum old k ≡ 0 → block_sum new k ≡ 0
+  summed k was = elim (cases_eq k (root t)) [
+    | inl e ↦ ap (block_sum new) e ∙ r.summed
+    | inr n ↦ sum-kept W old new r.rest k (λ j m w. n w.0) ∙ was
+  ]
+
+  pub stamped_spells : Spells new (stamped moment t) l
+  stamped_spells =
+      reframed old new t l s root_some size W tells r.rest t.nodes moment
+      (record { same_keys = λ k. refl; was_file = λ k a bytes e c. (a, e, c); same_size = λ d k. refl })
+      r.date
+      (λ k a e. let g = s.nodes k a e in node_stays old new t l s root_some size W tells r.rest k a (loose.name k a e) (λ j p q. free k j (omega arith) (inl (omega arith))) (summed k g.sum) g)
+      (λ k d a e p. entry_stays old new t l s root_some size W tells r.rest k d a (loose.comment k a e) (λ j p q. free k j (omega arith) (inl (omega arith))) (free k 125 (omega arith) (inr (omega arith))) (s.entries k d a e p))
+      (λ d a keys q e c m.
+      let link : (b j : ℕ) → j < 128 → j ≢ 5 → (j < 118) ⊎ (121 ≤ j) → long new b j ≡ long old b j = λ b j n o p. long-kept W old new r.rest b j n (free b j o p) in
+      subst (λ (first : ℕ). Chained new next_in_chain first (in_slot t d q)) (sym (link d (6 + q) (omega (arith, m)) (omega arith) (inl (omega (arith, m)))))
+      (Chained-stays old new next_in_chain (table_entry old d q) (in_slot t d q) (λ b n. link b 124 (omega arith) (omega arith) (inr (omega arith))) (s.chains d a keys q e c m)))

@@ -1,0 +1,425 @@
+-- A tree in which one key stands in no list: between the steps of a change.
+use Rattle.std.proofs.Common.{◌≡◌, ◌≢◌, ℕ, ◌≤◌, ◌⊎◌, inl, inr, ◌↔◌, ◌==◌, not, List, [], filter, map, slice_index_or, AllPairs, Contains, Option, Some, None, option_map, option_and_then, refl, sym, ap, ◌∙◌, subst, arith}
+use Rattle.std.specs.Option.{option_map_or}
+use Rattle.std.proofs.lemmas.Bool.{cases_eq}
+use Rattle.std.proofs.lemmas.List.Elements.{Contains-get_or}
+use Rattle.std.proofs.lemmas.List.Kept.{AllPairs-filter}
+use Rattle.adf_block.specs.Image.{IsSize, IsInside}
+use Rattle.ados_name.specs.declared.Date3.{Date3}
+use Rattle.ados_name.specs.Name.{Same, slot, upper, IsName, IsComment}
+use Rattle.ados_chain.proofs.Lists.{Contains-nil, Contains-filter, Once, is_not}
+use Rattle.ados_tree.specs.Tree.{Node, Tree, Proper, LeadsToRoot, IsRoot, root, entries, entries_in, name_in, name_of, parent_of}
+use Rattle.ados_tree.specs.Tree.LeadsToRoot.{at_root, by_parent}
+use Rattle.ados_tree.specs.Change.{with_node, listed, enter, entered, left, stamped}
+use Rattle.ados_tree.proofs.Nodes.{entry_node, directory_node, parent_in}
+use Rattle.ados_change.proofs.Entering.{Contains-enter, Contains-entered, Contains-enter_kept, Once-enter, Rises-enter, Contains-stays, Contains-left}
+use Rattle.ados_change.proofs.Changed.{nodes_here, nodes_other, was, was_with, relisted, listed_names, listed_parents, listed_here, listed_other}
+
+-- repeated parents lead from the key to the root, or to the loose key
+pub data LeadsLoosely (t : Tree) (loose : ℕ) : ℕ → Type 0 where
+  to_root : {key : ℕ} → key ≡ root t → LeadsLoosely t loose key
+  to_loose : {key : ℕ} → key ≡ loose → LeadsLoosely t loose key
+  to_parent : {key dir : ℕ} → key ≢ loose → parent_of t key ≡ Some dir → LeadsLoosely t loose dir → LeadsLoosely t loose key
+
+-- one tree with its lists in order, but for a key that stands in no list; it may be a node or not
+pub record Loose (t : Tree) (loose : ℕ) : Type 0 where
+  pub size : IsSize t.blocks
+  pub inside : (key : ℕ) (node : Node) → t.nodes key ≡ Some node → IsInside t.blocks key
+  pub root_node : (node : Node) × (t.nodes (root t) ≡ Some node) × IsRoot node
+  pub not_root : loose ≢ root t
+  pub listed : (dir key : ℕ) → Contains (entries t dir) key ↔ ((key ≢ loose) × (parent_of t key ≡ Some dir))
+  pub once : (dir : ℕ) → AllPairs (λ j k. j ≢ k) (entries t dir)
+  pub unlike : (dir j k : ℕ) → Contains (entries t dir) j → Contains (entries t dir) k → Same (name_of t j) (name_of t k) → j ≡ k
+  pub rising : (dir : ℕ) → AllPairs (λ j k. slot (name_of t j) ≤ slot (name_of t k)) (entries t dir)
+  pub rooted : (key : ℕ) (node : Node) → t.nodes key ≡ Some node → LeadsLoosely t loose key
+  pub name : (key : ℕ) (node : Node) → t.nodes key ≡ Some node → IsName node.name
+  pub comment : (key : ℕ) (node : Node) → t.nodes key ≡ Some node → IsComment node.comment
+
+-- the root stays one where it gets another list
+root_relisted : (moment : Date3) (dir : ℕ) (keys : List ℕ) (t : Tree) → (node : Node) × (t.nodes (root t) ≡ Some node) × IsRoot node → (node : Node) × ((listed moment dir keys t).nodes (root t) ≡ Some node) × IsRoot node
+root_relisted moment dir keys t (node, at, is) = elim (cases_eq (root t) dir) [
+  | inl e ↦ (
+    relisted moment keys node,
+    ap (listed moment dir keys t).nodes e ∙ nodes_here dir (option_map (relisted moment keys) (t.nodes dir)) t ∙ ap (option_map (relisted moment keys)) (ap t.nodes (sym e) ∙ at),
+    record { no_parent = is.no_parent; no_protection = is.no_protection; no_comment = is.no_comment; keys = keys; directory = refl },
+  )
+  | inr n ↦ (node, nodes_other dir (option_map (relisted moment keys) (t.nodes dir)) t (root t) n ∙ at, is)
+]
+
+-- the order of the slots of names that stay
+rising_kept : (names names' : ℕ → List ℕ) (keys : List ℕ) → ((k : ℕ) → names' k ≡ names k) → AllPairs (λ j k. slot (names j) ≤ slot (names k)) keys → AllPairs (λ j k. slot (names' j) ≤ slot (names' k)) keys
+rising_kept names names' keys same h = subst (λ (nm : ℕ → List ℕ). AllPairs (λ j k. slot (nm j) ≤ slot (nm k)) keys) (λ i k. sym (same k) i) h
+
+-- ---- a key that leaves its list
+
+module _ (t : Tree) (proper : Proper t) (key from : ℕ) (below : parent_of t key ≡ Some from) (moment : Date3) where
+  abbrev pub kept : List ℕ
+  kept = filter (is_not key) (entries t from)
+
+  -- the tree without the key in its directory's list
+  abbrev pub l : Tree
+  l = listed moment from kept t
+
+  pub in_list : Contains (entries t from) key
+  in_list = (proper.listed from key).1 below
+
+  directory : Node
+  directory = (directory_node t proper from key in_list).0
+
+  directory_at : t.nodes from ≡ Some directory
+  unfolding directory
+  directory_at = (directory_node t proper from key in_list).2
+
+  pub entries_from : entries l from ≡ kept
+  entries_from = listed_here moment from kept t directory directory_at
+
+  pub entries_other : (d : ℕ) → d ≢ from → entries l d ≡ entries t d
+  entries_other = listed_other moment from kept t
+
+  pub names_same : (k : ℕ) → name_of l k ≡ name_of t k
+  names_same = listed_names moment from kept t
+
+  pub parents_same : (k : ℕ) → parent_of l k ≡ parent_of t k
+  parents_same = listed_parents moment from kept t
+
+  -- what stands in a list stood in it
+  pub was_listed : (d k : ℕ) → Contains (entries l d) k → Contains (entries t d) k × (k ≢ key)
+  was_listed d k m = elim (cases_eq d from) [
+    | inl e ↦
+        let n : Contains kept k = subst (λ (keys : List ℕ). Contains keys k) (ap (entries l) e ∙ entries_from) m in
+        (subst (λ (i : ℕ). Contains (entries t i) k) (sym e) (Contains-filter key (entries t from) k n), λ same. Contains-left key (entries t from) (subst (Contains kept) same n))
+    | inr o ↦
+        let n : Contains (entries t d) k = subst (λ (keys : List ℕ). Contains keys k) (entries_other d o) m in (
+          n,
+          λ same.
+              let there : parent_of t key ≡ Some d = ap (parent_of t) (sym same) ∙ (proper.listed d k).0 n in
+              o (cc (there, below)),
+        )
+  ]
+
+  still_listed : (d k : ℕ) → Contains (entries t d) k → k ≢ key → Contains (entries l d) k
+  still_listed d k m n = elim (cases_eq d from) [
+    | inl e ↦ subst (λ (keys : List ℕ). Contains keys k) (sym (ap (entries l) e ∙ entries_from)) (Contains-stays key (entries t from) k (subst (λ (i : ℕ). Contains (entries t i) k) e m) n)
+    | inr o ↦ subst (λ (keys : List ℕ). Contains keys k) (sym (entries_other d o)) m
+  ]
+
+  -- pairs of entries that stay
+  pairs_kept : (R : ℕ → ℕ → Type 0) (d : ℕ) → ((e : ℕ) → AllPairs R (entries t e)) → AllPairs R (entries l d)
+  pairs_kept R d h = elim (cases_eq d from) [
+    | inl e ↦ subst (AllPairs R) (sym (ap (entries l) e ∙ entries_from)) (AllPairs-filter R (is_not key) (entries t from) (h from))
+    | inr o ↦ subst (AllPairs R) (sym (entries_other d o)) (h d)
+  ]
+
+  leads : (k : ℕ) → LeadsToRoot t k → LeadsLoosely l key k
+  leads k (at_root e) = to_root e
+  leads k (by_parent {dir = d} p rest) = go (leads d rest) (cases_eq k key)
+    where
+      go : LeadsLoosely l key d → (k ≡ key) ⊎ (k ≡ key → ⊥) → LeadsLoosely l key k
+      go below (inl e) = to_loose e
+      go below (inr n) = to_parent n (parents_same k ∙ p) below
+
+  pub key_not_root : key ≢ root t
+  key_not_root e =
+      let none : parent_of t key ≡ None = let at : t.nodes key ≡ Some proper.root_node.0 = ap t.nodes e ∙ proper.root_node.1 in rw at proper.root_node.2.no_parent in
+      cc (none, below)
+
+  pub unlisted_is_loose : Loose l key
+  unlisted_is_loose = record {
+    size = proper.size;
+    inside = λ k a e. let w = was (relisted moment kept) from t k a e in proper.inside k w.old w.at;
+    root_node = root_relisted moment from kept t proper.root_node;
+    not_root = key_not_root;
+    listed = λ d k. (λ m. let w = was_listed d k m in (w.1, parents_same k ∙ (proper.listed d k).0 w.0), λ h. still_listed d k ((proper.listed d k).1 (sym (parents_same k) ∙ h.1)) h.0);
+    once = λ d. pairs_kept (λ j k. j ≢ k) d proper.once;
+    unlike = λ d j k m n same. proper.unlike d j k (was_listed d j m).0 (was_listed d k n).0 (ap (map upper) (sym (names_same j)) ∙ same ∙ ap (map upper) (names_same k));
+    rising = λ d. rising_kept (name_of t) (name_of l) (entries l d) names_same (pairs_kept (λ j k. slot (name_of t j) ≤ slot (name_of t k)) d proper.rising);
+    rooted = λ k a e. let w = was (relisted moment kept) from t k a e in leads k (proper.rooted k w.old w.at);
+    name = λ k a e. let w = was (relisted moment kept) from t k a e in was_with (λ n. IsName n.name) (relisted moment kept) from t k a (λ n h. h) w (proper.name k w.old w.at);
+    comment = λ k a e. let w = was (relisted moment kept) from t k a e in was_with (λ n. IsComment n.comment) (relisted moment kept) from t k a (λ n h. h) w (proper.comment k w.old w.at);
+  }
+
+  pub left_is : left moment key t ≡ l
+  left_is = ap (λ (o : Option ℕ). option_map_or (λ dir. listed moment dir (filter (λ k. not (k == key)) (entries t dir)) t) o t) below
+
+  -- an entry is not its own directory
+  pub not_own_parent : from ≢ key
+  not_own_parent e = go key (proper.rooted key node.0 node.1) (below ∙ ap Some e)
+    where
+      node : (a : Node) × (t.nodes key ≡ Some a) × (a.parent ≡ Some from)
+      node = parent_in (t.nodes key) from below
+
+      go : (k : ℕ) → LeadsToRoot t k → parent_of t k ≡ Some k → ⊥
+      go k (at_root r) p =
+          let at : t.nodes k ≡ Some proper.root_node.0 = ap t.nodes r ∙ proper.root_node.1 in
+          let none : parent_of t k ≡ None = rw at proper.root_node.2.no_parent in
+          cc (none, p)
+      go k (by_parent {dir = d} q rest) p =
+          let same : d ≡ k = cc (q, p) in
+          go d rest (subst (λ (i : ℕ). parent_of t i ≡ Some i) (sym same) p)
+
+  -- its own node stays
+  pub node_kept : l.nodes key ≡ t.nodes key
+  node_kept = nodes_other from (option_map (relisted moment kept) (t.nodes from)) t key (λ e. not_own_parent (sym e))
+
+  -- what is a node stays one
+  pub still_node : (k : ℕ) (a : Node) → t.nodes k ≡ Some a → (b : Node) × (l.nodes k ≡ Some b)
+  still_node k a e = elim (cases_eq k from) [
+    | inl d ↦ (relisted moment kept a, ap l.nodes d ∙ nodes_here from (option_map (relisted moment kept) (t.nodes from)) t ∙ ap (option_map (relisted moment kept)) (ap t.nodes (sym d) ∙ e))
+    | inr n ↦ (a, nodes_other from (option_map (relisted moment kept) (t.nodes from)) t k n ∙ e)
+  ]
+
+-- ---- a key that is no node yet
+
+pub unused_is_loose : (t : Tree) (key : ℕ) → Proper t → t.nodes key ≡ None → Loose t key
+unused_is_loose t key proper unused = record {
+  size = proper.size;
+  inside = proper.inside;
+  root_node = proper.root_node;
+  not_root = λ e. let at = ap t.nodes e ∙ proper.root_node.1 in cc (at, unused);
+  listed = λ d k. (
+    λ m.
+        let n = entry_node t proper d k m in
+        (λ e. let at = ap t.nodes (sym e) ∙ n.1 in cc (at, unused), (proper.listed d k).0 m),
+    λ h. (proper.listed d k).1 h.1,
+  );
+  once = proper.once;
+  unlike = proper.unlike;
+  rising = proper.rising;
+  rooted = λ k a e. leads k (proper.rooted k a e);
+  name = proper.name;
+  comment = proper.comment;
+}
+  where
+    leads : (k : ℕ) → LeadsToRoot t k → LeadsLoosely t key k
+    leads k (at_root e) = to_root e
+    leads k (by_parent {dir = d} p rest) = go (leads d rest) (cases_eq k key)
+      where
+        go : LeadsLoosely t key d → (k ≡ key) ⊎ (k ≡ key → ⊥) → LeadsLoosely t key k
+        go below (inl e) = to_loose e
+        go below (inr n) = to_parent n p below
+
+-- a proper tree has no node in block 0
+pub proper_is_loose : (t : Tree) → Proper t → Loose t 0
+proper_is_loose t proper = unused_is_loose t 0 proper (none (t.nodes 0) refl)
+  where
+    none : (o : Option Node) → t.nodes 0 ≡ o → o ≡ None
+    none None e = refl
+    none (Some a) e = absurd (let inside = proper.inside 0 a e in omega (arith, inside.0))
+
+-- ---- the node of the loose key is changed, made or taken away
+
+module _ (t : Tree) (key : ℕ) (loose : Loose t key) (o : Option Node) (same_list : entries_in (option_map (λ node. node.content) o) ≡ entries t key) where
+  abbrev w : Tree
+  w = with_node key o t
+
+  pub node_other : (k : ℕ) → k ≢ key → w.nodes k ≡ t.nodes k
+  node_other k n = nodes_other key o t k n
+
+  pub name_other : (k : ℕ) → k ≢ key → name_of w k ≡ name_of t k
+  name_other k n = ap name_in (node_other k n)
+
+  pub parent_other : (k : ℕ) → k ≢ key → parent_of w k ≡ parent_of t k
+  parent_other k n = ap (option_and_then (λ node. node.parent)) (node_other k n)
+
+  pub entries_with : (d : ℕ) → entries w d ≡ entries t d
+  entries_with d = elim (cases_eq d key) [
+    | inl e ↦ ap (λ (o : Option Node). entries_in (option_map (λ node. node.content) o)) (ap w.nodes e ∙ nodes_here key o t) ∙ same_list ∙ ap (entries t) (sym e)
+    | inr n ↦ ap (λ (o : Option Node). entries_in (option_map (λ node. node.content) o)) (node_other d n)
+  ]
+
+  listed_before : (d k : ℕ) → Contains (entries w d) k → Contains (entries t d) k
+  listed_before d k m = subst (λ (keys : List ℕ). Contains keys k) (entries_with d) m
+
+  listed_after : (d k : ℕ) → Contains (entries t d) k → Contains (entries w d) k
+  listed_after d k m = subst (λ (keys : List ℕ). Contains keys k) (sym (entries_with d)) m
+
+  pub not_key : (d k : ℕ) → Contains (entries t d) k → k ≢ key
+  not_key d k m = ((loose.listed d k).0 m).0
+
+  once_with : (d : ℕ) → Once (entries w d)
+  once_with d = subst Once (sym (entries_with d)) (loose.once d)
+
+  unlike_with : (d j k : ℕ) → Contains (entries w d) j → Contains (entries w d) k → Same (name_of w j) (name_of w k) → j ≡ k
+  unlike_with d j k m n same =
+      let p = listed_before d j m in
+      let q = listed_before d k n in
+      loose.unlike d j k p q (ap (map upper) (sym (name_other j (not_key d j p))) ∙ same ∙ ap (map upper) (name_other k (not_key d k q)))
+
+  rising_with : (d : ℕ) → AllPairs (λ j k. slot (name_of w j) ≤ slot (name_of w k)) (entries w d)
+  rising_with d = subst (AllPairs (λ j k. slot (name_of w j) ≤ slot (name_of w k))) (sym (entries_with d)) (λ i j e l m.
+      let first = Contains-get_or (entries t d) i e (omega arith) in
+      let second = Contains-get_or (entries t d) j e m in
+      let low : name_of w (slice_index_or (entries t d) i e) ≡ name_of t (slice_index_or (entries t d) i e) = name_other _ (not_key d _ first) in
+      let high : name_of w (slice_index_or (entries t d) j e) ≡ name_of t (slice_index_or (entries t d) j e) = name_other _ (not_key d _ second) in
+      subst (λ (nm : List ℕ). slot nm ≤ slot (name_of w (slice_index_or (entries t d) j e))) (sym low) (subst (λ (nm : List ℕ). slot (name_of t (slice_index_or (entries t d) i e)) ≤ slot nm) (sym high) (loose.rising d i j e l m)))
+
+  root_with : (node : Node) × (w.nodes (root t) ≡ Some node) × IsRoot node
+  root_with = (loose.root_node.0, node_other (root t) (λ e. loose.not_root (sym e)) ∙ loose.root_node.1, loose.root_node.2)
+
+  leads_with : (k : ℕ) → LeadsLoosely t key k → LeadsLoosely w key k
+  leads_with k (to_root e) = to_root e
+  leads_with k (to_loose e) = to_loose e
+  leads_with k (to_parent {dir = d} n p rest) = to_parent n (parent_other k n ∙ p) (leads_with d rest)
+
+  -- a fact of all nodes but that of the key
+  each_with : (P : ℕ → Node → Type 0) → ((k : ℕ) (a : Node) → t.nodes k ≡ Some a → P k a) → ((a : Node) → o ≡ Some a → P key a) → (k : ℕ) (a : Node) → w.nodes k ≡ Some a → P k a
+  each_with P h here k a e = elim (cases_eq k key) [
+    | inl d ↦ subst (λ (i : ℕ). P i a) (sym d) (here a (sym (nodes_here key o t) ∙ ap w.nodes (sym d) ∙ e))
+    | inr n ↦ h k a (sym (node_other k n) ∙ e)
+  ]
+
+  -- a node in its place leaves the key loose
+  pub changed_is_loose : ((a : Node) → o ≡ Some a → IsInside t.blocks key × IsName a.name × IsComment a.comment) → Loose w key
+  changed_is_loose here = record {
+    size = loose.size;
+    inside = each_with (λ k a. IsInside t.blocks k) loose.inside (λ a e. (here a e).0);
+    root_node = root_with;
+    not_root = loose.not_root;
+    listed = λ d k. (λ m. let p = (loose.listed d k).0 (listed_before d k m) in (p.0, parent_other k p.0 ∙ p.1), λ h. listed_after d k ((loose.listed d k).1 (h.0, sym (parent_other k h.0) ∙ h.1)));
+    once = once_with;
+    unlike = unlike_with;
+    rising = rising_with;
+    rooted = each_with (λ k a. LeadsLoosely w key k) (λ k a e. leads_with k (loose.rooted k a e)) (λ a e. to_loose refl);
+    name = each_with (λ k a. IsName a.name) loose.name (λ a e. (here a e).1);
+    comment = each_with (λ k a. IsComment a.comment) loose.comment (λ a e. (here a e).2);
+  }
+
+  -- with no node in its place, and none below it, the tree is proper
+  pub without_is_proper : o ≡ None → entries t key ≡ [] → Proper w
+  without_is_proper none empty = record {
+    size = loose.size;
+    inside = each_with (λ k a. IsInside t.blocks k) loose.inside (λ a e. absurd (no_node a e));
+    root_node = root_with;
+    listed = λ d k. (
+      λ m. let p = (loose.listed d k).0 (listed_before d k m) in parent_other k p.0 ∙ p.1,
+      λ h.
+          let n : k ≢ key = λ e. let at : w.nodes k ≡ None = ap w.nodes e ∙ nodes_here key o t ∙ none in let gone : parent_of w k ≡ None = ap (option_and_then (λ node. node.parent)) at in cc (gone, h) in
+          listed_after d k ((loose.listed d k).1 (n, sym (parent_other k n) ∙ h)),
+    );
+    once = once_with;
+    unlike = unlike_with;
+    rising = rising_with;
+    rooted = λ k a e.
+        let n : k ≢ key = λ d. no_node a (sym (nodes_here key o t) ∙ ap w.nodes (sym d) ∙ e) in
+        leads_on k n (loose.rooted k a (sym (node_other k n) ∙ e));
+    name = each_with (λ k a. IsName a.name) loose.name (λ a e. absurd (no_node a e));
+    comment = each_with (λ k a. IsComment a.comment) loose.comment (λ a e. absurd (no_node a e));
+  }
+    where
+      no_node : (a : Node) → o ≡ Some a → ⊥
+      no_node a e = cc (none, e)
+
+      -- nothing leads to the key but itself
+      leads_on : (k : ℕ) → k ≢ key → LeadsLoosely t key k → LeadsToRoot w k
+      leads_on k n (to_root e) = at_root e
+      leads_on k n (to_loose e) = absurd (n e)
+      leads_on k n (to_parent {dir = d} m p rest) =
+          let not_below : d ≢ key = λ e. Contains-nil k (subst (λ (keys : List ℕ). Contains keys k) (ap (entries t) e ∙ empty) ((loose.listed d k).1 (m, p))) in
+          by_parent (parent_other k n ∙ p) (leads_on d not_below rest)
+
+-- ---- the loose key enters a list
+
+module _ (t : Tree) (key dir : ℕ) (loose : Loose t key) (directory : Node) (at : t.nodes dir ≡ Some directory) (below : parent_of t key ≡ Some dir) (to_dir : LeadsToRoot t dir) (new_name : (k : ℕ) → Contains (entries t dir) k → ¬ Same (name_of t k) (name_of t key)) (moment : Date3) where
+  abbrev slot_of : ℕ → ℕ
+  slot_of k = slot (name_of t k)
+
+  abbrev more : List ℕ
+  more = enter slot_of key (entries t dir)
+
+  abbrev e : Tree
+  e = entered moment dir key t
+
+  entries_into : entries e dir ≡ more
+  entries_into = listed_here moment dir more t directory at
+
+  entries_beside : (d : ℕ) → d ≢ dir → entries e d ≡ entries t d
+  entries_beside = listed_other moment dir more t
+
+  names_stay : (k : ℕ) → name_of e k ≡ name_of t k
+  names_stay = listed_names moment dir more t
+
+  parents_stay : (k : ℕ) → parent_of e k ≡ parent_of t k
+  parents_stay = listed_parents moment dir more t
+
+  listed_is : (d k : ℕ) → Contains (entries e d) k → ((d ≡ dir) × (key ≡ k)) ⊎ Contains (entries t d) k
+  listed_is d k m = elim (cases_eq d dir) [
+    | inl same ↦
+        elim (Contains-enter slot_of key (entries t dir) k (subst (λ (keys : List ℕ). Contains keys k) (ap (entries e) same ∙ entries_into) m)) [
+          | inl h ↦ inl (same, h)
+          | inr h ↦ inr (subst (λ (i : ℕ). Contains (entries t i) k) (sym same) h)
+        ]
+    | inr other ↦ inr (subst (λ (keys : List ℕ). Contains keys k) (entries_beside d other) m)
+  ]
+
+  listed_kept : (d k : ℕ) → Contains (entries t d) k → Contains (entries e d) k
+  listed_kept d k m = elim (cases_eq d dir) [
+    | inl same ↦ subst (λ (keys : List ℕ). Contains keys k) (sym (ap (entries e) same ∙ entries_into)) (Contains-enter_kept slot_of key (entries t dir) k (subst (λ (i : ℕ). Contains (entries t i) k) same m))
+    | inr other ↦ subst (λ (keys : List ℕ). Contains keys k) (sym (entries_beside d other)) m
+  ]
+
+  not_listed : (d : ℕ) → ¬ Contains (entries t d) key
+  not_listed d m = ((loose.listed d key).0 m).0 refl
+
+  once_into : (d : ℕ) → Once (entries e d)
+  once_into d = elim (cases_eq d dir) [
+    | inl same ↦ subst Once (sym (ap (entries e) same ∙ entries_into)) (Once-enter slot_of key (entries t dir) (loose.once dir) (not_listed dir))
+    | inr other ↦ subst Once (sym (entries_beside d other)) (loose.once d)
+  ]
+
+  rising_into : (d : ℕ) → AllPairs (λ j k. slot_of j ≤ slot_of k) (entries e d)
+  rising_into d = elim (cases_eq d dir) [
+    | inl same ↦ subst (AllPairs (λ j k. slot_of j ≤ slot_of k)) (sym (ap (entries e) same ∙ entries_into)) (Rises-enter slot_of key (entries t dir) (loose.rising dir))
+    | inr other ↦ subst (AllPairs (λ j k. slot_of j ≤ slot_of k)) (sym (entries_beside d other)) (loose.rising d)
+  ]
+
+  unlike_into : (d j k : ℕ) → Contains (entries e d) j → Contains (entries e d) k → Same (name_of t j) (name_of t k) → j ≡ k
+  unlike_into d j k m n same = go (listed_is d j m) (listed_is d k n)
+    where
+      go : ((d ≡ dir) × (key ≡ j)) ⊎ Contains (entries t d) j → ((d ≡ dir) × (key ≡ k)) ⊎ Contains (entries t d) k → j ≡ k
+      go (inl p) (inl q) = sym p.1 ∙ q.1
+      go (inr p) (inr q) = loose.unlike d j k p q same
+      go (inl p) (inr q) = absurd (new_name k (subst (λ (i : ℕ). Contains (entries t i) k) p.0 q) (sym same ∙ ap (λ (i : ℕ). map upper (name_of t i)) (sym p.1)))
+      go (inr p) (inl q) = absurd (new_name j (subst (λ (i : ℕ). Contains (entries t i) j) q.0 p) (same ∙ ap (λ (i : ℕ). map upper (name_of t i)) (sym q.1)))
+
+  leads_up : (k : ℕ) → LeadsToRoot t k → LeadsToRoot e k
+  leads_up k (at_root r) = at_root r
+  leads_up k (by_parent {dir = d} p rest) = by_parent (parents_stay k ∙ p) (leads_up d rest)
+
+  leads_into : (k : ℕ) → LeadsLoosely t key k → LeadsToRoot e k
+  leads_into k (to_root r) = at_root r
+  leads_into k (to_loose r) = by_parent (parents_stay k ∙ ap (parent_of t) r ∙ below) (leads_up dir to_dir)
+  leads_into k (to_parent {dir = d} n p rest) = by_parent (parents_stay k ∙ p) (leads_into d rest)
+
+  pub entered_is_proper : Proper e
+  entered_is_proper = record {
+    size = loose.size;
+    inside = λ k a h. let w = was (relisted moment more) dir t k a h in loose.inside k w.old w.at;
+    root_node = root_relisted moment dir more t loose.root_node;
+    listed = λ d k. (λ m. parents_stay k ∙ was_parent d k (listed_is d k m), λ h. is_listed d k (sym (parents_stay k) ∙ h));
+    once = once_into;
+    unlike = λ d j k m n same. unlike_into d j k m n (ap (map upper) (sym (names_stay j)) ∙ same ∙ ap (map upper) (names_stay k));
+    rising = λ d. rising_kept (name_of t) (name_of e) (entries e d) names_stay (rising_into d);
+    rooted = λ k a h. let w = was (relisted moment more) dir t k a h in leads_into k (loose.rooted k w.old w.at);
+    name = λ k a h. let w = was (relisted moment more) dir t k a h in was_with (λ n. IsName n.name) (relisted moment more) dir t k a (λ n h. h) w (loose.name k w.old w.at);
+    comment = λ k a h. let w = was (relisted moment more) dir t k a h in was_with (λ n. IsComment n.comment) (relisted moment more) dir t k a (λ n h. h) w (loose.comment k w.old w.at);
+  }
+    where
+      was_parent : (d k : ℕ) → ((d ≡ dir) × (key ≡ k)) ⊎ Contains (entries t d) k → parent_of t k ≡ Some d
+      was_parent d k (inl p) = ap (parent_of t) (sym p.1) ∙ below ∙ ap Some (sym p.0)
+      was_parent d k (inr p) = ((loose.listed d k).0 p).1
+
+      is_listed : (d k : ℕ) → parent_of t k ≡ Some d → Contains (entries e d) k
+      is_listed d k h = elim (cases_eq k key) [
+        | inl same ↦
+            let here : parent_of t key ≡ Some d = ap (parent_of t) (sym same) ∙ h in
+            let dirs : dir ≡ d = cc (below, here) in
+            subst (λ (i : ℕ). Contains (entries e i) k) dirs (subst (λ (keys : List ℕ). Contains keys k) (sym entries_into) (subst (Contains more) (sym same) (Contains-entered slot_of key (entries t dir))))
+        | inr other ↦ listed_kept d k ((loose.listed d k).1 (other, h))
+      ]
+
+pub stamped_is_proper : (moment : Date3) (t : Tree) → Proper t → Proper (stamped moment t)
+stamped_is_proper moment t p = record { size = p.size; inside = p.inside; root_node = p.root_node; listed = p.listed; once = p.once; unlike = p.unlike; rising = p.rising; rooted = λ k a e. leads k (p.rooted k a e); name = p.name; comment = p.comment }
+  where
+    leads : (k : ℕ) → LeadsToRoot t k → LeadsToRoot (stamped moment t) k
+    leads k (at_root e) = at_root e
+    leads k (by_parent {dir = d} q rest) = by_parent q (leads d rest)

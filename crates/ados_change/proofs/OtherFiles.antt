@@ -1,0 +1,57 @@
+-- A file whose blocks stay is the same file.
+use Rattle.std.proofs.Common.{◌≡◌, ℕ, zero, suc, ◌+◌, ◌-◌, ◌*◌, ◌/◌, ◌%◌, ◌<◌, ◌≤◌, List, ◌∷◌, length, slice_index, sym, ◌∙◌, arith}
+use Rattle.adf_block.specs.declared.Format.{Format}
+use Rattle.adf_block.specs.declared.Format.TheVariants.{Ofs, Ffs}
+use Rattle.ados_data.specs.Cost.{data_size, data_start, data_count}
+use Rattle.ados_data.specs.File.{HasFile, HasExtension, HasOfsData, file_byte}
+use Rattle.ados_data.proofs.Chains.{first_of, next_of, chained}
+use Rattle.ados_change.proofs.Unchanged.{Stays, long_as, sum_stays}
+
+-- a byte of a file stands in one of its data blocks
+byte_within : (format : Format) (k size : ℕ) → k < size → (k / data_size format < data_count format size) × (data_start format + k % data_size format < 512)
+byte_within Ofs k size l = (omega arith, omega arith)
+byte_within Ffs k size l = (omega arith, omega arith)
+
+module _ (old new : List ℕ) (format : Format) (file : ℕ) (blocks extensions bytes : List ℕ)
+    (header : Stays old new file) (extension : (q : ℕ) → q < length extensions → Stays old new (slice_index extensions q)) (datas : (i : ℕ) → i < length blocks → Stays old new (slice_index blocks i))
+    (room : length blocks ≤ 72 * suc (length extensions)) (fits : length blocks ≡ data_count format (length bytes)) where
+  headers : (q : ℕ) → q ≤ length extensions → Stays old new (slice_index (file ∷ extensions) q)
+  headers zero l = header
+  headers (suc q) l = extension q (omega arith)
+
+  extension_stays : (block : ℕ) → Stays old new block → HasExtension old file block → HasExtension new file block
+  extension_stays block stays e = record {
+    primary = long_as old new block stays 0 (omega arith) ∙ e.primary;
+    key_field = long_as old new block stays 1 (omega arith) ∙ e.key_field;
+    sum = sum_stays old new block stays ∙ e.sum;
+    parent = long_as old new block stays 125 (omega arith) ∙ e.parent;
+    secondary = long_as old new block stays 127 (omega arith) ∙ e.secondary;
+  }
+
+  data_stays : (i block : ℕ) → Stays old new block → HasOfsData old file (length bytes) i block → HasOfsData new file (length bytes) i block
+  data_stays i block stays e = record {
+    primary = long_as old new block stays 0 (omega arith) ∙ e.primary;
+    header = long_as old new block stays 1 (omega arith) ∙ e.header;
+    sequence = long_as old new block stays 2 (omega arith) ∙ e.sequence;
+    held = long_as old new block stays 3 (omega arith) ∙ e.held;
+    sum = sum_stays old new block stays ∙ e.sum;
+  }
+
+  byte_stays : (k : ℕ) → k < length bytes → file_byte format new blocks k ≡ file_byte format old blocks k
+  byte_stays k l =
+      let within = byte_within format k (length bytes) l in
+      (datas (k / data_size format) (omega (arith, within.0, fits))).bytes (data_start format + k % data_size format) within.1 (λ z. z)
+
+  pub file_stays : HasFile old format file blocks extensions bytes → HasFile new format file blocks extensions bytes
+  file_stays h = record {
+    size = long_as old new file header 81 (omega arith) ∙ h.size;
+    chain = chained new 126 _ extensions (long_as old new file header 126 (omega arith) ∙ first_of old 126 _ extensions h.chain)
+        (λ q l. long_as old new _ (extension q l) 126 (omega arith) ∙ next_of old 126 _ extensions h.chain q l);
+    extension = λ q l. extension_stays _ (extension q l) (h.extension q l);
+    counts = λ q l. long_as old new _ (headers q l) 2 (omega arith) ∙ h.counts q l;
+    pointers = λ i l. long_as old new _ (headers (i / 72) (omega (arith, l, room))) (77 - i % 72) (omega arith) ∙ h.pointers i l;
+    contents = λ k l. h.contents k l ∙ sym (byte_stays k l);
+    ofs_chain = λ o. chained new 4 _ blocks (long_as old new file header 4 (omega arith) ∙ first_of old 4 _ blocks (h.ofs_chain o))
+        (λ i l. long_as old new _ (datas i l) 4 (omega arith) ∙ next_of old 4 _ blocks (h.ofs_chain o) i l);
+    ofs_data = λ o i l. data_stays i _ (datas i l) (h.ofs_data o i l);
+  }

@@ -1,0 +1,284 @@
+-- An image in which a file was rewritten stands for the tree in which the file has its new bytes.
+use Rattle.std.proofs.Common.{◌≡◌, ◌≢◌, ℕ, ◌+◌, ◌<◌, ◌⊎◌, inl, inr, List, length, slice_index, Contains, Some, refl, sym, ap, ◌∙◌, subst, arith}
+use Rattle.std.proofs.lemmas.Bool.{cases_eq}
+use Rattle.std.proofs.lemmas.List.{get_or_default}
+use Rattle.adf_block.specs.declared.Format.{Format}
+use Rattle.adf_block.specs.Image.{page_count, long, block_sum}
+use Rattle.adf_block.specs.Chained.{Chained}
+use Rattle.adf_block.specs.Fields.{HasText, name_byte, comment_byte, next_in_chain, table_entry}
+use Rattle.ados_map.specs.Pages.{page_block, pages_of}
+use Rattle.ados_data.specs.Cost.{data_count}
+use Rattle.ados_data.specs.File.{HasFile}
+use Rattle.ados_data.specs.Others.{IsOther, IsDataField}
+use Rattle.ados_data.proofs.Chains.{first_of, next_of, chained}
+use Rattle.ados_tree.specs.Tree.{Content, Node, Tree, root}
+use Rattle.ados_tree.specs.Tree.Content.{Directory, File}
+use Rattle.ados_tree.specs.Layout.{Duty, HasDuty}
+use Rattle.ados_tree.specs.Stands.{Stands, HasNode, HasEntry, HasRoot, in_slot, type_of}
+use Rattle.ados_tree.proofs.Standing.{count_same, slice_get-index, entry_at}
+use Rattle.ados_tree.proofs.Writable.{key_serves, page_serves, lawful_pages, is_lawful, format_is}
+use Rattle.ados_change.proofs.Contents.{refilled, Was, was, file_not_root, proper_after, slots_same}
+use Rattle.ados_change.proofs.Unchanged.{StaysBut, Stays, long_stays, text_stays, date_stays, long_as, bytes_as, sum_stays, text_as, date_as}
+use Rattle.ados_change.proofs.Relaid.{IsRewritten, relaid, data_there, data_here, extensions_there, extensions_here, other, fits_after, marked_free_after, marked_used_after}
+use Rattle.ados_change.proofs.OtherFiles.{file_stays}
+
+-- a long of a header that is no field of its data
+beside_fields : (j : ℕ) → (j < 2) ⊎ ((77 < j) × (j ≢ 81) × (j ≢ 126)) → ¬ IsDataField j
+beside_fields j (inl l) (inl e) = omega (arith, l, e)
+beside_fields j (inl l) (inr (inl e)) = omega (arith, l, e)
+beside_fields j (inl l) (inr (inr (inl e))) = omega (arith, l, e)
+beside_fields j (inl l) (inr (inr (inr (inl e)))) = omega (arith, l, e.0)
+beside_fields j (inl l) (inr (inr (inr (inr (inl e))))) = omega (arith, l, e)
+beside_fields j (inl l) (inr (inr (inr (inr (inr e))))) = omega (arith, l, e)
+beside_fields j (inr l) (inl e) = omega (arith, l.0, e)
+beside_fields j (inr l) (inr (inl e)) = omega (arith, l.0, e)
+beside_fields j (inr l) (inr (inr (inl e))) = omega (arith, l.0, e)
+beside_fields j (inr l) (inr (inr (inr (inl e)))) = omega (arith, l.0, e.1)
+beside_fields j (inr l) (inr (inr (inr (inr (inl e))))) = l.1 e
+beside_fields j (inr l) (inr (inr (inr (inr (inr e))))) = l.2 e
+
+module _ (old new : List ℕ) (t : Tree) (s : Stands old t) (file : ℕ) (node : Node) (bytes : List ℕ) (found : t.nodes file ≡ Some node) (is_file : node.content ≡ File bytes)
+    (blocks' extensions' bytes' : List ℕ) (h : IsRewritten old file (s.layout.file_data file) (s.layout.extensions file) new blocks' extensions' bytes') where
+  abbrev v : Tree
+  v = refilled file bytes' t
+
+  -- ---- what stays
+
+  stays_other : (b : ℕ) → IsOther old file (s.layout.file_data file) (s.layout.extensions file) b → Stays old new b
+  stays_other b o = record { size = h.leaves.same_length; bytes = λ k l n. h.leaves.others b k l o }
+
+  pub boot_stays : (b : ℕ) → b < 2 → Stays old new b
+  boot_stays b l =
+      let places = (is_lawful old t s file node bytes found is_file).places in
+      stays_other b (record {
+        inside = omega (arith, l, count_same old t s, s.proper.size.0);
+        used = λ m. absurd (omega (arith, l, m));
+        beside_pages = λ p m e. let i = (lawful_pages old t s).inside p m in omega (arith, l, i.0, e);
+        beside_headers = λ q m e. let i = places.headers_inside q m in omega (arith, l, i.0, e);
+        beside_data = λ j m e. let i = places.data_inside j m in omega (arith, l, i.0, e);
+      })
+
+  pub key_stays : (k : ℕ) (a : Node) → t.nodes k ≡ Some a → k ≢ file → Stays old new k
+  key_stays k a e n =
+      stays_other k (other old new t s file node bytes found is_file blocks' extensions' bytes' h k Duty.Key (key_serves old t s k a e) (record { no_data = λ i z. cc z; no_extension = λ q z. cc z }) n (λ p z. cc z))
+
+  -- no block with another duty is the header
+  not_header : (b : ℕ) (duty : Duty) → HasDuty t s.layout b duty → duty ≢ Duty.Key → b ≢ file
+  not_header b duty m n e = n (s.fits.one_duty b duty Duty.Key m (key_serves old t s b node (ap t.nodes e ∙ found)))
+
+  pub lost_stays : (b : ℕ) → HasDuty t s.layout b Duty.Lost → Stays old new b
+  lost_stays b m =
+      stays_other b (other old new t s file node bytes found is_file blocks' extensions' bytes' h b Duty.Lost m (record { no_data = λ i z. cc z; no_extension = λ q z. cc z }) (not_header b Duty.Lost m (λ z. cc z)) (λ p z. cc z))
+
+  pub data_stays : (f i : ℕ) → f ≢ file → i < length (s.layout.file_data f) → Stays old new (slice_index (s.layout.file_data f) i)
+  data_stays f i n l =
+      let m = slice_get-index (s.layout.file_data f) i l in
+      stays_other _ (other old new t s file node bytes found is_file blocks' extensions' bytes' h _ (Duty.Data f i) m (record { no_data = λ j z. let same : f ≡ file = cc z in n same; no_extension = λ q z. cc z }) (not_header _ (Duty.Data f i) m (λ z. cc z)) (λ p z. cc z))
+
+  pub extension_stays : (f q : ℕ) → f ≢ file → q < length (s.layout.extensions f) → Stays old new (slice_index (s.layout.extensions f) q)
+  extension_stays f q n l =
+      let m = slice_get-index (s.layout.extensions f) q l in
+      stays_other _ (other old new t s file node bytes found is_file blocks' extensions' bytes' h _ (Duty.Extension f q) m (record { no_data = λ j z. cc z; no_extension = λ j z. let same : f ≡ file = cc z in n same }) (not_header _ (Duty.Extension f q) m (λ z. cc z)) (λ p z. cc z))
+
+  pub header_stays : StaysBut IsDataField old new file
+  header_stays = record { size = h.leaves.same_length; bytes = λ k l n. h.leaves.header k l n }
+
+  pub root_stays : Stays old new (root t)
+  root_stays = key_stays (root t) s.proper.root_node.0 s.proper.root_node.1 (λ e. file_not_root t file node bytes bytes' found is_file s.proper (sym e))
+
+  -- a long of a header that is no field of its data
+  header_long : (j : ℕ) → j < 128 → (j < 2) ⊎ ((77 < j) × (j ≢ 81) × (j ≢ 126)) → long new file j ≡ long old file j
+  header_long j l o = long_stays IsDataField old new file header_stays j l (beside_fields j o)
+
+  -- ---- nodes
+
+  file_node : (a : Node) → t.nodes file ≡ Some a → HasNode new file a
+  file_node a e =
+      let n = s.nodes file a e in
+      let short = (s.proper.name file a e).short in
+      record {
+        primary = header_long 0 (omega arith) (inl (omega arith)) ∙ n.primary;
+        sum = h.leaves.header_sum n.sum;
+        name = text_stays IsDataField old new file header_stays name_byte a.name (omega (arith, short)) (λ j from below. beside_fields j (inr (omega (arith, from), λ z. omega (arith, z, from), λ z. omega (arith, z, below, short)))) n.name;
+        date = date_stays IsDataField old new file header_stays 105 (omega arith) (λ j from below. beside_fields j (inr (omega (arith, from), λ z. omega (arith, z, from), λ z. omega (arith, z, below)))) ∙ n.date;
+      }
+
+  other_node : (k : ℕ) (a : Node) → k ≢ file → t.nodes k ≡ Some a → HasNode new k a
+  other_node k a m e =
+      let n = s.nodes k a e in
+      let stays = key_stays k a e m in
+      let short = (s.proper.name k a e).short in
+      record {
+        primary = long_as old new k stays 0 (omega arith) ∙ n.primary;
+        sum = sum_stays old new k stays ∙ n.sum;
+        name = text_as old new k stays name_byte a.name (omega (arith, short)) n.name;
+        date = date_as old new k stays 105 (omega arith) ∙ n.date;
+      }
+
+  old_node : (k : ℕ) (a : Node) → t.nodes k ≡ Some a → HasNode new k a
+  old_node k a e = elim (cases_eq k file) [
+    | inl same ↦ subst (λ (b : ℕ). HasNode new b a) (sym same) (file_node a (ap t.nodes (sym same) ∙ e))
+    | inr m ↦ other_node k a m e
+  ]
+
+  node_after : (k : ℕ) (a : Node) → v.nodes k ≡ Some a → HasNode new k a
+  node_after k a e =
+      let w = was t file node bytes bytes' found is_file k a e in
+      let n = old_node k w.old w.at in
+      record { primary = n.primary; sum = n.sum; name = subst (HasText new k name_byte) (sym w.name) n.name; date = n.date ∙ sym w.date }
+
+  -- ---- entries
+
+  file_entry : (a : Node) (d : ℕ) → t.nodes file ≡ Some a → a.parent ≡ Some d → HasEntry new file a d
+  file_entry a d e p =
+      let n = s.entries file d a e p in
+      let short = (s.proper.comment file a e).short in
+      record {
+        key_field = header_long 1 (omega arith) (inl (omega arith)) ∙ n.key_field;
+        protection_field = header_long 80 (omega arith) (inr (omega arith, λ z. omega (arith, z), λ z. omega (arith, z))) ∙ n.protection_field;
+        comment = text_stays IsDataField old new file header_stays comment_byte a.comment (omega (arith, short)) (λ j from below. beside_fields j (inr (omega (arith, from), λ z. omega (arith, z, from), λ z. omega (arith, z, below, short)))) n.comment;
+        parent = header_long 125 (omega arith) (inr (omega arith, λ z. omega (arith, z), λ z. omega (arith, z))) ∙ n.parent;
+        secondary = header_long 127 (omega arith) (inr (omega arith, λ z. omega (arith, z), λ z. omega (arith, z))) ∙ n.secondary;
+      }
+
+  other_entry : (k : ℕ) (a : Node) (d : ℕ) → k ≢ file → t.nodes k ≡ Some a → a.parent ≡ Some d → HasEntry new k a d
+  other_entry k a d m e p =
+      let n = s.entries k d a e p in
+      let stays = key_stays k a e m in
+      let short = (s.proper.comment k a e).short in
+      record {
+        key_field = long_as old new k stays 1 (omega arith) ∙ n.key_field;
+        protection_field = long_as old new k stays 80 (omega arith) ∙ n.protection_field;
+        comment = text_as old new k stays comment_byte a.comment (omega (arith, short)) n.comment;
+        parent = long_as old new k stays 125 (omega arith) ∙ n.parent;
+        secondary = long_as old new k stays 127 (omega arith) ∙ n.secondary;
+      }
+
+  old_entry : (k d : ℕ) (a : Node) → t.nodes k ≡ Some a → a.parent ≡ Some d → HasEntry new k a d
+  old_entry k d a e p = elim (cases_eq k file) [
+    | inl same ↦ subst (λ (b : ℕ). HasEntry new b a d) (sym same) (file_entry a d (ap t.nodes (sym same) ∙ e) p)
+    | inr m ↦ other_entry k a d m e p
+  ]
+
+  -- what was a file is one
+  same_type : (k : ℕ) (a : Node) (w : Was t file node bytes bytes' found is_file k a) → type_of w.old.content ≡ type_of a.content
+  same_type k a w = elim (w.content) [
+    | inr c ↦ ap type_of (sym c.1)
+    | inl c ↦
+        let is : w.old ≡ node = cc (w.at, ap t.nodes c.0 ∙ found) in
+        ap type_of (ap (λ (m : Node). m.content) is ∙ is_file) ∙ sym (ap type_of c.1)
+  ]
+
+  entry_after : (k d : ℕ) (a : Node) → v.nodes k ≡ Some a → a.parent ≡ Some d → HasEntry new k a d
+  entry_after k d a e p =
+      let w = was t file node bytes bytes' found is_file k a e in
+      let n = old_entry k d w.old w.at (sym w.parent ∙ p) in
+      record {
+        key_field = n.key_field;
+        protection_field = n.protection_field ∙ sym w.protection;
+        comment = subst (HasText new k comment_byte) (sym w.comment) n.comment;
+        parent = n.parent;
+        secondary = n.secondary ∙ same_type k a w;
+      }
+
+  -- ---- the root
+
+  root_after : HasRoot new v (relaid s.layout file blocks' extensions')
+  root_after =
+      let r = s.root_fields in
+      let stays = long_as old new (root t) root_stays in
+      record {
+        table_size = stays 3 (omega arith) ∙ r.table_size;
+        valid = stays 78 (omega arith) ∙ r.valid;
+        pages = λ i l. stays (79 + i) (omega (arith, l, s.fits.pages, s.proper.size.1)) ∙ r.pages i l;
+        disk_date = date_as old new (root t) root_stays 118 (omega arith) ∙ r.disk_date;
+        creation_date = date_as old new (root t) root_stays 121 (omega arith) ∙ r.creation_date;
+        parent = stays 125 (omega arith) ∙ r.parent;
+        secondary = stays 127 (omega arith) ∙ r.secondary;
+      }
+
+  -- ---- chains
+
+  link_stays : (k : ℕ) (a : Node) → t.nodes k ≡ Some a → long new k next_in_chain ≡ long old k next_in_chain
+  link_stays k a e = elim (cases_eq k file) [
+    | inl same ↦ ap (λ (b : ℕ). long new b 124) same ∙ header_long 124 (omega arith) (inr (omega arith, λ z. omega (arith, z), λ z. omega (arith, z))) ∙ ap (λ (b : ℕ). long old b 124) (sym same)
+    | inr m ↦ long_as old new k (key_stays k a e m) 124 (omega arith)
+  ]
+
+  old_chain : (d : ℕ) (a : Node) (keys : List ℕ) (r : ℕ) → t.nodes d ≡ Some a → a.content ≡ Directory keys → d ≢ file → r < 72 → Chained new next_in_chain (table_entry new d r) (in_slot t d r)
+  old_chain d a keys r e c m l =
+      let chain = s.chains d a keys r e c l in
+      chained new next_in_chain (table_entry new d r) (in_slot t d r)
+      (long_as old new d (key_stays d a e m) (6 + r) (omega (arith, l)) ∙ first_of old next_in_chain (table_entry old d r) (in_slot t d r) chain)
+      (λ i n.
+      let at = entry_at old t s d r i (slice_index (in_slot t d r) i) (record { within = n; here = refl; holder = l }) in
+      link_stays _ at.node at.at ∙ next_of old next_in_chain (table_entry old d r) (in_slot t d r) chain i n)
+
+  chain_after : (d : ℕ) (a : Node) (keys : List ℕ) (r : ℕ) → v.nodes d ≡ Some a → a.content ≡ Directory keys → r < 72 → Chained new next_in_chain (table_entry new d r) (in_slot v d r)
+  chain_after d a keys r e c l =
+      let w = was t file node bytes bytes' found is_file d a e in
+      subst (Chained new next_in_chain (table_entry new d r)) (sym (slots_same t file node bytes bytes' found is_file d r))
+      (elim (w.content) [
+        | inl z ↦ absurd (let kind : Content.File bytes' ≡ Directory keys = sym z.1 ∙ c in cc kind)
+        | inr z ↦ old_chain d w.old keys r w.at (sym z.1 ∙ c) z.0 l
+      ])
+
+  -- ---- files
+
+  other_file : (f : ℕ) (a : Node) (bs : List ℕ) → t.nodes f ≡ Some a → a.content ≡ File bs → f ≢ file → HasFile new t.format f (s.layout.file_data f) (s.layout.extensions f) bs
+  other_file f a bs e c n =
+      let lawful = is_lawful old t s f a bs e c in
+      file_stays old new t.format f (s.layout.file_data f) (s.layout.extensions f) bs (key_stays f a e n) (λ q l. extension_stays f q n l) (λ i l. data_stays f i n l)
+      (omega (arith, s.fits.extensions f)) (subst (λ (g : Format). length (s.layout.file_data f) ≡ data_count g (length bs)) (format_is old t s) lawful.data_fits) (s.files f a bs e c)
+
+  this_file : HasFile new t.format file blocks' extensions' bytes'
+  this_file = subst (λ (g : Format). HasFile new g file blocks' extensions' bytes') (h.format ∙ format_is old t s) h.writable.lawful.holds
+
+  file_after : (f : ℕ) (a : Node) (bs : List ℕ) → v.nodes f ≡ Some a → a.content ≡ File bs → HasFile new t.format f ((relaid s.layout file blocks' extensions').file_data f) ((relaid s.layout file blocks' extensions').extensions f) bs
+  file_after f a bs e c =
+      let w = was t file node bytes bytes' found is_file f a e in
+      elim (w.content) [
+        | inl z ↦
+            let is : bytes' ≡ bs = cc (sym z.1 ∙ c) in
+            let lay = relaid s.layout file blocks' extensions' in
+            subst (λ (g : ℕ). HasFile new t.format g (lay.file_data g) (lay.extensions g) bs) (sym z.0)
+            (subst (λ (xs : List ℕ). HasFile new t.format file xs (lay.extensions file) bs) (sym (data_here s.layout file blocks' extensions'))
+            (subst (λ (xs : List ℕ). HasFile new t.format file blocks' xs bs) (sym (extensions_here s.layout file blocks' extensions'))
+            (subst (λ (xs : List ℕ). HasFile new t.format file blocks' extensions' xs) is this_file)))
+        | inr z ↦
+            subst (λ (xs : List ℕ). HasFile new t.format f xs ((relaid s.layout file blocks' extensions').extensions f) bs) (sym (data_there s.layout file blocks' extensions' f z.0))
+            (subst (λ (xs : List ℕ). HasFile new t.format f (s.layout.file_data f) xs bs) (sym (extensions_there s.layout file blocks' extensions' f z.0))
+            (other_file f w.old bs w.at (sym z.1 ∙ c) z.0))
+      ]
+
+  -- ---- pages
+
+  page_after : (page : ℕ) → Contains s.layout.pages page → block_sum new page ≡ 0
+  page_after page m =
+      let here : slice_index s.layout.pages m.0 ≡ page = get_or_default s.layout.pages m.0 0 page m.1 ∙ m.2 in
+      let within : m.0 < pages_of old = omega (arith, m.1, s.fits.pages, ap page_count (count_same old t s)) in
+      let is : page_block old m.0 ≡ page = cc (page_serves old t s m.0 within, slice_get-index s.layout.pages m.0 m.1, here) in
+      ap (block_sum new) (sym is) ∙ h.leaves.page_sums m.0 within (ap (block_sum old) is ∙ s.pages page m)
+
+  pub stands_after : Stands new v
+  stands_after = record {
+    proper = proper_after t file node bytes bytes' found is_file s.proper;
+    layout = relaid s.layout file blocks' extensions';
+    fits = fits_after old new t s file node bytes found is_file blocks' extensions' bytes' h;
+    whole = h.leaves.same_length ∙ s.whole;
+    boot = bytes_as old new 0 (boot_stays 0 (omega arith)) 0 4 (omega arith) ∙ s.boot;
+    root_fields = root_after;
+    nodes = node_after;
+    entries = entry_after;
+    pages = page_after;
+    lost = λ b bs e. bytes_as old new b (lost_stays b (rw e refl)) 0 512 (omega arith) ∙ s.lost b bs e;
+    chains = chain_after;
+    files = file_after;
+    marked_free = marked_free_after old new t s file node bytes found is_file blocks' extensions' bytes' h;
+    marked_used = marked_used_after old new t s file node bytes found is_file blocks' extensions' bytes' h;
+  }
+
+  -- its layout
+  pub layout_after : stands_after.layout ≡ relaid s.layout file blocks' extensions'
+  unfolding stands_after
+  layout_after = refl

@@ -1,0 +1,247 @@
+-- A change of longs in the blocks of keys leads from an image that spells a tree to one that spells another, if it does so for each node.
+use Rattle.std.proofs.Common.{◌≡◌, ◌≢◌, ℕ, zero, suc, ◌+◌, ◌-◌, ◌/◌, ◌%◌, ◌^◌, ◌<◌, ◌≤◌, ◌⊎◌, inl, inr, ◌==◌, List, [], ◌∷◌, length, slice_index, Contains, bit_and, not, Option, Some, is_some, IsSome, refl, sym, ap, ◌∙◌, subst, arith}
+use Rattle.std.proofs.lemmas.Bool.{cases_lt}
+use Rattle.std.proofs.lemmas.List.{get_or_default, get_or_past}
+use Rattle.adf_block.specs.declared.Format.{Format}
+use Rattle.adf_block.specs.declared.Format.TheVariants.{Ofs, Ffs}
+use Rattle.adf_block.specs.Image.{IsInside, has_free_bit, block_count, root_key, long, block_sum}
+use Rattle.adf_block.specs.Chained.{Chained}
+use Rattle.adf_block.specs.Fields.{HasText, table_entry, next_in_chain, next_extension, next_data, name_byte, comment_byte}
+use Rattle.ados_name.specs.declared.Date3.{Date3}
+use Rattle.ados_name.specs.Name.{IsName, IsComment}
+use Rattle.ados_data.specs.Cost.{data_count}
+use Rattle.ados_data.specs.File.{HasFile, file_byte}
+use Rattle.ados_tree.specs.Tree.{Node, Tree, root, size_of}
+use Rattle.ados_tree.specs.Tree.Content.{Directory, File}
+use Rattle.ados_tree.specs.Layout.{Layout, Duty, HasDuty}
+use Rattle.ados_tree.specs.Dates.{date_at}
+use Rattle.ados_tree.specs.Stands.{HasNode, HasEntry, HasRoot, in_slot}
+use Rattle.adf_block.specs.Frame.{SameBut}
+use Rattle.ados_change.specs.steps.Writes.{AtLongs}
+use Rattle.ados_change.proofs.Frame.{long-kept, bytes-kept, sum-kept}
+use Rattle.ados_tree.proofs.Standing.{slice_get-index}
+use Rattle.ados_change.proofs.Spells.{Spells}
+
+-- the tree with these nodes and this disk date
+abbrev pub renewed : Tree → (ℕ → Option Node) → Date3 → Tree
+renewed t nodes d = record t { nodes = nodes; disk_date = d }
+
+-- the longs that say nothing of a file's data, of the root's pages or of the kind of a block: the sum, a directory's table, protection and comment, date and name, the next in chain and the parent, the disk date
+pub data Telling (t : Tree) (b : ℕ) : ℕ → Type 0 where
+  sum : {j : ℕ} → j ≡ 5 → Telling t b j
+  table : {j : ℕ} → ((a : Node) (bytes : List ℕ) → t.nodes b ≡ Some a → a.content ≡ File bytes → ⊥) → 6 ≤ j → j < 78 → Telling t b j
+  attributes : {j : ℕ} → b ≢ root t → 80 ≤ j → j < 104 → j ≢ 81 → Telling t b j
+  heading : {j : ℕ} → 105 ≤ j → j < 121 → Telling t b j
+  linking : {j : ℕ} → b ≢ root t → 124 ≤ j → j < 126 → Telling t b j
+
+-- only such longs of the blocks of keys are written
+pub record TellsOnly (t : Tree) (W : ℕ → ℕ → Type 0) : Type 0 where
+  pub of_key : (b j : ℕ) → W b j → IsSome (t.nodes b)
+  pub telling : (b j : ℕ) → W b j → Telling t b j
+
+-- the new nodes are those of the same keys, and files keep their bytes
+pub record SameFiles (t : Tree) (nodes : ℕ → Option Node) : Type 0 where
+  pub same_keys : (k : ℕ) → is_some (nodes k) ≡ is_some (t.nodes k)
+  pub was_file : (k : ℕ) (a : Node) (bytes : List ℕ) → nodes k ≡ Some a → a.content ≡ File bytes → (b : Node) × (t.nodes k ≡ Some b) × (b.content ≡ File bytes)
+  pub same_size : (d : Date3) (k : ℕ) → size_of (renewed t nodes d) k ≡ size_of t k
+
+-- a chain stays where its links stay
+pub Chained-stays : (old new : List ℕ) (link first : ℕ) (xs : List ℕ) → ((b : ℕ) → Contains xs b → long new b link ≡ long old b link) → Chained old link first xs → Chained new link first xs
+Chained-stays old new link first [] same c = c
+Chained-stays old new link first (x ∷ xs) same c =
+    (c.0, Chained-stays old new link (long new x link) xs (λ b m. same b (suc m.0, omega (arith, m.1), m.2)) (subst (λ (n : ℕ). Chained old link n xs) (sym (same x (0, omega arith, refl))) c.1))
+
+module _ (old new : List ℕ) (t : Tree) (l : Layout) (s : Spells old t l) (root_some : IsSome (t.nodes (root t))) (size : (t.blocks ≤ 101602) × (16 ≤ t.blocks)) (W : ℕ → ℕ → Type 0) (tells : TellsOnly t W) (change : SameBut (AtLongs W) old new) where
+  kept : (b j : ℕ) → j < 128 → ¬ W b j → long new b j ≡ long old b j
+  kept = long-kept W old new change
+
+  -- the type, number and secondary type of a block
+  unwritten : (b j : ℕ) → (j < 5) ⊎ ((j ≡ 81) ⊎ ((j ≡ 78) ⊎ (((121 ≤ j) × (j < 124)) ⊎ (126 ≤ j)))) → ¬ W b j
+  unwritten b j o w = go o (tells.telling b j w)
+    where
+      go : (j < 5) ⊎ ((j ≡ 81) ⊎ ((j ≡ 78) ⊎ (((121 ≤ j) × (j < 124)) ⊎ (126 ≤ j)))) → Telling t b j → ⊥
+      go o (sum e) = elim o [ inl x ↦ omega (arith, x, e) | inr (inl x) ↦ omega (arith, x, e) | inr (inr (inl x)) ↦ omega (arith, x, e) | inr (inr (inr (inl x))) ↦ omega (arith, x.0, e) | inr (inr (inr (inr x))) ↦ omega (arith, x, e) ]
+      go o (table n p q) = elim o [ inl x ↦ omega (arith, x, p) | inr (inl x) ↦ omega (arith, x, q) | inr (inr (inl x)) ↦ omega (arith, x, q) | inr (inr (inr (inl x))) ↦ omega (arith, x.0, q) | inr (inr (inr (inr x))) ↦ omega (arith, x, q) ]
+      go o (attributes n p q m) = elim o [ inl x ↦ omega (arith, x, p) | inr (inl x) ↦ m x | inr (inr (inl x)) ↦ omega (arith, x, p) | inr (inr (inr (inl x))) ↦ omega (arith, x.0, q) | inr (inr (inr (inr x))) ↦ omega (arith, x, q) ]
+      go o (heading p q) = elim o [ inl x ↦ omega (arith, x, p) | inr (inl x) ↦ omega (arith, x, p) | inr (inr (inl x)) ↦ omega (arith, x, p) | inr (inr (inr (inl x))) ↦ omega (arith, x.0, q) | inr (inr (inr (inr x))) ↦ omega (arith, x, q) ]
+      go o (linking n p q) = elim o [ inl x ↦ omega (arith, x, p) | inr (inl x) ↦ omega (arith, x, p) | inr (inr (inl x)) ↦ omega (arith, x, p) | inr (inr (inr (inl x))) ↦ omega (arith, x.1, p) | inr (inr (inr (inr x))) ↦ omega (arith, x, q) ]
+
+  pub first_kept : (b j : ℕ) → j < 5 → long new b j ≡ long old b j
+  first_kept b j m = kept b j (omega arith) (unwritten b j (inl m))
+
+  pub last_kept : (b j : ℕ) → 126 ≤ j → j < 128 → long new b j ≡ long old b j
+  last_kept b j m n = kept b j n (unwritten b j (inr (inr (inr (inr m)))))
+
+  -- the pages and the parent of the root
+  root_unwritten : (j : ℕ) → ((79 ≤ j) × (j < 104)) ⊎ ((j ≡ 124) ⊎ (j ≡ 125)) → ¬ W (root t) j
+  root_unwritten j o w = go o (tells.telling (root t) j w)
+    where
+      go : ((79 ≤ j) × (j < 104)) ⊎ ((j ≡ 124) ⊎ (j ≡ 125)) → Telling t (root t) j → ⊥
+      go o (sum e) = elim o [ inl x ↦ omega (arith, x.0, e) | inr (inl x) ↦ omega (arith, x, e) | inr (inr x) ↦ omega (arith, x, e) ]
+      go o (table n p q) = elim o [ inl x ↦ omega (arith, x.0, q) | inr (inl x) ↦ omega (arith, x, q) | inr (inr x) ↦ omega (arith, x, q) ]
+      go o (attributes n p q m) = n refl
+      go o (heading p q) = elim o [ inl x ↦ omega (arith, x.1, p) | inr (inl x) ↦ omega (arith, x, q) | inr (inr x) ↦ omega (arith, x, q) ]
+      go o (linking n p q) = n refl
+
+  -- the pointers of a file
+  pointer_unwritten : (b j : ℕ) (a : Node) (bytes : List ℕ) → t.nodes b ≡ Some a → a.content ≡ File bytes → 6 ≤ j → j < 78 → ¬ W b j
+  pointer_unwritten b j a bytes e c m n w = go (tells.telling b j w)
+    where
+      go : Telling t b j → ⊥
+      go (sum d) = omega (arith, m, d)
+      go (table f p q) = f a bytes e c
+      go (attributes f p q d) = omega (arith, n, p)
+      go (heading p q) = omega (arith, n, p)
+      go (linking f p q) = omega (arith, n, p)
+
+  -- a block with another duty than that of a key
+  by_duty : (b : ℕ) (duty : Duty) → HasDuty t l b duty → duty ≢ Duty.Key → (j : ℕ) → ¬ W b j
+  by_duty b duty m n j w = n (s.fits.one_duty b duty Duty.Key m (tells.of_key b j w))
+
+  low_block : (b j : ℕ) → b < 2 → ¬ W b j
+  low_block b j m w = let inside = s.fits.inside b Duty.Key (tells.of_key b j w) in omega (arith, m, inside.0)
+
+  data_duty : (file i j : ℕ) → ¬ W (slice_index (l.file_data file) i) j
+  data_duty file i j = elim (cases_lt i (length (l.file_data file))) [
+    | inl m ↦ by_duty (slice_index (l.file_data file) i) (Duty.Data file i) (slice_get-index (l.file_data file) i m) (λ z. cc z) j
+    | inr m ↦ subst (λ (b : ℕ). ¬ W b j) (sym (get_or_past (l.file_data file) i 0 m)) (low_block 0 j (omega arith))
+  ]
+
+  extension_duty : (file i : ℕ) → i < length (l.extensions file) → (j : ℕ) → ¬ W (slice_index (l.extensions file) i) j
+  extension_duty file i m = by_duty (slice_index (l.extensions file) i) (Duty.Extension file i) (slice_get-index (l.extensions file) i m) (λ z. cc z)
+
+  file_byte_kept : (format : Format) (file k : ℕ) → file_byte format new (l.file_data file) k ≡ file_byte format old (l.file_data file) k
+  file_byte_kept Ofs file k = change.same_byte (slice_index (l.file_data file) (k / 488)) (24 + k % 488) (omega arith) (data_duty file (k / 488) ((24 + k % 488) / 4))
+  file_byte_kept Ffs file k = change.same_byte (slice_index (l.file_data file) (k / 512)) (0 + k % 512) (omega arith) (data_duty file (k / 512) ((0 + k % 512) / 4))
+
+  -- a pointer of a file's header or extension blocks
+  pointer_kept : (file q j : ℕ) (a : Node) (bytes : List ℕ) → t.nodes file ≡ Some a → a.content ≡ File bytes → q ≤ length (l.extensions file) → 6 ≤ j → j < 78 → long new (slice_index (file ∷ l.extensions file) q) j ≡ long old (slice_index (file ∷ l.extensions file) q) j
+  pointer_kept file zero j a bytes e c m n o = kept file j (omega arith) (pointer_unwritten file j a bytes e c n o)
+  pointer_kept file (suc q) j a bytes e c m n o = kept (slice_index (l.extensions file) q) j (omega arith) (extension_duty file q (omega arith) j)
+
+  file_kept : (file : ℕ) (a : Node) (bytes : List ℕ) → t.nodes file ≡ Some a → a.content ≡ File bytes → HasFile new t.format file (l.file_data file) (l.extensions file) bytes
+  file_kept file a bytes e c =
+      let g = s.files file a bytes e c in
+      record {
+        size = kept file 81 (omega arith) (unwritten file 81 (inr (inl refl))) ∙ g.size;
+        chain = subst (λ (n : ℕ). Chained new next_extension n (l.extensions file)) (sym (last_kept file 126 (omega arith) (omega arith))) (Chained-stays old new next_extension (long old file next_extension) (l.extensions file) (λ b m. last_kept b 126 (omega arith) (omega arith)) g.chain);
+        extension = λ i m. let x = g.extension i m in let block = slice_index (l.extensions file) i in record {
+          primary = first_kept block 0 (omega arith) ∙ x.primary;
+          key_field = first_kept block 1 (omega arith) ∙ x.key_field;
+          sum = sum-kept W old new change block (λ j n. extension_duty file i m j) ∙ x.sum;
+          parent = kept block 125 (omega arith) (extension_duty file i m 125) ∙ x.parent;
+          secondary = last_kept block 127 (omega arith) (omega arith) ∙ x.secondary;
+        };
+        counts = λ i m. first_kept (slice_index (file ∷ l.extensions file) i) 2 (omega arith) ∙ g.counts i m;
+        pointers = λ i m. pointer_kept file (i / 72) (77 - i % 72) a bytes e c (omega (arith, m, s.fits.extensions file)) (omega arith) (omega arith) ∙ g.pointers i m;
+        contents = λ k m. g.contents k m ∙ sym (file_byte_kept t.format file k);
+        ofs_chain = λ o. subst (λ (n : ℕ). Chained new next_data n (l.file_data file)) (sym (first_kept file 4 (omega arith))) (Chained-stays old new next_data (long old file next_data) (l.file_data file) (λ b m. first_kept b 4 (omega arith)) (g.ofs_chain o));
+        ofs_data = λ o i m. let x = g.ofs_data o i m in let block = slice_index (l.file_data file) i in record {
+          primary = first_kept block 0 (omega arith) ∙ x.primary;
+          header = first_kept block 1 (omega arith) ∙ x.header;
+          sequence = first_kept block 2 (omega arith) ∙ x.sequence;
+          held = first_kept block 3 (omega arith) ∙ x.held;
+          sum = sum-kept W old new change block (λ j n. data_duty file i j) ∙ x.sum;
+        };
+      }
+
+  page_long : (i : ℕ) → i < length l.pages → long new (root t) (79 + i) ≡ slice_index l.pages i
+  page_long i m = kept (root t) (79 + i) (omega (arith, m, s.fits.pages, size.0)) (root_unwritten (79 + i) (inl (omega arith, omega (arith, m, s.fits.pages, size.0)))) ∙ s.root_fields.pages i m
+
+  -- the bits of the map
+  marks_kept : (b : ℕ) → IsInside t.blocks b → has_free_bit new b ≡ has_free_bit old b
+  unfolding has_free_bit
+  marks_kept b i =
+      let within : (b - 2) / 4064 < length l.pages = omega (arith, i.0, i.1, s.fits.pages) in
+      let root_new : root_key (block_count new) ≡ root t = ap root_key (omega (arith, s.whole, change.same_length)) in
+      let root_old : root_key (block_count old) ≡ root t = ap root_key (omega (arith, s.whole)) in
+      let page_new : long new (root_key (block_count new)) (79 + (b - 2) / 4064) ≡ slice_index l.pages ((b - 2) / 4064) = ap (λ (r : ℕ). long new r (79 + (b - 2) / 4064)) root_new ∙ page_long ((b - 2) / 4064) within in
+      let page_old : long old (root_key (block_count old)) (79 + (b - 2) / 4064) ≡ slice_index l.pages ((b - 2) / 4064) = ap (λ (r : ℕ). long old r (79 + (b - 2) / 4064)) root_old ∙ s.root_fields.pages ((b - 2) / 4064) within in
+      let of_page = by_duty (slice_index l.pages ((b - 2) / 4064)) (Duty.Page ((b - 2) / 4064)) (slice_get-index l.pages ((b - 2) / 4064) within) (λ z. cc z) (1 + (b - 2) % 4064 / 32) in
+      let value = ap (λ (x : ℕ). long new x (1 + (b - 2) % 4064 / 32)) page_new ∙ kept (slice_index l.pages ((b - 2) / 4064)) (1 + (b - 2) % 4064 / 32) (omega arith) of_page ∙ ap (λ (x : ℕ). long old x (1 + (b - 2) % 4064 / 32)) (sym page_old) in
+      ap (λ (x : ℕ). not (bit_and x (2 ^ ((b - 2) % 32)) == 0)) value
+
+  -- ---- what stays of a node whose fields are not written
+
+  pub text_stays : (b i : ℕ) (text : List ℕ) → i + length text < 512 → ((j : ℕ) → i ≤ j → j < i + 1 + length text → ¬ W b (j / 4)) → HasText old b i text → HasText new b i text
+  text_stays b i text m n g = record {
+    counted = change.same_byte b i (omega arith) (n i (omega arith) (omega arith)) ∙ g.counted;
+    follows = bytes-kept W old new change b (i + 1) (length text) (omega arith) (λ j p q. n j (omega arith) (omega arith)) ∙ g.follows;
+  }
+
+  pub date_stays : (b i : ℕ) → i + 2 < 128 → ((j : ℕ) → i ≤ j → j < i + 3 → ¬ W b j) → date_at new b i ≡ date_at old b i
+  date_stays b i m n = λ k. record { days = one i (omega arith) (omega arith) k; minutes = one (i + 1) (omega arith) (omega arith) k; ticks = one (i + 2) (omega arith) (omega arith) k }
+    where
+      one : (j : ℕ) → i ≤ j → j < i + 3 → long new b j ≡ long old b j
+      one j p q = kept b j (omega (arith, m, q)) (n j p q)
+
+  pub node_stays : (k : ℕ) (a : Node) → IsName a.name → ((j : ℕ) → 105 ≤ j → j < 116 → ¬ W k j) → block_sum new k ≡ 0 → HasNode old k a → HasNode new k a
+  node_stays k a short n summed g = record {
+    primary = first_kept k 0 (omega arith) ∙ g.primary;
+    sum = summed;
+    name = text_stays k name_byte a.name (omega (arith, short.short)) (λ j p q. n (j / 4) (omega arith) (omega (arith, q, short.short))) g.name;
+    date = date_stays k 105 (omega arith) (λ j p q. n j p (omega arith)) ∙ g.date;
+  }
+
+  pub entry_stays : (k d : ℕ) (a : Node) → IsComment a.comment → ((j : ℕ) → 80 ≤ j → j < 104 → ¬ W k j) → ¬ W k 125 → HasEntry old k a d → HasEntry new k a d
+  entry_stays k d a short n m g = record {
+    key_field = first_kept k 1 (omega arith) ∙ g.key_field;
+    protection_field = kept k 80 (omega arith) (n 80 (omega arith) (omega arith)) ∙ g.protection_field;
+    comment = text_stays k comment_byte a.comment (omega (arith, short.short)) (λ j p q. n (j / 4) (omega arith) (omega (arith, q, short.short))) g.comment;
+    parent = kept k 125 (omega arith) m ∙ g.parent;
+    secondary = last_kept k 127 (omega arith) (omega arith) ∙ g.secondary;
+  }
+
+  module _ (nodes : ℕ → Option Node) (d : Date3) (files : SameFiles t nodes) (disk : date_at new (root t) 118 ≡ d)
+      (nodes_after : (k : ℕ) (a : Node) → nodes k ≡ Some a → HasNode new k a)
+      (entries_after : (k dir : ℕ) (a : Node) → nodes k ≡ Some a → a.parent ≡ Some dir → HasEntry new k a dir)
+      (chains_after : (dir : ℕ) (a : Node) (keys : List ℕ) (r : ℕ) → nodes dir ≡ Some a → a.content ≡ Directory keys → r < 72 → Chained new next_in_chain (table_entry new dir r) (in_slot (renewed t nodes d) dir r)) where
+    serves_back : (b : ℕ) (duty : Duty) → HasDuty (renewed t nodes d) l b duty → HasDuty t l b duty
+    serves_back b (Duty.Page i) m = m
+    serves_back b Duty.Key m = sym (files.same_keys b) ∙ m
+    serves_back b (Duty.Data file i) m = m
+    serves_back b (Duty.Extension file i) m = m
+    serves_back b Duty.Lost m = m
+
+    serves_on : (b : ℕ) (duty : Duty) → HasDuty t l b duty → HasDuty (renewed t nodes d) l b duty
+    serves_on b (Duty.Page i) m = m
+    serves_on b Duty.Key m = files.same_keys b ∙ m
+    serves_on b (Duty.Data file i) m = m
+    serves_on b (Duty.Extension file i) m = m
+    serves_on b Duty.Lost m = m
+
+    root_after : HasRoot new (renewed t nodes d) l
+    root_after =
+        let r = s.root_fields in
+        record {
+          table_size = first_kept (root t) 3 (omega arith) ∙ r.table_size;
+          valid = kept (root t) 78 (omega arith) (unwritten (root t) 78 (inr (inr (inl refl)))) ∙ r.valid;
+          pages = page_long;
+          disk_date = disk;
+          creation_date = date_stays (root t) 121 (omega arith) (λ j p q. unwritten (root t) j (inr (inr (inr (inl (p, omega arith)))))) ∙ r.creation_date;
+          parent = kept (root t) 125 (omega arith) (root_unwritten 125 (inr (inr refl))) ∙ r.parent;
+          secondary = last_kept (root t) 127 (omega arith) (omega arith) ∙ r.secondary;
+        }
+
+    pub reframed : Spells new (renewed t nodes d) l
+    reframed = record {
+      fits = record {
+        pages = s.fits.pages;
+        file_data = λ file. s.fits.file_data file ∙ ap (data_count t.format) (sym (files.same_size d file));
+        extensions = s.fits.extensions;
+        inside = λ b duty m. s.fits.inside b duty (serves_back b duty m);
+        lost = s.fits.lost;
+        one_duty = λ b duty other m n. s.fits.one_duty b duty other (serves_back b duty m) (serves_back b other n);
+      };
+      whole = change.same_length ∙ s.whole;
+      boot = bytes-kept W old new change 0 0 4 (omega arith) (λ j p q. low_block 0 (j / 4) (omega arith)) ∙ s.boot;
+      root_fields = root_after;
+      nodes = nodes_after;
+      entries = entries_after;
+      pages = λ page m. sum-kept W old new change page (λ j n. by_duty page (Duty.Page m.0) (slice_get-index l.pages m.0 m.1 ∙ ap Some (get_or_default l.pages m.0 0 page m.1 ∙ m.2)) (λ z. cc z) j) ∙ s.pages page m;
+      lost = λ b bytes e. bytes-kept W old new change b 0 512 (omega arith) (λ j p q. by_duty b Duty.Lost (rw e refl) (λ z. cc z) (j / 4)) ∙ s.lost b bytes e;
+      chains = chains_after;
+      files = λ file a bytes e c. let w = files.was_file file a bytes e c in file_kept file w.0 bytes w.1 w.2;
+      marked_free = λ b i m n. s.marked_free b i (sym (marks_kept b i) ∙ m) (n.0, serves_back b n.0 n.1);
+      marked_used = λ b i m. let n = s.marked_used b i (λ f. m (marks_kept b i ∙ f)) in (n.0, serves_on b n.0 n.1);
+    }

@@ -1,0 +1,292 @@
+-- The blocks of a tree in which a file has other bytes, in other blocks.
+use Rattle.std.proofs.Common.{◌≡◌, ◌≢◌, ℕ, zero, suc, ◌/◌, ◌<◌, ◌≤◌, ◌==◌, ◌⊎◌, inl, inr, Bool, true, false, cond, List, ◌∷◌, length, slice_index, slice_get, Option, Some, None, IsSome, refl, sym, ap, ◌∙◌, subst, arith, eq-eqb}
+use Rattle.std.proofs.lemmas.Bool.{ne_eqb, cases_eq, cases_order, false≢true}
+use Rattle.adf_block.specs.declared.Format.{Format}
+use Rattle.adf_block.specs.Image.{IsInside, block_count, page_count, has_free_bit, HasFreeBit}
+use Rattle.ados_map.specs.Pages.{page_block, pages_of}
+use Rattle.ados_data.specs.Cost.{data_count, extension_count}
+use Rattle.ados_data.specs.File.{format_of}
+use Rattle.ados_data.specs.Changing.{IsWritable}
+use Rattle.ados_data.specs.Others.{IsOther, Leaves}
+use Rattle.ados_tree.specs.Tree.{Node, Tree, size_of}
+use Rattle.ados_tree.specs.Tree.Content.{File}
+use Rattle.ados_tree.specs.Layout.{Layout, Fits, Duty, HasDuty, Named}
+use Rattle.ados_tree.specs.Stands.{Stands}
+use Rattle.ados_tree.proofs.Standing.{count_same, slice_get-index}
+use Rattle.ados_tree.proofs.Counting.{slice_get-back}
+use Rattle.ados_tree.proofs.Writable.{inside, key_serves, named_used, page_serves, beside_pages, format_is}
+use Rattle.ados_change.proofs.Contents.{refilled, was, stays, size_here, size_there}
+
+-- a block of a list stands at its old place, or is a further one that was marked free
+abbrev pub ComesFrom : List ℕ → List ℕ → List ℕ → ℕ → Type 0
+ComesFrom old xs ys i = ((i < length xs) × (slice_index ys i ≡ slice_index xs i)) ⊎ ((length xs ≤ i) × (has_free_bit old (slice_index ys i) ≡ true))
+
+-- a block of a list stands at its place in the new one, or is marked free
+abbrev pub GoesTo : List ℕ → List ℕ → List ℕ → ℕ → Type 0
+GoesTo new xs ys i = ((i < length ys) × (slice_index ys i ≡ slice_index xs i)) ⊎ (has_free_bit new (slice_index xs i) ≡ true)
+
+-- the block stands in the list
+abbrev pub IsIn : List ℕ → ℕ → Type 0
+IsIn xs b = (i : ℕ) × (i < length xs) × (slice_index xs i ≡ b)
+
+-- a file got other bytes, in blocks that it had or that were marked free; what it gave up is marked free, and nothing else of the map has changed
+pub record IsRewritten (old : List ℕ) (file : ℕ) (blocks extensions : List ℕ) (new : List ℕ) (blocks' extensions' bytes' : List ℕ) : Type 0 where
+  pub writable : IsWritable new file blocks' extensions' bytes'
+  pub format : format_of new ≡ format_of old
+  pub leaves : Leaves old file blocks extensions new
+  pub data_from : (i : ℕ) → i < length blocks' → ComesFrom old blocks blocks' i
+  pub extensions_from : (q : ℕ) → q < length extensions' → ComesFrom old extensions extensions' q
+  pub data_to : (i : ℕ) → i < length blocks → GoesTo new blocks blocks' i
+  pub extensions_to : (q : ℕ) → q < length extensions → GoesTo new extensions extensions' q
+  pub taken : (c : ℕ) → IsInside (block_count old) c → has_free_bit old c ≡ true → has_free_bit new c ≡ false → IsIn blocks' c ⊎ IsIn extensions' c
+
+-- the layout in which a file has these blocks
+abbrev pub relaid : Layout → ℕ → List ℕ → List ℕ → Layout
+relaid l file blocks extensions = record {
+  pages = l.pages;
+  file_data = λ f. cond (f == file) blocks (l.file_data f);
+  extensions = λ f. cond (f == file) extensions (l.extensions f);
+}
+
+module _ (l : Layout) (file : ℕ) (blocks extensions : List ℕ) where
+  pub data_here : (relaid l file blocks extensions).file_data file ≡ blocks
+  data_here = rw (eq-eqb file file refl) refl
+
+  pub data_there : (f : ℕ) → f ≢ file → (relaid l file blocks extensions).file_data f ≡ l.file_data f
+  data_there f n = rw (ne_eqb f file n) refl
+
+  pub extensions_here : (relaid l file blocks extensions).extensions file ≡ extensions
+  extensions_here = rw (eq-eqb file file refl) refl
+
+  pub extensions_there : (f : ℕ) → f ≢ file → (relaid l file blocks extensions).extensions f ≡ l.extensions f
+  extensions_there f n = rw (ne_eqb f file n) refl
+
+module _ (old new : List ℕ) (t : Tree) (s : Stands old t) (file : ℕ) (node : Node) (bytes : List ℕ) (found : t.nodes file ≡ Some node) (is_file : node.content ≡ File bytes)
+    (blocks' extensions' bytes' : List ℕ) (h : IsRewritten old file (s.layout.file_data file) (s.layout.extensions file) new blocks' extensions' bytes') where
+  abbrev pub u : Tree
+  u = refilled file bytes' t
+
+  abbrev pub lay : Layout
+  lay = relaid s.layout file blocks' extensions'
+
+  pub count_new : block_count new ≡ t.blocks
+  count_new = ap (λ (n : ℕ). n / 512) h.leaves.same_length ∙ count_same old t s
+
+  -- ---- blocks with a duty beside the file's lists
+
+  -- the duty is not in a list of the file
+  pub record IsBesideLists (duty : Duty) : Type 0 where
+    pub no_data : (i : ℕ) → duty ≢ Duty.Data file i
+    pub no_extension : (q : ℕ) → duty ≢ Duty.Extension file q
+
+  -- such a block, but for the header and the pages, is one that the change leaves
+  pub other : (b : ℕ) (duty : Duty) → HasDuty t s.layout b duty → IsBesideLists duty → b ≢ file → ((p : ℕ) → duty ≢ Duty.Page p) → IsOther old file (s.layout.file_data file) (s.layout.extensions file) b
+  other b duty m beside not_file no_page = record {
+    inside = (inside old t s b duty m).1;
+    used = λ l. named_used old t s b duty m;
+    beside_pages = beside_pages old t s b duty m no_page;
+    beside_headers = headers;
+    beside_data = λ i l e. beside.no_data i (s.fits.one_duty b duty (Duty.Data file i) m (slice_get-index (s.layout.file_data file) i l ∙ ap Some (sym e)));
+  }
+    where
+      headers : (q : ℕ) → q ≤ length (s.layout.extensions file) → b ≢ slice_index (file ∷ s.layout.extensions file) q
+      headers zero l e = not_file e
+      headers (suc q) l e = beside.no_extension q (s.fits.one_duty b duty (Duty.Extension file q) m (slice_get-index (s.layout.extensions file) q (omega (arith, l)) ∙ ap Some (sym e)))
+
+  -- ---- duties in the new tree
+
+  -- a duty that the block had before, or one in the file's new lists
+  pub data Holds (b : ℕ) : Duty → Type 0 where
+    as_before : {duty : Duty} → HasDuty t s.layout b duty → IsBesideLists duty → Holds b duty
+    as_data : {i : ℕ} → i < length blocks' → slice_index blocks' i ≡ b → Holds b (Duty.Data file i)
+    as_extension : {q : ℕ} → q < length extensions' → slice_index extensions' q ≡ b → Holds b (Duty.Extension file q)
+
+  key_back : (b : ℕ) → IsSome (u.nodes b) → IsSome (t.nodes b)
+  key_back b m = go (u.nodes b) refl m
+    where
+      go : (o : Option Node) → u.nodes b ≡ o → IsSome o → IsSome (t.nodes b)
+      go None e m = absurd (false≢true m)
+      go (Some a) e m = let w = was t file node bytes bytes' found is_file b a e in rw w.at refl
+
+  key_on : (b : ℕ) → IsSome (t.nodes b) → IsSome (u.nodes b)
+  key_on b m = go (t.nodes b) refl m
+    where
+      go : (o : Option Node) → t.nodes b ≡ o → IsSome o → IsSome (u.nodes b)
+      go None e m = absurd (false≢true m)
+      go (Some a) e m = let w = stays t file node bytes bytes' found is_file b a e in rw w.1 refl
+
+  pub holds : (b : ℕ) (duty : Duty) → HasDuty u lay b duty → Holds b duty
+  holds b (Duty.Page i) m = as_before m (record { no_data = λ j z. cc z; no_extension = λ q z. cc z })
+  holds b Duty.Key m = as_before (key_back b m) (record { no_data = λ j z. cc z; no_extension = λ q z. cc z })
+  holds b Duty.Lost m = as_before m (record { no_data = λ j z. cc z; no_extension = λ q z. cc z })
+  holds b (Duty.Data f i) m = elim (cases_eq f file) [
+    | inl e ↦
+        let at = slice_get-back blocks' i b (ap (λ (xs : List ℕ). slice_get xs i) (sym (data_here s.layout file blocks' extensions')) ∙ ap (λ (g : ℕ). slice_get (lay.file_data g) i) (sym e) ∙ m) in
+        subst (λ (g : ℕ). Holds b (Duty.Data g i)) (sym e) (as_data at.0 at.1)
+    | inr n ↦ as_before (ap (λ (xs : List ℕ). slice_get xs i) (sym (data_there s.layout file blocks' extensions' f n)) ∙ m) (record { no_data = λ j z. let same : f ≡ file = cc z in n same; no_extension = λ q z. cc z })
+  ]
+  holds b (Duty.Extension f q) m = elim (cases_eq f file) [
+    | inl e ↦
+        let at = slice_get-back extensions' q b (ap (λ (xs : List ℕ). slice_get xs q) (sym (extensions_here s.layout file blocks' extensions')) ∙ ap (λ (g : ℕ). slice_get (lay.extensions g) q) (sym e) ∙ m) in
+        subst (λ (g : ℕ). Holds b (Duty.Extension g q)) (sym e) (as_extension at.0 at.1)
+    | inr n ↦ as_before (ap (λ (xs : List ℕ). slice_get xs q) (sym (extensions_there s.layout file blocks' extensions' f n)) ∙ m) (record { no_data = λ j z. cc z; no_extension = λ j z. let same : f ≡ file = cc z in n same })
+  ]
+
+  pub serves_data : (i : ℕ) → i < length blocks' → HasDuty u lay (slice_index blocks' i) (Duty.Data file i)
+  serves_data i l = ap (λ (xs : List ℕ). slice_get xs i) (data_here s.layout file blocks' extensions') ∙ slice_get-index blocks' i l
+
+  pub serves_extension : (q : ℕ) → q < length extensions' → HasDuty u lay (slice_index extensions' q) (Duty.Extension file q)
+  serves_extension q l = ap (λ (xs : List ℕ). slice_get xs q) (extensions_here s.layout file blocks' extensions') ∙ slice_get-index extensions' q l
+
+  -- a block of the new lists has no other duty that it had before
+  new_data : (b i : ℕ) (duty : Duty) → i < length blocks' → slice_index blocks' i ≡ b → HasDuty t s.layout b duty → IsBesideLists duty → ⊥
+  new_data b i duty l e m beside = elim (h.data_from i l) [
+    | inl was_there ↦ beside.no_data i (s.fits.one_duty b duty (Duty.Data file i) m (slice_get-index (s.layout.file_data file) i was_there.0 ∙ ap Some (sym was_there.1 ∙ e)))
+    | inr free ↦ false≢true (sym (named_used old t s b duty m) ∙ ap (has_free_bit old) (sym e) ∙ free.1)
+  ]
+
+  new_extension : (b q : ℕ) (duty : Duty) → q < length extensions' → slice_index extensions' q ≡ b → HasDuty t s.layout b duty → IsBesideLists duty → ⊥
+  new_extension b q duty l e m beside = elim (h.extensions_from q l) [
+    | inl was_there ↦ beside.no_extension q (s.fits.one_duty b duty (Duty.Extension file q) m (slice_get-index (s.layout.extensions file) q was_there.0 ∙ ap Some (sym was_there.1 ∙ e)))
+    | inr free ↦ false≢true (sym (named_used old t s b duty m) ∙ ap (has_free_bit old) (sym e) ∙ free.1)
+  ]
+
+  data_places : (i j : ℕ) → i < length blocks' → j < length blocks' → slice_index blocks' i ≡ slice_index blocks' j → i ≡ j
+  data_places i j l m e = elim (cases_order i j) [
+    | inl same ↦ same
+    | inr (inl before) ↦ absurd (h.writable.lawful.places.data_once i j before m e)
+    | inr (inr behind) ↦ absurd (h.writable.lawful.places.data_once j i behind l (sym e))
+  ]
+
+  extension_places : (i j : ℕ) → i < length extensions' → j < length extensions' → slice_index extensions' i ≡ slice_index extensions' j → i ≡ j
+  extension_places i j l m e = elim (cases_order i j) [
+    | inl same ↦ same
+    | inr (inl before) ↦ absurd (h.writable.lawful.places.headers_once (suc i) (suc j) (omega arith) (omega arith) e)
+    | inr (inr behind) ↦ absurd (h.writable.lawful.places.headers_once (suc j) (suc i) (omega arith) (omega arith) (sym e))
+  ]
+
+  one_holds : (b : ℕ) (duty duty' : Duty) → Holds b duty → Holds b duty' → duty ≡ duty'
+  one_holds b duty duty' (as_before m _) (as_before n _) = s.fits.one_duty b duty duty' m n
+  one_holds b duty duty' (as_before m x) (as_data l e) = absurd (new_data b _ duty l e m x)
+  one_holds b duty duty' (as_before m x) (as_extension l e) = absurd (new_extension b _ duty l e m x)
+  one_holds b duty duty' (as_data l e) (as_before m x) = absurd (new_data b _ duty' l e m x)
+  one_holds b duty duty' (as_data {i = i} l e) (as_data {i = j} m f) = ap (Duty.Data file) (data_places i j l m (e ∙ sym f))
+  one_holds b duty duty' (as_data {i = i} l e) (as_extension {q = q} m f) = absurd (h.writable.lawful.places.apart (suc q) i (omega arith) l (f ∙ sym e))
+  one_holds b duty duty' (as_extension l e) (as_before m x) = absurd (new_extension b _ duty' l e m x)
+  one_holds b duty duty' (as_extension {q = q} l e) (as_data {i = i} m f) = absurd (h.writable.lawful.places.apart (suc q) i (omega arith) m (e ∙ sym f))
+  one_holds b duty duty' (as_extension {q = p} l e) (as_extension {q = q} m f) = ap (Duty.Extension file) (extension_places p q l m (e ∙ sym f))
+
+  holds_inside : (b : ℕ) (duty : Duty) → Holds b duty → IsInside t.blocks b
+  holds_inside b duty (as_before m _) = s.fits.inside b duty m
+  holds_inside b duty (as_data {i = i} l e) = let n = h.writable.lawful.places.data_inside i l in (omega (arith, n.0, e), omega (arith, n.1, e, count_new))
+  holds_inside b duty (as_extension {q = q} l e) = let n = h.writable.lawful.places.headers_inside (suc q) (omega arith) in (omega (arith, n.0, e), omega (arith, n.1, e, count_new))
+
+  -- ---- the lists fit
+
+  data_fits : (f : ℕ) → length (lay.file_data f) ≡ data_count t.format (size_of u f)
+  data_fits f = elim (cases_eq f file) [
+    | inl e ↦
+        ap (λ (g : ℕ). length (lay.file_data g)) e ∙ ap length (data_here s.layout file blocks' extensions') ∙ h.writable.lawful.data_fits
+        ∙ ap (λ (g : Format). data_count g (length bytes')) (h.format ∙ format_is old t s)
+        ∙ ap (data_count t.format) (sym (size_here t file node bytes bytes' found is_file)) ∙ ap (λ (g : ℕ). data_count t.format (size_of u g)) (sym e)
+    | inr n ↦ ap length (data_there s.layout file blocks' extensions' f n) ∙ s.fits.file_data f ∙ ap (data_count t.format) (sym (size_there t file node bytes bytes' found is_file f n))
+  ]
+
+  extensions_fit : (f : ℕ) → length (lay.extensions f) ≡ extension_count (length (lay.file_data f))
+  extensions_fit f = elim (cases_eq f file) [
+    | inl e ↦
+        ap (λ (g : ℕ). length (lay.extensions g)) e ∙ ap length (extensions_here s.layout file blocks' extensions') ∙ h.writable.lawful.extensions_fit
+        ∙ ap (λ (xs : List ℕ). extension_count (length xs)) (sym (data_here s.layout file blocks' extensions')) ∙ ap (λ (g : ℕ). extension_count (length (lay.file_data g))) (sym e)
+    | inr n ↦ ap length (extensions_there s.layout file blocks' extensions' f n) ∙ s.fits.extensions f ∙ ap (λ (xs : List ℕ). extension_count (length xs)) (sym (data_there s.layout file blocks' extensions' f n))
+  ]
+
+  pub fits_after : Fits u lay
+  fits_after = record {
+    pages = s.fits.pages;
+    file_data = data_fits;
+    extensions = extensions_fit;
+    inside = λ b duty m. holds_inside b duty (holds b duty m);
+    lost = s.fits.lost;
+    one_duty = λ b duty duty' m n. one_holds b duty duty' (holds b duty m) (holds b duty' n);
+  }
+
+  -- ---- marks
+
+  pages_new : pages_of new ≡ pages_of old
+  pages_new = ap (λ (n : ℕ). page_count (n / 512)) h.leaves.same_length
+
+  -- a block that has a duty is marked used
+  used_before : (b : ℕ) (duty : Duty) → HasDuty t s.layout b duty → IsBesideLists duty → has_free_bit new b ≡ false
+  used_before b duty m beside = go duty m beside
+    where
+      left : (d : Duty) → HasDuty t s.layout b d → IsBesideLists d → b ≢ file → ((p : ℕ) → d ≢ Duty.Page p) → has_free_bit new b ≡ false
+      left d m beside not_file no_page = h.leaves.used b (inside old t s b d m) (other b d m beside not_file no_page)
+
+      go : (d : Duty) → HasDuty t s.layout b d → IsBesideLists d → has_free_bit new b ≡ false
+      go (Duty.Page p) m beside =
+          let at = slice_get-back s.layout.pages p b m in
+          let within : p < pages_of old = omega (arith, at.0, s.fits.pages, ap page_count (count_same old t s)) in
+          let serves = page_serves old t s p within in
+          let back = slice_get-back s.layout.pages p (page_block old p) serves in
+          let is : page_block new p ≡ b = h.leaves.pages p within ∙ sym back.1 ∙ at.1 in
+          ap (has_free_bit new) (sym is) ∙ h.writable.map.pages_marked p (omega (arith, within, pages_new))
+      go Duty.Key m beside = elim (cases_eq b file) [
+        | inl e ↦ ap (has_free_bit new) e ∙ (h.writable.headers_used 0 (omega arith)).marked
+        | inr n ↦ left Duty.Key m beside n (λ p z. cc z)
+      ]
+      go (Duty.Data f i) m beside = left (Duty.Data f i) m beside (λ e. no_key m e) (λ p z. cc z)
+        where
+          no_key : HasDuty t s.layout b (Duty.Data f i) → b ≢ file
+          no_key m e = let duty : Duty.Data f i ≡ Duty.Key = s.fits.one_duty b (Duty.Data f i) Duty.Key m (key_serves old t s b node (ap t.nodes e ∙ found)) in cc duty
+      go (Duty.Extension f q) m beside = left (Duty.Extension f q) m beside (λ e. no_key m e) (λ p z. cc z)
+        where
+          no_key : HasDuty t s.layout b (Duty.Extension f q) → b ≢ file
+          no_key m e = let duty : Duty.Extension f q ≡ Duty.Key = s.fits.one_duty b (Duty.Extension f q) Duty.Key m (key_serves old t s b node (ap t.nodes e ∙ found)) in cc duty
+      go Duty.Lost m beside = left Duty.Lost m beside (λ e. no_key m e) (λ p z. cc z)
+        where
+          no_key : HasDuty t s.layout b Duty.Lost → b ≢ file
+          no_key m e = let duty : Duty.Lost ≡ Duty.Key = s.fits.one_duty b Duty.Lost Duty.Key m (key_serves old t s b node (ap t.nodes e ∙ found)) in cc duty
+
+  used_after : (b : ℕ) (duty : Duty) → Holds b duty → has_free_bit new b ≡ false
+  used_after b duty (as_before m x) = used_before b duty m x
+  used_after b duty (as_data {i = i} l e) = ap (has_free_bit new) (sym e) ∙ (h.writable.data_used i l).marked
+  used_after b duty (as_extension {q = q} l e) = ap (has_free_bit new) (sym e) ∙ (h.writable.headers_used (suc q) (omega arith)).marked
+
+  pub marked_free_after : (b : ℕ) → IsInside t.blocks b → HasFreeBit new b → ¬ Named u lay b
+  marked_free_after b i free named = false≢true (sym (used_after b named.0 (holds b named.0 named.1)) ∙ free)
+
+  -- a block that is marked used has a duty
+  named_before : (b : ℕ) (duty : Duty) → HasDuty t s.layout b duty → has_free_bit new b ≡ false → Named u lay b
+  named_before b (Duty.Page p) m used = (Duty.Page p, m)
+  named_before b Duty.Key m used = (Duty.Key, key_on b m)
+  named_before b Duty.Lost m used = (Duty.Lost, m)
+  named_before b (Duty.Data f i) m used = elim (cases_eq f file) [
+    | inr n ↦ (Duty.Data f i, ap (λ (xs : List ℕ). slice_get xs i) (data_there s.layout file blocks' extensions' f n) ∙ m)
+    | inl e ↦
+        let at = slice_get-back (s.layout.file_data file) i b (ap (λ (g : ℕ). slice_get (s.layout.file_data g) i) (sym e) ∙ m) in
+        elim (h.data_to i at.0) [
+          | inl stays ↦ (Duty.Data file i, serves_data i stays.0 ∙ ap Some (stays.1 ∙ at.1))
+          | inr free ↦ absurd (false≢true (sym used ∙ ap (has_free_bit new) (sym at.1) ∙ free))
+        ]
+  ]
+  named_before b (Duty.Extension f q) m used = elim (cases_eq f file) [
+    | inr n ↦ (Duty.Extension f q, ap (λ (xs : List ℕ). slice_get xs q) (extensions_there s.layout file blocks' extensions' f n) ∙ m)
+    | inl e ↦
+        let at = slice_get-back (s.layout.extensions file) q b (ap (λ (g : ℕ). slice_get (s.layout.extensions g) q) (sym e) ∙ m) in
+        elim (h.extensions_to q at.0) [
+          | inl stays ↦ (Duty.Extension file q, serves_extension q stays.0 ∙ ap Some (stays.1 ∙ at.1))
+          | inr free ↦ absurd (false≢true (sym used ∙ ap (has_free_bit new) (sym at.1) ∙ free))
+        ]
+  ]
+
+  named_taken : (b : ℕ) → IsIn blocks' b ⊎ IsIn extensions' b → Named u lay b
+  named_taken b (inl at) = (Duty.Data file at.0, serves_data at.0 at.1 ∙ ap Some at.2)
+  named_taken b (inr at) = (Duty.Extension file at.0, serves_extension at.0 at.1 ∙ ap Some at.2)
+
+  pub marked_used_after : (b : ℕ) → IsInside t.blocks b → ¬ HasFreeBit new b → Named u lay b
+  marked_used_after b i used = go (has_free_bit new b) refl (has_free_bit old b) refl
+    where
+      go : (v : Bool) → has_free_bit new b ≡ v → (w : Bool) → has_free_bit old b ≡ w → Named u lay b
+      go true e w f = absurd (used e)
+      go false e true f = named_taken b (h.taken b (i.0, omega (arith, i.1, count_same old t s)) f e)
+      go false e false f = let n = s.marked_used b i (λ m. false≢true (sym f ∙ m)) in named_before b n.0 n.1 e

@@ -1,0 +1,307 @@
+-- A block that is taken for a new node, or given back by one: the rest of the image stays.
+use Rattle.std.proofs.Common.{◌≡◌, ◌≢◌, ℕ, zero, suc, ◌+◌, ◌-◌, ◌/◌, ◌%◌, ◌<◌, ◌≤◌, ◌⊎◌, inl, inr, Bool, true, false, ◌==◌, List, ◌∷◌, length, slice_index, Contains, not, Option, Some, is_some, option_map, refl, sym, ap, ◌∙◌, subst, arith}
+use Rattle.std.proofs.lemmas.Bool.{cases_lt, cases_eq}
+use Rattle.std.proofs.lemmas.List.{get_or_default, get_or_past}
+use Rattle.adf_block.specs.declared.Format.{Format}
+use Rattle.adf_block.specs.declared.Format.TheVariants.{Ofs, Ffs}
+use Rattle.adf_block.specs.Image.{IsInside, has_free_bit, HasFreeBit, bytes_at, long, block_sum}
+use Rattle.adf_block.specs.Chained.{Chained}
+use Rattle.adf_block.specs.Fields.{HasText, table_entry, next_in_chain, next_extension, next_data, name_byte, comment_byte}
+use Rattle.ados_name.specs.Name.{slot}
+use Rattle.ados_data.specs.Cost.{data_count}
+use Rattle.ados_data.specs.File.{HasFile, file_byte}
+use Rattle.ados_tree.specs.Tree.{Node, Tree, root, entries, entries_in, size_in, size_of, name_of}
+use Rattle.ados_tree.specs.Tree.Content.{Directory, File}
+use Rattle.ados_tree.specs.Change.{with_node}
+use Rattle.ados_tree.specs.Layout.{Layout, Fits, Duty, HasDuty, Named}
+use Rattle.ados_tree.specs.Dates.{date_at}
+use Rattle.ados_tree.specs.Stands.{HasNode, HasEntry, HasRoot, in_slot}
+use Rattle.adf_block.specs.Frame.{SameBut}
+use Rattle.ados_change.specs.steps.Writes.{AtLongs}
+use Rattle.ados_change.proofs.Frame.{long-kept, bytes-kept, sum-kept}
+use Rattle.ados_tree.proofs.Standing.{slice_get-index}
+use Rattle.ados_tree.proofs.Nodes.{parent_in}
+use Rattle.ados_change.proofs.Entering.{Contains-part}
+use Rattle.ados_change.proofs.Changed.{nodes_here, nodes_other}
+use Rattle.ados_change.proofs.Loose.{Loose}
+use Rattle.ados_change.proofs.Slots.{slots_beside}
+use Rattle.ados_change.proofs.Spells.{Spells}
+use Rattle.ados_change.proofs.Reframed.{Chained-stays}
+
+-- the block of a page
+abbrev pub IsPage : Layout → ℕ → Type 0
+IsPage l b = (p : ℕ) × (p < length l.pages) × (slice_index l.pages p ≡ b)
+
+-- the pages and one block
+abbrev pub InPageOr : Layout → ℕ → ℕ → ℕ → Type 0
+InPageOr l key b j = IsPage l b ⊎ (b ≡ key)
+
+-- the block of a key got this node, or is free
+pub record Remarks (old : List ℕ) (t : Tree) (l : Layout) (key : ℕ) (o : Option Node) (new : List ℕ) : Type 0 where
+  pub change : SameBut (AtLongs (InPageOr l key)) old new
+  pub bit : has_free_bit new key ≡ not (is_some o)
+  pub others : (b : ℕ) → IsInside t.blocks b → b ≢ key → has_free_bit new b ≡ has_free_bit old b
+  pub sums : (page : ℕ) → Contains l.pages page → block_sum new page ≡ 0
+
+-- the node of a key that has its block alone
+pub record IsAlone (t : Tree) (l : Layout) (key : ℕ) (o : Option Node) : Type 0 where
+  pub inside : IsInside t.blocks key
+  pub only : (duty : Duty) → HasDuty t l key duty → duty ≡ Duty.Key
+  pub same_list : entries_in (option_map (λ node. node.content) o) ≡ entries t key
+  pub size_after : size_in (option_map (λ node. node.content) o) ≡ 0
+  pub size_before : size_of t key ≡ 0
+
+module _ (old new : List ℕ) (t : Tree) (l : Layout) (key : ℕ) (o : Option Node) (s : Spells old t l) (loose : Loose t key) (alone : IsAlone t l key o) (r : Remarks old t l key o new) where
+  abbrev w : Tree
+  w = with_node key o t
+
+  -- a block beside the pages that is not the key
+  abbrev pub IsBeside : ℕ → Type 0
+  IsBeside b = (b ≢ key) × ((p : ℕ) → p < length l.pages → slice_index l.pages p ≢ b)
+
+  untouched : (b j : ℕ) → IsBeside b → ¬ InPageOr l key b j
+  untouched b j n (inl m) = n.1 m.0 m.1 m.2
+  untouched b j n (inr e) = n.0 e
+
+  long_stays : (b j : ℕ) → IsBeside b → j < 128 → long new b j ≡ long old b j
+  long_stays b j n m = long-kept (InPageOr l key) old new r.change b j m (untouched b j n)
+
+  sum_stays : (b : ℕ) → IsBeside b → block_sum new b ≡ block_sum old b
+  sum_stays b n = sum-kept (InPageOr l key) old new r.change b (λ j m. untouched b j n)
+
+  bytes_stay : (b i m : ℕ) → IsBeside b → i + m ≤ 512 → bytes_at new b i m ≡ bytes_at old b i m
+  bytes_stay b i m n h = bytes-kept (InPageOr l key) old new r.change b i m h (λ j p q. untouched b (j / 4) n)
+
+  text_stays : (b i : ℕ) (text : List ℕ) → IsBeside b → i + length text < 512 → HasText old b i text → HasText new b i text
+  text_stays b i text n m g = record {
+    counted = r.change.same_byte b i (omega arith) (untouched b (i / 4) n) ∙ g.counted;
+    follows = bytes_stay b (i + 1) (length text) n (omega arith) ∙ g.follows;
+  }
+
+  date_stays : (b i : ℕ) → IsBeside b → i + 2 < 128 → date_at new b i ≡ date_at old b i
+  date_stays b i n m = λ k. record { days = long_stays b i n (omega arith) k; minutes = long_stays b (i + 1) n (omega arith) k; ticks = long_stays b (i + 2) n m k }
+
+  -- a block with another duty than that of a page, and not the key
+  by_duty : (b : ℕ) (duty : Duty) → HasDuty t l b duty → ((p : ℕ) → duty ≢ Duty.Page p) → b ≢ key → IsBeside b
+  by_duty b duty m n o = (o, λ p h e. n p (s.fits.one_duty b duty (Duty.Page p) m (slice_get-index l.pages p h ∙ ap Some e)))
+
+  not_key_duty : (b : ℕ) (duty : Duty) → HasDuty t l b duty → duty ≢ Duty.Key → b ≢ key
+  not_key_duty b duty m n e = n (alone.only duty (subst (λ (c : ℕ). HasDuty t l c duty) e m))
+
+  node_beside : (k : ℕ) (a : Node) → t.nodes k ≡ Some a → k ≢ key → IsBeside k
+  node_beside k a e n = by_duty k Duty.Key (rw e refl) (λ p z. cc z) n
+
+  root_beside : IsBeside (root t)
+  root_beside = node_beside (root t) loose.root_node.0 loose.root_node.1 (λ e. loose.not_root (sym e))
+
+  low_beside : (b : ℕ) → b < 2 → IsBeside b
+  low_beside b m = (
+    λ e. omega (arith, m, e, alone.inside.0),
+    λ p h e. let inside = s.fits.inside b (Duty.Page p) (slice_get-index l.pages p h ∙ ap Some e) in omega (arith, m, inside.0),
+  )
+
+  data_beside : (file i : ℕ) → IsBeside (slice_index (l.file_data file) i)
+  data_beside file i = elim (cases_lt i (length (l.file_data file))) [
+    | inl m ↦
+        let serves = slice_get-index (l.file_data file) i m in
+        by_duty (slice_index (l.file_data file) i) (Duty.Data file i) serves (λ p z. cc z) (not_key_duty _ (Duty.Data file i) serves (λ z. cc z))
+    | inr m ↦ subst IsBeside (sym (get_or_past (l.file_data file) i 0 m)) (low_beside 0 (omega arith))
+  ]
+
+  extension_beside : (file i : ℕ) → i < length (l.extensions file) → IsBeside (slice_index (l.extensions file) i)
+  extension_beside file i m =
+      let serves = slice_get-index (l.extensions file) i m in
+      by_duty (slice_index (l.extensions file) i) (Duty.Extension file i) serves (λ p z. cc z) (not_key_duty _ (Duty.Extension file i) serves (λ z. cc z))
+
+  header_beside : (file i : ℕ) → IsBeside file → i ≤ length (l.extensions file) → IsBeside (slice_index (file ∷ l.extensions file) i)
+  header_beside file zero n m = n
+  header_beside file (suc i) n m = extension_beside file i (omega arith)
+
+  file_byte_stays : (format : Format) (file k : ℕ) → file_byte format new (l.file_data file) k ≡ file_byte format old (l.file_data file) k
+  file_byte_stays Ofs file k = r.change.same_byte (slice_index (l.file_data file) (k / 488)) (24 + k % 488) (omega arith) (untouched (slice_index (l.file_data file) (k / 488)) ((24 + k % 488) / 4) (data_beside file (k / 488)))
+  file_byte_stays Ffs file k = r.change.same_byte (slice_index (l.file_data file) (k / 512)) (0 + k % 512) (omega arith) (untouched (slice_index (l.file_data file) (k / 512)) ((0 + k % 512) / 4) (data_beside file (k / 512)))
+
+  -- each block of a list that is beside has its link still
+  links_stay : (link : ℕ) (xs : List ℕ) → link < 128 → ((i : ℕ) → i < length xs → IsBeside (slice_index xs i)) → (b : ℕ) → Contains xs b → long new b link ≡ long old b link
+  links_stay link xs m n b c = long_stays b link (subst IsBeside (get_or_default xs c.0 0 b c.1 ∙ c.2) (n c.0 c.1)) m
+
+  file_stays : (file : ℕ) (bytes : List ℕ) → IsBeside file → HasFile old t.format file (l.file_data file) (l.extensions file) bytes → HasFile new t.format file (l.file_data file) (l.extensions file) bytes
+  file_stays file bytes n g = record {
+    size = long_stays file 81 n (omega arith) ∙ g.size;
+    chain = subst (λ (i : ℕ). Chained new next_extension i (l.extensions file)) (sym (long_stays file 126 n (omega arith))) (Chained-stays old new next_extension (long old file next_extension) (l.extensions file) (links_stay 126 (l.extensions file) (omega arith) (extension_beside file)) g.chain);
+    extension = λ i m. let x = g.extension i m in let block = slice_index (l.extensions file) i in let b = extension_beside file i m in record {
+      primary = long_stays block 0 b (omega arith) ∙ x.primary;
+      key_field = long_stays block 1 b (omega arith) ∙ x.key_field;
+      sum = sum_stays block b ∙ x.sum;
+      parent = long_stays block 125 b (omega arith) ∙ x.parent;
+      secondary = long_stays block 127 b (omega arith) ∙ x.secondary;
+    };
+    counts = λ i m. long_stays (slice_index (file ∷ l.extensions file) i) 2 (header_beside file i n m) (omega arith) ∙ g.counts i m;
+    pointers = λ i m. long_stays (slice_index (file ∷ l.extensions file) (i / 72)) (77 - i % 72) (header_beside file (i / 72) n (omega (arith, m, s.fits.extensions file))) (omega arith) ∙ g.pointers i m;
+    contents = λ k m. g.contents k m ∙ sym (file_byte_stays t.format file k);
+    ofs_chain = λ o. subst (λ (i : ℕ). Chained new next_data i (l.file_data file)) (sym (long_stays file 4 n (omega arith))) (Chained-stays old new next_data (long old file next_data) (l.file_data file) (links_stay 4 (l.file_data file) (omega arith) (λ i m. data_beside file i)) (g.ofs_chain o));
+    ofs_data = λ o i m. let x = g.ofs_data o i m in let block = slice_index (l.file_data file) i in let b = data_beside file i in record {
+      primary = long_stays block 0 b (omega arith) ∙ x.primary;
+      header = long_stays block 1 b (omega arith) ∙ x.header;
+      sequence = long_stays block 2 b (omega arith) ∙ x.sequence;
+      held = long_stays block 3 b (omega arith) ∙ x.held;
+      sum = sum_stays block b ∙ x.sum;
+    };
+  }
+
+  root_stays : HasRoot new w l
+  root_stays =
+      let g = s.root_fields in
+      record {
+        table_size = long_stays (root t) 3 root_beside (omega arith) ∙ g.table_size;
+        valid = long_stays (root t) 78 root_beside (omega arith) ∙ g.valid;
+        pages = λ i m. long_stays (root t) (79 + i) root_beside (omega (arith, m, s.fits.pages, loose.size.1)) ∙ g.pages i m;
+        disk_date = date_stays (root t) 118 root_beside (omega arith) ∙ g.disk_date;
+        creation_date = date_stays (root t) 121 root_beside (omega arith) ∙ g.creation_date;
+        parent = long_stays (root t) 125 root_beside (omega arith) ∙ g.parent;
+        secondary = long_stays (root t) 127 root_beside (omega arith) ∙ g.secondary;
+      }
+
+  node_at : (k : ℕ) (a : Node) → w.nodes k ≡ Some a → ((k ≡ key) × (o ≡ Some a)) ⊎ ((k ≢ key) × (t.nodes k ≡ Some a))
+  node_at k a e = elim (cases_eq k key) [
+    | inl d ↦ inl (d, sym (nodes_here key o t) ∙ ap w.nodes (sym d) ∙ e)
+    | inr n ↦ inr (n, sym (nodes_other key o t k n) ∙ e)
+  ]
+
+  slots_same : (dir q : ℕ) → in_slot w dir q ≡ in_slot t dir q
+  slots_same dir q = slots_beside t key loose o alone.same_list dir q
+
+  -- ---- the duties
+
+  serves_old : (b : ℕ) (duty : Duty) → b ≢ key → HasDuty w l b duty → HasDuty t l b duty
+  serves_old b (Duty.Page i) n m = m
+  serves_old b Duty.Key n m = ap is_some (sym (nodes_other key o t b n)) ∙ m
+  serves_old b (Duty.Data file i) n m = m
+  serves_old b (Duty.Extension file i) n m = m
+  serves_old b Duty.Lost n m = m
+
+  serves_new : (b : ℕ) (duty : Duty) → b ≢ key → HasDuty t l b duty → HasDuty w l b duty
+  serves_new b (Duty.Page i) n m = m
+  serves_new b Duty.Key n m = ap is_some (nodes_other key o t b n) ∙ m
+  serves_new b (Duty.Data file i) n m = m
+  serves_new b (Duty.Extension file i) n m = m
+  serves_new b Duty.Lost n m = m
+
+  serves_here : (duty : Duty) → HasDuty w l key duty → (duty ≡ Duty.Key) × (is_some o ≡ true)
+  serves_here (Duty.Page i) m = absurd (let e = alone.only (Duty.Page i) m in cc e)
+  serves_here Duty.Key m = (refl, ap is_some (sym (nodes_here key o t)) ∙ m)
+  serves_here (Duty.Data file i) m = absurd (let e = alone.only (Duty.Data file i) m in cc e)
+  serves_here (Duty.Extension file i) m = absurd (let e = alone.only (Duty.Extension file i) m in cc e)
+  serves_here Duty.Lost m = absurd (let e = alone.only Duty.Lost m in cc e)
+
+  size_stays : (file : ℕ) → size_of w file ≡ size_of t file
+  size_stays file = elim (cases_eq file key) [
+    | inl e ↦ ap (λ (n : Option Node). size_in (option_map (λ node. node.content) n)) (ap w.nodes e ∙ nodes_here key o t) ∙ alone.size_after ∙ sym alone.size_before ∙ ap (size_of t) (sym e)
+    | inr n ↦ ap (λ (n : Option Node). size_in (option_map (λ node. node.content) n)) (nodes_other key o t file n)
+  ]
+
+  fits_after : Fits w l
+  fits_after = record {
+    pages = s.fits.pages;
+    file_data = λ file. s.fits.file_data file ∙ ap (data_count t.format) (sym (size_stays file));
+    extensions = s.fits.extensions;
+    inside = λ b duty m. elim (cases_eq b key) [
+      | inl e ↦ subst (IsInside t.blocks) (sym e) alone.inside
+      | inr n ↦ s.fits.inside b duty (serves_old b duty n m)
+    ];
+    lost = s.fits.lost;
+    one_duty = λ b duty other m n. elim (cases_eq b key) [
+      | inl e ↦ (serves_here duty (subst (λ (c : ℕ). HasDuty w l c duty) e m)).0 ∙ sym (serves_here other (subst (λ (c : ℕ). HasDuty w l c other) e n)).0
+      | inr d ↦ s.fits.one_duty b duty other (serves_old b duty d m) (serves_old b other d n)
+    ];
+  }
+
+  free_after : (b : ℕ) → IsInside t.blocks b → HasFreeBit new b → ¬ Named w l b
+  free_after b i m n = elim (cases_eq b key) [
+    | inl e ↦
+        let here = serves_here n.0 (subst (λ (c : ℕ). HasDuty w l c n.0) e n.1) in
+        let bit : has_free_bit new key ≡ true = ap (has_free_bit new) (sym e) ∙ m in
+        let clear : has_free_bit new key ≡ false = r.bit ∙ ap not here.1 in
+        cc (bit, clear)
+    | inr d ↦ s.marked_free b i (sym (r.others b i d) ∙ m) (n.0, serves_old b n.0 d n.1)
+  ]
+
+  used_after : (b : ℕ) → IsInside t.blocks b → ¬ HasFreeBit new b → Named w l b
+  used_after b i m = elim (cases_eq b key) [
+    | inl e ↦
+        let set : is_some o ≡ true = is_set (is_some o) refl (λ z. m (ap (has_free_bit new) e ∙ z)) in
+        (Duty.Key, ap is_some (ap w.nodes e ∙ nodes_here key o t) ∙ set)
+    | inr d ↦ let n = s.marked_used b i (λ z. m (r.others b i d ∙ z)) in (n.0, serves_new b n.0 d n.1)
+  ]
+    where
+      is_set : (c : Bool) → is_some o ≡ c → ¬ HasFreeBit new key → c ≡ true
+      is_set true e n = refl
+      is_set false e n = absurd (n (r.bit ∙ ap not e))
+
+  module _ (node_here : (a : Node) → o ≡ Some a → HasNode new key a) (entry_here : (a : Node) (dir : ℕ) → o ≡ Some a → a.parent ≡ Some dir → HasEntry new key a dir)
+      (slots_here : (a : Node) (keys : List ℕ) (q : ℕ) → o ≡ Some a → a.content ≡ Directory keys → q < 72 → Chained new next_in_chain (table_entry new key q) (in_slot t key q))
+      (file_here : (a : Node) (bytes : List ℕ) → o ≡ Some a → a.content ≡ File bytes → HasFile new t.format key (l.file_data key) (l.extensions key) bytes) where
+    node_after : (k : ℕ) (a : Node) → w.nodes k ≡ Some a → HasNode new k a
+    node_after k a e = elim (node_at k a e) [
+      | inl h ↦ subst (λ (b : ℕ). HasNode new b a) (sym h.0) (node_here a h.1)
+      | inr h ↦
+          let b = node_beside k a h.1 h.0 in
+          let g = s.nodes k a h.1 in
+          let short = loose.name k a h.1 in
+          record {
+            primary = long_stays k 0 b (omega arith) ∙ g.primary;
+            sum = sum_stays k b ∙ g.sum;
+            name = text_stays k name_byte a.name b (omega (arith, short.short)) g.name;
+            date = date_stays k 105 b (omega arith) ∙ g.date;
+          }
+    ]
+
+    entry_after : (k dir : ℕ) (a : Node) → w.nodes k ≡ Some a → a.parent ≡ Some dir → HasEntry new k a dir
+    entry_after k dir a e p = elim (node_at k a e) [
+      | inl h ↦ subst (λ (b : ℕ). HasEntry new b a dir) (sym h.0) (entry_here a dir h.1 p)
+      | inr h ↦
+          let b = node_beside k a h.1 h.0 in
+          let g = s.entries k dir a h.1 p in
+          let short = loose.comment k a h.1 in
+          record {
+            key_field = long_stays k 1 b (omega arith) ∙ g.key_field;
+            protection_field = long_stays k 80 b (omega arith) ∙ g.protection_field;
+            comment = text_stays k comment_byte a.comment b (omega (arith, short.short)) g.comment;
+            parent = long_stays k 125 b (omega arith) ∙ g.parent;
+            secondary = long_stays k 127 b (omega arith) ∙ g.secondary;
+          }
+    ]
+
+    -- an entry of a list is a node beside
+    listed_beside : (dir k : ℕ) → Contains (entries t dir) k → IsBeside k
+    listed_beside dir k m =
+        let p = (loose.listed dir k).0 m in
+        let n = parent_in (t.nodes k) dir p.1 in
+        node_beside k n.0 n.1 p.0
+
+    chain_after : (dir : ℕ) (a : Node) (keys : List ℕ) (q : ℕ) → w.nodes dir ≡ Some a → a.content ≡ Directory keys → q < 72 → Chained new next_in_chain (table_entry new dir q) (in_slot w dir q)
+    chain_after dir a keys q e c m = subst (Chained new next_in_chain (table_entry new dir q)) (sym (slots_same dir q)) (elim (node_at dir a e) [
+      | inl h ↦ subst (λ (d : ℕ). Chained new next_in_chain (table_entry new d q) (in_slot t d q)) (sym h.0) (slots_here a keys q h.1 c m)
+      | inr h ↦
+          subst (λ (first : ℕ). Chained new next_in_chain first (in_slot t dir q)) (sym (long_stays dir (6 + q) (node_beside dir a h.1 h.0) (omega (arith, m))))
+          (Chained-stays old new next_in_chain (table_entry old dir q) (in_slot t dir q) (λ b n. long_stays b 124 (listed_beside dir b (Contains-part (λ k. slot (name_of t k) == q) (entries t dir) b n)) (omega arith)) (s.chains dir a keys q h.1 c m))
+    ])
+
+    pub remarked : Spells new w l
+    remarked = record {
+      fits = fits_after;
+      whole = r.change.same_length ∙ s.whole;
+      boot = bytes_stay 0 0 4 (low_beside 0 (omega arith)) (omega arith) ∙ s.boot;
+      root_fields = root_stays;
+      nodes = node_after;
+      entries = entry_after;
+      pages = r.sums;
+      lost = λ b bytes e. let serves : HasDuty t l b Duty.Lost = rw e refl in bytes_stay b 0 512 (by_duty b Duty.Lost serves (λ p z. cc z) (not_key_duty b Duty.Lost serves (λ z. cc z))) (omega arith) ∙ s.lost b bytes e;
+      chains = chain_after;
+      files = λ file a bytes e c. elim (node_at file a e) [
+        | inl h ↦ subst (λ (f : ℕ). HasFile new t.format f (l.file_data f) (l.extensions f) bytes) (sym h.0) (file_here a bytes h.1 c)
+        | inr h ↦ file_stays file bytes (node_beside file a h.1 h.0) (s.files file a bytes h.1 c)
+      ];
+      marked_free = free_after;
+      marked_used = used_after;
+    }

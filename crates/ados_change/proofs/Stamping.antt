@@ -1,0 +1,137 @@
+-- The moment of a change, put in three steps.
+use Rattle.std.proofs.Common.{◌≡◌, ◌≢◌, ℕ, inl, inr, List, [], Option, Some, None, IsSome, option_map, refl, sym, ap, ◌∙◌, subst, arith, eq-eqb}
+use Rattle.std.proofs.lemmas.Bool.{ne_eqb, cases_eq}
+use Rattle.adf_block.specs.Image.{root_key, long}
+use Rattle.adf_block.specs.Frame.{SameBut}
+use Rattle.adf_block.proofs.Frames.{same_trans, same_weaken, same_count}
+use Rattle.ados_name.specs.declared.Date3.{Date3}
+use Rattle.ados_tree.specs.Tree.{Node, Tree, root}
+use Rattle.ados_tree.specs.Keys.{HasFileKey, HasEntryKey, HasKey, HasTree}
+use Rattle.ados_tree.specs.Stands.{Stands}
+use Rattle.ados_tree.specs.Faults.{root_of}
+use Rattle.ados_tree.specs.Kept.{Kept}
+use Rattle.ados_tree.specs.Change.{stamped, without_archive}
+use Rattle.ados_tree.proofs.Nodes.{root_or_parent}
+use Rattle.ados_tree.proofs.Standing.{root_is, IsFileNode}
+use Rattle.ados_tree.proofs.OneTree.{one_tree}
+use Rattle.ados_change.specs.Places.{Summed}
+use Rattle.ados_change.specs.FieldTold.{dated, protected}
+use Rattle.ados_change.specs.Stamps.{AtStamps, touched}
+use Rattle.ados_change.specs.Renewed.{IsStamped}
+use Rattle.ados_change.proofs.Contents.{file_not_root}
+use Rattle.ados_change.proofs.Stamped.{kept_before, type_stamped}
+use Rattle.ados_change.proofs.Renewed.{file_node}
+
+abbrev with_bits : ℕ → Node → Node
+with_bits bits node = record node { protection = bits }
+
+abbrev with_date : Date3 → Node → Node
+with_date moment node = record node { date = moment }
+
+abbrev touch : Date3 → Node → Node
+touch moment node = record node { date = moment; protection = without_archive node.protection }
+
+-- a file's key is not the root's
+pub entry_key : (image : List ℕ) (file : ℕ) → HasFileKey image file → HasEntryKey image file
+entry_key image file key t s =
+    let f = file_node image t s file key in
+    (rw f.at refl, file_not_root t file f.node f.bytes [] f.at f.content s.proper)
+
+-- the bits that a file's header has are those of its node
+bits_field : (image : List ℕ) (t : Tree) (s : Stands image t) (file : ℕ) (f : IsFileNode image t s file) → long image file 80 ≡ f.node.protection
+bits_field image t s file f = elim (root_or_parent t s.proper file f.node f.at) [
+  | inl e ↦ absurd (file_not_root t file f.node f.bytes [] f.at f.content s.proper e)
+  | inr p ↦ (s.entries file p.0 f.node f.at p.1).protection_field
+]
+
+module _ (moment : Date3) (bits file : ℕ) (t : Tree) (node : Node) (at : t.nodes file ≡ Some node) (is : bits ≡ without_archive node.protection) where
+  same_node : (k : ℕ) → (stamped moment (dated file moment (protected file bits t))).nodes k ≡ (touched moment file t).nodes k
+  same_node k = elim (cases_eq k file) [
+    | inl e ↦ rw (eq-eqb k file e, eq-eqb file file refl, at) (ap (λ (b : ℕ). Some (with_date moment (with_bits b node))) is)
+    | inr n ↦ rw (ne_eqb k file n) refl
+  ]
+
+  pub is_touched : stamped moment (dated file moment (protected file bits t)) ≡ touched moment file t
+  is_touched = λ i. record {
+    blocks = t.blocks;
+    format = t.format;
+    disk_date = moment;
+    creation_date = t.creation_date;
+    nodes = λ k. same_node k i;
+    lost = t.lost;
+  }
+
+module _ (moment : Date3) (bits file : ℕ) (old first : List ℕ) (tree : HasTree old) (key : HasFileKey old file)
+    (cleared : bits ≡ without_archive (long old file 80))
+    (first_stands : (t : Tree) → Stands old t → Stands first (protected file bits t)) (first_kept : Kept old first) (first_rest : SameBut (Summed file 320 324) old first) where
+  pub first_tree : HasTree first
+  first_tree = (protected file bits tree.0, first_stands tree.0 tree.1)
+
+  -- the node after the first step
+  first_node : (o : Option Node) (a : Node) → o ≡ Some a → IsSome (option_map (with_bits bits) o)
+  first_node None a e = absurd (cc e)
+  first_node (Some b) a e = refl
+
+  pub first_key : HasKey first file
+  first_key t s =
+      let f = file_node old tree.0 tree.1 file key in
+      let same : protected file bits tree.0 ≡ t = one_tree first (protected file bits tree.0) t (first_stands tree.0 tree.1) s in
+      let some : IsSome ((protected file bits tree.0).nodes file) = rw (eq-eqb file file refl) (first_node (tree.0.nodes file) f.node f.at) in
+      subst (λ (u : Tree). IsSome (u.nodes file)) same some
+
+  module _ (second : List ℕ) (second_stands : (t : Tree) → Stands first t → Stands second (dated file moment t)) (second_kept : Kept first second) (second_rest : SameBut (Summed file 420 432) first second) where
+    pub second_tree : HasTree second
+    second_tree = (dated file moment (protected file bits tree.0), second_stands (protected file bits tree.0) (first_stands tree.0 tree.1))
+
+    module _ (new : List ℕ) (third_stands : (t : Tree) → Stands second t → Stands new (stamped moment t)) (third_kept : Kept second new) (third_rest : SameBut (Summed (root_of second) 472 484) second new) where
+      abbrev r : ℕ
+      r = root tree.0
+
+      first_same : SameBut (AtStamps r file) old first
+      first_same = same_weaken (Summed file 320 324) (AtStamps r file) old first go first_rest
+        where
+          go : (c k : ℕ) → Summed file 320 324 c k → AtStamps r file c k
+          go c k (inl w) = inl (w.0, inr (inl (omega (arith, w.1, w.2))))
+          go c k (inr w) = inl (w.0, inl w.1)
+
+      second_same : SameBut (AtStamps r file) first second
+      second_same = same_weaken (Summed file 420 432) (AtStamps r file) first second go second_rest
+        where
+          go : (c k : ℕ) → Summed file 420 432 c k → AtStamps r file c k
+          go c k (inl w) = inl (w.0, inr (inr (omega (arith, w.1), omega (arith, w.2))))
+          go c k (inr w) = inl (w.0, inl w.1)
+
+      root_second : root_of second ≡ r
+      root_second = ap root_key (same_count (Summed file 420 432) first second second_rest ∙ same_count (Summed file 320 324) old first first_rest) ∙ root_is old tree.0 tree.1
+
+      third_same : SameBut (AtStamps r file) second new
+      third_same = same_weaken (Summed (root_of second) 472 484) (AtStamps r file) second new go third_rest
+        where
+          go : (c k : ℕ) → Summed (root_of second) 472 484 c k → AtStamps r file c k
+          go c k (inl w) = inr (w.0 ∙ root_second, inr (omega (arith, w.1), omega (arith, w.2)))
+          go c k (inr w) = inr (w.0 ∙ root_second, inl w.1)
+
+      all_same : SameBut (AtStamps r file) old new
+      all_same = same_trans (AtStamps r file) old first new first_same (same_trans (AtStamps r file) first second new second_same third_same)
+
+      file_not : file ≢ root tree.0
+      file_not = (entry_key old file key tree.0 tree.1).1
+
+      all_kept : Kept old new
+      all_kept =
+          let f = file_node old tree.0 tree.1 file key in
+          let at : (protected file bits tree.0).nodes file ≡ Some (with_bits bits f.node) = rw (eq-eqb file file refl, f.at) refl in
+          let typed = type_stamped old new tree.0 tree.1 file f.node f.at file_not all_same f.bytes f.content in
+          kept_before old first tree.0 tree.1 file f.node f.at file_not first_same new typed first_kept
+          (kept_before first second (protected file bits tree.0) (first_stands tree.0 tree.1) file (with_bits bits f.node) at file_not second_same new typed second_kept third_kept)
+
+      pub is_stamped : IsStamped moment old file new
+      is_stamped = record {
+        stands = λ t s.
+            let f = file_node old t s file key in
+            let is : bits ≡ without_archive f.node.protection = cleared ∙ ap without_archive (bits_field old t s file f) in
+            subst (Stands new) (is_touched moment bits file t f.node f.at is)
+            (third_stands (dated file moment (protected file bits t)) (second_stands (protected file bits t) (first_stands t s)));
+        kept = all_kept;
+        rest = subst (λ (n : ℕ). SameBut (AtStamps n file) old new) (sym (root_is old tree.0 tree.1)) all_same;
+      }

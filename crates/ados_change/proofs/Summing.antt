@@ -1,0 +1,43 @@
+-- What stays where bytes of a block behind its sum change, and the sum.
+use Rattle.std.proofs.Common.{◌≡◌, ℕ, ◌+◌, ◌*◌, ◌<◌, ◌≤◌, ◌⊎◌, inl, inr, List, length, ap, ◌∙◌, subst, arith}
+use Rattle.adf_block.specs.Image.{root_key, long}
+use Rattle.adf_block.specs.Fields.{HasText}
+use Rattle.adf_block.specs.Frame.{SameBut, AtLong}
+use Rattle.adf_block.proofs.Frames.{same_trans, same_weaken, same_count, same_long, same_bytes_at}
+use Rattle.ados_tree.specs.Dates.{date_at}
+use Rattle.ados_tree.specs.Faults.{root_of}
+use Rattle.ados_change.specs.Places.{Summed, Restamped}
+
+module _ (key low high : ℕ) (old new : List ℕ) (h : SameBut (Summed key low high) old new) where
+  beside : (b i n k : ℕ) → 24 ≤ i → (i + n ≤ low) ⊎ (high ≤ i) → i ≤ k → k < i + n → ¬ Summed key low high b k
+  beside b i n k behind (inl side) l m (inl w) = omega (arith, m, w.1, side)
+  beside b i n k behind (inr side) l m (inl w) = omega (arith, l, w.2, side)
+  beside b i n k behind side l m (inr w) = omega (arith, l, w.1, behind)
+
+  pub text_beside : (b i : ℕ) (text : List ℕ) → 24 ≤ i → i + 1 + length text ≤ 512 → (i + (1 + length text) ≤ low) ⊎ (high ≤ i) → HasText old b i text → HasText new b i text
+  text_beside b i text behind room side g = record {
+    counted = h.same_byte b i (omega arith) (beside b i (1 + length text) i behind side (omega arith) (omega arith)) ∙ g.counted;
+    follows = same_bytes_at (Summed key low high) old new h b (i + 1) (length text) room (λ k l m. beside b i (1 + length text) k behind side (omega arith) (omega arith)) ∙ g.follows;
+  }
+
+  pub long_beside : (b i : ℕ) → i < 128 → 6 ≤ i → (4 * i + 4 ≤ low) ⊎ (high ≤ 4 * i) → long new b i ≡ long old b i
+  long_beside b i l behind side = same_long (Summed key low high) old new h b i l (λ k e. beside b (4 * i) 4 k (omega arith) side (omega (arith, e)) (omega (arith, e)))
+
+  pub date_beside : (b i : ℕ) → i + 2 < 128 → 6 ≤ i → (4 * i + 12 ≤ low) ⊎ (high ≤ 4 * i) → date_at new b i ≡ date_at old b i
+  date_beside b i l behind side = λ q. record { days = one i (omega arith) (omega arith) q; minutes = one (i + 1) (omega arith) (omega arith) q; ticks = one (i + 2) (omega arith) (omega arith) q }
+    where
+      one : (j : ℕ) → i ≤ j → j ≤ i + 2 → long new b j ≡ long old b j
+      one j m n = same_long (Summed key low high) old new h b j (omega (arith, l, n)) (λ k e. beside b (4 * i) 12 k (omega (arith, behind)) side (omega (arith, e, m)) (omega (arith, e, n)))
+
+-- a settled sum leaves a text behind it
+pub text_settled : (b i : ℕ) (text old new : List ℕ) → 24 ≤ i → i + 1 + length text ≤ 512 → SameBut (AtLong b 5) old new → HasText old b i text → HasText new b i text
+text_settled b i text old new behind room h g =
+    text_beside b 20 24 old new (same_weaken (AtLong b 5) (Summed b 20 24) old new (λ c k w. inr w) h) b i text behind room (inr behind) g
+
+-- first bytes of a block, and then the disk date
+pub restamped : (key low high : ℕ) (old mid new : List ℕ) → SameBut (Summed key low high) old mid → SameBut (Summed (root_of mid) 472 484) mid new → SameBut (Restamped (root_of old) key low high) old new
+restamped key low high old mid new first second =
+    let root : root_of mid ≡ root_of old = ap root_key (same_count (Summed key low high) old mid first) in
+    same_trans (Restamped (root_of old) key low high) old mid new
+    (same_weaken (Summed key low high) (Restamped (root_of old) key low high) old mid (λ b i w. inl w) first)
+    (same_weaken (Summed (root_of old) 472 484) (Restamped (root_of old) key low high) mid new (λ b i w. inr w) (subst (λ (r : ℕ). SameBut (Summed r 472 484) mid new) root second))

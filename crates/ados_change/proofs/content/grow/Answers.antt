@@ -1,0 +1,82 @@
+use Rattle.std.proofs.Common.{◌≡◌, ◌≢◌, ℕ, ◌+◌, ◌-◌, ◌++◌, List, length, replicate, ap, ◌∙◌, subst, refl, arith}
+use Rattle.std.proofs.lemmas.List.{length-append, length-replicate}
+use Rattle.adf_block.specs.Image.{free_bit_count}
+use Rattle.ados_data.specs.Cost.{block_cost}
+use Rattle.ados_data.specs.File.{format_of, data_blocks, extension_blocks, contents}
+use Rattle.ados_tree.specs.Tree.{bytes_of}
+use Rattle.ados_tree.specs.Stands.{Stands}
+use Rattle.ados_tree.specs.Change.{rewritten}
+use Rattle.ados_change.proofs.Calls.{of_gains}
+use Rattle.ados_change.proofs.Relaid.{IsRewritten}
+use Rattle.ados_change.proofs.Renewed.{bytes_in, size_in, room_enough, lacks_room, mid_writable, below_mid, same_contents, same_place, same_room, stands_rewritten, keeps_rest}
+use Rattle.ados_change.proofs.content.grow.Goals as goal
+
+pub returns-then-not-has_room-clause-done : goal.returns-then-not-has_room-clause-done
+returns-then-not-has_room-clause-done c =
+    (refl, λ t s. lacks_room c.args.image.now t s c.args.file c.args.size c.requires.file c.if-not-has_room.ensures)
+
+pub extend_near-requires-clause-near : goal.extend_near-requires-clause-near
+extend_near-requires-clause-near c =
+    same_place c.args.moment c.args.image.now c.stamp.new.image c.args.file c.requires.tree c.requires.file c.stamp.ensures c.args.near c.requires.near
+
+pub extend_near-requires-clause-writable : goal.extend_near-requires-clause-writable
+extend_near-requires-clause-writable c =
+    mid_writable c.args.moment c.args.image.now c.stamp.new.image c.args.file c.requires.tree c.requires.file c.stamp.ensures
+
+pub extend_near-requires-clause-below : goal.extend_near-requires-clause-below
+extend_near-requires-clause-below c =
+    below_mid c.args.moment c.args.image.now c.stamp.new.image c.args.file c.requires.tree c.requires.file c.stamp.ensures c.args.from c.requires.below
+
+pub extend_near-requires-clause-longer : goal.extend_near-requires-clause-longer
+extend_near-requires-clause-longer c =
+    let same = ap length (same_contents c.args.moment c.args.image.now c.stamp.new.image c.args.file c.requires.tree c.requires.file c.stamp.ensures) in
+    let size = size_in c.args.image.now c.requires.tree.0 c.requires.tree.1 c.args.file c.requires.file in
+    omega (arith, same, size, c.requires.longer c.requires.tree.0 c.requires.tree.1)
+
+pub extend_near-requires-clause-free : goal.extend_near-requires-clause-free
+extend_near-requires-clause-free c =
+    same_room c.args.moment c.args.image.now c.stamp.new.image c.args.file c.requires.tree c.requires.file c.stamp.ensures c.args.size c.if-not-has_room.ensures
+
+-- the file has the new size
+grown_length : (c : goal.After-extend_near) → length (contents c.extend_near.new.image c.args.file) ≡ c.args.size
+grown_length c =
+    let same = ap length (same_contents c.args.moment c.args.image.now c.stamp.new.image c.args.file c.requires.tree c.requires.file c.stamp.ensures) in
+    let size = size_in c.args.image.now c.requires.tree.0 c.requires.tree.1 c.args.file c.requires.file in
+    ap length c.extend_near.ensures.bytes ∙ omega (
+      arith,
+      length-append (contents c.stamp.new.image c.args.file) (replicate (c.args.size - length (contents c.stamp.new.image c.args.file)) 0),
+      length-replicate {A = ℕ} (c.args.size - length (contents c.stamp.new.image c.args.file)) 0,
+      same,
+      size,
+      c.requires.longer c.requires.tree.0 c.requires.tree.1,
+    )
+
+-- the file is rewritten, in as many blocks more as it needs
+grown_long : (c : goal.After-extend_near) → IsRewritten c.stamp.new.image c.args.file (data_blocks c.stamp.new.image c.args.file) (extension_blocks c.stamp.new.image c.args.file) c.extend_near.new.image (data_blocks c.extend_near.new.image c.args.file) (extension_blocks c.extend_near.new.image c.args.file) (contents c.extend_near.new.image c.args.file)
+grown_long c =
+    let e = c.extend_near.ensures in
+    let balance = ap (λ (n : ℕ). free_bit_count c.extend_near.new.image + block_cost (format_of c.stamp.new.image) n) (grown_length c) ∙ e.free in
+    of_gains c.stamp.new.image c.extend_near.new.image c.args.file
+    (mid_writable c.args.moment c.args.image.now c.stamp.new.image c.args.file c.requires.tree c.requires.file c.stamp.ensures) e.writable e.format e.leaves e.gains e.blocks e.extensions balance
+
+-- so it does not have the bytes that it had
+not_as_long : (c : goal.After-extend_near) → contents c.extend_near.new.image c.args.file ≢ contents c.stamp.new.image c.args.file
+not_as_long c same =
+    let before = ap length (same_contents c.args.moment c.args.image.now c.stamp.new.image c.args.file c.requires.tree c.requires.file c.stamp.ensures) in
+    let size = size_in c.args.image.now c.requires.tree.0 c.requires.tree.1 c.args.file c.requires.file in
+    omega (arith, grown_length c, ap length same, before, size, c.requires.longer c.requires.tree.0 c.requires.tree.1)
+
+pub returns-clause-done : goal.returns-clause-done
+returns-clause-done c = λ t s.
+    let same = same_contents c.args.moment c.args.image.now c.stamp.new.image c.args.file c.requires.tree c.requires.file c.stamp.ensures ∙ bytes_in c.args.image.now t s c.args.file c.requires.file in
+    let bytes : contents c.extend_near.new.image c.args.file ≡ bytes_of t c.args.file ++ replicate (c.args.size - length (bytes_of t c.args.file)) 0 =
+    c.extend_near.ensures.bytes ∙ ap (λ (xs : List ℕ). xs ++ replicate (c.args.size - length xs) 0) same in (
+      room_enough c.args.image.now t s c.args.file c.args.size c.requires.file c.if-not-has_room.ensures,
+      subst (λ (xs : List ℕ). Stands c.extend_near.new.image (rewritten c.args.moment c.args.file xs t)) bytes
+          (stands_rewritten c.args.moment c.args.image.now c.stamp.new.image c.args.file c.requires.tree c.requires.file c.stamp.ensures c.extend_near.new.image (grown_long c) t s),
+    )
+
+pub returns-clause-keeps : goal.returns-clause-keeps
+returns-clause-keeps c =
+    keeps_rest c.args.moment c.args.image.now c.stamp.new.image c.args.file c.requires.tree c.requires.file c.stamp.ensures c.extend_near.new.image (grown_long c) c.extend_near.ensures.keeps
+    (λ same. absurd (not_as_long c same)) c.extend_near.ensures.gains.lowest c.extend_near.ensures.gains.data_rises c.extend_near.ensures.gains.extensions_rise

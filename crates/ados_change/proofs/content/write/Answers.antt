@@ -1,0 +1,113 @@
+use Rattle.std.proofs.Common.{◌≡◌, ◌≢◌, ℕ, ◌+◌, ◌≤◌, ◌++◌, max, List, [], ◌∷◌, length, take, drop, ap, ◌∙◌, sym, subst, refl, arith, eqb-true}
+use Rattle.std.proofs.lemmas.Bool.{eqb-false, ltb-true}
+use Rattle.std.proofs.lemmas.List.{length-append, length-take, length-drop}
+use Rattle.ados_name.specs.declared.Date3.{Date3}
+use Rattle.adf_block.specs.Image.{free_bit_count}
+use Rattle.ados_data.specs.Cost.{block_cost}
+use Rattle.ados_data.specs.File.{format_of, data_blocks, extension_blocks, contents, overlaid}
+use Rattle.ados_data.specs.Changing.{HasFree}
+use Rattle.ados_tree.specs.Tree.{Tree, bytes_of, size_of}
+use Rattle.ados_tree.specs.Stands.{Stands}
+use Rattle.ados_tree.specs.Change.{rewritten, written}
+use Rattle.ados_change.specs.Renewed.{NeedsMore}
+use Rattle.ados_change.proofs.Calls.{of_gains}
+use Rattle.ados_change.proofs.Relaid.{IsRewritten}
+use Rattle.ados_change.proofs.Renewed.{bytes_in, size_in, room_enough, lacks_room, mid_writable, below_mid, same_contents, same_place, same_room, stands_rewritten, keeps_rest}
+use Rattle.ados_change.proofs.content.write.Goals as goal
+
+-- with no bytes nothing is written, and none more are needed
+none_written : (image : List ℕ) (moment : Date3) (file pos : ℕ) (bytes : List ℕ) (t : Tree) → length bytes ≡ 0 → Stands image t → Stands image (written moment file pos bytes t)
+none_written image moment file pos [] t e s = s
+none_written image moment file pos (x ∷ xs) t e s = absurd (omega (arith, e))
+
+none_needed : (file pos n : ℕ) (t : Tree) → n ≡ 0 → pos ≤ size_of t file → ¬ NeedsMore t file (max (size_of t file) (pos + n))
+none_needed file pos n t e l more =
+    let same : max (size_of t file) (pos + n) ≡ size_of t file = omega (arith, e, l) in
+    omega (arith, ltb-true _ _ more, ap (block_cost t.format) same)
+
+-- some bytes are laid over those of the file
+some_written : (moment : Date3) (file pos : ℕ) (bytes : List ℕ) (t : Tree) → length bytes ≢ 0 → rewritten moment file (overlaid (bytes_of t file) pos bytes) t ≡ written moment file pos bytes t
+some_written moment file pos [] t n = absurd (n refl)
+some_written moment file pos (x ∷ xs) t n = refl
+
+pub returns-then-is_empty-clause-done : goal.returns-then-is_empty-clause-done
+returns-then-is_empty-clause-done c = λ t s.
+    let none : length c.args.bytes.now ≡ 0 = eqb-true (length c.args.bytes.now) 0 (sym c.if-is_empty.ensures) in (
+      none_needed c.args.file c.args.pos (length c.args.bytes.now) t none (c.requires.start t s),
+      none_written c.args.image.now c.args.moment c.args.file c.args.pos c.args.bytes.now t none s,
+    )
+
+pub returns-then-not-has_room-clause-done : goal.returns-then-not-has_room-clause-done
+returns-then-not-has_room-clause-done c = (
+  refl,
+  λ t s.
+      let size = c.max-size.ensures ∙ ap (λ (n : ℕ). max n (c.args.pos + length c.args.bytes.now)) (c.size_of.ensures t s) in
+      subst (NeedsMore t c.args.file) size (lacks_room c.args.image.now t s c.args.file c.max-size.result c.requires.file c.if-not-has_room.ensures),
+)
+
+pub write_near-bound-requires-clause-near : goal.write_near-bound-requires-clause-near
+write_near-bound-requires-clause-near c =
+    same_place c.args.moment c.args.image.now c.stamp.new.image c.args.file c.requires.tree c.requires.file c.stamp.ensures c.args.near c.requires.near
+
+pub write_near-bound-requires-clause-writable : goal.write_near-bound-requires-clause-writable
+write_near-bound-requires-clause-writable c =
+    mid_writable c.args.moment c.args.image.now c.stamp.new.image c.args.file c.requires.tree c.requires.file c.stamp.ensures
+
+pub write_near-bound-requires-clause-below : goal.write_near-bound-requires-clause-below
+write_near-bound-requires-clause-below c =
+    below_mid c.args.moment c.args.image.now c.stamp.new.image c.args.file c.requires.tree c.requires.file c.stamp.ensures c.args.from c.requires.below
+
+pub write_near-bound-requires-clause-start : goal.write_near-bound-requires-clause-start
+write_near-bound-requires-clause-start c =
+    let same = ap length (same_contents c.args.moment c.args.image.now c.stamp.new.image c.args.file c.requires.tree c.requires.file c.stamp.ensures) in
+    let size = size_in c.args.image.now c.requires.tree.0 c.requires.tree.1 c.args.file c.requires.file in
+    omega (arith, same, size, c.requires.start c.requires.tree.0 c.requires.tree.1)
+
+pub write_near-bound-requires-clause-free : goal.write_near-bound-requires-clause-free
+write_near-bound-requires-clause-free c =
+    let same = ap length (same_contents c.args.moment c.args.image.now c.stamp.new.image c.args.file c.requires.tree c.requires.file c.stamp.ensures) ∙ size_in c.args.image.now c.requires.tree.0 c.requires.tree.1 c.args.file c.requires.file in
+    let size = c.max-size.ensures ∙ ap (λ (n : ℕ). max n (c.args.pos + length c.args.bytes.now)) (c.size_of.ensures c.requires.tree.0 c.requires.tree.1 ∙ sym same) in
+    subst (HasFree c.stamp.new.image c.args.file) size
+    (same_room c.args.moment c.args.image.now c.stamp.new.image c.args.file c.requires.tree c.requires.file c.stamp.ensures c.max-size.result c.if-not-has_room.ensures)
+
+-- the length of a list over which another was laid
+length-overlaid : (xs : List ℕ) (pos : ℕ) (ys : List ℕ) → pos ≤ length xs → length (overlaid xs pos ys) ≡ max (length xs) (pos + length ys)
+length-overlaid xs pos ys l =
+    omega (
+      arith,
+      l,
+      length-append (take pos xs ++ ys) (drop (pos + length ys) xs),
+      length-append (take pos xs) ys,
+      length-take pos xs,
+      length-drop (pos + length ys) xs,
+    )
+
+-- the file is rewritten, in as many blocks more as it needs
+written_over : (c : goal.Else-prove-2) → IsRewritten c.stamp.new.image c.args.file (data_blocks c.stamp.new.image c.args.file) (extension_blocks c.stamp.new.image c.args.file) c.write_near-bound.new.image (data_blocks c.write_near-bound.new.image c.args.file) (extension_blocks c.write_near-bound.new.image c.args.file) (contents c.write_near-bound.new.image c.args.file)
+written_over c =
+    let e = c.write_near-bound.ensures in
+    let same = ap length (same_contents c.args.moment c.args.image.now c.stamp.new.image c.args.file c.requires.tree c.requires.file c.stamp.ensures) in
+    let size = size_in c.args.image.now c.requires.tree.0 c.requires.tree.1 c.args.file c.requires.file in
+    let within : c.args.pos ≤ length (contents c.stamp.new.image c.args.file) = omega (arith, same, size, c.requires.start c.requires.tree.0 c.requires.tree.1) in
+    let lengths = ap length e.bytes ∙ length-overlaid (contents c.stamp.new.image c.args.file) c.args.pos c.args.bytes.now within in
+    let balance = ap (λ (n : ℕ). free_bit_count c.write_near-bound.new.image + block_cost (format_of c.stamp.new.image) n) lengths ∙ e.free in
+    of_gains c.stamp.new.image c.write_near-bound.new.image c.args.file
+    (mid_writable c.args.moment c.args.image.now c.stamp.new.image c.args.file c.requires.tree c.requires.file c.stamp.ensures) e.writable e.format e.leaves e.gains e.blocks e.extensions balance
+
+pub returns-clause-done : goal.returns-clause-done
+returns-clause-done c = λ t s.
+    let same = same_contents c.args.moment c.args.image.now c.stamp.new.image c.args.file c.requires.tree c.requires.file c.stamp.ensures ∙ bytes_in c.args.image.now t s c.args.file c.requires.file in
+    let bytes : contents c.write_near-bound.new.image c.args.file ≡ overlaid (bytes_of t c.args.file) c.args.pos c.args.bytes.now =
+    c.write_near-bound.ensures.bytes ∙ ap (λ (xs : List ℕ). overlaid xs c.args.pos c.args.bytes.now) same in
+    let size = c.max-size.ensures ∙ ap (λ (n : ℕ). max n (c.args.pos + length c.args.bytes.now)) (c.size_of.ensures t s) in
+    let some : length c.args.bytes.now ≢ 0 = eqb-false (length c.args.bytes.now) 0 (sym c.if-is_empty.ensures) in (
+      subst (λ (n : ℕ). ¬ NeedsMore t c.args.file n) size (room_enough c.args.image.now t s c.args.file c.max-size.result c.requires.file c.if-not-has_room.ensures),
+      subst (Stands c.write_near-bound.new.image) (some_written c.args.moment c.args.file c.args.pos c.args.bytes.now t some)
+          (subst (λ (xs : List ℕ). Stands c.write_near-bound.new.image (rewritten c.args.moment c.args.file xs t)) bytes
+          (stands_rewritten c.args.moment c.args.image.now c.stamp.new.image c.args.file c.requires.tree c.requires.file c.stamp.ensures c.write_near-bound.new.image (written_over c) t s)),
+    )
+
+pub returns-clause-keeps : goal.returns-clause-keeps
+returns-clause-keeps c =
+    keeps_rest c.args.moment c.args.image.now c.stamp.new.image c.args.file c.requires.tree c.requires.file c.stamp.ensures c.write_near-bound.new.image (written_over c) c.write_near-bound.ensures.keeps
+    (λ same. (c.blocks-2.ensures.image, c.blocks-3.ensures.image)) c.write_near-bound.ensures.gains.lowest c.write_near-bound.ensures.gains.data_rises c.write_near-bound.ensures.gains.extensions_rise

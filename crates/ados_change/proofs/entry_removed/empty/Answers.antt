@@ -1,0 +1,28 @@
+use Rattle.std.proofs.Common.{◌≡◌, ◌≢◌, sym, ◌∙◌}
+use Rattle.adf_block.specs.Fields.{file_type, secondary_type}
+use Rattle.ados_tree.specs.Change.{shortened}
+use Rattle.ados_tree.proofs.Keeping.{same_keeps}
+use Rattle.ados_change.proofs.Emptier.{cut_to_nothing, entry_cut, is_file, kept_as_is, key_inside}
+use Rattle.ados_change.proofs.entry_removed.empty.Goals as goal
+
+pub long-requires-clause-block : goal.long-requires-clause-block
+long-requires-clause-block c = key_inside c.args.image.now c.requires.tree.0 c.requires.tree.1 c.args.key (c.requires.can c.requires.tree.0 c.requires.tree.1)
+
+pub returns-then-long-clause-empties : goal.returns-then-long-clause-empties
+returns-then-long-clause-empties c = λ t s.
+    let other : secondary_type c.args.image.now c.args.key ≢ file_type = λ e. c.if-long.true (c.long.ensures ∙ e) in
+    (t, s, kept_as_is c.args.image.now t s c.args.key (c.requires.can t s) c.args.moment other)
+
+pub cut-requires-clause-file : goal.cut-requires-clause-file
+cut-requires-clause-file c = λ t s.
+    let typed : secondary_type c.args.image.now c.args.key ≡ file_type = sym c.long.ensures ∙ c.if-long.false in
+    is_file c.args.image.now t s c.args.key (c.requires.can t s) typed
+
+pub returns-clause-empties : goal.returns-clause-empties
+returns-clause-empties c = λ t s. (shortened c.args.moment c.args.key 0 t, c.cut.ensures.stands t s, cut_to_nothing c.args.image.now t s c.args.key (c.requires.can t s) c.args.moment)
+
+pub returns-then-long-clause-keeps : goal.returns-then-long-clause-keeps
+returns-then-long-clause-keeps c = same_keeps c.args.image.now
+
+pub returns-clause-entry : goal.returns-clause-entry
+returns-clause-entry c = entry_cut c.args.image.now c.requires.tree.0 c.requires.tree.1 c.args.key (c.requires.can c.requires.tree.0 c.requires.tree.1) c.cut.new.image c.cut.ensures.header

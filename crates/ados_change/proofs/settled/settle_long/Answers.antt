@@ -1,0 +1,23 @@
+use Rattle.std.proofs.Common.{◌≡◌, ◌<◌, ℕ, ◌+◌, ◌-◌, ◌%◌, ◌^◌, inr, List, sym, arith}
+use Rattle.adf_block.specs.Image.{long, block_sum}
+use Rattle.adf_block.proofs.Frames.{changed_sum}
+use Rattle.ados_change.proofs.settled.settle_long.Goals as goal
+
+-- the sum long takes up what the field moves by
+taken_up : (s0 s1 s2 check old v sum : ℕ) → s0 ≡ 0 → (s1 + old) % 2 ^ 32 ≡ (s0 + v) % 2 ^ 32 → (s2 + check) % 2 ^ 32 ≡ (s1 + sum) % 2 ^ 32 → sum ≡ (check + (old + (2 ^ 32 - v)) % 2 ^ 32) % 2 ^ 32 → v < 2 ^ 32
+    → s2 < 2 ^ 32 → s2 ≡ 0
+taken_up s0 s1 s2 check old v sum z first second up fits small = omega arith
+
+sum_fits : (image : List ℕ) (b : ℕ) → block_sum image b < 2 ^ 32
+unfolding block_sum
+sum_fits image b = omega arith
+
+pub returns-clause-sum : goal.returns-clause-sum
+returns-clause-sum c z =
+    let first = changed_sum c.args.b c.args.i c.args.image.now c.set_long.new.self c.set_long.ensures.rest c.requires.place in
+    let second = changed_sum c.args.b 5 c.set_long.new.self c.set_long-2.new.self c.set_long-2.ensures.rest (omega arith) in
+    let stays = c.set_long.ensures.others c.args.b 5 (omega arith) (inr (λ e. c.requires.not_sum (sym e))) in
+    taken_up (block_sum c.args.image.now c.args.b) (block_sum c.set_long.new.self c.args.b) (block_sum c.set_long-2.new.self c.args.b)
+    c.long-2.result c.long.result c.args.v (long c.set_long-2.new.self c.args.b 5) z
+    (omega (arith, first, c.long.ensures, c.set_long.ensures.long)) (omega (arith, second, stays, c.long-2.ensures)) c.set_long-2.ensures.long (omega (arith, c.ranges.v.fits))
+    (sum_fits c.set_long-2.new.self c.args.b)

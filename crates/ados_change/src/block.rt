@@ -1,0 +1,86 @@
+//! Fields put into the block of one node, with its sum settled.
+
+ghost use Rattle.std.specs.Prelude.{◌<◌, ◌+◌};
+ghost use Rattle.adf_block.specs.Image.{IsImage, block_count, root_key};
+ghost use Rattle.adf_block.specs.Fields.{sum_long, date_long, disk_date_long};
+ghost use Rattle.adf_block.specs.Frame.{OnlyBlock};
+ghost use Rattle.ados_name.specs.Name.{IsName};
+ghost use Rattle.ados_change.specs.Kinds.{content_of};
+ghost use Rattle.ados_change.specs.steps.Making.{IsHead, IsNewEntry};
+ghost use Rattle.ados_change.specs.steps.Writes.{Dated, Titled};
+
+use crate::edit::{put_date, put_text};
+use crate::node_kind::NodeKind;
+use adf_block::Image;
+use adf_block::layout::{
+    DATE, DISK_DATE, HEADER_TYPE, NAME_BYTE, OWN_KEY, PARENT, PRIMARY_TYPE, SECONDARY_TYPE, SUM,
+};
+use ados_name::{Date3, Name};
+
+/// Sets the date of a directory.
+pub fn touch(image: &mut Image, dir: u32, moment: Date3)
+    requires { dir < block_count image.old }
+    ensures dated { Dated dir date_long moment image.old image.new }
+    ensures image { IsImage image.new }
+{
+    settle_date(image, dir, DATE, moment);
+}
+
+/// Sets the disk date.
+pub fn stamp(image: &mut Image, moment: Date3)
+    requires { IsImage image.old }
+    ensures dated { Dated (root_key (block_count image.old)) disk_date_long moment image.old image.new }
+    ensures image { IsImage image.new }
+{
+    prove!(image.blocks() >= 16);
+    let root = image.root();
+    settle_date(image, root, DISK_DATE, moment);
+}
+
+/// Puts a date into three longs of a block, the days into long `i`.
+fn settle_date(image: &mut Image, b: u32, i: u32, moment: Date3)
+    requires block { b < block_count image.old }
+    requires behind { sum_long < i }
+    requires place { i + 2 < 128 }
+    ensures dated { Dated b i moment image.old image.new }
+    ensures image { IsImage image.new }
+{
+    put_date(image, b, i, moment);
+    image.settle(b, SUM);
+}
+
+/// Gives an entry a name and a directory. Bytes of a longer name behind the new one's end stay (this project's own choice).
+pub fn put_title(image: &mut Image, key: u32, dir: u32, name: &Name)
+    requires { key < block_count image.old }
+    ensures titled { Titled key dir name.now image.old image.new }
+    ensures valid { IsName name.now }
+    ensures image { IsImage image.new }
+{
+    put_text(image, key, NAME_BYTE as usize, name.bytes());
+    image.set_long(key, PARENT, dir);
+    image.settle(key, SUM);
+}
+
+/// Makes a block that of a new entry; the bytes of no field become 0.
+pub fn make_entry(image: &mut Image, key: u32, dir: u32, name: &Name, kind: NodeKind, moment: Date3)
+    requires { key < block_count image.old }
+    ensures entry { IsNewEntry image.new key dir name.now (content_of kind) moment }
+    ensures rest { OnlyBlock key image.old image.new }
+    ensures image { IsImage image.new }
+{
+    make_head(image, key, kind, moment);
+    put_title(image, key, dir, name);
+}
+
+/// Fills a block with zeros but for its types, its own number and its date.
+fn make_head(image: &mut Image, key: u32, kind: NodeKind, moment: Date3)
+    requires { key < block_count image.old }
+    ensures head { IsHead image.new key (content_of kind) moment }
+    ensures rest { OnlyBlock key image.old image.new }
+{
+    image.clear(key);
+    image.set_long(key, PRIMARY_TYPE, HEADER_TYPE);
+    image.set_long(key, OWN_KEY, key);
+    image.set_long(key, SECONDARY_TYPE, kind.secondary_type());
+    put_date(image, key, DATE, moment);
+}

@@ -1,0 +1,65 @@
+//! An entry that is taken away.
+
+ghost use Rattle.std.specs.Prelude.{◌≡◌, ℕ, List};
+ghost use Rattle.ados_tree.specs.Change.{removed};
+ghost use Rattle.ados_tree.specs.Kept.{Kept};
+ghost use Rattle.ados_tree.specs.NewBlocks.{KeepsRest, TakesNone};
+ghost use Rattle.ados_tree.specs.Stands.{Stands};
+ghost use Rattle.ados_tree.specs.Tree.{Tree, size_of};
+ghost use Rattle.ados_tree.specs.Untold.{KeepsUntold};
+ghost use Rattle.ados_change.specs.Conditions.{CanRemove};
+ghost use Rattle.ados_change.specs.steps.Emptied.{Empties, GivesBack, KeepsEntry};
+
+use crate::block::{stamp, touch};
+use crate::content::cut;
+use adf_block::Image;
+use adf_block::layout::{FILE_TYPE, PARENT, SECONDARY_TYPE};
+use ados_chain::unlink;
+use ados_map::give_back;
+use ados_name::Date3;
+
+/// Takes away an entry: a directory without entries, or a file, whose blocks are given back. What stands in these stays,
+/// but for some fields of the entry's own block.
+pub fn remove(image: &mut Image, key: u32, moment: Date3)
+    requires tree { (t : Tree) × Stands image.old t }
+    requires can { (t : Tree) → Stands image.old t → CanRemove t key }
+    ensures stands { (t : Tree) → Stands image.old t → Stands image.new (removed moment key t) }
+    ensures keeps { KeepsRest image.old image.new }
+    ensures none { TakesNone image.old image.new }
+{
+    empty(image, key, moment);
+    remove_empty(image, key, moment);
+}
+
+/// Gives back what a file holds; a directory that can be removed holds nothing.
+fn empty(image: &mut Image, key: u32, moment: Date3)
+    requires tree { (t : Tree) × Stands image.old t }
+    requires can { (t : Tree) → Stands image.old t → CanRemove t key }
+    ensures empties { Empties moment key image.old image.new }
+    ensures entry { KeepsEntry key image.old image.new }
+    ensures keeps { KeepsRest image.old image.new }
+    ensures none { TakesNone image.old image.new }
+{
+    if image.long(key, SECONDARY_TYPE) != FILE_TYPE {
+        return;
+    }
+    cut(image, key, 0, moment);
+}
+
+/// Takes away an entry with nothing in it: a directory without entries, or a file of no bytes. What an earlier change of
+/// the image kept is still kept.
+fn remove_empty(image: &mut Image, key: u32, moment: Date3)
+    requires tree { (t : Tree) × Stands image.old t }
+    requires can { (t : Tree) → Stands image.old t → CanRemove t key }
+    requires empty { (t : Tree) → Stands image.old t → size_of t key ≡ 0 }
+    ensures stands { (t : Tree) → Stands image.old t → Stands image.new (removed moment key t) }
+    ensures kept { (first : List ℕ) → Kept first image.old → Kept first image.new }
+    ensures gives { GivesBack key image.old image.new }
+    ensures untold { KeepsUntold image.old image.new }
+{
+    let dir = image.long(key, PARENT);
+    unlink(image, dir, key);
+    touch(image, dir, moment);
+    give_back(image, key);
+    stamp(image, moment);
+}

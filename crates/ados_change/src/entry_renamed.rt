@@ -1,0 +1,37 @@
+//! An entry that moves.
+
+ghost use Rattle.std.specs.Prelude.{ℕ};
+ghost use Rattle.adf_block.specs.Image.{HasFreeBit};
+ghost use Rattle.ados_tree.specs.Change.{renamed};
+ghost use Rattle.ados_tree.specs.Faults.{InImage};
+ghost use Rattle.ados_tree.specs.NewBlocks.{KeepsRest, TakesNone};
+ghost use Rattle.ados_tree.specs.Stands.{Stands};
+ghost use Rattle.ados_tree.specs.Tree.{Tree};
+ghost use Rattle.ados_change.specs.Behind.{KeepsBehindName};
+ghost use Rattle.ados_change.specs.Conditions.{CanRename};
+
+use crate::block::{put_title, stamp, touch};
+use adf_block::Image;
+use adf_block::layout::PARENT;
+use ados_chain::{insert_last, unlink};
+use ados_name::{Date3, Name};
+
+/// Moves an entry into a directory, also its own, under a name; it becomes the last one in the chain of the name's slot. What
+/// stood behind a shorter name stays, and no block is given back.
+pub fn rename(image: &mut Image, key: u32, dir: u32, name: &Name, moment: Date3)
+    requires tree { (t : Tree) × Stands image.old t }
+    requires can { (t : Tree) → Stands image.old t → CanRename t key dir name.now }
+    ensures stands { (t : Tree) → Stands image.old t → Stands image.new (renamed moment key dir name.now t) }
+    ensures keeps { KeepsRest image.old image.new }
+    ensures none { TakesNone image.old image.new }
+    ensures gives_none { (block : ℕ) → InImage image.old block → HasFreeBit image.new block → HasFreeBit image.old block }
+    ensures behind { KeepsBehindName key name.now image.old image.new }
+{
+    let from = image.long(key, PARENT);
+    unlink(image, from, key);
+    touch(image, from, moment);
+    put_title(image, key, dir, name);
+    insert_last(image, dir, key);
+    touch(image, dir, moment);
+    stamp(image, moment);
+}

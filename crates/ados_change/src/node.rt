@@ -1,0 +1,76 @@
+//! One field of one node, and the disk date.
+
+ghost use Rattle.std.specs.Prelude.{◌+◌, length};
+ghost use Rattle.adf_block.specs.Fields.{long_byte, protection_long, comment_byte, date_long, name_byte, disk_date_long};
+ghost use Rattle.adf_block.specs.Frame.{SameBut};
+ghost use Rattle.ados_tree.specs.Tree.{Tree};
+ghost use Rattle.ados_tree.specs.Stands.{Stands};
+ghost use Rattle.ados_tree.specs.Keys.{HasEntryKey, HasKey, HasTree};
+ghost use Rattle.ados_tree.specs.Faults.{root_of};
+ghost use Rattle.ados_tree.specs.Kept.{Kept};
+ghost use Rattle.ados_tree.specs.Change.{stamped};
+ghost use Rattle.ados_change.specs.Places.{Summed};
+ghost use Rattle.ados_change.specs.FieldTold.{commented, dated, named, protected};
+
+use crate::settled::{settle_date, settle_long, settle_text};
+use adf_block::Image;
+use adf_block::layout::{COMMENT_BYTE, DATE, DISK_DATE, NAME_BYTE, PROTECTION};
+use ados_name::{Comment, Date3, Name, Protect};
+
+/// Sets the protection bits of a directory or file.
+pub fn put_protection(image: &mut Image, key: u32, bits: Protect)
+    requires tree { HasTree image.old }
+    requires key { HasEntryKey image.old key }
+    ensures stands { (t : Tree) → Stands image.old t → Stands image.new (protected key bits.0 t) }
+    ensures kept { Kept image.old image.new }
+    ensures rest { SameBut (Summed key (long_byte protection_long) (long_byte (protection_long + 1))) image.old image.new }
+{
+    settle_long(image, key, PROTECTION, bits.bits());
+}
+
+/// Sets the comment of a directory or file. Bytes of a longer comment behind the new one's end stay (this project's own
+/// choice).
+pub fn put_comment(image: &mut Image, key: u32, comment: &Comment)
+    requires tree { HasTree image.old }
+    requires key { HasEntryKey image.old key }
+    ensures stands { (t : Tree) → Stands image.old t → Stands image.new (commented key comment.now t) }
+    ensures kept { Kept image.old image.new }
+    ensures rest { SameBut (Summed key comment_byte (comment_byte + 1 + length comment.now)) image.old image.new }
+{
+    settle_text(image, key, COMMENT_BYTE as usize, comment.bytes());
+}
+
+/// Sets the date of a node: of a directory, of a file, or of the root.
+pub fn touch(image: &mut Image, key: u32, date: Date3)
+    requires tree { HasTree image.old }
+    requires key { HasKey image.old key }
+    ensures stands { (t : Tree) → Stands image.old t → Stands image.new (dated key date t) }
+    ensures kept { Kept image.old image.new }
+    ensures rest { SameBut (Summed key (long_byte date_long) (long_byte (date_long + 3))) image.old image.new }
+{
+    settle_date(image, key, DATE, date);
+}
+
+/// Sets the volume's name. Bytes of a longer name behind the new one's end stay (this project's own choice).
+pub fn put_disk_name(image: &mut Image, name: &Name)
+    requires { HasTree image.old }
+    ensures stands { (t : Tree) → Stands image.old t → Stands image.new (named name.now t) }
+    ensures kept { Kept image.old image.new }
+    ensures rest { SameBut (Summed (root_of image.old) name_byte (name_byte + 1 + length name.now)) image.old image.new }
+{
+    prove!(image.blocks() >= 16);
+    let root = image.root();
+    settle_text(image, root, NAME_BYTE as usize, name.bytes());
+}
+
+/// Sets the disk date.
+pub fn stamp_disk(image: &mut Image, moment: Date3)
+    requires { HasTree image.old }
+    ensures stands { (t : Tree) → Stands image.old t → Stands image.new (stamped moment t) }
+    ensures kept { Kept image.old image.new }
+    ensures rest { SameBut (Summed (root_of image.old) (long_byte disk_date_long) (long_byte (disk_date_long + 3))) image.old image.new }
+{
+    prove!(image.blocks() >= 16);
+    let root = image.root();
+    settle_date(image, root, DISK_DATE, moment);
+}

@@ -1,0 +1,47 @@
+-- A reached block that is marked free shows that the bitmap is wrong.
+use Rattle.std.proofs.Common.{◌≡◌, ℕ, zero, suc, ◌-◌, ◌/◌, ◌<◌, List, [], ◌∷◌, get_or, true, false, Option, Some, None, is_some, refl, sym, ap, ◌∙◌, arith}
+use Rattle.std.proofs.lemmas.Bool.{false≢true}
+use Rattle.adf_block.specs.Image.{IsImage, HasFreeBit}
+use Rattle.ados_map.specs.Pages.{LawfulPages, pages_of}
+use Rattle.ados_tree.specs.Faults.{InImage, IsReachedAndFree}
+use Rattle.ados_tree.specs.Rebuilt.{HasValidBitmap}
+use Rattle.ados_check.specs.declared.mark.Mark.{Mark}
+use Rattle.ados_check.specs.Marks.{mark_at, IsChecked}
+use Rattle.ados_check.proofs.Roles.{marked_inside}
+
+mark_got : (marks : List (Option Mark)) (block : ℕ) → mark_at marks block ≡ get_or marks block None
+mark_got [] block = refl
+mark_got (m ∷ ms) zero = refl
+mark_got (m ∷ ms) (suc block) = mark_got ms block
+
+mark_in : (o : Option Mark) → is_some o ≡ true → (mark : Mark) × (o ≡ Some mark)
+mark_in None e = absurd (false≢true e)
+mark_in (Some mark) e = (mark, refl)
+
+-- a cell that holds a mark
+pub marked_by : (marks : List (Option Mark)) (block : ℕ) → is_some (get_or marks block None) ≡ true → (mark : Mark) × (mark_at marks block ≡ Some mark)
+marked_by marks block e = let at = mark_in (get_or marks block None) e in (at.0, mark_got marks block ∙ at.1)
+
+-- and one that holds none
+pub unmarked_by : (marks : List (Option Mark)) (block : ℕ) (mark : Mark) → is_some (get_or marks block None) ≡ false → mark_at marks block ≡ Some mark → ⊥
+unmarked_by marks block mark none e = false≢true (sym none ∙ ap is_some (sym (mark_got marks block) ∙ e))
+
+module _ (image : List ℕ) (marks : List (Option Mark)) (im : IsImage image) (c : IsChecked image marks) where
+  pub inside : (block : ℕ) (mark : Mark) → mark_at marks block ≡ Some mark → InImage image block
+  inside block mark e = marked_inside image marks c.reached im block mark e
+
+  -- no boot block is marked
+  pub none_below : (block : ℕ) → block < 2 → (mark : Mark) → mark_at marks block ≡ Some mark → ¬ HasFreeBit image block
+  none_below block l mark e free = let at = inside block mark e in absurd (omega (arith, l, at.0))
+
+  pub marked_free : HasValidBitmap image → LawfulPages image → (block : ℕ) (mark : Mark) → mark_at marks block ≡ Some mark → HasFreeBit image block → IsReachedAndFree image block
+  marked_free valid pages block mark e free =
+      let at = inside block mark e in
+      let page : (block - 2) / 4064 < pages_of image = omega (arith, at.0, at.1) in
+      record {
+        valid = valid;
+        role = mark.role;
+        reached = c.reached.reached block mark e;
+        page = pages.inside ((block - 2) / 4064) page;
+        free = free;
+      }

@@ -1,0 +1,113 @@
+-- The list of marks and the list of pending blocks, at a change of one cell.
+use Rattle.std.proofs.Common.{◌≡◌, ◌≢◌, ℕ, ◌+◌, ◌-◌, ◌<◌, ◌≤◌, ◌⊎◌, inl, inr, List, [], ◌∷◌, ◌++◌, length, get_or, AllPairs, Contains, replicate, Option, None, Some, is_some, true, false, cond, refl, sym, ap, ◌∙◌, subst, arith}
+use Rattle.std.specs.List.{slice_get}
+use Rattle.std.specs.Option.{option_and_then}
+use Rattle.std.proofs.Math.ListN.{set}
+use Rattle.std.proofs.lemmas.List.{get_or-set_same, get_or-set_other, get_or-replicate, length-replicate, length-set, length-append, get_or_append_left, get_or-append_right}
+use Rattle.std.proofs.lemmas.List.Sums.{sum_by-set}
+use Rattle.std.proofs.lemmas.List.Folds.{sum_by-replicate}
+use Rattle.std.proofs.lemmas.List.Elements.{Contains-append_cases, Contains-append_left, Contains-append_right}
+use Rattle.std.proofs.lemmas.List.Quantifiers.{all_pairs_push}
+use Rattle.std.proofs.lemmas.Option.{slice_get-get_or, slice_get_past}
+use Rattle.std.proofs.lemmas.Bool.{cases_lt}
+use Rattle.ados_check.specs.declared.mark.Mark.{Mark}
+use Rattle.ados_check.specs.Marks.{mark_at}
+use Rattle.ados_check.specs.steps.Reaching.{unmarked}
+
+-- one more block is marked
+pub record IsMarkedMore (marks new : List (Option Mark)) (block : ℕ) (mark : Mark) : Type 0 where
+  pub same_size : length new ≡ length marks
+  pub was : mark_at marks block ≡ None
+  pub is : mark_at new block ≡ Some mark
+  pub others : (other : ℕ) → other ≢ block → mark_at new other ≡ mark_at marks other
+  pub fewer : unmarked new + 1 ≡ unmarked marks
+
+joined : (o : Option (Option Mark)) (x : Option Mark) → o ≡ Some x → option_and_then (λ mark. mark) o ≡ x
+joined o x e = ap (option_and_then (λ (mark : Option Mark). mark)) e
+
+-- the mark of a block is the element of its place
+pub mark_read : (marks : List (Option Mark)) (block : ℕ) (x : Option Mark) → block < length marks → x ≡ get_or marks block x → mark_at marks block ≡ x
+mark_read marks block x l e = joined (slice_get marks block) x (slice_get-get_or marks block x l ∙ ap (λ (y : Option Mark). Some y) (sym e))
+
+pub mark_get_or : (marks : List (Option Mark)) (block : ℕ) (d : Option Mark) → block < length marks → mark_at marks block ≡ get_or marks block d
+mark_get_or marks block d l = joined (slice_get marks block) (get_or marks block d) (slice_get-get_or marks block d l)
+
+past : (marks : List (Option Mark)) (block : ℕ) → length marks ≤ block → mark_at marks block ≡ None
+past marks block l = ap (option_and_then (λ (mark : Option Mark). mark)) (slice_get_past marks block l)
+
+pub marked_within : (marks : List (Option Mark)) (block : ℕ) (mark : Mark) → mark_at marks block ≡ Some mark → block < length marks
+marked_within marks block mark e = elim (cases_lt block (length marks)) [
+  | inl l ↦ l
+  | inr l ↦ let h : None ≡ Some mark = sym (past marks block l) ∙ e in absurd (cc h)
+]
+
+pub marked_more : (marks : List (Option Mark)) (block : ℕ) (mark : Mark) → block < length marks → mark_at marks block ≡ None → IsMarkedMore marks (set marks block (Some mark)) block mark
+marked_more marks block mark l none =
+    let same : length (set marks block (Some mark)) ≡ length marks = length-set marks block (Some mark) in
+    let was : get_or marks block None ≡ None = sym (mark_get_or marks block None l) ∙ none in
+    record {
+      same_size = same;
+      was = none;
+      is = mark_get_or (set marks block (Some mark)) block None (omega arith) ∙ get_or-set_same marks block (Some mark) None l;
+      others = λ other ne. elim (cases_lt other (length marks)) [
+        | inl inside ↦ mark_get_or (set marks block (Some mark)) other None (omega arith) ∙ get_or-set_other marks block other (Some mark) None ne ∙ sym (mark_get_or marks other None inside)
+        | inr outside ↦ past (set marks block (Some mark)) other (omega arith) ∙ sym (past marks other outside)
+      ];
+      fewer =
+          let count = sum_by-set (λ (m : Option Mark). cond (is_some m) 0 1) marks block (Some mark) None l in
+          let cell : Option Mark → ℕ = λ m. cond (is_some m) 0 1 in
+          let one : cell (get_or marks block None) ≡ 1 = ap cell was in
+          omega (arith, count, one);
+    }
+
+-- a list of blocks and one more
+only_one : (block other : ℕ) → Contains (block ∷ []) other → other ≡ block
+only_one block other (k, l, e) = let z : k ≡ 0 = omega arith in sym (subst (λ (n : ℕ). get_or (block ∷ []) n other ≡ other) z e)
+
+pub in_pushed : (pending : List ℕ) (block other : ℕ) → Contains (pending ++ block ∷ []) other → Contains pending other ⊎ (other ≡ block)
+in_pushed pending block other h = elim (Contains-append_cases pending (block ∷ []) other h) [
+  | inl old ↦ inl old
+  | inr new ↦ inr (only_one block other new)
+]
+
+pub pushed_has_old : (pending : List ℕ) (block other : ℕ) → Contains pending other → Contains (pending ++ block ∷ []) other
+pushed_has_old pending block other h = Contains-append_left pending (block ∷ []) other h
+
+pub pushed_has_new : (pending : List ℕ) (block : ℕ) → Contains (pending ++ block ∷ []) block
+pushed_has_new pending block = Contains-append_right pending (block ∷ []) block (0, omega arith, refl)
+
+same_default : (xs : List ℕ) (k a b : ℕ) → k < length xs → get_or xs k a ≡ get_or xs k b
+same_default xs k a b l = let e : Some (get_or xs k a) ≡ Some (get_or xs k b) = sym (slice_get-get_or xs k a l) ∙ slice_get-get_or xs k b l in cc e
+
+pub once_pushed : (pending : List ℕ) (block : ℕ) → AllPairs (λ a b. a ≢ b) pending → ¬ Contains pending block → AllPairs (λ a b. a ≢ b) (pending ++ block ∷ [])
+once_pushed pending block once not_in =
+    all_pairs_push (λ (a b : ℕ). a ≢ b) pending block once (λ k d l e. not_in (k, l, same_default pending k block d l ∙ e))
+
+pub once_rest : (rest : List ℕ) (block : ℕ) → AllPairs (λ a b. a ≢ b) (rest ++ block ∷ []) → AllPairs (λ a b. a ≢ b) rest
+once_rest rest block once i j d lt l e =
+    once i j d lt (omega (arith, length-append rest (block ∷ [])))
+    (get_or_append_left rest (block ∷ []) d i (omega arith) ∙ e ∙ sym (get_or_append_left rest (block ∷ []) d j l))
+
+pub last_not_in_rest : (rest : List ℕ) (block : ℕ) → AllPairs (λ a b. a ≢ b) (rest ++ block ∷ []) → ¬ Contains rest block
+last_not_in_rest rest block once (k, l, e) =
+    let zero_left : length rest - length rest ≡ 0 = omega arith in
+    once k (length rest) block l (omega (arith, length-append rest (block ∷ [])))
+    (get_or_append_left rest (block ∷ []) block k l ∙ e ∙ sym (get_or-append_right rest (block ∷ []) (length rest) (length rest) block refl (omega arith) ∙ ap (λ (n : ℕ). get_or (block ∷ []) n block) zero_left))
+
+-- no mark at all
+pub none_marked : (n block : ℕ) → mark_at (replicate n None) block ≡ None
+none_marked n block = elim (cases_lt block n) [
+  | inl l ↦ mark_get_or (replicate n None) block None (omega (arith, length-replicate {A = Option Mark} n None)) ∙ get_or-replicate n block None None l
+  | inr l ↦ past (replicate n None) block (omega (arith, length-replicate {A = Option Mark} n None))
+]
+
+pub all_unmarked : (n : ℕ) → unmarked (replicate n None) ≡ n
+all_unmarked n = sum_by-replicate (λ (m : Option Mark). cond (is_some m) 0 1) n None ∙ omega arith
+
+pub some_is : (o : Option Mark) → is_some o ≡ true → (m : Mark) × (o ≡ Some m)
+some_is (Some m) e = (m, refl)
+some_is None e = cc e
+
+pub none_is : (o : Option Mark) → is_some o ≡ false → o ≡ None
+none_is (Some m) e = cc e
+none_is None e = refl

@@ -1,0 +1,73 @@
+-- The text of a block's name, and why a text is no name.
+use Rattle.std.proofs.Common.{◌≡◌, ℕ, ◌+◌, ◌-◌, ◌*◌, ◌<◌, ◌≤◌, ◌⊎◌, inl, inr, ◌==◌, ◌||◌, Bool, true, List, length, take, drop, Some, Contains, sym, ap, ap₂, ◌∙◌, subst, arith}
+use Rattle.std.specs.List.{list_any}
+use Rattle.std.proofs.lemmas.Bool.{cases_Bool, eqb-true}
+use Rattle.std.proofs.lemmas.List.{length-take, length-drop, drop-drop, drop-take, take-take}
+use Rattle.std.proofs.lemmas.List.Folds.{Any-from_list_any}
+use Rattle.adf_block.specs.Image.{byte_at, bytes_at, block_count}
+use Rattle.adf_block.specs.Fields.{text_at, name_byte}
+use Rattle.ados_name.specs.declared.name.NameFault.{NameFault}
+use Rattle.ados_name.specs.Name.{IsName, is_separator, first_fault}
+use Rattle.ados_tree.specs.Faults.{HasName, HasBadName}
+use Rattle.ados_tree.specs.Faults.HasBadName.{empty, slash, colon}
+use Rattle.ados_check.specs.Marks.{HasValidName}
+
+-- the bytes behind the length byte, of a whole block
+pub text_is : (image : List ℕ) (block len : ℕ) (bytes : List ℕ) → bytes ≡ bytes_at image block 0 512 → len ≡ byte_at image block 432 → len ≤ 30 → take (433 + len - 433) (drop 433 bytes) ≡ text_at image block name_byte
+unfolding bytes_at
+text_is image block len bytes e counted short =
+    let count : 433 + len - 433 ≡ len = omega arith in
+    let offset : 512 * block + 0 + 433 ≡ 512 * block + (432 + 1) = omega arith in
+    ap₂ (λ (n : ℕ) (ys : List ℕ). take n (drop 433 ys)) count e
+    ∙ ap (take len) (drop-take 433 79 (drop (512 * block + 0) image) ∙ ap (take 79) (drop-drop 433 (512 * block + 0) image ∙ ap (λ (n : ℕ). drop n image) offset))
+    ∙ take-take len 79 (drop (512 * block + (432 + 1)) image) (omega arith)
+    ∙ ap (λ (n : ℕ). take n (drop (512 * block + (432 + 1)) image)) counted
+
+length_text : (image : List ℕ) (block : ℕ) → block < block_count image → byte_at image block 432 ≤ 30 → length (text_at image block name_byte) ≡ byte_at image block 432
+unfolding bytes_at
+length_text image block inside short =
+    omega (arith, length-take (byte_at image block 432) (drop (512 * block + (432 + 1)) image), length-drop (512 * block + (432 + 1)) image)
+
+pub valid_name : (image : List ℕ) (block : ℕ) → block < block_count image → byte_at image block 432 ≤ 30 → IsName (text_at image block name_byte) → HasValidName image block
+valid_name image block inside short name =
+    let whole = length_text image block inside short in
+    record {
+      text = record { counted = sym whole; follows = ap (λ (n : ℕ). bytes_at image block (432 + 1) n) whole };
+      valid = name;
+    }
+
+-- an element at which a test of two numbers answers yes is one of them
+one_of : (x a b : ℕ) → ((x == a) || (x == b)) ≡ true → (x ≡ a) ⊎ (x ≡ b)
+one_of x a b h = elim (cases_Bool (x == a)) [
+  | inl h1 ↦ inl (eqb-true x a h1)
+  | inr other ↦ inr (eqb-true x b (subst (λ (t : Bool). (t || (x == b)) ≡ true) other h))
+]
+
+has_separator : (text : List ℕ) → list_any is_separator text ≡ true → Contains text 47 ⊎ Contains text 58
+has_separator text h =
+    let found = Any-from_list_any is_separator text h in
+    elim (one_of found.1 47 58 found.4) [
+      | inl e ↦ inl (subst (λ (x : ℕ). Contains text x) e (found.0, found.2, found.3))
+      | inr e ↦ inr (subst (λ (x : ℕ). Contains text x) e (found.0, found.2, found.3))
+    ]
+
+-- a text of at most 30 bytes that has a fault is empty or has a separator
+faulty : (text : List ℕ) (fault : NameFault) → length text ≤ 30 → first_fault text ≡ Some fault → (length text ≡ 0) ⊎ (list_any is_separator text ≡ true)
+faulty text fault short h = elim (cases_Bool (length text == 0)) [
+  | inl none ↦ inl (eqb-true (length text) 0 none)
+  | inr some ↦ elim (cases_Bool (list_any is_separator text)) [
+    | inl found ↦ inr found
+    | inr plain ↦ absurd (grind (arith, h, some, plain, short))
+  ]
+]
+
+pub bad_name : (image : List ℕ) (block : ℕ) (text : List ℕ) (fault : NameFault) → block < block_count image → byte_at image block 432 ≤ 30 → text ≡ text_at image block name_byte → HasName image block → first_fault text ≡ Some fault → HasBadName image block
+bad_name image block text fault inside short e named h =
+    let whole : length text ≡ byte_at image block 432 = ap length e ∙ length_text image block inside short in
+    elim (faulty text fault (omega arith) h) [
+      | inl none ↦ empty named (sym whole ∙ none)
+      | inr some ↦ elim (has_separator text some) [
+        | inl found ↦ slash named (subst (λ (xs : List ℕ). Contains xs 47) e found)
+        | inr found ↦ colon named (subst (λ (xs : List ℕ). Contains xs 58) e found)
+      ]
+    ]

@@ -1,0 +1,68 @@
+-- What the marks say of the blocks that are reached.
+use Rattle.std.proofs.Common.{◌≡◌, ◌≢◌, ℕ, List, Option, Some, refl, sym, ap, ◌∙◌, subst, arith}
+use Rattle.adf_block.specs.Image.{IsImage, block_count}
+use Rattle.ados_tree.specs.declared.role.Role.{Role}
+use Rattle.ados_tree.specs.declared.role.Role.TheVariants.{Root, Entry}
+use Rattle.adf_block.specs.Fields.{secondary_type, file_type}
+use Rattle.ados_tree.specs.Faults.{InImage, IsPlace, Reached, root_of}
+use Rattle.ados_tree.specs.Faults.IsPlace.{root_page, root_slot, directory_slot, next_entry, header_pointer, first_extension, extension_pointer, further_extension}
+use Rattle.ados_tree.specs.Faults.Reached.{start, named}
+use Rattle.ados_check.specs.declared.mark.Mark.{Mark}
+use Rattle.ados_check.specs.Marks.{mark_at, AreReached}
+use Rattle.ados_check.proofs.Paths.{mark_of}
+
+-- no place names the root
+pub place_not_root : {image : List ℕ} {block i : ℕ} {role next : Role} → IsPlace image block role i next → next ≢ Root
+place_not_root (root_page l) z = cc z
+place_not_root (root_slot l n) z = cc z
+place_not_root (directory_slot e l n) z = cc z
+place_not_root (next_entry n) z = cc z
+place_not_root (header_pointer e p) z = cc z
+place_not_root (first_extension e n) z = cc z
+place_not_root (extension_pointer p) z = cc z
+place_not_root (further_extension n) z = cc z
+
+-- a block that is marked as a directory
+pub data IsMarkedDirectory (image : List ℕ) (marks : List (Option Mark)) (dir : ℕ) : Type 0 where
+  as_root : dir ≡ root_of image → IsMarkedDirectory image marks dir
+  as_entry : (m : Mark) (up r : ℕ) → mark_at marks dir ≡ Some m → m.role ≡ Entry up r → secondary_type image dir ≡ 2 → IsMarkedDirectory image marks dir
+
+-- a block that is marked as a file
+pub record IsMarkedFile (image : List ℕ) (marks : List (Option Mark)) (file : ℕ) : Type 0 where
+  pub mark : Mark
+  pub dir : ℕ
+  pub slot_of_chain : ℕ
+  pub marked : mark_at marks file ≡ Some mark
+  pub role : mark.role ≡ Entry dir slot_of_chain
+  pub secondary : secondary_type image file ≡ file_type
+
+module _ (image : List ℕ) (marks : List (Option Mark)) (c : AreReached image marks) where
+  -- a reached block is marked with its role
+  pub reached_marked : {block : ℕ} {role : Role} → Reached image block role → (m : Mark) × (mark_at marks block ≡ Some m) × (m.role ≡ role)
+  reached_marked start = (mark_of Root 0 0, c.root, refl)
+  reached_marked (named {block = b} {i = i} {role = role} {next = next} h p inside) =
+      let from = reached_marked h in
+      let place = subst (λ (x : Role). IsPlace image b x i next) (sym from.2) p in
+      (mark_of next b i, c.marked b i from.0 next from.1 place, refl)
+
+  -- a block has one role
+  pub one_role : (block : ℕ) (m : Mark) (role : Role) → mark_at marks block ≡ Some m → Reached image block role → m.role ≡ role
+  one_role block m role e h =
+      let at = reached_marked h in
+      let same : m ≡ at.0 = cc (e, at.1) in
+      ap (λ (x : Mark). x.role) same ∙ at.2
+
+  pub reached_inside : {block : ℕ} {role : Role} → IsImage image → Reached image block role → InImage image block
+  reached_inside im start = let count : block_count image ≡ im.blocks = omega (arith, im.whole) in (omega (arith, count, im.size.0), omega (arith, count, im.size.0))
+  reached_inside im (named h p inside) = inside
+
+  pub marked_inside : IsImage image → (block : ℕ) (m : Mark) → mark_at marks block ≡ Some m → InImage image block
+  marked_inside im block m e = reached_inside im (c.reached block m e)
+
+  -- only the root is marked as the root
+  pub root_role : (block : ℕ) (m : Mark) → mark_at marks block ≡ Some m → m.role ≡ Root → block ≡ root_of image
+  root_role block m e is = go (c.reached block m e) is
+    where
+      go : {b : ℕ} {role : Role} → Reached image b role → role ≡ Root → b ≡ root_of image
+      go start z = refl
+      go (named h p inside) z = absurd (place_not_root p z)

@@ -1,0 +1,11 @@
+use Rattle.std.proofs.Common.{◌≡◌, ◌≢◌, ℕ, suc, ◌<◌}
+use Rattle.adf_block.specs.Fields.{pointer_count}
+use Rattle.ados_data.specs.File.{pointer_block}
+use Rattle.ados_check.proofs.counts.count_blocks.Given as goal
+
+abbrev pub invariant-loop-passed : goal.invariant-loop-passed
+invariant-loop-passed l = record {
+  holder : l.holder ≡ pointer_block l.source.bytes l.file l.passed;
+  goes_on : (p : ℕ) → p < l.passed → pointer_block l.source.bytes l.file (suc p) ≢ 0;
+  full : (p : ℕ) → p < l.passed → pointer_count l.source.bytes (pointer_block l.source.bytes l.file p) ≡ 72;
+}

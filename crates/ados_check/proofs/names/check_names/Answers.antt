@@ -1,0 +1,34 @@
+use Rattle.std.proofs.Common.{◌+◌, inl, sym, ◌∙◌, subst, arith}
+use Rattle.std.proofs.lemmas.Bool.{not-true, not-false}
+use Rattle.ados_tree.specs.declared.fault.FaultKind.TheVariants.{DuplicateName}
+use Rattle.ados_check.proofs.Shown.{shown}
+use Rattle.ados_check.proofs.Entered.{AreEntered, entered_none, entered_twice, entered_more, all_unlike}
+use Rattle.ados_check.proofs.FilesTold.{entry_told}
+use Rattle.ados_check.proofs.names.check_names.Goals as goal
+use Rattle.ados_check.proofs.names.check_names.Goals.{in-Some+in-Ok-true, in_default}
+
+pub upper_name-name-requires-clause-told : goal.upper_name-name-requires-clause-told
+upper_name-name-requires-clause-told c =
+    entry_told c.args.source.now c.args.marks.now c.requires c.loop-block.block c.in-Some.dir c.in-Some.ensures
+
+pub returns-in-Ok-false : goal.returns-in-Ok-false
+returns-in-Ok-false c =
+    inl (shown c.args.source.now.bytes c.duplicate_name.result DuplicateName c.loop-block.block c.duplicate_name.ensures.kind c.duplicate_name.ensures.block
+    (entered_twice c.args.source.now.bytes c.args.marks.now c.loop-block.block c.loop-block.names c.loop-block.invariant c.in-Some.dir c.upper_name-name.result c.in-Some.ensures c.upper_name-name.ensures c.requires
+    (not-false _ (sym c.in-Ok-false.ensures.added ∙ c.in-Ok-false.field-0-test))))
+
+pub loop-block-preserved : goal.loop-block-preserved
+loop-block-preserved c =
+    elim c.match-directory_of.branch [
+      | in-Some+in-Ok-true w ↦
+          subst (AreEntered c.args.source.now.bytes c.args.marks.now (c.loop-block.block + 1)) (sym w.names-is)
+          (entered_more c.args.source.now.bytes c.args.marks.now c.loop-block.block c.loop-block.names c.loop-block.invariant w.in-Some.dir w.upper_name-name.result w.in-Some.ensures w.upper_name-name.ensures
+          w.insert.new.self (not-true _ (sym w.in-Ok-true.ensures.added ∙ w.in-Ok-true.field-0-test)) w.in-Ok-true.ensures.updates.0 w.in-Ok-true.ensures.updates.1)
+      | in_default w ↦
+          subst (AreEntered c.args.source.now.bytes c.args.marks.now (c.loop-block.block + 1)) (sym w.names-is)
+          (entered_none c.args.source.now.bytes c.args.marks.now c.loop-block.block c.loop-block.names c.loop-block.invariant w.in_default.ensures)
+    ]
+
+pub returns : goal.returns
+returns c =
+    all_unlike c.args.source.now.bytes c.args.marks.now c.loop-block.block c.loop-block.names c.requires (omega (arith, c.requires.size, c.blocks-block-end.ensures.count, c.loop-block-test.false, c.loop-block.auto.block-end)) c.loop-block.invariant

@@ -1,0 +1,16 @@
+use Rattle.std.proofs.Common.{◌<◌, ◌++◌, ◌∷◌, [], ℕ, List, ap, sym, ◌∙◌, subst, arith}
+use Rattle.ados_tree.specs.declared.role.Role.TheVariants.{Root}
+use Rattle.ados_tree.specs.Faults.{Reached}
+use Rattle.ados_tree.specs.Faults.Reached.{start}
+use Rattle.ados_check.proofs.Moves.{begun_at}
+use Rattle.ados_check.proofs.reaching.Progress.start.Goals as goal
+
+pub look-requires-clause-reached : goal.look-requires-clause-reached
+look-requires-clause-reached c = subst (λ (b : ℕ). Reached c.args.source.now.bytes b Root) (sym c.root-root.ensures) start
+
+pub returns-clause-between : goal.returns-clause-between
+returns-clause-between c =
+    let root = c.root-root.result in
+    let within : root < c.blocks-2.result = omega (arith, c.root-root.ensures, c.blocks-2.ensures.count, c.blocks-2.ensures.size) in
+    begun_at c.args.source.now.bytes c.blocks-2.result root c.in_ok-marks.marks.items c.push_reserved.new.self.items c.blocks-2.ensures.count c.root-root.ensures within c.in_default.ensures c.in_ok-marks.ensures.none
+    (c.push_reserved.ensures.items ∙ ap (λ (xs : List ℕ). xs ++ root ∷ []) c.in-Ok.ensures.items)

@@ -1,0 +1,13 @@
+use Rattle.std.proofs.Common.{◌≤◌, vec_capacity}
+use Rattle.adf_block.specs.Image.{block_count}
+use Rattle.ados_check.specs.steps.Reaching.{IsBetween, work}
+use Rattle.ados_check.proofs.reaching.reach.Given as goal
+
+abbrev pub invariant-loop-block : goal.invariant-loop-block
+invariant-loop-block l = record {
+  between : IsBetween l.source.bytes l.progress.marks.items l.progress.pending.items;
+  capacity : block_count l.source.bytes ≤ vec_capacity l.progress.pending;
+}
+
+abbrev pub decreases-loop-block : goal.decreases-loop-block
+decreases-loop-block l = work l.progress.marks.items l.progress.pending.items

@@ -1,0 +1,7 @@
+use Rattle.std.proofs.Common.{◌++◌, ◌*◌, take}
+use Rattle.ados_check.specs.Keeping.{AreKept}
+use Rattle.ados_check.specs.Pieces.{all_bytes}
+use Rattle.ados_check.proofs.sketch.Sketch.with.Given as goal
+
+abbrev pub invariant-loop-place : goal.invariant-loop-place
+invariant-loop-place l = AreKept l.starts.items l.kept.items (all_bytes l.pieces.value ++ take (512 * l.place) l.piece.items)

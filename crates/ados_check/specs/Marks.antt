@@ -1,0 +1,107 @@
+-- What a check of an image finds out: which block is reached in which role, and that each is sound.
+use Rattle.std.specs.Prelude.{◌≡◌, ℕ, ◌≤◌, ◌⊎◌, List, length, Option, Some, slice_get, option_and_then}
+use Rattle.adf_block.specs.Image.{block_count, byte_at, bytes_at, long, block_sum}
+use Rattle.adf_block.specs.Fields.{primary_type, own_key, parent_key, secondary_type, file_type, text_at, HasText, comment_byte, name_byte, header_type, data_type, root_type, directory_type, table_size_long, table_longs}
+use Rattle.ados_name.specs.Name.{Same, slot, IsName}
+use Rattle.ados_data.specs.File.{format_of, HasExtension, HasFile, data_blocks, extension_blocks, contents}
+use Rattle.ados_tree.specs.declared.role.Role.{Role}
+use Rattle.ados_tree.specs.declared.role.Role.TheVariants.{Root, Page, Entry, Data, Extension}
+use Rattle.ados_check.specs.declared.mark.Mark.{Mark}
+use Rattle.ados_tree.specs.Stands.{kind_bytes}
+use Rattle.ados_tree.specs.Faults.{HasDirectoryType, HasFileType, IsOfs, IsPlace, LeadsInside, Reached, root_of}
+
+-- the mark of a block, if it has one
+abbrev pub mark_at : List (Option Mark) → ℕ → Option Mark
+mark_at marks block = option_and_then (λ mark. mark) (slice_get marks block)
+
+-- the block is marked in a role, for a long of its holder
+abbrev pub IsMarkedFor : List (Option Mark) → ℕ → Role → ℕ → ℕ → Type 0
+IsMarkedFor marks block role holder i = mark_at marks block ≡ Some (record { role = role; holder = holder; long = i })
+
+-- the header is that of a directory or file
+abbrev pub HasEntryType : List ℕ → ℕ → Type 0
+HasEntryType image block = HasDirectoryType image block ⊎ HasFileType image block
+
+-- the block has a valid name
+pub record HasValidName (image : List ℕ) (block : ℕ) : Type 0 where
+  pub text : HasText image block name_byte (text_at image block name_byte)
+  pub valid : IsName (text_at image block name_byte)
+
+-- a root with the right fields
+pub record IsSoundRoot (image : List ℕ) (block : ℕ) : Type 0 where
+  pub primary : primary_type image block ≡ header_type
+  pub table_size : long image block table_size_long ≡ table_longs
+  pub secondary : secondary_type image block ≡ root_type
+  pub parent : parent_key image block ≡ 0
+  pub sum : block_sum image block ≡ 0
+  pub name : HasValidName image block
+
+-- a directory or file with the right fields, in the chain of its slot
+pub record IsSoundEntry (image : List ℕ) (block dir s : ℕ) : Type 0 where
+  pub primary : primary_type image block ≡ header_type
+  pub secondary : HasEntryType image block
+  pub key_field : own_key image block ≡ block
+  pub parent : parent_key image block ≡ dir
+  pub sum : block_sum image block ≡ 0
+  pub name : HasValidName image block
+  pub slotted : slot (text_at image block name_byte) ≡ s
+  pub comment : byte_at image block comment_byte ≤ 79
+
+-- an OFS data block with the fields that do not hang on its place in the file
+pub record IsSoundData (image : List ℕ) (block file : ℕ) : Type 0 where
+  pub primary : primary_type image block ≡ data_type
+  pub header : own_key image block ≡ file
+  pub sum : block_sum image block ≡ 0
+
+-- the fields of a block of a role that can be told from the block alone
+abbrev pub IsSound : List ℕ → ℕ → Role → Type 0
+IsSound image block Root = IsSoundRoot image block
+IsSound image block Page = block_sum image block ≡ 0
+IsSound image block (Entry dir s) = IsSoundEntry image block dir s
+IsSound image block (Data file) = IsOfs image → IsSoundData image block file
+IsSound image block (Extension file) = HasExtension image file block
+
+-- each place of a marked block names a block of the image
+abbrev pub PlacesAreInside : List ℕ → List (Option Mark) → Type 0
+PlacesAreInside image marks =
+    (block i : ℕ) (mark : Mark) (next : Role) → mark_at marks block ≡ Some mark → IsPlace image block mark.role i next
+    → LeadsInside image block i
+
+-- each place of a marked block names a block that is marked for it
+abbrev pub PlacesAreMarked : List ℕ → List (Option Mark) → Type 0
+PlacesAreMarked image marks =
+    (block i : ℕ) (mark : Mark) (next : Role) → mark_at marks block ≡ Some mark → IsPlace image block mark.role i next
+    → IsMarkedFor marks (long image block i) next block i
+
+-- the marks are those of the blocks that are reached: each place of a marked block names a block that is marked for that place
+pub record AreReached (image : List ℕ) (marks : List (Option Mark)) : Type 0 where
+  pub size : length marks ≡ block_count image
+  pub root : IsMarkedFor marks (root_of image) Root 0 0
+  pub reached : (block : ℕ) (mark : Mark) → mark_at marks block ≡ Some mark → Reached image block mark.role
+  pub inside : PlacesAreInside image marks
+  pub marked : PlacesAreMarked image marks
+  pub sound : (block : ℕ) (mark : Mark) → mark_at marks block ≡ Some mark → IsSound image block mark.role
+
+-- the block is marked as an entry of a directory
+abbrev pub IsMarkedEntry : List (Option Mark) → ℕ → ℕ → Type 0
+IsMarkedEntry marks block dir = (mark : Mark) × (s : ℕ) × (mark_at marks block ≡ Some mark) × (mark.role ≡ Entry dir s)
+
+-- the two blocks have the same name
+abbrev pub HaveOneName : List ℕ → ℕ → ℕ → Type 0
+HaveOneName image block other = Same (text_at image block name_byte) (text_at image other name_byte)
+
+-- two marked entries of a directory with the same name are one block
+abbrev pub AreUnlike : List ℕ → List (Option Mark) → Type 0
+AreUnlike image marks =
+    (block other dir : ℕ) → IsMarkedEntry marks block dir → IsMarkedEntry marks other dir → HaveOneName image block other → block ≡ other
+
+-- a file whose blocks bear out its counts and its size
+abbrev pub IsSoundFile : List ℕ → ℕ → Type 0
+IsSoundFile image file = HasFile image (format_of image) file (data_blocks image file) (extension_blocks image file) (contents image file)
+
+-- the image shows no fault but perhaps in its bitmap
+pub record IsChecked (image : List ℕ) (marks : List (Option Mark)) : Type 0 where
+  pub boot : bytes_at image 0 0 4 ≡ kind_bytes (format_of image)
+  pub reached : AreReached image marks
+  pub files : (file dir : ℕ) → IsMarkedEntry marks file dir → secondary_type image file ≡ file_type → IsSoundFile image file
+  pub unlike : AreUnlike image marks

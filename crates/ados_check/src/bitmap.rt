@@ -1,0 +1,90 @@
+//! The bitmap of an image whose reached blocks are known.
+ghost use Rattle.std.specs.Prelude.{◌≡◌, ◌↔◌, ◌<◌, ◌≤◌, IsTrue, map, is_some, IfOk, IfErr, MatchOption};
+ghost use Rattle.adf_block.specs.Image.{IsImage, IsInside, block_count, has_free_bit};
+ghost use Rattle.ados_tree.specs.Rebuilt.{HasValidBitmap};
+ghost use Rattle.ados_tree.specs.Faults.{IsReachedAndFree};
+ghost use Rattle.ados_map.specs.Pages.{LawfulPages};
+ghost use Rattle.ados_check.specs.Laws.{AreInUse, IsMended};
+ghost use Rattle.ados_check.specs.Marks.{IsChecked};
+ghost use Rattle.ados_check.specs.BitmapTold.{TellsBitmap};
+
+use crate::laws::checked_has_pages;
+use crate::mark::Mark;
+use crate::source::Source;
+use adf_block::Image;
+use adf_block::layout::{
+    BITMAP_FLAG, BITMAP_VALID, BOOT_BLOCKS, FIRST_MAP_LONG, FIRST_PAGE, LONG_BITS, MOST_BLOCKS,
+    PAGE_BITS, SUM,
+};
+use ados_map::rebuild;
+use std::alloc::{AllocError, Global};
+
+/// Whether the root says that the bitmap is valid.
+pub(crate) fn has_valid_bitmap(source: &Source<'_>) -> bool
+    requires { TellsBitmap source.now }
+    ensures { IsTrue result ↔ HasValidBitmap source.now.bytes }
+{
+    prove!(source.blocks() >= 16);
+    source.long(source.root(), BITMAP_FLAG) == BITMAP_VALID
+}
+
+/// The first reached block that is marked free.
+pub(crate) fn reached_and_free(source: &Source<'_>, marks: &[Option<Mark>]) -> Option<u32>
+    requires checked { IsChecked source.now.bytes marks.now }
+    requires valid { HasValidBitmap source.now.bytes }
+    requires told { TellsBitmap source.now }
+    ensures found { MatchOption result (AreInUse source.now.bytes marks.now) (λ block. IsReachedAndFree source.now.bytes block) }
+    ensures image { IsImage source.now.bytes }
+{
+    checked_has_pages();
+    for block in BOOT_BLOCKS..source.blocks() {
+        if marks[block as usize].is_some() && is_free(source, block) {
+            return Some(block);
+        }
+    }
+    None
+}
+
+/// Whether a block is marked free.
+fn is_free(source: &Source<'_>, block: u32) -> bool
+    requires pages { LawfulPages source.now.bytes }
+    requires inside { IsInside (block_count source.now.bytes) block }
+    requires told { TellsBitmap source.now }
+    ensures { result ≡ has_free_bit source.now.bytes block }
+{
+    prove!(source.blocks() <= MOST_BLOCKS);
+    let bit = block - BOOT_BLOCKS;
+    let page = source.long(source.root(), FIRST_PAGE + bit / PAGE_BITS);
+    let bits = source.long(page, FIRST_MAP_LONG + bit % PAGE_BITS / LONG_BITS);
+    bits & (1 << (bit % LONG_BITS)) != 0
+}
+
+/// For each block whether it is reached.
+fn reached_blocks(alloc: Global, marks: &[Option<Mark>]) -> Result<Vec<bool>, AllocError>
+    ensures { IfOk result (λ named. named.items ≡ map is_some marks.now) }
+{
+    marks.iter().map(|mark| mark.is_some()).collect(alloc)
+}
+
+/// Writes the pages anew, so that exactly the reached blocks are in use, and says in the root that they are valid. All
+/// memory is got before the first change.
+pub(crate) fn mend(
+    alloc: Global,
+    image: &mut Image,
+    marks: &[Option<Mark>],
+) -> Result<(), AllocError>
+    requires { IsChecked image.old marks.now }
+    ensures mended { IfOk result (λ _. IsMended image.old marks.now image.new) }
+    ensures refused { IfErr result (λ _. image.new ≡ image.old) }
+    ensures was { IsImage image.old }
+    ensures image { IsImage image.new }
+{
+    prove!(image.blocks() >= 16);
+    checked_has_pages();
+    let named = reached_blocks(alloc, marks)?;
+    let root = image.root();
+    rebuild(image, &named);
+    image.set_long(root, BITMAP_FLAG, BITMAP_VALID);
+    image.settle(root, SUM);
+    Ok(())
+}

@@ -1,0 +1,22 @@
+//! One file: its counts, its size and, in OFS, the chain of its data blocks.
+ghost use Rattle.std.specs.Prelude.{◌≡◌, MatchResult};
+ghost use Rattle.ados_check.specs.Marks.{IsSoundFile};
+ghost use Rattle.ados_tree.specs.Faults.{Shows};
+ghost use Rattle.ados_check.specs.steps.Files.{IsReachedFile};
+
+use crate::chain::check_chain;
+use crate::counts::check_counts;
+use crate::source::Source;
+use ados_tree::VolumeFault;
+
+/// Tests that the blocks of a file bear out its counts and its size.
+pub(crate) fn check_file(source: &Source<'_>, file: u32) -> Result<(), VolumeFault>
+    requires { IsReachedFile source.now.bytes file }
+    ensures { MatchResult result (λ _. IsSoundFile source.now.bytes file) (λ fault. Shows source.now.bytes fault.kind fault.block) }
+{
+    let count = check_counts(source, file)?;
+    if source.kind_byte() == 0 {
+        check_chain(source, file, count)?;
+    }
+    Ok(())
+}

@@ -1,0 +1,182 @@
+//! From the root over each place of each block that is reached.
+ghost use Rattle.std.specs.Prelude.{◌≡◌, ◌+◌, ◌<◌, ◌≤◌, IfNone, IfSome, IfOk, IfErr, MatchResult, vec_capacity, replicate, None};
+ghost use Rattle.adf_block.specs.Image.{block_count};
+ghost use Rattle.adf_block.specs.Fields.{first_slot, secondary_type_long};
+ghost use Rattle.ados_tree.specs.Accepted.{IsRefusal};
+ghost use Rattle.ados_tree.specs.Faults.{Shows};
+ghost use Rattle.ados_check.specs.Marks.{AreReached};
+ghost use Rattle.ados_check.specs.steps.Reaching.{IsBetween, IsInHand, work};
+
+use crate::looks::look;
+use crate::mark::Mark;
+use crate::places::{TABLE_END, fields_from, has_places, place_role, table_from};
+use crate::source::Source;
+use adf_block::layout::{BOOT_BLOCKS, SECONDARY_TYPE};
+use ados_tree::{FaultKind, Role, VolumeFault};
+use std::alloc::Global;
+
+/// The marks so far, and the marked blocks whose places are still to be gone through.
+#[derive(Drop)]
+struct Progress {
+    marks: Vec<Option<Mark>>,
+    pending: Vec<u32>,
+}
+
+/// Want of memory has no block.
+const NO_MEMORY: VolumeFault = VolumeFault {
+    kind: FaultKind::NoMemory,
+    block: 0,
+};
+
+/// The marks of all blocks that are reached, a cell for each block of the image; or a fault that is met on the way.
+///
+/// This takes time and memory in the size of the image. `NoMemory` says that one of its two lists could not be made.
+pub fn reach(alloc: Global, source: &Source<'_>) -> Result<Vec<Option<Mark>>, VolumeFault>
+    ensures { MatchResult result (λ marks. AreReached source.now.bytes marks.items) (λ fault. IsRefusal source.now.bytes fault) }
+{
+    let mut progress = Progress::start(alloc, source)?;
+    while let Some((block, role)) = progress.next(source) {
+        progress.go_through(source, block, role)?;
+    }
+    Ok(progress.marks)
+}
+
+impl Progress {
+    /// Marks the root, and nothing else.
+    fn start(alloc: Global, source: &Source<'_>) -> Result<Progress, VolumeFault>
+        ensures between { IfOk result (λ progress. IsBetween source.now.bytes progress.marks.items progress.pending.items) }
+        ensures capacity { IfOk result (λ progress. block_count source.now.bytes ≤ vec_capacity progress.pending) }
+        ensures refused { IfErr result (λ fault. IsRefusal source.now.bytes fault) }
+    {
+        let root = source.root();
+        let mut marks = no_marks(alloc, source.blocks())?;
+        let mut pending = match Vec::with_capacity(alloc, source.blocks() as usize) {
+            Ok(pending) => pending,
+            Err(_) => return Err(NO_MEMORY),
+        };
+        if let Err(kind) = look(source, root, Role::Root) {
+            return Err(VolumeFault { kind, block: root });
+        }
+        marks[root as usize] = Some(Mark {
+            role: Role::Root,
+            holder: 0,
+            long: 0,
+        });
+        pending.push_reserved(root);
+        Ok(Progress { marks, pending })
+    }
+
+    /// Takes a pending block in hand.
+    fn next(&mut self, source: &Source<'_>) -> Option<(u32, Role)>
+        requires between { IsBetween source.now.bytes self.old.marks.items self.old.pending.items }
+        ensures ended { IfNone result (AreReached source.now.bytes self.new.marks.items) }
+        ensures hand { IfSome result (λ found. IsInHand source.now.bytes self.new.marks.items self.new.pending.items found.0 found.1 first_slot) }
+        ensures less { IfSome result (λ _. work self.new.marks.items self.new.pending.items < work self.old.marks.items self.old.pending.items) }
+        ensures capacity { vec_capacity self.new.pending ≡ vec_capacity self.old.pending }
+    {
+        prove!(source.blocks() >= 16);
+        let block = self.pending.pop()?;
+        match self.marks[block as usize] {
+            Some(mark) => Some((block, mark.role)),
+            None => unreachable!(),
+        }
+    }
+
+    /// Goes through the places of the block in hand.
+    fn go_through(&mut self, source: &Source<'_>, block: u32, role: Role) -> Result<(), VolumeFault>
+        requires hand { IsInHand source.now.bytes self.old.marks.items self.old.pending.items block role first_slot }
+        requires capacity { block_count source.now.bytes ≤ vec_capacity self.old.pending }
+        ensures between { IfOk result (λ _. IsBetween source.now.bytes self.new.marks.items self.new.pending.items) }
+        ensures work { IfOk result (λ _. work self.new.marks.items self.new.pending.items ≤ work self.old.marks.items self.old.pending.items) }
+        ensures capacity { vec_capacity self.new.pending ≡ vec_capacity self.old.pending }
+        ensures shown { IfErr result (λ fault. Shows source.now.bytes fault.kind fault.block) }
+    {
+        prove!(source.blocks() >= 16);
+        let from = table_from(source, block, role);
+        self.pass_all(source, block, role, from, TABLE_END)?;
+        self.pass_all(source, block, role, fields_from(role), SECONDARY_TYPE)?;
+        Ok(())
+    }
+
+    /// Goes through the longs in a part of the block in hand.
+    fn pass_all(
+        &mut self,
+        source: &Source<'_>,
+        block: u32,
+        role: Role,
+        from: u32,
+        to: u32,
+    ) -> Result<(), VolumeFault>
+        requires hand { IsInHand source.now.bytes self.old.marks.items self.old.pending.items block role from }
+        requires part { from ≤ to }
+        requires longs { to ≤ secondary_type_long }
+        requires capacity { block_count source.now.bytes ≤ vec_capacity self.old.pending }
+        ensures hand { IfOk result (λ _. IsInHand source.now.bytes self.new.marks.items self.new.pending.items block role to) }
+        ensures work { IfOk result (λ _. work self.new.marks.items self.new.pending.items ≤ work self.old.marks.items self.old.pending.items) }
+        ensures capacity { vec_capacity self.new.pending ≡ vec_capacity self.old.pending }
+        ensures shown { IfErr result (λ fault. Shows source.now.bytes fault.kind fault.block) }
+    {
+        for i in from..to {
+            self.pass(source, block, role, i)?;
+        }
+        Ok(())
+    }
+
+    /// Goes through one long: what it names, if it is a place, is looked at, marked, and put to the
+    /// pending blocks where it may name others itself.
+    fn pass(
+        &mut self,
+        source: &Source<'_>,
+        holder: u32,
+        role: Role,
+        i: u32,
+    ) -> Result<(), VolumeFault>
+        requires hand { IsInHand source.now.bytes self.old.marks.items self.old.pending.items holder role i }
+        requires long { i < secondary_type_long }
+        requires capacity { block_count source.now.bytes ≤ vec_capacity self.old.pending }
+        ensures hand { IfOk result (λ _. IsInHand source.now.bytes self.new.marks.items self.new.pending.items holder role (i + 1)) }
+        ensures work { IfOk result (λ _. work self.new.marks.items self.new.pending.items ≤ work self.old.marks.items self.old.pending.items) }
+        ensures capacity { vec_capacity self.new.pending ≡ vec_capacity self.old.pending }
+        ensures shown { IfErr result (λ fault. Shows source.now.bytes fault.kind fault.block) }
+    {
+        let Some(next) = place_role(source, holder, role, i) else {
+            return Ok(());
+        };
+        let block = source.long(holder, i);
+        if block < BOOT_BLOCKS || source.blocks() <= block {
+            return Err(VolumeFault {
+                kind: FaultKind::BadPointer,
+                block: holder,
+            });
+        }
+        if self.marks[block as usize].is_some() {
+            return Err(VolumeFault {
+                kind: FaultKind::BlockUsedTwice,
+                block,
+            });
+        }
+        if let Err(kind) = look(source, block, next) {
+            return Err(VolumeFault { kind, block });
+        }
+        self.marks[block as usize] = Some(Mark {
+            role: next,
+            holder,
+            long: i,
+        });
+        if has_places(next) {
+            self.pending.push_reserved(block);
+        }
+        Ok(())
+    }
+}
+
+/// A cell for each block, with no mark.
+fn no_marks(alloc: Global, blocks: u32) -> Result<Vec<Option<Mark>>, VolumeFault>
+    ensures none { IfOk result (λ marks. marks.items ≡ replicate blocks None) }
+    ensures err { IfErr result (λ fault. fault ≡ NO_MEMORY) }
+{
+    match Vec::from_elem(alloc, None, blocks as usize) {
+        Ok(marks) => Ok(marks),
+        Err(_) => Err(NO_MEMORY),
+    }
+}

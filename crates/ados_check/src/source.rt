@@ -1,0 +1,140 @@
+//! The source of a check's blocks.
+
+ghost use Rattle.std.specs.Prelude.{◌≡◌, ◌≢◌, ◌<◌, ◌*◌, ◌/◌, ℕ, length, MatchBool, true, false};
+ghost use Rattle.adf_block.specs.Image.{IsImage, IsSize, block_count, block_sum, bytes_at, byte_at, long, root_key};
+ghost use Rattle.adf_block.specs.Layout.{kind_byte};
+ghost use Rattle.ados_check.specs.Source.{Tells};
+
+use crate::sketch::Sketch;
+use adf_block::Image;
+use adf_block::layout::KIND_BYTE;
+use std::marker::Model;
+
+/// Where the blocks are.
+#[derive(Drop)]
+pub(crate) enum Kept<'a> {
+    Whole(&'a Image),
+    Sketch(&'a Sketch),
+}
+
+/// An image, or a sketch of it. Contracts see the image's bytes, and whether all of them are there.
+#[derive(Drop)]
+pub struct Source<'a> {
+    kept: Kept<'a>,
+}
+
+impl<'a> Model for Source<'a> {
+    ghost use Rattle.ados_check.specs.Source.{SourceView};
+    ghost use Rattle.ados_check.specs.Kept.{seen};
+    ghost use Rattle.adf_block.specs.Image.{IsImage};
+
+    ghost Value = { SourceView };
+
+    ghost view = { λ s. seen s.kept };
+
+    ghost invariant = { λ s. IsImage (seen s.kept).bytes };
+}
+
+impl<'a> Source<'a> {
+    /// A whole image.
+    pub fn whole(image: &'a Image) -> Source<'a>
+        ensures { result ≡ record { bytes = image.now; whole = true } }
+    {
+        prove!(image.blocks() >= 16);
+        Source {
+            kept: Kept::Whole(image),
+        }
+    }
+
+    /// A sketch of a whole image.
+    pub fn sketch(sketch: &'a Sketch) -> Source<'a>
+        requires { IsSize (block_count sketch.now) }
+        ensures { result ≡ record { bytes = sketch.now; whole = false } }
+    {
+        prove!(sketch.blocks() >= 16);
+        Source {
+            kept: Kept::Sketch(sketch),
+        }
+    }
+
+    /// How many blocks the image has.
+    pub fn blocks(&self) -> u32
+        ensures count { result ≡ block_count self.now.bytes }
+        ensures size { IsSize result }
+        ensures whole { length self.now.bytes ≡ 512 * result }
+        ensures image { IsImage self.now.bytes }
+    {
+        match &self.kept {
+            Kept::Whole(image) => image.blocks(),
+            Kept::Sketch(sketch) => sketch.blocks(),
+        }
+    }
+
+    /// The number of the root block, in the middle of the volume.
+    pub fn root(&self) -> u32
+        ensures { result ≡ root_key (block_count self.now.bytes) }
+    {
+        (self.blocks() + 1) / 2
+    }
+
+    /// The byte behind `DOS`: 0 of the old file system, 1 of the fast one.
+    pub fn kind_byte(&self) -> u8
+        ensures { result ≡ byte_at self.now.bytes 0 kind_byte }
+    {
+        prove!(self.blocks() >= 16);
+        match &self.kept {
+            Kept::Whole(image) => image.byte(0, KIND_BYTE),
+            Kept::Sketch(sketch) => sketch.kind_byte(),
+        }
+    }
+
+    /// Whether the longs of block `b` add up to 0, as those of each block with a sum do.
+    pub fn has_sum(&self, b: u32) -> bool
+        requires { b < block_count self.now.bytes }
+        ensures { MatchBool result (block_sum self.now.bytes b ≡ 0) (block_sum self.now.bytes b ≢ 0) }
+    {
+        match &self.kept {
+            Kept::Whole(image) => image.sum(b) == 0,
+            Kept::Sketch(sketch) => sketch.has_sum(b),
+        }
+    }
+
+    /// Long `i` of block `b`, from 0 to 127.
+    pub fn long(&self, b: u32, i: u32) -> u32
+        requires block { b < block_count self.now.bytes }
+        requires place { i < 128 }
+        requires told { Tells self.now b i }
+        ensures { result ≡ long self.now.bytes b i }
+    {
+        match &self.kept {
+            Kept::Whole(image) => image.long(b, i),
+            Kept::Sketch(sketch) => sketch.long(b, i),
+        }
+    }
+
+    /// Byte `i` of block `b`, from 0 to 511.
+    pub fn byte(&self, b: u32, i: u32) -> u8
+        requires block { b < block_count self.now.bytes }
+        requires place { i < 512 }
+        requires told { Tells self.now b (i / 4) }
+        ensures { result ≡ byte_at self.now.bytes b i }
+    {
+        match &self.kept {
+            Kept::Whole(image) => image.byte(b, i),
+            Kept::Sketch(sketch) => sketch.byte(b, i),
+        }
+    }
+
+    /// The 512 bytes of block `b`.
+    pub fn block(&self, b: u32) -> &[u8]
+        requires inside { b < block_count self.now.bytes }
+        requires told { Tells self.now b 127 }
+        ensures bytes { result.now ≡ bytes_at self.now.bytes b 0 512 }
+        ensures length { length result.now ≡ 512 }
+    {
+        match &self.kept {
+            Kept::Whole(image) => image.block(b),
+            Kept::Sketch(sketch) => sketch.block(b),
+        }
+    }
+}

@@ -1,0 +1,79 @@
+use Rattle.std.proofs.Common.{◌≡◌, ◌-◌, ◌+◌, ◌/◌, ◌%◌, ◌<◌, ◌≤◌, ℕ, List, take, drop, length, refl, ap, ap₂, ◌∙◌, arith}
+use borrow.Rule.Slice.PartMut.{put_mid}
+use Rattle.adf_block.specs.declared.Format.{Format}
+use Rattle.adf_block.specs.Image.{bytes_at}
+use Rattle.ados_data.specs.Cost.{data_size, data_start}
+use Rattle.ados_data.specs.File.{pointer_block, contents, format_of}
+use Rattle.ados_data.proofs.Places.{header_inside}
+use Rattle.ados_data.proofs.Walking.{holder_inside, block_inside, block_is, on_to_next, on_in_same, part_copied}
+use Rattle.ados_data.proofs.Sizes.{few_bytes, part_bounds}
+use Rattle.ados_data.proofs.read.read_near.Goals as goal
+
+pub long-size-requires-clause-block : goal.long-size-requires-clause-block
+long-size-requires-clause-block c = header_inside c.args.image.now c.args.file c.requires.lawful 0 (omega arith)
+
+pub data_block-requires : goal.data_block-requires
+data_block-requires c =
+    let room : c.data_size-room.result ≡ data_size (format_of c.args.image.now) = c.data_size-room.ensures ∙ ap data_size c.format-format.ensures in
+    let within : c.args.pos + c.loop-done.done < length (contents c.args.image.now c.args.file) = omega (arith, c.min-count.ensures, c.long-size.ensures, c.requires.lawful.holds.size, c.loop-done-test.true) in
+    holder_inside c.args.image.now c.args.file c.requires.lawful c.data_size-room.result room (c.args.pos + c.loop-done.done) c.loop-done.holder within c.loop-done.invariant.holder
+
+pub data_in-found-requires : goal.data_in-found-requires
+data_in-found-requires c =
+    let room : c.data_size-room.result ≡ data_size (format_of c.args.image.now) = c.data_size-room.ensures ∙ ap data_size c.format-format.ensures in
+    let within : c.args.pos + c.loop-done.done < length (contents c.args.image.now c.args.file) = omega (arith, c.min-count.ensures, c.long-size.ensures, c.requires.lawful.holds.size, c.loop-done-test.true) in
+    block_inside c.args.image.now c.args.file c.requires.lawful c.data_size-room.result room (c.args.pos + c.loop-done.done) c.loop-done.holder c.data_block.result within c.loop-done.invariant.holder c.data_block.ensures
+
+pub long-holder-requires-clause-block : goal.long-holder-requires-clause-block
+long-holder-requires-clause-block c =
+    let room : c.data_size-room.result ≡ data_size (format_of c.args.image.now) = c.data_size-room.ensures ∙ ap data_size c.format-format.ensures in
+    let within : c.args.pos + c.loop-done.done < length (contents c.args.image.now c.args.file) = omega (arith, c.min-count.ensures, c.long-size.ensures, c.requires.lawful.holds.size, c.loop-done-test.true) in
+    holder_inside c.args.image.now c.args.file c.requires.lawful c.data_size-room.result room (c.args.pos + c.loop-done.done) c.loop-done.holder within c.loop-done.invariant.holder
+
+pub loop-done-preserved-then-at-part-eq0 : goal.loop-done-preserved-then-at-part-eq0
+loop-done-preserved-then-at-part-eq0 c =
+    let room : c.data_size-room.result ≡ data_size (format_of c.args.image.now) = c.data_size-room.ensures ∙ ap data_size c.format-format.ensures in
+    let within : c.args.pos + c.loop-done.done < length (contents c.args.image.now c.args.file) = omega (arith, c.min-count.ensures, c.long-size.ensures, c.requires.lawful.holds.size, c.loop-done-test.true) in
+    let bounds : (0 < c.min-part.result) × ((c.args.pos + c.loop-done.done) % c.data_size-room.result + c.min-part.result ≤ c.data_size-room.result) × (c.loop-done.done + c.min-part.result ≤ c.min-count.result) =
+    part_bounds c.data_size-room.result (c.args.pos + c.loop-done.done) c.loop-done.done c.min-count.result c.min-part.result (omega (arith, room, few_bytes (format_of c.args.image.now))) c.loop-done-test.true c.min-part.ensures in
+    let next : c.args.pos + c.loop-done.done + c.min-part.result ≡ c.args.pos + (c.loop-done.done + c.min-part.result) = omega arith in
+    let part : c.loop-done.done + c.min-part.result - c.loop-done.done ≡ c.min-part.result = omega arith in
+    let taken : (c.args.pos + c.loop-done.done) % c.data_size-room.result + c.min-part.result - (c.args.pos + c.loop-done.done) % c.data_size-room.result ≡ c.min-part.result = omega arith in
+    let found : c.data_in-found.result.now ≡ bytes_at c.args.image.now c.data_block.result (data_start (format_of c.args.image.now)) (data_size (format_of c.args.image.now)) =
+    c.data_in-found.ensures.bytes ∙ ap (λ (f : Format). bytes_at c.args.image.now c.data_block.result (data_start f) (data_size f)) c.format-format.ensures in
+    record {
+      below = bounds.2;
+      holder = on_to_next c.args.image.now c.args.file c.requires.lawful c.data_size-room.result room (c.args.pos + c.loop-done.done) c.min-part.result c.loop-done.holder c.long-holder.result bounds.0 bounds.1 c.if-at-part-eq0.true c.loop-done.invariant.holder c.long-holder.ensures
+          ∙ ap (λ (n : ℕ). pointer_block c.args.image.now c.args.file (n / c.data_size-room.result / 72)) next;
+      filled = ap (λ (n : ℕ). put_mid c.loop-done.done n c.loop-done.buffer c.copy_from_slice.new.self) part
+          ∙ part_copied c.args.image.now c.args.file c.requires.lawful c.data_size-room.result room c.args.pos c.loop-done.done c.min-part.result (c.args.pos + c.loop-done.done) ((c.args.pos + c.loop-done.done) % c.data_size-room.result) c.data_block.result c.loop-done.buffer c.args.buffer.now c.copy_from_slice.new.self
+          refl refl bounds.1 (omega (arith, bounds.2, c.min-count.ensures, c.long-size.ensures, c.requires.lawful.holds.size)) (omega (arith, bounds.2, c.min-count.ensures))
+          (block_is c.args.image.now c.args.file c.requires.lawful c.data_size-room.result room (c.args.pos + c.loop-done.done) c.loop-done.holder c.data_block.result c.loop-done.invariant.holder c.data_block.ensures)
+          (block_inside c.args.image.now c.args.file c.requires.lawful c.data_size-room.result room (c.args.pos + c.loop-done.done) c.loop-done.holder c.data_block.result within c.loop-done.invariant.holder c.data_block.ensures)
+          c.loop-done.invariant.filled
+          (c.copy_from_slice.ensures.after ∙ ap₂ (λ (n : ℕ) (xs : List ℕ). take n (drop ((c.args.pos + c.loop-done.done) % c.data_size-room.result) xs)) taken found);
+    }
+
+pub loop-done-preserved : goal.loop-done-preserved
+loop-done-preserved c =
+    let room : c.data_size-room.result ≡ data_size (format_of c.args.image.now) = c.data_size-room.ensures ∙ ap data_size c.format-format.ensures in
+    let within : c.args.pos + c.loop-done.done < length (contents c.args.image.now c.args.file) = omega (arith, c.min-count.ensures, c.long-size.ensures, c.requires.lawful.holds.size, c.loop-done-test.true) in
+    let bounds : (0 < c.min-part.result) × ((c.args.pos + c.loop-done.done) % c.data_size-room.result + c.min-part.result ≤ c.data_size-room.result) × (c.loop-done.done + c.min-part.result ≤ c.min-count.result) =
+    part_bounds c.data_size-room.result (c.args.pos + c.loop-done.done) c.loop-done.done c.min-count.result c.min-part.result (omega (arith, room, few_bytes (format_of c.args.image.now))) c.loop-done-test.true c.min-part.ensures in
+    let next : c.args.pos + c.loop-done.done + c.min-part.result ≡ c.args.pos + (c.loop-done.done + c.min-part.result) = omega arith in
+    let part : c.loop-done.done + c.min-part.result - c.loop-done.done ≡ c.min-part.result = omega arith in
+    let taken : (c.args.pos + c.loop-done.done) % c.data_size-room.result + c.min-part.result - (c.args.pos + c.loop-done.done) % c.data_size-room.result ≡ c.min-part.result = omega arith in
+    let found : c.data_in-found.result.now ≡ bytes_at c.args.image.now c.data_block.result (data_start (format_of c.args.image.now)) (data_size (format_of c.args.image.now)) =
+    c.data_in-found.ensures.bytes ∙ ap (λ (f : Format). bytes_at c.args.image.now c.data_block.result (data_start f) (data_size f)) c.format-format.ensures in
+    record {
+      below = bounds.2;
+      holder = on_in_same c.args.image.now c.args.file c.requires.lawful c.data_size-room.result room (c.args.pos + c.loop-done.done) c.min-part.result c.loop-done.holder bounds.1 c.if-at-part-eq0.false c.loop-done.invariant.holder
+          ∙ ap (λ (n : ℕ). pointer_block c.args.image.now c.args.file (n / c.data_size-room.result / 72)) next;
+      filled = ap (λ (n : ℕ). put_mid c.loop-done.done n c.loop-done.buffer c.copy_from_slice.new.self) part
+          ∙ part_copied c.args.image.now c.args.file c.requires.lawful c.data_size-room.result room c.args.pos c.loop-done.done c.min-part.result (c.args.pos + c.loop-done.done) ((c.args.pos + c.loop-done.done) % c.data_size-room.result) c.data_block.result c.loop-done.buffer c.args.buffer.now c.copy_from_slice.new.self
+          refl refl bounds.1 (omega (arith, bounds.2, c.min-count.ensures, c.long-size.ensures, c.requires.lawful.holds.size)) (omega (arith, bounds.2, c.min-count.ensures))
+          (block_is c.args.image.now c.args.file c.requires.lawful c.data_size-room.result room (c.args.pos + c.loop-done.done) c.loop-done.holder c.data_block.result c.loop-done.invariant.holder c.data_block.ensures)
+          (block_inside c.args.image.now c.args.file c.requires.lawful c.data_size-room.result room (c.args.pos + c.loop-done.done) c.loop-done.holder c.data_block.result within c.loop-done.invariant.holder c.data_block.ensures)
+          c.loop-done.invariant.filled
+          (c.copy_from_slice.ensures.after ∙ ap₂ (λ (n : ℕ) (xs : List ℕ). take n (drop ((c.args.pos + c.loop-done.done) % c.data_size-room.result) xs)) taken found);
+    }

@@ -1,0 +1,13 @@
+use Rattle.std.proofs.Common.{◌-◌, ◌≡◌, ◌++◌, ◌≤◌, ◌+◌, ◌/◌, take, drop}
+use Rattle.ados_data.specs.File.{pointer_block, contents}
+use Rattle.ados_data.proofs.read.read_near.Given as goal
+
+abbrev pub invariant-loop-done : goal.invariant-loop-done
+invariant-loop-done l = record {
+  below : l.done ≤ l.count;
+  holder : l.holder ≡ pointer_block l.image l.file ((l.pos + l.done) / l.room / 72);
+  filled : l.buffer ≡ take l.done (drop l.pos (contents l.image l.file)) ++ drop l.done l.fn.buffer;
+}
+
+abbrev pub decreases-loop-done : goal.decreases-loop-done
+decreases-loop-done l = l.count - l.done

@@ -1,0 +1,81 @@
+-- A block that is met a second time.
+use Rattle.std.proofs.Common.{◌≡◌, ◌≢◌, ℕ, ◌<◌, ◌⊎◌, inl, inr, Bool, List, [], ◌∷◌, length, replicate, Option, Some, None, set, sym, ap, ◌∙◌, subst, arith, length-set}
+use Rattle.std.specs.List.{All}
+use Rattle.std.proofs.lemmas.Bool.{cases_order}
+use Rattle.std.proofs.lemmas.List.{length-replicate}
+use Rattle.std.proofs.lemmas.List.Elements.{All-push}
+use Rattle.adf_block.specs.Image.{IsImage, block_count}
+use Rattle.ados_tree.specs.declared.role.Role.TheVariants.{Root}
+use Rattle.ados_tree.specs.Faults.{InImage, IsUsedTwice, PlaceNames, Reached, root_of}
+use Rattle.ados_tree.specs.Faults.Reached.{start}
+use Rattle.ados_tree.specs.Faults.IsUsedTwice.{two_holders, two_longs, root_named}
+use Rattle.ados_check.specs.declared.mark.Mark.{Mark}
+use Rattle.ados_check.specs.Marks.{mark_at}
+use Rattle.ados_check.specs.steps.Reaching.{root_mark}
+use Rattle.ados_check.proofs.MarkLemmas.{IsMarkedMore, marked_more, none_marked}
+use Rattle.ados_faults.specs.declared.walk.Step.{Step}
+use Rattle.ados_faults.specs.steps.Noted.{AreNoted}
+use Rattle.ados_faults.specs.steps.Walked.{IsMet, IsStep, IsWalked, root_step}
+use Rattle.ados_faults.proofs.Insides.{root_inside}
+
+-- by another place than the first
+pub used_twice : (image : List ℕ) (block : ℕ) (first mark : Mark) → InImage image block → IsMet image block first → PlaceNames image mark.holder mark.long block
+    → (first.holder ≢ mark.holder) ⊎ (first.long ≢ mark.long) → IsUsedTwice image block
+used_twice image block first mark inside (inl root) names other = root_named root names
+used_twice image block first mark inside (inr met) names (inl other) = two_holders inside (first.long, met) (mark.long, names) other
+used_twice image block first mark inside (inr met) names (inr other) = elim (cases_order first.holder mark.holder) [
+  | inl same ↦ two_longs inside (subst (λ (h : ℕ). PlaceNames image h first.long block) same met) names other
+  | inr (inl l) ↦ two_holders inside (first.long, met) (mark.long, names) (λ z. omega (arith, z, l))
+  | inr (inr l) ↦ two_holders inside (first.long, met) (mark.long, names) (λ z. omega (arith, z, l))
+]
+
+-- the root alone, at first
+pub started : (image : List ℕ) → IsImage image → (cells : List Bool) (marks : List (Option Mark)) (root : ℕ) (steps : List Step) → AreNoted image cells
+    → marks ≡ replicate (block_count image) None → root ≡ root_of image → steps ≡ root_step root ∷ [] → IsWalked image cells (set marks root (Some root_mark)) steps
+started image im cells marks root steps noted none is only = record {
+  noted = noted;
+  size = length-set marks root (Some root_mark) ∙ ap length none ∙ length-replicate {A = Option Mark} (block_count image) None;
+  met = λ block mark e. elim (cases_order block root) [
+    | inl here ↦ inl (here ∙ is)
+    | inr (inl l) ↦ absurd (unset block mark (λ z. omega (arith, z, l)) e)
+    | inr (inr l) ↦ absurd (unset block mark (λ z. omega (arith, z, l)) e)
+  ];
+  reached = subst (All (IsStep image)) (sym only) (All-push (IsStep image) [] (root_step root) (λ k d l. absurd (omega (arith, l))) (record {
+    inside = subst (InImage image) (sym is) (root_inside image im);
+    reached = subst (λ (b : ℕ). Reached image b Root) (sym is) start;
+  }));
+}
+  where
+    within : root < length marks
+    within = let inside = root_inside image im in omega (arith, ap length none, length-replicate {A = Option Mark} (block_count image) None, is, inside.1)
+
+    was_none : mark_at marks root ≡ None
+    was_none = ap (λ (ms : List (Option Mark)). mark_at ms root) none ∙ none_marked (block_count image) root
+
+    more : IsMarkedMore marks (set marks root (Some root_mark)) root root_mark
+    more = marked_more marks root root_mark within was_none
+
+    unset : (block : ℕ) (mark : Mark) → block ≢ root → mark_at (set marks root (Some root_mark)) block ≡ Some mark → ⊥
+    unset block mark other e =
+        let none_there : mark_at marks block ≡ None = ap (λ (ms : List (Option Mark)). mark_at ms block) none ∙ none_marked (block_count image) block in
+        let h : None ≡ Some mark = sym none_there ∙ sym (more.others block other) ∙ e in
+        cc h
+
+-- a block that is met for the first time
+pub met_first : (image : List ℕ) (cells : List Bool) (marks : List (Option Mark)) (steps : List Step) (block : ℕ) (mark : Mark) → IsWalked image cells marks steps
+    → block < length marks → mark_at marks block ≡ None → PlaceNames image mark.holder mark.long block → IsWalked image cells (set marks block (Some mark)) steps
+met_first image cells marks steps block mark w within none names = record {
+  noted = w.noted;
+  size = length-set marks block (Some mark) ∙ w.size;
+  met = λ other m e. elim (cases_order other block) [
+    | inl here ↦ (let same : Some mark ≡ Some m = sym more.is ∙ ap (mark_at (set marks block (Some mark))) (sym here) ∙ e in
+        let is : mark ≡ m = cc same in
+        inr (subst (λ (x : Mark). PlaceNames image x.holder x.long other) is (subst (PlaceNames image mark.holder mark.long) (sym here) names)))
+    | inr (inl l) ↦ w.met other m (sym (more.others other (λ z. omega (arith, z, l))) ∙ e)
+    | inr (inr l) ↦ w.met other m (sym (more.others other (λ z. omega (arith, z, l))) ∙ e)
+  ];
+  reached = w.reached;
+}
+  where
+    more : IsMarkedMore marks (set marks block (Some mark)) block mark
+    more = marked_more marks block mark within none

@@ -1,0 +1,117 @@
+-- The blocks that links reach, one more at a time, and the set of those that were met.
+use Rattle.std.proofs.Common.{◌≡◌, ◌≢◌, ℕ, ◌+◌, ◌-◌, ◌<◌, ◌⊎◌, inl, inr, Bool, true, false, cond, List, [], ◌∷◌, ◌++◌, length, slice_index, refl, sym, ap, ◌∙◌, subst, arith}
+use Rattle.std.specs.List.{Contains, list_any}
+use Rattle.std.specs.Ordering.{nat_cmp, is_eq}
+use Rattle.std.specs.declared.cmp.Ordering.{Ordering}
+use Rattle.std.specs.declared.cmp.Ordering.TheVariants.{Less, Equal, Greater}
+use Rattle.std.specs.FinMap.{nat_cmp-IsAntisymmetric}
+use Rattle.std.specs.BTreeMap.{is_at}
+use Rattle.std.specs.BTreeSet.{BTreeSet, contains}
+use Rattle.std.proofs.lemmas.Bool.{cases_lt, cases_Bool, false≢true}
+use Rattle.std.proofs.lemmas.List.{get_or_default, length_push, get_or_push, get_or_append_left}
+use Rattle.std.proofs.lemmas.List.Elements.{All-push, Contains-push, Contains-push_cases, Contains-append_left}
+use Rattle.std.proofs.lemmas.List.Quantifiers.{all_pairs_push}
+use Rattle.adf_block.specs.Image.{long}
+use Rattle.ados_tree.specs.Faults.{InImage, LinkedOnce, LeadOn, FurtherAreInside, last_link}
+use Rattle.ados_faults.specs.steps.Chain.{HasMet, IsChain}
+
+-- the first block alone
+pub chain_start : (image : List ℕ) (link first : ℕ) → InImage image first → IsChain image link (first ∷ [])
+chain_start image link first within = record {
+  not_empty = omega arith;
+  linked = λ i l. absurd (omega (arith, l));
+  further = λ i l. absurd (omega (arith, l));
+  once = λ i j d l m. absurd (omega (arith, l, m));
+  inside = All-push (InImage image) [] first (λ k d l. absurd (omega (arith, l))) within;
+}
+
+module _ (image : List ℕ) (link : ℕ) (blocks : List ℕ) (c : IsChain image link blocks) where
+  -- the links lead out, or back
+  pub chain_whole : (next : ℕ) → last_link image link blocks ≡ next → (InImage image next → Contains blocks next) → LinkedOnce image link (slice_index blocks 0) blocks
+  chain_whole next e back = record {
+    not_empty = c.not_empty;
+    head = refl;
+    linked = c.linked;
+    inside = c.further;
+    once = c.once;
+    whole = λ inside. subst (Contains blocks) (sym e) (back (subst (InImage image) e inside));
+  }
+
+  -- a block that was not met
+  pub chain_more : (next : ℕ) → last_link image link blocks ≡ next → InImage image next → ¬ Contains blocks next → IsChain image link (blocks ++ next ∷ [])
+  chain_more next e inside fresh = record {
+    not_empty = omega (arith, grown);
+    linked = linked;
+    further = further;
+    once = all_pairs_push (λ (a b : ℕ). a ≢ b) blocks next c.once (λ k d l z. fresh (k, l, get_or_default blocks k next d l ∙ z));
+    inside = All-push (InImage image) blocks next c.inside inside;
+  }
+    where
+      grown : length (blocks ++ next ∷ []) ≡ length blocks + 1
+      grown = length_push blocks next
+
+      before : (i : ℕ) → i < length blocks → slice_index (blocks ++ next ∷ []) i ≡ slice_index blocks i
+      before i l = get_or_append_left blocks (next ∷ []) 0 i l
+
+      last : (i : ℕ) → length blocks ≡ i → slice_index (blocks ++ next ∷ []) i ≡ next
+      last i here = get_or_push blocks next 0 i here
+
+      linked : LeadOn image link (blocks ++ next ∷ [])
+      linked i l = elim (cases_lt (i + 1) (length blocks)) [
+        | inl m ↦ ap (λ (b : ℕ). long image b link) (before i (omega (arith, m))) ∙ c.linked i m ∙ sym (before (i + 1) m)
+        | inr m ↦
+            (let here : length blocks ≡ i + 1 = omega (arith, l, m, grown) in
+            let at : i ≡ length blocks - 1 = omega (arith, here) in
+            ap (λ (b : ℕ). long image b link) (before i (omega (arith, here)) ∙ ap (slice_index blocks) at) ∙ e ∙ sym (last (i + 1) here))
+      ]
+
+      further : FurtherAreInside image (blocks ++ next ∷ [])
+      further i l = elim (cases_lt (i + 1) (length blocks)) [
+        | inl m ↦ subst (InImage image) (sym (before (i + 1) m)) (c.further i m)
+        | inr m ↦ subst (InImage image) (sym (last (i + 1) (omega (arith, l, m, grown)))) inside
+      ]
+
+-- ---- the set
+
+is_equal : (o : Ordering) → is_eq o ≡ true → o ≡ Equal
+is_equal Less e = absurd (cc e)
+is_equal Equal e = refl
+is_equal Greater e = absurd (cc e)
+
+same_block : (block other : ℕ) → is_at (nat_cmp block) other ≡ true → block ≡ other
+same_block block other e = nat_cmp-IsAntisymmetric block other (is_equal (nat_cmp block other) e)
+
+-- one more block of both
+pub met_more : (met more : BTreeSet ℕ) (blocks : List ℕ) (next : ℕ) → HasMet met blocks
+    → ((q : ℕ) → contains nat_cmp more q ≡ cond (is_at (nat_cmp next) q) true (contains nat_cmp met q))
+    → contains nat_cmp more next ≡ true → HasMet more (blocks ++ next ∷ [])
+met_more met more blocks next h updates there = record {
+  listed = listed;
+  held = λ block c. elim (Contains-push_cases blocks next block c) [
+    | inl old ↦ updates block ∙ kept (is_at (nat_cmp next) block) (contains nat_cmp met block) (h.held block old)
+    | inr here ↦ ap (contains nat_cmp more) (sym here) ∙ there
+  ];
+}
+  where
+    kept : (b old : Bool) → old ≡ true → cond b true old ≡ true
+    kept true old e = refl
+    kept false old e = e
+
+    listed : (block : ℕ) → contains nat_cmp more block ≡ true → Contains (blocks ++ next ∷ []) block
+    listed block e = go (cases_Bool (is_at (nat_cmp next) block))
+      where
+        go : (is_at (nat_cmp next) block ≡ true) ⊎ (is_at (nat_cmp next) block ≡ false) → Contains (blocks ++ next ∷ []) block
+        go (inl a) = subst (Contains (blocks ++ next ∷ [])) (same_block next block a) (Contains-push blocks next)
+        go (inr a) =
+            let old : contains nat_cmp met block ≡ true = ap (λ (b : Bool). cond b true (contains nat_cmp met block)) (sym a) ∙ sym (updates block) ∙ e in
+            Contains-append_left blocks (next ∷ []) block (h.listed block old)
+
+-- neither has a block
+pub met_none : (met : BTreeSet ℕ) → met.keys ≡ [] → HasMet met []
+met_none met none = record {
+  listed = λ block e. absurd (false≢true (sym (ap (λ (ks : List ℕ). list_any (is_at (nat_cmp block)) ks) none) ∙ e));
+  held = λ block c. absurd (omega (arith, c.1));
+}
+
+pub head_kept : (blocks : List ℕ) (next : ℕ) → 0 < length blocks → slice_index (blocks ++ next ∷ []) 0 ≡ slice_index blocks 0
+head_kept blocks next l = get_or_append_left blocks (next ∷ []) 0 0 l

@@ -1,0 +1,17 @@
+use Rattle.std.proofs.Common.{◌≡◌, ◌*◌, ◌-◌, ◌%◌, ◌^◌, ◌<◌, ℕ, not, eqb, arith, ap, ap₂, sym, ◌∙◌}
+use Rattle.std.specs.Prelude.{bit_and}
+use Rattle.std.proofs.lemmas.Nat.{pow_below}
+use Rattle.adf_block.specs.Image.{long}
+use Rattle.ados_map.specs.Pages.{map_long}
+use Rattle.ados_map.proofs.BitLemmas.{marked-is}
+use Rattle.ados_faults.proofs.bits.has_bit.Goals as goal
+
+-- a one shifted by less than its width
+shifted : (i : ℕ) → i < 32 → 1 * 2 ^ i % 4294967296 ≡ 2 ^ i
+shifted i lt = omega (arith, pow_below i 32 lt)
+
+pub returns : goal.returns
+returns c =
+    let i = (c.args.block - 2) % 32 in
+    let is = c.long.ensures ∙ ap (λ (p : ℕ). long c.args.image.now p (map_long c.args.block)) c.requires.page in
+    ap₂ (λ (v m : ℕ). not (eqb (bit_and v m) 0)) is (shifted i (omega arith)) ∙ sym (marked-is c.args.image.now c.args.block)

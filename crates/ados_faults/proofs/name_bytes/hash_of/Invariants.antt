@@ -1,0 +1,9 @@
+use Rattle.std.proofs.Common.{◌≡◌, ◌<◌, ◌+◌, ◌*◌, ◌%◌, length, take, fold}
+use Rattle.ados_name.specs.Name.{upper}
+use Rattle.ados_faults.proofs.name_bytes.hash_of.Given as goal
+
+abbrev pub invariant-loop-byte : goal.invariant-loop-byte
+invariant-loop-byte l = record {
+  small : l.hash < 2048;
+  so_far : l.hash ≡ fold (λ h c. (13 * h + upper c) % 2048) (length l.text) (take l.byte-index l.text);
+}

@@ -1,0 +1,5 @@
+use Rattle.ados_faults.specs.steps.Walked.{IsWalked}
+use Rattle.ados_faults.proofs.walk.walked.Given as goal
+
+abbrev pub invariant-loop-i : goal.invariant-loop-i
+invariant-loop-i l = IsWalked l.image l.walk.notes.cells.items l.walk.marks.items l.walk.steps.items

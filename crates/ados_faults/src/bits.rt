@@ -1,0 +1,68 @@
+//! Blocks that the bitmap says are free.
+ghost use Rattle.std.specs.Prelude.{◌≡◌, ◌↔◌, ◌-◌, ◌/◌, IsTrue};
+ghost use Rattle.adf_block.specs.Fields.{boot_blocks, page_bits};
+ghost use Rattle.adf_block.specs.Image.{IsImage, has_free_bit};
+ghost use Rattle.ados_map.specs.Pages.{page_block};
+ghost use Rattle.ados_tree.specs.Faults.{InImage};
+ghost use Rattle.ados_tree.specs.Rebuilt.{HasValidBitmap};
+ghost use Rattle.ados_faults.specs.steps.Walked.{IsMarkedFree};
+
+use adf_block::Image;
+use adf_block::layout::{
+    BITMAP_FLAG, BITMAP_VALID, BOOT_BLOCKS, FIRST_MAP_LONG, FIRST_PAGE, LONG_BITS, MOST_BLOCKS,
+    PAGE_BITS,
+};
+
+/// Whether the bitmap is valid, the page of the block lies in the image, and the bit there says that the block is free.
+pub(crate) fn is_marked_free(image: &Image, block: u32) -> bool
+    requires { InImage image.now block }
+    ensures { IsTrue result ↔ IsMarkedFree image.now block }
+{
+    if !has_valid_bitmap(image) {
+        return false;
+    }
+    let page = page_of(image, block);
+    if !is_inside(image, page) {
+        return false;
+    }
+    has_bit(image, page, block)
+}
+
+/// The page that has the bit of a block, as the root names it.
+fn page_of(image: &Image, block: u32) -> u32
+    requires { InImage image.now block }
+    ensures { result ≡ page_block image.now ((block - boot_blocks) / page_bits) }
+{
+    prove!(image.blocks() <= MOST_BLOCKS);
+    image.long(image.root(), FIRST_PAGE + (block - BOOT_BLOCKS) / PAGE_BITS)
+}
+
+/// Whether the bit of a block is set in its page.
+fn has_bit(image: &Image, page: u32, block: u32) -> bool
+    requires inside { InImage image.now block }
+    requires page { page ≡ page_block image.now ((block - boot_blocks) / page_bits) }
+    requires within { InImage image.now page }
+    ensures { result ≡ has_free_bit image.now block }
+{
+    image.long(
+        page,
+        FIRST_MAP_LONG + (block - BOOT_BLOCKS) % PAGE_BITS / LONG_BITS,
+    ) & (1 << ((block - BOOT_BLOCKS) % LONG_BITS))
+        != 0
+}
+
+/// Whether the root says that the bitmap is valid.
+pub(crate) fn has_valid_bitmap(image: &Image) -> bool
+    ensures valid { IsTrue result ↔ HasValidBitmap image.now }
+    ensures image { IsImage image.now }
+{
+    prove!(image.blocks() >= 16);
+    image.long(image.root(), BITMAP_FLAG) == BITMAP_VALID
+}
+
+/// Whether the block is one of the image, behind the boot blocks.
+pub(crate) fn is_inside(image: &Image, block: u32) -> bool
+    ensures { IsTrue result ↔ InImage image.now block }
+{
+    BOOT_BLOCKS <= block && block < image.blocks()
+}

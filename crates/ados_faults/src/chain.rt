@@ -1,0 +1,147 @@
+//! The data blocks of an OFS file, which lead from one to the next and know their places.
+ghost use Rattle.std.specs.Prelude.{◌≡◌, ◌≢◌, ◌<◌, ◌+◌, All, IfSome, IsTrue, length, slice_index, sum_by};
+ghost use Rattle.adf_block.specs.Fields.{held_count, ofs_room, sequence_number};
+ghost use Rattle.ados_tree.specs.Faults.{AreDataBlocks, HoldsOtherSize, InImage, IsOfs, LinksOn};
+ghost use Rattle.ados_faults.specs.steps.Chain.{HoldsTooLittle, IsPlaced};
+ghost use Rattle.ados_faults.specs.steps.Noted.{AreNoted};
+
+use crate::bits::is_inside;
+use crate::notes::Notes;
+use adf_block::Image;
+use adf_block::layout::{HELD, NEXT_DATA, OFS_ROOM, SEQUENCE, SIZE};
+use ados_tree::FaultKind;
+
+/// Looks at each data block of a file at its place, and at the bytes that they hold together.
+pub(crate) fn look_along(image: &Image, file: u32, blocks: &[u32], notes: &mut Notes)
+    requires noted { AreNoted image.now notes.old.cells.items }
+    requires inside { InImage image.now file }
+    requires ofs { IsOfs image.now }
+    requires data { AreDataBlocks image.now file blocks.now }
+    ensures { AreNoted image.now notes.new.cells.items }
+{
+    for i in 0..blocks.len() {
+        look_at_place(image, file, blocks, i, notes);
+    }
+    let wrong = holds_other_size(image, file, blocks);
+    notes.note_if(image, FaultKind::BadCount, file, wrong);
+}
+
+/// Looks at the data block at a place, where it is one of the image.
+fn look_at_place(image: &Image, file: u32, blocks: &[u32], i: usize, notes: &mut Notes)
+    requires noted { AreNoted image.now notes.old.cells.items }
+    requires ofs { IsOfs image.now }
+    requires data { AreDataBlocks image.now file blocks.now }
+    requires within { i < length blocks.now }
+    ensures { AreNoted image.now notes.new.cells.items }
+{
+    let block = blocks[i];
+    if is_inside(image, block) {
+        return look_at_block(image, blocks, i, block, notes);
+    }
+}
+
+/// Looks at a data block of an OFS file at its place.
+fn look_at_block(image: &Image, blocks: &[u32], i: usize, block: u32, notes: &mut Notes)
+    requires noted { AreNoted image.now notes.old.cells.items }
+    requires ofs { IsOfs image.now }
+    requires inside { InImage image.now block }
+    requires at { IsPlaced image.now blocks.now i block }
+    ensures { AreNoted image.now notes.new.cells.items }
+{
+    let place = has_other_place(image, blocks, i, block);
+    notes.note_if(image, FaultKind::BadSequence, block, place);
+    let short = is_short(image, blocks, i, block);
+    notes.note_if(image, FaultKind::BadCount, block, short);
+    let over = holds_too_much(image, block);
+    notes.note_if(image, FaultKind::BadCount, block, over);
+    let link = leads_elsewhere(image, blocks, i, block);
+    notes.note_if(image, FaultKind::BadPointer, block, link);
+}
+
+/// Whether a data block does not have its place in the file, from 1.
+fn has_other_place(image: &Image, blocks: &[u32], i: usize, block: u32) -> bool
+    requires inside { InImage image.now block }
+    requires within { i < length blocks.now }
+    ensures { IsTrue result → sequence_number image.now block ≢ i + 1 }
+{
+    let _count = blocks.len();
+    image.long(block, SEQUENCE) as usize != i + 1
+}
+
+/// Whether a data block holds nothing, or is not the last one and not full.
+fn is_short(image: &Image, blocks: &[u32], i: usize, block: u32) -> bool
+    requires inside { InImage image.now block }
+    requires within { i < length blocks.now }
+    ensures { IsTrue result → HoldsTooLittle image.now blocks.now i block }
+{
+    let held = image.long(block, HELD);
+    if held == 0 {
+        return true;
+    }
+    i + 1 < blocks.len() && held != OFS_ROOM
+}
+
+/// Whether a data block holds more than it has room for.
+fn holds_too_much(image: &Image, block: u32) -> bool
+    requires { InImage image.now block }
+    ensures { IsTrue result → ofs_room < held_count image.now block }
+{
+    image.long(block, HELD) > OFS_ROOM
+}
+
+/// Whether a data block names another next one than what stands behind its place, or one where nothing does.
+fn leads_elsewhere(image: &Image, blocks: &[u32], i: usize, block: u32) -> bool
+    requires inside { InImage image.now block }
+    requires within { i < length blocks.now }
+    ensures { IsTrue result → ¬ LinksOn image.now block blocks.now i }
+{
+    image.long(block, NEXT_DATA) != block_behind(blocks, i)
+}
+
+/// The block behind a place, or 0 where there is none.
+fn block_behind(blocks: &[u32], i: usize) -> u32
+    requires { i < length blocks.now }
+    ensures { result ≡ slice_index blocks.now (i + 1) }
+{
+    if i + 1 < blocks.len() {
+        blocks[i + 1]
+    } else {
+        0
+    }
+}
+
+/// Whether the data blocks are all in the image, and hold another number of bytes than the size of the file.
+fn holds_other_size(image: &Image, file: u32, blocks: &[u32]) -> bool
+    requires inside { InImage image.now file }
+    requires data { AreDataBlocks image.now file blocks.now }
+    ensures { IsTrue result → HoldsOtherSize image.now file }
+{
+    match held_together(image, blocks) {
+        Some(sum) => sum != u64::from(image.long(file, SIZE)),
+        None => false,
+    }
+}
+
+/// How many bytes the blocks hold together; `None` where one of them is not in the image.
+fn held_together(image: &Image, blocks: &[u32]) -> Option<u64>
+    ensures inside { IfSome result (λ _. All (InImage image.now) blocks.now) }
+    ensures sum { IfSome result (λ sum. sum ≡ sum_by (held_count image.now) blocks.now) }
+{
+    let mut sum = 0;
+    for i in 0..blocks.len() {
+        let more = with_held(image, blocks[i], sum)?;
+        sum = more;
+    }
+    Some(sum)
+}
+
+/// The bytes of a block and of others together.
+fn with_held(image: &Image, block: u32, sum: u64) -> Option<u64>
+    ensures inside { IfSome result (λ _. InImage image.now block) }
+    ensures sum { IfSome result (λ more. more ≡ sum + held_count image.now block) }
+{
+    if !is_inside(image, block) {
+        return None;
+    }
+    sum.checked_add(u64::from(image.long(block, HELD)))
+}

@@ -1,0 +1,134 @@
+//! The files, against their sizes.
+ghost use Rattle.std.specs.Prelude.{◌≡◌, ◌≢◌, ◌<◌, All, IfOk, IsTrue, length};
+ghost use Rattle.adf_block.specs.Fields.{file_size};
+ghost use Rattle.adf_block.specs.Image.{block_count};
+ghost use Rattle.ados_data.specs.Cost.{data_count};
+ghost use Rattle.ados_data.specs.File.{format_of};
+ghost use Rattle.ados_tree.specs.Faults.{AreDataBlocks, InImage, IsFile};
+ghost use Rattle.ados_faults.specs.steps.Noted.{AreNoted};
+ghost use Rattle.ados_faults.specs.steps.Walked.{IsStep};
+
+use crate::chain::look_along;
+use crate::file_blocks::{data_blocks, headers_of};
+use crate::notes::Notes;
+use crate::walk::{Step, most_steps};
+use adf_block::Image;
+use adf_block::layout::{FFS_ROOM, FILE_TYPE, KIND_BYTE, OFS_ROOM, SECONDARY_TYPE, SIZE};
+use ados_tree::{FaultKind, Role};
+use std::alloc::{AllocError, Global};
+
+/// Which files have been looked at, and how many header and extension blocks may still be gone through.
+#[derive(Drop)]
+struct Looked {
+    files: Vec<bool>,
+    left: usize,
+}
+
+/// Looks at the blocks of each file, once. Answers whether some were left out, since together the files have more header
+/// and extension blocks than are gone through.
+pub(crate) fn look_at_files(
+    alloc: Global,
+    image: &Image,
+    steps: &[Step],
+    notes: &mut Notes,
+) -> Result<bool, AllocError>
+    requires noted { AreNoted image.now notes.old.cells.items }
+    requires steps { All (IsStep image.now) steps.now }
+    ensures { IfOk result (λ _. AreNoted image.now notes.new.cells.items) }
+{
+    let mut looked = Looked {
+        files: Vec::from_elem(alloc, false, image.blocks() as usize)?,
+        left: most_steps(image) as usize,
+    };
+    for step in steps {
+        looked.look_at(alloc, image, *step, notes)?;
+    }
+    Ok(looked.left == 0)
+}
+
+impl Looked {
+    /// Looks at the blocks of a file, where this is a file that was not looked at.
+    fn look_at(
+        &mut self,
+        alloc: Global,
+        image: &Image,
+        step: Step,
+        notes: &mut Notes,
+    ) -> Result<(), AllocError>
+        requires noted { AreNoted image.now notes.old.cells.items }
+        requires step { IsStep image.now step }
+        requires cells { length self.old.files.items ≡ block_count image.now }
+        ensures noted { IfOk result (λ _. AreNoted image.now notes.new.cells.items) }
+        ensures cells { length self.new.files.items ≡ length self.old.files.items }
+    {
+        let Role::Entry(_, _) = step.role else {
+            return Ok(());
+        };
+        let file = step.block;
+        if image.long(file, SECONDARY_TYPE) != FILE_TYPE || self.files[file as usize] {
+            return Ok(());
+        }
+        self.files[file as usize] = true;
+        self.left = look_at_file(alloc, image, file, self.left, notes)?;
+        Ok(())
+    }
+}
+
+/// Looks at the blocks of a file, unless its header and extension blocks are as many as may be gone through or more: how
+/// many are left after it.
+fn look_at_file(
+    alloc: Global,
+    image: &Image,
+    file: u32,
+    left: usize,
+    notes: &mut Notes,
+) -> Result<usize, AllocError>
+    requires noted { AreNoted image.now notes.old.cells.items }
+    requires inside { InImage image.now file }
+    requires file { IsFile image.now file }
+    ensures { IfOk result (λ _. AreNoted image.now notes.new.cells.items) }
+{
+    let Some(headers) = headers_of(alloc, image, file, left)? else {
+        return Ok(0);
+    };
+    let blocks = data_blocks(alloc, image, file, &headers)?;
+    look_at_blocks(image, file, &blocks, notes);
+    Ok(left.saturating_sub(headers.len()))
+}
+
+/// Looks at the data blocks of a file.
+fn look_at_blocks(image: &Image, file: u32, blocks: &[u32], notes: &mut Notes)
+    requires noted { AreNoted image.now notes.old.cells.items }
+    requires inside { InImage image.now file }
+    requires data { AreDataBlocks image.now file blocks.now }
+    ensures { AreNoted image.now notes.new.cells.items }
+{
+    let wrong = has_other_count(image, file, blocks);
+    notes.note_if(image, FaultKind::BadCount, file, wrong);
+    if image.byte(0, KIND_BYTE) != 0 {
+        return;
+    }
+    look_along(image, file, blocks, notes);
+}
+
+/// Whether a file of its size has another number of data blocks.
+fn has_other_count(image: &Image, file: u32, blocks: &[u32]) -> bool
+    requires { InImage image.now file }
+    ensures { IsTrue result → length blocks.now ≢ data_count (format_of image.now) (file_size image.now file) }
+{
+    blocks.len() != blocks_of_size(image, file) as usize
+}
+
+/// The data blocks that a file of its size has.
+fn blocks_of_size(image: &Image, file: u32) -> u32
+    requires { file < block_count image.now }
+    ensures { result ≡ data_count (format_of image.now) (file_size image.now file) }
+{
+    prove!(image.blocks() >= 16);
+    let room = if image.byte(0, KIND_BYTE) == 0 {
+        OFS_ROOM
+    } else {
+        FFS_ROOM
+    };
+    image.long(file, SIZE).div_ceil(room)
+}

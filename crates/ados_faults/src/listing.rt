@@ -1,0 +1,75 @@
+//! All faults of an image, in order.
+ghost use Rattle.std.specs.Prelude.{◌≡◌, ◌<◌, ◌≤◌, ◌↔◌, [], IfOk, false, length};
+ghost use Rattle.adf_block.specs.Image.{IsImage};
+ghost use Rattle.ados_tree.specs.Accepted.{ShowsNoFault};
+ghost use Rattle.ados_tree.specs.Faults.{Shows};
+ghost use Rattle.ados_faults.specs.Listed.{ListsFaults};
+
+use crate::files::look_at_files;
+use crate::first::first_fault;
+use crate::looks::look_at_all;
+use crate::names::note_duplicates;
+use crate::walk::walked;
+use adf_block::Image;
+use ados_check::Mark;
+use ados_tree::VolumeFault;
+use std::alloc::{AllocError, Global};
+
+/// The faults of an image, and the way to each block.
+#[derive(Drop)]
+pub struct AllFaults {
+    /// By block and then by kind, each once; never `NoMemory`.
+    pub faults: Vec<VolumeFault>,
+    /// Whether the image may show faults that are not listed.
+    pub more: bool,
+    /// A cell for each block, with the place by which it was met first and the role that this gives it; none at all where
+    /// the image shows no fault.
+    pub marks: Vec<Option<Mark>>,
+}
+
+/// The first `most` of all faults that an image shows.
+///
+/// The list is empty exactly where the image is accepted. Every other fault is sought by a walk that no fault stops; where
+/// the blocks of an image name one another so often that the walk has to end before it has seen all, `more` says so.
+pub fn all_faults(alloc: Global, image: &Image, most: usize) -> Result<AllFaults, AllocError>
+    ensures lists { IfOk result (λ found. ListsFaults image.now most found.faults.items) }
+    ensures none { IfOk result (λ found. 1 ≤ most → (found.faults.items ≡ []) ↔ ShowsNoFault image.now) }
+    ensures whole { IfOk result (λ found. ShowsNoFault image.now → found.more ≡ false) }
+{
+    prove!(image.blocks() >= 16);
+    let Some(first) = first_fault(alloc, image)? else {
+        return Ok(AllFaults {
+            faults: Vec::new(alloc),
+            more: false,
+            marks: Vec::new(alloc),
+        });
+    };
+    let found = faults_with(alloc, image, first, most)?;
+    Ok(found)
+}
+
+/// The first `most` of all faults, one of which is known.
+fn faults_with(
+    alloc: Global,
+    image: &Image,
+    first: VolumeFault,
+    most: usize,
+) -> Result<AllFaults, AllocError>
+    requires image { IsImage image.now }
+    requires shown { Shows image.now first.kind first.block }
+    ensures lists { IfOk result (λ found. ListsFaults image.now most found.faults.items) }
+    ensures some { IfOk result (λ found. 1 ≤ most → 0 < length found.faults.items) }
+    ensures refused { IfOk result (λ _. ¬ ShowsNoFault image.now) }
+{
+    let mut walk = walked(alloc, image)?;
+    look_at_all(image, &walk.steps, &mut walk.notes);
+    note_duplicates(alloc, image, &walk.steps, &mut walk.notes)?;
+    let left_out = look_at_files(alloc, image, &walk.steps, &mut walk.notes)?;
+    walk.notes.note(image, first.kind, first.block);
+    let listed = walk.notes.listed(alloc, image, most)?;
+    Ok(AllFaults {
+        faults: listed.faults,
+        more: listed.more || walk.is_cut || left_out,
+        marks: walk.marks,
+    })
+}

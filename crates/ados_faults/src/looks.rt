@@ -1,0 +1,209 @@
+//! A look at a block in a role: all that can be told to be wrong from the block alone.
+ghost use Rattle.std.specs.Prelude.{◌≡◌, ◌≢◌, ◌<◌, All, IsTrue, slice_index};
+ghost use Rattle.adf_block.specs.Image.{block_count, long};
+ghost use Rattle.ados_tree.specs.declared.role.Role.TheVariants.{Root, Page, Entry, Data, Extension};
+ghost use Rattle.ados_tree.specs.Faults.{HasPointers, InImage, IsFile, Reached, pointers_of, root_of};
+ghost use Rattle.ados_faults.specs.steps.Noted.{AreNoted};
+ghost use Rattle.ados_faults.specs.steps.Walked.{IsStep};
+
+use crate::bits::is_marked_free;
+use crate::name_bytes::{has_bad_name, is_of_other_slot};
+use crate::notes::Notes;
+use crate::walk::Step;
+use adf_block::Image;
+use adf_block::layout::{
+    COMMENT_BYTE, DATA_TYPE, DIRECTORY_LINK_TYPE, DIRECTORY_TYPE, FILE_LINK_TYPE, FILE_TYPE,
+    FIRST_POINTER, HEADER_TYPE, KIND_BYTE, LIST_TYPE, NEXT_DATA, NEXT_EXTENSION, OWN_KEY, PARENT,
+    POINTER_COUNT, PRIMARY_TYPE, ROOT_TYPE, SECONDARY_TYPE, SOFT_LINK_TYPE, TABLE_LONGS,
+    TABLE_SIZE,
+};
+use ados_tree::{FaultKind, Role};
+
+/// Looks at the block of each step.
+pub(crate) fn look_at_all(image: &Image, steps: &[Step], notes: &mut Notes)
+    requires noted { AreNoted image.now notes.old.cells.items }
+    requires steps { All (IsStep image.now) steps.now }
+    ensures { AreNoted image.now notes.new.cells.items }
+{
+    for step in steps {
+        let free = is_marked_free(image, step.block);
+        notes.note_if(image, FaultKind::MarkedFree, step.block, free);
+        look(image, step.block, step.role, notes);
+    }
+}
+
+/// Looks at a block in the role in which it is reached.
+fn look(image: &Image, block: u32, role: Role, notes: &mut Notes)
+    requires noted { AreNoted image.now notes.old.cells.items }
+    requires inside { InImage image.now block }
+    requires reached { Reached image.now block role }
+    ensures { AreNoted image.now notes.new.cells.items }
+{
+    match role {
+        Role::Root => look_root(image, block, notes),
+        Role::Page => look_page(image, block, notes),
+        Role::Entry(dir, slot) => look_entry(image, block, dir, slot, notes),
+        Role::Data(file) => look_data(image, block, file, notes),
+        Role::Extension(file) => look_extension(image, block, file, notes),
+    }
+}
+
+fn look_root(image: &Image, block: u32, notes: &mut Notes)
+    requires noted { AreNoted image.now notes.old.cells.items }
+    requires inside { InImage image.now block }
+    requires root { block ≡ root_of image.now }
+    requires reached { Reached image.now block Root }
+    ensures { AreNoted image.now notes.new.cells.items }
+{
+    notes.note_if(image, FaultKind::BadSum, block, image.sum(block) != 0);
+    let primary = is_other(image, block, PRIMARY_TYPE, HEADER_TYPE);
+    notes.note_if(image, FaultKind::BadType, block, primary);
+    let table = is_other(image, block, TABLE_SIZE, TABLE_LONGS);
+    notes.note_if(image, FaultKind::BadType, block, table);
+    let secondary = is_other(image, block, SECONDARY_TYPE, ROOT_TYPE);
+    notes.note_if(image, FaultKind::BadType, block, secondary);
+    let parent = is_other(image, block, PARENT, 0);
+    notes.note_if(image, FaultKind::BadParent, block, parent);
+    let name = has_bad_name(image, block);
+    notes.note_if(image, FaultKind::BadName, block, name);
+}
+
+/// Whether a long is not what is wanted.
+fn is_other(image: &Image, block: u32, i: u32, wanted: u32) -> bool
+    requires inside { InImage image.now block }
+    requires long { i < 128 }
+    ensures { IsTrue result → long image.now block i ≢ wanted }
+{
+    image.long(block, i) != wanted
+}
+
+fn look_page(image: &Image, block: u32, notes: &mut Notes)
+    requires noted { AreNoted image.now notes.old.cells.items }
+    requires inside { InImage image.now block }
+    requires reached { Reached image.now block Page }
+    ensures { AreNoted image.now notes.new.cells.items }
+{
+    notes.note_if(image, FaultKind::BadSum, block, image.sum(block) != 0);
+}
+
+fn look_entry(image: &Image, block: u32, dir: u32, slot: u32, notes: &mut Notes)
+    requires noted { AreNoted image.now notes.old.cells.items }
+    requires inside { InImage image.now block }
+    requires reached { Reached image.now block (Entry dir slot) }
+    ensures { AreNoted image.now notes.new.cells.items }
+{
+    notes.note_if(image, FaultKind::BadSum, block, image.sum(block) != 0);
+    let primary = is_other(image, block, PRIMARY_TYPE, HEADER_TYPE);
+    notes.note_if(image, FaultKind::BadType, block, primary);
+    let key = is_other(image, block, OWN_KEY, block);
+    notes.note_if(image, FaultKind::BadOwnKey, block, key);
+    let parent = is_other(image, block, PARENT, dir);
+    notes.note_if(image, FaultKind::BadParent, block, parent);
+    let name = has_bad_name(image, block);
+    notes.note_if(image, FaultKind::BadName, block, name);
+    let wrong = is_of_other_slot(image, block, slot);
+    notes.note_if(image, FaultKind::WrongChain, block, wrong);
+    look_secondary(image, block, dir, slot, notes);
+}
+
+/// What an entry heads: a directory or a file, and no link.
+fn look_secondary(image: &Image, block: u32, dir: u32, slot: u32, notes: &mut Notes)
+    requires noted { AreNoted image.now notes.old.cells.items }
+    requires inside { InImage image.now block }
+    requires reached { Reached image.now block (Entry dir slot) }
+    ensures { AreNoted image.now notes.new.cells.items }
+{
+    let kind = image.long(block, SECONDARY_TYPE);
+    if kind == DIRECTORY_TYPE {
+        let long = image.byte(block, COMMENT_BYTE) > 79;
+        return notes.note_if(image, FaultKind::BadComment, block, long);
+    }
+    if kind == FILE_TYPE {
+        return look_file(image, block, notes);
+    }
+    if kind == SOFT_LINK_TYPE || kind == DIRECTORY_LINK_TYPE || kind == FILE_LINK_TYPE {
+        return notes.note(image, FaultKind::LinkEntry, block);
+    }
+    notes.note(image, FaultKind::BadType, block);
+}
+
+/// The header of a file.
+fn look_file(image: &Image, block: u32, notes: &mut Notes)
+    requires noted { AreNoted image.now notes.old.cells.items }
+    requires inside { InImage image.now block }
+    requires file { IsFile image.now block }
+    ensures { AreNoted image.now notes.new.cells.items }
+{
+    let long = image.byte(block, COMMENT_BYTE) > 79;
+    notes.note_if(image, FaultKind::BadComment, block, long);
+    look_counts(image, block, notes);
+    if image.byte(0, KIND_BYTE) != 0 {
+        return;
+    }
+    let wrong = is_other(image, block, NEXT_DATA, first_pointer(image, block));
+    notes.note_if(image, FaultKind::BadPointer, block, wrong);
+}
+
+/// The first data pointer of a header, or 0 where it has none.
+fn first_pointer(image: &Image, block: u32) -> u32
+    requires { block < block_count image.now }
+    ensures { result ≡ slice_index (pointers_of image.now block) 0 }
+{
+    let count = image.long(block, POINTER_COUNT);
+    if count == 0 || count > TABLE_LONGS {
+        return 0;
+    }
+    image.long(block, FIRST_POINTER)
+}
+
+/// How many pointers a header or extension block has: a full table where another block follows.
+fn look_counts(image: &Image, block: u32, notes: &mut Notes)
+    requires noted { AreNoted image.now notes.old.cells.items }
+    requires inside { InImage image.now block }
+    requires pointers { HasPointers image.now block }
+    ensures { AreNoted image.now notes.new.cells.items }
+{
+    let count = image.long(block, POINTER_COUNT);
+    notes.note_if(image, FaultKind::BadCount, block, count > TABLE_LONGS);
+    if image.long(block, NEXT_EXTENSION) == 0 {
+        return;
+    }
+    notes.note_if(image, FaultKind::BadCount, block, count < TABLE_LONGS);
+}
+
+/// Only in OFS has a data block fields.
+fn look_data(image: &Image, block: u32, file: u32, notes: &mut Notes)
+    requires noted { AreNoted image.now notes.old.cells.items }
+    requires inside { InImage image.now block }
+    requires reached { Reached image.now block (Data file) }
+    ensures { AreNoted image.now notes.new.cells.items }
+{
+    if image.byte(0, KIND_BYTE) != 0 {
+        return;
+    }
+    notes.note_if(image, FaultKind::BadSum, block, image.sum(block) != 0);
+    let primary = is_other(image, block, PRIMARY_TYPE, DATA_TYPE);
+    notes.note_if(image, FaultKind::BadType, block, primary);
+    let parent = is_other(image, block, OWN_KEY, file);
+    notes.note_if(image, FaultKind::BadParent, block, parent);
+}
+
+fn look_extension(image: &Image, block: u32, file: u32, notes: &mut Notes)
+    requires noted { AreNoted image.now notes.old.cells.items }
+    requires inside { InImage image.now block }
+    requires reached { Reached image.now block (Extension file) }
+    ensures { AreNoted image.now notes.new.cells.items }
+{
+    let count = image.long(block, POINTER_COUNT);
+    notes.note_if(image, FaultKind::BadSum, block, image.sum(block) != 0);
+    let primary = is_other(image, block, PRIMARY_TYPE, LIST_TYPE);
+    notes.note_if(image, FaultKind::BadType, block, primary);
+    let secondary = is_other(image, block, SECONDARY_TYPE, FILE_TYPE);
+    notes.note_if(image, FaultKind::BadType, block, secondary);
+    let key = is_other(image, block, OWN_KEY, block);
+    notes.note_if(image, FaultKind::BadOwnKey, block, key);
+    let parent = is_other(image, block, PARENT, file);
+    notes.note_if(image, FaultKind::BadParent, block, parent);
+    notes.note_if(image, FaultKind::BadCount, block, count == 0);
+    look_counts(image, block, notes);
+}

@@ -1,0 +1,147 @@
+//! What has been found: a cell for each kind of fault of each block.
+ghost use Rattle.std.specs.Prelude.{◌≡◌, ◌<◌, ◌≤◌, ◌+◌, ◌*◌, false, length, slice_index_or, true, IfOk, IsTrue};
+ghost use Rattle.adf_block.specs.Image.{block_count};
+ghost use Rattle.ados_tree.specs.Faults.{Shows};
+ghost use Rattle.ados_faults.specs.Listed.{ListsFaults};
+ghost use Rattle.ados_faults.specs.steps.Noted.{AreListed, AreNoted, HasNote, IsNoted, cell_of};
+
+use crate::kinds::{KINDS, kind_at, rank_of};
+use adf_block::Image;
+use ados_tree::{FaultKind, VolumeFault};
+use std::alloc::{AllocError, Global};
+
+/// The faults that were found so far.
+#[derive(Drop)]
+pub(crate) struct Notes {
+    /// Cells of one block stand together, in the order of the kinds.
+    cells: Vec<bool>,
+}
+
+/// Faults in order, and whether there would be more.
+#[derive(Drop)]
+pub(crate) struct Listed {
+    pub(crate) faults: Vec<VolumeFault>,
+    pub(crate) more: bool,
+}
+
+impl Notes {
+    /// No fault yet.
+    pub(crate) fn none(alloc: Global, image: &Image) -> Result<Notes, AllocError>
+        ensures { IfOk result (λ notes. AreNoted image.now notes.cells.items) }
+    {
+        let cells = Vec::from_elem(alloc, false, KINDS * image.blocks() as usize)?;
+        Ok(Notes { cells })
+    }
+
+    /// Notes the fault of the block where it is `wrong`.
+    pub(crate) fn note_if(&mut self, image: &Image, kind: FaultKind, block: u32, wrong: bool)
+        requires noted { AreNoted image.now self.old.cells.items }
+        requires inside { block < block_count image.now }
+        requires shown { IsTrue wrong → Shows image.now kind block }
+        ensures noted { AreNoted image.now self.new.cells.items }
+    {
+        if wrong {
+            self.note(image, kind, block);
+        }
+    }
+
+    /// Notes the fault of the block.
+    pub(crate) fn note(&mut self, image: &Image, kind: FaultKind, block: u32)
+        requires noted { AreNoted image.now self.old.cells.items }
+        requires inside { block < block_count image.now }
+        requires shown { Shows image.now kind block }
+        ensures noted { AreNoted image.now self.new.cells.items }
+        ensures some { HasNote self.new.cells.items }
+    {
+        let _image = image;
+        let cell = KINDS * block as usize + rank_of(kind);
+        self.cells[cell] = true;
+    }
+
+    /// The first `most` of the faults.
+    pub(crate) fn listed(
+        &self,
+        alloc: Global,
+        image: &Image,
+        most: usize,
+    ) -> Result<Listed, AllocError>
+        requires noted { AreNoted image.now self.now.cells.items }
+        ensures lists { IfOk result (λ listed. ListsFaults image.now most listed.faults.items) }
+        ensures some { IfOk result (λ listed. HasNote self.now.cells.items → 1 ≤ most → 0 < length listed.faults.items) }
+    {
+        let mut faults = Vec::new(alloc);
+        for cell in 0..self.cells.len() {
+            let has_room = self.has_room_for(image, cell, most, &mut faults)?;
+            if !has_room {
+                return Ok(Listed { faults, more: true });
+            }
+        }
+        Ok(Listed {
+            faults,
+            more: false,
+        })
+    }
+
+    /// Adds the fault of a cell, where it is set; not where there are `most` already.
+    fn has_room_for(
+        &self,
+        image: &Image,
+        cell: usize,
+        most: usize,
+        faults: &mut Vec<VolumeFault>,
+    ) -> Result<bool, AllocError>
+        requires noted { AreNoted image.now self.now.cells.items }
+        requires within { cell < length self.now.cells.items }
+        requires listed { AreListed image.now self.now.cells.items most cell faults.old.items }
+        ensures listed { IfOk result (λ room. room ≡ true → AreListed image.now self.now.cells.items most (cell + 1) faults.new.items) }
+        ensures full { IfOk result (λ room. room ≡ false → ListsFaults image.now most faults.new.items × (length faults.new.items ≡ most)) }
+    {
+        if self.is_set(cell) {
+            return self.add_fault(image, cell, most, faults);
+        }
+        Ok(true)
+    }
+
+    /// Adds the fault of a cell that is set, where there are not `most` yet.
+    fn add_fault(
+        &self,
+        image: &Image,
+        cell: usize,
+        most: usize,
+        faults: &mut Vec<VolumeFault>,
+    ) -> Result<bool, AllocError>
+        requires noted { AreNoted image.now self.now.cells.items }
+        requires within { cell < length self.now.cells.items }
+        requires is_set { IsNoted self.now.cells.items cell }
+        requires listed { AreListed image.now self.now.cells.items most cell faults.old.items }
+        ensures listed { IfOk result (λ room. room ≡ true → AreListed image.now self.now.cells.items most (cell + 1) faults.new.items) }
+        ensures full { IfOk result (λ room. room ≡ false → ListsFaults image.now most faults.new.items × (length faults.new.items ≡ most)) }
+    {
+        if faults.len() == most {
+            return Ok(false);
+        }
+        let fault = fault_at(image, cell);
+        faults.push(fault)?;
+        Ok(true)
+    }
+
+    /// Whether a cell is set.
+    fn is_set(&self, cell: usize) -> bool
+        requires { cell < length self.now.cells.items }
+        ensures { result ≡ slice_index_or self.now.cells.items cell false }
+    {
+        self.cells[cell]
+    }
+}
+
+/// The fault that a cell stands for.
+fn fault_at(image: &Image, cell: usize) -> VolumeFault
+    requires { cell < 17 * block_count image.now }
+    ensures { cell_of result.kind result.block ≡ cell }
+{
+    prove!(image.blocks() >= 16);
+    VolumeFault {
+        kind: kind_at(cell % KINDS),
+        block: (cell / KINDS) as u32,
+    }
+}

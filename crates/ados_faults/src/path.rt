@@ -1,0 +1,86 @@
+//! Where a block is: the path of the directory or file that it is part of.
+
+use crate::marked::{has_block, mark_at, role_at};
+use adf_block::Image;
+use adf_block::layout::{FIRST_POINTER, NAME_BYTE, TABLE_LONGS};
+use adf_text::letter_text;
+use ados_check::Mark;
+use ados_name::Name;
+use ados_tree::Role;
+use std::alloc::{AllocError, Global};
+
+/// The path of the directory or file that a block is part of, from the root on, in letters (ISO 8859-1) with slashes; of
+/// the root it is empty. `None` where no way of the walk leads there, and of the pages of the bitmap.
+pub fn place_of(
+    alloc: Global,
+    image: &Image,
+    marks: &[Option<Mark>],
+    block: u32,
+) -> Result<Option<String>, AllocError> {
+    let Some(entries) = entries_above(alloc, marks, block)? else {
+        return Ok(None);
+    };
+    let mut path = Vec::new(alloc);
+    for entry in entries.iter().rev() {
+        if !path.is_empty() {
+            path.push(b'/')?;
+        }
+        add_name(image, *entry, &mut path)?;
+    }
+    Ok(Some(letter_text(alloc, &path)?))
+}
+
+/// The name of the volume, in letters.
+pub(crate) fn volume_name(alloc: Global, image: &Image) -> Result<String, AllocError> {
+    let mut name = Vec::new(alloc);
+    add_name(image, image.root(), &mut name)?;
+    letter_text(alloc, &name)
+}
+
+/// The entry that a block is part of and each directory above it, without the root.
+fn entries_above(
+    alloc: Global,
+    marks: &[Option<Mark>],
+    block: u32,
+) -> Result<Option<Vec<u32>>, AllocError> {
+    let mut entries = Vec::new(alloc);
+    let mut here = block;
+    for _ in 0..marks.len() {
+        match role_at(marks, here) {
+            Some(Role::Root) => return Ok(Some(entries)),
+            Some(Role::Entry(dir, _)) => {
+                entries.push(here)?;
+                here = dir;
+            }
+            Some(Role::Data(file) | Role::Extension(file)) => here = file,
+            Some(Role::Page) | None => return Ok(None),
+        }
+    }
+    Ok(None)
+}
+
+/// Adds the name of a block, or so much of it as a name can be long.
+fn add_name(image: &Image, block: u32, path: &mut Vec<u8>) -> Result<(), AllocError> {
+    if !has_block(image, block) {
+        return Ok(());
+    }
+    let length = usize::from(image.byte(block, NAME_BYTE)).min(Name::MAX_LEN);
+    let start = NAME_BYTE as usize + 1;
+    path.extend_from_slice(&image.block(block)[start..start + length])
+}
+
+/// The place of a data block in its file, from 1, by the place that named it first.
+pub(crate) fn place_in_file(marks: &[Option<Mark>], block: u32) -> Option<u32> {
+    let mark = mark_at(marks, block)?;
+    let mut place = FIRST_POINTER.checked_sub(mark.long)?.checked_add(1)?;
+    let mut holder = mark.holder;
+    for _ in 0..marks.len() {
+        let above = mark_at(marks, holder)?;
+        let Role::Extension(_) = above.role else {
+            return Some(place);
+        };
+        place = place.checked_add(TABLE_LONGS)?;
+        holder = above.holder;
+    }
+    None
+}

@@ -1,0 +1,103 @@
+-- Lemmas on the clients and the packets that wait.
+use Rattle.std.proofs.Common.{◌≡◌, ◌≢◌, ◌⊎◌, ℕ, zero, suc, ◌+◌, ◌<◌, ◌≤◌, List, [], ◌∷◌, ◌++◌, length, slice_get, slice_set, nat_eq, Some, refl, sym, ap, ◌∙◌, inl, inr, arith, cond, add-zero, zero-add}
+use Rattle.std.specs.Prelude.{count_by}
+use Rattle.std.proofs.lemmas.List.Sums.{sum_by-append}
+use Rattle.std.proofs.lemmas.List.{length-set}
+use Rattle.std.proofs.lemmas.Option.{none-some, same_Some, slice_get_within}
+use Rattle.port_history.proofs.Numbers.{eq_true, eq_false}
+use Rattle.ados_port.specs.View.{IsKept}
+use Rattle.ados_port.specs.declared.counts.Client.{Client}
+use Rattle.ados_port.specs.declared.exchange.Waiting.{Waiting}
+
+suc_path : (i p : ℕ) → i ≡ p → suc i ≡ suc p
+suc_path i p e = ap suc e
+
+suc_apart : (i p : ℕ) → i ≢ p → suc i ≢ suc p
+suc_apart i p h e = h (omega (arith, e))
+
+-- an element of a list after a write is the one written, or an old one at another place
+pub slice_get-set_cases : {A : Type 0} (xs : List A) (p : ℕ) (y : A) (i : ℕ) (x : A) → slice_get (slice_set xs p y) i ≡ Some x
+    → ((i ≡ p) × (x ≡ y)) ⊎ ((i ≢ p) × (slice_get xs i ≡ Some x))
+slice_get-set_cases [] p y i x h = absurd (none-some x h)
+slice_get-set_cases (z ∷ zs) zero y zero x h = inl (refl, sym (same_Some y x h))
+slice_get-set_cases (z ∷ zs) zero y (suc i) x h = inr ((λ e. absurd (omega (arith, e))), h)
+slice_get-set_cases (z ∷ zs) (suc p) y zero x h = inr ((λ e. absurd (omega (arith, e))), h)
+slice_get-set_cases (z ∷ zs) (suc p) y (suc i) x h =
+    elim (slice_get-set_cases zs p y i x h) [
+      | inl c ↦ inl (suc_path i p c.0, c.1)
+      | inr c ↦ inr (suc_apart i p c.0, c.1)
+    ]
+
+-- an element of a list after a push is an old one, or the one pushed
+pub slice_get-push_cases : {A : Type 0} (xs : List A) (y : A) (i : ℕ) (x : A) → slice_get (xs ++ y ∷ []) i ≡ Some x → (slice_get xs i ≡ Some x) ⊎ (x ≡ y)
+slice_get-push_cases [] y zero x h = inr (sym (same_Some y x h))
+slice_get-push_cases [] y (suc i) x h = absurd (none-some x h)
+slice_get-push_cases (z ∷ zs) y zero x h = inl h
+slice_get-push_cases (z ∷ zs) y (suc i) x h = slice_get-push_cases zs y i x h
+
+-- one more packet at the end, and one less in front
+pub count-push : {Q : Type 0} (ws : List (Waiting Q)) (w : Waiting Q) (n : ℕ) → count_by (λ v. nat_eq v.client n) (ws ++ w ∷ []) ≡ count_by (λ v. nat_eq v.client n) ws + cond (nat_eq w.client n) 1 0
+count-push ws w n = sum_by-append _ ws (w ∷ []) ∙ ap (λ k. count_by (λ v. nat_eq v.client n) ws + k) (zero-add _)
+
+pub count-cons : {Q : Type 0} (ws : List (Waiting Q)) (w : Waiting Q) (n : ℕ) → count_by (λ v. nat_eq v.client n) (w ∷ ws) ≡ cond (nat_eq w.client n) 1 0 + count_by (λ v. nat_eq v.client n) ws
+count-cons ws w n = sum_by-append _ (w ∷ []) ws ∙ ap (λ k. k + count_by (λ v. nat_eq v.client n) ws) (zero-add _)
+
+module _ {Q A : Type 0} (clients : List (Client A)) (waiting : List (Waiting Q)) (kept : IsKept clients waiting) where
+  -- a client that counts as before
+  pub kept_same : (p : ℕ) (old new : Client A) → slice_get clients p ≡ Some old → new.waiting ≡ old.waiting → IsKept (slice_set clients p new) waiting
+  kept_same p old new at_p same = record {
+    counted = λ i c h. elim (slice_get-set_cases clients p new i c h) [
+      | inl e ↦ ap (λ k. k.waiting) e.1 ∙ same ∙ kept.counted p old at_p ∙ ap (λ k. count_by (λ w. nat_eq w.client (k + 1)) waiting) (sym e.0)
+      | inr e ↦ kept.counted i c e.1
+    ];
+    known = λ i w h. rw length-set (kept.known i w h);
+  }
+
+  -- a client whose packet came to the port
+  pub kept_put : (p : ℕ) (old new : Client A) (w : Waiting Q) → slice_get clients p ≡ Some old → new.waiting ≡ old.waiting + 1 → w.client ≡ p + 1
+      → IsKept (slice_set clients p new) (waiting ++ w ∷ [])
+  kept_put p old new w at_p more is_client = record {
+    counted = λ i c h. elim (slice_get-set_cases clients p new i c h) [
+      | inl e ↦
+          ap (λ k. k.waiting) e.1 ∙ more ∙ ap (λ n. n + 1) (kept.counted p old at_p) ∙ ap (λ k. count_by (λ w. nat_eq w.client (k + 1)) waiting + 1) (sym e.0)
+          ∙ ap (λ b. count_by (λ w. nat_eq w.client (i + 1)) waiting + cond b 1 0) (sym (eq_true w.client (i + 1) (is_client ∙ ap (λ n. n + 1) (sym e.0))))
+          ∙ sym (count-push waiting w (i + 1))
+      | inr e ↦
+          kept.counted i c e.1 ∙ sym (add-zero _)
+          ∙ ap (λ b. count_by (λ w. nat_eq w.client (i + 1)) waiting + cond b 1 0) (sym (eq_false w.client (i + 1) (λ q. e.0 (omega (arith, q, is_client)))))
+          ∙ sym (count-push waiting w (i + 1))
+    ];
+    known = λ i v h. rw length-set (elim (slice_get-push_cases waiting w i v h) [
+      | inl e ↦ kept.known i v e
+      | inr e ↦ let short : p < length clients = slice_get_within clients p old at_p in rw e (omega (arith, is_client))
+    ]);
+  }
+
+-- a client has a packet that waits where one of its packets is the first
+pub waits_first : {Q A : Type 0} (clients : List (Client A)) (w : Waiting Q) (rest : List (Waiting Q)) (p : ℕ) (c : Client A) → IsKept clients (w ∷ rest) → slice_get clients p ≡ Some c → w.client ≡ p + 1 → 0 < c.waiting
+waits_first clients w rest p c kept at_p is_client =
+    let e : c.waiting ≡ 1 + count_by (λ v. nat_eq v.client (p + 1)) rest =
+    kept.counted p c at_p ∙ count-cons rest w (p + 1) ∙ ap (λ b. cond b 1 0 + count_by (λ v. nat_eq v.client (p + 1)) rest) (eq_true w.client (p + 1) is_client)
+    in omega (arith, e)
+
+-- a client whose packet was served
+pub kept_served : {Q A : Type 0} (clients : List (Client A)) (w : Waiting Q) (rest : List (Waiting Q)) (p : ℕ) (old new : Client A)
+    → IsKept clients (w ∷ rest) → slice_get clients p ≡ Some old → new.waiting + 1 ≡ old.waiting → w.client ≡ p + 1 → IsKept (slice_set clients p new) rest
+kept_served clients w rest p old new kept at_p less is_client = record {
+  counted = λ i c h. elim (slice_get-set_cases clients p new i c h) [
+    | inl e ↦
+        let d : old.waiting ≡ 1 + count_by (λ v. nat_eq v.client (p + 1)) rest =
+        kept.counted p old at_p ∙ count-cons rest w (p + 1) ∙ ap (λ b. cond b 1 0 + count_by (λ v. nat_eq v.client (p + 1)) rest) (eq_true w.client (p + 1) is_client)
+        in let f : new.waiting ≡ count_by (λ v. nat_eq v.client (p + 1)) rest = omega (arith, d, less)
+        in ap (λ k. k.waiting) e.1 ∙ f ∙ ap (λ k. count_by (λ v. nat_eq v.client (k + 1)) rest) (sym e.0)
+    | inr e ↦
+        kept.counted i c e.1 ∙ count-cons rest w (i + 1)
+        ∙ ap (λ b. cond b 1 0 + count_by (λ v. nat_eq v.client (i + 1)) rest) (eq_false w.client (i + 1) (λ q. e.0 (omega (arith, q, is_client))))
+        ∙ zero-add _
+  ];
+  known = λ i v h. rw length-set (kept.known (suc i) v h);
+}
+
+-- the first packet that waits is a client's
+pub first_known : {Q A : Type 0} (clients : List (Client A)) (waiting : List (Waiting Q)) (w : Waiting Q) (rest : List (Waiting Q)) → IsKept clients waiting → waiting ≡ w ∷ rest → (1 ≤ w.client) × (w.client ≤ length clients)
+first_known clients waiting w rest kept e = kept.known 0 w (ap (λ ws. slice_get ws 0) e)

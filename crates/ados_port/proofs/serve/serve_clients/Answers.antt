@@ -1,0 +1,18 @@
+use Rattle.std.proofs.Common.{◌≡◌, map, sym}
+use Rattle.ados_port.proofs.Growth.{ends_after}
+use Rattle.ados_port.proofs.Joins.{did_alike, first_ok}
+use Rattle.ados_port.proofs.serve.serve_clients.Goals as goal
+
+pub returns-clause-clients : goal.returns-clause-clients
+returns-clause-clients g c =
+    let both = sym c.in_ok-and.ensures in
+    let handles = c.start_clients-started.new.handles.items in
+    let jobs = first_ok (map (λ h. h.promise.job.value) handles ≡ c.args.jobs.items) _ _ _ both c.start_clients-started.ensures.jobs in
+    let ends = first_ok (map (λ h. h.promise.end.value) handles ≡ c.args.ends.items) _ _ _ both c.start_clients-started.ensures.ends in
+    did_alike g.C.Client.does _ _ _ _ _ _ jobs ends c.join_clients-ends.ensures
+
+pub returns-clause-all : goal.returns-clause-all
+returns-clause-all g c =
+    let d = returns-clause-clients g c in
+    let s = c.serve_until_ended-served.ensures in
+    ends_after g.S.Server.gives _ _ _ s.0 _ _ c.requires.all s.1 d.0 (λ k o at. let e = d.2 k o at in (e.1, e.4, e.6.0))

@@ -1,0 +1,19 @@
+//! What a client does with its end.
+ghost use Rattle.port_ends.specs.Ends.{ClientView};
+ghost use Rattle.ados_port.specs.Grown.{Grown};
+
+use port_ends::ClientEnd;
+use port_history::Server;
+use std::sync::Wait;
+
+/// What a client does with its end, on a thread of its own.
+pub trait Client<S: Server> {
+    type Report: Drop;
+
+    /// This client, with its end as it was, may leave its end so, and report this.
+    ghost does: { Self → ClientView S.Request S.Moment S.Reply → ClientView S.Request S.Moment S.Reply → Self.Report → Type 0 };
+
+    fn run<R: Wait>(self, rt: &R, end: &mut ClientEnd<S>) -> Self::Report
+        ensures grown { Grown end.old end.new }
+        ensures does { does self end.old end.new result };
+}

@@ -1,0 +1,152 @@
+//! The exchange: a server, its port and its clients' replies.
+ghost use Rattle.std.specs.Prelude.{◌≡◌, ◌≤◌, [], ◌∷◌, MatchResult};
+ghost use Rattle.port_history.specs.Port.{opening_port};
+ghost use Rattle.port_history.specs.History.{PortHistory, PutGives, ServeGives, TakeGives, StepGives};
+
+use crate::counts::Client;
+use port_history::{Outcome, PutRefused, Server, Step};
+use std::alloc::Global;
+use std::collections::VecDeque;
+use std::marker::Model;
+
+/// A packet that waits at the port.
+#[derive(Drop)]
+struct Waiting<Q> {
+    client: usize,
+    packet: Q,
+}
+
+/// A server with its port and its clients' replies. A contract sees it as a `PortState`: the server, what each client
+/// has put and taken with its replies that are left, and the packets that wait.
+#[derive(Drop)]
+pub struct Exchange<S: Server> {
+    server: S,
+    clients: Vec<Client<S::Reply>>,
+    waiting: VecDeque<Waiting<S::Request>>,
+}
+
+impl<S: Server> Model for Exchange<S> {
+    ghost use Rattle.port_history.specs.Port.{PortState, port_code};
+
+    ghost Value = { PortState S S.Request S.Reply };
+
+    ghost coded = { port_code S.code S.Request.code S.Reply.code };
+
+    ghost use Rattle.ados_port.specs.View.{clients_view, waiting_view, IsKept};
+
+    ghost view = { λ e. record { server = e.server; clients = clients_view e.clients.items; waiting = waiting_view e.waiting.items } };
+
+    ghost invariant = { λ e. IsKept e.clients.items e.waiting.items };
+}
+
+/// The server of an exchange for which there was no memory, as it was.
+#[derive(Debug, Drop)]
+pub struct NewRefused<S> {
+    pub server: S,
+}
+
+impl<S: Server> Exchange<S> {
+    /// Makes an exchange over this server, whose clients have the numbers 1 to `clients`, and where nothing was put.
+    pub fn new(alloc: Global, server: S, clients: usize) -> Result<Self, NewRefused<S>>
+        requires { 1 ≤ clients }
+        ensures { MatchResult result (λ exchange. exchange ≡ opening_port server clients) (λ refused. refused.server ≡ server) }
+    {
+        let Ok(mut list) = Vec::with_capacity(alloc, clients) else {
+            return Err(NewRefused { server });
+        };
+        for _number in 0..clients {
+            list.push_reserved(Client::new(alloc));
+        }
+        Ok(Exchange {
+            server,
+            clients: list,
+            waiting: VecDeque::new(alloc),
+        })
+    }
+
+    /// Does one step. A put that is accepted has the place of its reply, so that neither its serve nor its take needs memory.
+    ///
+    /// It is made part of its caller, where mostly the kind of step is known: called, it moves room for any packet there and back.
+    #[inline(always)]
+    pub fn step(&mut self, step: Step<S::Request, S::Moment>) -> Outcome<S::Request, S::Reply>
+        ensures gives { StepGives S.gives S.has_died self.old step result self.new }
+        ensures history { PortHistory S.gives S.has_died self.old (step ∷ []) (result ∷ []) self.new }
+    {
+        match step {
+            Step::Put { client, packet } => self.put(client, packet),
+            Step::Serve { moment } => self.serve(moment),
+            Step::Take { client } => self.take(client),
+        }
+    }
+
+    /// The server as it is after the packets served so far.
+    pub fn server(&self) -> &S
+        ensures { result.now ≡ self.now.server }
+    {
+        &self.server
+    }
+
+    /// Hands out the server. Packets that wait and replies that were not taken are dropped.
+    pub fn into_server(self) -> S
+        ensures { result ≡ self.server }
+    {
+        let Exchange {
+            server,
+            clients,
+            waiting,
+        } = self;
+        drop(clients);
+        drop(waiting);
+        server
+    }
+
+    fn put(&mut self, client: usize, packet: S::Request) -> Outcome<S::Request, S::Reply>
+        ensures { PutGives S.has_died self.old client packet result self.new }
+    {
+        if client == 0 || self.clients.len() < client {
+            return Outcome::NoClient(Some(packet));
+        }
+        if self.server.died() {
+            return Outcome::Refused(PutRefused::Closed(packet));
+        }
+        if self.waiting.reserve(1).is_err() {
+            return Outcome::Refused(PutRefused::NoRoom(packet));
+        }
+        let place = &mut self.clients[client - 1];
+        match place.accept() {
+            None => Outcome::Refused(PutRefused::NoRoom(packet)),
+            Some(number) => {
+                self.waiting.push_back_reserved(Waiting { client, packet });
+                Outcome::Accepted(number)
+            }
+        }
+    }
+
+    fn serve(&mut self, moment: S::Moment) -> Outcome<S::Request, S::Reply>
+        ensures { ServeGives S.gives self.old moment result self.new }
+    {
+        match self.waiting.pop_front() {
+            None => Outcome::Idle,
+            Some(first) => {
+                let Waiting { client, packet } = first;
+                let answer = self.server.serve(packet, moment);
+                let place = &mut self.clients[client - 1];
+                place.answer(answer);
+                Outcome::Served
+            }
+        }
+    }
+
+    fn take(&mut self, client: usize) -> Outcome<S::Request, S::Reply>
+        ensures { TakeGives self.old client result self.new }
+    {
+        if client == 0 || self.clients.len() < client {
+            return Outcome::NoClient(None);
+        }
+        let place = &mut self.clients[client - 1];
+        match place.take() {
+            None => Outcome::Nothing,
+            Some(reply) => Outcome::Taken(reply),
+        }
+    }
+}

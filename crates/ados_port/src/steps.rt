@@ -1,0 +1,50 @@
+//! Runs a list of steps at an exchange.
+ghost use Rattle.std.specs.Prelude.{◌≡◌, true, IfOk, MatchResult};
+ghost use Rattle.port_history.specs.History.{PortHistory, FirstAreServed, events_of};
+ghost use Rattle.port_history.specs.Closing.{PutsAreClosed};
+ghost use Rattle.ados_port.specs.Refused.{HandsBack};
+
+use crate::exchange::Exchange;
+use port_history::{Outcome, Server, Step};
+use std::alloc::Global;
+use std::collections::VecDeque;
+
+/// The exchange after a list of steps, and what each step came to.
+#[derive(Drop)]
+pub struct RunDone<S: Server> {
+    pub exchange: Exchange<S>,
+    pub outcomes: Vec<Outcome<S::Request, S::Reply>>,
+}
+
+/// The exchange and the steps for whose outcomes there was no memory, as they were.
+#[derive(Drop)]
+pub struct RunRefused<S: Server> {
+    pub exchange: Exchange<S>,
+    pub steps: Vec<Step<S::Request, S::Moment>>,
+}
+
+/// Does these steps in order. The place of each outcome is got before the first step.
+pub fn run<S: Server>(
+    alloc: Global,
+    exchange: Exchange<S>,
+    steps: Vec<Step<S::Request, S::Moment>>,
+) -> Result<RunDone<S>, RunRefused<S>>
+    ensures history { MatchResult result
+        (λ done. PortHistory S.gives S.has_died exchange steps.items done.outcomes.items done.exchange)
+        (HandsBack exchange steps.items) }
+    ensures first_served { IfOk result (λ done. FirstAreServed exchange (events_of steps.items done.outcomes.items) done.exchange) }
+
+    // After a death nothing more is accepted, in this run and in those after it.
+    ensures stays_dead { S.has_died exchange.server ≡ true → IfOk result (λ done. S.has_died done.exchange.server ≡ true) }
+    ensures stays_closed { S.has_died exchange.server ≡ true → IfOk result (λ done. PutsAreClosed exchange (events_of steps.items done.outcomes.items)) }
+{
+    let mut exchange = exchange;
+    let Ok(mut outcomes) = Vec::with_capacity(alloc, steps.len()) else {
+        return Err(RunRefused { exchange, steps });
+    };
+    let mut rest = VecDeque::from_vec(steps);
+    while let Some(step) = rest.pop_front() {
+        outcomes.push_reserved(exchange.step(step));
+    }
+    Ok(RunDone { exchange, outcomes })
+}

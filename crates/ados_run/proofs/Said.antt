@@ -1,0 +1,184 @@
+-- What a client has told of its script so far, line after line.
+use Rattle.std.proofs.Common.{◌≡◌, ℕ, ◌+◌, inl, inr, Bool, true, false, List, [], ◌∷◌, ◌++◌, length, refl, sym, ap, subst, ◌∙◌, arith, append-nil, length-append}
+use Rattle.std.specs.Prelude.{Option}
+use Rattle.std.specs.Bool.{MatchBool}
+use Rattle.std.proofs.lemmas.List.{map-append}
+use Rattle.std.proofs.lemmas.Option.{none-some}
+use Rattle.ados_packet.specs.declared.packet.Packet.{Packet}
+use Rattle.ados_packet.specs.declared.answer.Answer.{Answer}
+use Rattle.ados_port.specs.Lawful.{numbered}
+use Rattle.ados_port.specs.Reply.{Reply}
+use Rattle.ados_port.specs.Ends.{ClientView}
+use Rattle.ados_port.specs.Gathering.{answers as answers_of}
+use Rattle.adf_script.specs.declared.ending.ClientEnding.{ClientEnding}
+use Rattle.adf_script.specs.declared.ending.ClientEnding.TheVariants.{Done, Script, Tries}
+use Rattle.adf_script.specs.Lines.{kept_lines, is_too_long}
+use Rattle.adf_script.specs.Values.{answer_value, answer_values}
+use Rattle.adf_script.specs.Text.{reply_line, reply_lines, closed_line, fault_line, no_reply_line, no_room_line}
+use Rattle.adf_script.specs.Packets.{ArePackets, NextPuts, NextIsFaulty, NoneIsLeft}
+use Rattle.adf_script.specs.Spoken.{SpokenEnd, Spoken}
+use Rattle.adf_script.proofs.Pushing.{reply_lines-push, packets-push, packets-answered}
+use Rattle.ados_run.specs.declared.asking.Stopped.{Stopped}
+use Rattle.ados_run.specs.declared.asking.Stopped.TheVariants.{Closed, NoRoom, NoReply}
+use Rattle.ados_run.specs.Asking.{Replied, StoppedBy, stop_line, stop_ending}
+use Rattle.ados_run.specs.Scripts.{IsUnused, Tells}
+
+module _ (client : ℕ) (script : List ℕ) where
+  -- after so many replies of these values: these packets were put, answered so, and this text told
+  pub record SoFar (count : ℕ) (values : List (Option ℕ)) (text : List ℕ) (puts : List Packet) (answers : List Answer) : Type 0 where
+    pub many_puts : length puts ≡ count
+    pub many_answers : length answers ≡ count
+    pub values_are : values ≡ answer_values answers
+    pub each : ArePackets (kept_lines script) answers puts
+    pub text_is : text ≡ reply_lines client 1 answers
+
+  -- before the first line
+  pub nothing_said : SoFar 0 [] [] [] []
+  nothing_said = record {
+    many_puts = refl;
+    many_answers = refl;
+    values_are = refl;
+    each = λ i packet e. absurd (none-some packet e);
+    text_is = refl;
+  }
+
+  -- a script that is too long
+  pub said_long : (knows : Bool) → is_too_long script ≡ true → Spoken client script [] [] knows (fault_line client 0) Script
+  said_long knows long =
+      let Runs : Type 0 = (answers : List Answer) × ([] ≡ numbered 1 answers) × ArePackets (kept_lines script) answers []
+      × (last : List ℕ) × SpokenEnd client (kept_lines script) answers 0 knows last Script × (fault_line client 0 ≡ reply_lines client 1 answers ++ last)
+      in let Faulty : Type 0 = (◌≡◌ {A = List Packet} [] []) × (◌≡◌ {A = List (Reply Answer)} [] []) × (fault_line client 0 ≡ fault_line client 0) × (Script ≡ Script)
+      in let faulty : Faulty = (refl, refl, refl, refl)
+      in subst (λ b. MatchBool b Faulty Runs) (sym long) faulty
+
+  -- one that is not, by its end
+  spoken_by : (puts : List Packet) (answers : List Answer) (knows : Bool) (text last : List ℕ) (ending : ClientEnding) → is_too_long script ≡ false
+      → ArePackets (kept_lines script) answers puts → SpokenEnd client (kept_lines script) answers (length puts) knows last ending → text ≡ reply_lines client 1 answers ++ last
+      → Spoken client script puts (numbered 1 answers) knows text ending
+  spoken_by puts answers knows text last ending short each ends is_text =
+      let Runs : Type 0 = (all : List Answer) × (numbered 1 answers ≡ numbered 1 all) × ArePackets (kept_lines script) all puts
+      × (l : List ℕ) × SpokenEnd client (kept_lines script) all (length puts) knows l ending × (text ≡ reply_lines client 1 all ++ l)
+      in let Faulty : Type 0 = (puts ≡ []) × (numbered 1 answers ≡ []) × (text ≡ fault_line client 0) × (ending ≡ Script)
+      in let runs : Runs = (answers, refl, each, last, ends, is_text)
+      in subst (λ b. MatchBool b Faulty Runs) (sym short) runs
+
+  module _ (short : is_too_long script ≡ false) (count : ℕ) (values : List (Option ℕ)) (text : List ℕ) (puts : List Packet) (answers : List Answer) (sofar : SoFar count values text puts answers) where
+    as_many : length puts ≡ length answers
+    as_many = sofar.many_puts ∙ sym sofar.many_answers
+
+    -- no line is left
+    pub said_all : (knows : Bool) → NoneIsLeft (kept_lines script) count → Spoken client script puts (numbered 1 answers) knows text Done
+    said_all knows none =
+        spoken_by puts answers knows text [] Done short sofar.each
+        (as_many, inl (subst (NoneIsLeft (kept_lines script)) (sym sofar.many_puts) none, refl))
+        (sofar.text_is ∙ sym (append-nil (reply_lines client 1 answers)))
+
+    -- a faulty line
+    pub said_fault : (knows : Bool) (number : ℕ) → NextIsFaulty (kept_lines script) values count number
+        → Spoken client script puts (numbered 1 answers) knows (text ++ fault_line client number) Script
+    said_fault knows number faulty =
+        let faulty_here = subst (λ v. NextIsFaulty (kept_lines script) v (length puts) number) sofar.values_are (subst (λ n. NextIsFaulty (kept_lines script) values n number) (sym sofar.many_puts) faulty)
+        in spoken_by puts answers knows (text ++ fault_line client number) (fault_line client number) Script short sofar.each
+        (as_many, number, faulty_here, refl)
+        (ap (λ l. l ++ fault_line client number) sofar.text_is)
+
+    module _ (packet : Packet) (next : NextPuts (kept_lines script) values count packet) where
+      next_here : NextPuts (kept_lines script) (answer_values answers) (length puts) packet
+      next_here = subst (λ v. NextPuts (kept_lines script) v (length puts) packet) sofar.values_are (subst (λ n. NextPuts (kept_lines script) values n packet) (sym sofar.many_puts) next)
+
+      numbered_next : count + 1 ≡ length puts + 1
+      numbered_next = ap (λ n. n + 1) (sym sofar.many_puts)
+
+      -- a packet that was not put, as the end knows of the close
+      pub said_closed : (knows : Bool) → knows ≡ true → Spoken client script puts (numbered 1 answers) knows (text ++ closed_line client (count + 1)) Done
+      said_closed knows known =
+          spoken_by puts answers knows (text ++ closed_line client (count + 1)) (closed_line client (count + 1)) Done short sofar.each
+          (as_many, inr (packet, next_here, known, ap (closed_line client) numbered_next))
+          (ap (λ l. l ++ closed_line client (count + 1)) sofar.text_is)
+
+      -- one that found no room
+      pub said_no_room : (knows : Bool) → Spoken client script puts (numbered 1 answers) knows (text ++ no_room_line client (count + 1)) Tries
+      said_no_room knows =
+          spoken_by puts answers knows (text ++ no_room_line client (count + 1)) (no_room_line client (count + 1)) Tries short sofar.each
+          (inl (as_many, packet, next_here, ap (no_room_line client) numbered_next))
+          (ap (λ l. l ++ no_room_line client (count + 1)) sofar.text_is)
+
+      one_more : length (puts ++ packet ∷ []) ≡ length puts + 1
+      one_more = length-append puts (packet ∷ [])
+
+      -- one that was put, and not answered
+      pub said_no_reply : (knows : Bool) → Spoken client script (puts ++ packet ∷ []) (numbered 1 answers) knows (text ++ no_reply_line client (count + 1)) Tries
+      said_no_reply knows =
+          spoken_by (puts ++ packet ∷ []) answers knows (text ++ no_reply_line client (count + 1)) (no_reply_line client (count + 1)) Tries short
+          (packets-push (kept_lines script) answers puts packet as_many sofar.each next_here)
+          (inr (one_more ∙ ap (λ n. n + 1) as_many, ap (no_reply_line client) (numbered_next ∙ sym one_more)))
+          (ap (λ l. l ++ no_reply_line client (count + 1)) sofar.text_is)
+
+      -- a reply
+      pub said_reply : (answer : Answer) → SoFar (count + 1) (values ++ answer_value answer ∷ []) (text ++ reply_line client (count + 1) answer) (puts ++ packet ∷ []) (answers ++ answer ∷ [])
+      said_reply answer =
+          let counted : 1 + length answers ≡ count + 1 = omega (arith, sofar.many_answers)
+          in record {
+            many_puts = one_more ∙ sym numbered_next;
+            many_answers = length-append answers (answer ∷ []) ∙ ap (λ n. n + 1) sofar.many_answers;
+            values_are = ap (λ v. v ++ answer_value answer ∷ []) sofar.values_are ∙ sym (map-append answer_value answers (answer ∷ []));
+            each = packets-answered (kept_lines script) answers puts packet answer as_many sofar.each next_here;
+            text_is = ap (λ l. l ++ reply_line client (count + 1) answer) sofar.text_is
+                ∙ sym (reply_lines-push client 1 answers answer ∙ ap (λ n. reply_lines client 1 answers ++ reply_line client n answer) counted);
+          }
+
+-- the same of a client's end
+module _ {M : Type 0} (client : ℕ) (script : List ℕ) where
+  abbrev pub SaidBy : ℕ → List (Option ℕ) → List ℕ → ClientView Packet M Answer → Type 0
+  SaidBy count values text end = SoFar client script count values text end.put (answers_of end.taken)
+
+  abbrev pub SpokenBy : ClientView Packet M Answer → List ℕ → ClientEnding → Type 0
+  SpokenBy end text ending = Spoken client script end.put (numbered 1 (answers_of end.taken)) end.knows text ending
+
+  -- what this client, whose number its end knows, has told
+  pub tells_by : (end : ClientView Packet M Answer) (text told : List ℕ) (ending ended : ClientEnding) → client ≡ end.number → told ≡ text → ended ≡ ending → SpokenBy end text ending → Tells script end told ended
+  tells_by end text told ending ended is_client is_text is_ending spoken =
+      subst (λ (n : ℕ). Spoken n script end.put (numbered 1 (answers_of end.taken)) end.knows told ended) is_client
+      (subst (λ (t : List ℕ). Spoken client script end.put (numbered 1 (answers_of end.taken)) end.knows t ended) (sym is_text)
+      (subst (λ (e : ClientEnding). Spoken client script end.put (numbered 1 (answers_of end.taken)) end.knows text e) (sym is_ending) spoken))
+
+  -- before the first line
+  pub begins : (end : ClientView Packet M Answer) → IsUnused end → SaidBy 0 [] [] end
+  begins end unused = subst (λ p. SoFar client script 0 [] [] p (answers_of end.taken)) (sym unused.0)
+      (subst (λ t. SoFar client script 0 [] [] [] (answers_of t)) (sym unused.1) (nothing_said client script))
+
+  -- a script that is too long
+  pub begins_long : (end : ClientView Packet M Answer) → IsUnused end → is_too_long script ≡ true → SpokenBy end (fault_line client 0) Script
+  begins_long end unused long = subst (λ p. Spoken client script p (numbered 1 (answers_of end.taken)) end.knows (fault_line client 0) Script) (sym unused.0)
+      (subst (λ t. Spoken client script [] (numbered 1 (answers_of t)) end.knows (fault_line client 0) Script) (sym unused.1) (said_long client script end.knows long))
+
+  module _ (short : is_too_long script ≡ false) (count : ℕ) (values : List (Option ℕ)) (text : List ℕ) (old : ClientView Packet M Answer) (said : SaidBy count values text old)
+      (packet : Packet) (next : NextPuts (kept_lines script) values count packet) (new : ClientView Packet M Answer) where
+    -- a packet with its reply
+    pub replies : (reply : Reply Answer) (values_now : List (Option ℕ)) (text_now : List ℕ) → Replied old packet reply new
+        → values_now ≡ values ++ answer_value reply.answer ∷ [] → text_now ≡ text ++ reply_line client (count + 1) reply.answer → SaidBy (count + 1) values_now text_now new
+    replies reply values_now text_now replied are_values is_text =
+        let Now : List Packet → List Answer → Type 0 = SoFar client script (count + 1) values_now text_now
+        in let Kept : List (Option ℕ) → Type 0 = λ v. SoFar client script (count + 1) v text_now (old.put ++ packet ∷ []) (answers_of old.taken ++ reply.answer ∷ [])
+        in let Written : List ℕ → Type 0 = λ t. SoFar client script (count + 1) (values ++ answer_value reply.answer ∷ []) t (old.put ++ packet ∷ []) (answers_of old.taken ++ reply.answer ∷ [])
+        in let answers_are : answers_of new.taken ≡ answers_of old.taken ++ reply.answer ∷ [] = ap answers_of replied.taken ∙ map-append (λ (r : M × Answer). r.1) old.taken ((replied.moment, reply.answer) ∷ [])
+        in subst (λ p. Now p (answers_of new.taken)) (sym replied.put)
+        (subst (Now (old.put ++ packet ∷ [])) (sym answers_are)
+        (subst Kept (sym are_values) (subst Written (sym is_text)
+        (said_reply client script short count values text old.put (answers_of old.taken) said packet next reply.answer))))
+
+    -- the end of a client with these lists
+    with_lists : (puts : List Packet) (put_is : new.put ≡ puts) (taken_is : new.taken ≡ old.taken) (told : List ℕ) (ending : ClientEnding)
+        → Spoken client script puts (numbered 1 (answers_of old.taken)) new.knows told ending → SpokenBy new told ending
+    with_lists puts put_is taken_is told ending spoken =
+        subst (λ p. Spoken client script p (numbered 1 (answers_of new.taken)) new.knows told ending) (sym put_is)
+        (subst (λ t. Spoken client script puts (numbered 1 (answers_of t)) new.knows told ending) (sym taken_is) spoken)
+
+    -- a packet without one
+    pub stops : (stopped : Stopped) → StoppedBy old packet stopped new → SpokenBy new (text ++ stop_line client (count + 1) stopped) (stop_ending stopped)
+    stops Closed how = with_lists old.put how.0.0 how.0.1 _ _
+        (said_closed client script short count values text old.put (answers_of old.taken) said packet next new.knows how.1)
+    stops NoRoom how = with_lists old.put how.0 how.1 _ _
+        (said_no_room client script short count values text old.put (answers_of old.taken) said packet next new.knows)
+    stops NoReply how = with_lists (old.put ++ packet ∷ []) how.put how.taken _ _
+        (said_no_reply client script short count values text old.put (answers_of old.taken) said packet next new.knows)

@@ -1,0 +1,78 @@
+//! One packet of a client, up to its reply.
+ghost use Rattle.std.specs.Prelude.{◌≡◌, ◌++◌, ◌∷◌, [], length, true, IfSome, IfNone, MatchResult};
+ghost use Rattle.ados_port.specs.Grown.{Grown};
+ghost use Rattle.ados_run.specs.Asking.{HasPut, HasTaken, Replied, StoppedBy};
+
+use crate::gate::Gate;
+use ados_port::{ClientEnd, PutRefused, Reply, Server};
+use std::sync::Wait;
+use std::thread;
+
+/// Why a packet got no reply.
+#[derive(Clone, Copy)]
+pub(crate) enum Stopped {
+    /// The port was closed, and the packet not put.
+    Closed,
+    /// The packet was not put in so many tries, or was held back.
+    NoRoom,
+    /// It was put, and its reply did not come in so many tries.
+    NoReply,
+}
+
+/// Puts a packet, with this many tries where it finds no room.
+fn put_packet<S: Server, R: Wait>(
+    rt: &R,
+    end: &mut ClientEnd<S>,
+    packet: S::Request,
+    turns: u64,
+) -> Result<(), Stopped>
+    ensures put { MatchResult result (λ _. HasPut end.old packet end.new) (λ stopped. StoppedBy end.old packet stopped end.new) }
+    ensures grown { Grown end.old end.new }
+{
+    let mut packet = packet;
+    for _ in 0..turns {
+        match end.put(rt, packet) {
+            Ok(_) => return Ok(()),
+            Err(PutRefused::Closed(_)) => return Err(Stopped::Closed),
+            Err(PutRefused::NoRoom(back)) => packet = back,
+        }
+        thread::yield_now();
+    }
+    Err(Stopped::NoRoom)
+}
+
+/// Waits for the next reply, with this many tries.
+fn await_reply<S: Server, R: Wait>(
+    rt: &R,
+    end: &mut ClientEnd<S>,
+    turns: u64,
+) -> Option<Reply<S::Reply>>
+    ensures some { IfSome result (λ reply. HasTaken end.old reply end.new) }
+    ensures none { IfNone result (end.new ≡ end.old) }
+    ensures grown { Grown end.old end.new }
+{
+    end.take_within(rt, turns)
+}
+
+/// Puts a packet, which has this number, and takes its reply.
+pub(crate) fn ask<S: Server, G: Gate, R: Wait>(
+    rt: &R,
+    end: &mut ClientEnd<S>,
+    gate: &mut G,
+    number: u64,
+    packet: S::Request,
+    turns: u64,
+) -> Result<Reply<S::Reply>, Stopped>
+    ensures asked { MatchResult result (λ reply. Replied end.old packet reply end.new) (λ stopped. StoppedBy end.old packet stopped end.new) }
+    ensures grown { Grown end.old end.new }
+{
+    if !gate.before(number) {
+        return Err(Stopped::NoRoom);
+    }
+    put_packet(rt, end, packet, turns)?;
+    let Some(reply) = await_reply(rt, end, turns) else {
+        return Err(Stopped::NoReply);
+    };
+    gate.after(reply.number);
+    Ok(reply)
+}

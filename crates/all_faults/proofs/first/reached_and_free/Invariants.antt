@@ -1,8 +1,0 @@
-use Rattle.std.proofs.Common.{◌≡◌, ◌<◌, ℕ, Some}
-use Rattle.adf_block.specs.Image.{HasFreeBit}
-use Rattle.check_marks.specs.declared.mark.Mark.{Mark}
-use Rattle.check_marks.specs.Marks.{mark_at}
-use Rattle.all_faults.proofs.first.reached_and_free.Given as goal
-
-abbrev pub invariant-loop-block : goal.invariant-loop-block
-invariant-loop-block l = (k : ℕ) → k < l.block → (mark : Mark) → mark_at l.marks k ≡ Some mark → ¬ HasFreeBit l.image k

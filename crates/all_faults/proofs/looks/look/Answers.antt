@@ -1,9 +1,0 @@
-use Rattle.std.proofs.Common.{subst}
-use Rattle.ados_tree.specs.declared.role.Role.{Role}
-use Rattle.ados_tree.specs.Faults.{Reached}
-use Rattle.check_reach.proofs.ReachLemmas.{reached_root}
-use Rattle.all_faults.proofs.looks.look.Goals as goal
-
-pub look_root-requires-clause-root : goal.look_root-requires-clause-root
-look_root-requires-clause-root c =
-    reached_root c.args.image.now c.args.block (subst (λ (r : Role). Reached c.args.image.now c.args.block r) c.in-Root.is c.requires.reached)

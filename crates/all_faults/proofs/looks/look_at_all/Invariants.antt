@@ -1,5 +1,0 @@
-use Rattle.all_faults.specs.steps.Noted.{AreNoted}
-use Rattle.all_faults.proofs.looks.look_at_all.Given as goal
-
-abbrev pub invariant-loop-step : goal.invariant-loop-step
-invariant-loop-step l = AreNoted l.image l.notes.cells.items

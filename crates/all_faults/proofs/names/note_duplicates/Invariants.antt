@@ -1,5 +1,0 @@
-use Rattle.all_faults.specs.steps.Noted.{AreNoted}
-use Rattle.all_faults.proofs.names.note_duplicates.Given as goal
-
-abbrev pub invariant-loop-i : goal.invariant-loop-i
-invariant-loop-i l = AreNoted l.image l.notes.cells.items

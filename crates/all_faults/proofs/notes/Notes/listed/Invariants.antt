@@ -1,5 +1,0 @@
-use Rattle.all_faults.specs.steps.Noted.{AreListed}
-use Rattle.all_faults.proofs.notes.Notes.listed.Given as goal
-
-abbrev pub invariant-loop-cell : goal.invariant-loop-cell
-invariant-loop-cell l = AreListed l.image l.self.cells.items l.most l.cell l.faults.items

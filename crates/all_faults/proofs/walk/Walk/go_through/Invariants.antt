@@ -1,5 +1,0 @@
-use Rattle.all_faults.specs.steps.Walked.{IsWalked}
-use Rattle.all_faults.proofs.walk.Walk.go_through.Given as goal
-
-abbrev pub invariant-loop-i : goal.invariant-loop-i
-invariant-loop-i l = IsWalked l.image l.self.notes.cells.items l.self.marks.items l.self.steps.items

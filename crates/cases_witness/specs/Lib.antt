@@ -1,3 +1,0 @@
--- Two small images, written out.
-pub mod Written
-pub mod Small

@@ -1,8 +1,0 @@
-use Rattle.change_entries.specs.Kinds.{content_of}
-use Rattle.change_entries.proofs.Filled.{new_entry}
-use Rattle.change_entries.proofs.block.make_entry.Goals as goal
-
-pub returns-clause-entry : goal.returns-clause-entry
-returns-clause-entry c =
-    new_entry c.make_head.new.image c.put_title.new.image c.args.key c.args.dir c.args.name.now (content_of c.args.kind) c.args.moment
-    c.put_title.ensures.valid c.make_head.ensures.head c.put_title.ensures.titled

@@ -1,6 +1,0 @@
-use Rattle.std.proofs.Common.{ℕ, ◌<◌}
-use Rattle.check_files.specs.Entries.{IsSoundIfFile}
-use Rattle.check_files.proofs.entries.check_files.Given as goal
-
-abbrev pub invariant-loop-block : goal.invariant-loop-block
-invariant-loop-block l = (file : ℕ) → file < l.block → IsSoundIfFile l.source.bytes l.marks file

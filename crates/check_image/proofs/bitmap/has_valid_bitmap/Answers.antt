@@ -1,6 +1,0 @@
-use Rattle.std.proofs.Common.{ℕ, sym, subst}
-use Rattle.check_source.specs.Source.{Tells}
-use Rattle.check_image.proofs.bitmap.has_valid_bitmap.Goals as goal
-
-pub long-requires-clause-told : goal.long-requires-clause-told
-long-requires-clause-told c = subst (λ (block : ℕ). Tells c.args.source.now block 78) (sym c.root.ensures) (c.requires.root 78)

@@ -1,2 +1,0 @@
--- The walk over the reached blocks, step by step.
-pub mod Reaching

@@ -1,2 +1,0 @@
--- What is said of a fault.
-pub mod Explained

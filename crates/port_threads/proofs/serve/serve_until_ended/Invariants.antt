@@ -1,5 +1,0 @@
-use Rattle.port_ends.specs.Batches.{ServesSome}
-use Rattle.port_threads.proofs.serve.serve_until_ended.Given as goal
-
-abbrev pub invariant-loop : goal.invariant-loop
-invariant-loop g l = ServesSome g.S.Server.gives l.moment l.fn.handler l.handler

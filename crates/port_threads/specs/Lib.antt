@@ -1,2 +1,0 @@
--- What a client's thread may have done to its end.
-pub mod Grown
