@@ -19,7 +19,8 @@ The files of a case are texts. In each of them `\\xHH` stands for a byte.
           `sum BLOCK LONG` sets this long so that the longs of the block add up to 0;
           `cut BYTES` and `grow BYTES` make the file this long, shorter or longer by zeros;
           `script` puts the packets of the indented lines that follow, none of which may be refused;
-          `save NAME` writes the image to a file, and `load NAME` goes on with the bytes of one.
+          `save NAME` writes the image to a file, and `load NAME` goes on with the bytes of one;
+          `blank WORDS` goes on with another blank image.
           Empty lines and lines that begin with `#` are skipped.
 `args`    Commands of the program, one a line, quoted as in a shell. Without it the program runs
           `serve --out after.adf image.adf script ..` where there is an `image`, an `after` or a `script2`, and then `check after.adf`,
@@ -37,20 +38,20 @@ The files of a case are texts. In each of them `\\xHH` stands for a byte.
 """
 from __future__ import annotations
 
+import multiprocessing
 import os
 import re
 import shlex
 import subprocess
 import sys
-import tempfile
-from concurrent.futures import ThreadPoolExecutor
-from dataclasses import dataclass
+from functools import partial
 from pathlib import Path
 from typing import Callable, Dict, List, Optional, Sequence, Tuple, Union
 
-TOP = Path(__file__).resolve().parent.parent
-BLOCK_BYTES = 512
-BLOCK_LONGS = 128
+sys.dont_write_bytecode = True
+
+from harness import BLOCK, TOP, Failed, Ran, Report, Room, program_of
+
 IMAGE = "image.adf"
 AFTER = "after.adf"
 SCRIPT = re.compile(r"script([2-9]|[1-9][0-9]+)?")
@@ -68,46 +69,39 @@ class Wrong(Exception):
     """What is wrong with a case: it differs from what is wanted, or it is not written as a case has to be."""
 
 
-@dataclass(frozen=True)
-class Ran:
-    """How a command ended: its status, what it printed, and its texts on standard error."""
+class Folder(Room):
+    """The room in which a case runs. All its texts have one character a byte, and its files plain names."""
 
-    status: int
-    output: str
-    texts: str
-
-
-class Room:
-    """The folder in which a case runs. All texts have one character a byte."""
-
-    def __init__(self, program: Path, folder: Path) -> None:
-        self.program = program
-        self.folder = folder
-
-    def path(self, name: str) -> Path:
-        if not re.fullmatch(r"[\w.-]+", name) or name.startswith("."):
-            raise Wrong(f"{name!r} is no name of a file")
-        return self.folder / name
-
-    def write(self, name: str, content: bytes) -> None:
-        self.path(name).write_bytes(content)
+    def write(self, name: str, data: bytes = b"") -> None:
+        super().write(plain(name), data)
 
     def content(self, name: str) -> bytes:
-        if not self.path(name).is_file():
+        if not os.path.isfile(plain(name)):
             raise Wrong(f"there is no file {name}")
-        return self.path(name).read_bytes()
+        return super().content(name)
 
-    def run(self, words: Sequence[str], script: str = "") -> Ran:
-        command = [os.fsencode(self.program), *(it.encode("latin-1") for it in words)]
-        ran = subprocess.run(command, input=script.encode("latin-1"), capture_output=True, cwd=self.folder, timeout=120)
-        return Ran(ran.returncode, ran.stdout.decode("latin-1"), ran.stderr.decode("latin-1"))
+    def command(self, words: Sequence[str], script: str = "") -> Ran:
+        return self.run(*map(as_word, words), input=script.encode("latin-1"))
 
     def make(self, words: Sequence[str]) -> str:
         """What a command of the set-up prints: it has to succeed."""
-        ran = self.run(words)
-        if ran.status != 0:
-            raise Wrong(f"{' '.join(words)} ends with status {ran.status}: {shown(ran.output + ran.texts)}")
-        return ran.output
+        return text_of(self.done(*map(as_word, words)))
+
+
+def plain(name: str) -> str:
+    """A name of a file in the folder itself."""
+    if not re.fullmatch(r"[\w.-]+", name) or name.startswith("."):
+        raise Wrong(f"{name!r} is no name of a file")
+    return name
+
+
+def as_word(text: str) -> str:
+    """The word of a command line with the bytes of a text."""
+    return os.fsdecode(text.encode("latin-1"))
+
+
+def text_of(data: bytes) -> str:
+    return data.decode("latin-1")
 
 
 def shown(text: str) -> str:
@@ -218,8 +212,8 @@ def words_of(row: str) -> List[str]:
 
 def place(image: Bytes, block: int, offset: int, size: int) -> int:
     """Where bytes of a block stand in an image."""
-    at = BLOCK_BYTES * block + offset
-    if block < 0 or offset < 0 or offset + size > BLOCK_BYTES or at + size > len(image):
+    at = BLOCK * block + offset
+    if block < 0 or offset < 0 or offset + size > BLOCK or at + size > len(image):
         raise Wrong(f"block {block} has no {size} bytes from {offset} on")
     return at
 
@@ -232,7 +226,7 @@ def long_at(image: Bytes, block: int, at: int) -> int:
 class Drawing:
     """An image that is drawn row by row."""
 
-    def __init__(self, room: Room) -> None:
+    def __init__(self, room: Folder) -> None:
         self.room = room
         self.image = bytearray(room.content(IMAGE))
         self.rows: Dict[str, Callable[[List[str]], None]] = {
@@ -247,6 +241,7 @@ class Drawing:
             "grow": lambda words: self.resize(numbers(words, 1)[0], shorter=False),
             "save": lambda words: self.room.write(name_of(words), bytes(self.image)),
             "load": self.load,
+            "blank": self.begin,
         }
 
     def put_long(self, words: List[str]) -> None:
@@ -268,16 +263,16 @@ class Drawing:
 
     def fill(self, words: List[str]) -> None:
         block, value = numbers(words, 2)
-        at = place(self.image, block, 0, BLOCK_BYTES)
-        self.image[at : at + BLOCK_BYTES] = bytes([value]) * BLOCK_BYTES
+        at = place(self.image, block, 0, BLOCK)
+        self.image[at : at + BLOCK] = bytes([value]) * BLOCK
 
     def copy(self, words: List[str]) -> None:
-        source, target = (place(self.image, it, 0, BLOCK_BYTES) for it in numbers(words, 2))
-        self.image[target : target + BLOCK_BYTES] = self.image[source : source + BLOCK_BYTES]
+        source, target = (place(self.image, it, 0, BLOCK) for it in numbers(words, 2))
+        self.image[target : target + BLOCK] = self.image[source : source + BLOCK]
 
     def settle(self, words: List[str]) -> None:
         block, at = numbers(words, 2)
-        total = sum(long_at(self.image, block, it) for it in range(BLOCK_LONGS) if it != at)
+        total = sum(long_at(self.image, block, it) for it in range(BLOCK // 4) if it != at)
         self.put_long([str(block), str(at), str(-total)])
 
     def resize(self, size: int, shorter: bool) -> None:
@@ -287,6 +282,10 @@ class Drawing:
 
     def load(self, words: List[str]) -> None:
         self.image = bytearray(self.room.content(name_of(words)))
+
+    def begin(self, words: List[str]) -> None:
+        self.room.make(["blank", *words, IMAGE])
+        self.load([IMAGE])
 
     def put_packets(self, script: str) -> None:
         self.room.write(IMAGE, bytes(self.image))
@@ -315,7 +314,7 @@ class Drawing:
         self.room.write(IMAGE, bytes(self.image))
 
 
-def draw(room: Room, text: str) -> None:
+def draw(room: Folder, text: str) -> None:
     """Draws image.adf by the lines of an `image`."""
     lines = text.split("\n")
     room.make(["blank", *words_of(lines[0]), IMAGE])
@@ -325,7 +324,7 @@ def draw(room: Room, text: str) -> None:
 class Looking:
     """An image that is looked at row by row."""
 
-    def __init__(self, room: Room, before: bytes) -> None:
+    def __init__(self, room: Folder, before: bytes) -> None:
         self.room = room
         self.before = before
         self.name = AFTER
@@ -376,12 +375,12 @@ class Looking:
         if words[:1] == ["all"] and (len(words) == 1 or words[1] == "but"):
             self.see("the length", f"{len(self.before)}", f"{len(image)}")
             left_out = numbers(words[2:], len(words) - 2) if len(words) > 1 else []
-            blocks = [it for it in range(len(image) // BLOCK_BYTES) if it not in left_out]
+            blocks = [it for it in range(len(image) // BLOCK) if it not in left_out]
         else:
             blocks = list(between(name_of(words)))
         for block in blocks:
-            at = place(image, block, 0, BLOCK_BYTES)
-            if image[at : at + BLOCK_BYTES] != self.before[at : at + BLOCK_BYTES]:
+            at = place(image, block, 0, BLOCK)
+            if image[at : at + BLOCK] != self.before[at : at + BLOCK]:
                 raise Wrong(f"{self.name}, block {block}: wanted the bytes of before, found others")
 
     def see_like(self, words: List[str]) -> None:
@@ -430,7 +429,7 @@ def see_lines(wanted: List[str], found: List[str]) -> None:
 
 def see_status(wanted: int, ran: Ran) -> None:
     if ran.status != wanted:
-        raise Wrong(f"wanted status {wanted}, found {ran.status}; on standard error {shown(ran.texts)}")
+        raise Wrong(f"wanted status {wanted}, found {ran.status}; on standard error {shown(text_of(ran.texts))}")
 
 
 class Case:
@@ -453,7 +452,7 @@ class Case:
         if self.scripts != ["script", *(f"script{it}" for it in range(2, len(self.scripts) + 1))][: len(self.scripts)]:
             raise Wrong("the scripts are not numbered")
 
-    def run(self, room: Room) -> None:
+    def run(self, room: Folder) -> None:
         if "rows" in self.texts:
             run_rows(room, self.texts["rows"])
             return
@@ -463,10 +462,10 @@ class Case:
             room.write(name, script_text(self.texts[name]).encode("latin-1"))
         if "image" in self.texts or not ("args" in self.texts or reads):
             draw(room, self.texts.get("image", "--ffs Work"))
-        before = room.content(IMAGE) if room.path(IMAGE).exists() else b""
-        script = room.content("script").decode("latin-1") if reads else ""
-        self.compare([room.run(words, script) for words in commands], commands)
-        if "args" not in self.texts and room.path(AFTER).exists():
+        before = room.content(IMAGE) if os.path.exists(IMAGE) else b""
+        script = text_of(room.content("script")) if reads else ""
+        self.compare([room.command(words, script) for words in commands], commands)
+        if "args" not in self.texts and os.path.exists(AFTER):
             see_accepted(room)
         if "after" in self.texts:
             Looking(room, before).look(self.texts["after"].split("\n"))
@@ -492,24 +491,26 @@ class Case:
         if ending:
             status = int(ending[1])
             wanted = [*wanted[:-2], ""]
-        see_lines(wanted, "".join(it.output for it in ran).split("\n"))
+        see_lines(wanted, text_of(b"".join(it.output for it in ran)).split("\n"))
         for words, each in zip(commands[:-1], ran):
-            if each.status != 0:
-                raise Wrong(f"{' '.join(words)}: wanted status 0, found {each.status}; on standard error {shown(each.texts)}")
+            try:
+                see_status(0, each)
+            except Wrong as wrong:
+                raise Wrong(f"{' '.join(words)}: {wrong}") from None
         see_status(status, ran[-1])
-        texts = "".join(it.texts for it in ran)
+        texts = text_of(b"".join(it.texts for it in ran))
         for line in self.texts.get("faults", "").split("\n"):
             if line not in texts:
                 raise Wrong(f"wanted {shown(line)} on standard error, found {shown(texts)}")
 
 
-def see_accepted(room: Room) -> None:
-    checked = room.run(["check", AFTER])
-    if checked.output != "ok\n":
-        raise Wrong(f"check {AFTER}: wanted 'ok', found {shown(checked.output)}")
+def see_accepted(room: Folder) -> None:
+    checked = room.run("check", AFTER)
+    if checked.output != b"ok\n":
+        raise Wrong(f"check {AFTER}: wanted 'ok', found {shown(text_of(checked.output))}")
 
 
-def run_rows(room: Room, text: str) -> None:
+def run_rows(room: Folder, text: str) -> None:
     """Runs each script of a table."""
     tried = 0
     for row in text.split("\n"):
@@ -519,9 +520,9 @@ def run_rows(room: Room, text: str) -> None:
         if len(parts) != 3:
             raise Wrong(f"{shown(row)} has {len(parts)} parts, not three")
         script, wanted = (it.replace("~", "\n") for it in parts[1:])
-        ran = room.run([], script_text(script))
+        ran = room.command([], script_text(script))
         try:
-            see_lines(wanted_lines(wanted), ran.output.split("\n"))
+            see_lines(wanted_lines(wanted), text_of(ran.output).split("\n"))
             see_status(number(parts[0]), ran)
         except Wrong as wrong:
             raise Wrong(f"{shown(row)}: {wrong}") from None
@@ -539,9 +540,9 @@ def fault_of(program: Path, folder: Path) -> Optional[str]:
     """What is wrong with the case of a folder, if anything is."""
     try:
         case = Case(folder)
-        with tempfile.TemporaryDirectory(dir=memory()) as room:
-            case.run(Room(program, Path(room)))
-    except Wrong as wrong:
+        with Folder(program, memory()) as room:
+            case.run(room)
+    except (Wrong, Failed) as wrong:
         return str(wrong)
     except (OSError, ValueError, subprocess.SubprocessError) as fault:
         return f"it was cut short: {fault}"
@@ -549,19 +550,14 @@ def fault_of(program: Path, folder: Path) -> Optional[str]:
 
 
 def main(words: List[str]) -> int:
-    program = Path(words[0] if words else TOP / "crates/adf_serve/out/adf_serve").absolute()
-    if not os.access(program, os.X_OK):
-        print(f"there is no program {program}", file=sys.stderr)
-        return 2
-    room = TOP / "tests" / "cases"
-    names = words[1:] or sorted(it.name for it in room.iterdir())
-    failed = 0
-    with ThreadPoolExecutor(os.cpu_count()) as pool:
-        for name, fault in zip(names, pool.map(lambda it: fault_of(program, room / it), names)):
-            failed += fault is not None
-            print(f"ok    {name}" if fault is None else f"FAIL  {name}: {fault}", flush=True)
-    print(f"{len(names) - failed} passed, {failed} failed")
-    return 1 if failed else 0
+    program, report = program_of(words[:1]), Report()
+    top = TOP / "tests" / "cases"
+    names = words[1:] or sorted(it.name for it in top.iterdir())
+    with multiprocessing.Pool() as pool:
+        faults = pool.imap(partial(fault_of, program), [top / it for it in names])
+        for name, fault in zip(names, faults):
+            report.hold(name, fault)
+    return report.end()
 
 
 if __name__ == "__main__":

@@ -7,16 +7,15 @@ A line says how each change went, and the last line is `N passed, M failed`; the
 """
 from __future__ import annotations
 
-import os
 import shlex
 import sys
-import tempfile
 from pathlib import Path
 from typing import Dict, List, Optional, Tuple
 
 sys.dont_write_bytecode = True
 
 import cases
+from harness import Report, Room, program_of
 
 Texts = Dict[str, str]
 
@@ -31,10 +30,10 @@ SERVED: Texts = {
     "after": "long 9 1 0x12345678\nbyte 9 8 255\ntext 9 9 \"a b\"\nsame 0-1\nsame 10\nsame 12\nlong 880 127 1\nlong 20-21 3-5 7\nlong 20-21 6-127 0\n",
 }
 
-# A case of commands, whose last one is refused.
+# A case of commands over a second blank image, whose last one is refused.
 COMMANDS: Texts = {
     "about": "A directory is made, and not made again.\n",
-    "image": "--blocks 16 Work\nsave base.adf\nlong 8 5 1\nsave broken.adf\nsum 8 5\n",
+    "image": "--blocks 32 Other\nblank --blocks 16 Work\nsave base.adf\nlong 8 5 1\nsave broken.adf\nsum 8 5\n",
     "script": 'rename-disk "\\xE4 b"\n',
     "args": "serve --out after.adf image.adf script\nlist after.adf\nmkdir after.adf 'a b'\ncheck base.adf image.adf broken.adf\n",
     "wanted": "1.1 -1 0\nVolume \\xE4 b\nbase.adf\tok\nimage.adf\tok\nbroken.adf\trefused BadSum 8\nstatus 3\n",
@@ -130,6 +129,8 @@ CHANGES: List[Change] = [
     (COMMANDS, "args", "mkdir after.adf 'a b'", "mkdir after.adf 'a b"),
     (COMMANDS, "args", "mkdir after.adf 'a b'\n", ""),
     (COMMANDS, "args", COMMANDS["args"], ""),
+    (COMMANDS, "image", "blank --blocks 16 Work\n", ""),
+    (COMMANDS, "image", "blank --blocks 16", "blank --blocks 15"),
     (COMMANDS, "image", "long 8 5 1", "long 8 4 0"),
     (COMMANDS, "image", "sum 8 5", "sum 8 4"),
     (COMMANDS, "after", "like image.adf", "like broken.adf"),
@@ -159,40 +160,29 @@ ADDED: List[Tuple[Texts, str]] = [(SERVED, "afterwards"), (SERVED, "script4"), (
 
 
 class Tried:
-    """How many changes went as they should."""
+    """The changes that are tried, and the report of them."""
 
-    def __init__(self, program: Path, room: Path) -> None:
-        self.program = program
+    def __init__(self, room: Room, report: Report) -> None:
         self.room = room
-        self.passed = 0
-        self.failed = 0
+        self.report = report
 
     def fault(self, texts: Texts, program: Optional[Path] = None) -> Optional[str]:
-        with tempfile.TemporaryDirectory(dir=self.room) as folder:
+        """What is wrong with a case of these texts."""
+        with Room(program or self.room.program) as folder:
             for name, text in texts.items():
-                (Path(folder) / name).write_text(text, encoding="utf-8")
-            return cases.fault_of(program or self.program, Path(folder))
-
-    def report(self, name: str, fault: Optional[str]) -> None:
-        if fault is None:
-            self.passed += 1
-            print(f"ok    {name}")
-        else:
-            self.failed += 1
-            print(f"FAIL  {name}: {fault}")
+                folder.write(name, text.encode())
+            return cases.fault_of(folder.program, folder.top)
 
     def refuses(self, name: str, texts: Texts, part: str = "", program: Optional[Path] = None) -> None:
         """The case fails, with a text that has this part."""
         fault = self.fault(texts, program)
-        if fault is not None and part in fault:
-            self.report(name, None)
-        else:
-            self.report(name, f"it passes where {part or 'a fault'!r} is expected" if fault is None else f"{fault!r} has no {part!r}")
+        passes = f"it passes where {part or 'a fault'!r} is expected"
+        self.report.expect(name, fault is not None and part in fault, passes if fault is None else f"{fault!r} has no {part!r}")
 
     def wrapped(self, name: str, command: str) -> Path:
         """A program that does this with its words before it is the real one."""
-        path = self.room / name
-        path.write_text(f'#!/bin/sh\n{command}\nexec {shlex.quote(str(self.program))} "$@"\n', encoding="utf-8")
+        path = self.room.top / name
+        path.write_text(f'#!/bin/sh\n{command}\nexec {shlex.quote(str(self.room.program))} "$@"\n', encoding="utf-8")
         path.chmod(0o755)
         return path
 
@@ -209,7 +199,7 @@ def changed(texts: Texts, name: str, old: str, new: Optional[str]) -> Texts:
 def try_all(tried: Tried) -> None:
     named = [("served", SERVED), ("commands", COMMANDS), ("read", READ), ("told", TOLD), ("rows", ROWS)]
     for name, texts in named:
-        tried.report(f"{name}: as it stands", tried.fault(texts))
+        tried.report.hold(f"{name}: as it stands", tried.fault(texts))
     names = {id(texts): name for name, texts in named}
     for texts, file, old, new in CHANGES:
         what = f"without {file}" if new is None else f"{file}: {old.strip()[:40]!r} is {new.strip()[:40]!r}"
@@ -226,15 +216,10 @@ def try_all(tried: Tried) -> None:
 
 
 def main(words: List[str]) -> int:
-    program = Path(words[0] if words else cases.TOP / "crates/adf_serve/out/adf_serve").absolute()
-    if not os.access(program, os.X_OK):
-        print(f"there is no program {program}", file=sys.stderr)
-        return 2
-    with tempfile.TemporaryDirectory() as room:
-        tried = Tried(program, Path(room))
-        try_all(tried)
-    print(f"{tried.passed} passed, {tried.failed} failed")
-    return 1 if tried.failed else 0
+    program, report = program_of(words), Report()
+    with Room(program) as room:
+        try_all(Tried(room, report))
+    return report.end()
 
 
 if __name__ == "__main__":

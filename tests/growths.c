@@ -2,7 +2,7 @@
  *
  * REFUSED   the number, from 1, of the first growth that is refused; without it none is
  * RUN       how many one after another, 1 if left out
- * THREADS   where set, only growths on threads other than the first count
+ * THREADS   `first` or `others`: only growths on the first thread, or on all others, count
  * COUNTED   a file that takes the number of growths that counted, as eight bytes
  * EACH      a file for three such numbers: of the growths, each of which is then refused in a child process that goes on
  *           from there to its end; of the children that ended with status 0; and of those that ended with out of memory as
@@ -27,7 +27,7 @@ struct counts {
 
 static struct counts here, *counts = &here;
 static long first, behind;
-static int skips_first_thread, refuses_each, told = -1;
+static int skips_first, skips_others, refuses_each, told = -1;
 static void *(*real_malloc)(size_t);
 static void *(*real_realloc)(void *, size_t);
 
@@ -50,7 +50,7 @@ static void keep_in(const char *path, size_t bytes)
 
 static void start(void)
 {
-    const char *each = getenv("EACH"), *counted = getenv("COUNTED");
+    const char *each = getenv("EACH"), *counted = getenv("COUNTED"), *threads = getenv("THREADS");
     if (each)
         keep_in(each, sizeof *counts);
     else if (counted)
@@ -60,7 +60,8 @@ static void start(void)
     refuses_each = told >= 0;
     first = number_in("REFUSED", 0);
     behind = first ? first + number_in("RUN", 1) : 0;
-    skips_first_thread = getenv("THREADS") != 0;
+    skips_first = threads && !strcmp(threads, "others");
+    skips_others = threads && !strcmp(threads, "first");
     *(void **)&real_realloc = dlsym(RTLD_NEXT, "realloc");
     *(void **)&real_malloc = dlsym(RTLD_NEXT, "malloc");
 }
@@ -116,7 +117,7 @@ static int is_refused(void)
 {
     if (!real_malloc)
         start();
-    if (skips_first_thread && syscall(SYS_gettid) == getpid())
+    if (syscall(SYS_gettid) == getpid() ? skips_first : skips_others)
         return 0;
     if (told >= 0)
         return refuses_each && is_child(++counts->growths);

@@ -1,2 +1,3 @@
--- Lemmas on the ends of a port in one hand.
+-- Lemmas on the ends of a port in one hand, and on the chains of a directory.
 pub mod CaseEnds
+pub mod CaseChains

@@ -41,7 +41,7 @@ fn go(rt: &impl Abort, image: &mut Image, number: usize, row: Row) {
     assert!(rt; has_one_bitmap_block(image));
     match row {
         Free(count) => assert_eq!(rt; count_free(image), count, "row {number}"),
-        Takes(block) => assert_eq!(rt; take_first(image, 2), block, "row {number}"),
+        Takes(block) => assert_eq!(rt; take_first(image), block, "row {number}"),
         Gives(block) => {
             assert!(rt; 2 <= block && block < image.blocks());
             give_back(image, block);

@@ -1,12 +1,15 @@
-//! Entries that are found and told in their order, and files that are read, by the calls of a volume drawn by hand.
+//! Entries that are found and told in their order, by the chains and by the calls of a volume drawn by hand, and files that
+//! are read.
 
 use crate::drawn::{checked, put, put_directory, settle};
 use crate::fixtures::{FLOPPY, work};
+use Next::{End, Entry, NotAnEntry};
 use adf_block::layout::{FILE_TYPE, FIRST_SLOT, NEXT_IN_CHAIN, SUM};
+use ados_chain::{Next, after, find};
 use ados_name::{Name, PathText};
-use ados_volume::Next::{End, Entry, NotAnEntry};
 use ados_volume::Volume;
 use std::alloc::Global;
+use std::process::Abort;
 use std::test::Fail;
 
 /// Directories `A` in block 10 and `DP` in block 11, both in slot 6, and `B` in block 12.
@@ -22,34 +25,49 @@ fn three_directories(alloc: Global) -> Result<Volume, Fail> {
     Ok(checked(alloc, image)?)
 }
 
-/// The child of this name in the root.
-fn child(volume: &mut Volume, name: &[u8]) -> Result<Option<u32>, Fail> {
-    let root = volume.root();
-    Ok(volume.child(root, &Name::new(name)?))
+/// The entry of this name in the root, by its chains alone.
+fn found(volume: &Volume, name: &Name) -> Option<u32> {
+    find(volume.image(), volume.root(), name)
 }
 
-/// Each name is asked twice: the second answer may be that of a name that is kept.
+/// What comes after a key in the root, by its chains alone.
+fn behind(volume: &Volume, key: u32) -> Next {
+    after(volume.image(), volume.root(), key)
+}
+
+/// The chains and the volume have this entry of the root under a name. The volume is asked twice: its second answer may be
+/// that of a name that is kept.
+fn expect_entry(
+    rt: &impl Abort,
+    volume: &mut Volume,
+    name: &[u8],
+    key: Option<u32>,
+) -> Result<(), Fail> {
+    let name = Name::new(name)?;
+    assert!(rt; found(volume, &name) == key);
+    assert!(rt; volume.child(volume.root(), &name) == key);
+    assert!(rt; volume.child(volume.root(), &name) == key);
+    Ok(())
+}
+
+/// By the chains and by the volume this comes after a key in the root.
+fn expect_behind(rt: &impl Abort, volume: &Volume, key: u32, next: Next) {
+    assert!(rt; behind(volume, key) == next, "after {key}");
+    assert!(rt; volume.next(volume.root(), key) == next, "after {key}");
+}
+
 #[test]
 fn chains_by_hand(rt: HostRuntime) -> Result<(), Fail> {
     let mut volume = three_directories(rt.alloc())?;
-    for name in [b"dp".as_slice(), b"a", b"C", b"dp", b"a", b"C"] {
-        let key = match name {
-            b"dp" => Some(11),
-            b"a" => Some(10),
-            _ => None,
-        };
-        assert_eq!(&rt; child(&mut volume, name)?, key);
-    }
-    for (key, behind) in [
-        (880, Entry(10)),
-        (10, Entry(11)),
-        (11, Entry(12)),
-        (12, End),
-        (881, NotAnEntry),
-        (4_000_000_000, NotAnEntry),
-    ] {
-        assert_eq!(&rt; volume.next(volume.root(), key), behind, "after {key}");
-    }
+    expect_entry(&rt, &mut volume, b"dp", Some(11))?;
+    expect_entry(&rt, &mut volume, b"a", Some(10))?;
+    expect_entry(&rt, &mut volume, b"C", None)?;
+    expect_behind(&rt, &volume, 880, Entry(10));
+    expect_behind(&rt, &volume, 10, Entry(11));
+    expect_behind(&rt, &volume, 11, Entry(12));
+    expect_behind(&rt, &volume, 12, End);
+    expect_behind(&rt, &volume, 881, NotAnEntry);
+    expect_behind(&rt, &volume, 4_000_000_000, NotAnEntry);
     Ok(())
 }
 

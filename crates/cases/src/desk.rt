@@ -7,7 +7,6 @@ use adf_script::grammar::parse;
 use ados_handler::Handler;
 use ados_name::Name;
 use ados_packet::Body;
-use ados_port::Server;
 use std::alloc::{AllocError, Global};
 use std::process::Abort;
 use std::test::Fail;
@@ -150,31 +149,5 @@ pub(crate) fn expect_hold(
         told = serve_line(alloc, handler, &line)?;
     }
     assert!(rt; told.results.1 == 0);
-    Ok(())
-}
-
-/// The last digit of a number.
-fn digit(n: u32) -> u8 {
-    b'0' + (n % 10) as u8
-}
-
-/// A line whose last three letters but the quote become the number `n` gives a lock on the directory of that name; EXAMINE_OBJECT tells the name, and the lock is freed.
-pub(crate) fn expect_name(
-    rt: &impl Abort,
-    alloc: Global,
-    handler: &mut Handler,
-    line: &mut [u8],
-    n: u32,
-) -> Result<(), Fail> {
-    let digits = [digit(n / 100), digit(n / 10), digit(n)];
-    if let Some(front) = line.len().checked_sub(4) {
-        line[front..front + 3].copy_from_slice(&digits);
-    }
-    let told = ask(alloc, handler, line)?;
-    assert!(rt; told.results == (1, 0));
-    let entry = ask(alloc, handler, b"examine 1")?.entry;
-    assert!(rt; matches!(entry, Some((_, name)) if name.bytes() == digits.as_slice()));
-    let freed = ask(alloc, handler, b"free 1")?;
-    assert!(rt; freed.results == (-1, 0));
     Ok(())
 }

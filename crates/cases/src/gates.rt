@@ -1,6 +1,6 @@
 //! Two clients that go in turns.
 
-use adf_clients::Gate;
+use ados_run::Gate;
 use std::alloc::Global;
 use std::sync::Arc;
 use std::sync::atomic::{AtomicU64, Ordering};

@@ -6,11 +6,13 @@
 ghost use Rattle.std.specs.Prelude.{◌≤◌};
 ghost use Rattle.adf_block.specs.Image.{IsSize};
 
-use crate::desk::{ENTRIES, expect_hold, expect_name, handler_of, serve_rows};
+use crate::desk::{ENTRIES, expect_hold, handler_of, serve_rows};
+use crate::drawn::{put, put_directory, settle};
 use crate::ends_tests::{BATCH_REFUSED, GATHER_REFUSED, PORT_REFUSED, expect};
 use crate::fixtures::{FLOPPY, START, blank_handler, work};
 use crate::steps::{Got, steps_of, strays};
 use adf_block::Image;
+use adf_block::layout::{BITMAP_FLAG, FIRST_SLOT, SUM};
 use adf_script::{TryFault, run_script};
 use ados_handler::Handler;
 use ados_name::Date3;
@@ -51,24 +53,12 @@ fn refused_blank(rt: HostRuntime) -> Result<(), Fail> {
     Ok(())
 }
 
-/// Sets these longs of a block, and then its sum in long 5.
-fn draw(image: &mut Image, block: u32, longs: &[(u32, u32)]) {
-    for &(long, value) in longs {
-        if block < image.blocks() && long < 128 {
-            image.set_long(block, long, value);
-        }
-    }
-    if block < image.blocks() {
-        image.settle(block, 5);
-    }
-}
-
 /// A volume of 160 blocks, all in use: 156 directories `d`, each in the one before. The root is block 80, its bitmap block 81.
 /// So many names make three levels of the sorted set in which the check keeps them.
 fn deep(alloc: Global, flag: u32) -> Result<Image, AllocError> {
     let mut image = work(alloc, 160)?.into_image();
-    draw(&mut image, 80, &[(78, flag)]);
-    draw(
+    settle(&mut image, 80, SUM, &[(BITMAP_FLAG, flag)]);
+    put(
         &mut image,
         81,
         &[(0, 0), (1, 0), (2, 0), (3, 0), (4, 0), (5, 0)],
@@ -76,10 +66,8 @@ fn deep(alloc: Global, flag: u32) -> Result<Image, AllocError> {
     let mut holder = 80;
     for block in 2..160 {
         if block != 80 && block != 81 {
-            draw(&mut image, holder, &[(15, block)]);
-            let front = [(0, 2), (1, block), (108, 0x0164_0000)];
-            draw(&mut image, block, &front);
-            draw(&mut image, block, &[(125, holder), (127, 2)]);
+            settle(&mut image, holder, SUM, &[(FIRST_SLOT + 9, block)]);
+            put_directory(&mut image, block, holder, 0x0164_0000);
             holder = block;
         }
     }
@@ -303,18 +291,29 @@ fn refused_no_stale_names(rt: HostRuntime) -> Result<(), Fail> {
     serve_rows(&rt, rt.alloc(), &mut handler, NO_STALE_NAMES)
 }
 
+/// Rows for so many directories: the one of this line gives a lock, by which it tells its key and its name. A volume of 400
+/// blocks has its root and its bitmap in blocks 200 and 201.
+fn name_rows(alloc: Global, line: &str, count: u32) -> Result<String, AllocError> {
+    let mut rows = String::new(alloc);
+    for name in 0..count {
+        let key = name.saturating_add(if name < 198 { 2 } else { 4 });
+        write!(
+            rows,
+            "{line} \"{name}\" = 1 0\nexamine 1 = -1 0 {key} {name}\nfree 1 = -1 0\n"
+        )?;
+    }
+    Ok(rows)
+}
+
 /// More names than are kept, of directories that are made, and then located in turn, twice over.
 #[test]
 fn refused_three_hundred_names(rt: HostRuntime) -> Result<(), Fail> {
+    let made = name_rows(rt.alloc(), "mkdir 0", 300)?;
+    let located = name_rows(rt.alloc(), "locate 0 -2", 300)?;
     let mut handler = handler_of(rt.alloc(), 400)?;
-    let (mut mkdir, mut locate) = (*b"mkdir 0 \"...\"", *b"locate 0 -2 \"...\"");
-    for n in 0..300 {
-        expect_name(&rt, rt.alloc(), &mut handler, &mut mkdir, n)?;
-    }
-    for n in 0..600 {
-        expect_name(&rt, rt.alloc(), &mut handler, &mut locate, n % 300)?;
-    }
-    Ok(())
+    serve_rows(&rt, rt.alloc(), &mut handler, made.as_str())?;
+    serve_rows(&rt, rt.alloc(), &mut handler, located.as_str())?;
+    serve_rows(&rt, rt.alloc(), &mut handler, located.as_str())
 }
 
 const FIRST_RUN: &str = "1.1 -1 0 82 1758 2 512 444f5301\n1.2 0 209\n1.3 -1 0\n1.4 closed\n";

@@ -109,23 +109,23 @@ impl<S: Server> Port<S> {
     {
         self.handler.serve_until_closed(rt, self.moment, idle_limit)
     }
+}
 
-    /// Gathers the ends. Where memory was refused the port is as it was.
-    pub(crate) fn gather<R: Wait>(self, rt: &R, alloc: Global) -> Result<Gathered<S>, Port<S>> {
+impl<S: Server + Drop> Port<S> {
+    /// Gathers the ends, once more where memory was refused and the case says so.
+    pub(crate) fn gather<R: Wait>(self, rt: &R, alloc: Global) -> Option<Gathered<S>> {
         let Port {
             handler,
             ends,
-            moment,
             again,
+            ..
         } = self;
         match gather(rt, alloc, handler, ends) {
-            Ok(gathered) => Ok(gathered),
-            Err(GatherRefused { handler, clients }) => Err(Port {
-                handler,
-                ends: clients,
-                moment,
-                again,
-            }),
+            Ok(left) => Some(left),
+            Err(GatherRefused { handler, clients }) if again => {
+                gather(rt, alloc, handler, clients).ok()
+            }
+            Err(_) => None,
         }
     }
 }

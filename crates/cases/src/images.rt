@@ -3,9 +3,8 @@
 use crate::drawn::{checked, filled, put, settle};
 use crate::fixtures::{FLOPPY, work};
 use adf_block::{BootKind, Format, Image, SizeFault, size_ok};
+use ados_check::{Sketch, accepted_kind, whole_pages};
 use ados_data::blocks_of;
-use check_image::accepted_kind;
-use check_source::{Sketch, whole_pages};
 use std::alloc::Global;
 use std::process::Abort;
 use std::test::Fail;

@@ -22,6 +22,8 @@ mod drawn;
 #[cfg(test)]
 mod images;
 #[cfg(test)]
+mod marks;
+#[cfg(test)]
 mod names;
 
 // A port with all its ends in one hand, and what is left of it.
@@ -43,6 +45,8 @@ mod steps_tests;
 // Clients on threads of their own.
 #[cfg(test)]
 mod gates;
+#[cfg(test)]
+mod placed;
 #[cfg(test)]
 mod putter;
 #[cfg(test)]

@@ -2,7 +2,7 @@
 
 use ados_name::{
     Comment, CommentTooLong, Date3, Name, NameFault, PathSteps, PathText, PathTooLong, Protect,
-    Step, same_name_same_slot,
+    Step, same_name_same_slot, upper,
 };
 use std::alloc::Global;
 use std::process::Abort;
@@ -37,11 +37,31 @@ fn hashes(rt: HostRuntime) -> Result<(), Fail> {
     Ok(())
 }
 
+/// The letters that have an upper case, in that.
+const UPPER: &[u8] = b"ABCDEFGHIJKLMNOPQRSTUVWXYZ";
+
+/// The letters from `a` to `z` in upper case, and each other byte as it is: also E0 to FE, the small letters past ASCII.
+#[test]
+fn upper_cases(rt: HostRuntime) {
+    for byte in 0..=255 {
+        let wanted = match byte {
+            b'a'..=b'z' => UPPER[(byte - b'a') as usize],
+            _ => byte,
+        };
+        assert!(rt; upper(byte) == wanted, "{byte}");
+    }
+}
+
 /// Letters past ASCII have no other case.
 #[test]
 fn same_names(rt: HostRuntime) -> Result<(), Fail> {
     assert!(rt; Name::new(b"ReadMe")?.same(&Name::new(b"README")?));
-    assert!(rt; !Name::new(b"\xe4")?.same(&Name::new(b"\xc4")?));
+    for small in 0xe0..=0xfe {
+        assert!(rt;
+            !Name::new(&[small])?.same(&Name::new(&[small - 32])?),
+            "{small}"
+        );
+    }
     Ok(())
 }
 

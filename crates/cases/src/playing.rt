@@ -3,9 +3,9 @@ ghost use Rattle.std.specs.Prelude.{◌≡◌, false};
 
 use crate::hand::Port;
 use crate::left::left_text;
-use crate::rows::{Opening, Turn, opening_of, parts, turn_of};
+use crate::rows::{Opening, Turn, first_row, last_row, opening_of, parts, turn_of};
 use crate::spoken::Spoken;
-use ados_port::{Gathered, PutRefused, Reply, ServeEnd, ServeFault};
+use ados_port::{PutRefused, Reply, ServeEnd, ServeFault};
 use std::alloc::{AllocError, Global};
 use std::sync::Wait;
 
@@ -24,27 +24,21 @@ pub(crate) fn play<S: Spoken + Drop, R: Wait>(
 ) -> Result<String, AllocError>
     requires { S.has_died server ≡ false }
 {
-    let Some((opening, rows, wanted)) = split(case) else {
-        return String::from_str(alloc, "it is no case");
-    };
-    let Some(mut port) = opened(alloc, server, moment, opening) else {
+    let (first, rest) = first_row(case);
+    let (rows, wanted) = last_row(rest);
+    let Some(mut port) = opened(alloc, server, moment, opening_of(first)) else {
         return Err(AllocError);
     };
     let mut strayed = String::new(alloc);
     play_rows(rt, alloc, &mut port, rows, &mut strayed)?;
-    let left = gathered(rt, alloc, port)?;
+    let Some(left) = port.gather(rt, alloc) else {
+        return Err(AllocError);
+    };
     let came = left_text(alloc, &left)?;
     if came.as_str() != wanted {
         write!(strayed, "left is {came}\n")?;
     }
     Ok(strayed)
-}
-
-/// How a case opens its port, its rows, and what it leaves.
-fn split(case: &str) -> Option<(Opening, &str, &str)> {
-    let (first, rest) = case.split_once('\n')?;
-    let (rows, left) = rest.split_once("gather = ")?;
-    Some((opening_of(first)?, rows, left))
 }
 
 // The port of a case. It first asks for rings of more places than there can be, and goes on with the server that is handed back.
@@ -67,18 +61,6 @@ fn opened<S: Spoken + Drop>(
         Ok(port) => Some(port),
         Err(server) if opening.again => Port::open(alloc, server, moment, opening).ok(),
         Err(_) => None,
-    }
-}
-
-fn gathered<S: Spoken + Drop, R: Wait>(
-    rt: &R,
-    alloc: Global,
-    port: Port<S>,
-) -> Result<Gathered<S>, AllocError> {
-    match port.gather(rt, alloc) {
-        Ok(left) => Ok(left),
-        Err(port) if port.again => port.gather(rt, alloc).map_err(|_| AllocError),
-        Err(_) => Err(AllocError),
     }
 }
 
@@ -124,7 +106,7 @@ impl<S: Spoken> Port<S> {
             Turn::Ask(client) => {
                 String::from_str(alloc, if self.is_shut(client) { "shut" } else { "open" })
             }
-            Turn::Serve => String::from_str(alloc, "no turn of a port's ends"),
+            Turn::Serve | Turn::Read(..) => String::from_str(alloc, "no turn of a port's ends"),
         }
     }
 

@@ -1,8 +1,9 @@
 //! Cases of clients that put at the same time, over the handler of the blank floppy.
 use crate::fixtures::{START, blank_handler};
 use crate::left::left_text;
+use crate::placed::Placed;
 use crate::racing::{Plan, race};
-use crate::share::is_parted;
+use crate::share::{ends_at_the_die, is_parted, served_order};
 use std::alloc::Global;
 use std::process::Abort;
 use std::sync::Wait;
@@ -53,6 +54,8 @@ fn put_ahead(rt: HostRuntime) -> Result<(), Fail> {
     expect(&rt, rt.alloc(), plan, "alive, untaken 1, untaken 2")
 }
 
+/// Each client puts its packets or comes to the close. In the order in which the packets of all of them were served, those in
+/// front of the DIE are answered otherwise than those behind it.
 #[test]
 fn racing_die(rt: HostRuntime) -> Result<(), Fail> {
     let plan = Plan {
@@ -62,10 +65,16 @@ fn racing_die(rt: HostRuntime) -> Result<(), Fail> {
         die_at: Some(500),
         takes: false,
     };
-    let Some(raced) = race(&rt, rt.alloc(), blank_handler(rt.alloc())?, START, plan) else {
+    let server = Placed {
+        server: blank_handler(rt.alloc())?,
+        served: 0,
+    };
+    let Some(raced) = race(&rt, rt.alloc(), server, START, plan) else {
         return Err(Fail::from("memory or a thread"));
     };
     assert!(rt; raced.counts.len() == 4);
     assert!(rt; is_parted(&raced, 500));
+    let order = served_order(rt.alloc(), &raced)?;
+    assert!(rt; ends_at_the_die(&order));
     Ok(())
 }

@@ -7,6 +7,8 @@ pub(crate) enum Turn<'a> {
     Put(usize, &'a str),
     /// A client puts so many packets of one line.
     PutMany(usize, u64, &'a str),
+    /// A client puts a READ by this handle, of so many bytes.
+    Read(usize, u32, usize),
     /// One packet is served.
     Serve,
     /// A batch of at most so many packets is served.
@@ -46,6 +48,10 @@ pub(crate) fn turn_of(text: &str) -> Option<Turn<'_>> {
             let (times, line) = cut(behind);
             Some(Turn::PutMany(count?, number(times)? as u64, line))
         }
+        "read" => {
+            let (handle, size) = cut(behind);
+            Some(Turn::Read(count?, handle.parse().ok()?, number(size)?))
+        }
         "serve" => Some(Turn::Serve),
         "batch" => Some(Turn::Batch(count?)),
         "batches" => Some(Turn::Batches),
@@ -66,13 +72,25 @@ pub(crate) struct Opening {
     pub(crate) again: bool,
 }
 
-/// The opening that a row `open CLIENTS RING` names, or one with `again` behind it.
-pub(crate) fn opening_of(row: &str) -> Option<Opening> {
-    let (clients, rest) = cut(row.strip_prefix("open ")?);
+/// The opening that a row `open CLIENTS RING` names, or one with `again` behind it. Any other row names one without clients,
+/// which no port has.
+pub(crate) fn opening_of(row: &str) -> Opening {
+    let (_, rest) = cut(row);
+    let (clients, rest) = cut(rest);
     let (ring, last) = cut(rest);
-    Some(Opening {
-        clients: number(clients)?,
-        ring: number(ring)?,
+    Opening {
+        clients: number(clients).unwrap_or(0),
+        ring: number(ring).unwrap_or(0),
         again: last == "again",
-    })
+    }
+}
+
+/// The first row of a case, and what stands behind it.
+pub(crate) fn first_row(case: &str) -> (&str, &str) {
+    case.split_once('\n').unwrap_or((case, ""))
+}
+
+/// The rows in front of the last one, and what that one says is left.
+pub(crate) fn last_row(rows: &str) -> (&str, &str) {
+    rows.split_once("gather = ").unwrap_or((rows, ""))
 }

@@ -1,7 +1,9 @@
 //! What a DIE in a race makes of each client's packets.
+use crate::placed::{Placed, PlacedReply};
 use crate::racing::Raced;
 use crate::spoken::Spoken;
 use ados_port::Reply;
+use std::alloc::{AllocError, Global};
 
 /// The results of a packet that the server does not know, of the DIE that ends it, and of every packet behind that.
 const UNKNOWN: (i32, i32) = (0, 209);
@@ -80,4 +82,46 @@ pub(crate) fn is_parted<S: Spoken>(raced: &Raced<S>, die_at: usize) -> bool {
         }
     }
     true
+}
+
+/// The results of all replies in the order in which their packets were served, whoever put them. A place stays empty where no
+/// reply has it, where two have it, or where a client's packets were served in another order than it put them.
+pub(crate) fn served_order<S: Spoken + Drop>(
+    alloc: Global,
+    raced: &Raced<Placed<S>>,
+) -> Result<Vec<Option<(i32, i32)>>, AllocError> {
+    let mut order = vec![in alloc; None; raced.left.server.served]?;
+    for replies in &raced.left.untaken {
+        put_in_order::<S>(&mut order, replies);
+    }
+    Ok(order)
+}
+
+// Puts the results of a client's replies to their places, which rise.
+fn put_in_order<S: Spoken>(
+    order: &mut [Option<(i32, i32)>],
+    replies: &[Reply<PlacedReply<S::Reply>>],
+) {
+    let mut least = 0usize;
+    for reply in replies {
+        let place = reply.answer.place;
+        if place < least || place >= order.len() {
+            return;
+        }
+        least = place.saturating_add(1);
+        order[place] = match order[place] {
+            None => Some(S::results_of(&reply.answer.answer)),
+            Some(_) => None,
+        };
+    }
+}
+
+/// Whether the packets in front of one DIE were answered 0 209, and all behind it 0 218.
+pub(crate) fn ends_at_the_die(order: &[Option<(i32, i32)>]) -> bool {
+    let Some(die) = order.iter().position(|results| *results == Some(ENDED)) else {
+        return false;
+    };
+    let (before, rest) = order.split_at(die);
+    before.iter().all(|results| *results == Some(UNKNOWN))
+        && rest.iter().skip(1).all(|results| *results == Some(DEAD))
 }

@@ -4,10 +4,10 @@ ghost use Rattle.ados_port.specs.Ends.{AreEnds};
 
 use crate::fixtures::START;
 use crate::hand::Port;
-use adf_clients::{ClientEnding, Gate, ScriptsDone, assign, part_done, serve_scripts};
 use ados_handler::Handler;
 use ados_packet::Packet;
 use ados_port::{Gathered, open_port};
+use ados_run::{ClientEnding, Gate, ScriptsDone, assign, part_done, serve_scripts};
 use std::alloc::Global;
 use std::sync::Wait;
 use std::thread::Threads;
@@ -77,6 +77,6 @@ where
         again: false,
     };
     let number = port.put(rt, 1, Packet::Other { action: 999 }).ok();
-    let left = port.gather(rt, alloc).ok()?;
+    let left = port.gather(rt, alloc)?;
     Some(Staged { told, number, left })
 }

@@ -3,7 +3,7 @@ use crate::fixtures::START;
 use crate::rows::{Turn, parts, turn_of};
 use adf_script::grammar::parse;
 use ados_name::Date3;
-use ados_packet::{Answer, Body, Packet};
+use ados_packet::{Answer, Body, Buffer, Packet};
 use ados_port::{Outcome, PutRefused, Step};
 use std::alloc::{AllocError, Global};
 use std::test::Fail;
@@ -27,10 +27,23 @@ fn step_of(alloc: Global, text: &str) -> Result<Asked, Fail> {
             Some(packet) => Ok(Step::Put { client, packet }),
             None => Err(Fail::from("no packet")),
         },
+        Some(Turn::Read(client, handle, size)) => Ok(Step::Put {
+            client,
+            packet: read_into_full(alloc, handle, size)?,
+        }),
         Some(Turn::Serve) => Ok(Step::Serve { moment: START }),
         Some(Turn::Take(client)) => Ok(Step::Take { client }),
         _ => Err(Fail::from("no step")),
     }
+}
+
+/// A READ whose buffer is full of bytes EE.
+fn read_into_full(alloc: Global, handle: u32, size: usize) -> Result<Packet, AllocError> {
+    let bytes = vec![in alloc; 0xee_u8; size]?;
+    Ok(Packet::Read {
+        handle,
+        buffer: Buffer::from_vec(bytes),
+    })
 }
 
 /// What comes otherwise than rows say: nothing, if all is well.

@@ -1,10 +1,13 @@
 //! Cases of steps that `run_volume` does over the blank floppy: each is a text whose rows are the steps and what they come to.
 ghost use Rattle.std.specs.Prelude.{◌≤◌};
 
+use crate::drawn::put;
 use crate::fixtures::{FLOPPY, work};
 use crate::steps::{Got, steps_of, strays};
+use adf_block::Image;
 use ados_port::RunDone;
-use ados_run::run_volume;
+use ados_run::{RunFault, run_volume};
+use ados_volume::{FaultKind, Rejected};
 use std::alloc::{AllocError, Global};
 use std::process::Abort;
 use std::test::Fail;
@@ -101,6 +104,24 @@ take 2 = 2 -1 0 handle 1
 take 2 = 3 0 209
 take 2 = nothing";
 
+/// The last two bytes of ten are read into five bytes EE, of which three stay, and then none.
+const READ_INTO_FULL: &str = "\
+put 1 output 0 \"f\" = accepted 1
+serve = served
+take 1 = 1 -1 0 handle 1
+put 1 write 1 \"0123456789\" = accepted 2
+put 1 seek 1 8 -1 = accepted 3
+read 1 1 5 = accepted 4
+read 1 1 5 = accepted 5
+serve = served
+serve = served
+serve = served
+serve = served
+take 1 = 2 10 0 30313233343536373839
+take 1 = 3 10 0
+take 1 = 4 2 0 3839eeeeee
+take 1 = 5 0 0 eeeeeeeeee";
+
 const IDLE_AND_NO_CLIENT: &str = "\
 serve = idle
 take 1 = nothing
@@ -173,6 +194,11 @@ fn two_clients(rt: HostRuntime) -> Result<(), Fail> {
 }
 
 #[test]
+fn seek_and_read(rt: HostRuntime) -> Result<(), Fail> {
+    expect(&rt, rt.alloc(), 1, READ_INTO_FULL)
+}
+
+#[test]
 fn idle_and_no_client(rt: HostRuntime) -> Result<(), Fail> {
     expect(&rt, rt.alloc(), 1, IDLE_AND_NO_CLIENT)
 }
@@ -192,4 +218,41 @@ fn info(rt: HostRuntime) -> Result<(), Fail> {
 fn many_puts(rt: HostRuntime) -> Result<(), Fail> {
     let rows = many(rt.alloc(), 500)?;
     expect(&rt, rt.alloc(), 1, rows.as_str())
+}
+
+/// The blank floppy with one long written over.
+fn written_over(alloc: Global, [block, long, value]: [u32; 3]) -> Result<Image, AllocError> {
+    let mut image = work(alloc, FLOPPY)?.into_image();
+    put(&mut image, block, &[(long, value)]);
+    Ok(image)
+}
+
+/// The blank floppy with one long written over is refused with this fault of that block, and handed back byte for byte.
+fn expect_rejected(
+    rt: &impl Abort,
+    alloc: Global,
+    long: [u32; 3],
+    kind: FaultKind,
+) -> Result<(), Fail> {
+    let image = written_over(alloc, long)?;
+    let Err(RunFault::Rejected(Rejected { image, fault })) = run_volume(
+        alloc,
+        image,
+        1,
+        Vec::new(alloc),
+    ) else {
+        return Err(Fail::from("not rejected"));
+    };
+    assert!(rt; fault.kind == kind && fault.block == long[0]);
+    assert!(rt; image.as_bytes() == written_over(alloc, long)?.as_bytes());
+    Ok(())
+}
+
+/// No disk of DOS, another kind of disk, and a root with a wrong checksum.
+#[test]
+fn rejected_run(rt: HostRuntime) -> Result<(), Fail> {
+    let alloc = rt.alloc();
+    expect_rejected(&rt, alloc, [0, 0, 0x004f_5301], FaultKind::NotADosDisk)?;
+    expect_rejected(&rt, alloc, [0, 0, 0x444f_5302], FaultKind::UnsupportedKind)?;
+    expect_rejected(&rt, alloc, [880, 20, 1], FaultKind::BadSum)
 }

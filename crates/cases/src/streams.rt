@@ -27,12 +27,13 @@ impl Read for Bytes {
     }
 }
 
-/// Takes at most `step` bytes a write, and fails after so many writes.
+/// Takes at most `step` bytes a write, keeps them, and fails after so many writes.
 #[derive(Drop)]
 pub(crate) struct Narrow {
     pub(crate) writes: usize,
     pub(crate) step: usize,
     pub(crate) flushes: bool,
+    pub(crate) taken: Vec<u8>,
 }
 
 impl Write for Narrow {
@@ -41,7 +42,11 @@ impl Write for Narrow {
             return Err(Error::from(ErrorKind::Other));
         }
         self.writes -= 1;
-        Ok(self.step.min(bytes.len()))
+        let count = self.step.min(bytes.len());
+        match self.taken.extend_from_slice(&bytes[..count]) {
+            Ok(()) => Ok(count),
+            Err(_) => Err(Error::from(ErrorKind::OutOfMemory)),
+        }
     }
 
     fn flush(&mut self) -> IoResult<()> {

@@ -3,8 +3,8 @@ use crate::fixtures::{START, blank_handler, work};
 use crate::rows::{cut, parts};
 use crate::streams::{Bytes, Narrow};
 use adf_block::SizeFault;
-use adf_files::{LoadFault, load_image, store_image};
 use adf_host::{BoundedFault, ImageFault, load_bounded, read_sketch};
+use adf_io::{LoadFault, load_image, store_image};
 use adf_script::{TryFault, run_script};
 use std::alloc::{AllocError, Global};
 use std::process::Abort;
@@ -45,7 +45,9 @@ script 4 7 flush = whole
 image 2 7 flush = 14 bytes
 image 9 0 flush = 0 bytes
 image 15 512 flush = 7680 bytes
-image 16 512 flush = whole";
+image 16 512 flush = whole
+image 1170 7 flush = 8190 bytes
+image 1171 7 flush = whole";
 
 fn number(text: &str) -> usize {
     text.parse().unwrap_or(usize::MAX)
@@ -65,13 +67,14 @@ fn reader_of(fields: &str, byte: u8) -> Bytes {
 }
 
 /// The writer of a row.
-fn writer_of(fields: &str) -> Narrow {
+fn writer_of(alloc: Global, fields: &str) -> Narrow {
     let (writes, rest) = cut(fields);
     let (step, last) = cut(rest);
     Narrow {
         writes: number(writes),
         step: number(step),
         flushes: last == "flush",
+        taken: Vec::new(alloc),
     }
 }
 
@@ -149,11 +152,20 @@ fn script_written(alloc: Global, writer: &mut Narrow) -> Result<String, AllocErr
     String::from_str(alloc, try_text(ended))
 }
 
+/// How many bytes of an image were written, if not all; what the writer took has to be these bytes.
 fn image_written(alloc: Global, writer: &mut Narrow) -> Result<String, AllocError> {
     let image = work(alloc, 16)?.into_image();
-    match store_image(&image, writer) {
-        Ok(()) => String::from_str(alloc, "whole"),
-        Err(fault) => format!(in alloc; "{} bytes", fault.written),
+    let count = match store_image(&image, writer) {
+        Ok(()) => image.as_bytes().len(),
+        Err(fault) => fault.written,
+    };
+    if image.as_bytes().get(..count) != Some(writer.taken.as_slice()) {
+        return String::from_str(alloc, "other bytes");
+    }
+    if count == 8_192 {
+        String::from_str(alloc, "whole")
+    } else {
+        format!(in alloc; "{count} bytes")
     }
 }
 
@@ -161,8 +173,8 @@ fn image_written(alloc: Global, writer: &mut Narrow) -> Result<String, AllocErro
 fn write_text(alloc: Global, row: &str) -> Result<String, AllocError> {
     let (what, fields) = cut(row);
     match what {
-        "script" => script_written(alloc, &mut writer_of(fields)),
-        _ => image_written(alloc, &mut writer_of(fields)),
+        "script" => script_written(alloc, &mut writer_of(alloc, fields)),
+        _ => image_written(alloc, &mut writer_of(alloc, fields)),
     }
 }
 

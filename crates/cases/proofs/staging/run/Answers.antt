@@ -1,6 +1,6 @@
 use Rattle.std.proofs.Common.{sym, subst}
 use Rattle.ados_port.specs.Ends.{AreEnds}
-use Rattle.adf_clients.specs.Scripts.{AreUnused}
+use Rattle.ados_run.specs.Scripts.{AreUnused}
 use Rattle.cases.proofs.staging.run.Goals as goal
 
 pub serve_scripts-requires-clause-all : goal.serve_scripts-requires-clause-all

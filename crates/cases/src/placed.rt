@@ -1,0 +1,66 @@
+//! A server that numbers the packets which another one serves, in the order in which they are served.
+
+use crate::spoken::Spoken;
+use ados_port::Server;
+use std::alloc::{AllocError, Global};
+
+/// A server, and how many packets it has served.
+#[derive(Drop)]
+pub(crate) struct Placed<S: Server> {
+    pub(crate) server: S,
+    pub(crate) served: usize,
+}
+
+/// What the server answers, and how many packets were served before.
+#[derive(Drop)]
+pub(crate) struct PlacedReply<A> {
+    pub(crate) answer: A,
+    pub(crate) place: usize,
+}
+
+impl<S: Server + Drop> Server for Placed<S> {
+    type Request = S::Request;
+
+    type Reply = PlacedReply<S::Reply>;
+
+    type Moment = S::Moment;
+
+    ghost gives = { λ old packet moment new reply. S.gives old.server packet moment new.server reply.answer };
+
+    ghost has_died = { λ placed. S.has_died placed.server };
+
+    ghost is_closing = { λ reply. S.is_closing reply.answer };
+
+    fn serve(&mut self, packet: S::Request, moment: S::Moment) -> PlacedReply<S::Reply> {
+        let place = self.served;
+        self.served = place.wrapping_add(1);
+        let answer = self.server.serve(packet, moment);
+        PlacedReply { answer, place }
+    }
+
+    fn died(&self) -> bool {
+        self.server.died()
+    }
+
+    fn closes(reply: &PlacedReply<S::Reply>) -> bool {
+        S::closes(&reply.answer)
+    }
+
+    ghost stays_dead = { λ old new packet moment reply given dead. S.stays_dead old.server new.server packet moment reply.answer given dead };
+
+    ghost closes_dead = { λ old new packet moment reply given closing. S.closes_dead old.server new.server packet moment reply.answer given closing };
+}
+
+impl<S: Spoken + Drop> Spoken for Placed<S> {
+    fn packet_of(alloc: Global, line: &str) -> Result<Option<S::Request>, AllocError> {
+        S::packet_of(alloc, line)
+    }
+
+    fn action_of(packet: &S::Request) -> i32 {
+        S::action_of(packet)
+    }
+
+    fn results_of(reply: &PlacedReply<S::Reply>) -> (i32, i32) {
+        S::results_of(&reply.answer)
+    }
+}
