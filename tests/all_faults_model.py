@@ -1,11 +1,21 @@
 #!/usr/bin/env python3
-"""all_faults_model.py IMAGE: every fault that an image shows, a line `KIND BLOCK` each, by block and then by kind.
+"""Every fault that an image shows, a line `KIND BLOCK` each, by block and then by kind.
+
+    tests/all_faults_model.py IMAGE
 
 It goes by the definition `Shows` of crates/ados_tree/specs/Faults.antt alone: first all pairs of a block and a role that are
 reached, then each rule over all of them. `more` stands at the end where there are over 1,000.
 """
+from __future__ import annotations
+
 import sys
 from collections import defaultdict
+from pathlib import Path
+from typing import Dict, Iterator, List, NamedTuple, Optional, Set, Tuple
+
+sys.dont_write_bytecode = True
+
+from harness import Image, upper
 
 KINDS = ["NotADosDisk", "UnsupportedKind", "BadSum", "BadType", "BadOwnKey", "BadParent", "BadPointer", "BlockUsedTwice",
          "WrongChain", "BadName", "DuplicateName", "BadComment", "BadCount", "BadSequence", "LinkEntry", "MarkedFree"]
@@ -15,115 +25,117 @@ HEADER, DATA, LIST = 2, 8, 16
 MOST = 1000
 
 
-class Model:
-    def __init__(self, image):
-        self.image = image
-        self.count = len(image) // 512
-        self.root = (self.count + 1) // 2
-        self.ofs = image[3] == 0
-        self.found = set()
-        self.reached = {}  # a pair (block, role), with the places of the block in that role
-        self.places = []  # (holder, long, block that is named)
+class Role(NamedTuple):
+    """What a block is for: the root, a page of the bitmap, an entry of a directory in a slot, or a data block or an extension
+    block of a file."""
+
+    what: str
+    holder: int = 0
+    slot: int = 0
+
+
+class Model(Image):
+    """An image, what is reached in it, and what it shows."""
+
+    def __init__(self, data: bytes) -> None:
+        super().__init__(data)
+        self.root = (self.blocks + 1) // 2
+        self.ofs = data[3] == 0
+        self.found: Set[Tuple[int, int]] = set()
+        self.reached: Set[Tuple[int, Role]] = set()
+        self.places: List[Tuple[int, int, int]] = []  # (holder, long, block that is named)
         self.reach()
 
-    def long(self, block, i):
-        at = 512 * block + 4 * i
-        return int.from_bytes(self.image[at:at + 4], "big")
+    def inside(self, block: int) -> bool:
+        return 2 <= block < self.blocks
 
-    def byte(self, block, i):
-        at = 512 * block + i
-        return self.image[at] if at < len(self.image) else 0
+    def sum(self, block: int) -> int:
+        return sum(self.long(block, at) for at in range(128)) % 2**32
 
-    def inside(self, block):
-        return 2 <= block < self.count
-
-    def sum(self, block):
-        return sum(self.long(block, i) for i in range(128)) % 2 ** 32
-
-    def text(self, block, i):
-        at = 512 * block + i + 1
-        return self.image[at:at + self.byte(block, i)]
+    def length(self, block: int, offset: int) -> int:
+        """The number that stands before a text."""
+        return self.data[512 * block + offset]
 
     # ---- which blocks are reached
 
-    def pages(self):
-        return (self.count - 2 + 4063) // 4064
+    def pages(self) -> int:
+        return (self.blocks - 2 + 4063) // 4064
 
-    def places_of(self, block, role):
+    def places_of(self, block: int, role: Role) -> Iterator[Tuple[int, Role]]:
         """The longs that are places of a block in a role, each with the role that it gives."""
-        what = role[0]
         secondary = self.long(block, 127)
-        if what == "root":
-            for i in range(self.pages()):
-                yield 79 + i, ("page",)
-        if what == "root" or what == "entry" and secondary == DIRECTORY:
-            for s in range(72):
-                if self.long(block, 6 + s) != 0:
-                    yield 6 + s, ("entry", block, s)
-        if what == "entry" and self.long(block, 124) != 0:
+        if role.what == "root":
+            for page in range(self.pages()):
+                yield 79 + page, Role("page")
+        if role.what == "root" or role.what == "entry" and secondary == DIRECTORY:
+            for slot in range(72):
+                if self.long(block, 6 + slot) != 0:
+                    yield 6 + slot, Role("entry", block, slot)
+        if role.what == "entry" and self.long(block, 124) != 0:
             yield 124, role
-        file = block if what == "entry" and secondary == FILE else role[1] if what == "extension" else None
+        file = self.file_of(block, role)
         if file is not None:
             if self.long(block, 2) <= 72:
-                for i in range(self.long(block, 2)):
-                    yield 77 - i, ("data", file)
+                for at in range(self.long(block, 2)):
+                    yield 77 - at, Role("data", file)
             if self.long(block, 126) != 0:
-                yield 126, ("extension", file)
+                yield 126, Role("extension", file)
 
-    def reach(self):
-        todo = [(self.root, ("root",))]
-        while todo:
-            pair = todo.pop()
-            if pair in self.reached:
+    def file_of(self, block: int, role: Role) -> Optional[int]:
+        """The file whose data this header or extension block names."""
+        if role.what == "entry" and self.long(block, 127) == FILE:
+            return block
+        return role.holder if role.what == "extension" else None
+
+    def reach(self) -> None:
+        pending = [(self.root, Role("root"))]
+        while pending:
+            block, role = pending.pop()
+            if (block, role) in self.reached:
                 continue
-            self.reached[pair] = True
-            block, role = pair
-            for i, next_role in self.places_of(block, role):
-                named = self.long(block, i)
-                self.places.append((block, i, named))
+            self.reached.add((block, role))
+            for at, next_role in self.places_of(block, role):
+                named = self.long(block, at)
+                self.places.append((block, at, named))
                 if self.inside(named):
-                    todo.append((named, next_role))
+                    pending.append((named, next_role))
                 else:
                     self.show("BadPointer", block)
 
     # ---- the rules
 
-    def show(self, kind, block):
+    def show(self, kind: str, block: int) -> None:
         self.found.add((block, KINDS.index(kind)))
 
-    def show_if(self, wrong, kind, block):
+    def show_if(self, wrong: bool, kind: str, block: int) -> None:
         if wrong:
             self.show(kind, block)
 
-    def all_faults(self):
-        if self.image[:3] != b"DOS":
+    def all_faults(self) -> List[Tuple[int, int]]:
+        if self.data[:3] != b"DOS":
             self.show("NotADosDisk", 0)
-        elif self.image[3] > 1:
+        elif self.data[3] > 1:
             self.show("UnsupportedKind", 0)
-        files = set()
         for block, role in self.reached:
-            what = role[0]
-            if what != "data" or self.ofs:
+            if role.what != "data" or self.ofs:
                 self.show_if(self.sum(block) != 0, "BadSum", block)
             self.marked_free(block)
-            if what == "root":
+            if role.what == "root":
                 self.root_block(block)
-            elif what == "entry":
-                self.entry(block, role[1], role[2])
-                if self.long(block, 127) == FILE:
-                    files.add(block)
-            elif what == "extension":
-                self.extension(block, role[1])
-            elif what == "data" and self.ofs:
+            elif role.what == "entry":
+                self.entry(block, role.holder, role.slot)
+            elif role.what == "extension":
+                self.extension(block, role.holder)
+            elif role.what == "data" and self.ofs:
                 self.show_if(self.long(block, 0) != DATA, "BadType", block)
-                self.show_if(self.long(block, 1) != role[1], "BadParent", block)
-        for file in files:
+                self.show_if(self.long(block, 1) != role.holder, "BadParent", block)
+        for file in {block for block, role in self.reached if role.what == "entry" and self.long(block, 127) == FILE}:
             self.file(file)
         self.used_twice()
         self.duplicates()
         return sorted(self.found)
 
-    def marked_free(self, block):
+    def marked_free(self, block: int) -> None:
         if self.long(self.root, 78) != 2 ** 32 - 1:
             return
         page = self.long(self.root, 79 + (block - 2) // 4064)
@@ -131,19 +143,19 @@ class Model:
             bit = self.long(page, 1 + (block - 2) % 4064 // 32) >> (block - 2) % 32 & 1
             self.show_if(bit == 1, "MarkedFree", block)
 
-    def root_block(self, block):
+    def root_block(self, block: int) -> None:
         self.show_if(self.long(block, 0) != HEADER, "BadType", block)
         self.show_if(self.long(block, 3) != 72, "BadType", block)
         self.show_if(self.long(block, 127) != ROOT, "BadType", block)
         self.show_if(self.long(block, 125) != 0, "BadParent", block)
         self.name(block)
 
-    def name(self, block):
+    def name(self, block: int) -> None:
         text = self.text(block, 432)
-        length = self.byte(block, 432)
+        length = self.length(block, 432)
         self.show_if(length == 0 or length > 30 or b"/" in text or b":" in text, "BadName", block)
 
-    def entry(self, block, directory, slot):
+    def entry(self, block: int, directory: int, slot: int) -> None:
         secondary = self.long(block, 127)
         self.show_if(self.long(block, 0) != HEADER, "BadType", block)
         self.show_if(secondary in LINKS, "LinkEntry", block)
@@ -151,17 +163,17 @@ class Model:
         self.show_if(self.long(block, 1) != block, "BadOwnKey", block)
         self.show_if(self.long(block, 125) != directory, "BadParent", block)
         self.name(block)
-        if self.byte(block, 432) <= 30:
+        if self.length(block, 432) <= 30:
             self.show_if(slot_of(self.text(block, 432)) != slot, "WrongChain", block)
         if secondary in (DIRECTORY, FILE):
-            self.show_if(self.byte(block, 328) > 79, "BadComment", block)
+            self.show_if(self.length(block, 328) > 79, "BadComment", block)
         if secondary == FILE:
             self.pointers(block)
             if self.ofs:
                 first = self.data_of(block)[:1] or [0]
                 self.show_if(self.long(block, 4) != first[0], "BadPointer", block)
 
-    def extension(self, block, file):
+    def extension(self, block: int, file: int) -> None:
         self.show_if(self.long(block, 0) != LIST, "BadType", block)
         self.show_if(self.long(block, 127) != FILE, "BadType", block)
         self.show_if(self.long(block, 1) != block, "BadOwnKey", block)
@@ -169,78 +181,79 @@ class Model:
         self.show_if(self.long(block, 2) == 0, "BadCount", block)
         self.pointers(block)
 
-    def pointers(self, block):
+    def pointers(self, block: int) -> None:
         count = self.long(block, 2)
         self.show_if(count > 72, "BadCount", block)
         self.show_if(count < 72 and self.long(block, 126) != 0, "BadCount", block)
 
-    def data_of(self, block):
+    def data_of(self, block: int) -> List[int]:
         count = self.long(block, 2)
-        return [self.long(block, 77 - i) for i in range(count)] if count <= 72 else []
+        return [self.long(block, 77 - at) for at in range(count)] if count <= 72 else []
 
-    def file(self, file):
-        headers, met = [file], {file}
+    def headers_of(self, file: int) -> List[int]:
+        """The header of a file and its extension blocks, up to the first that is none or that was met before."""
+        headers = [file]
         while True:
             link = self.long(headers[-1], 126)
-            if not self.inside(link) or link in met:
-                break
+            if not self.inside(link) or link in headers:
+                return headers
             headers.append(link)
-            met.add(link)
-        blocks = [block for header in headers for block in self.data_of(header)]
+
+    def file(self, file: int) -> None:
+        blocks = [block for header in self.headers_of(file) for block in self.data_of(header)]
         size = self.long(file, 81)
         room = 488 if self.ofs else 512
         self.show_if(len(blocks) != (size + room - 1) // room, "BadCount", file)
         if not self.ofs:
             return
-        for i, block in enumerate(blocks):
+        for at, block in enumerate(blocks):
             if not self.inside(block):
                 continue
             held = self.long(block, 3)
-            last = i + 1 == len(blocks)
-            self.show_if(self.long(block, 2) != i + 1, "BadSequence", block)
-            self.show_if(held == 0 or held > 488 or not last and held != 488, "BadCount", block)
-            self.show_if(self.long(block, 4) != (0 if last else blocks[i + 1]), "BadPointer", block)
+            is_last = at + 1 == len(blocks)
+            self.show_if(self.long(block, 2) != at + 1, "BadSequence", block)
+            self.show_if(held == 0 or held > 488 or not is_last and held != 488, "BadCount", block)
+            self.show_if(self.long(block, 4) != (0 if is_last else blocks[at + 1]), "BadPointer", block)
         if all(self.inside(block) for block in blocks):
             self.show_if(sum(self.long(block, 3) for block in blocks) != size, "BadCount", file)
 
-    def used_twice(self):
-        names = defaultdict(set)
-        for holder, i, named in self.places:
-            names[named].add((holder, i))
+    def used_twice(self) -> None:
+        names: Dict[int, Set[Tuple[int, int]]] = defaultdict(set)
+        for holder, at, named in self.places:
+            names[named].add((holder, at))
         for named, holders in names.items():
             if self.inside(named):
                 self.show_if(len(holders) > 1 or named == self.root, "BlockUsedTwice", named)
 
-    def duplicates(self):
-        names = defaultdict(set)
+    def duplicates(self) -> None:
+        names: Dict[Tuple[int, bytes], Set[int]] = defaultdict(set)
         for block, role in self.reached:
-            if role[0] == "entry" and self.byte(block, 432) <= 30:
-                names[role[1], upper(self.text(block, 432))].add(block)
+            if role.what == "entry" and self.length(block, 432) <= 30:
+                names[role.holder, upper(self.text(block, 432))].add(block)
         for blocks in names.values():
             if len(blocks) > 1:
                 for block in blocks:
                     self.show("DuplicateName", block)
 
 
-def upper(text):
-    return bytes(c - 32 if 97 <= c <= 122 else c for c in text)
+def slot_of(text: bytes) -> int:
+    hashed = len(text)
+    for letter in upper(text):
+        hashed = (13 * hashed + letter) % 2048
+    return hashed % 72
 
 
-def slot_of(text):
-    h = len(text)
-    for c in upper(text):
-        h = (13 * h + c) % 2048
-    return h % 72
+def lines_of(image: bytes) -> List[str]:
+    """The faults of an image, a line each, and `more` where there are more than are told."""
+    found = Model(image).all_faults()
+    return [f"{KINDS[kind]} {block}" for block, kind in found[:MOST]] + ["more"] * (len(found) > MOST)
 
 
-def main():
-    with open(sys.argv[1], "rb") as f:
-        found = Model(f.read()).all_faults()
-    for block, kind in found[:MOST]:
-        print(KINDS[kind], block)
-    if len(found) > MOST:
-        print("more")
+def main(words: List[str]) -> int:
+    for line in lines_of(Path(words[0]).read_bytes()):
+        print(line)
+    return 0
 
 
 if __name__ == "__main__":
-    main()
+    sys.exit(main(sys.argv[1:]))

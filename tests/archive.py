@@ -1,0 +1,702 @@
+#!/usr/bin/env python3
+"""Whole archives by the built program: many images checked at a time, every fault of an image, JSON, input without an end,
+and what is taken out of damaged images.
+
+    tests/archive.py [PROGRAM]
+
+It prints a line for each check, and at last `N passed, M failed`; the status is 1 where one failed. Without a word it tries
+the program of this repository. ROUNDS, from the environment, is how many changed images are compared with the model of the
+faults, and DAMAGED how many of each kind are taken out of.
+"""
+from __future__ import annotations
+
+import json
+import multiprocessing
+import os
+import pty
+import random
+import shutil
+import subprocess
+import sys
+import threading
+from functools import partial
+from typing import Callable, Dict, Iterable, Iterator, List, NamedTuple, Optional, Sequence, Set, Tuple
+
+sys.dont_write_bytecode = True
+
+from all_faults_model import lines_of
+from harness import BLOCK, Image, Report, Room, program_of
+
+ROUNDS = int(os.environ.get("ROUNDS", "2000"))
+DAMAGED = int(os.environ.get("DAMAGED", "5000"))
+ROOT = 880
+LARGEST = 101_602 * BLOCK
+ALL_ONES = 2**32 - 1
+# The words of `blank` for each kind.
+KINDS: List[List[str]] = [["--ffs"], []]
+NOT_BLOCKS = b"refused NotWholeBlocks 0\n"
+FIELDS = ["path", "ok", "validated", "kind", "blocks", "name", "files", "directories", "free", "faults"]
+# The bytes of files by their paths.
+Files = Dict[str, bytes]
+
+
+class Volume(Image):
+    """An image whose headers are found by their names."""
+
+    def change(self, block: int, at: int, value: int) -> None:
+        self.put(block, at, value)
+        self.settle(block)
+
+    def clear(self, block: int) -> None:
+        self.data[BLOCK * block : BLOCK * (block + 1)] = bytes(BLOCK)
+
+    def name(self, block: int) -> str:
+        return self.text(block, 432).decode("latin-1")
+
+    def header(self, name: str) -> int:
+        """The header of the one entry of this name."""
+        headers = [it for it in range(2, self.blocks) if self.long(it, 0) == 2 and self.long(it, 1) == it]
+        found = [it for it in headers if self.name(it) == name]
+        assert len(found) == 1, (name, found)
+        return found[0]
+
+    def pointers(self, block: int) -> List[int]:
+        return [self.long(block, 77 - it) for it in range(self.long(block, 2))]
+
+
+def lines_with(names: Sequence[str], told: str) -> bytes:
+    return "".join(f"{it}\t{told}\n" for it in names).encode()
+
+
+def put_files(room: Room, top: str, files: Files) -> None:
+    """Makes the host's files, in a directory of their own."""
+    shutil.rmtree(top, ignore_errors=True)
+    for path, data in files.items():
+        os.makedirs(os.path.dirname(f"{top}/{path}"), exist_ok=True)
+        room.write(f"{top}/{path}", data)
+
+
+def filled(room: Room, path: str, *kind: str) -> Files:
+    """An image with directories and files, from 0 bytes to more than an extension block holds."""
+    files = {
+        "S/startup-sequence": b"echo hello\n",
+        "Docs/empty": b"",
+        "Docs/long": random.randbytes(60_000),
+        "Docs/Deep/text": random.randbytes(3_000),
+        "top": random.randbytes(1_500),
+    }
+    put_files(room, "in", files)
+    room.done("blank", *kind, "Work", path)
+    room.done("add", path, *(f"in/{name}" for name in sorted(os.listdir("in"))))
+    return files
+
+
+# ---- many images
+
+
+def named_images(room: Room, report: Report) -> None:
+    room.done("blank", "--ffs", "Work", "good.adf")
+    room.write("bad.adf", room.content("good.adf")[:-1])
+    invalid = Volume(room.content("good.adf"))
+    invalid.change(ROOT, 78, 0)
+    room.write("invalid.adf", bytes(invalid.data))
+
+    def check(name: str, words: Sequence[str], status: int, output: bytes, *parts: str) -> None:
+        report.check(name, room.run("check", *words), status, output, *parts)
+
+    good, bad, valid = b"good.adf\tok\n", b"bad.adf\trefused NotWholeBlocks 0\n", b"invalid.adf\tok validated\n"
+    unread = "'none.adf' cannot be read"
+    check("one image", ["good.adf"], 0, b"ok\n")
+    check("one image to be validated", ["invalid.adf"], 0, b"ok validated\n")
+    check("one of a wrong size", ["bad.adf"], 3, NOT_BLOCKS, "512")
+    check("two images", ["good.adf", "invalid.adf"], 0, good + valid)
+    check("in the order of the words", ["invalid.adf", "good.adf", "invalid.adf"], 0, valid + good + valid)
+    check("one that is refused", ["good.adf", "bad.adf", "good.adf"], 3, good + bad + good)
+    check("one that is not there", ["good.adf", "none.adf", "bad.adf", "good.adf"], 2, good + bad + good, unread)
+    check("only one that is not there", ["none.adf"], 2, b"", unread)
+    check("wrong jobs", ["--jobs", "0", "good.adf"], 1, b"", "--jobs", "from 1")
+    check("jobs that are no digits", ["--jobs", "+1", "good.adf"], 1, b"", "--jobs")
+    check("no file", ["--all"], 1, b"", "FILE")
+
+
+def directories(room: Room, report: Report) -> None:
+    """Which files of a directory are taken for images, and in which order."""
+    for it in ("tree/b/deep", "tree/a.adf", "tree/empty", "elsewhere"):
+        os.makedirs(it)
+    images = ["Z.ADF", "c.hdf", "b/x.Adf", "b/deep/y.adf", "a.adf/inner.adf", ".adf"]
+    for it in [*images, "../elsewhere/far.adf", "text.txt", "b/adf", "b/x.adfs", "b/noadf.ad"]:
+        shutil.copy("good.adf", f"tree/{it}")
+    os.symlink("../elsewhere", "tree/link")
+    os.symlink("../elsewhere", "tree/link.adf")
+    os.symlink("../../good.adf", "tree/b/linked.adf")
+    os.mkfifo("tree/b/pipe.adf")
+    lines = lines_with(sorted(f"tree/{it}" for it in [*images, "b/linked.adf"]), "ok")
+    report.check("a directory", room.run("check", "tree"), 0, lines)
+    ran = room.run("check", "tree", "tree/text.txt")
+    report.check("a directory and a file of another name", ran, 0, lines + b"tree/text.txt\tok\n")
+    report.check("a directory with no image", room.run("check", "tree/empty"))
+    report.check("a link to a directory", room.run("check", "tree/link"), 2, b"", "'tree/link' cannot be read")
+    os.symlink("nowhere", "tree/dead.adf")
+    report.check("a link that leads nowhere", room.run("check", "tree"), 2, lines, "'tree/dead.adf' cannot be read")
+
+
+def put_many(room: Room) -> None:
+    """A directory with images that are accepted, damaged and cut, and a large one."""
+    os.makedirs("many/more")
+    draws = random.Random(5)
+    good = room.content("good.adf")
+    for count in range(60):
+        image = Image(good)
+        if count % 3 == 1:
+            image.put(ROOT, draws.randrange(128), draws.randrange(2**32))
+        if count % 3 == 2:
+            image.data = image.data[: draws.randrange(len(good))]
+        room.write(f"many/{'more/' if count % 2 else ''}{count}.adf", bytes(image.data))
+    room.done("blank", "--ffs", "--blocks", "50000", "Large", "many/large.hdf")
+
+
+def on_terminal(room: Room) -> Tuple[bytes, bytes]:
+    """What is printed, and what is told on a terminal, where many images are checked."""
+    shown, main_end = pty.openpty()
+    began = subprocess.Popen([str(room.program), "check", "--jobs", "2", "many"], stdout=subprocess.PIPE, stderr=main_end)
+    output = began.communicate()[0]
+    os.close(main_end)
+    told = b""
+    try:
+        while part := os.read(shown, 65_536):
+            told += part
+    except OSError:
+        pass
+    os.close(shown)
+    return output, told
+
+
+def parallel(room: Room, report: Report) -> None:
+    put_many(room)
+    every: List[List[str]] = [[], ["--all"], ["--json"], ["--all", "--json"]]
+    for words in every:
+        one = room.run("check", "--jobs", "1", *words, "many", "good.adf")
+        for jobs in ["2", "4", "61", "1000"]:
+            report.same(f"check {' '.join(words)} with {jobs} jobs", room.run("check", "--jobs", jobs, *words, "many", "good.adf"), one)
+        report.same(f"check {' '.join(words)} with as many jobs as processors", room.run("check", *words, "many", "good.adf"), one)
+    output, told = on_terminal(room)
+    report.expect("how many of how many on a terminal", b"2 of 61 images" in told, f"told {told[:200]!r}")
+    report.same("what is printed beside a terminal", output, room.run("check", "--jobs", "1", "many").output)
+
+
+# ---- what is told in JSON
+
+
+def accepted_objects(room: Room, report: Report) -> None:
+    files = filled(room, "filled.adf", "--ffs")
+    told = json.loads(room.run("check", "--json", "filled.adf").output)
+    report.same("the fields of an object, in their order", list(told), FIELDS)
+    counted = room.run("info", "filled.adf").output.split()
+    wanted = {
+        "path": "filled.adf",
+        "ok": True,
+        "validated": False,
+        "kind": "DOS\\1",
+        "blocks": 1760,
+        "name": "Work",
+        "files": len(files),
+        "directories": 3,
+        "free": int(counted[3]) - int(counted[4]),
+        "faults": [],
+    }
+    report.same("the object of an image", told, wanted)
+    room.done("blank", "--letters", "--hd", "Wörk\u00ff", "letters.adf")
+    told = json.loads(room.run("check", "--json", "letters.adf").output)
+    report.same("a name in letters", (told["name"], told["kind"], told["blocks"]), ("Wörk\u00ff", "DOS\\0", 3520))
+    hard = "odd \"name\" \\ \t ü.adf"
+    shutil.copy("good.adf", hard)
+    report.same("a path with all that JSON escapes", json.loads(room.run("check", "--json", hard).output)["path"], hard)
+
+
+def refused_objects(room: Room, report: Report) -> None:
+    image = Volume(room.content("filled.adf"))
+    block = image.header("startup-sequence")
+    image.put(block, 5, image.long(block, 5) + 16)
+    room.write("sum.adf", bytes(image.data))
+    told = json.loads(room.run("check", "--json", "sum.adf").output)
+    wanted: Dict[str, object] = {
+        "path": "sum.adf",
+        "ok": False,
+        "validated": False,
+        "kind": "DOS\\1",
+        "blocks": 1760,
+        "name": None,
+        "files": None,
+        "directories": None,
+        "free": None,
+        "faults": [{"kind": "BadSum", "block": block, "path": "S/startup-sequence"}],
+    }
+    report.same("the object of an image that is refused", told, wanted)
+    text = f"block {block}, in Work:S/startup-sequence: the longs of the block sum to 00000010, and not to 0"
+    report.check("what a person is told of it", room.run("check", "sum.adf"), 3, f"refused BadSum {block}\n".encode(), text)
+    told = json.loads(room.run("check", "--json", "bad.adf").output)
+    fault = {"kind": "NotWholeBlocks", "block": 0, "path": None}
+    found = (told["ok"], told["kind"], told["blocks"], told["faults"])
+    report.same("the object of a wrong size", found, (False, None, None, [fault]))
+    ran = room.run("check", "--json", "filled.adf", "none.adf", "sum.adf")
+    named = [json.loads(line)["path"] for line in ran.output.splitlines()]
+    report.same("objects of several", named, ["filled.adf", "sum.adf"])
+    report.same("their status", ran.status, 2)
+
+
+# ---- input without an end
+
+
+def bounded(room: Room, report: Report) -> None:
+    report.check("a device that never ends", room.run("check", "/dev/zero"), 3, NOT_BLOCKS, "512")
+    for words in (["info"], ["list"], ["print"]):
+        more = ["x"] if words == ["print"] else []
+        report.check(f"{words[0]} of it", room.run(*words, "/dev/zero", *more), 3, NOT_BLOCKS)
+    report.check("extract of it", room.run("extract", "--to", "zero", "/dev/zero"), 3, NOT_BLOCKS)
+    report.check("extract --damaged of it", room.run("extract", "--damaged", "--to", "zero", "/dev/zero"), 3, NOT_BLOCKS)
+    report.check("serve over it", room.run("serve", "/dev/zero", "good.adf"), 3, NOT_BLOCKS)
+    room.write("sparse.adf")
+    os.truncate("sparse.adf", 2**40)
+    report.check("a file of a terabyte", room.run("check", "sparse.adf"), 3, b"refused TooManyBlocks 0\n", "101,602")
+    os.truncate("sparse.adf", 2**40 + 1)
+    report.check("one of a byte more", room.run("check", "sparse.adf"), 3, NOT_BLOCKS, "512")
+    os.remove("sparse.adf")
+    good = room.content("good.adf")
+    for size, status, line in ((len(good), 0, b"ok\n"), (0, 3, b"refused TooFewBlocks 0\n"), (LARGEST + BLOCK, 3, NOT_BLOCKS)):
+        os.mkfifo("stream")
+        feeder = threading.Thread(target=feed, args=("stream", good, size))
+        feeder.start()
+        ran = room.run("check", "stream")
+        feeder.join()
+        os.remove("stream")
+        report.same(f"a stream of {size} bytes", (ran.status, ran.output), (status, line))
+
+
+def feed(path: str, data: bytes, size: int) -> None:
+    """Writes the data, and then zeros up to a size, as far as they are taken."""
+    try:
+        with open(path, "wb", buffering=0) as file:
+            file.write(data[:size])
+            for _ in range((size - len(data)) // 65_536 + 1 if size > len(data) else 0):
+                file.write(bytes(65_536))
+    except BrokenPipeError:
+        pass
+
+
+# ---- every fault of an image
+
+
+def many_faults(room: Room, report: Report) -> None:
+    """A volume with more files than faults are told, the sum of each of them wrong."""
+    room.done("blank", "--ffs", "--blocks", "4000", "Full", "full.hdf")
+    put_files(room, "thousand", {f"d/f{count}": b"" for count in range(1_050)})
+    room.done("add", "full.hdf", "thousand/d")
+    full = Image(room.content("full.hdf"))
+    for block in range(2, 4000):
+        if full.long(block, 0) == 2 and full.long(block, 127) == 2**32 - 3:
+            full.put(block, 5, full.long(block, 5) + 1)
+    room.write("thousand.hdf", bytes(full.data))
+    ran = room.run("check", "--all", "thousand.hdf")
+    lines = ran.output.splitlines()
+    found = (ran.status, len(lines), lines[-1], {line.split()[1] for line in lines[:-1]})
+    report.same("a thousand faults and more", found, (3, 1001, b"more", {b"BadSum"}))
+    ran = room.run("check", "--all", "thousand.hdf", "good.adf")
+    report.same("that of several", ran.output.splitlines()[1000:], [b"thousand.hdf\tmore", b"good.adf\tok"])
+    report.check("every fault of an image that shows none", room.run("check", "--all", "filled.adf"), 0, b"ok\n")
+
+
+def put_changed(room: Room, good: bytes) -> None:
+    """A directory with images of which a few longs are changed."""
+    draws = random.Random(11)
+    used = [it for it in range(2, 1760) if any(good[BLOCK * it : BLOCK * it + BLOCK])]
+    os.makedirs("changed")
+    for count in range(ROUNDS):
+        image = Image(good)
+        for _ in range(draws.randrange(1, 4)):
+            block = draws.choice(used)
+            at = draws.choice([0, 1, 2, 3, 4, 5, 77, 76, 81, 108, 124, 125, 126, 127, draws.randrange(128)])
+            edges = [0, 1, 2, 3, 8, 16, 72, 73, 880, 881, 1759, 1760, 2**32 - 3]
+            image.put(block, at, draws.choice([*edges, draws.choice(used), draws.randrange(2**32)]))
+            if draws.random() < 0.7 and block != 881:
+                image.settle(block)
+        room.write(f"changed/{count:05}.adf", bytes(image.data))
+
+
+def model(room: Room, report: Report) -> None:
+    """Compares `check --all` with the model on images with a few changed longs, many at a time."""
+    put_changed(room, room.content("filled.adf"))
+    told: Dict[str, List[str]] = {}
+    for line in room.run("check", "--all", "changed").output.decode().splitlines():
+        path, words = line.split("\t")
+        told.setdefault(path, []).append(words)
+    with multiprocessing.Pool() as pool:
+        expected = pool.map(partial(faults_by_model, room), sorted(told), chunksize=16)
+    fault = None if len(told) == ROUNDS else f"{len(told)} images of {ROUNDS} were told of"
+    for path, wanted in zip(sorted(told), expected):
+        found = [] if told[path][0].startswith("ok") else [line.removeprefix("refused ") for line in told[path]]
+        if found != wanted:
+            fault = f"{path}: {found[:5]} where the model has {wanted[:5]}"
+            break
+    report.hold(f"every fault of {ROUNDS} changed images, as the model has them", fault)
+
+
+def faults_by_model(room: Room, path: str) -> List[str]:
+    """The faults of an image as the model has them, as the lines of the program have them behind `refused`."""
+    return lines_of(room.content(path))
+
+
+# ---- damaged images
+
+
+class Taken(NamedTuple):
+    """What is taken out of a damaged image: the status, what is told by path, and the files that are written."""
+
+    status: int
+    lines: Dict[str, str]
+    written: Files
+
+
+def taken(room: Room, image: Image, *words: str) -> Taken:
+    shutil.rmtree("out", ignore_errors=True)
+    room.write("damaged.adf", bytes(image.data))
+    ran = room.run("extract", "--damaged", "--to", "out", *words, "damaged.adf")
+    lines = {}
+    for line in ran.output.decode().splitlines():
+        state, path = line.rsplit(" ", 1)
+        lines[path] = state
+    paths = [os.path.join(top, name) for top, _, names in os.walk("out") for name in names]
+    return Taken(ran.status, lines, {os.path.relpath(it, "out"): room.content(it) for it in paths})
+
+
+class Salvage:
+    """A volume with files in it, whose damages are tried."""
+
+    def __init__(self, room: Room, report: Report, kind: Sequence[str]) -> None:
+        self.room, self.report = room, report
+        self.is_ffs = bool(kind)
+        self.title = f"salvage {kind[0] if kind else '--ofs'}"
+        self.files = filled(room, "filled.adf", *kind)
+        self.good = room.content("filled.adf")
+
+    def others(self, files: Files, path: str) -> Files:
+        return {name: data for name, data in files.items() if name != path}
+
+    def accepted(self) -> None:
+        wanted = Taken(0, {name: "whole" for name in self.files}, self.files)
+        self.report.same(f"{self.title}: of an accepted image all is whole", taken(self.room, Volume(self.good)), wanted)
+
+    def lost_data_block(self) -> None:
+        image = Volume(self.good)
+        image.clear(image.pointers(image.header("long"))[3])
+        told = taken(self.room, image)
+        hole = bytearray(self.files["Docs/long"])
+        hole[3 * 488 : 4 * 488] = bytes(488)
+        found = (told.status, told.lines["Docs/long"], told.written["Docs/long"])
+        self.report.same(f"{self.title}: a data block that is lost", found, (3, "broken 1", bytes(hole)))
+        others = self.others(told.written, "Docs/long")
+        self.report.same(f"{self.title}: the other files", others, self.others(self.files, "Docs/long"))
+
+    def lost_root(self) -> None:
+        image = Volume(self.good)
+        image.clear(ROOT)
+        told = taken(self.room, image)
+        found = (told.status, sorted(told.written.values()))
+        self.report.same(f"{self.title}: a lost root", found, (3, sorted(self.files.values())))
+        are_lost = all(path.startswith("lost+found/") for path in told.written)
+        self.report.expect(f"{self.title}: all is found", are_lost, sorted(told.written))
+
+    def cut_chains(self) -> None:
+        image = Volume(self.good)
+        docs = image.header("Docs")
+        for slot in range(6, 78):
+            if image.long(docs, slot):
+                image.put(docs, slot, 0xFFFF_FFF0)
+        image.settle(docs)
+        told = taken(self.room, image)
+        found = (told.status, sorted(told.written.values()))
+        self.report.same(f"{self.title}: cut chains", found, (3, sorted(self.files.values())))
+        self.report.expect(f"{self.title}: under the parent's path", "lost+found/Docs/long" in told.written, sorted(told.written))
+
+    def shared_block(self) -> None:
+        image = Volume(self.good)
+        image.change(image.header("top"), 77, image.pointers(image.header("text"))[0])
+        told = taken(self.room, image)
+        # In OFS the block itself says whose it is.
+        wanted = (3, "broken", "broken" if self.is_ffs else "whole", "whole")
+        found = (told.status, told.lines["top"].split()[0], told.lines["Docs/Deep/text"].split()[0], told.lines["Docs/long"])
+        self.report.same(f"{self.title}: two files on one block are not whole", found, wanted)
+
+    def lost_extension(self) -> None:
+        image = Volume(self.good)
+        image.change(image.header("long"), 126, 0)
+        told = taken(self.room, image)
+        found = (told.status, told.lines["Docs/long"].split()[0])
+        self.report.same(f"{self.title}: a missing extension block", found, (3, "broken"))
+        first = 72 * (512 if self.is_ffs else 488)
+        self.report.same(f"{self.title}: its first blocks", told.written["Docs/long"][:first], self.files["Docs/long"][:first])
+
+    def noted(self) -> None:
+        told = taken(self.room, Volume(self.good), "--meta")
+        notes = [f"{name}.uaem" for name in [*self.files, "S", "Docs", "Docs/Deep"]]
+        self.report.same(f"{self.title}: notes beside files", sorted(told.written), sorted([*self.files, *notes]))
+
+
+def salvage(room: Room, report: Report) -> None:
+    for kind in KINDS:
+        tried = Salvage(room, report, kind)
+        tried.accepted()
+        if not tried.is_ffs:
+            tried.lost_data_block()
+        tried.lost_root()
+        tried.cut_chains()
+        tried.shared_block()
+        tried.lost_extension()
+        tried.noted()
+
+
+# ---- one damage alone, with files around it
+
+
+def based(room: Room, path: str, kind: Sequence[str], size: int) -> Files:
+    """An image with the directories A and DP in blocks 2 and 3, the file A/f of a size in block 4, and files around these."""
+    files = {
+        "A/f": random.randbytes(size),
+        "S/startup-sequence": b"echo hello\n",
+        "S/Deep/text": random.randbytes(3_000),
+        "S/empty": b"",
+        "top": random.randbytes(40_000),
+    }
+    put_files(room, "around", files)
+    room.done("blank", *kind, "Work", path)
+    room.done("mkdir", path, "A", "DP")
+    room.done("add", "--to", "A", path, "around/A/f")
+    room.done("add", path, "around/S", "around/top")
+    return files
+
+
+class Damage(NamedTuple):
+    """A long of a block that is another, what the check may say of that, and whether A/f is whole. The block's sum is then
+    settled or not."""
+
+    name: str
+    block: int
+    at: int
+    value: int
+    answers: List[str]
+    is_whole: bool = True
+    is_settled: bool = True
+
+
+def damages_of(good: Volume, is_ffs: bool) -> List[Damage]:
+    name = good.long(ROOT, 108) & 0xFF_FFFF
+    extension, second = good.long(4, 126), good.long(4, 76)
+    itself = [f"BadCount {extension}", f"BlockUsedTwice {extension}"]
+    every = [
+        Damage("no disk of DOS", 0, 0, good.long(0, 0) & 0xFF_FFFF, ["NotADosDisk 0"], True, False),
+        Damage("size of the table", ROOT, 3, 71, ["BadType 880"]),
+        Damage("type of an extension block", extension, 0, 2, [f"BadType {extension}"], False),
+        Damage("own key of a directory", 2, 1, 3, ["BadOwnKey 2"]),
+        Damage("parent of an extension block", extension, 125, ROOT, [f"BadParent {extension}"], False),
+        Damage("a slot that is too low", ROOT, 6, 1, ["BadPointer 880"]),
+        Damage("a slot that is too high", ROOT, 6, 1_760, ["BadPointer 880"]),
+        Damage("a chain that goes round", 3, 124, 2, ["BlockUsedTwice 2"]),
+        Damage("another letter", 2, 108, 0x0142_0000, ["WrongChain 2"]),
+        Damage("a name twice", 3, 108, 0x0161_0000, ["DuplicateName 2", "DuplicateName 3"]),
+        Damage("a root without a name", ROOT, 108, name, ["BadName 880"]),
+        Damage("a root with a long name", ROOT, 108, name | 31 << 24, ["BadName 880"]),
+        Damage("a long comment", 2, 82, 80 << 24, ["BadComment 2"]),
+        Damage("an extension block that names itself", extension, 126, extension, itself, False),
+        Damage("a link", 3, 127, 4, ["LinkEntry 3"]),
+        Damage("the root's sum", ROOT, 5, good.long(ROOT, 5) + 1, ["BadSum 880"], True, False),
+    ]
+    if is_ffs:
+        kind = Damage("another kind of DOS", 0, 0, 0x444F_5307, ["UnsupportedKind 0"], True, False)
+        return [*every, kind, Damage("a size of fewer blocks", 4, 81, 36_864, ["BadCount 4"], False)]
+    parent = Damage("header of a data block", second, 1, 2, [f"BadParent {second}"], False)
+    return [*every, parent, Damage("number of a data block", second, 2, 1, [f"BadSequence {second}"], False)]
+
+
+def rows(room: Room, report: Report) -> None:
+    """What the check says of each damage, and what is taken out then: whether A/f is whole, and all around it as it was."""
+    sizes: List[Tuple[List[str], int]] = [(["--ffs"], 36_865), ([], 35_137)]
+    for kind, size in sizes:
+        files = based(room, "based.adf", kind, size)
+        good = Volume(room.content("based.adf"))
+        report.same(f"{kind} the base", (good.name(2), good.name(3), good.name(4)), ("A", "DP", "f"))
+        for damage in damages_of(good, bool(kind)):
+            image = Volume(good.data)
+            image.put(damage.block, damage.at, damage.value)
+            if damage.is_settled:
+                image.settle(damage.block)
+            try_damage(room, report, f"{kind[0] if kind else '--ofs'}, {damage.name}", image, files, damage)
+
+
+def try_damage(room: Room, report: Report, name: str, image: Volume, files: Files, damage: Damage) -> None:
+    told = taken(room, image)
+    ran = room.run("check", "damaged.adf")
+    line = ran.output.decode().removeprefix("refused ").rstrip("\n")
+    is_said = ran.status == 3 and line in damage.answers
+    report.expect(f"{name}: what the check says", is_said, f"{ran[:2]} where {damage.answers} is expected")
+    states = {path.rsplit("/", 1)[-1]: state for path, state in told.lines.items()}
+    whole = sorted(data for path, data in told.written.items() if states[path.rsplit("/", 1)[-1]].endswith("whole"))
+    wanted = sorted(data for path, data in files.items() if damage.is_whole or path != "A/f")
+    report.same(f"{name}: what is whole", [len(it) for it in whole], [len(it) for it in wanted])
+    report.expect(f"{name}: its bytes", whole == wanted, "other bytes than were there")
+    is_broken = states["f"].split()[-2:-1] == ["broken"]
+    status = 3 if "found" in str(states) or not damage.is_whole else 0
+    report.same(f"{name}: the rest is broken", (is_broken, told.status), (not damage.is_whole, status))
+
+
+# ---- damage by chance and in turn: what is told as whole has the bytes that were there
+
+
+class Struck(NamedTuple):
+    """A damaged image: what it is called, its bytes, the files that were there, and in FFS the sizes of those whose data was
+    struck, which no sum shows."""
+
+    number: object
+    data: bytes
+    files: Files
+    sizes: Set[int]
+
+
+def untrue(room: Room, job: Struck) -> Optional[str]:
+    """What is wrong with what is taken out of one damaged image: a file that is told as whole with other bytes than a file
+    had, but in FFS for one whose data was struck, or a status that is none."""
+    at = f"damaged{os.getpid()}"
+    shutil.rmtree(at, ignore_errors=True)
+    room.write(f"{at}.adf", job.data)
+    ran = room.run("extract", "--damaged", "--to", at, f"{at}.adf")
+    if ran.status not in (0, 3) or ran.texts:
+        return f"image {job.number}: status {ran.status}, {ran.texts[:200]!r}"
+    for line in ran.output.split(b"\n"):
+        if line.startswith((b"whole ", b"found whole ")):
+            path = os.path.join(at, os.fsdecode(line.split(b"whole ", 1)[1]))
+            if os.path.isdir(path):
+                continue
+            found = room.content(path)
+            if found not in job.files.values() and len(found) not in job.sizes:
+                return f"image {job.number}: {path} is told as whole with other bytes"
+    return None
+
+
+def mistaken(room: Room, job: Struck) -> Optional[str]:
+    """What is wrong with the answer to one damaged image, over which no packet is put: it is refused and nothing is written,
+    or it is accepted and written as it was, but where its root says that the bitmap is not valid."""
+    at = f"changed{os.getpid()}"
+    room.write(f"{at}.adf", job.data)
+    room.write(f"{at}.script")
+    room.write(f"{at}.out")
+    ran = room.run("serve", "--out", f"{at}.out", f"{at}.adf", f"{at}.script")
+    written = room.content(f"{at}.out")
+    if ran.status == 3:
+        is_told = ran.output.startswith(b"refused ") and written == b""
+        return None if is_told else f"image {job.number}: refused as {ran.output!r}, {len(written)} bytes written"
+    is_valid = Image(job.data).long(len(job.data) // BLOCK // 2, 78) == ALL_ONES
+    if ran != (0, b"", b"") or len(written) != len(job.data) or is_valid and written != job.data:
+        return f"image {job.number}: status {ran.status}, {ran.output[:200]!r}, {ran.texts[:200]!r}, or other bytes than it had"
+    return None
+
+
+class Damages:
+    """The damages of one volume, and of each data block the size of its file."""
+
+    def __init__(self, room: Room, report: Report, kind: Sequence[str]) -> None:
+        self.room, self.report = room, report
+        self.is_ffs = bool(kind)
+        self.files = filled(room, "damages.adf", *kind, "--blocks", "200")
+        self.good = room.content("damages.adf")
+        self.holders = self.data_holders()
+
+    def data_holders(self) -> Dict[int, int]:
+        image = Volume(self.good)
+        held = {}
+        for path, data in self.files.items():
+            block = image.header(path.rsplit("/", 1)[-1])
+            while block:
+                for pointer in image.pointers(block):
+                    held[pointer] = len(data)
+                block = image.long(block, 126)
+        return held
+
+    def struck(self, number: object, data: bytes, blocks: Iterable[int] = ()) -> Struck:
+        """An image where these blocks were struck."""
+        sizes = {self.holders[it] for it in blocks if it in self.holders and self.is_ffs}
+        return Struck(number, data, self.files, sizes)
+
+    def noise(self) -> Iterator[Struck]:
+        """One track after another, 22 blocks, is noise."""
+        for number, first in enumerate(range(2, len(self.good) // BLOCK - 22, 22)):
+            data = bytearray(self.good)
+            data[BLOCK * first : BLOCK * (first + 22)] = random.Random(number).randbytes(22 * BLOCK)
+            yield self.struck(number, bytes(data), range(first, first + 22))
+
+    def changed(self) -> Iterator[Struck]:
+        """One to eight bytes behind the boot blocks are changed."""
+        for number in range(DAMAGED):
+            chance = random.Random(number)
+            data = bytearray(self.good)
+            places = [chance.randrange(2 * BLOCK, len(data)) for _ in range(chance.randint(1, 8))]
+            for place in places:
+                data[place] ^= chance.randint(1, 255)
+            yield self.struck(number, bytes(data), [it // BLOCK for it in places])
+
+    def swept(self) -> Iterator[Struck]:
+        """Each long of the root, the page, each header, the extension block and a data block is another; in OFS, where each
+        block says whose it is, with the sum set right too."""
+        image = Volume(self.good)
+        root = image.blocks // 2
+        page = image.long(root, 79)
+        headers = [it for it in range(2, image.blocks) if image.long(it, 1) == it and image.long(it, 0) in (2, 16)]
+        of_data = [] if self.is_ffs else [image.pointers(image.header("long"))[1]]
+        for block in [root, page, *headers, *of_data]:
+            for at in range(128):
+                for value in (0, image.long(block, at) + 1, ALL_ONES):
+                    is_left = self.is_ffs or at == 5 or block in of_data and at > 5
+                    for is_settled in [False] if is_left else [False, True]:
+                        other = Volume(self.good)
+                        other.put(block, at, value)
+                        if is_settled:
+                            other.settle(block, 0 if block == page else 5)
+                        yield self.struck((block, at, value, is_settled), bytes(other.data))
+
+    def all_true(self, name: str, jobs: Iterable[Struck], fault_in: Callable[[Room, Struck], Optional[str]] = untrue) -> None:
+        with multiprocessing.Pool() as pool:
+            faults = [it for it in pool.imap_unordered(partial(fault_in, self.room), jobs, 50) if it]
+        self.report.hold(name, f"{len(faults)}, as {faults[0]}" if faults else None)
+
+
+def damages(room: Room, report: Report) -> None:
+    for kind in KINDS:
+        said = kind[0] if kind else "--ofs"
+        tried = Damages(room, report, kind)
+        tried.all_true(f"salvage {said}: each track that is noise", tried.noise())
+        tried.all_true(f"salvage {said}: {DAMAGED} volumes with a few changed bytes", tried.changed())
+        tried.all_true(f"serve {said}: {DAMAGED} volumes with a few changed bytes", tried.changed(), mistaken)
+        tried.all_true(f"salvage {said}: each long that is another", tried.swept())
+
+
+def checks(room: Room, report: Report) -> None:
+    random.seed(3)
+    named_images(room, report)
+    directories(room, report)
+    parallel(room, report)
+    accepted_objects(room, report)
+    refused_objects(room, report)
+    bounded(room, report)
+    many_faults(room, report)
+    model(room, report)
+    salvage(room, report)
+    rows(room, report)
+    damages(room, report)
+
+
+def main(words: List[str]) -> int:
+    program, report = program_of(words), Report()
+    with Room(program) as room:
+        report.part("the checks", partial(checks, room, report))
+    return report.end()
+
+
+if __name__ == "__main__":
+    sys.exit(main(sys.argv[1:]))

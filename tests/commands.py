@@ -1,0 +1,699 @@
+#!/usr/bin/env python3
+"""Runs the built program with each of its commands on real files, and holds its output, its texts and its exit status
+against what is expected.
+
+    tests/commands.py [PROGRAM]
+
+It prints a line for each check, and at last `N passed, M failed`; the status is 1 where one failed. Without a word the program
+is that of this repository, built first if need be. Scripts on standard input are tried by tests/cases.
+"""
+from __future__ import annotations
+
+import fcntl
+import os
+import re
+import shlex
+import shutil
+import sys
+from functools import partial
+from pathlib import Path
+from typing import Callable, Dict, List, NamedTuple, Optional, Sequence, Set, Tuple, Union
+
+sys.dont_write_bytecode = True
+
+from harness import BLOCK, TOP, Image, Ran, Report, Room, fault_of, program_of, run
+
+COMMANDS = "blank info check list print extract add mkdir delete rename protect comment relabel boot serve".split()
+# The commands that take an image beside `info`, `check`, `list` and `serve`, with words for it.
+ON_IMAGES = [
+    *("print IMAGE x", "extract IMAGE", "add IMAGE x", "mkdir IMAGE x", "delete IMAGE x", "rename IMAGE x y"),
+    *("protect IMAGE x rwed", "comment IMAGE x y", "relabel IMAGE x", "boot IMAGE"),
+]
+AT = "--days 1 --minutes 0 --ticks 0"
+# An entry of `list` that has its date from there.
+MADE = "     dir ---rwed 1978-01-02 00:00:00.00 "
+WRITTEN = "1.1 -1 0\n1.2 1 0\n1.3 -1 0\n"
+UNWRITTEN = "standard output cannot be written"
+# How long a run with growths refused may take, in seconds.
+LONGEST_OF_GROWTHS = 3600
+HELD = "another command works on it"
+
+
+class Row(NamedTuple):
+    """A run of the program, and what is wanted of it."""
+
+    name: str
+    words: List[str]
+    status: int
+    output: bytes
+    parts: Tuple[str, ...]
+
+
+def row(name: str, words: Union[str, Sequence[str]], status: int = 0, output: Union[str, bytes] = b"", *parts: str) -> Row:
+    """A row whose words may stand in one text, as in a shell."""
+    separate = shlex.split(words) if isinstance(words, str) else list(words)
+    return Row(name, separate, status, output.encode() if isinstance(output, str) else output, parts)
+
+
+def wrong(name: str, words: Union[str, Sequence[str]], *parts: str) -> Row:
+    """A row with wrong words: the texts have these parts."""
+    return row(name, words, 1, b"", *parts)
+
+
+def lacking(name: str, words: Union[str, Sequence[str]], *parts: str) -> Row:
+    """A row with a file that cannot be had: the texts have these parts."""
+    return row(name, words, 2, b"", *parts)
+
+
+class Commands(Room):
+    """The room in which the commands are tried, with what is told of them."""
+
+    def __init__(self, program: Path, report: Report) -> None:
+        super().__init__(program)
+        self.report = report
+
+    def rows(self, *rows: Row) -> None:
+        for it in rows:
+            self.report.check(it.name, self.run(*it.words), it.status, it.output, *it.parts)
+
+    def stays(self, name: str, file: str, before: bytes) -> None:
+        self.report.expect(name, self.content(file) == before, f"{file} has other bytes")
+
+    def absent(self, name: str, file: str) -> None:
+        self.report.expect(name, not os.path.exists(file), f"there is a file {file}")
+
+
+def drawn(blank: bytes, longs: str, sums: str = "") -> bytes:
+    """An image in which each long `BLOCK.LONG=VALUE` is written, and then each `BLOCK.LONG` of `sums` is settled: all longs
+    of its block add up to 0."""
+    image = Image(blank)
+    for it in longs.split():
+        place, _, value = it.partition("=")
+        block, at = place.split(".")
+        image.put(int(block), int(at), int(value, 0))
+    for it in sums.split():
+        block, at = it.split(".")
+        image.settle(int(block), int(at))
+    return bytes(image.data)
+
+
+def poked(blank: bytes, block: int, long: int, written: bytes) -> bytes:
+    """An image with these bytes over those from this long on."""
+    at = BLOCK * block + 4 * long
+    return blank[:at] + written + blank[at + len(written) :]
+
+
+# ---- Blank images ----
+
+
+def blank_images(tried: Commands) -> None:
+    """Blank images, and what is told of them. The other parts take ofs.adf and ffs.adf."""
+    tried.rows(
+        row("blank", "blank Work ofs.adf"),
+        row("check of blank", "check ofs.adf", 0, "ok\n"),
+        row("info of blank", "info ofs.adf", 0, "-1 0 82 1758 2 488 444f5300\nboot no\n"),
+        row("list of blank", "list ofs.adf", 0, "Volume Work\n"),
+        row("blank --ffs", "blank --ffs Work ffs.adf"),
+        row("info of blank --ffs", "info ffs.adf", 0, "-1 0 82 1758 2 512 444f5301\nboot no\n"),
+        row("blank --hd", "blank --hd Work hd.adf"),
+        row("info of blank --hd", "info hd.adf", 0, "-1 0 82 3518 2 488 444f5300\nboot no\n"),
+        row("blank --blocks 16", "blank --blocks 16 Work small.adf"),
+        row("info of blank --blocks 16", "info small.adf", 0, "-1 0 82 14 2 488 444f5300\nboot no\n"),
+        row("blank --blocks 101602", "blank --ffs --blocks 101602 Work large.adf"),
+        row("info of blank --blocks 101602", "info large.adf", 0, "-1 0 82 101600 26 512 444f5301\nboot no\n"),
+        row("blank over an image", "blank --ffs --days 1 --minutes 2 --ticks 3 Other hd.adf"),
+        row("list of the image written over", "list hd.adf", 0, "Volume Other\n"),
+        row("blank of 4,067 blocks", "blank --blocks 4067 Work pages.adf"),
+        row("info of 4,067 blocks", "info pages.adf", 0, "-1 0 82 4065 3 488 444f5300\nboot no\n"),
+    )
+    tried.report.same("blank: 901,120 bytes", len(tried.content("ofs.adf")), 901120)
+    os.remove("large.adf")
+
+
+def moments(tried: Commands) -> None:
+    """The dates of a blank image stand at the longs 105, 118 and 121 of its root, which is block 8 of 16."""
+    tried.rows(row("blank with a moment", "blank --blocks 16 --days 1 --minutes 2 --ticks 3 Work moment.adf"))
+    image = Image(tried.content("moment.adf"))
+    for long in (105, 118, 121):
+        tried.report.same(f"the moment at long {long}", [image.long(8, long + it) for it in range(3)], [1, 2, 3])
+
+
+# ---- Wrong words: the text says which word is wrong, and what is expected ----
+
+
+def wrong_words(tried: Commands) -> None:
+    tried.rows(
+        wrong("a wrong command", "bank", "'bank'", "Usage", "COMMAND"),
+        wrong("an empty word", "''", "''", "Usage"),
+        wrong("a word for none", "--", "Usage"),
+        wrong("a word that is not UTF-8", ["check", "a\udcffb.adf"], "word 2, 'a", "is not UTF-8"),
+        wrong("help of no command", "help", "Usage", "COMMAND"),
+        wrong("help of serve by words", "help serve", "SCRIPT"),
+        wrong("no version", "--version", "'--version'"),
+        wrong("help", "--help", "Usage", *COMMANDS),
+        *(wrong(f"help of {it}", [it, "--help"], f"Usage: adf_serve {it}", f"  adf_serve {it} ") for it in COMMANDS),
+        wrong("blank without a file", "blank Work", "FILE", "Usage: adf_serve blank"),
+        wrong("a wrong word goes before a refused name", "blank --blocks 15 a/b none/x.adf", "'15'", "16"),
+        wrong("a number without its prefix", "serve --turns 0x10 a b", "'0x10' for '--turns <N>'"),
+        wrong("an option of another command", "serve a b --blocks 16", "'--blocks'"),
+        wrong("blank with a wrong option", "blank --loud Work a", "'--loud'", "Usage"),
+        wrong("blank --hd --blocks", "blank --hd --blocks 1760 Work a", "'--hd'", "'--blocks"),
+        wrong("serve without an image", "serve", "IMAGE", "SCRIPT", "Usage"),
+        wrong("serve without a script", "serve ffs.adf", "SCRIPT", "Usage"),
+        wrong("serve with a wrong option", "serve --loud ffs.adf a", "'--loud'", "Usage"),
+        wrong("serve --out twice", "serve --out a --out b ffs.adf a", "--out", "Usage"),
+        wrong("serve --out without a file", "serve ffs.adf a --out", "--out"),
+    )
+    for command in ("info", "check"):
+        tried.rows(
+            wrong(f"{command} without a file", [command], "FILE", "Usage"),
+            wrong(f"{command} with a wrong option", [command, "--loud", "a"], "'--loud'", "Usage"),
+        )
+
+
+def wrong_numbers(tried: Commands) -> None:
+    for number in ("15", "101603", "-5", "+16", "1e3", "4294967312", "18446744073709551632"):
+        words = ["blank", f"--blocks={number}", "Work", "a"]
+        tried.rows(wrong(f"blank --blocks {number}", words, number, "from 16 to 101602"))
+    for option in ("days", "minutes", "ticks"):
+        for number in ("4294967296", "-1", "+1", "1.5", "", "many"):
+            parts = f"'{number}' for '--{option}", "from 0 to 4294967295"
+            tried.rows(
+                wrong(f"blank --{option} '{number}'", ["blank", f"--{option}={number}", "Work", "a"], *parts),
+                wrong(f"serve --{option} '{number}'", ["serve", f"--{option}={number}", "a", "b"], *parts),
+            )
+    for number in ("18446744073709551616", "-1", "+1", "1.5", "", "many"):
+        words = ["serve", f"--turns={number}", "a", "b"]
+        tried.rows(wrong(f"serve --turns '{number}'", words, f"'{number}' for '--turns", "from 0 to 18446744073709551615"))
+    tried.absent("wrong words write nothing", "a")
+
+
+def wrong_words_for_files(tried: Commands) -> None:
+    """Words of the commands that move files: what is missing, and what is too much."""
+    for command in ("list", "extract", "print", "add", "mkdir", "delete", "rename", "protect", "comment", "relabel", "boot"):
+        tried.rows(
+            wrong(f"{command} without an image", [command], "IMAGE", "Usage"),
+            wrong(f"{command} with a wrong option", [command, "--loud", "a", "b", "c"], "'--loud'", "Usage"),
+        )
+    for words in ("print a", "mkdir a", "delete a"):
+        tried.rows(wrong(f"{words} without a path", words, "PATH", "Usage"))
+    tried.rows(
+        wrong("add without a file", "add a", "FILE", "Usage"),
+        wrong("rename without a new path", "rename a b", "NEW", "Usage"),
+        wrong("protect without letters", "protect a b", "LETTERS", "Usage"),
+        wrong("comment without a text", "comment a b", "TEXT", "Usage"),
+        wrong("relabel without a name", "relabel a", "NAME", "Usage"),
+        wrong("boot with a number that is none", "boot --ticks x none.adf", "'x' for '--ticks"),
+    )
+    for command in ("mkdir", "delete", "rename", "comment"):
+        words = f"{command} --days=-1 none.adf b c"
+        tried.rows(wrong(f"{command} with a number that is none", words, "'-1' for '--days"))
+
+
+FULL_OF_WORDS = ["info a", "list a b", "print a b", "rename a b c", "protect a b rwed", "comment a b c", "relabel a b", "boot a b"]
+PAST_BYTES = [
+    *("list none.adf ł", "print none.adf ł", "extract none.adf b ł", "add --to ł none.adf f", "mkdir none.adf b ł"),
+    *("delete none.adf b ł", "rename none.adf ł b", "rename none.adf b ł", "protect none.adf ł rwed", "comment none.adf ł b"),
+    *("comment none.adf b ł", "relabel none.adf ł", "blank --letters ł none.adf"),
+]
+
+
+def words_too_many_and_wrong_letters(tried: Commands) -> None:
+    """A word too many, letters of bits that are none, and letters that stand for no byte."""
+    for words in FULL_OF_WORDS:
+        tried.rows(wrong(f"a word too many: {words}", f"{words} much", "'much'", "Usage"))
+    for letters in ("rwedx", "rr", "RWED", "-----rwe-", "----dewr"):
+        tried.rows(wrong(f"protect {letters}", ["protect", "none.adf", "b", letters], f"'{letters}'", "hsparwed"))
+    for words in PAST_BYTES:
+        tried.rows(wrong(f"a letter past U+00FF: {words}", words, "'ł'", "U+00FF"))
+
+
+def refused_names(tried: Commands) -> None:
+    for name in ("a/b", "Work:", "", "abcdefghijklmnopqrstuvwxyzabcde"):
+        tried.rows(row(f"the name '{name}'", ["blank", name, "a"], 3, "", f"'{name}'", "30 bytes"))
+    tried.absent("a refused name writes nothing", "a")
+    letters = "1äöüäöüäöüäöüäöü"
+    tried.rows(
+        row("a refused name goes before a file that cannot be made", "blank a/b none/x.adf", 3, "", "'a/b'"),
+        row("a name by its bytes: 31 of them", ["blank", letters, "a"], 3, "", "30 bytes"),
+        row("the same name by its letters", ["blank", "--letters", letters, "letters.adf"]),
+        row("list of it, by bytes", "list letters.adf", 0, f"Volume {letters}\n".encode("latin-1")),
+        row("list --letters", "list --letters letters.adf", 0, f"Volume {letters}\n"),
+    )
+
+
+# ---- Clients of one port ----
+
+
+def clients(tried: Commands) -> None:
+    before = tried.content("ffs.adf")
+    tried.write("write", b'output 0 "f"\nwrite $1 "x"\nend $1\n')
+    tried.write("other", b"other 999\n")
+    tried.rows(row("serve with two scripts", "serve ffs.adf write other", 0, WRITTEN + "2.1 0 209\n"))
+    tried.stays("serve without --out keeps the image", "ffs.adf", before)
+    serve = "serve --out new.adf --days 8035 --minutes 61 --ticks 125 ffs.adf write"
+    entry = "Volume Work\n       1 ---rwed {} f\n"
+    tried.rows(
+        row("serve --out", serve, 0, WRITTEN),
+        row("list of what serve wrote", "list new.adf", 0, entry.format("2000-01-01 01:01:02.50")),
+        row("check of what serve wrote", "check new.adf", 0, "ok\n"),
+        row("serve --out over its image", "serve new.adf write --out new.adf", 0, WRITTEN),
+        row("list of the image written over itself", "list new.adf", 0, entry.format("1978-01-01 00:00:00.00")),
+        row("empty scripts", "serve ffs.adf /dev/null /dev/null /dev/null"),
+    )
+
+
+def faulty_scripts(tried: Commands) -> None:
+    tried.write("faulty", b'mkdir 0 "d"\nother\n')
+    ran = tried.run("serve", "--out", "faulty.adf", "ffs.adf", "other", "faulty")
+    # (the second client's lines may be there)
+    others = re.sub(rb"(?m)^(2\.1 [1-9][0-9]* 0|2 fault line 2)\n", b"", ran.output)
+    tried.report.check("a faulty script beside another", ran._replace(output=others), 3, b"1.1 0 209\n")
+    entries = "Volume Work\n     dir ---rwed 1978-01-01 00:00:00.00 d\n"
+    # The longest script, and one byte more.
+    tried.write("longest", b"#" * 1048576)
+    tried.write("long", b"#" * 1048577)
+    tried.write("die", b"die\ndiskinfo\n")
+    tried.rows(
+        row("the image is written after a faulty script", "list faulty.adf", 0, entries),
+        row("a long script of a client", "serve ffs.adf other long", 3, "1.1 0 209\n2 fault line 0\n"),
+        row("the longest script of a client", "serve ffs.adf longest other", 0, "2.1 0 209\n"),
+        row("a script that ends at the close", "serve ffs.adf die", 0, "1.1 -1 0\n1.2 closed\n"),
+    )
+
+
+def turns(tried: Commands) -> None:
+    """How often a put is tried."""
+    tried.write("wrong", b"what\n")
+    told, faulty = "1.1 no room\n", "1 fault line 1\n2.1 no room\n"
+    tries = "ran out of tries"
+    tried.rows(
+        row("serve --turns 0", "serve --turns 0 ffs.adf other", 2, told, tries),
+        row("tries that run out go before a faulty script", "serve --turns 0 ffs.adf wrong other", 2, faulty, tries),
+    )
+    ran = tried.run("serve", "--turns", "1", "ffs.adf", "other")
+    answered = fault_of(ran, 0, b"1.1 0 209\n") if ran.status == 0 else fault_of(ran, 2, b"1.1 no reply\n", tries)
+    tried.report.hold("serve --turns 1", answered)
+
+
+def many_clients(tried: Commands) -> None:
+    scripts = [f"many{it}" for it in range(1, 9)]
+    for it in scripts:
+        tried.write(it, b"other 999\n" * 500)
+    wanted = "".join(f"{client}.{packet} 0 209\n" for client in range(1, 9) for packet in range(1, 501))
+    tried.rows(row("eight clients with 500 packets each", ["serve", "ffs.adf", *scripts], 0, wanted))
+
+
+# ---- Growths of memory that are refused ----
+
+
+class Growths:
+    """`serve` with growths of its memory refused, by the shim tests/growths.c."""
+
+    TRIES = 100000
+
+    def __init__(self, tried: Commands) -> None:
+        self.tried = tried
+        self.shim = tried.top / "growths.so"
+        tried.write("forty", b"other 999\n" * 40)
+        tried.write("names", b'rename-disk "Play"\n')
+        tried.write("asks", b"other 999\n" * 40 + b'locate 0 -2 ""\n')
+        tried.done("blank", "--ffs", "Play", "play.adf")
+        replies = b"1.1 -1 0\n" + b"".join(b"2.%d 0 209\n" % it for it in range(1, 41))
+        no_memory = b"there is not enough memory\n"
+        # How a serve of `names` and `asks` may end, in a word. The first two write the image play.adf, the others none.
+        self.endings: Dict[Ran, str] = {
+            Ran(0, replies + b"2.41 1 0\n", b""): "whole",
+            Ran(0, replies + b"2.41 0 103\n", b""): "lock",
+            Ran(1, b"", b"error: out of memory\n"): "words",
+            Ran(2, b"", b"adf_serve: " + no_memory): "memory",
+            Ran(2, b"", b"adf_serve: a thread cannot be made\n"): "thread",
+            Ran(2, replies + b"2.41 1 0\n", b"adf_serve: 'grown.adf' cannot be written: " + no_memory): "written",
+        }
+
+    def built(self) -> bool:
+        """Whether the shim can be built."""
+        if not shutil.which("cc"):
+            return False
+        words = ["cc", "-O2", "-shared", "-fPIC", "-o", str(self.shim), str(TOP / "tests" / "growths.c"), "-ldl"]
+        return run(words).status == 0
+
+    def serve(self, threads: str, first: int, count: int, *words: str) -> Ran:
+        """Serves with so many growths of these threads refused, from this one on. Each try of a put lets other processes go
+        first, so that many of them may take minutes where the machine is busy."""
+        shim = {"LD_PRELOAD": str(self.shim), "COUNTED": "counted", "THREADS": threads, "REFUSED": str(first), "RUN": str(count)}
+        return run([str(self.tried.program), "serve", *words], env=shim, longest=LONGEST_OF_GROWTHS)
+
+    def forty(self, first: int, count: int) -> Ran:
+        """Serves forty packets, with so many growths of their client's thread refused from this one on."""
+        return self.serve("others", first, count, "--turns", str(self.TRIES), "ffs.adf", "forty")
+
+    def try_puts(self) -> None:
+        """A put finds no room where memory is refused. With `--turns N` it is tried N times: it goes through N - 1 refusals
+        one after another, and not through N. Which growth of the client's thread is one of a put is looked for first."""
+        whole = [b"1.%d 0 209\n" % it for it in range(1, 41)]
+        for growth in range(1, 301):
+            ran = self.forty(growth, self.TRIES)
+            if ran.output.endswith(b" no room\n"):
+                break
+        answered = max(0, ran.output.count(b"\n") - 1)
+        wanted = b"".join(whole[:answered]) + b"1.%d no room\n" % (answered + 1)
+        name = f"a put whose {self.TRIES} tries are refused"
+        self.tried.report.check(name, ran, 2, wanted, "ran out of tries")
+        name = f"a put whose tries are refused but for the last of {self.TRIES}"
+        self.tried.report.check(name, self.forty(growth, self.TRIES - 1), 0, b"".join(whole))
+
+    def both(self, threads: str, refused: int) -> Ran:
+        """Serves two clients, with this growth of these threads refused."""
+        Path("grown.adf").unlink(missing_ok=True)
+        return self.serve(threads, refused, 1, "--out", "grown.adf", "ffs.adf", "names", "asks")
+
+    def ending(self, ran: Ran) -> Optional[str]:
+        """What became of it, if that is one of the endings."""
+        ending = self.endings.get(ran)
+        written = self.tried.content("grown.adf") if os.path.exists("grown.adf") else None
+        wanted = self.tried.content("play.adf") if ending in ("whole", "lock") else None
+        return ending if written == wanted else None
+
+    def try_each(self, threads: str, wanted: Set[str], spared: Set[str]) -> None:
+        """Refuses each growth of these threads in turn: each of the endings that are wanted comes, one that is spared may come,
+        and no other does."""
+        self.both(threads, 0)
+        number = int.from_bytes(self.tried.content("counted"), sys.byteorder)
+        endings: Set[str] = set()
+        strayed = ""
+        for growth in range(1, number + 1):
+            ran = self.both(threads, growth)
+            ending = self.ending(ran)
+            if ending is None:
+                strayed += f"growth {growth}: {ran}; "
+            else:
+                endings.add(ending)
+        if not wanted <= endings <= wanted | spared:
+            strayed += f"it ends as {sorted(endings)} where {sorted(wanted)} is expected"
+        self.tried.report.hold(f"serve with each of {number} growths refused, {threads}", strayed[:500] or None)
+
+
+def growths(tried: Commands) -> None:
+    """Each growth of a `serve` with two clients is refused in turn: on the first thread those of the words, of the image, of
+    the port, of both threads, of a lock and of what is gathered and written; on the others those of what is put and told. All
+    goes as with memory to spare, or a lock is refused and nothing else; or the command ends with a text, and writes no image.
+    How the threads take turns says whether one of the others' growths is a put's, which is tried again."""
+    refused = Growths(tried)
+    if not refused.built():
+        tried.report.skip("growths that are refused", "there is no cc")
+        return
+    before = tried.content("ffs.adf")
+    refused.try_puts()
+    refused.try_each("first", set(refused.endings.values()), set())
+    refused.try_each("others", {"memory"}, {"whole"})
+    tried.stays("and the image stays", "ffs.adf", before)
+
+
+# ---- Directories, notes and a boot block ----
+
+
+def directories(tried: Commands) -> None:
+    """Directories that are made and listed. The parts behind this one take moved.adf."""
+    shutil.copy("ffs.adf", "moved.adf")
+    head, last = "Volume Work\n", f"{MADE}d/é/f\n"
+    every = f"{head}{MADE}d\n{MADE}d/é\n{last}"
+    tried.rows(
+        row("mkdir", f"mkdir {AT} moved.adf d d/é :d/é/f"),
+        row("list of a directory", "list moved.adf d", 0, f"{head}{MADE}d/é\n{last}".encode("latin-1")),
+        row("list --letters of a directory, up and down", "list --letters moved.adf d//d/é", 0, head + last),
+        row("list of a directory by a name in other letters", "list --letters moved.adf D/é", 0, head + last),
+        row("list of an empty path", "list --letters moved.adf ''", 0, every),
+    )
+
+
+def refused_changes(tried: Commands) -> None:
+    before = tried.content("moved.adf")
+    kind, there, gone = "object is not of required type", "object already exists", "object not found"
+    for name, words, told, text in (
+        ("list of a path that is not there", "list moved.adf d/x", "205 d/x", gone),
+        ("list of a path through what is not there", "list moved.adf x/y", "204 x/y", "directory not found"),
+        ("mkdir of what is there", "mkdir moved.adf new D", "203 D", there),
+        ("mkdir where no directory is", "mkdir moved.adf x/y", "204 x/y", "directory not found"),
+        ("mkdir with no name", "mkdir moved.adf d/", "210 d/", "object name invalid"),
+        ("delete of a directory with entries", "delete moved.adf d", "216 d", "directory not empty"),
+        ("delete of what is not there", "delete --all moved.adf x", "205 x", gone),
+        ("delete of the root", "delete --all moved.adf :", "212 :", kind),
+        ("rename under itself", "rename moved.adf d d/e", "202 d", "object is in use"),
+        ("protect of the root", "protect moved.adf : rwed", "212 :", kind),
+        ("a comment of 80 letters", f"comment moved.adf d {'x' * 80}", "220 d", "comment is too long"),
+        ("relabel with a separator", "relabel moved.adf a/b", "210 a/b", "object name invalid"),
+        ("print of a directory", "print moved.adf d", "212 d", kind),
+        ("print of what is not there", "print moved.adf x", "205 x", gone),
+        ("extract of what is not there", "extract --to out moved.adf d x", "205 x", gone),
+    ):
+        tried.rows(row(name, words, 3, f"refused {told}\n", text))
+    tried.stays("what is refused changes nothing", "moved.adf", before)
+    tried.absent("and writes nothing", "out")
+
+
+def changes_beside(tried: Commands) -> None:
+    """Changes that are written to another file."""
+    before = tried.content("moved.adf")
+    listed = f"Volume Work\n     dir s-a-wed 1978-01-02 00:00:00.00 d\n{MADE}d/é\n{MADE}d/é/f\n"
+    tried.rows(
+        row("protect", f"protect {AT} moved.adf d hs-a-wed --out changed.adf"),
+        row("list of what protect wrote", "list --letters changed.adf", 0, listed),
+    )
+    for letters in ("-s-----d", "--------", "rwed", "h"):
+        tried.rows(row(f"protect {letters}", ["protect", "moved.adf", "d", letters, "--out", "changed.adf"]))
+    tried.rows(
+        row("relabel", f"relabel {AT} moved.adf Ü --out changed.adf"),
+        row("list of what relabel wrote", "list --letters changed.adf d/é/f", 0, "Volume Ü\n"),
+    )
+    tried.stays("with --out the image stays", "moved.adf", before)
+
+
+def boot_blocks(tried: Commands) -> None:
+    before = tried.content("moved.adf")
+    tried.write("code", b"DOS\0aaaacode")
+    told = "-1 0 82 1758 5 512 444f5301\nboot {}\n"
+    tried.rows(
+        row("boot", "boot moved.adf code"),
+        row("info of what boot wrote", "info moved.adf", 0, told.format("yes")),
+        row("boot without a file", "boot moved.adf"),
+        row("info without a boot block", "info moved.adf", 0, told.format("no")),
+    )
+    tried.stays("the image is as before", "moved.adf", before)
+    tried.write("code", bytes(1025))
+    tried.rows(
+        row("boot with 1,025 bytes", "boot moved.adf code", 3, "", "'code' has more than 1,024 bytes"),
+        lacking("boot with a file that is not there", "boot moved.adf none", "'none' cannot be read"),
+    )
+    tried.stays("a boot block that is none changes nothing", "moved.adf", before)
+
+
+# ---- Files that cannot be had ----
+
+
+def held_images(tried: Commands) -> None:
+    """An image that another command holds."""
+    with open("moved.adf", "rb") as held:
+        fcntl.flock(held, fcntl.LOCK_EX)
+        tried.rows(
+            lacking("mkdir in an image that is held", "mkdir moved.adf more", "'moved.adf'", HELD),
+            lacking("blank over an image that is held", "blank Work moved.adf", "'moved.adf'", HELD),
+            lacking("mkdir --out over an image that is held", "mkdir ffs.adf more --out moved.adf", "'moved.adf'", HELD),
+            row("check of an image that is held", "check moved.adf", 0, "ok\n"),
+            row("serve: a refused image goes before a held --out", "serve --out moved.adf write other", 3, "refused NotWholeBlocks 0\n"),
+            lacking("serve: a missing script goes before a held --out", "serve --out moved.adf ffs.adf none", "'none' cannot be read"),
+            row("serve: the work goes before a held --out", "serve --out moved.adf ffs.adf other", 2, "1.1 0 209\n", "'moved.adf'", HELD),
+        )
+
+
+def missing_files(tried: Commands) -> None:
+    before = tried.content("ffs.adf")
+    for words in ON_IMAGES:
+        words = words.replace("IMAGE", "none.adf")
+        tried.rows(lacking(f"an image that is not there: {words}", words, "'none.adf' cannot be read"))
+    for command in ("info", "list"):
+        tried.rows(
+            lacking(f"{command} of a file that is not there", [command, "none.adf"], "'none.adf' cannot be read"),
+            lacking(f"{command} of a directory", [command, str(tried.top)], f"'{tried.top}' cannot be read"),
+        )
+    unwritten, told = "'none/x.adf' cannot be written", "1.1 0 209\n"
+    scripts = ["serve", "--out", "none.out", "ffs.adf", str(tried.top), "none"]
+    under = "'ffs.adf/x' cannot be written"
+    full = "'/dev/full' cannot be written"
+    tried.rows(
+        lacking("mkdir --out in a folder that is not there", "mkdir moved.adf more --out none/x.adf", unwritten),
+        lacking("serve of an image that is not there", "serve none.adf none", "'none.adf' cannot be read"),
+        lacking("serve of a script that is not there", "serve --out none.out ffs.adf other none", "'none' cannot be read"),
+        lacking("serve of a directory as a script", scripts, f"'{tried.top}' cannot be read"),
+        lacking("blank in a folder that is not there", "blank Work none/x.adf", unwritten),
+        lacking("blank onto a full device", "blank Work /dev/full", full),
+        row("serve --out in a folder that is not there", "serve --out none/x.adf ffs.adf other", 2, told, unwritten),
+        row("serve --out under its image", "serve --out ffs.adf/x ffs.adf other", 2, told, under),
+        row("serve --out onto a full device", "serve --out /dev/full ffs.adf other", 2, told, full),
+    )
+    tried.absent("nothing was written where a file was missing", "none.out")
+    tried.stays("the image is as it was", "ffs.adf", before)
+
+
+def first_faults(tried: Commands) -> None:
+    """The first fault in the order of the words counts: the words, the image and its check, the scripts one by one."""
+    serve = "serve --out none.out"
+    image, script = "refused NotWholeBlocks 0\n", "'none.b' cannot be read"
+    tried.rows(
+        wrong("serve: words before the image", f"{serve} --turns many none.adf none", "'many'", "--turns"),
+        row("serve: a script that is taken for an image", f"{serve} write none", 3, image),
+        lacking("serve: the first script that is not there", f"{serve} ffs.adf write none.b none.c", script),
+    )
+
+
+# ---- Images that are drawn by hand ----
+
+DISK = "-1 0 82 1758 2 512 444f5301\nboot "
+LOST = "-1 0 82 1758 3 512 444f5301\nboot no\n"
+# The sum of 444F5301, 4E754E75 and 80000000 is 12C4A177, the carry brought round; two map bits past the volume's end are set.
+BOOT_CODE = "0.1=0xED3B5E88 0.3=0x4E754E75 1.127=0x80000000 881.0=0x0000C037 881.55=0xFFFFFFFF"
+# Images that are accepted: what `check` and `info` print of each, its longs, and its sums.
+ACCEPTED = [
+    ("info-of-blank", "ok\n", DISK + "no\n", "", ""),
+    ("a lost block", "ok\n", LOST, "881.1=0xFFFFFFF7", "881.0"),
+    ("validated", "ok validated\n", DISK + "no\n", "880.78=1", "880.5"),
+    ("rebuilt-bits", "ok validated\n", DISK + "no\n", "880.78=0 881.28=0xFFFF7FFF 881.1=0xFFFFFFF7", "880.5 881.0"),
+    ("a boot sum whose carry comes round", "ok\n", DISK + "yes\n", "0.1=0xBBB0ACFE 0.2=0xFFFFFFFF", ""),
+    ("boot-code", "ok\n", DISK + "yes\n", BOOT_CODE, ""),
+    ("boot code without its last long", "ok\n", DISK + "no\n", "0.1=0xED3B5E88 0.3=0x4E754E75", ""),
+]
+# A directory `A` with a file `f` of 600 bytes in it.
+LEVELS = """880.12=2 881.1=0xFFFFFFF0 2.0=2 2.1=2 2.17=3 2.108=0x01410000 2.125=880 2.127=2
+    3.0=2 3.1=3 3.2=2 3.4=4 3.76=5 3.77=4 3.81=600 3.108=0x01660000 3.125=2 3.127=0xFFFFFFFD"""
+# Directories `A` and `DP`, in one chain, `B`, and one whose name is the byte E4, with dates at the edges of the civil ones and
+# with all bits of protection.
+DATES = """880.12=10 880.13=12 880.31=13 881.1=0xFFFFF0FF
+    10.0=2 10.1=10 10.80=15 10.105=8035 10.106=61 10.107=125 10.108=0x01410000 10.124=11 10.125=880 10.127=2
+    11.0=2 11.1=11 11.80=112 11.105=2929974 11.106=1439 11.107=2999 11.108=0x02445000 11.125=880 11.127=2
+    12.0=2 12.1=12 12.105=2929975 12.108=0x01420000 12.125=880 12.127=2
+    13.0=2 13.1=13 13.106=1440 13.108=0x01E40000 13.125=880 13.127=2"""
+LISTED_LEVELS = """Volume Work
+     dir ---rwed 1978-01-01 00:00:00.00 A
+     600 ---rwed 1978-01-01 00:00:00.00 A/f
+"""
+LISTED_DATES = """Volume Work
+     dir ------- 2000-01-01 01:01:02.50 A
+     dir sparwed 9999-12-31 23:59:59.98 DP
+     dir ---rwed raw 2929975 0 0 B
+     dir ---rwed raw 0 1440 0 \xe4
+"""
+
+
+def accepted_images(tried: Commands) -> None:
+    """What `check`, `info` and `list` print of each. No command changes its image."""
+    blank = tried.content("ffs.adf")
+    for name, checked, told, longs, sums in ACCEPTED:
+        image = drawn(blank, longs, sums)
+        tried.write("drawn.adf", image)
+        tried.rows(
+            row(f"{name}: check", "check drawn.adf", 0, checked),
+            row(f"{name}: info", "info drawn.adf", 0, told),
+            row(f"{name}: list", "list drawn.adf", 0, "Volume Work\n"),
+        )
+        tried.stays(f"{name}: unchanged", "drawn.adf", image)
+    tried.write("levels.adf", drawn(blank, LEVELS, "880.5 881.0 2.5 3.5"))
+    tried.write("dates.adf", drawn(blank, DATES, "880.5 881.0 10.5 11.5 12.5 13.5"))
+    tried.rows(
+        row("list-two-levels", "list levels.adf", 0, LISTED_LEVELS),
+        row("dates", "list dates.adf", 0, LISTED_DATES.encode("latin-1")),
+    )
+
+
+def refused_images(tried: Commands) -> None:
+    """Images that are refused, by each command that takes one."""
+    blank = tried.content("ffs.adf")
+    for name, image, told in (
+        ("empty.adf", b"", "TooFewBlocks 0"),
+        ("short.adf", blank[:7680], "TooFewBlocks 0"),
+        ("odd.adf", blank[:901119], "NotWholeBlocks 0"),
+        ("huge.adf", blank + bytes(52020736 - len(blank)), "TooManyBlocks 0"),
+        ("kind.adf", poked(blank, 0, 0, b"DOS\2"), "UnsupportedKind 0"),
+        ("nodos.adf", poked(blank, 0, 0, b"\0"), "NotADosDisk 0"),
+        ("sum.adf", poked(blank, 880, 100, b"\1"), "BadSum 880"),
+        ("marked.adf", drawn(blank, "881.28=0xFFFF7FFF", "881.0"), "MarkedFree 880"),
+        ("page.adf", drawn(blank, "880.78=0 881.3=5", "880.5"), "BadSum 881"),
+    ):
+        tried.write(name, image)
+        refused = f"refused {told}\n"
+        tried.rows(row(f"check of {name}", ["check", name], 3, refused, "block"))
+        for words in ("info IMAGE", "list IMAGE", *ON_IMAGES):
+            tried.rows(row(f"{words.split()[0]} of {name}", words.replace("IMAGE", name), 3, refused))
+        tried.stays(f"{name} stays", name, image)
+        tried.rows(row(f"serve of {name}", ["serve", "--out", "none.out", name, "none"], 3, refused))
+    tried.absent("a refused image writes nothing", "none.out")
+    os.remove("huge.adf")
+
+
+def stale_image(tried: Commands) -> None:
+    """An image whose root says that its bitmap is not valid: L78 of the root becomes 0, and its sum grows by that."""
+    image = poked(poked(tried.content("ffs.adf"), 880, 78, bytes(4)), 880, 5, b"\x90\xa8\x8c\xd2")
+    tried.write("stale.adf", image)
+    tried.rows(row("check of an image that is not validated", "check stale.adf", 0, "ok validated\n"))
+    tried.stays("check changes no file", "stale.adf", image)
+    serve = "serve --out valid.adf stale.adf other"
+    tried.rows(row("serve of an image that is not validated", serve, 0, "1.1 0 209\n"))
+    tried.stays("what serve wrote is validated", "valid.adf", tried.content("ffs.adf"))
+
+
+# ---- Standard output that takes nothing ----
+
+
+def prints_to(descriptor: int) -> Callable[[], None]:
+    """For `before` of a run: it has this descriptor as its standard output."""
+
+    def put() -> None:
+        os.dup2(descriptor, 1)
+
+    return put
+
+
+def refused_output(tried: Commands) -> None:
+    full = os.open("/dev/full", os.O_WRONLY)
+    reader, unread = os.pipe()
+    os.close(reader)
+    outputs: Dict[str, Callable[[], None]] = {
+        "onto a full device": prints_to(full),
+        "onto a closed output": partial(os.close, 1),
+        "into a pipe that nobody reads": prints_to(unread),
+    }
+    for words in ("info ffs.adf", "check ffs.adf", "list ffs.adf", "check kind.adf", "serve --out full.adf ffs.adf write"):
+        for name, before in outputs.items():
+            tried.report.check(f"{words} {name}", tried.run(*words.split(), before=before), 2, b"", UNWRITTEN)
+    entry = "Volume Work\n       1 ---rwed 1978-01-01 00:00:00.00 f\n"
+    tried.rows(row("the image is written where output is refused", "list full.adf", 0, entry))
+    ran = tried.run(input=b"diskinfo\n", before=outputs["onto a full device"])
+    tried.report.check("a script onto a full device", ran, 2, b"", UNWRITTEN)
+    ran = tried.run(before=partial(os.close, 0))
+    tried.report.check("a script from a closed input", ran, 2, b"", "standard input cannot be read")
+    os.close(full)
+    os.close(unread)
+
+
+PARTS: List[Callable[[Commands], None]] = [
+    *(moments, wrong_words, wrong_numbers, wrong_words_for_files, words_too_many_and_wrong_letters, refused_names),
+    *(clients, faulty_scripts, turns, growths, many_clients),
+    *(directories, refused_changes, changes_beside, boot_blocks),
+    *(held_images, missing_files, first_faults),
+    *(accepted_images, refused_images, stale_image, refused_output),
+]
+
+
+def main(words: List[str]) -> int:
+    report = Report()
+    with Commands(program_of(words), report) as tried:
+        report.part("blank images", partial(blank_images, tried))
+        if os.path.exists("ffs.adf"):
+            for it in PARTS:
+                report.part(it.__name__.replace("_", " "), partial(it, tried))
+        else:
+            report.hold("a blank image to go on with", "there is none, and no more is tried")
+    return report.end()
+
+
+if __name__ == "__main__":
+    sys.exit(main(sys.argv[1:]))
