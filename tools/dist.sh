@@ -43,7 +43,7 @@ pages() {
     mkdir -p "$dist/share/man/man1" "$dist/share/doc/jiponuwha/docs"
     for page in "$top"/docs/*.1; do gzip -9n <"$page" >"$dist/share/man/man1/${page##*/}.gz"; done
     cp "$top/README.md" "$dist/share/doc/jiponuwha/"
-    cp "$top/docs/COMMANDS.md" "$dist/share/doc/jiponuwha/docs/"
+    cp "$top"/docs/{QUICKSTART,COMMANDS,LIBRARY,SECURITY,CHANGELOG}.md "$top"/docs/*.svg "$dist/share/doc/jiponuwha/docs/"
 }
 
 completions() {

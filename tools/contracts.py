@@ -1,0 +1,183 @@
+#!/usr/bin/env python3
+"""Lists the public calls of each crate with their clauses, a page a crate in docs/contracts.
+
+    tools/contracts.py           writes the pages
+    tools/contracts.py --check   exits 1 where a page is not what the sources make, and names it
+
+A public call is a function that the crate's lib.rt or main.rt exports by `pub use` or `pub mod`, a method of an exported type,
+or a member of an exported trait. The sources are laid out as rustfmt does it: items of a file begin in its first column, and
+members of an `impl` or a trait in the fifth.
+"""
+from __future__ import annotations
+
+import re
+import sys
+from dataclasses import dataclass
+from pathlib import Path
+
+TOP = Path(__file__).resolve().parent.parent
+PAGES = TOP / "docs/contracts"
+MARKS = re.compile(r"//[^\n]*|\"(?:\\.|[^\"\\])*\"|[(\[{]|[)\]}]|;")
+CLAUSE = re.compile(r"\b(?:requires|ensures)(?:\s+\w+)?\s*\Z")
+CALL = re.compile(r"( *)(pub )?(?:unsafe |extern \"C\" )*fn (\w+)")
+TYPE = re.compile(r"pub (?:struct|enum|trait) (\w+)")
+USE = re.compile(r"^pub use (\w+)(?:::(\w+)|::\{([^}]*)\});", re.M)
+
+
+@dataclass(frozen=True)
+class Call:
+    """A public call, or the members of a trait that only contracts see."""
+
+    owner: str
+    name: str
+    file: str
+    doc: str
+    text: str
+
+    def markdown(self, crate: str) -> str:
+        """What the page of its crate has of it."""
+        link = f"[{self.file}](../../crates/{crate}/src/{self.file})"
+        head = f"**`{self.name}`**, {link}" + (f": {self.doc}" if self.doc else "")
+        return f"{head}\n\n```rust\n{self.text}\n```\n"
+
+
+@dataclass
+class Exports:
+    """What a crate exports: its own names in their order, the modules that are public, and names of other crates."""
+
+    names: list[str]
+    modules: set[str]
+    passed_on: dict[str, list[str]]
+
+
+def exports_of(root: Path) -> Exports:
+    """What the lib.rt or main.rt of a crate exports."""
+    text = re.sub(r"//[^\n]*", "", root.read_text())
+    found = Exports([], set(re.findall(r"^pub mod (\w+);", text, re.M)), {})
+    for module, one, several in USE.findall(text):
+        names = [one] if one else [name.strip() for name in several.split(",") if name.strip()]
+        if (root.parent / f"{module}.rt").is_file():
+            found.names += names
+        else:
+            found.passed_on.setdefault(module, []).extend(names)
+    for file in [root, *(root.parent / f"{module}.rt" for module in sorted(found.modules))]:
+        found.names += [name for name in TYPE.findall(file.read_text()) if name not in found.names]
+    return found
+
+
+def end_of_head(text: str, start: int) -> int:
+    """Where the head of a function ends, before its body or the semicolon: a brace behind a clause's name is the clause's."""
+    depth = 0
+    for mark in MARKS.finditer(text, start):
+        at, sign = mark.start(), mark[0]
+        if sign in ("{", ";") and depth == 0 and not (sign == "{" and CLAUSE.search(text, start, at)):
+            return at
+        depth += 1 if sign in ("(", "[", "{") else -1 if sign in (")", "]", "}") else 0
+    raise ValueError(f"a function without an end: {text[start:start + 60]}")
+
+
+def doc_above(lines: list[str], at: int) -> str:
+    """The first sentence of the comment above a line."""
+    at -= 1
+    while at >= 0 and lines[at].lstrip().startswith("#["):
+        at -= 1
+    said: list[str] = []
+    while at >= 0 and lines[at].lstrip().startswith("///"):
+        said.insert(0, lines[at].lstrip()[3:].strip())
+        at -= 1
+    text = " ".join(said if "" not in said else said[: said.index("")])
+    text = re.sub(r"\[(`[^`]*`)\]", r"\1", text)
+    return re.split(r"(?<=\.)\s", text)[0]
+
+
+def owner_of(header: str) -> str:
+    """The type or trait whose members an `impl` or `trait` has, or nothing where it is an impl of a trait."""
+    header = re.sub(r"\bwhere\b.*", "", header, flags=re.S).replace("->", "")
+    while re.search(r"<[^<>]*>", header):
+        header = re.sub(r"<[^<>]*>", "", header)
+    found = re.fullmatch(r"\s*(?:impl|pub trait)\s+(\w+)\s*(?::[^{]*)?", header)
+    return found[1] if found else ""
+
+
+def ghosts_of(lines: list[str], at: int) -> str:
+    """The head of a trait, and its members that only contracts see."""
+    shown, inside = [lines[at]], False
+    for line in lines[at + 1 :]:
+        if line.startswith("}"):
+            return "\n".join([*shown, "}"]) if len(shown) > 1 else ""
+        inside = inside or re.match(r"    ghost (?!use )", line) is not None
+        if inside:
+            shown.append(line)
+        inside = inside and not line.endswith(";")
+    return ""
+
+
+def calls_of(file: Path, exports: Exports) -> list[Call]:
+    """The public calls in a file."""
+    text = file.read_text()
+    lines = text.split("\n")
+    starts = [0]
+    for line in lines:
+        starts.append(starts[-1] + len(line) + 1)
+    calls, owner, is_trait = [], "", False
+    for at, line in enumerate(lines):
+        if line.startswith("}"):
+            owner = ""
+        elif re.match(r"(impl|pub trait)\b", line):
+            owner = owner_of(text[starts[at] : text.index("{", starts[at])])
+            owner, is_trait = owner if owner in exports.names else "", line.startswith("pub trait")
+            ghosts = ghosts_of(lines, at) if is_trait and owner else ""
+            if ghosts:
+                calls.append(Call(owner, f"trait {owner}", file.name, doc_above(lines, at), ghosts))
+        call = CALL.match(line)
+        if not call:
+            continue
+        indent, is_pub, name = len(call[1]), call[2], call[3]
+        is_free = indent == 0 and is_pub and (name in exports.names or file.stem in exports.modules)
+        if is_free or (indent == 4 and owner and (is_pub or is_trait)):
+            head = text[starts[at] : end_of_head(text, starts[at])].rstrip()
+            head = "\n".join(part[indent:] for part in head.split("\n"))
+            whose = owner if indent else name
+            calls.append(Call(whose, f"{owner}::{name}" if indent else name, file.name, doc_above(lines, at), head))
+    return calls
+
+
+def page_of(crate: Path) -> str:
+    """The page of a crate, or nothing where it has no public call."""
+    root = crate / "src/lib.rt" if (crate / "src/lib.rt").is_file() else crate / "src/main.rt"
+    exports = exports_of(root)
+    calls = [call for file in sorted((crate / "src").glob("*.rt")) for call in calls_of(file, exports)]
+    order = {name: at for at, name in enumerate(exports.names)}
+    calls.sort(key=lambda call: order.get(call.owner, len(order)))
+    if not calls:
+        return ""
+    parts = [f"# {crate.name}\n", "Its public calls with their clauses, made by `tools/contracts.py`.\n"]
+    for other, names in exports.passed_on.items():
+        parts.append(f"From [{other}]({other}.md) it exports {', '.join(f'`{name}`' for name in names)}.\n")
+    return "\n".join([*parts, *(call.markdown(crate.name) for call in calls)])
+
+
+def main(arguments: list[str]) -> int:
+    """Writes or checks the pages, and answers the exit status."""
+    if arguments not in ([], ["--check"]):
+        print(__doc__)
+        return 0 if arguments in (["-h"], ["--help"]) else 1
+    crates = [crate for crate in sorted((TOP / "crates").iterdir()) if (crate / "src").is_dir()]
+    pages = {PAGES / f"{crate.name}.md": page_of(crate) for crate in crates}
+    pages = {page: text for page, text in pages.items() if text}
+    left_over = [page for page in sorted(PAGES.glob("*.md")) if page not in pages]
+    if arguments:
+        stale = [page for page, text in pages.items() if not page.is_file() or page.read_text() != text]
+        for page in [*stale, *left_over]:
+            print(f"{page.relative_to(TOP)} is not what the sources make: run tools/contracts.py")
+        return 1 if stale or left_over else 0
+    PAGES.mkdir(exist_ok=True)
+    for page in left_over:
+        page.unlink()
+    for page, text in pages.items():
+        page.write_text(text)
+    return 0
+
+
+if __name__ == "__main__":
+    sys.exit(main(sys.argv[1:]))
