@@ -1,4 +1,4 @@
--- Images that are told of, chunk by chunk.
+-- Output for images, chunk by chunk.
 use Rattle.std.proofs.Common.{◌≡◌, ℕ, ◌+◌, ◌≤◌, List, [], ◌++◌, length, Option, Result, Ok, Err, IfErr, ap, sym, ◌∙◌, subst, append_assoc, arith}
 use Rattle.std.proofs.lemmas.List.{append-nil}
 use Rattle.std.proofs.lemmas.List.Sums.{fold-append}
@@ -16,19 +16,19 @@ use Rattle.adf_archive.specs.Status.{IsTally, no_images, noted, tallied}
 use Rattle.adf_archive.proofs.Gathered.{gives_more, gives_none}
 use Rattle.adf_archive.proofs.Listed.{told_append, told_none}
 
--- what holds anyway holds at a fault
+-- what always holds also holds for an error
 pub at_err : {T E Q : Type 0} (r : Result T E) → Q → IfErr r (λ e. Q)
 at_err (Ok x) q = tt
 at_err (Err e) q = q
 
--- the first images are told of, so many of them
+-- the first `count` images were reported
 pub record SoFar {F : Type 0} (g : Shared F (ℕ × Unit {0}) ImageReport) (f : F) (form : Form) (paths : List (List ℕ)) (old new : Option (List ℕ)) (count : ℕ) (tally : Tally) : Type 0 where
   pub reports : List ImageReport
   pub gives : GivesFrom g f 0 count reports
   pub written : Appends old new (told_from form paths 0 reports)
   pub sum : IsTally reports tally
 
--- a front of what is told behind what was told
+-- a prefix of the next output, after the output so far
 front_behind : (old mid new : Option (List ℕ)) (first rest : List ℕ) → Appends old mid first → WritesFront mid new rest → WritesFront old new (first ++ rest)
 front_behind old mid new first rest told (written, appends, (left, is)) =
     (first ++ written, Appends-trans old mid new first written told appends, (left, ap (λ (text : List ℕ). first ++ text) is ∙ sym (append_assoc first written left)))
@@ -66,7 +66,7 @@ module _ {F : Type 0} (g : Shared F (ℕ × Unit {0}) ImageReport) (f : F) (form
       subst (λ (text : List ℕ). WritesFront old new text) (sym joined) (front_behind old mid new (told_from form paths 0 first.reports) (told_from form paths count more) first.written front),
     )
 
-  -- no more is told
+  -- nothing more is written
   pub so_far_left : (old new : Option (List ℕ)) (count : ℕ) (tally : Tally) → SoFar g f form paths old new count tally → count ≤ length paths → LeavesOff g f form paths old new
   so_far_left old new count tally first fits = (
     count,

@@ -1,4 +1,4 @@
--- What images come to, and how many of some entries are files.
+-- The overall status of images, and the number of files among entries.
 use Rattle.std.proofs.Common.{◌≡◌, ℕ, ◌+◌, ◌<◌, List, [], ◌∷◌, length, get_or, take, ap, ◌∙◌}
 use Rattle.std.proofs.lemmas.List.{take_more}
 use Rattle.std.proofs.lemmas.List.Sums.{fold-append}

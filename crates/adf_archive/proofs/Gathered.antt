@@ -1,4 +1,4 @@
--- What a function gives for some places and for those behind them.
+-- The results of a function for some positions and for those after them.
 use Rattle.std.proofs.Common.{ℕ, ◌+◌, ◌-◌, ◌<◌, ◌≤◌, List, [], ◌++◌, get_or, ap₂, sym, ◌∙◌, subst, length-append, refl, inl, inr, ◌⊎◌, arith}
 use Rattle.std.proofs.lemmas.List.{get_or_append_left, get_or-append_right}
 use Rattle.std.proofs.lemmas.Bool.{cases_lt}

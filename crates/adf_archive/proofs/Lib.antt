@@ -1,4 +1,4 @@
--- Lemmas on archives.
+-- Lemmas about archives.
 pub mod Chunks
 pub mod Counting
 pub mod Ends

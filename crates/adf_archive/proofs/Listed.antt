@@ -1,16 +1,16 @@
--- What is told of images, one after another.
+-- The output for images, one after the other.
 use Rattle.std.proofs.Common.{◌≡◌, ℕ, suc, ◌+◌, List, [], ◌∷◌, ◌++◌, length, get_or, take, ◌<◌, ap, sym, ◌∙◌, append_assoc, refl, arith}
 use Rattle.std.proofs.lemmas.List.{append-nil, take_more, length-take-le}
 use Rattle.adf_archive.specs.declared.report.ImageReport.{ImageReport}
 use Rattle.adf_archive.specs.declared.telling.Form.{Form}
 use Rattle.adf_archive.specs.Lines.{told_from, told_of}
 
--- how many stand before a place
+-- the number of elements before a position
 taken : (i : ℕ) (reports : List ImageReport) → i < length reports → length (take i reports) ≡ i
 taken i reports l = length-take-le i reports (omega (arith, l))
 
 module _ (form : Form) (paths : List (List ℕ)) where
-  -- those of some images, and then those of others
+  -- the output for some images, then for others
   pub told_append : (start : ℕ) (a b : List ImageReport) → told_from form paths start (a ++ b) ≡ told_from form paths start a ++ told_from form paths (start + length a) b
   unfolding told_from
   told_append start [] b = ap (λ (n : ℕ). told_from form paths n b) (omega arith)
@@ -19,7 +19,7 @@ module _ (form : Form) (paths : List (List ℕ)) where
       (told_append (suc start) a b ∙ ap (λ (n : ℕ). told_from form paths (suc start) a ++ told_from form paths n b) (omega arith))
       ∙ sym (append_assoc (told_of form (get_or paths start []) report) (told_from form paths (suc start) a) (told_from form paths (start + length (report ∷ a)) b))
 
-  -- that of one
+  -- the output for one image
   pub told_one : (start : ℕ) (report : ImageReport) → told_from form paths start (report ∷ []) ≡ told_of form (get_or paths start []) report ++ []
   unfolding told_from
   told_one start report = refl
@@ -28,7 +28,7 @@ module _ (form : Form) (paths : List (List ℕ)) where
   unfolding told_from
   told_none start = refl
 
-  -- those before a place and the one there
+  -- the output for the images before a position, and for the one there
   pub told_more : (start : ℕ) (reports : List ImageReport) (i : ℕ) (d : ImageReport) → i < length reports
       → told_from form paths start (take (i + 1) reports) ≡ told_from form paths start (take i reports) ++ told_of form (get_or paths (start + i) []) (get_or reports i d)
   told_more start reports i d l =

@@ -1,15 +1,15 @@
--- Faults that are told of, by the faults that they tell.
+-- Reported faults, by the faults themselves.
 use Rattle.std.proofs.Common.{◌≡◌, ℕ, ◌<◌, List, [], ◌∷◌, length, get_or, map, All, sym, ap, ◌∙◌, subst, refl, arith}
 use Rattle.std.proofs.lemmas.List.{get_or-map, length-map}
-use Rattle.ados_tree.specs.Faults.{Shows}
-use Rattle.ados_tree.specs.declared.fault.VolumeFault.{VolumeFault}
+use Rattle.ados_model.specs.Faults.{Shows}
+use Rattle.ados_model.specs.declared.fault.VolumeFault.{VolumeFault}
 use Rattle.adf_archive.specs.declared.report.ShownFault.{ShownFault}
 
--- how many they are
+-- there are equally many
 pub many : (shown : List ShownFault) (faults : List VolumeFault) → map (λ each. each.fault) shown ≡ faults → length shown ≡ length faults
 many shown faults same = sym (length-map shown (λ each. each.fault)) ∙ ap length same
 
--- the image shows each
+-- the image shows each of them
 pub shown_all : (image : List ℕ) (shown : List ShownFault) (faults : List VolumeFault) → map (λ each. each.fault) shown ≡ faults
     → All (λ fault. Shows image fault.kind fault.block) faults → All (λ each. Shows image each.fault.kind each.fault.block) shown
 shown_all image shown faults same all = λ i d l.
@@ -17,7 +17,7 @@ shown_all image shown faults same all = λ i d l.
     (ap (λ (xs : List VolumeFault). get_or xs i d.fault) (sym same) ∙ get_or-map (λ (each : ShownFault). each.fault) shown i d d.fault l)
     (all i d.fault (subst (λ (n : ℕ). i < n) (many shown faults same) l))
 
--- what is not empty has an element
+-- a list that is not empty has an element
 pub not_empty : (faults : List VolumeFault) → ¬ (faults ≡ []) → 0 < length faults
 not_empty [] some = absurd (some refl)
 not_empty (fault ∷ faults) some = omega arith

@@ -1,4 +1,4 @@
--- For each fault of a size there are bytes that have it.
+-- For each fault of a size, some bytes have it.
 use Rattle.std.proofs.Common.{ℕ, List, length, replicate, refl, sym, subst, lit<}
 use Rattle.std.proofs.lemmas.List.{length-replicate}
 use Rattle.adf_block.specs.Size.{IsSizeFault}

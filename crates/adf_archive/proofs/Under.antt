@@ -1,7 +1,7 @@
--- Keys of what lies below a directory.
+-- The keys of everything below a directory.
 use Rattle.std.proofs.Common.{ℕ, ◌<◌, List, [], length, get_or, IsSome, false}
 use Rattle.std.proofs.lemmas.List.{get_or_default}
-use Rattle.ados_tree.specs.Tree.{Proper, Tree, entries}
+use Rattle.ados_model.specs.Tree.{Proper, Tree, entries}
 use Rattle.adf_transfer.specs.Located.{Located}
 use Rattle.adf_transfer.specs.Below.{AreBelow}
 use Rattle.adf_transfer.proofs.Denying.{below_there}

@@ -1,4 +1,4 @@
--- An archive that is told of, whole or as far as it went.
+-- The output for an archive, whole or in part.
 use Rattle.std.proofs.Common.{◌≡◌, ℕ, ◌+◌, ◌<◌, ◌≤◌, Bool, true, false, List, [], length, get_or, All, Option, Result, Ok, Err, IsErrAnd, refl, sym, subst, arith}
 use Rattle.std.proofs.lemmas.List.Elements.{All-nil}
 use denote.Param.Members.{Shared}
@@ -18,12 +18,12 @@ use Rattle.adf_archive.specs.Lines.{told_from}
 use Rattle.adf_archive.specs.Report.{IsReportOfSome}
 use Rattle.adf_archive.specs.Status.{IsBroken, IsTally, ends, ends_as}
 
--- what a function reports of each place is what the check says of some bytes
+-- the function's report for each position is the check's result for some bytes
 pub checked_all : {F : Type 0} (g : Shared F (ℕ × Unit {0}) ImageReport) (f : F) (count : ℕ) (reports : List ImageReport) → GivesFrom g f 0 count reports
     → ((i : ℕ) (r : ImageReport) → FnReturns g f (i, tt) r → IsReportOfSome r) → All IsReportOfSome reports
 checked_all g f count reports gives each = λ i d l. each (0 + i) (get_or reports i d) (gives.1 i d (omega (arith, l, gives.0)))
 
--- no command ends as a broken one by what its images come to
+-- the status of images never ends a command as broken
 not_broken : (a b : Bool) (fault : ArchiveFault) → IsBroken fault → Err fault ≡ ends a b → ⊥
 not_broken true b Output broken e = cc e
 not_broken true b Memory broken e = cc e
@@ -34,7 +34,7 @@ not_broken a b Refused broken e = broken
 not_broken a b NotChecked broken e = broken
 
 module _ (job : CheckJob) where
-  -- no image is told of
+  -- no image was reported
   nothing : Archive job
   nothing = record {
     paths = [];
@@ -50,7 +50,7 @@ module _ (job : CheckJob) where
   pub none_told : (w : Option (List ℕ)) (fault : ArchiveFault) → fault ≡ Memory → TellsArchive job w w (Err fault)
   none_told w fault e = subst (λ (f : ArchiveFault). TellsArchive job w w (Err f)) (sym e) (nothing, writes_nothing w (told_in nothing))
 
-  -- no image was looked for
+  -- the search for images failed
   pub none_told_at : (w : Option (List ℕ)) (result : Result (Unit {0}) ArchiveFault) → IsErrAnd result (λ f. f ≡ Memory) → TellsArchive job w w result
   none_told_at w (Ok x) e = absurd e
   none_told_at w (Err fault) e = none_told w fault e

@@ -1,4 +1,4 @@
--- Many images that are checked: what is reported of one, what is told of all, and how that ends.
+-- Many checked images: the report on one, the output for all, and how the check ends.
 pub mod Words
 pub mod Endings
 pub mod Report

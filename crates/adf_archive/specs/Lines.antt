@@ -1,4 +1,4 @@
--- What is told of images.
+-- The output for images.
 use Rattle.std.specs.Prelude.{ℕ, suc, if◌then◌else◌, List, [], ◌∷◌, ◌++◌, get_or, flat_map, decimal, codes}
 use Rattle.adf_archive.specs.declared.report.AcceptedImage.{AcceptedImage}
 use Rattle.adf_archive.specs.declared.report.ImageReport.{ImageReport}
@@ -9,7 +9,7 @@ use Rattle.adf_archive.specs.declared.telling.Form.{Form}
 use Rattle.adf_archive.specs.Words.{kind_word, size_word}
 use Rattle.adf_archive.specs.Objects.{object_line}
 
--- a line of these words behind a front
+-- a line with these words after a prefix
 abbrev pub line_behind : List ℕ → List ℕ → List ℕ
 line_behind front words = front ++ words ++ 10 ∷ []
 
@@ -17,7 +17,7 @@ line_behind front words = front ++ words ++ 10 ∷ []
 abbrev pub refused_words : List ℕ → ℕ → List ℕ
 refused_words word block = codes "refused " ++ word ++ 32 ∷ decimal block
 
--- `ok`, or `ok validated` where the bitmap was built anew
+-- `ok`, or `ok validated` if the bitmap was rebuilt
 abbrev pub accepted_words : AcceptedImage → List ℕ
 accepted_words told = if told.validated then codes "ok validated" else codes "ok"
 
@@ -25,27 +25,28 @@ accepted_words told = if told.validated then codes "ok validated" else codes "ok
 abbrev pub shown_line : List ℕ → ShownFault → List ℕ
 shown_line front shown = line_behind front (refused_words (kind_word shown.fault.kind) shown.fault.block)
 
--- a line for each fault, and `more` where there may be more
+-- a line for each fault, and `more` if there may be more
 abbrev pub fault_lines : List ℕ → RefusedImage → List ℕ
 fault_lines front told =
     flat_map (shown_line front) told.faults.items
     ++ (if told.more then line_behind front (codes "more") else [])
 
--- the lines of a report, each behind a front
+-- the lines of a report, each after a prefix
 abbrev pub lines_of : List ℕ → ImageReport → List ℕ
 lines_of front (Accepted told) = line_behind front (accepted_words told)
 lines_of front (Refused told) = fault_lines front told
 lines_of front (WrongSize fault) = line_behind front (refused_words (size_word fault) 0)
 lines_of front (NotChecked why) = []
 
--- what is told of the image at a path: its object, or its lines, where there are several behind the path and a tab
+-- the output for the image at a path: its object, or its lines; for several images each line starts with the path and
+-- a tab
 abbrev pub told_of : Form → List ℕ → ImageReport → List ℕ
 told_of form path report =
     if form.json then object_line path report
     else if form.paths then lines_of (path ++ 9 ∷ []) report
     else lines_of [] report
 
--- what is told of images whose paths stand in a list from one place on, one after another
+-- the output for images, one after the other; their paths start at a position of the list
 unfoldable pub told_from : Form → List (List ℕ) → ℕ → List ImageReport → List ℕ
 told_from form paths start [] = []
 told_from form paths start (report ∷ reports) = told_of form (get_or paths start []) report ++ told_from form paths (suc start) reports

@@ -1,4 +1,4 @@
--- The JSON object that tells of an image, as its tokens.
+-- The JSON object of a report on an image, as tokens.
 use Rattle.std.specs.Prelude.{ℕ, Bool, true, false, if◌then◌else◌, List, [], ◌∷◌, ◌++◌, flat_map, decimal, codes, Option, Some, None, option_map}
 use Rattle.std.specs.String.{string_bytes}
 use Rattle.json.specs.Token.{Token, begin_object, end_object, begin_array, end_array, key, string, number, boolean, null}
@@ -23,7 +23,7 @@ abbrev pub number_token : Option ℕ → Token
 number_token (Some n) = number (decimal n)
 number_token None = null
 
--- the kind of a disk: `DOS\` and its last byte as a number
+-- the DOS type of a disk: `DOS\` and its last byte as a number
 abbrev pub kind_text : Option BootKind → Option (List ℕ)
 kind_text (Some Ofs) = Some (codes "DOS\\0")
 kind_text (Some Ffs) = Some (codes "DOS\\1")
@@ -31,25 +31,25 @@ kind_text (Some (OtherDos last)) = Some (codes "DOS\\" ++ decimal last)
 kind_text (Some NotDos) = None
 kind_text None = None
 
--- a name, numbers of files and directories, and free blocks; null where they are not known
+-- a name, numbers of files and directories, and free blocks; null for unknown values
 abbrev pub known_tokens : Option (List ℕ) → Option ℕ → Option ℕ → Option ℕ → List Token
 known_tokens name files directories free =
     key (codes "name") ∷ string_token name ∷ key (codes "files") ∷ number_token files
     ∷ key (codes "directories") ∷ number_token directories ∷ key (codes "free") ∷ number_token free ∷ []
 
--- those of a volume, with its name in letters
+-- the same for a volume, with its name in letters
 abbrev pub contents_tokens : Option Contents → List Token
 contents_tokens (Some c) = known_tokens (Some (letters c.name)) (Some c.files) (Some c.directories) (Some c.free)
 contents_tokens None = known_tokens None None None None
 
--- whether the image is accepted and whether it was validated, its kind and its blocks, and what it has
+-- whether the image is accepted, whether its bitmap was rebuilt, its kind and blocks, and its contents
 abbrev pub members_tokens : Members → List Token
 members_tokens told =
     key (codes "ok") ∷ boolean told.ok ∷ key (codes "validated") ∷ boolean told.validated
     ∷ key (codes "kind") ∷ string_token (kind_text told.kind) ∷ key (codes "blocks") ∷ number_token told.blocks
     ∷ contents_tokens told.contents
 
--- what is told of a report before its faults
+-- the members of a report before its faults
 abbrev pub members_of : ImageReport → Members
 members_of (Accepted told) =
     record { ok = true; validated = told.validated; kind = Some told.kind; blocks = Some told.blocks; contents = told.contents }
@@ -66,14 +66,14 @@ fault_tokens kind block path =
 abbrev pub shown_tokens : ShownFault → List Token
 shown_tokens shown = fault_tokens (kind_word shown.fault.kind) shown.fault.block (option_map string_bytes shown.path)
 
--- the objects of the faults of a report
+-- the objects of a report's faults
 abbrev pub faults_tokens : ImageReport → List Token
 faults_tokens (Accepted told) = []
 faults_tokens (Refused told) = flat_map shown_tokens told.faults.items
 faults_tokens (WrongSize fault) = fault_tokens (size_word fault) 0 None
 faults_tokens (NotChecked why) = []
 
--- the object of the image at a path
+-- the object for the image at a path
 abbrev pub object_tokens : List ℕ → ImageReport → List Token
 object_tokens path report =
     begin_object ∷ key (codes "path") ∷ string path ∷ members_tokens (members_of report)
@@ -84,6 +84,6 @@ abbrev pub is_checked : ImageReport → Bool
 is_checked (NotChecked why) = false
 is_checked report = true
 
--- its line; none of an image that is not checked
+-- the line of a report; none for an image that was not checked
 abbrev pub object_line : List ℕ → ImageReport → List ℕ
 object_line path report = if is_checked report then print (object_tokens path report) ++ 10 ∷ [] else []

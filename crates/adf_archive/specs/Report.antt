@@ -1,13 +1,13 @@
--- What a report says of the bytes of an image.
+-- The report on the bytes of an image.
 use Rattle.std.specs.Prelude.{◌≡◌, ℕ, ◌+◌, ◌<◌, List, [], length, count_by, All, IfSome, ⊤}
 use Rattle.adf_block.specs.Boot.{HasKind}
 use Rattle.adf_block.specs.Image.{block_count}
 use Rattle.adf_block.specs.Size.{IsSizeFault}
-use Rattle.ados_tree.specs.Tree.{Tree, entries, free, name_of, root}
-use Rattle.ados_tree.specs.Walk.{is_file}
-use Rattle.ados_tree.specs.Stands.{Stands}
-use Rattle.ados_tree.specs.Accepted.{Accepts}
-use Rattle.ados_tree.specs.Faults.{Shows}
+use Rattle.ados_model.specs.Tree.{Tree, entries, free, name_of, root}
+use Rattle.ados_model.specs.Change.{is_file}
+use Rattle.ados_model.specs.Stands.{Stands}
+use Rattle.ados_model.specs.Accepted.{Accepts}
+use Rattle.ados_model.specs.Faults.{Shows}
 use Rattle.adf_transfer.specs.Located.{Located}
 use Rattle.adf_transfer.specs.Below.{AreBelow}
 use Rattle.adf_archive.specs.declared.report.AcceptedImage.{AcceptedImage}
@@ -16,11 +16,11 @@ use Rattle.adf_archive.specs.declared.report.ImageReport.{ImageReport}
 use Rattle.adf_archive.specs.declared.report.ImageReport.TheVariants.{Accepted, Refused, WrongSize, NotChecked}
 use Rattle.adf_archive.specs.declared.report.RefusedImage.{RefusedImage}
 
--- how many of these entries are files
+-- the number of files among these entries
 abbrev pub file_count : Tree → List Located → ℕ
 file_count t found = count_by (λ e. is_file t e.key) found
 
--- what the volume of a tree has: its name, the files and directories among all that lies below the root, and the blocks that are left
+-- the contents of a tree's volume: its name, the numbers of files and directories below the root, and the free blocks
 pub record Tells (t : Tree) (contents : Contents) : Type 0 where
   pub name : contents.name ≡ name_of t (root t)
   pub found : List Located
@@ -29,7 +29,7 @@ pub record Tells (t : Tree) (contents : Contents) : Type 0 where
   pub all : contents.files + contents.directories ≡ length found
   pub free : contents.free ≡ free t
 
--- the image is accepted, with the volume that is told of
+-- the image is accepted, and the report describes the volume
 pub record IsAccepted (image : List ℕ) (told : AcceptedImage) : Type 0 where
   pub checked : List ℕ
   pub accepts : Accepts image told.validated checked
@@ -37,20 +37,20 @@ pub record IsAccepted (image : List ℕ) (told : AcceptedImage) : Type 0 where
   pub blocks : told.blocks ≡ block_count checked
   pub contents : IfSome told.contents (λ contents. (t : Tree) → Stands checked t → Tells t contents)
 
--- the image shows each of the faults, and at least one
+-- the image shows each of the faults, and there is at least one
 pub record IsRefused (image : List ℕ) (told : RefusedImage) : Type 0 where
   pub kind : HasKind image told.kind
   pub blocks : told.blocks ≡ block_count image
   pub some : 0 < length told.faults.items
   pub shown : All (λ shown. Shows image shown.fault.kind shown.fault.block) told.faults.items
 
--- this is what the check says of these bytes; of what was not checked nothing is said
+-- the report is the check's result for these bytes; one that was not checked says nothing
 abbrev pub IsReport : List ℕ → ImageReport → Type 0
 IsReport image (Accepted told) = IsAccepted image told
 IsReport image (Refused told) = IsRefused image told
 IsReport image (WrongSize fault) = IsSizeFault (length image) fault
 IsReport image (NotChecked why) = ⊤
 
--- this is what the check says of the bytes of some file
+-- the report is the check's result for the bytes of some file
 abbrev pub IsReportOfSome : ImageReport → Type 0
 IsReportOfSome report = (image : List ℕ) × IsReport image report

@@ -1,4 +1,4 @@
--- What images come to.
+-- The overall status of images.
 use Rattle.std.specs.Prelude.{◌≡◌, Bool, true, false, List, fold, Result, Ok, Err, ⊤}
 use Rattle.adf_archive.specs.declared.fault.ArchiveFault.{ArchiveFault}
 use Rattle.adf_archive.specs.declared.fault.ArchiveFault.TheVariants as faults
@@ -6,25 +6,25 @@ use Rattle.adf_archive.specs.declared.report.ImageReport.{ImageReport}
 use Rattle.adf_archive.specs.declared.report.ImageReport.TheVariants.{Accepted, Refused, WrongSize, NotChecked}
 use Rattle.adf_archive.specs.declared.telling.Tally.{Tally}
 
--- what is noted of one more image
+-- the status with one more image
 abbrev pub noted : Tally → ImageReport → Tally
 noted tally (Accepted told) = tally
 noted tally (Refused told) = record { refused = true; not_checked = tally.not_checked }
 noted tally (WrongSize fault) = record { refused = true; not_checked = tally.not_checked }
 noted tally (NotChecked why) = record { refused = tally.refused; not_checked = true }
 
--- with these images besides
+-- the status with these images added
 abbrev pub tallied : Tally → List ImageReport → Tally
 tallied tally reports = fold noted tally reports
 
 abbrev pub no_images : Tally
 no_images = record { refused = false; not_checked = false }
 
--- that of these images
+-- the status of these images
 abbrev pub IsTally : List ImageReport → Tally → Type 0
 IsTally reports tally = tally ≡ tallied no_images reports
 
--- how a command ends, by whether an image is not checked, which goes before, and whether one is refused
+-- how a command ends: first by whether an image was not checked, then by whether one is refused
 abbrev pub ends : Bool → Bool → Result (Unit {0}) ArchiveFault
 ends true refused = Err faults.NotChecked
 ends false true = Err faults.Refused
@@ -33,7 +33,7 @@ ends false false = Ok tt
 abbrev pub ends_as : Tally → Result (Unit {0}) ArchiveFault
 ends_as tally = ends tally.not_checked tally.refused
 
--- the output failed, or there was no memory
+-- the output failed, or memory ran out
 abbrev pub IsBroken : ArchiveFault → Type 0
 IsBroken faults.Output = ⊤
 IsBroken faults.Memory = ⊤

@@ -2,8 +2,8 @@
 use Rattle.std.specs.Prelude.{ℕ, List, [], codes}
 use Rattle.adf_block.specs.declared.volume_size.SizeFault.{SizeFault}
 use Rattle.adf_block.specs.declared.volume_size.SizeFault.TheVariants as sizes
-use Rattle.ados_tree.specs.declared.fault.FaultKind.{FaultKind}
-use Rattle.ados_tree.specs.declared.fault.FaultKind.TheVariants as kinds
+use Rattle.ados_model.specs.declared.fault.FaultKind.{FaultKind}
+use Rattle.ados_model.specs.declared.fault.FaultKind.TheVariants as kinds
 
 -- the word for a fault of the size
 abbrev pub size_word : SizeFault → List ℕ
@@ -11,7 +11,7 @@ size_word sizes.NotWholeBlocks = codes "NotWholeBlocks"
 size_word sizes.TooFewBlocks = codes "TooFewBlocks"
 size_word sizes.TooManyBlocks = codes "TooManyBlocks"
 
--- the word for a fault of an image; want of memory, for which no image is refused, has none
+-- the word for a fault of an image; out of memory has none, because no image is refused for it
 abbrev pub kind_word : FaultKind → List ℕ
 kind_word kinds.NotADosDisk = codes "NotADosDisk"
 kind_word kinds.UnsupportedKind = codes "UnsupportedKind"

@@ -1,9 +1,9 @@
-//! What the check says of one image.
+//! The check of one image, as a report.
 ghost use Rattle.std.specs.Prelude.{ℕ, List, IfOk, IfSome};
-ghost use Rattle.ados_tree.specs.Tree.{Tree};
-ghost use Rattle.ados_tree.specs.Stands.{Stands};
-ghost use Rattle.ados_tree.specs.Accepted.{Accepts};
-ghost use Rattle.ados_tree.specs.Faults.{Shows};
+ghost use Rattle.ados_model.specs.Tree.{Tree};
+ghost use Rattle.ados_model.specs.Stands.{Stands};
+ghost use Rattle.ados_model.specs.Accepted.{Accepts};
+ghost use Rattle.ados_model.specs.Faults.{Shows};
 ghost use Rattle.adf_archive.specs.Report.{IsReport, IsReportOfSome, Tells};
 
 use crate::contents::contents_of;
@@ -11,24 +11,24 @@ use crate::faults::told_faults;
 use crate::reading::ReadImages;
 use crate::report::{AcceptedImage, Contents, ImageReport, RefusedImage, WhyNot};
 use adf_block::Image;
-use adf_host::ImageFault;
+use adf_io::LoadFault;
 use ados_check::accepted_kind;
-use ados_tree::{FaultKind, VolumeFault};
+use ados_model::{FaultKind, VolumeFault};
 use ados_volume::{Rejected, Volume, check};
 use std::alloc::{AllocError, Global};
 
-/// What is asked of an image besides whether it is accepted.
+/// What a report contains in addition to the result.
 #[derive(Clone, Copy)]
 pub struct Detail {
-    /// Every fault in place of one.
+    /// All faults of the image; otherwise one.
     pub all: bool,
-    /// What it has, and the paths of what its faults are in.
+    /// The contents of the volume, and the paths for faults.
     pub contents: bool,
-    /// What a person is told of its faults.
+    /// The texts that explain faults.
     pub texts: bool,
 }
 
-/// What the check says of an image file. Most are told of by a sketch of them; the rest are read whole.
+/// The report on an image file. For most images a sketch decides; the others are read whole.
 pub fn report_file<R: ReadImages>(rt: &R, alloc: Global, path: &str, detail: Detail) -> ImageReport
     ensures { IsReportOfSome result }
 {
@@ -46,7 +46,7 @@ pub fn report_file<R: ReadImages>(rt: &R, alloc: Global, path: &str, detail: Det
     }
 }
 
-/// The report of an image that is accepted as it is, where a sketch shows that it is.
+/// The report on an image that is accepted as it is, if a sketch shows this.
 fn report_sketch<R: ReadImages>(rt: &R, alloc: Global, path: &str) -> Option<ImageReport>
     ensures { IfSome result IsReportOfSome }
 {
@@ -60,18 +60,19 @@ fn report_sketch<R: ReadImages>(rt: &R, alloc: Global, path: &str) -> Option<Ima
     }))
 }
 
-/// The report of a file that gives no image.
-fn unread(fault: ImageFault) -> ImageReport
+/// The report on a file without an image.
+fn unread(fault: LoadFault) -> ImageReport
     ensures { IsReportOfSome result }
 {
     match fault {
-        ImageFault::Size(fault) => ImageReport::WrongSize(fault),
-        ImageFault::Read => ImageReport::NotChecked(WhyNot::Read),
-        ImageFault::Memory => ImageReport::NotChecked(WhyNot::Memory),
+        LoadFault::Size(refused) => ImageReport::WrongSize(refused.fault),
+        LoadFault::Read => ImageReport::NotChecked(WhyNot::Read),
+        LoadFault::Memory => ImageReport::NotChecked(WhyNot::Memory),
+        LoadFault::TurnLimit => ImageReport::NotChecked(WhyNot::Endless),
     }
 }
 
-/// What the check says of an image.
+/// The report on an image.
 pub fn report_image(alloc: Global, image: Image, detail: Detail) -> ImageReport
     ensures { IsReport image result }
 {
@@ -81,7 +82,7 @@ pub fn report_image(alloc: Global, image: Image, detail: Detail) -> ImageReport
     }
 }
 
-/// What the check says of an image, if there is memory for it.
+/// The report on an image, if there is memory for it.
 fn try_report(alloc: Global, image: Image, detail: Detail) -> Result<ImageReport, AllocError>
     ensures { IfOk result (IsReport image) }
 {
@@ -96,7 +97,7 @@ fn try_report(alloc: Global, image: Image, detail: Detail) -> Result<ImageReport
     }
 }
 
-/// The report of an image that is accepted.
+/// The report on an accepted image.
 fn accepted(alloc: Global, volume: &Volume, detail: Detail) -> Result<ImageReport, AllocError>
     ensures { IfOk result (λ report. (old : List ℕ) → Accepts old volume.now.was_validated volume.now.image → IsReport old report) }
 {
@@ -110,7 +111,7 @@ fn accepted(alloc: Global, volume: &Volume, detail: Detail) -> Result<ImageRepor
     }))
 }
 
-/// What a volume has, where that is asked for.
+/// The contents of a volume, if requested.
 fn wanted_contents(
     alloc: Global,
     volume: &Volume,
@@ -124,7 +125,7 @@ fn wanted_contents(
     Ok(Some(contents_of(alloc, volume)?))
 }
 
-/// The report of an image that is refused.
+/// The report on a refused image.
 fn refused(
     alloc: Global,
     image: &Image,

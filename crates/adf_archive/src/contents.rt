@@ -1,8 +1,8 @@
-//! What an image has that is accepted.
+//! The contents of an accepted image.
 ghost use Rattle.std.specs.Prelude.{◌≡◌, ◌≤◌, IfOk, All, length};
-ghost use Rattle.ados_tree.specs.Tree.{Tree};
-ghost use Rattle.ados_tree.specs.Stands.{Stands};
-ghost use Rattle.ados_tree.specs.Keys.{HasKey};
+ghost use Rattle.ados_model.specs.Tree.{Tree};
+ghost use Rattle.ados_model.specs.Stands.{Stands};
+ghost use Rattle.ados_model.specs.Keys.{HasKey};
 ghost use Rattle.adf_archive.specs.Report.{Tells, file_count};
 
 use crate::report::Contents;
@@ -10,7 +10,7 @@ use adf_transfer::{Below, entries_below, free_blocks};
 use ados_volume::Volume;
 use std::alloc::{AllocError, Global};
 
-/// The name of a volume, how many files and directories it has, and how many of its blocks are free.
+/// The name of a volume, the number of its files and directories, and the number of free blocks.
 pub(crate) fn contents_of(alloc: Global, volume: &Volume) -> Result<Contents, AllocError>
     ensures { IfOk result (λ contents. (t : Tree) → Stands volume.now.image t → Tells t contents) }
 {
@@ -25,7 +25,7 @@ pub(crate) fn contents_of(alloc: Global, volume: &Volume) -> Result<Contents, Al
     })
 }
 
-/// How many of these entries are files.
+/// The number of files among these entries.
 fn count_files(volume: &Volume, below: &[Below]) -> usize
     requires { All (λ e. HasKey volume.now.image e.key) below.now }
     ensures count { (t : Tree) → Stands volume.now.image t → result ≡ file_count t below.now }

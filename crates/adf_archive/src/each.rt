@@ -1,4 +1,4 @@
-//! What a function gives for many at a time.
+//! The results of a function for many positions, in parallel.
 ghost use Rattle.std.specs.Prelude.{◌≡◌, ◌+◌, ◌<◌, ◌^◌, ℕ, IfOk, vec_len};
 ghost use Rattle.adf_archive.specs.Each.{GivesFrom};
 
@@ -6,8 +6,8 @@ use std::alloc::{AllocError, Global};
 use std::thread;
 use std::thread::Threads;
 
-/// What a function gives for each of so many places from one on, in their order; each on a thread of its own where one
-/// can be made. The threads share nothing but the function.
+/// The results of a function for `count` positions from `start`, in order. Each runs on its own thread if one can be
+/// started. The threads share only the function.
 pub fn together<R: Threads + Sync, X: Send + Drop, F: Fn(usize) -> X + Sync>(
     rt: &R,
     alloc: Global,

@@ -1,14 +1,14 @@
-//! Why not all images of an archive are accepted.
+//! Why the check of an archive fails.
 use std::alloc::{AllocError, AllocFailed};
 use thiserror::Error;
 
-/// Why not all images of an archive are accepted, or told of.
+/// Why not all images of an archive are accepted or reported.
 #[derive(Clone, Copy, Debug, PartialEq, Eq, Error)]
 pub enum ArchiveFault {
-    /// All were read, and one is refused.
+    /// All images were read, and one is refused.
     #[error("an image is refused")]
     Refused,
-    /// One was not read, or could not be checked.
+    /// An image was not read, or could not be checked.
     #[error("an image is not checked")]
     NotChecked,
     #[error("the output cannot be written")]

@@ -1,26 +1,26 @@
-//! The faults of an image that is refused.
+//! The faults of a refused image.
 ghost use Rattle.std.specs.Prelude.{◌≡◌, ◌<◌, All, IfOk, length, map};
-ghost use Rattle.ados_tree.specs.Accepted.{ShowsNoFault};
-ghost use Rattle.ados_tree.specs.Faults.{Shows};
+ghost use Rattle.ados_model.specs.Accepted.{ShowsNoFault};
+ghost use Rattle.ados_model.specs.Faults.{Shows};
 
 use crate::checking::Detail;
 use crate::report::ShownFault;
 use adf_block::Image;
 use ados_faults::{Mark, all_faults, explain, place_of};
-use ados_tree::VolumeFault;
+use ados_model::VolumeFault;
 use std::alloc::{AllocError, Global};
 
-/// The most faults that are told of an image.
+/// The most faults reported for an image.
 const MOST_FAULTS: usize = 1_000;
 
-/// Faults that an image shows, and whether it may show more.
+/// Faults of an image, and whether it may have more.
 #[derive(Drop)]
 pub struct ToldFaults {
     pub faults: Vec<ShownFault>,
     pub more: bool,
 }
 
-/// What is told of the faults of an image, of which one is known: of that one, or of all in their order.
+/// The reported faults of an image, one of which is known: only that one, or all in order.
 pub(crate) fn told_faults(
     alloc: Global,
     image: &Image,
@@ -37,7 +37,7 @@ pub(crate) fn told_faults(
     one_told(alloc, image, fault, detail)
 }
 
-/// What is told of all faults.
+/// All faults, as reported.
 fn all_told(alloc: Global, image: &Image, detail: Detail) -> Result<ToldFaults, AllocError>
     requires { ¬ ShowsNoFault image.now }
     ensures some { IfOk result (λ told. 0 < length told.faults.items) }
@@ -51,7 +51,7 @@ fn all_told(alloc: Global, image: &Image, detail: Detail) -> Result<ToldFaults, 
     })
 }
 
-/// What is told of one fault.
+/// One fault, as reported.
 fn one_told(
     alloc: Global,
     image: &Image,
@@ -70,7 +70,7 @@ fn one_told(
     })
 }
 
-/// On which way each block was reached, where that is asked for.
+/// The place that named each block first, if paths or texts are requested.
 fn wanted_marks(
     alloc: Global,
     image: &Image,
@@ -82,7 +82,7 @@ fn wanted_marks(
     Ok(all_faults(alloc, image, MOST_FAULTS)?.marks)
 }
 
-/// What is told of these faults, in their order.
+/// These faults as reported, in order.
 fn shown_faults(
     alloc: Global,
     image: &Image,
@@ -105,7 +105,7 @@ fn shown_faults(
     Ok(shown)
 }
 
-/// The path of what a fault is in, where that is asked for and a path leads there.
+/// The path of the directory or file that a fault belongs to, if requested and known.
 fn wanted_path(
     alloc: Global,
     image: &Image,
@@ -119,7 +119,7 @@ fn wanted_path(
     place_of(alloc, image, marks, fault.block)
 }
 
-/// What a person is told of a fault, where that is asked for.
+/// The text that explains a fault, if requested.
 fn wanted_text(
     alloc: Global,
     image: &Image,

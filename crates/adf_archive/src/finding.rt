@@ -1,4 +1,4 @@
-//! Which image files the words of a command name.
+//! The image files that the arguments of a command name.
 ghost use Rattle.std.specs.Prelude.{◌≡◌, ◌↔◌, ◌≤◌, false, IfOk, OnOk, IsTrue, length, vec_len};
 ghost use Rattle.adf_archive.specs.Endings.{GrowsByOne, HasImageEnding};
 
@@ -8,23 +8,23 @@ use std::io::{Error, ErrorKind};
 use std::path::Path;
 use std::rt::Files;
 
-/// The image files that the words of a command name, in their order.
+/// The image files that the arguments of a command name, in order.
 #[derive(Drop)]
 pub struct FoundImages {
     pub paths: Vec<String>,
-    /// Whether a word names a directory.
+    /// Whether an argument names a directory.
     pub in_directory: bool,
 }
 
-/// What is to be looked at.
+/// A path still to be visited.
 #[derive(Drop)]
 struct Waiting {
     path: String,
-    /// Whether a word names it; else it was found in a directory.
+    /// Whether it is an argument; otherwise it was found in a directory.
     named: bool,
 }
 
-/// What a path is for a check.
+/// What a path is for the check.
 #[derive(Clone, Copy)]
 enum Look {
     Image,
@@ -32,11 +32,11 @@ enum Look {
     Neither,
 }
 
-/// The image files that these words name: a word's own file, whatever its name, and of a directory the files with the
-/// endings of images, and those of all directories below, in the order of the bytes of their names.
+/// The image files that these arguments name. An argument's own file counts with any name. In a directory, and in all
+/// directories below it, files with the ending of an image count, in the order of the bytes of their names.
 ///
-/// A link to a file is that file; one to a directory is not followed. What cannot be looked at is taken for an image,
-/// so that the check tells that it cannot be read.
+/// A link to a file counts as that file; a link to a directory is not followed. An unreadable path counts as an image,
+/// so that the check reports it.
 pub fn image_files<R: Files>(
     rt: &R,
     alloc: Global,
@@ -58,7 +58,7 @@ pub fn image_files<R: Files>(
     Ok(found)
 }
 
-/// The words of a command, the first on top.
+/// The arguments of a command, the first on top.
 fn waiting_words(alloc: Global, words: &[&str]) -> Result<Vec<Waiting>, AllocError>
     ensures { IfOk result (λ waiting. vec_len waiting ≤ length words.now) }
 {
@@ -72,7 +72,7 @@ fn waiting_words(alloc: Global, words: &[&str]) -> Result<Vec<Waiting>, AllocErr
     Ok(waiting)
 }
 
-/// Looks at one path: it is an image, or what is in it waits too, or it is neither.
+/// Visits one path. It is an image, its entries become pending, or it is neither.
 fn visit<R: Files>(
     rt: &R,
     alloc: Global,
@@ -93,7 +93,7 @@ fn visit<R: Files>(
     Ok(())
 }
 
-/// What a path is. A word names an image where it names no directory.
+/// What a path is. An argument that is not a directory is an image.
 fn look_at<R: Files>(rt: &R, next: &Waiting) -> Look {
     let Ok(met) = fs::symlink_metadata(rt, next.path.as_str()) else {
         return Look::Image;
@@ -125,8 +125,8 @@ pub fn has_image_ending(name: &str) -> bool
     ending.eq_ignore_ascii_case(b".adf") || ending.eq_ignore_ascii_case(b".hdf")
 }
 
-/// Puts what is in a directory on the stack, the first name on top. A directory that cannot be read, or not to its end, is
-/// itself taken for an image.
+/// Pushes the entries of a directory on the stack, the first name on top. A directory that cannot be read to its end
+/// counts as an image.
 fn wait_for_names<R: Files>(
     rt: &R,
     alloc: Global,
@@ -154,7 +154,7 @@ fn wait_for_names<R: Files>(
     Ok(())
 }
 
-/// Adds the names in a directory, in no order, and answers whether these are all.
+/// Adds the names in a directory, unsorted, and returns whether these are all.
 fn read_names<R: Files>(
     rt: &R,
     alloc: Global,

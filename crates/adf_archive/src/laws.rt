@@ -1,7 +1,8 @@
-//! Laws over the definitions, each as the contract of a function that does nothing.
+//! Laws about the definitions. Each is the contract of a function that does nothing.
 ghost use Rattle.adf_archive.specs.Laws.{JobsTellAlike};
 
-/// Where a function reports one thing of each place, what is told of all is one text, however many are looked at together.
+/// If a function has one report for each position, the report on all images is the same text, however many are checked
+/// in parallel.
 pub fn jobs_tell_alike()
     ensures { JobsTellAlike }
 {}

@@ -1,4 +1,4 @@
-//! Many images checked at a time: which files they are, what is told of each, and what all of them come to.
+//! Many images, checked in parallel: which files they are, the report on each, and the overall status.
 #![tactic(auto)]
 
 mod checking;

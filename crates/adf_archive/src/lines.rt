@@ -1,4 +1,4 @@
-//! The lines that tell of an image.
+//! The lines of a report on an image.
 ghost use Rattle.std.specs.Prelude.{◌≡◌, ◌++◌, OnOk, flat_map};
 ghost use Rattle.adf_archive.specs.Lines.{fault_lines, lines_of, refused_words, line_behind, shown_line};
 
@@ -6,8 +6,8 @@ use crate::report::{ImageReport, RefusedImage, ShownFault};
 use crate::words::{kind_word, size_word};
 use std::alloc::{AllocError, Global};
 
-/// Appends the lines that tell of an image: `ok` or `ok validated`; `refused KIND BLOCK` for each of its faults, and `more`
-/// where it may show more; none where it is not checked. This front stands before each.
+/// Appends the lines of a report, each after this prefix: `ok` or `ok validated`; `refused KIND BLOCK` for each fault,
+/// and `more` if there may be more; no line for an image that was not checked.
 pub fn push_lines(
     alloc: Global,
     text: &mut Vec<u8>,
@@ -76,7 +76,7 @@ fn push_refusal(
     push_line(text, front, words.as_bytes())
 }
 
-/// Appends a line behind a front.
+/// Appends a line after a prefix.
 fn push_line(text: &mut Vec<u8>, front: &[u8], words: &[u8]) -> Result<(), AllocError>
     ensures { OnOk result (text.new.items ≡ text.old.items ++ line_behind front.now words.now) }
 {

@@ -1,4 +1,4 @@
-//! The JSON object that tells of an image.
+//! The JSON object of a report on an image.
 ghost use Rattle.std.specs.Prelude.{◌≡◌, ◌++◌, ◌∷◌, [], OnOk, codes, flat_map, option_map};
 ghost use Rattle.json.specs.Token.{key, boolean};
 ghost use Rattle.adf_archive.specs.Objects.{contents_tokens, fault_tokens, faults_tokens, is_checked, kind_text, known_tokens, members_of, members_tokens, number_token, object_line, object_tokens, shown_tokens, string_token};
@@ -10,7 +10,7 @@ use adf_text::letter_text;
 use json::Writer;
 use std::alloc::{AllocError, Global};
 
-/// Appends the line of the object that tells of an image; none where it is not checked.
+/// Appends the line with the JSON object of a report; no line for an image that was not checked.
 pub fn push_object(
     alloc: Global,
     text: &mut Vec<u8>,
@@ -36,7 +36,7 @@ fn is_checked(report: &ImageReport) -> bool
     !matches!(report, ImageReport::NotChecked(_))
 }
 
-/// What an object tells of an image before its faults.
+/// The members of an object before its faults.
 #[derive(Clone, Copy)]
 pub struct Members {
     ok: bool,
@@ -46,7 +46,7 @@ pub struct Members {
     contents: Option<Contents>,
 }
 
-/// What the object of this report tells before its faults.
+/// The members of this report's object before its faults.
 fn members_of(report: &ImageReport) -> Members
     ensures { result ≡ members_of report.now }
 {
@@ -75,7 +75,7 @@ fn members_of(report: &ImageReport) -> Members
     }
 }
 
-/// Puts the object that tells of an image.
+/// Writes the object of a report.
 fn put_object(
     alloc: Global,
     writer: &mut Writer,
@@ -95,7 +95,7 @@ fn put_object(
     writer.end_object()
 }
 
-/// Puts what an object tells before its faults, behind the path.
+/// Writes the members after the path and before the faults.
 fn put_members(alloc: Global, writer: &mut Writer, told: Members) -> Result<(), AllocError>
     ensures before { writer.new.before ≡ writer.old.before }
     ensures tokens { OnOk result (writer.new.tokens ≡ writer.old.tokens ++ members_tokens told) }
@@ -107,7 +107,7 @@ fn put_members(alloc: Global, writer: &mut Writer, told: Members) -> Result<(), 
     put_contents(alloc, writer, told.contents)
 }
 
-/// Puts the kind of a disk by its four bytes, the last one as a number; null where the first three are not `DOS`.
+/// Writes the DOS type of a disk, `DOS\` and the last byte as a number; null if the first three bytes are not `DOS`.
 fn put_kind(alloc: Global, writer: &mut Writer, kind: Option<BootKind>) -> Result<(), AllocError>
     ensures before { writer.new.before ≡ writer.old.before }
     ensures tokens { OnOk result (writer.new.tokens ≡ writer.old.tokens ++ key (codes "kind") ∷ string_token (kind_text kind) ∷ []) }
@@ -123,7 +123,7 @@ fn put_kind(alloc: Global, writer: &mut Writer, kind: Option<BootKind>) -> Resul
     }
 }
 
-/// Puts the name of a volume in letters, and its numbers; null where they are not known.
+/// Writes the name of a volume in letters, and its numbers; null for unknown values.
 fn put_contents(
     alloc: Global,
     writer: &mut Writer,
@@ -149,7 +149,7 @@ fn put_contents(
     }
 }
 
-/// Puts the name of a volume and its numbers, as far as they are known.
+/// Writes the name of a volume and its numbers, as far as they are known.
 fn put_known(
     writer: &mut Writer,
     name: Option<&str>,
@@ -166,7 +166,7 @@ fn put_known(
     put_number(writer, "free", free)
 }
 
-/// Puts the objects of the faults.
+/// Writes the objects of the faults.
 fn put_faults(writer: &mut Writer, report: &ImageReport) -> Result<(), AllocError>
     ensures before { writer.new.before ≡ writer.old.before }
     ensures tokens { OnOk result (writer.new.tokens ≡ writer.old.tokens ++ faults_tokens report.now) }
@@ -178,7 +178,7 @@ fn put_faults(writer: &mut Writer, report: &ImageReport) -> Result<(), AllocErro
     }
 }
 
-/// Puts the objects of faults that an image shows.
+/// Writes the objects of an image's faults.
 fn put_shown(writer: &mut Writer, faults: &[ShownFault]) -> Result<(), AllocError>
     ensures before { writer.new.before ≡ writer.old.before }
     ensures tokens { OnOk result (writer.new.tokens ≡ writer.old.tokens ++ flat_map shown_tokens faults.now) }
@@ -194,7 +194,7 @@ fn put_shown(writer: &mut Writer, faults: &[ShownFault]) -> Result<(), AllocErro
     Ok(())
 }
 
-/// Puts the object of a fault.
+/// Writes the object of a fault.
 fn put_fault(
     writer: &mut Writer,
     kind: &str,
@@ -211,7 +211,7 @@ fn put_fault(
     writer.end_object()
 }
 
-/// Puts a member that is true or false.
+/// Writes a member that is true or false.
 fn put_flag(writer: &mut Writer, name: &str, value: bool) -> Result<(), AllocError>
     ensures before { writer.new.before ≡ writer.old.before }
     ensures tokens { OnOk result (writer.new.tokens ≡ writer.old.tokens ++ key name.now ∷ boolean value ∷ []) }
@@ -220,7 +220,7 @@ fn put_flag(writer: &mut Writer, name: &str, value: bool) -> Result<(), AllocErr
     writer.boolean(value)
 }
 
-/// Puts a member that is a number or null.
+/// Writes a member that is a number or null.
 fn put_number(writer: &mut Writer, name: &str, value: Option<u64>) -> Result<(), AllocError>
     ensures before { writer.new.before ≡ writer.old.before }
     ensures tokens { OnOk result (writer.new.tokens ≡ writer.old.tokens ++ key name.now ∷ number_token value ∷ []) }
@@ -232,7 +232,7 @@ fn put_number(writer: &mut Writer, name: &str, value: Option<u64>) -> Result<(),
     }
 }
 
-/// Puts a member that is a text or null.
+/// Writes a member that is a text or null.
 fn put_text(writer: &mut Writer, name: &str, value: Option<&str>) -> Result<(), AllocError>
     ensures before { writer.new.before ≡ writer.old.before }
     ensures tokens { OnOk result (writer.new.tokens ≡ writer.old.tokens ++ key name.now ∷ string_token (option_map (λ text. text.now) value.entry) ∷ []) }

@@ -1,24 +1,25 @@
-//! Images of files, read on any thread.
+//! Reads of image files, on any thread.
 ghost use Rattle.std.specs.Prelude.{IfSome};
 ghost use Rattle.adf_block.specs.Image.{IsSize, block_count};
 
 use adf_block::Image;
-use adf_host::{ImageFault, read_image_file, sketch_image_file};
+use adf_host::{read_image_file, sketch_image_file};
+use adf_io::LoadFault;
 use ados_check::Sketch;
 use std::alloc::Global;
 
-/// A host whose image files any thread may read.
+/// A host whose image files can be read on any thread.
 pub trait ReadImages {
-    /// The image of a file, of which no more is read than the largest image has bytes, and one.
-    fn read_image(&self, alloc: Global, path: &str) -> Result<Image, ImageFault>;
+    /// The image of a file. At most one byte more than the largest image is read.
+    fn read_image(&self, alloc: Global, path: &str) -> Result<Image, LoadFault>;
 
-    /// A sketch of that image, which takes less time and memory than the image itself, if the file gives one.
+    /// A sketch of that image, if the file has one. It needs less time and memory than the image.
     fn read_sketch(&self, alloc: Global, path: &str) -> Option<Sketch>
         ensures { IfSome result (λ sketch. IsSize (block_count sketch)) };
 }
 
 impl ReadImages for HostRuntime {
-    fn read_image(&self, alloc: Global, path: &str) -> Result<Image, ImageFault> {
+    fn read_image(&self, alloc: Global, path: &str) -> Result<Image, LoadFault> {
         read_image_file(self, alloc, path)
     }
 

@@ -1,67 +1,69 @@
-//! What the check says of an image, as a value.
+//! The report on an image, as a value.
 use adf_block::{BootKind, SizeFault};
+use ados_model::VolumeFault;
 use ados_name::Name;
-use ados_tree::VolumeFault;
 use thiserror::Error;
 
-/// What the check says of an image file.
+/// The report on an image file.
 #[derive(Drop)]
 pub enum ImageReport {
     Accepted(AcceptedImage),
     Refused(RefusedImage),
-    /// The file has no size that an image may have.
+    /// An image cannot have the size of the file.
     WrongSize(SizeFault),
     NotChecked(WhyNot),
 }
 
-/// An image that is accepted.
+/// An accepted image.
 #[derive(Drop)]
 pub struct AcceptedImage {
     pub kind: BootKind,
     pub blocks: u32,
-    /// Whether its bitmap was not valid, and so was built anew.
+    /// Whether its bitmap was not valid and was rebuilt.
     pub validated: bool,
-    /// What it has, where that is asked for.
+    /// The contents of the volume, if requested.
     pub contents: Option<Contents>,
 }
 
-/// What an image has that is accepted.
+/// The contents of an accepted image.
 #[derive(Clone, Copy)]
 pub struct Contents {
     pub name: Name,
     pub files: usize,
-    /// The directories but the root.
+    /// The directories without the root.
     pub directories: usize,
-    /// The blocks that are free.
+    /// The free blocks.
     pub free: u32,
 }
 
-/// An image that is refused.
+/// A refused image.
 #[derive(Drop)]
 pub struct RefusedImage {
     pub kind: BootKind,
     pub blocks: u32,
     /// Faults that it shows, at least one.
     pub faults: Vec<ShownFault>,
-    /// Whether it may show more than these.
+    /// Whether it may have more faults.
     pub more: bool,
 }
 
-/// A fault that an image shows.
+/// A fault of an image.
 #[derive(Drop)]
 pub struct ShownFault {
     pub fault: VolumeFault,
-    /// The path of what it is in, where one leads there and it is asked for.
+    /// The path of the directory or file that it belongs to, if requested and known.
     pub path: Option<String>,
-    /// What a person is told of it, where that is asked for.
+    /// The text that explains it, if requested.
     pub text: Option<String>,
 }
 
-/// Why an image is not checked.
+/// Why an image was not checked.
 #[derive(Clone, Copy, Debug, PartialEq, Eq, Error)]
 pub enum WhyNot {
     #[error("cannot be read")]
     Read,
     #[error("is not checked: there is not enough memory")]
     Memory,
+    #[error("gave no end within 2,097,152 reads")]
+    Endless,
 }

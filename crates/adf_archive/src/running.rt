@@ -19,8 +19,8 @@ use std::rt::Files;
 use std::thread;
 use std::thread::Threads;
 
-/// Checks the images that the words of a command name, and tells of each in their order. With `terminal` a line on `faults`
-/// says how many of several are done.
+/// Checks the images that the arguments of a command name, and reports on each in order. With `terminal`, a line on
+/// `faults` says how many of several are done.
 pub fn check_archive<R, W, F>(
     rt: &R,
     alloc: Global,
@@ -57,7 +57,7 @@ where
     tally.end()
 }
 
-/// How images are told of: with their paths, unless a word names one alone.
+/// The form of the reports: with paths, unless the only argument names a file.
 fn form_of(job: &CheckJob<'_>, found: &FoundImages) -> Form
     ensures json { result.json ≡ job.now.json }
     ensures alone { result.paths ≡ false → (found.now.in_directory ≡ false) × (length job.now.files.items ≤ 1) }
@@ -69,7 +69,7 @@ fn form_of(job: &CheckJob<'_>, found: &FoundImages) -> Form
     }
 }
 
-/// What is asked of each image: a person is told of the faults of one alone, or of every fault.
+/// The parts of each report. Texts explain the faults of a single image, or all faults with `--all`.
 fn detail_of(job: &CheckJob<'_>, form: Form) -> Detail {
     Detail {
         all: job.all,
@@ -78,7 +78,7 @@ fn detail_of(job: &CheckJob<'_>, form: Form) -> Detail {
     }
 }
 
-/// How many images are checked at a time: as many as there are processors where no number is given.
+/// The number of images checked in parallel; by default the number of processors.
 fn jobs_for<R: Threads>(rt: &R, given: Option<u32>) -> usize {
     match given {
         Some(jobs) => jobs as usize,
@@ -89,8 +89,8 @@ fn jobs_for<R: Threads>(rt: &R, given: Option<u32>) -> usize {
     }
 }
 
-/// Tells of images in the order of their paths, by what this function reports of the image at each place of the list; so
-/// many are looked at together. What is told does not depend on how many.
+/// Reports on images in the order of their paths. `report` makes the report for each position of the list, and `jobs`
+/// of them are made in parallel. The output does not depend on `jobs`.
 pub fn check_each<R, C, W, F>(
     rt: &R,
     alloc: Global,
@@ -128,14 +128,14 @@ where
     Ok(tally)
 }
 
-/// Tells a person how many of several images are done.
+/// Prints how many of several images are done.
 fn show_progress<F: Write>(terminal: bool, done: usize, all: usize, faults: &mut F) {
     if terminal && all > 1 {
         let _ = write!(faults, "{done} of {all} images");
     }
 }
 
-/// Takes that line back.
+/// Removes that line.
 fn clear_progress<F: Write>(terminal: bool, all: usize, faults: &mut F) {
     if terminal && all > 1 {
         let _ = write!(faults, "\r\x1b[K");

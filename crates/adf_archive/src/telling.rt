@@ -1,4 +1,4 @@
-//! What is told of images, and what they come to.
+//! The reports on images as output, and the overall status.
 ghost use Rattle.std.specs.Prelude.{◌≡◌, ◌+◌, ◌≤◌, ◌++◌, [], IfErr, IfOk, OnOk, OnErr, length, map};
 ghost use Rattle.std.specs.Io.KnownBytes.{Appends};
 ghost use Rattle.std.specs.String.{string_bytes};
@@ -15,26 +15,26 @@ use adf_io::write_output;
 use std::alloc::{AllocError, Global};
 use std::io::Write;
 
-/// How images are told of.
+/// The form of reports.
 #[derive(Clone, Copy)]
 pub struct Form {
-    /// Each by a JSON object, and not by lines.
+    /// Each report is a JSON object; otherwise lines.
     pub json: bool,
-    /// With the path before each line.
+    /// Each line starts with the path.
     pub paths: bool,
 }
 
-/// What images come to.
+/// The overall status of images.
 #[derive(Clone, Copy)]
 pub struct Tally {
     /// Whether one is refused.
     pub refused: bool,
-    /// Whether one is not checked.
+    /// Whether one was not checked.
     pub not_checked: bool,
 }
 
 impl Tally {
-    /// That of no image.
+    /// The status of no images.
     pub fn new() -> Tally
         ensures { IsTally [] result }
     {
@@ -44,7 +44,7 @@ impl Tally {
         }
     }
 
-    /// That with these images besides.
+    /// The status with these images added.
     pub fn add(&mut self, reports: &[ImageReport])
         ensures { self.new ≡ tallied self.old reports.now }
     {
@@ -53,7 +53,7 @@ impl Tally {
         }
     }
 
-    /// That with one image besides.
+    /// The status with one image added.
     fn note(&mut self, report: &ImageReport)
         ensures { self.new ≡ noted self.old report.now }
     {
@@ -64,7 +64,7 @@ impl Tally {
         }
     }
 
-    /// How a command over these images ends. That one is not checked goes before that one is refused.
+    /// The result of a command over these images. An image that was not checked counts before one that is refused.
     pub fn end(self) -> Result<(), ArchiveFault>
         ensures { result ≡ ends_as self }
     {
@@ -78,7 +78,7 @@ impl Tally {
     }
 }
 
-/// Tells of images, whose paths stand in the list from one place on, in their order.
+/// Writes the reports on images, in order. Their paths start at a position of the list.
 pub fn tell_reports<W: Write>(
     alloc: Global,
     paths: &[String],
@@ -96,7 +96,7 @@ pub fn tell_reports<W: Write>(
     write_text(&text, writer)
 }
 
-/// What is told of images, whose paths stand in the list from one place on.
+/// The reports on images, as text. Their paths start at a position of the list.
 fn reports_text(
     alloc: Global,
     paths: &[String],
@@ -120,7 +120,7 @@ fn reports_text(
     Ok(text)
 }
 
-/// Writes a text, or a front of it where the writer fails.
+/// Writes a text, or a prefix if the writer fails.
 fn write_text<W: Write>(text: &[u8], writer: &mut W) -> Result<(), ArchiveFault>
     ensures ok { OnOk result (Appends (W.contents writer.old) (W.contents writer.new) text.now) }
     ensures front { OnErr result (WritesFront (W.contents writer.old) (W.contents writer.new) text.now) }
@@ -132,7 +132,7 @@ fn write_text<W: Write>(text: &[u8], writer: &mut W) -> Result<(), ArchiveFault>
     }
 }
 
-/// Appends what is told of an image.
+/// Appends the report on an image.
 fn push_told(
     alloc: Global,
     text: &mut Vec<u8>,
@@ -154,7 +154,8 @@ fn push_told(
     push_lines(alloc, text, &front, report)
 }
 
-/// Tells a person of the faults of images, whose paths stand in the list from one place on, and which were not checked.
+/// Prints the texts that explain the faults of images, and which images were not checked. Their paths start at a
+/// position of the list.
 pub(crate) fn tell_person<F: Write>(
     paths: &[String],
     start: usize,
@@ -189,7 +190,7 @@ pub(crate) fn tell_person<F: Write>(
     }
 }
 
-/// Tells a person of a fault, with the path of the image where it is one of several.
+/// Prints the text of a fault, with the path of the image if it is one of several.
 fn tell_text<F: Write>(path: &str, form: Form, text: &str, faults: &mut F) {
     let _ = if form.paths {
         write!(faults, "{path}: {text}\n")
@@ -198,7 +199,7 @@ fn tell_text<F: Write>(path: &str, form: Form, text: &str, faults: &mut F) {
     };
 }
 
-/// What a person is told of a wrong size.
+/// The text for a wrong size.
 fn size_text(fault: SizeFault) -> &'static str {
     match fault {
         SizeFault::NotWholeBlocks => "the image is not whole blocks of 512 bytes",

@@ -3,7 +3,7 @@ ghost use Rattle.std.specs.Prelude.{◌≡◌};
 ghost use Rattle.adf_archive.specs.Words.{kind_word, size_word};
 
 use adf_block::SizeFault;
-use ados_tree::FaultKind;
+use ados_model::FaultKind;
 
 /// The word for a fault of the size.
 pub fn size_word(fault: SizeFault) -> &'static str
@@ -16,7 +16,7 @@ pub fn size_word(fault: SizeFault) -> &'static str
     }
 }
 
-/// The word for a fault of an image. Want of memory, for which no image is refused, has none.
+/// The word for a fault of an image. Out of memory has none, because no image is refused for it.
 pub fn kind_word(kind: FaultKind) -> &'static str
     ensures { result.now ≡ kind_word kind }
 {

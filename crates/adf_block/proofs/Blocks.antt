@@ -1,14 +1,15 @@
--- A whole block: what its bytes and longs are in the list of its bytes, and what a write of it leaves.
+-- A whole block: its bytes and longs in the list of its bytes, and the image after a write to it.
 use Rattle.std.proofs.Common.{◌≡◌, inl, inr, ℕ, ◌+◌, ◌-◌, ◌*◌, ◌<◌, ◌≤◌, ◌++◌, List, length, take, drop, slice_index, arith, ap, sym, ◌∙◌, subst, append_assoc, length-append, length-take, length-drop}
 use Rattle.std.proofs.lemmas.Bool.{cases_lt}
 use Rattle.std.proofs.lemmas.List.{get_or-take, get_or-drop, get_or_append_left, get_or-append_right, take_all}
 use Rattle.byteorder.specs.Endian.{big_number}
-use Rattle.adf_block.specs.Image.{byte_at, bytes_at, long, block_count, IsImage}
+use Rattle.adf_block.specs.Image.{byte_at, bytes_at, long, block_count}
+use Rattle.adf_block.specs.Whole.{IsImage}
 use Rattle.adf_block.specs.Frame.{OnlyBlock}
 use Rattle.adf_block.specs.Lending.{with_block}
 use Rattle.adf_block.proofs.Longs.{long-bytes}
 
--- a byte of some bytes of a block
+-- a byte of a part of a block
 pub byte-bytes_at : (image : List ℕ) (b i n k : ℕ) → k < n → slice_index (bytes_at image b i n) k ≡ byte_at image b (i + k)
 unfolding bytes_at byte_at
 byte-bytes_at image b i n k lt =
@@ -21,13 +22,13 @@ byte_of_long image b i lt k below =
     ∙ byte-bytes_at image b 0 512 (4 * i + k) (omega arith)
     ∙ ap (byte_at image b) (omega arith)
 
--- a long read from the bytes of its block
+-- a long, read from the bytes of its block
 pub long-bytes_at : (image : List ℕ) (b i : ℕ) → i < 128 → big_number 4 (drop (4 * i) (bytes_at image b 0 512)) ≡ long image b i
 long-bytes_at image b i lt =
     let byte = byte_of_long image b i lt in
     rw (byte 0 (omega arith), byte 1 (omega arith), byte 2 (omega arith), byte 3 (omega arith)) (sym (long-bytes image b i))
 
--- 512 bytes put in place of a block
+-- 512 bytes written in place of a block
 pub with_block-is : (image : List ℕ) (b : ℕ) (w : List ℕ) → b < block_count image → length w ≡ 512
     → with_block image b w ≡ take (512 * b) image ++ w ++ drop (512 * b + 512) image
 unfolding with_block
@@ -36,7 +37,7 @@ with_block-is image b w inside whole =
     (omega (arith, length-append (take (512 * b) image ++ w) (drop (512 * b + length w) image), length-append (take (512 * b) image) w, length-take (512 * b) image, length-drop (512 * b + length w) image))
     ∙ ap (λ (n : ℕ). take (512 * b) image ++ w ++ drop (512 * b + n) image) whole
 
--- the length stays, however much is written
+-- the length stays the same, for any w
 pub length_with_block : (image : List ℕ) (b : ℕ) (w : List ℕ) → length (with_block image b w) ≡ length image
 unfolding with_block
 length_with_block image b w =
@@ -49,14 +50,14 @@ length_with_block image b w =
       length-drop (512 * b + length w) image,
     )
 
--- a byte in front of the block
+-- a byte before the block
 before-with_block : (image : List ℕ) (b : ℕ) (w : List ℕ) → b < block_count image → length w ≡ 512 → (k : ℕ) → k < 512 * b → slice_index (with_block image b w) k ≡ slice_index image k
 before-with_block image b w inside whole k lt =
     ap (λ (xs : List ℕ). slice_index xs k) (with_block-is image b w inside whole ∙ append_assoc (take (512 * b) image) w (drop (512 * b + 512) image))
     ∙ get_or_append_left (take (512 * b) image) (w ++ drop (512 * b + 512) image) 0 k (omega (arith, length-take (512 * b) image))
     ∙ get_or-take (512 * b) image k 0 lt
 
--- a byte behind the block
+-- a byte after the block
 behind-with_block : (image : List ℕ) (b : ℕ) (w : List ℕ) → b < block_count image → length w ≡ 512 → (k : ℕ) → 512 * b + 512 ≤ k → slice_index (with_block image b w) k ≡ slice_index image k
 behind-with_block image b w inside whole k le =
     let front : length (take (512 * b) image ++ w) ≡ 512 * b + 512 = omega (arith, length-append (take (512 * b) image) w, length-take (512 * b) image) in
@@ -75,7 +76,7 @@ byte_at-with_block image b w inside whole k lt =
     ∙ ap (slice_index (w ++ drop (512 * b + 512) image)) (omega arith)
     ∙ get_or_append_left w (drop (512 * b + 512) image) 0 k (omega arith)
 
--- nothing else changes
+-- nothing outside the block changes
 pub only-with_block : (image : List ℕ) (b : ℕ) (w : List ℕ) → b < block_count image → length w ≡ 512 → OnlyBlock b image (with_block image b w)
 unfolding byte_at
 only-with_block image b w inside whole = record {
@@ -89,7 +90,7 @@ only-with_block image b w inside whole = record {
   ];
 }
 
--- a byte of the block is one of those written
+-- a byte of the block is one of the written bytes
 within_block : (image : List ℕ) (b : ℕ) (w : List ℕ) → b < block_count image → length w ≡ 512 → ((k : ℕ) → slice_index w k < 256) → (k : ℕ) → 512 * b ≤ k → k < 512 * b + 512 → slice_index (with_block image b w) k < 256
 unfolding byte_at
 within_block image b w inside whole small k from lt =
@@ -97,7 +98,7 @@ within_block image b w inside whole small k from lt =
     let byte : slice_index (with_block image b w) (512 * b + (k - 512 * b)) ≡ slice_index w (k - 512 * b) = byte_at-with_block image b w inside whole (k - 512 * b) (omega arith) in
     omega (arith, ap (slice_index (with_block image b w)) at, byte, small (k - 512 * b))
 
--- it is an image still
+-- the result is an image
 pub image-with_block : (image : List ℕ) (b : ℕ) (w : List ℕ) → IsImage image → b < block_count image → length w ≡ 512 → ((k : ℕ) → slice_index w k < 256) → IsImage (with_block image b w)
 image-with_block image b w h inside whole small = record {
   blocks = h.blocks;

@@ -1,4 +1,4 @@
--- What stays as it was when an image changes at some places only.
+-- What stays the same when an image changes only at some places.
 use Rattle.std.proofs.Common.{◌≡◌, ◌≢◌, ◌⊎◌, inl, inr, ℕ, ◌+◌, ◌*◌, ◌/◌, ◌%◌, ◌<◌, ◌≤◌, ◌^◌, List, length, take, drop, slice_index, arith, ap, sym, ◌∙◌, refl, length-take, length-drop}
 use Rattle.std.proofs.lemmas.Bool.{cases_lt}
 use Rattle.std.proofs.lemmas.List.{ext_get_or, get_or-take, get_or-drop}
@@ -10,40 +10,40 @@ use Rattle.adf_block.proofs.Totals.{total-same, total-one}
 
 -- ---- the whole frame
 
--- no change changes nothing
+-- an image is the same as itself, whatever may change
 pub same_refl : (changed : ℕ → ℕ → Type 0) (image : List ℕ) → SameBut changed image image
 same_refl changed image = record { same_length = refl; same_byte = λ b i lt un. refl }
 
--- one change after another
+-- two changes, one after the other
 pub same_trans : (changed : ℕ → ℕ → Type 0) (old mid new : List ℕ) → SameBut changed old mid → SameBut changed mid new → SameBut changed old new
 same_trans changed old mid new first second = record {
   same_length = second.same_length ∙ first.same_length;
   same_byte = λ b i lt un. second.same_byte b i lt un ∙ first.same_byte b i lt un;
 }
 
--- more places may be given up
+-- the set of places that may change can be widened
 pub same_weaken : (changed wider : ℕ → ℕ → Type 0) (old new : List ℕ) → ((b i : ℕ) → changed b i → wider b i) → SameBut changed old new → SameBut wider old new
 same_weaken changed wider old new within h = record {
   same_length = h.same_length;
   same_byte = λ b i lt un. h.same_byte b i lt (λ at. un (within b i at));
 }
 
--- a change of one long is one of its block
+-- a change of one long is a change of its block
 pub block_from_long : (b i : ℕ) (old new : List ℕ) → OnlyLong b i old new → OnlyBlock b old new
 block_from_long b i old new h = same_weaken (AtLong b i) (InBlock b) old new (λ c k at. at.0) h
 
--- as many blocks as before
+-- the number of blocks stays the same
 pub same_count : (changed : ℕ → ℕ → Type 0) (old new : List ℕ) → SameBut changed old new → block_count new ≡ block_count old
 same_count changed old new h = ap (λ (n : ℕ). n / 512) h.same_length
 
 -- ---- what the unchanged places hold
 
--- a long none of whose bytes were changed
+-- a long whose bytes did not change
 pub same_long : (changed : ℕ → ℕ → Type 0) (old new : List ℕ) → SameBut changed old new
     → (b i : ℕ) → i < 128 → ((k : ℕ) → k / 4 ≡ i → ¬ changed b k) → long new b i ≡ long old b i
 same_long changed old new h b i lt un = long-same old new b i (λ k e. h.same_byte b k (omega arith) (un k e))
 
--- bytes none of which were changed
+-- bytes that did not change
 pub same_bytes_at : (changed : ℕ → ℕ → Type 0) (old new : List ℕ) → SameBut changed old new
     → (b i n : ℕ) → i + n ≤ 512 → ((k : ℕ) → i ≤ k → k < i + n → ¬ changed b k) → bytes_at new b i n ≡ bytes_at old b i n
 unfolding bytes_at byte_at
@@ -60,7 +60,7 @@ same_bytes_at changed old new h b i n room un =
     ∙ sym (get_or-drop (512 * b + i) old k 0)
     ∙ sym (get_or-take n (drop (512 * b + i) old) k 0 below))
 
--- the sum of a block of which nothing was changed
+-- the sum of a block that did not change
 pub same_sum : (changed : ℕ → ℕ → Type 0) (old new : List ℕ) → SameBut changed old new
     → (b : ℕ) → ((k : ℕ) → k < 512 → ¬ changed b k) → block_sum new b ≡ block_sum old b
 unfolding block_sum
@@ -79,7 +79,7 @@ other_long b i old new h c j lt apart =
 moved : (t u x y : ℕ) → u + x ≡ t + y → (u % 2 ^ 32 + x) % 2 ^ 32 ≡ (t % 2 ^ 32 + y) % 2 ^ 32
 moved t u x y e = omega arith
 
--- the sum of the block moves by as much as the long
+-- the sum of the block changes by as much as the long
 pub changed_sum : (b i : ℕ) (old new : List ℕ) → OnlyLong b i old new → i < 128
     → (block_sum new b + long old b i) % 2 ^ 32 ≡ (block_sum old b + long new b i) % 2 ^ 32
 unfolding block_sum

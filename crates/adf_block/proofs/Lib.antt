@@ -1,4 +1,5 @@
--- Lists that are written over, longs and their sums, what a change of some places leaves, and writes of a whole block or a part.
+-- Overwritten lists, longs and their sums, what a partial change leaves untouched, and writes of a whole block or a
+-- part.
 pub mod Bytes
 pub mod Longs
 pub mod Totals

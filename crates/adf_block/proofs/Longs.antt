@@ -1,14 +1,15 @@
 -- A long as its four bytes.
 use Rattle.std.proofs.Common.{◌≡◌, ℕ, ◌+◌, ◌*◌, ◌/◌, ◌<◌, ◌^◌, List, drop, slice_index, arith, ap, sym, ◌∙◌, refl}
 use Rattle.std.proofs.lemmas.List.{get_or-drop}
-use Rattle.adf_block.specs.Image.{byte_at, long, IsImage}
+use Rattle.adf_block.specs.Image.{byte_at, long}
+use Rattle.adf_block.specs.Whole.{IsImage}
 
 -- byte k of a long is a byte of its block
 at_byte : (image : List ℕ) (b i k : ℕ) → slice_index (drop (512 * b + 4 * i) image) k ≡ byte_at image b (4 * i + k)
 unfolding byte_at
 at_byte image b i k = get_or-drop (512 * b + 4 * i) image k 0 ∙ ap (slice_index image) (omega arith)
 
--- a long by its bytes, the highest first
+-- a long by its bytes, big-endian
 pub long-bytes : (image : List ℕ) (b i : ℕ) → long image b i ≡ byte_at image b (4 * i + 0) * 256 ^ 3 + (byte_at image b (4 * i + 1) * 256 ^ 2 + (byte_at image b (4 * i + 2) * 256 ^ 1 + (byte_at image b (4 * i + 3) * 256 ^ 0 + 0)))
 unfolding long
 long-bytes image b i = rw (← at_byte image b i 0, ← at_byte image b i 1, ← at_byte image b i 2, ← at_byte image b i 3) refl

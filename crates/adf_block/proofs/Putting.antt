@@ -1,4 +1,4 @@
--- A block of which a part was written over.
+-- A block with a part of it overwritten.
 use Rattle.std.proofs.Common.{◌≡◌, ℕ, ◌+◌, ◌-◌, ◌<◌, ◌≤◌, ◌++◌, ◌⊎◌, inl, inr, List, length, take, drop, slice_index, zero-add, refl, sym, ap, ◌∙◌, arith}
 use Rattle.std.proofs.lemmas.Bool.{cases_lt, cases_eq}
 use Rattle.std.proofs.lemmas.List.{get_or_append_left, get_or-append_right, get_or-take, get_or-drop, length-take, length-drop, length-append}
@@ -35,7 +35,7 @@ module _ (xs ys : List ℕ) (a n : ℕ) (room : a + length ys ≤ length xs) (n_
   length-mid =
       omega (arith, front, n_is, length-append (take a xs) (ys ++ drop n (drop a xs)), length-append ys (drop n (drop a xs)), length-drop n (drop a xs), length-drop a xs)
 
--- the bytes of block b, of which some were written over
+-- the bytes of block b, some of them overwritten
 module _ (image : List ℕ) (b a n : ℕ) (xs ys : List ℕ) (inside : b < block_count image) (is : xs ≡ bytes_at image b 0 512) (whole : length xs ≡ 512) (room : a + length ys ≤ 512) (n_is : n ≡ length ys) where
   fits : a + length ys ≤ length xs
   fits = omega (arith, whole, room)

@@ -3,7 +3,7 @@ use Rattle.std.proofs.Common.{◌≡◌, ◌≢◌, ℕ, zero, suc, ◌+◌, ◌
 use Rattle.std.proofs.lemmas.Bool.{cases_lt}
 use Rattle.adf_block.specs.Image.{total}
 
--- one number more
+-- one more number
 pub total-more : (f : ℕ → ℕ) (n : ℕ) → total f (n + 1) ≡ total f n + f n
 total-more f n = rw add-one refl
 
@@ -12,7 +12,7 @@ pub total-same : (f g : ℕ → ℕ) (n : ℕ) → ((j : ℕ) → j < n → g j 
 total-same f g zero same = refl
 total-same f g (suc n) same = ap₂ (λ (x y : ℕ). x + y) (total-same f g n (λ j h. same j (omega arith))) (same n (omega arith))
 
--- one number changed
+-- one number changes
 pub total-one : (f g : ℕ → ℕ) (k n : ℕ) → k < n → ((j : ℕ) → j < n → j ≢ k → g j ≡ f j) → total g n + f k ≡ total f n + g k
 total-one f g k zero lt same = absurd (omega arith)
 total-one f g k (suc n) lt same = elim (cases_lt k n) [
@@ -26,7 +26,7 @@ total-one f g k (suc n) lt same = elim (cases_lt k n) [
       rw e (omega (arith, rest))
 ]
 
--- numbers below a bound have a sum below so many times the bound
+-- n numbers of at most m have a sum of at most n * m
 pub total-bound : (f : ℕ → ℕ) (m n : ℕ) → ((j : ℕ) → f j ≤ m) → total f n ≤ n * m
 total-bound f m zero h = omega arith
 total-bound f m (suc n) h = omega (arith, total-bound f m n h, h n)

@@ -1,11 +1,13 @@
--- What a change of an image leaves as it was.
+-- What a change of an image leaves untouched.
 use Rattle.std.specs.Prelude.{◌≡◌, ℕ, ◌/◌, ◌<◌, ◌≤◌, List, length}
 use Rattle.adf_block.specs.Image.{byte_at}
+use Rattle.adf_block.specs.Layout.{block_bytes}
 
--- the new image has the old one's length, and each byte of the old one but those at the changed places, given by block and byte
+-- the new image is as long as the old one, and each byte outside the changed places is the same; a place is a block
+-- and a byte of it
 pub record SameBut (changed : ℕ → ℕ → Type 0) (old new : List ℕ) : Type 0 where
   pub same_length : length new ≡ length old
-  pub same_byte : (b i : ℕ) → i < 512 → ¬ changed b i → byte_at new b i ≡ byte_at old b i
+  pub same_byte : (b i : ℕ) → i < block_bytes → ¬ changed b i → byte_at new b i ≡ byte_at old b i
 
 -- the bytes of long i of block b
 abbrev pub AtLong : ℕ → ℕ → ℕ → ℕ → Type 0
@@ -19,10 +21,10 @@ Within b low high c k = (c ≡ b) × (low ≤ k) × (k < high)
 abbrev pub InBlock : ℕ → ℕ → ℕ → Type 0
 InBlock b c k = c ≡ b
 
--- at most long i of block b was changed
+-- nothing but long i of block b changed
 abbrev pub OnlyLong : ℕ → ℕ → List ℕ → List ℕ → Type 0
 OnlyLong b i old new = SameBut (AtLong b i) old new
 
--- at most bytes of block b were changed
+-- nothing outside block b changed
 abbrev pub OnlyBlock : ℕ → List ℕ → List ℕ → Type 0
 OnlyBlock b old new = SameBut (InBlock b) old new

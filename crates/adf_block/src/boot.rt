@@ -1,29 +1,28 @@
-//! The boot blocks, 0 and 1: the kind of the disk, and whether its boot code is to be run.
+//! The boot blocks, 0 and 1: the DOS type of the disk, and the checksum of its boot code.
 
 ghost use Rattle.std.specs.Prelude.{◌≡◌, ◌≤◌, ◌^◌, ◌↔◌, IsTrue};
-ghost use Rattle.adf_block.specs.Image.{long, total};
+ghost use Rattle.adf_block.specs.Image.{long, total, format_of};
 ghost use Rattle.adf_block.specs.Boot.{HasKind, boot_long, boot_sum, carried_sum};
-ghost use Rattle.adf_block.specs.Kind.{format_of};
 
 use crate::Format;
 use crate::floppy::Image;
 use crate::layout::{BLOCK_LONGS, BOOT_BLOCKS, BOOT_SUM, KIND_BYTE};
 
-/// What the first four bytes say of the disk.
+/// The DOS type of a disk: the first four bytes of its image.
 #[derive(Clone, Copy, Debug, PartialEq, Eq)]
 pub enum BootKind {
-    /// `DOS` and 0: the old file system.
+    /// `DOS`, 0: the old file system.
     Ofs,
-    /// `DOS` and 1: the fast file system.
+    /// `DOS`, 1: the fast file system.
     Ffs,
-    /// `DOS` and another byte.
+    /// `DOS`, then another byte.
     OtherDos(u8),
-    /// Not `DOS`.
+    /// Other bytes than `DOS`.
     NotDos,
 }
 
 impl Image {
-    /// The kind of the disk, by bytes 0 to 3.
+    /// The DOS type of the disk, from bytes 0 to 3 of block 0.
     pub fn boot_kind(&self) -> BootKind
         ensures { HasKind self.now result }
     {
@@ -38,7 +37,7 @@ impl Image {
         }
     }
 
-    /// How the volume's data blocks are laid out.
+    /// How the volume's data blocks are laid out: byte 3 of block 0 is 0 for OFS. Any other byte counts as FFS.
     pub fn format(&self) -> Format
         ensures { result ≡ format_of self.now }
     {
@@ -49,8 +48,8 @@ impl Image {
         }
     }
 
-    /// Whether the boot sum in long 1 is that of the two boot blocks: then the disk can be booted
-    /// from (AmigaDOS Technical Reference). Nothing else asks for it.
+    /// Whether long 1 of block 0 is the checksum of the two boot blocks. AmigaDOS boots only from such a disk
+    /// (AmigaDOS Technical Reference). No other call depends on it.
     pub fn is_bootable(&self) -> bool
         ensures { IsTrue result ↔ (long self.now 0 1 ≡ boot_sum self.now) }
     {
@@ -58,14 +57,15 @@ impl Image {
         self.long(0, BOOT_SUM) == self.boot_sum()
     }
 
-    /// The boot sum that the two boot blocks want in long 1.
+    /// The checksum of the two boot blocks that belongs in long 1 of block 0: the complement of an end-around-carry
+    /// sum.
     pub fn boot_sum(&self) -> u32
         ensures { result ≡ boot_sum self.now }
     {
         !carry_round(self.boot_total())
     }
 
-    /// The sum of the 256 boot longs but for the boot sum's own, with no wrap.
+    /// The sum of the 256 longs of the boot blocks without the checksum's own long. It does not wrap.
     fn boot_total(&self) -> u64
         ensures total { result ≡ total (boot_long self.now) 256 }
         ensures bound { result ≤ 2 ^ 40 }
@@ -81,7 +81,7 @@ impl Image {
     }
 }
 
-/// The sum whose carries out of 32 bits were added in again.
+/// The end-around-carry sum: the carries out of 32 bits are added back.
 fn carry_round(total: u64) -> u32
     requires { total ≤ 2 ^ 40 }
     ensures { result ≡ carried_sum total }

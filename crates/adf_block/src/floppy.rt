@@ -1,9 +1,11 @@
-//! The image itself: its bytes, blocks and longs.
+//! The image: its bytes, blocks and longs.
 
 ghost use Rattle.std.specs.Prelude.{◌≡◌, ◌<◌, ◌≤◌, ◌^◌, ◌*◌, ◌+◌, ◌-◌, ◌/◌, ◌++◌, ◌⊎◌, ◌≢◌, ℕ, length, take, drop, slice_index, IfOk, IfErr};
 ghost use Rattle.std.specs.Borrow.{sem};
 ghost use Rattle.byteorder.specs.Endian.{big_bytes};
-ghost use Rattle.adf_block.specs.Image.{IsImage, IsSize, block_count, bytes_at, byte_at, long, root_key};
+ghost use Rattle.adf_block.specs.Layout.{block_bytes, block_longs};
+ghost use Rattle.adf_block.specs.Whole.{IsImage};
+ghost use Rattle.adf_block.specs.Image.{IsSize, block_count, bytes_at, byte_at, long, root_key};
 ghost use Rattle.adf_block.specs.Frame.{OnlyLong};
 ghost use Rattle.adf_block.specs.Size.{IsSizeFault};
 ghost use Rattle.adf_block.specs.Lending.{LendsBlock};
@@ -13,10 +15,10 @@ use crate::volume_size::{SizeFault, SizeRefused};
 use byteorder::{BigEndian, ByteOrder};
 use std::marker::Model;
 
-/// The bytes of a block.
+/// Bytes in a block.
 const BLOCK: usize = BLOCK_BYTES as usize;
 
-/// A whole image: 16 to 101,602 blocks. Contracts see the list of its bytes.
+/// A whole image of 16 to 101,602 blocks. Its model is the list of its bytes.
 #[derive(Drop)]
 pub struct Image {
     bytes: Vec<u8>,
@@ -24,7 +26,7 @@ pub struct Image {
 
 impl Model for Image {
     ghost use Rattle.std.specs.Prelude.{List, ℕ};
-    ghost use Rattle.adf_block.specs.Image.{IsWhole};
+    ghost use Rattle.adf_block.specs.Whole.{IsWhole};
 
     ghost Value = { List ℕ };
 
@@ -34,7 +36,8 @@ impl Model for Image {
 }
 
 impl Image {
-    /// The image of these bytes.
+    /// Makes an image of these bytes. The length must be a multiple of 512 bytes, and 16 to 101,602 blocks. An error
+    /// returns the bytes.
     pub fn from_bytes(bytes: Vec<u8>) -> Result<Image, SizeRefused>
         ensures ok { IfOk result (λ image. (image ≡ bytes.items) × IsImage image) }
         ensures err { IfErr result (λ refused. (refused.bytes ≡ bytes) × IsSizeFault (length bytes.items) refused.fault) }
@@ -61,51 +64,52 @@ impl Image {
         Ok(Image { bytes })
     }
 
-    /// How many blocks the image has.
+    /// The number of blocks.
     pub fn blocks(&self) -> u32
         ensures count { result ≡ block_count self.now }
         ensures size { IsSize result }
-        ensures whole { length self.now ≡ 512 * result }
+        ensures whole { length self.now ≡ block_bytes * result }
         ensures image { IsImage self.now }
     {
         whole_blocks(&self.bytes) as u32
     }
 
-    /// The number of the root block, in the middle of the volume.
+    /// The block number of the root, in the middle of the volume: 880 on a floppy of 1,760 blocks (AmigaDOS Technical
+    /// Reference).
     pub fn root(&self) -> u32
         ensures { result ≡ root_key (block_count self.now) }
     {
         (self.blocks() + 1) / 2
     }
 
-    /// Long `i` of block `b`, from 0 to 127.
+    /// Long `i` of block `b`, big-endian. `i` is 0 to 127.
     #[tactic(auto, unfolding(crate::specs::Image::long))]
     pub fn long(&self, b: u32, i: u32) -> u32
         requires block { b < block_count self.now }
-        requires place { i < 128 }
+        requires place { i < block_longs }
         ensures { result ≡ long self.now b i }
     {
         let at = b as usize * BLOCK + i as usize * 4;
         BigEndian::read_u32(&self.bytes[at..])
     }
 
-    /// Puts `v` into long `i` of block `b`.
+    /// Writes `v` into long `i` of block `b`, big-endian.
     pub fn set_long(&mut self, b: u32, i: u32, v: u32)
         requires block { b < block_count self.old }
-        requires place { i < 128 }
+        requires place { i < block_longs }
         ensures long { long self.new b i ≡ v }
-        ensures others { (c j : ℕ) → j < 128 → (c ≢ b) ⊎ (j ≢ i) → long self.new c j ≡ long self.old c j }
+        ensures others { (c j : ℕ) → j < block_longs → (c ≢ b) ⊎ (j ≢ i) → long self.new c j ≡ long self.old c j }
         ensures rest { OnlyLong b i self.old self.new }
         ensures image { IsImage self.new }
     {
         write_long(&mut self.bytes, b as usize * BLOCK + i as usize * 4, v);
     }
 
-    /// Byte `i` of block `b`, from 0 to 511.
+    /// Byte `i` of block `b`. `i` is 0 to 511.
     #[tactic(auto, unfolding(crate::specs::Image::byte_at))]
     pub fn byte(&self, b: u32, i: u32) -> u8
         requires block { b < block_count self.now }
-        requires place { i < 512 }
+        requires place { i < block_bytes }
         ensures { result ≡ byte_at self.now b i }
     {
         self.bytes[b as usize * BLOCK + i as usize]
@@ -114,32 +118,32 @@ impl Image {
     /// The 512 bytes of block `b`.
     pub fn block(&self, b: u32) -> &[u8]
         requires { b < block_count self.now }
-        ensures bytes { result.now ≡ bytes_at self.now b 0 512 }
-        ensures length { length result.now ≡ 512 }
+        ensures bytes { result.now ≡ bytes_at self.now b 0 block_bytes }
+        ensures length { length result.now ≡ block_bytes }
     {
         let at = b as usize * BLOCK;
         &self.bytes[at..at + BLOCK]
     }
 
-    /// The 512 bytes of block `b`, to be written.
+    /// The 512 bytes of block `b`, borrowed for writing.
     pub fn block_mut(&mut self, b: u32) -> &mut [u8]
         requires { b < block_count self.old }
         ensures* writes_back { sem 𝓛 (LendsBlock self.entry b result) }
-        ensures bytes { result.now ≡ bytes_at self.old b 0 512 }
-        ensures length { length result.now ≡ 512 }
+        ensures bytes { result.now ≡ bytes_at self.old b 0 block_bytes }
+        ensures length { length result.now ≡ block_bytes }
     {
         let at = b as usize * BLOCK;
         self.bytes.slice_mut(at..at + BLOCK)
     }
 
-    /// All bytes, as they stand on the disk.
+    /// All bytes, in the order of the disk.
     pub fn as_bytes(&self) -> &[u8]
         ensures { result.now ≡ self.now }
     {
         &self.bytes
     }
 
-    /// The bytes, as they stand on the disk.
+    /// The bytes, in the order of the disk, without a copy.
     pub fn into_bytes(self) -> Vec<u8>
         ensures { result.items ≡ self }
     {
@@ -147,15 +151,15 @@ impl Image {
     }
 }
 
-/// How many whole blocks there are.
+/// The number of whole blocks in these bytes.
 fn whole_blocks(bytes: &[u8]) -> usize
-    ensures count { result ≡ length bytes.now / 512 }
+    ensures count { result ≡ length bytes.now / block_bytes }
     ensures bytes { (i : ℕ) → slice_index bytes.now i < 256 }
 {
     bytes.len() / BLOCK
 }
 
-/// Writes `v` over the four bytes from `at` on.
+/// Writes `v` over the four bytes from `at`, big-endian.
 fn write_long(bytes: &mut [u8], at: usize, v: u32)
     requires { at + 4 ≤ length bytes.old }
     ensures bytes { (i : ℕ) → slice_index bytes.new i < 256 }

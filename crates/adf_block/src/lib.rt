@@ -1,5 +1,4 @@
-//! An Amiga floppy image: blocks of 512 bytes, each of 128 big-endian longs, with their sums and
-//! the boot blocks.
+//! An Amiga floppy image: blocks of 512 bytes, each of 128 big-endian longs, with their checksums and the boot blocks.
 #![tactic(auto)]
 
 mod boot;
@@ -13,10 +12,10 @@ pub use boot::BootKind;
 pub use floppy::Image;
 pub use volume_size::{SizeFault, SizeRefused, page_count, size_ok};
 
-/// How data blocks are laid out.
+/// The layout of data blocks.
 #[derive(Clone, Copy, Debug, PartialEq, Eq)]
 pub enum Format {
-    /// The old file system: a header of 24 bytes in front of 488 bytes of data.
+    /// The old file system: a header of 24 bytes, then 488 bytes of data.
     Ofs,
     /// The fast file system: 512 bytes of data.
     Ffs,

@@ -1,14 +1,16 @@
-//! The sums of a block's longs. A block with a sum field is whole where its longs add up to 0.
+//! Checksums. In a block with a checksum field, the longs add up to 0 modulo 2^32.
 
 ghost use Rattle.std.specs.Prelude.{◌≡◌, ◌≢◌, ◌<◌, ◌⊎◌, ℕ};
-ghost use Rattle.adf_block.specs.Image.{IsImage, block_count, block_sum, long};
+ghost use Rattle.adf_block.specs.Layout.{block_longs};
+ghost use Rattle.adf_block.specs.Whole.{IsImage};
+ghost use Rattle.adf_block.specs.Image.{block_count, block_sum, long};
 ghost use Rattle.adf_block.specs.Frame.{OnlyLong};
 
 use crate::floppy::Image;
 use crate::layout::BLOCK_LONGS;
 
 impl Image {
-    /// The sum of the 128 longs of block `b`, which wraps.
+    /// The sum of the 128 longs of block `b`, modulo 2^32.
     pub fn sum(&self, b: u32) -> u32
         requires { b < block_count self.now }
         ensures { result ≡ block_sum self.now b }
@@ -20,12 +22,13 @@ impl Image {
         sum
     }
 
-    /// Sets long `field` of block `b` so that the block's sum is 0 (AmigaDOS Technical Reference).
+    /// Writes the checksum of block `b` into long `field`: the sum of all its longs becomes 0 (AmigaDOS Technical
+    /// Reference). The field is long 5, in a bitmap block long 0.
     pub fn settle(&mut self, b: u32, field: u32)
         requires block { b < block_count self.old }
-        requires place { field < 128 }
+        requires place { field < block_longs }
         ensures sum { block_sum self.new b ≡ 0 }
-        ensures others { (c j : ℕ) → j < 128 → (c ≢ b) ⊎ (j ≢ field) → long self.new c j ≡ long self.old c j }
+        ensures others { (c j : ℕ) → j < block_longs → (c ≢ b) ⊎ (j ≢ field) → long self.new c j ≡ long self.old c j }
         ensures rest { OnlyLong b field self.old self.new }
         ensures image { IsImage self.new }
     {

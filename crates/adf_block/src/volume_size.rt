@@ -5,15 +5,16 @@ ghost use Rattle.adf_block.specs.Image.{IsSize, page_count};
 
 use crate::layout::{BOOT_BLOCKS, FEWEST_BLOCKS, MOST_BLOCKS, PAGE_BITS};
 
-/// Whether a volume may have this many blocks: 16 to 101,602 (this project's own bounds: a root
-/// among the blocks, and pages that its 25 page longs can name).
+/// Whether a volume may have this many blocks: 16 to 101,602. Both limits are this project's own. A root has to fit,
+/// and the 25 bitmap pointers of a root have to cover all blocks.
 pub fn size_ok(blocks: u32) -> bool
     ensures { IsTrue result ↔ IsSize blocks }
 {
     FEWEST_BLOCKS <= blocks && blocks <= MOST_BLOCKS
 }
 
-/// How many bitmap pages a volume of this many blocks has. The boot blocks have no bit.
+/// The number of bitmap blocks in a volume of this many blocks. One bitmap block covers 4,064 blocks. The boot blocks
+/// have no bit.
 pub fn page_count(blocks: u32) -> u32
     requires { IsSize blocks }
     ensures { result ≡ page_count blocks }
@@ -26,13 +27,13 @@ pub fn page_count(blocks: u32) -> u32
 pub enum SizeFault {
     /// The length is no multiple of 512 bytes.
     NotWholeBlocks,
-    /// There are under 16 blocks.
+    /// There are fewer than 16 blocks.
     TooFewBlocks,
-    /// There are over 101,602 blocks.
+    /// There are more than 101,602 blocks.
     TooManyBlocks,
 }
 
-/// The first fault of a size, with the bytes handed back.
+/// The first fault of a size, with the unchanged bytes.
 #[derive(Debug, Drop)]
 pub struct SizeRefused {
     pub fault: SizeFault,

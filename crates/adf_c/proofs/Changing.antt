@@ -1,4 +1,4 @@
--- Which blocks of an image differ from a copy, block by block.
+-- The blocks of an image that differ from a copy, block by block.
 use Rattle.std.proofs.Common.{◌≡◌, ℕ, ◌+◌, ◌-◌, ◌*◌, Bool, true, false, cond, not, List, [], ◌∷◌, ◌++◌, take, drop, Option, Some, Result, Ok, Err, inr, arith, refl, sym, ap, ap₂, ◌∙◌, subst}
 use Rattle.std.specs.Prelude.{filter, map, bytes_eq, MatchResult}
 use Rattle.std.specs.List.{range_with_len}
@@ -8,7 +8,7 @@ use Rattle.adf_c.specs.Changed.{differs, TakesOver, RefusesTaking, CopiesChanged
 use Rattle.adf_c.specs.declared.desk.Desk.{Desk}
 use Rattle.adf_c.specs.declared.refusal.Refusal.{Refusal}
 
--- the bytes from a block's place on are the block's
+-- the bytes from a block's position are the block's
 pub block_of : (copy : List ℕ) (block : ℕ) → take (block * 512 + 512 - block * 512) (drop (block * 512) copy) ≡ bytes_at copy block 0 512
 unfolding bytes_at
 block_of copy block =
@@ -35,7 +35,7 @@ one_that_differs p n old new so_far d put = put ∙ ap (λ l. l ++ n ∷ []) so_
 pub one_that_is_same : (p : ℕ → Bool) (n : ℕ) (old : List ℕ) → old ≡ filter p (range_with_len 0 n) → p n ≡ false → old ≡ filter p (range_with_len 0 (n + 1))
 one_that_is_same p n old so_far s = so_far ∙ sym (nothing_more (filter p (range_with_len 0 n))) ∙ ap (λ b. filter p (range_with_len 0 n) ++ cond b (n ∷ []) []) (sym s) ∙ sym (one_more p n)
 
--- the blocks that are told are those of the handle's image
+-- the listed blocks are those of the handle's image
 pub tells : (r : Result ℕ Refusal) (held : Option Desk) (desk : Desk) (image copy_before copy_after numbers_before numbers_after : List ℕ) → held ≡ Some desk → image ≡ desk.handler.image
     → MatchResult r (λ count. TakesOver image copy_before copy_after numbers_before numbers_after count)
     (λ refusal. RefusesTaking image copy_before numbers_before refusal × (copy_after ≡ copy_before) × (numbers_after ≡ numbers_before))

@@ -1,16 +1,16 @@
--- What a call comes to, by what its parts do.
+-- The result of a call, by the results of its parts.
 use Rattle.std.proofs.Common.{◌≡◌, ℕ, ℤ, pos, Bool, true, false, List, Option, Some, None, Result, Ok, Err, inl, inr, refl, sym, ap, ◌∙◌, subst}
 use Rattle.std.proofs.lemmas.Bool.{false≢true, true≢false}
 use Rattle.std.specs.Prelude.{is_some}
-use Rattle.adf_block.specs.Image.{IsImage, IsSize}
+use Rattle.adf_block.specs.Whole.{IsImage}
+use Rattle.adf_block.specs.Image.{IsSize}
 use Rattle.adf_block.specs.declared.Format.{Format}
 use Rattle.ados_name.specs.declared.Date3.{Date3}
 use Rattle.ados_name.specs.Name.{IsName}
-use Rattle.ados_packet.specs.declared.packet.Packet.{Packet}
-use Rattle.ados_tree.specs.Accepted.{Accepts}
-use Rattle.ados_tree.specs.Blank.{IsBlank}
-use Rattle.ados_handler.specs.Handler.{HandlerState}
-use Rattle.ados_handler.specs.Session.{opening_session}
+use Rattle.ados_model.specs.declared.packet.Packet.{Packet}
+use Rattle.ados_model.specs.Accepted.{Accepts}
+use Rattle.ados_model.specs.Blank.{IsBlank}
+use Rattle.ados_model.specs.Session.{HandlerState, opening_session}
 use Rattle.adf_c.specs.Calls.{Comes, IsOpen, Seats, Opens, RefusesOpen, Blanks, RefusesBlank, format_number, SpellsFitting, ServedBy, Serves, CopiesBytes, RefusesBytes, CopiesImage, RefusesCopy}
 use Rattle.adf_c.specs.Spelling.{date_of}
 use Rattle.adf_c.specs.declared.answer.JipAnswer.{JipAnswer}
@@ -20,7 +20,7 @@ use Rattle.adf_c.specs.declared.packet.JipPacket.{JipPacket}
 use Rattle.adf_c.specs.declared.refusal.Refusal.{Refusal}
 use Rattle.adf_c.specs.declared.refusal.Refusal.TheVariants.{NoMemory}
 
--- whether a handle is open, by whether it holds a desk
+-- a handle is open if it has a desk
 pub some_is_open : (held : Option Desk) → is_some held ≡ true → IsOpen held
 some_is_open (Some desk) t = (desk, refl)
 some_is_open None t = absurd (false≢true t)
@@ -29,12 +29,12 @@ pub none_is_closed : (held : Option Desk) → is_some held ≡ false → held �
 none_is_closed (Some desk) t = absurd (true≢false t)
 none_is_closed None t = refl
 
--- a new desk is seated
+-- a new desk is in the handle
 pub seats : (new : Option Desk) (desk : Desk) (handler : HandlerState) (image : List ℕ) (validated : Bool) → new ≡ Some desk → desk ≡ record { handler = handler; changes = 0 }
     → handler.image ≡ image → handler.was_validated ≡ validated → handler.session ≡ opening_session → Seats image validated new
 seats new desk handler image validated is made i v s = (record { handler = handler; changes = 0 }, is ∙ ap Some made, (i, v, s, refl))
 
--- what a seat that was not taken comes to
+-- the result if there was no memory for the desk
 abbrev Unseated : Option Desk → Option Desk → Refusal → Type 0
 Unseated same new refusal = (refusal ≡ NoMemory) × (new ≡ same)
 
@@ -63,7 +63,7 @@ blanks (Ok x) format number blocks name given moment image validated old same ne
 blanks (Err refusal) format number blocks name given moment image validated old same new n size named is closed kept blank v why =
     subst (RefusesBlank number blocks name old new) (sym why.0) (why.1 ∙ kept, closed)
 
--- the desk that was lent serves the packet that was spelled
+-- the desk of the handle serves the packet of the struct
 pub serves : (held new : Option Desk) (c : JipPacket) (path text bytes before after : List ℕ) (told : JipAnswer) (was lent is : Desk) (packet : Packet) (now : Date3) → held ≡ Some was → lent ≡ was
     → new ≡ Some is → now ≡ date_of c.moment → SpellsFitting c path text bytes before packet → ServedBy lent is packet now before after told → Serves held new c path text bytes before after told
 serves held new c path text bytes before after told was lent is packet now holds lends keeps moment spelled served = record {
@@ -76,7 +76,7 @@ serves held new c path text bytes before after told was lent is packet now holds
   served = subst (λ m. ServedBy was is packet m before after told) moment (subst (λ d. ServedBy d is packet now before after told) lends served);
 }
 
--- the bytes that are copied are those of the handle's image
+-- the copied bytes are those of the handle's image
 pub copies : (r : Result (Unit {0}) Refusal) (held : Option Desk) (desk : Desk) (bytes before after : List ℕ) → held ≡ Some desk → bytes ≡ desk.handler.image
     → Comes (CopiesBytes bytes before after) (RefusesBytes bytes before after) r → Comes (CopiesImage held before after) (RefusesCopy held before after) r
 copies (Ok x) held desk bytes before after holds is copied = (desk, holds, subst (λ b. CopiesBytes b before after) is copied)

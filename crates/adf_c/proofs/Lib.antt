@@ -1,4 +1,4 @@
--- How what a handle owns lies in memory, what a call comes to by what its parts do, and which blocks differ.
+-- The memory that a handle owns, the result of a call by those of its parts, and the blocks that differ.
 pub mod Values
 pub mod Coming
 pub mod Changing

@@ -1,14 +1,14 @@
--- What a desk does with a packet.
+-- How a desk serves a packet.
 use Rattle.std.specs.Prelude.{◌≡◌, ◌+◌, ◌%◌, ◌^◌, ℕ, ℤ, pos, negsuc, Bool, true, false, ◌&&◌, ◌==◌, if◌then◌else◌}
 use Rattle.ados_name.specs.declared.Date3.{Date3}
-use Rattle.ados_packet.specs.declared.packet.Packet.{Packet}
-use Rattle.ados_packet.specs.declared.packet.Packet.TheVariants.{RenameDisk, DeleteObject, RenameObject, SetProtect, CreateDir, SetComment, SetDate, Write, FindUpdate, FindOutput, SetFileSize}
-use Rattle.ados_packet.specs.declared.answer.Answer.{Answer}
+use Rattle.ados_model.specs.declared.packet.Packet.{Packet}
+use Rattle.ados_model.specs.declared.packet.Packet.TheVariants.{RenameDisk, DeleteObject, RenameObject, SetProtect, CreateDir, SetComment, SetDate, Write, FindUpdate, FindOutput, SetFileSize}
+use Rattle.ados_model.specs.declared.answer.Answer.{Answer}
 use Rattle.ados_handler.specs.Gives.{HandlerGives}
-use Rattle.ados_handler.specs.Meaning.{is_number}
+use Rattle.ados_model.specs.Meaning.{is_number}
 use Rattle.adf_c.specs.declared.desk.Desk.{Desk}
 
--- the packet, where it is served, may change the image
+-- the packet, if served, may change the image
 abbrev pub may_change : Packet → Bool
 may_change (RenameDisk name) = true
 may_change (DeleteObject lock path) = true
@@ -27,11 +27,11 @@ may_change _ = false
 abbrev pub next_count : ℕ → ℕ
 next_count n = (n + 1) % 2 ^ 64
 
--- the count after a packet with this answer: the next one where the packet was served and may have changed the image
+-- the count after a packet with this answer: the next one if the packet was served and may have changed the image
 abbrev pub count_after : ℕ → Packet → Answer → ℕ
 count_after n packet answer = if may_change packet && is_number 0 answer.res2 then next_count n else n
 
--- a desk serves a packet as its handler does, and where the count stays the image does
+-- a desk serves a packet as its handler does; while the count is the same, so is the image
 pub record ServesPacket (old : Desk) (packet : Packet) (now : Date3) (new : Desk) (answer : Answer) : Type 0 where
   pub gives : HandlerGives old.handler packet now new.handler answer
   pub counts : new.changes ≡ count_after old.changes packet answer

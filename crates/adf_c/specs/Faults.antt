@@ -1,14 +1,14 @@
--- The faults of an image as C sees them.
+-- The faults of an image, for C.
 use Rattle.std.specs.Prelude.{◌≡◌, ◌⊎◌, ℕ, pos, List, length}
 use Rattle.adf_block.specs.Size.{IsSizeFault}
 use Rattle.adf_block.specs.declared.volume_size.SizeFault.{SizeFault}
 use Rattle.adf_block.specs.declared.volume_size.SizeFault.TheVariants.{NotWholeBlocks, TooFewBlocks, TooManyBlocks}
-use Rattle.ados_tree.specs.Faults.{Shows}
-use Rattle.ados_tree.specs.declared.fault.FaultKind.{FaultKind}
-use Rattle.ados_tree.specs.declared.fault.FaultKind.TheVariants.{NotADosDisk, UnsupportedKind, BadSum, BadType, BadOwnKey, BadParent, BadPointer, BlockUsedTwice, WrongChain, BadName, DuplicateName, BadComment, BadCount, BadSequence, LinkEntry, MarkedFree, NoMemory}
+use Rattle.ados_model.specs.Faults.{Shows}
+use Rattle.ados_model.specs.declared.fault.FaultKind.{FaultKind}
+use Rattle.ados_model.specs.declared.fault.FaultKind.TheVariants.{NotADosDisk, UnsupportedKind, BadSum, BadType, BadOwnKey, BadParent, BadPointer, BlockUsedTwice, WrongChain, BadName, DuplicateName, BadComment, BadCount, BadSequence, LinkEntry, MarkedFree, NoMemory}
 use Rattle.adf_c.specs.declared.open.JipFault.{JipFault}
 
--- the number of a fault, which is that of its row in the table of faults; 16 and 18 are no image's
+-- the number of a fault: its row in the table of faults; 16 and 18 are never faults of an image
 abbrev pub fault_number : FaultKind → ℕ
 fault_number NotADosDisk = 1
 fault_number UnsupportedKind = 2
@@ -28,7 +28,7 @@ fault_number LinkEntry = 15
 fault_number MarkedFree = 17
 fault_number NoMemory = 19
 
--- the number of a length's fault
+-- the number of a size's fault
 abbrev pub size_fault_number : SizeFault → ℕ
 size_fault_number NotWholeBlocks = 101
 size_fault_number TooFewBlocks = 102
@@ -38,7 +38,7 @@ size_fault_number TooManyBlocks = 103
 abbrev pub IsVolumeFaultOf : List ℕ → JipFault → Type 0
 IsVolumeFaultOf bytes fault = (kind : FaultKind) × (fault.kind ≡ pos (fault_number kind)) × Shows bytes kind fault.block
 
--- they are too few, too many, or no whole blocks
+-- the bytes are too few, too many, or not whole blocks
 abbrev pub IsSizeFaultOf : List ℕ → JipFault → Type 0
 IsSizeFaultOf bytes fault = (size : SizeFault) × (fault ≡ record { kind = pos (size_fault_number size); block = 0 }) × IsSizeFault (length bytes) size
 

@@ -9,7 +9,7 @@ use Rattle.std.specs.declared.alloc.Global.{Global}
 use Rattle.std.specs.contracts.impls.GlobalAllocator.TheImpl.{ghosts}
 use Rattle.std_alloc.specs.Box.Ownership.{box_owns}
 
--- behind the pointer of a handle that holds a value stands the value's box; one that holds none has the null pointer, and owns nothing
+-- a handle with a value has a pointer to the value's box; a handle without one has the null pointer and owns nothing
 abbrev pub holds : (R : RattleType) → Global → Ptr → Option R.Denot → Fml
 holds R alloc p None = fex (p ≡ null_ptr) (λ _. ftrue)
 holds R alloc p (Some x) = box_owns (ghosts.dealloc_token alloc) R p x

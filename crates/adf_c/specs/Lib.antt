@@ -1,4 +1,5 @@
--- What the exports promise: what a handle owns, what C's structs spell and tell, and what each call comes to.
+-- The contracts of the exports: what a handle owns, the packets and answers for C's structs, and the result of each
+-- call.
 pub mod Holding
 pub mod Status
 pub mod Desk

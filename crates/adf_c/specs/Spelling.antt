@@ -1,11 +1,11 @@
--- Which packet a struct of C spells.
+-- The packet that a struct of C stands for.
 use Rattle.std.specs.Prelude.{◌≡◌, ◌≢◌, ℕ, ℤ, pos, List}
 use Rattle.ados_name.specs.declared.Date3.{Date3}
-use Rattle.ados_packet.specs.Numbers.{action_number}
-use Rattle.ados_packet.specs.declared.action.Action.{Action}
-use Rattle.ados_packet.specs.declared.action.Action.TheVariants as action
-use Rattle.ados_packet.specs.declared.packet.Packet.{Packet}
-use Rattle.ados_packet.specs.declared.packet.Packet.TheVariants.{Die, LocateObject, RenameDisk, FreeLock, DeleteObject, RenameObject, CopyDir, SetProtect, CreateDir, ExamineObject, ExamineNext, DiskInfo, Info, SetComment, Parent, SetDate, SameLock, Read, Write, FindUpdate, FindInput, FindOutput, End, Seek, SetFileSize, Other}
+use Rattle.ados_model.specs.Packet.{action_number}
+use Rattle.ados_model.specs.declared.packet.Action.{Action}
+use Rattle.ados_model.specs.declared.packet.Action.TheVariants as action
+use Rattle.ados_model.specs.declared.packet.Packet.{Packet}
+use Rattle.ados_model.specs.declared.packet.Packet.TheVariants.{Die, LocateObject, RenameDisk, FreeLock, DeleteObject, RenameObject, CopyDir, SetProtect, CreateDir, ExamineObject, ExamineNext, DiskInfo, Info, SetComment, Parent, SetDate, SameLock, Read, Write, FindUpdate, FindInput, FindOutput, End, Seek, SetFileSize, Other}
 use Rattle.adf_c.specs.declared.packet.JipDate.{JipDate}
 use Rattle.adf_c.specs.declared.packet.JipPacket.{JipPacket}
 
@@ -20,17 +20,17 @@ HasNoName n =
     × (n ≢ pos 23) × (n ≢ pos 24) × (n ≢ pos 25) × (n ≢ pos 26) × (n ≢ pos 28) × (n ≢ pos 29) × (n ≢ pos 34) × (n ≢ pos 40) × (n ≢ pos 82)
     × (n ≢ pos 87) × (n ≢ pos 1004) × (n ≢ pos 1005) × (n ≢ pos 1006) × (n ≢ pos 1007) × (n ≢ pos 1008) × (n ≢ pos 1022)
 
--- the action has this number, and is `Other` only where none with a name has it
+-- the action has this number; it is `Other` only if no action with a name has it
 abbrev pub IsActionOf : ℤ → Action → Type 0
 IsActionOf n (action.Other k) = (k ≡ n) × HasNoName n
 IsActionOf n named = action_number named ≡ n
 
--- the bytes that a packet of an action carries: a READ takes the caller's buffer, any other what it brings
+-- the bytes of an action's packet: the caller's buffer for a READ, otherwise `bytes`
 abbrev pub carried : Action → List ℕ → List ℕ → List ℕ
 carried action.Read bytes buffer = buffer
 carried _ bytes buffer = bytes
 
--- the packet of an action, with the struct's arguments, two texts and the bytes that it carries
+-- the packet of an action, with the struct's arguments, two texts and these bytes
 abbrev pub packet_of : Action → JipPacket → List ℕ → List ℕ → List ℕ → Packet
 packet_of action.Die c path text buffer = Die
 packet_of action.LocateObject c path text buffer = LocateObject c.lock path c.mode
@@ -59,7 +59,7 @@ packet_of action.Seek c path text buffer = Seek c.handle c.offset c.mode
 packet_of action.SetFileSize c path text buffer = SetFileSize c.handle c.offset c.mode
 packet_of (action.Other n) c path text buffer = Other n
 
--- the struct, with these texts, the bytes that it brings and the caller's buffer, spells the packet
+-- the struct, with these texts, these bytes and the caller's buffer, stands for the packet
 abbrev pub Spells : JipPacket → List ℕ → List ℕ → List ℕ → List ℕ → Packet → Type 0
 Spells c path text bytes buffer packet =
     (kind : Action) × IsActionOf c.action kind × (packet ≡ packet_of kind c path text (carried kind bytes buffer))

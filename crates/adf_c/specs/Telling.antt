@@ -1,19 +1,19 @@
--- What C is told of an answer.
+-- The answers for C.
 use Rattle.std.specs.Prelude.{◌≡◌, ℕ, ◌-◌, ℤ, pos, Bool, true, false, List, [], ◌++◌, length, replicate, if◌then◌else◌, ◌==◌}
 use Rattle.ados_name.specs.declared.Date3.{Date3}
-use Rattle.ados_packet.specs.declared.answer.Answer.{Answer}
-use Rattle.ados_packet.specs.declared.packet.Packet.{Packet}
-use Rattle.ados_packet.specs.declared.packet.Packet.TheVariants.{Read}
-use Rattle.ados_packet.specs.declared.answer.Body.{Body}
-use Rattle.ados_packet.specs.declared.answer.Body.TheVariants.{Empty, Buffer, Handle, Entry, Disk}
-use Rattle.ados_packet.specs.declared.info.FileInfo.{FileInfo}
-use Rattle.ados_packet.specs.declared.info.DiskInfo.{DiskInfo}
+use Rattle.ados_model.specs.declared.answer.Answer.{Answer}
+use Rattle.ados_model.specs.declared.packet.Packet.{Packet}
+use Rattle.ados_model.specs.declared.packet.Packet.TheVariants.{Read}
+use Rattle.ados_model.specs.declared.answer.Body.{Body}
+use Rattle.ados_model.specs.declared.answer.Body.TheVariants.{Empty, Buffer, Handle, Entry, Disk}
+use Rattle.ados_model.specs.declared.answer.FileInfo.{FileInfo}
+use Rattle.ados_model.specs.declared.answer.DiskInfo.{DiskInfo}
 use Rattle.adf_c.specs.declared.packet.JipDate.{JipDate}
 use Rattle.adf_c.specs.declared.answer.JipAnswer.{JipAnswer}
 use Rattle.adf_c.specs.declared.answer.JipEntry.{JipEntry}
 use Rattle.adf_c.specs.declared.answer.JipDisk.{JipDisk}
 
--- n cells with a text, and zeros behind it
+-- a text in n cells, with zeros after it
 abbrev pub cells_of : ℕ → List ℕ → List ℕ
 cells_of n text = text ++ replicate (n - length text) 0
 
@@ -21,7 +21,7 @@ cells_of n text = text ++ replicate (n - length text) 0
 abbrev pub told_date : Date3 → JipDate
 told_date d = record { days = d.days; minutes = d.minutes; ticks = d.ticks }
 
--- the same, with its texts in cells
+-- the same for C, with its texts in cells
 abbrev pub entry_of : FileInfo → JipEntry
 entry_of e = record {
   key = e.key;
@@ -39,7 +39,7 @@ entry_of e = record {
 abbrev pub disk_of : DiskInfo → JipDisk
 disk_of d = record { state = d.state; blocks = d.blocks; used = d.used; bytes_per_block = d.bytes_per_block; disk_type = d.disk_type }
 
--- zeros
+-- an entry of zeros
 abbrev pub no_entry : JipEntry
 no_entry = record {
   key = 0;
@@ -57,7 +57,7 @@ no_entry = record {
 abbrev pub no_disk : JipDisk
 no_disk = record { state = 0; blocks = 0; used = 0; bytes_per_block = 0; disk_type = 0 }
 
--- what a body brings of each kind, and zeros where it is of another
+-- the field of each kind for a body; zeros if the body is of another kind
 abbrev pub told_handle : Body → ℕ
 told_handle (Handle number) = number
 told_handle _ = 0
@@ -70,7 +70,7 @@ abbrev pub told_disk : Body → JipDisk
 told_disk (Disk info) = disk_of info
 told_disk _ = no_disk
 
--- the answer as C sees it, but for the bytes of a buffer
+-- the answer for C, without the bytes of a buffer
 abbrev pub told_of : Answer → JipAnswer
 told_of answer = record {
   res1 = answer.res1;
@@ -80,12 +80,12 @@ told_of answer = record {
   disk = told_disk answer.body;
 }
 
--- the caller's buffer with the bytes that a body hands back, which are as many
+-- the caller's buffer with the bytes that a body returns, if the lengths are equal
 abbrev pub handed_back : List ℕ → Body → List ℕ
 handed_back before (Buffer bytes) = if length bytes == length before then bytes else before
 handed_back before _ = before
 
--- a packet that fills the buffer: no other than READ
+-- the packet fills the buffer: only READ does
 abbrev pub fills : Packet → Bool
 fills (Read handle buffer) = true
 fills _ = false

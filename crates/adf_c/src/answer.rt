@@ -1,14 +1,14 @@
-//! What C is answered.
+//! The answers for C.
 
 ghost use Rattle.std.specs.Prelude.{◌≡◌, ◌≤◌, length};
 ghost use Rattle.adf_c.specs.Telling.{cells_of, told_date as date_told, told_disk, told_entry, told_handle, told_of};
 ghost use Rattle.adf_c.specs.Telling.{entry_of as entry_told, disk_of as disk_told};
 
 use crate::packet::JipDate;
+use ados_model::{Answer, Body, DiskInfo, FileInfo};
 use ados_name::Date3;
-use ados_packet::{Answer, Body, DiskInfo, FileInfo};
 
-/// The answer to a packet. What the packet does not bring is zeros.
+/// The answer to a packet. Fields that the packet does not set are 0.
 #[repr(C)]
 #[derive(Clone, Copy)]
 pub struct JipAnswer {
@@ -21,15 +21,15 @@ pub struct JipAnswer {
     pub disk: JipDisk,
 }
 
-/// What EXAMINE_OBJECT and EXAMINE_NEXT tell. Each text has its length beside it, and zeros behind it.
+/// The result of EXAMINE_OBJECT and EXAMINE_NEXT. Each text has its length next to it, and zeros after it.
 #[repr(C)]
 #[derive(Clone, Copy)]
 pub struct JipEntry {
     pub key: u32,
-    /// 1 of the root, 2 of a directory, -3 of a file.
+    /// 1 for the root, 2 for a directory, -3 for a file.
     pub entry_type: i32,
     pub protection: u32,
-    /// The bytes of a file; 0 of a directory.
+    /// The size of a file in bytes; 0 for a directory.
     pub size: u32,
     pub blocks: u32,
     pub date: JipDate,
@@ -39,11 +39,11 @@ pub struct JipEntry {
     pub comment: [u8; 80],
 }
 
-/// What DISK_INFO and INFO tell.
+/// The result of DISK_INFO and INFO.
 #[repr(C)]
 #[derive(Clone, Copy)]
 pub struct JipDisk {
-    /// 80 write protected, 81 being validated, 82 valid.
+    /// 80 write protected, 81 validating, 82 valid.
     pub state: u32,
     pub blocks: u32,
     pub used: u32,
@@ -52,7 +52,7 @@ pub struct JipDisk {
 }
 
 impl JipAnswer {
-    /// The answer as C sees it, but for the bytes of a READ.
+    /// The answer for C, without the bytes of a READ.
     pub(crate) fn of(answer: &Answer) -> JipAnswer
         ensures { result ≡ told_of answer.now }
     {
@@ -170,7 +170,7 @@ fn told_date(date: Date3) -> JipDate
     }
 }
 
-/// A text in cells, with zeros behind it.
+/// A text in cells, with zeros after it.
 fn cells<const N: usize>(text: &[u8]) -> [u8; N]
     requires { length text.now ≤ N }
     ensures { result ≡ cells_of N text.now }

@@ -1,4 +1,4 @@
-//! Which blocks of a handle's image C has to write: those that differ from its own copy.
+//! The blocks of a handle's image that C has to write: those that differ from its own copy.
 
 ghost use Rattle.std.specs.Prelude.{◌≡◌, ◌<◌, length, IfOk};
 ghost use Rattle.adf_block.specs.Image.{block_count};
@@ -7,15 +7,16 @@ ghost use Rattle.adf_c.specs.Changed.{ChangedComes, ChangedEnds, TakingComes, ch
 use crate::handle::JipHandle;
 use crate::refusal::Refusal;
 use adf_block::Image;
+use adf_block::layout::BLOCK_BYTES;
 use std::alloc::{AllocError, Global};
 
-/// The bytes of a block.
-const BLOCK: usize = 512;
+/// Bytes in a block.
+const BLOCK: usize = BLOCK_BYTES as usize;
 
-/// Tells which blocks of the image differ from those of C's copy, lowest first, and brings the copy up to date: the status 0.
+/// Lists the blocks of the image that differ from C's copy, lowest first, and updates the copy. The status is 0.
 ///
-/// A copy of another length than the image's, room for fewer numbers than there are, and a closed handle are the status 3; no
-/// memory is the status 2. The copy, the numbers and their count are then as they were.
+/// Status 3: the copy has another length than the image, there is no room for all numbers, or the handle is closed.
+/// Status 2: out of memory. In these cases the copy, the numbers and their count are unchanged.
 #[unsafe(no_mangle)]
 pub extern "C" fn jip_lib_copy_changed(
     alloc: Global,
@@ -53,7 +54,7 @@ fn copy_changed(
     outcome
 }
 
-/// Brings the copy up to date, and tells the numbers of the blocks that were not.
+/// Updates the copy, and lists the blocks that differed.
 fn take_over(
     alloc: Global,
     image: &Image,
@@ -76,7 +77,7 @@ fn take_over(
     Ok(changed.len())
 }
 
-/// The numbers of the blocks that differ from those of a copy of the same length.
+/// The numbers of the blocks that differ from a copy of the same length.
 fn changed_blocks(alloc: Global, copy: &[u8], image: &Image) -> Result<Vec<u32>, AllocError>
     requires { length copy.now ≡ length image.now }
     ensures { IfOk result (λ numbers. numbers.items ≡ changed_of copy.now image.now) }

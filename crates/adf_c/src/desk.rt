@@ -1,22 +1,22 @@
-//! What stands behind a handle.
+//! The handler of a handle, with a count of changes.
 
 ghost use Rattle.std.specs.Prelude.{◌≡◌};
 ghost use Rattle.adf_c.specs.Desk.{ServesPacket, may_change as changes};
 
 use ados_handler::Handler;
+use ados_model::{Answer, Packet};
 use ados_name::Date3;
-use ados_packet::{Answer, Packet};
 
-/// A handler, with a count that tells when its image has changed.
+/// A handler, with a count that grows when its image changes.
 #[derive(Drop)]
 pub struct Desk {
     pub handler: Handler,
-    /// Grows by one, and begins again behind 2^64 - 1, with each packet that may have changed the image.
+    /// Grows by one with each packet that may have changed the image. It starts again at 0 after 2^64 - 1.
     pub changes: u64,
 }
 
 impl Desk {
-    /// Serves a packet at a moment, as the handler does, and counts it where it may have changed the image.
+    /// Serves a packet with a time stamp, as the handler does, and counts it if it may have changed the image.
     pub(crate) fn serve(&mut self, packet: Packet, moment: Date3) -> Answer
         ensures { ServesPacket self.old packet moment self.new result }
     {
@@ -29,7 +29,7 @@ impl Desk {
     }
 }
 
-/// Whether the packet, where it is served, may change the image.
+/// Whether the packet, if served, may change the image.
 fn may_change(packet: &Packet) -> bool
     ensures { result ≡ changes packet.now }
 {

@@ -1,4 +1,4 @@
-//! What C holds: a desk behind a pointer, or none. A raw pointer is followed in this file and in `loose` alone.
+//! The handle that C holds: a pointer to a desk, or null. Only this file and `loose` dereference raw pointers.
 
 ghost use Rattle.std.specs.Prelude.{◌≡◌, is_some};
 ghost use Rattle.std.specs.Coded.{coded_option};
@@ -15,8 +15,8 @@ use std::marker::Model;
 use std::mem::replace;
 use std::ptr::null_mut;
 
-/// A desk behind a pointer of its own, or none behind a null pointer: then the handle is closed. C has it as a struct of one
-/// pointer, which it never follows.
+/// A pointer to a desk of its own, or a null pointer for a closed handle. For C it is a struct with one pointer, which
+/// C never dereferences.
 #[repr(C)]
 pub struct JipHandle {
     at: *mut u8,
@@ -28,11 +28,11 @@ impl Model for JipHandle {
     ghost also_owns = { λ h. holds the_row h.alloc h.at h.held };
 }
 
-// What it owns is a desk's box, and a desk may go to another thread.
+// It owns the box of a desk, and a desk can be sent to another thread.
 unsafe impl Send for JipHandle {}
 
 impl JipHandle {
-    /// A handle that holds nothing.
+    /// A closed handle.
     fn closed(alloc: Global) -> JipHandle
         ensures { result.held ≡ None }
     {
@@ -42,7 +42,7 @@ impl JipHandle {
         }
     }
 
-    /// A handle that holds the value of a box.
+    /// A handle with the value of a box.
     fn holding(value: Loose<Desk, Global>) -> JipHandle
         ensures { result.held ≡ Some value.value }
     {
@@ -53,7 +53,7 @@ impl JipHandle {
         }
     }
 
-    /// The box again, where there is one.
+    /// The box, if the handle has one.
     fn into_loose(self) -> Option<Loose<Desk, Global>>
         ensures { MatchOption result (self.held ≡ None) (λ value. self.held ≡ Some value.value) }
     {
@@ -70,7 +70,7 @@ impl JipHandle {
 }
 
 impl JipHandle {
-    /// Takes out what the handle holds. It is closed then.
+    /// Takes the value out of the handle, which is closed then.
     pub(crate) fn take(&mut self, alloc: Global) -> Option<Box<Desk>>
         ensures value { MatchOption result (self.old.held ≡ None) (λ value. self.old.held ≡ Some value.value) }
         ensures closed { self.new.held ≡ None }
@@ -81,7 +81,7 @@ impl JipHandle {
         }
     }
 
-    /// Puts a value into the handle. What it held before is given up.
+    /// Puts a value into the handle. Its old value is dropped.
     pub(crate) fn put(&mut self, value: Box<Desk>)
         ensures { self.new.held ≡ Some value.value }
     {

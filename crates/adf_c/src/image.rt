@@ -1,4 +1,4 @@
-//! What C learns of a handle's image: its length, its bytes and how often it has changed.
+//! The image of a handle for C: its length, its bytes and its count of changes.
 
 ghost use Rattle.std.specs.Prelude.{◌≡◌, length};
 ghost use Rattle.std.specs.Option.{MatchOption};
@@ -8,7 +8,7 @@ use crate::handle::JipHandle;
 use crate::refusal::{Refusal, status};
 use std::alloc::Global;
 
-/// The bytes that the image has; 0 for a closed handle.
+/// The length of the image in bytes; 0 for a closed handle.
 #[unsafe(no_mangle)]
 pub extern "C" fn jip_lib_image_length(alloc: Global, handle: &mut JipHandle) -> usize
     ensures length { MatchOption handle.old.held (result ≡ 0) (λ desk. result ≡ length desk.handler.image) }
@@ -22,8 +22,8 @@ pub extern "C" fn jip_lib_image_length(alloc: Global, handle: &mut JipHandle) ->
     length
 }
 
-/// A count that grows with each packet that changed the image, and perhaps with one that left it as it was; 0 for a closed
-/// handle. Where it is the same as before, the image is.
+/// A count that grows with each packet that changed the image, and possibly with others; 0 for a closed handle. While
+/// it is the same, so is the image.
 #[unsafe(no_mangle)]
 pub extern "C" fn jip_lib_changes(alloc: Global, handle: &mut JipHandle) -> u64
     ensures count { MatchOption handle.old.held (result ≡ 0) (λ desk. result ≡ desk.changes) }
@@ -37,8 +37,9 @@ pub extern "C" fn jip_lib_changes(alloc: Global, handle: &mut JipHandle) -> u64
     changes
 }
 
-/// Copies the image, where `to` has as many bytes: the status 0. Another length and a closed handle are the status 3, and `to`
-/// is then as it was.
+/// Copies the image to `to`, which must have the same length. The status is 0.
+///
+/// Status 3: another length, or a closed handle; `to` is unchanged.
 #[unsafe(no_mangle)]
 pub extern "C" fn jip_lib_copy_image(alloc: Global, handle: &mut JipHandle, to: &mut [u8]) -> i32
     ensures copies { CopyEnds handle.old.held to.old to.new result }
@@ -59,7 +60,7 @@ fn copy_image(alloc: Global, handle: &mut JipHandle, to: &mut [u8]) -> Result<()
     outcome
 }
 
-/// Copies bytes to where there is room for as many.
+/// Copies bytes into a buffer of the same length.
 fn copy_bytes(bytes: &[u8], to: &mut [u8]) -> Result<(), Refusal>
     ensures { Comes (CopiesBytes bytes.now to.old to.new) (RefusesBytes bytes.now to.old to.new) result }
 {

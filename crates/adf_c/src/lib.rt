@@ -1,7 +1,8 @@
-//! An AmigaDOS handler for programs in C and C++: the functions that `bindings/c/jiponuwha.h` declares as `jip_lib_..`.
+//! An AmigaDOS handler for programs in C and C++: the functions that `bindings/c/jiponuwha.h` declares as
+//! `jip_lib_..`.
 //!
-//! Each is a thin layer over the crates below, and its contract is theirs. The header's inline functions look at what no
-//! reference may be, null pointers and lengths beyond memory, and then call these.
+//! Each is a thin layer over the crates below, with their contracts. The header's inline functions check what cannot
+//! be a reference, such as null pointers and lengths beyond memory, and then call these.
 #![tactic(auto)]
 
 pub mod answer;

@@ -1,4 +1,4 @@
-//! Handles are made from the bytes of an image or from nothing, and given up.
+//! Handles are opened on the bytes of an image or on a blank volume, and closed.
 
 ghost use Rattle.std.specs.Prelude.{◌≡◌, ◌≢◌, pos, None};
 ghost use Rattle.std.specs.Option.{MatchOption};
@@ -12,8 +12,8 @@ use crate::packet::JipDate;
 use crate::refusal::{Refusal, status};
 use adf_block::{Format, Image, SizeFault, size_ok};
 use ados_handler::Handler;
+use ados_model::{FaultKind, VolumeFault};
 use ados_name::{Date3, Name};
-use ados_tree::{FaultKind, VolumeFault};
 use ados_volume::{Volume, blank, check};
 use std::alloc::Global;
 
@@ -21,16 +21,16 @@ use std::alloc::Global;
 #[repr(C)]
 #[derive(Clone, Copy)]
 pub struct JipFault {
-    /// 1 to 17 as the header names them; 101 to 103 for a length that no image has.
+    /// 1 to 17 as in the header; 101 to 103 for a length that no image has.
     pub kind: i32,
     pub block: u32,
 }
 
-/// Opens a handle on a copy of these bytes, where they are an image that the check accepts: the status 0. The bytes are not
-/// looked at afterwards.
+/// Opens a handle on a copy of these bytes, if they are an image that the check accepts. The status is 0, and the
+/// bytes are not used afterwards.
 ///
-/// Where they are no such image, the status is 1, and the fault is one that they show; no memory is the status 2; a handle
-/// that is open already is the status 3. The handle is then as it was, and so is the fault but for the status 1.
+/// Status 1: the bytes are no such image, and `fault` is a fault that they show. Status 2: out of memory. Status 3:
+/// the handle is open already. In these cases the handle is unchanged; the fault too, except with status 1.
 #[unsafe(no_mangle)]
 pub extern "C" fn jip_lib_open(
     alloc: Global,
@@ -77,11 +77,11 @@ fn open(
     seat(alloc, handle, volume)
 }
 
-/// Opens a handle on a blank volume, as `ados_volume::blank` makes it: the status 0. The format is 0 for the old file system
-/// and 1 for the fast one.
+/// Opens a handle on a blank volume, as `ados_volume::blank` makes it. The format is 0 for OFS and 1 for FFS. The
+/// status is 0.
 ///
-/// No memory is the status 2. Another format, fewer than 16 or more than 101,602 blocks, a name that is none, and a handle that
-/// is open already are the status 3. The handle is then as it was.
+/// Status 2: out of memory. Status 3: another format, fewer than 16 or more than 101,602 blocks, a text that is not a
+/// name, or a handle that is open already. In these cases the handle is unchanged.
 #[unsafe(no_mangle)]
 pub extern "C" fn jip_lib_blank(
     alloc: Global,
@@ -124,7 +124,7 @@ fn open_blank(
     seat(alloc, handle, volume)
 }
 
-/// The format of a number: 0 is the old file system, 1 the fast one.
+/// The format with a number: 0 is OFS, 1 is FFS.
 fn format_of_number(number: i32) -> Option<Format>
     ensures { MatchOption result ((number ≢ pos 0) × (number ≢ pos 1)) (λ format. number ≡ pos (format_number format)) }
 {
@@ -135,7 +135,7 @@ fn format_of_number(number: i32) -> Option<Format>
     }
 }
 
-/// Puts a desk over the volume behind the handle.
+/// Opens the handle with a desk over the volume.
 fn seat(alloc: Global, handle: &mut JipHandle, volume: Volume) -> Result<(), Refusal>
     ensures { SeatComes volume.image volume.was_validated handle.old.held handle.new.held result }
 {
@@ -150,7 +150,7 @@ fn seat(alloc: Global, handle: &mut JipHandle, volume: Volume) -> Result<(), Ref
     Ok(())
 }
 
-/// Gives the handle up with all that it holds; a closed handle stays closed. The status is 0.
+/// Closes the handle and frees everything that it owns. A closed handle stays closed. The status is 0.
 #[unsafe(no_mangle)]
 pub extern "C" fn jip_lib_close(alloc: Global, handle: &mut JipHandle) -> i32
     ensures status { result ≡ pos 0 }

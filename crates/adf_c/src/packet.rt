@@ -1,15 +1,15 @@
-//! What C asks.
+//! The packets from C.
 
 ghost use Rattle.std.specs.Prelude.{◌≡◌, IfOk};
 ghost use Rattle.ados_name.specs.Path.{IsPathText};
 ghost use Rattle.adf_c.specs.Spelling.{IsActionOf, date_of, packet_of};
 
 use crate::texts::rename_disk;
+use ados_model::{Action, Buffer, Packet};
 use ados_name::Date3;
-use ados_packet::{Action, Buffer, Packet};
 use std::alloc::{AllocError, Global};
 
-/// A date as C has it: days since 1 January 1978, minutes past midnight, ticks of 1/50 second past the minute.
+/// A date for C: days since 1 January 1978, minutes since midnight, ticks of 1/50 second in the minute.
 #[repr(C)]
 #[derive(Clone, Copy)]
 pub struct JipDate {
@@ -19,7 +19,7 @@ pub struct JipDate {
 }
 
 impl JipDate {
-    /// The same date to the crates below.
+    /// The same date for the crates below.
     pub(crate) fn date(self) -> Date3
         ensures { result ≡ date_of self }
     {
@@ -31,16 +31,16 @@ impl JipDate {
     }
 }
 
-/// A packet as C has it: the number of its action, one field for each kind of argument, and the moment at which it is served.
-/// An action reads those fields alone that it takes.
+/// A packet from C: the number of its action, one field for each kind of argument, and its time stamp. Only the fields
+/// that the action uses are read.
 ///
-/// What the three pointers lead to comes beside the struct, as slices; here they are not looked at.
+/// The texts and bytes of the three pointers are passed separately, as slices; the pointers here are not used.
 #[repr(C)]
 #[derive(Drop)]
 pub struct JipPacket {
     pub action: i32,
     pub lock: u32,
-    /// The lock of RENAME_OBJECT's new place, or the second one of SAME_LOCK.
+    /// The lock for the new place of RENAME_OBJECT, or the second lock of SAME_LOCK.
     pub to_lock: u32,
     pub handle: u32,
     pub key: u32,
@@ -52,25 +52,25 @@ pub struct JipPacket {
     /// A path, or the new name of RENAME_DISK.
     pub path: *const u8,
     pub path_length: usize,
-    /// The path of RENAME_OBJECT's new place, or a comment.
+    /// The path for the new place of RENAME_OBJECT, or a comment.
     pub text: *const u8,
     pub text_length: usize,
-    /// The bytes that READ fills or WRITE reads.
+    /// The bytes that READ fills or WRITE writes.
     pub buffer: *mut u8,
     pub buffer_length: usize,
 }
 
 impl JipPacket {
-    /// The action that the struct names.
+    /// The action with the struct's number.
     pub(crate) fn kind(&self) -> Action
         ensures { IsActionOf self.now.action result }
     {
         action_of_number(self.action)
     }
 
-    /// The packet of this action with the struct's arguments, these texts and these bytes, where there is memory for the texts
-    /// that it takes. Each packet with texts has a function of its own, since a function clears room for all its values when it
-    /// begins.
+    /// The packet for this action with the struct's arguments, these texts and these bytes, if there is memory for its
+    /// texts. Each packet with texts has its own function, because a function reserves space for all its values when
+    /// it begins.
     pub(crate) fn packet(
         &self,
         alloc: Global,
@@ -131,7 +131,7 @@ impl JipPacket {
     }
 }
 
-/// The action of a number of the AmigaDOS Technical Reference, and `Other` for a number that none has.
+/// The action with a number of the AmigaDOS Technical Reference, and `Other` for any other number.
 fn action_of_number(number: i32) -> Action
     ensures { IsActionOf number result }
 {

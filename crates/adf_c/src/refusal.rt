@@ -1,21 +1,21 @@
-//! Why a call is refused, and its number.
+//! Refusals of calls, and their numbers.
 
 ghost use Rattle.std.specs.Prelude.{◌≡◌, pos};
 ghost use Rattle.adf_c.specs.Status.{refusal_number, status_of};
 
-/// Why a call is refused. Nothing that C can ask for has changed then. The numbers are this project's own choice.
+/// Why a call is refused. Nothing visible to C has changed then. The numbers are this project's own choice.
 #[derive(Clone, Copy)]
 pub enum Refusal {
-    /// The bytes are no image of a volume: 1.
+    /// 1: the bytes are no image of a volume.
     NotAnImage,
-    /// There is no memory: 2.
+    /// 2: out of memory.
     NoMemory,
-    /// An argument is none that the call takes: 3.
+    /// 3: the call does not accept an argument.
     WrongArgument,
 }
 
 impl Refusal {
-    /// The status that C sees; a call that is not refused has the status 0.
+    /// The status for C. A call that is not refused has status 0.
     pub fn number(self) -> i32
         ensures { result ≡ pos (refusal_number self) }
     {
@@ -27,7 +27,7 @@ impl Refusal {
     }
 }
 
-/// The status of a call: 0 where it was done.
+/// The status of a call: 0 for success.
 pub(crate) fn status(outcome: Result<(), Refusal>) -> i32
     ensures { result ≡ status_of outcome }
 {

@@ -11,16 +11,18 @@ use crate::desk::Desk;
 use crate::handle::JipHandle;
 use crate::packet::JipPacket;
 use crate::refusal::Refusal;
+use ados_model::{Action, Body, Buffer, Packet};
 use ados_name::{Date3, PathText};
-use ados_packet::{Action, Body, Buffer, Packet};
 use std::alloc::Global;
 
-/// Serves the packet that the struct spells with these texts, these bytes for a WRITE and this buffer for a READ, at the
-/// struct's moment, and answers it: the status 0. The answer's two results say what the packet came to, also where it is
-/// refused, as 209 for an action that is not known. The buffer stays as it was but behind a READ.
+/// Serves one packet: that of the struct with these texts, `bytes` for a WRITE and `buffer` for a READ, at the
+/// struct's time stamp. It fills the answer. The status is 0.
 ///
-/// No memory for a copy of the texts, the bytes or the buffer is the status 2; a text past 255 bytes and a closed handle are
-/// the status 3. The handle, the buffer and the answer are then as they were.
+/// The answer's two results say whether the packet was refused, such as 209 for an unknown action. Only a READ changes
+/// the buffer.
+///
+/// Status 2: no memory for a copy of the texts, the bytes or the buffer. Status 3: a text longer than 255 bytes, or a
+/// closed handle. In these cases the handle, the buffer and the answer are unchanged.
 #[unsafe(no_mangle)]
 pub extern "C" fn jip_lib_serve(
     alloc: Global,
@@ -67,7 +69,7 @@ fn serve(
     Ok(told)
 }
 
-/// The bytes that the packet of this action carries, where its texts fit.
+/// The bytes of this action's packet, if its texts fit.
 fn load(
     alloc: Global,
     action: Action,
@@ -90,14 +92,14 @@ fn load(
     Ok(Buffer::from_vec(load))
 }
 
-/// Whether a text is no longer than that of a packet may be.
+/// Whether a text fits into a packet: at most 255 bytes.
 fn fits(text: &[u8]) -> bool
     ensures { IsTrue result ↔ IsPathText text.now }
 {
     text.len() <= PathText::MAX_LEN
 }
 
-/// The bytes that a packet of this action carries: a READ takes the buffer, and any other the bytes.
+/// The bytes of this action's packet: the buffer for a READ, otherwise `bytes`.
 fn carried_by<'a>(action: Action, bytes: &'a [u8], buffer: &'a [u8]) -> &'a [u8]
     ensures { result.now ≡ carried action bytes.now buffer.now }
 {
@@ -107,7 +109,7 @@ fn carried_by<'a>(action: Action, bytes: &'a [u8], buffer: &'a [u8]) -> &'a [u8]
     }
 }
 
-/// Serves the packet at a desk, and puts the bytes that a READ's answer hands back into the buffer.
+/// Serves the packet at a desk, and copies the bytes of a READ's answer into the buffer.
 fn serve_at(desk: &mut Desk, packet: Packet, moment: Date3, buffer: &mut [u8]) -> JipAnswer
     ensures { ServedBy desk.old desk.new packet moment buffer.old buffer.new result }
 {

@@ -1,16 +1,16 @@
-//! The packets that have texts.
+//! The packets with texts.
 
 ghost use Rattle.std.specs.Prelude.{◌≡◌, IfOk};
 ghost use Rattle.ados_name.specs.Path.{IsPathText};
-ghost use Rattle.ados_packet.specs.declared.packet.Packet.TheVariants.{LocateObject, RenameDisk, DeleteObject, RenameObject, SetProtect, CreateDir, SetComment, SetDate, FindUpdate, FindInput, FindOutput};
+ghost use Rattle.ados_model.specs.declared.packet.Packet.TheVariants.{LocateObject, RenameDisk, DeleteObject, RenameObject, SetProtect, CreateDir, SetComment, SetDate, FindUpdate, FindInput, FindOutput};
 ghost use Rattle.adf_c.specs.Spelling.{date_of};
 
 use crate::packet::JipPacket;
+use ados_model::{Packet, Text};
 use ados_name::PathText;
-use ados_packet::{Packet, Text};
 use std::alloc::{AllocError, Global};
 
-/// A text of a packet, which fits, where there is memory for it.
+/// A text that fits into a packet, if there is memory for it.
 fn copied(alloc: Global, text: &[u8]) -> Result<Text, AllocError>
     requires { IsPathText text.now }
     ensures { IfOk result (λ made. made ≡ text.now) }
@@ -21,7 +21,7 @@ fn copied(alloc: Global, text: &[u8]) -> Result<Text, AllocError>
     Text::new(alloc, text)
 }
 
-/// RENAME_DISK, whose path is the new name.
+/// RENAME_DISK. The path is the new name.
 pub(crate) fn rename_disk(alloc: Global, path: &[u8]) -> Result<Packet, AllocError>
     requires { IsPathText path.now }
     ensures { IfOk result (λ packet. packet ≡ RenameDisk path.now) }

@@ -1,24 +1,21 @@
--- What a DISK_INFO that is put, served and taken over an image is answered.
+-- The answer to a DISK_INFO that is put, served and taken over an image.
 use Rattle.std.proofs.Common.{◌≡◌, ℕ, zero, suc, ◌-◌, ◌⊎◌, inl, inr, Bool, List, [], ◌∷◌, length, take, Some, refl, sym, ap, ap₂, ◌∙◌, subst, arith, eq-eqb}
 use Rattle.std.specs.Prelude.{slice_get}
 use Rattle.std.proofs.lemmas.Bool.{false≢true}
 use Rattle.ados_name.specs.declared.Date3.{Date3}
-use Rattle.ados_packet.specs.declared.packet.Packet.{Packet}
-use Rattle.ados_packet.specs.declared.packet.Packet.TheVariants.{DiskInfo}
-use Rattle.ados_packet.specs.declared.answer.Answer.{Answer}
-use Rattle.ados_port.specs.History.{PortHistory, Run, accepted_in, events_of, last_server, take_outcome}
-use Rattle.ados_port.specs.Serving.{Serving, answers_to, packets_of}
-use Rattle.ados_port.specs.Port.{PortState}
+use Rattle.ados_model.specs.declared.packet.Packet.{Packet}
+use Rattle.ados_model.specs.declared.packet.Packet.TheVariants.{DiskInfo}
+use Rattle.ados_model.specs.declared.answer.Answer.{Answer}
+use Rattle.ados_port.specs.History.{PortHistory, Run, accepted_in, events_of, last_server, take_outcome, Serving, answers_to, packets_of, PortState}
 use Rattle.ados_port.specs.Outcome.{Outcome}
 use Rattle.ados_port.specs.Outcome.TheVariants.{Accepted, Taken}
 use Rattle.ados_port.specs.Reply.{Reply}
 use Rattle.ados_port.specs.Step.{Step}
-use Rattle.ados_handler.specs.Handler.{HandlerState}
+use Rattle.ados_model.specs.Session.{HandlerState}
 use Rattle.ados_handler.specs.Gives.{HandlerGives}
-use Rattle.ados_handler.specs.Meaning.{IsServed}
-use Rattle.ados_run.specs.Runs.{port_over}
+use Rattle.ados_model.specs.Meaning.{IsServed}
+use Rattle.ados_run.specs.Runs.{port_over, handler_died}
 use Rattle.ados_run.specs.Keeping.{KeepsVolume}
-use Rattle.ados_run.specs.TreePort.{handler_died}
 use Rattle.ados_run.proofs.Following.{each_side_is_a_history}
 use Rattle.adf_listing.specs.Info.{info_text}
 use Rattle.adf_commands.specs.Texts.{disk_answer, disk_info_steps, IsInfoText}
@@ -27,12 +24,12 @@ use Rattle.adf_commands.specs.Texts.{disk_answer, disk_info_steps, IsInfoText}
 abbrev taken : Reply Answer → Outcome Packet Answer
 taken reply = Taken reply
 
--- the packet that waits is the DISK_INFO, or none where it found no room
+-- the waiting packet is the DISK_INFO; none waits if there was no room
 accepted_first : (a b c : Outcome Packet Answer) → (accepted_in (events_of disk_info_steps (a ∷ b ∷ c ∷ [])) ≡ []) ⊎ (accepted_in (events_of disk_info_steps (a ∷ b ∷ c ∷ [])) ≡ (1, DiskInfo) ∷ [])
 accepted_first (Accepted number) b c = inr refl
 accepted_first a b c = inl refl
 
--- a reply that client 1 took is the answer to its packet, the one that was served
+-- a reply that client 1 took is the answer to its packet, which was served
 first_answer : (k : ℕ) (s : Serving Packet Date3 Answer) (reply : Reply Answer) → s.client ≡ 1
     → taken reply ≡ take_outcome 0 (answers_to 1 (take k (s ∷ []))) → reply.answer ≡ s.answer
 first_answer zero s reply client e = absurd (cc e)
@@ -62,7 +59,7 @@ module _ (image : List ℕ) (was_validated : Bool) where
   abbrev opened : HandlerState
   opened = (port_over image was_validated 1).server
 
-  -- of one packet that waits, and what was served
+  -- the same for one waiting packet and the served ones
   of_served : (waiting : List (ℕ × Packet)) → (waiting ≡ []) ⊎ (waiting ≡ (1, DiskInfo) ∷ []) → (served : List (Serving Packet Date3 Answer)) (servers : List HandlerState)
       → Run HandlerGives opened served servers → packets_of served ≡ take (length served) waiting → (k : ℕ) (reply : Reply Answer)
       → taken reply ≡ take_outcome 0 (answers_to 1 (take k served)) → (last : HandlerState) → last ≡ last_server opened servers
@@ -95,7 +92,7 @@ module _ (image : List ℕ) (was_validated : Bool) where
       of_served (accepted_in (events_of disk_info_steps (a ∷ b ∷ c ∷ []))) (accepted_first a b c) h.served h.servers h.meaning h.in_order _ reply
       (sym is_taken ∙ h.fits 2 _ refl) closing.server h.closing_server
 
-  -- and that is what DISK_INFO means of the tree
+  -- that is the meaning of DISK_INFO for the tree
   disk_answered : (moment : Date3) (new : HandlerState) (answer : Answer) (g : HandlerGives opened DiskInfo moment new answer) → answer ≡ disk_answer g.old_tree
   disk_answered moment new answer g = elim g.means [
     | inl served ↦ of_served_one served
@@ -105,7 +102,7 @@ module _ (image : List ℕ) (was_validated : Bool) where
       of_served_one : IsServed g.old_tree opened.session DiskInfo moment g.new_tree new.session answer → answer ≡ disk_answer g.old_tree
       of_served_one s = λ i. record { action = s.action i; res1 = (s.success i).res1; res2 = s.res2 i; body = (s.success i).body }
 
--- what `info` tells of the reply and of the image after it
+-- the output of `info` for the reply and the image after it
 pub info_text_of : (image : List ℕ) (outcomes : List (Outcome Packet Answer)) (closing : PortState HandlerState Packet Answer) (reply : Reply Answer)
     → KeepsVolume image 1 disk_info_steps outcomes closing → slice_get outcomes (length outcomes - 1) ≡ Some (Taken reply)
     → IsInfoText image (info_text reply.answer closing.server.image)
@@ -121,7 +118,7 @@ info_text_of image outcomes closing reply r e =
       ap₂ info_text (disk_answered r.runs.checked r.runs.was_validated w.0 closing.server reply.answer g) (g.leaves.rest (inr refl)),
     )
 
--- and of what was seen of both
+-- the same for what contracts see of both
 pub info_told : (image : List ℕ) (steps : List (Step Packet Date3)) (outcomes : List (Outcome Packet Answer)) (closing : PortState HandlerState Packet Answer) (reply : Reply Answer)
     → KeepsVolume image 1 steps outcomes closing → steps ≡ disk_info_steps → slice_get outcomes (length outcomes - 1) ≡ Some (Taken reply)
     → (answer : Answer) (shown : List ℕ) → answer ≡ reply.answer → shown ≡ closing.server.image → IsInfoText image (info_text answer shown)

@@ -1,3 +1,3 @@
--- Lemmas on what is told of an image, and on what DISK_INFO answers over one.
+-- Lemmas about the output for an image, and about the answer of DISK_INFO for one.
 pub mod Printing
 pub mod Answering

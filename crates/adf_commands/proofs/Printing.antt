@@ -1,13 +1,13 @@
--- What is told of an image, whole or as far as it goes.
+-- The output for an image, whole or in part.
 use Rattle.std.proofs.Common.{◌≡◌, ℕ, ◌⊎◌, inl, inr, Bool, true, false, List, [], ◌++◌, Option, Some, None, option_map, Ok, Err, OnOk, OnErr, IfErr, IsErrAnd, refl, sym, ap, ◌∙◌, subst}
 use Rattle.std.specs.Prelude.{⊤}
 use Rattle.std.specs.Io.KnownBytes.{Appends, Keeps}
 use Rattle.std.proofs.KnownBytes.{Appends-nil, Keeps-refl}
-use Rattle.ados_tree.specs.Accepted.{Accepts, IsRefusal}
-use Rattle.ados_tree.specs.Faults.{Shows}
-use Rattle.ados_tree.specs.Stands.{Stands}
-use Rattle.ados_tree.specs.Tree.{Tree, bytes_of}
-use Rattle.ados_tree.specs.declared.fault.VolumeFault.{VolumeFault}
+use Rattle.ados_model.specs.Accepted.{Accepts, IsRefusal}
+use Rattle.ados_model.specs.Faults.{Shows}
+use Rattle.ados_model.specs.Stands.{Stands}
+use Rattle.ados_model.specs.Tree.{Tree, bytes_of}
+use Rattle.ados_model.specs.declared.fault.VolumeFault.{VolumeFault}
 use Rattle.ados_run.specs.Refused.{IsRunFault}
 use Rattle.ados_run.specs.declared.run.RunFault.{RunFault}
 use Rattle.ados_run.specs.declared.run.RunFault.TheVariants as of_run
@@ -37,7 +37,7 @@ use Rattle.adf_commands.specs.Archives.{EndsArchive}
 use Rattle.adf_commands.specs.Rescues.{DoesRescue, TellsRescue}
 use Rattle.adf_commands.specs.Refusals.{dos_line, IsDosText, IsRefusalText, refusal_line, told_line}
 
--- an image is refused as the fault says
+-- an image is refused, as the fault says
 pub refused_for : (image : List ℕ) (fault : VolumeFault) (told : CommandFault) → IsRefusal image fault → IsToldAs fault told → IsRefusedFor image told
 refused_for image fault (Refused refusal) refused (no_want, line) = (fault.kind, fault.block, shown refused, line)
   where
@@ -46,55 +46,55 @@ refused_for image fault (Refused refusal) refused (no_want, line) = (fault.kind,
     shown (inr want) = absurd (no_want want.0)
 refused_for image fault told refused t = t.0
 
--- and so is one that a run hands back
+-- so is one that a run hands back
 pub refused_run : (image : List ℕ) (run : RunFault) (told : CommandFault) → IsRunFault image run → IsToldRun run told → IsRefusedFor image told
 refused_run image (of_run.Rejected rejected) told handed t = refused_for image rejected.fault told handed.1 t
 refused_run image (of_run.NoMemory accepted) told handed t = subst (λ (f : CommandFault). IsRefusedFor image f) (sym t) refl
 
--- nothing is told of an image that is refused
+-- nothing is written for a refused image
 pub leaves_refused : (IsText : List ℕ → Type 0) (image : List ℕ) (w : Option (List ℕ)) (fault : CommandFault) → IsRefusedFor image fault → LeavesOff IsText image w w fault
 leaves_refused IsText image w (Refused refusal) h = (inr h, Keeps-refl w)
 leaves_refused IsText image w (Dos refusal) h = Keeps-refl w
 leaves_refused IsText image w fault h = inl (Keeps-refl w)
 
--- nothing is told where a run was not begun
+-- nothing is written if a run was not started
 pub tells_no_run : (IsText BeginsText : List ℕ → List ℕ → Type 0) (image : List ℕ) (w : Option (List ℕ)) (run : RunFault) (done : Ending) → IsRunFault image run
     → IsErrAnd done (λ told. IsToldRun run told) → TellsOf IsText BeginsText image w w done
 tells_no_run IsText BeginsText image w run (Ok x) handed t = absurd t
 tells_no_run IsText BeginsText image w run (Err told) handed t = leaves_refused (BeginsText image) image w told (refused_run image run told handed t)
 
--- a front of a text is told
+-- a prefix of a text is written
 pub leaves_front : (IsText : List ℕ → Type 0) (image : List ℕ) (old new : Option (List ℕ)) (fault : CommandFault) → WritesFrontOf old new IsText → IsNoRefusal fault → LeavesOff IsText image old new fault
 leaves_front IsText image old new (Refused refusal) front plain = absurd (cc plain)
 leaves_front IsText image old new (Dos refusal) front plain = absurd (cc plain)
 leaves_front IsText image old new fault front plain = inr front
 
--- a text is told whole, or a front of it
+-- a text is written whole, or a prefix of it
 pub tells_text : (IsText BeginsText : List ℕ → List ℕ → Type 0) (bytes text : List ℕ) (old new : Option (List ℕ)) (result : Ending)
     → IsText bytes text → BeginsText bytes text → OnOk result (Appends old new text) → OnErr result (WritesFront old new text) → IfErr result IsNoRefusal
     → TellsOf IsText BeginsText bytes old new result
 tells_text IsText BeginsText bytes text old new (Ok done) is begins ok front plain = (text, ok, is)
 tells_text IsText BeginsText bytes text old new (Err fault) is begins ok front plain = leaves_front (BeginsText bytes) bytes old new fault (text, begins, front) plain
 
--- nothing is told
+-- nothing is written
 pub leaves_nothing : (IsText : List ℕ → Type 0) (image : List ℕ) (w : Option (List ℕ)) (fault : CommandFault) → IsNoRefusal fault → LeavesOff IsText image w w fault
 leaves_nothing IsText image w (Refused refusal) plain = absurd (cc plain)
 leaves_nothing IsText image w (Dos refusal) plain = Keeps-refl w
 leaves_nothing IsText image w fault plain = inl (Keeps-refl w)
 
--- what is no refused image leaves what was written
+-- a fault other than a refused image leaves the output so far
 pub leaves_kept : (IsText : List ℕ → Type 0) (image : List ℕ) (old new : Option (List ℕ)) (fault : CommandFault) → IsNoImageRefusal fault → Keeps old new → LeavesOff IsText image old new fault
 leaves_kept IsText image old new (Refused refusal) plain keeps = absurd plain
 leaves_kept IsText image old new (Dos refusal) plain keeps = keeps
 leaves_kept IsText image old new fault plain keeps = inl keeps
 
--- nothing is told of a path that leads nowhere
+-- nothing is written for a path that leads nowhere
 pub tells_unlisted : (IsText BeginsText : List ℕ → List ℕ → Type 0) (image : List ℕ) (w : Option (List ℕ)) (fault : CommandFault) (done : Ending) → IsNoImageRefusal fault
     → IsErrAnd done (λ told. told ≡ fault) → TellsOf IsText BeginsText image w w done
 tells_unlisted IsText BeginsText image w fault (Ok x) plain same = absurd same
 tells_unlisted IsText BeginsText image w fault (Err told) plain same = leaves_kept (BeginsText image) image w w told (subst IsNoImageRefusal (sym same) plain) (Keeps-refl w)
 
--- nothing is told where no image was read
+-- nothing is written if no image was read
 no_image : (BeginsText : List ℕ → List ℕ → Type 0) (w : Option (List ℕ)) (fault : CommandFault) → IsNoImage fault → (bytes : List ℕ) × LeavesOff (BeginsText bytes) bytes w w fault
 no_image BeginsText w (Refused refusal) (bytes, is) = (bytes, (inl is, Keeps-refl w))
 no_image BeginsText w (Dos refusal) is = ([], Keeps-refl w)
@@ -105,7 +105,7 @@ pub tells_no_image : (IsText BeginsText : List ℕ → List ℕ → Type 0) (w :
 tells_no_image IsText BeginsText w fault (Ok x) is same = absurd same
 tells_no_image IsText BeginsText w fault (Err told) is same = no_image BeginsText w told (subst IsNoImage (sym same) is)
 
--- a blank image that is not made is no refused one
+-- a blank image that is not made is not a refused one
 pub blank_no_refusal : (s : Bool) (blocks : ℕ) (word : List ℕ) (fault : CommandFault) → IsBlankFault s blocks word fault → IsNoRefusal fault
 blank_no_refusal s blocks word (Refused refusal) e = absurd (cc e)
 blank_no_refusal s blocks word (Dos refusal) e = absurd (cc e)
@@ -115,7 +115,7 @@ accepted_tree : (image : List ℕ) (was_validated : Bool) (checked : List ℕ) �
 accepted_tree image false checked a = (a.3.0, a.3.1)
 accepted_tree image true checked a = (a.2.0, a.2.1)
 
--- of an image that is accepted
+-- for an accepted image
 module _ (image : List ℕ) (was_validated : Bool) (checked : List ℕ) (a : Accepts image was_validated checked) where
   pub list_text : (path : Option (List ℕ)) (b : Bool) (dir : ℕ) (old new : Option (List ℕ)) → ((t : Tree) → Stands checked t → IsListed t path dir)
       → ((t : Tree) → Stands checked t → Writes old new (IsList t dir b)) → Writes old new (IsListText path b image)
@@ -146,14 +146,14 @@ module _ (image : List ℕ) (was_validated : Bool) (checked : List ℕ) (a : Acc
       let s = accepted_tree image was_validated checked a in
       leaves_kept (IsPrintText word image) image old new told plain (h s.0 s.1).0
 
--- what is written after nothing
+-- output after no output
 kept_appends : (a b c : Option (List ℕ)) (bytes : List ℕ) → Keeps a b → Appends b c bytes → Appends a c bytes
 kept_appends None b c bytes k w = tt
 kept_appends (Some x) None c bytes k w = absurd k
 kept_appends (Some x) (Some y) None bytes k w = absurd w
 kept_appends (Some x) (Some y) (Some z) bytes k w = w ∙ ap (λ (l : List ℕ). l ++ bytes) k
 
--- a job that prints nothing where it is done
+-- a job without output when it succeeds
 abbrev pub PrintsNothing : ImageJob → Type 0
 PrintsNothing (Blank format blocks moment name as_letters file) = ⊤
 PrintsNothing job = ⊥
@@ -168,18 +168,18 @@ pub job_silent_fault : (job : ImageJob) (w : Option (List ℕ)) (fault : Command
 job_silent_fault job w fault (Ok x) silent plain same = absurd same
 job_silent_fault job w fault (Err told) silent plain same = job_silent job w (Err told) silent (subst IsNoRefusal (sym same) plain)
 
--- what an option without a value tells, and one with a value
+-- an option without a value, and one with a value
 pub none_told : {A : Type 0} (f : A → List ℕ) (o : Option A) (told : Option (List ℕ)) → option_map f o ≡ told → o ≡ None → told ≡ None
 none_told f o told e is = sym e ∙ ap (option_map f) is
 
 pub some_told : {A : Type 0} (f : A → List ℕ) (o : Option A) (x : A) (told : Option (List ℕ)) → option_map f o ≡ told → o ≡ Some x → told ≡ Some (f x)
 some_told f o x told e is = sym e ∙ ap (option_map f) is
 
--- what is told is a front of itself
+-- a text is a prefix of itself
 told_front : (old new : Option (List ℕ)) (text : List ℕ) → Appends old new text → WritesFront old new text
 told_front old new text told = (text, told, ([], sym (append-nil text)))
 
--- a check of images for which there is no more memory
+-- a check of images that ran out of memory
 archive_unsaid : (job : CheckJob) (old new : Option (List ℕ)) (fault : CommandFault) → EndsArchive job old new (Err fault) → EndsArchive job old new (Err Memory)
 archive_unsaid job old new ImagesRefused (archive, told, whole) = (archive, told_front old new (told_in archive) told)
 archive_unsaid job old new NotChecked (archive, told, whole) = (archive, told_front old new (told_in archive) told)
@@ -187,7 +187,7 @@ archive_unsaid job old new Output front = front
 archive_unsaid job old new Memory front = front
 archive_unsaid job old new fault none = absurd none
 
--- a rescue whose fault no line tells of, or for whose line there is no memory
+-- a rescue whose fault has no line, or whose line has no memory
 rescue_failed : (old new : Option (List ℕ)) (fault : CommandFault) → DoesRescue old new (Err fault) → IsNoRefusal fault → TellsRescue old new (Err fault)
 rescue_failed old new NotWhole told plain = told
 rescue_failed old new (Refused refusal) d plain = absurd (cc plain)
@@ -202,7 +202,7 @@ rescue_unsaid old new (Dos refusal) keeps = inl keeps
 rescue_unsaid old new fault (inl keeps) = inl keeps
 rescue_unsaid old new fault (inr (text, is, front)) = inr (text, inl is, front)
 
--- nothing is told where no image was read
+-- nothing is written if no image was read
 no_image_rescued : (w : Option (List ℕ)) (fault : CommandFault) → IsNoImage fault → DoesRescue w w (Err fault)
 no_image_rescued w NotWhole is = absurd is
 no_image_rescued w (Refused refusal) is = (Keeps-refl w, is)
@@ -213,7 +213,7 @@ pub rescues_no_image : (w : Option (List ℕ)) (fault : CommandFault) (done : En
 rescues_no_image w fault (Ok x) is same = absurd same
 rescues_no_image w fault (Err told) is same = no_image_rescued w told (subst IsNoImage (sym same) is)
 
--- what was taken out is told as far as the writer takes it
+-- the report on a rescue is written as far as the writer accepts it
 pub rescue_cut : (old new : Option (List ℕ)) (image text : List ℕ) (rescue : Rescue) (fault : CommandFault) (done : Ending) → IsRescue image rescue → text ≡ rescue.lines.items
     → WritesFront old new text → fault ≡ Output → IsErrAnd done (λ told. told ≡ fault) → DoesRescue old new done
 rescue_cut old new image text rescue fault (Ok x) is e front broken same = absurd same
@@ -221,9 +221,9 @@ rescue_cut old new image text rescue fault (Err told) is e front broken same =
     subst (λ (f : CommandFault). DoesRescue old new (Err f)) (sym (same ∙ broken))
     (inr (rescue.lines.items, (rescue.whole, (image, rescue, is, refl, refl)), subst (λ (t : List ℕ). WritesFront old new t) e front))
 
--- of jobs that print such texts of bytes
+-- for jobs with such texts for bytes
 module _ (IsText BeginsText : List ℕ → List ℕ → Type 0) where
-  -- a job is done
+  -- a job succeeds
   done : (p : Prints) (old new : Option (List ℕ)) (x : Unit {0}) → Does p IsText BeginsText old new (Ok x) → Tells p IsText BeginsText old new (Ok x)
   done OnlyFaults old new x h = h
   done OfBytes old new x h = h
@@ -231,7 +231,7 @@ module _ (IsText BeginsText : List ℕ → List ℕ → Type 0) where
   done OfRescue old new x h = h
   done Unsaid old new x h = tt
 
-  -- a job whose fault no line tells of
+  -- a job whose fault has no line
   failed : (p : Prints) (old new : Option (List ℕ)) (fault : CommandFault) → Does p IsText BeginsText old new (Err fault) → IsNoRefusal fault
       → Tells p IsText BeginsText old new (Err fault)
   failed OnlyFaults old new fault keeps plain = rw plain (inl keeps)
@@ -243,7 +243,7 @@ module _ (IsText BeginsText : List ℕ → List ℕ → Type 0) where
   failed OfBytes old new fault (bytes, inl keeps) plain = (bytes, inl keeps)
   failed OfBytes old new fault (bytes, inr (text, is, front)) plain = (bytes, inr (text, inl is, front))
 
-  -- a job for whose line there is no memory
+  -- a job without memory for its line
   unsaid : (p : Prints) (old new : Option (List ℕ)) (fault : CommandFault) → Does p IsText BeginsText old new (Err fault) → Tells p IsText BeginsText old new (Err Memory)
   unsaid OnlyFaults old new fault keeps = inl keeps
   unsaid Unsaid old new fault h = tt
@@ -255,7 +255,7 @@ module _ (IsText BeginsText : List ℕ → List ℕ → Type 0) where
   unsaid OfBytes old new fault (bytes, inr (text, is, front)) = (bytes, inr (text, inl is, front))
 
   module _ (old mid new : Option (List ℕ)) where
-    -- a refused image is told
+    -- a refused image is reported
     told_refused : (p : Prints) (refusal : Refusal) → Does p IsText BeginsText old mid (Err (Refused refusal)) → Appends mid new (refusal_line refusal)
         → Tells p IsText BeginsText old new (Err (Refused refusal))
     told_refused OnlyFaults refusal keeps w = (refusal_line refusal, kept_appends old mid new (refusal_line refusal) keeps w, refl)
@@ -264,7 +264,7 @@ module _ (IsText BeginsText : List ℕ → List ℕ → Type 0) where
     told_refused OfRescue refusal (keeps, is) w = (refusal_line refusal, kept_appends old mid new (refusal_line refusal) keeps w, is)
     told_refused OfBytes refusal (bytes, (is, keeps)) w = (bytes, (refusal_line refusal, kept_appends old mid new (refusal_line refusal) keeps w, is))
 
-    -- what AmigaDOS refuses is told
+    -- a refusal by AmigaDOS is reported
     told_dos : (p : Prints) (refusal : DosRefusal) → Does p IsText BeginsText old mid (Err (Dos refusal)) → Appends mid new (dos_line refusal)
         → Tells p IsText BeginsText old new (Err (Dos refusal))
     told_dos OnlyFaults refusal keeps w = (dos_line refusal, kept_appends old mid new (dos_line refusal) keeps w, refl)
@@ -273,15 +273,15 @@ module _ (IsText BeginsText : List ℕ → List ℕ → Type 0) where
     told_dos OfRescue refusal keeps w = (dos_line refusal, kept_appends old mid new (dos_line refusal) keeps w, refl)
     told_dos OfBytes refusal (bytes, keeps) w = (bytes, (dos_line refusal, kept_appends old mid new (dos_line refusal) keeps w, refl))
 
-    -- a front of what is written after nothing
+    -- a prefix of the output after no output
     kept_front : (text : List ℕ) → Keeps old mid → WritesFront mid new text → WritesFront old new text
     kept_front text keeps (written, appends, rest) = (written, kept_appends old mid new written keeps appends, rest)
 
-    -- a job that wrote nothing, whose line is told as far as the writer takes it
+    -- a job without output, whose line is written as far as the writer accepts it
     broken_quiet : (fault last : CommandFault) (line : List ℕ) → told_line fault ≡ Some line → IsNoRefusal last → Keeps old mid → WritesFront mid new line → TellsFault old new (Err last)
     broken_quiet fault last line tells plain keeps front = rw plain (inr (line, (fault, tells), kept_front line keeps front))
 
-    -- a line of a refusal of bytes, as far as the writer takes it
+    -- a line for refused bytes, as far as the writer accepts it
     ends_front : (bytes : List ℕ) (last : CommandFault) → IsNoRefusal last → WritesFrontOf old new (λ text. BeginsText bytes text ⊎ (IsRefusalText bytes text ⊎ IsDosText text))
         → EndsOff (BeginsText bytes) bytes old new last
     ends_front bytes (Refused r) plain front = absurd (cc plain)
@@ -306,9 +306,9 @@ module _ (IsText BeginsText : List ℕ → List ℕ → Type 0) where
     broken_dos OfBytes refusal (bytes, keeps) front =
         (bytes, ends_front bytes Output refl (dos_line refusal, inr (inr (refusal, refl)), kept_front (dos_line refusal) keeps front))
 
--- the fault of a job that is told by this line
+-- the fault of a job with this line
 module _ (job : ImageJob) (old mid new : Option (List ℕ)) (line : List ℕ) where
-  -- it is told
+  -- the line is written
   pub job_told : (fault : CommandFault) → told_line fault ≡ Some line → DoesJob job old mid (Err fault) → Appends mid new line → TellsJob job old new (Err fault)
   job_told (Refused refusal) tells h w =
       let same : line ≡ refusal_line refusal = cc tells in
@@ -327,23 +327,23 @@ module _ (job : ImageJob) (old mid new : Option (List ℕ)) (line : List ℕ) wh
       broken_dos (IsJobText job) (BeginsJobText job) old mid new (prints job) refusal h (subst (λ (l : List ℕ). WritesFront mid new l) same front)
   broken fault tells h front = absurd (cc tells)
 
-  -- it is told as far as the writer takes it
+  -- the line is written as far as the writer accepts it
   pub job_broken : (fault printed : CommandFault) (ended : Ending) → told_line fault ≡ Some line → DoesJob job old mid (Err fault)
       → WritesFront mid new line → printed ≡ Output → IsErrAnd ended (λ told. told ≡ printed) → TellsJob job old new ended
   job_broken fault printed (Ok x) tells h front output same = absurd same
   job_broken fault printed (Err last) tells h front output is =
       subst (λ (f : CommandFault). TellsJob job old new (Err f)) (sym (is ∙ output)) (broken fault tells h front)
 
--- a job whose fault no line tells of
+-- a job whose fault has no line
 pub job_failed : (job : ImageJob) (old new : Option (List ℕ)) (fault : CommandFault) → DoesJob job old new (Err fault) → IsNoRefusal fault → TellsJob job old new (Err fault)
 job_failed job old new fault h plain = failed (IsJobText job) (BeginsJobText job) (prints job) old new fault h plain
 
--- a job for whose line there is no memory
+-- a job without memory for its line
 pub job_unsaid : (job : ImageJob) (old new : Option (List ℕ)) (fault : CommandFault) (ended : Ending) → DoesJob job old new (Err fault) → IsErrAnd ended (λ told. told ≡ Memory) → TellsJob job old new ended
 job_unsaid job old new fault (Ok x) h same = absurd same
 job_unsaid job old new fault (Err told) h same =
     subst (λ (f : CommandFault). TellsJob job old new (Err f)) (sym same) (unsaid (IsJobText job) (BeginsJobText job) (prints job) old new fault h)
 
--- a job that is done
+-- a job succeeds
 pub job_done : (job : ImageJob) (old new : Option (List ℕ)) (x : Unit {0}) → DoesJob job old new (Ok x) → TellsJob job old new (Ok x)
 job_done job old new x h = done (IsJobText job) (BeginsJobText job) (prints job) old new x h

@@ -1,4 +1,4 @@
--- How the check of images comes to its end.
+-- How the check of images ends.
 use Rattle.std.specs.Prelude.{◌≡◌, ℕ, List, Option, Result, Ok, Err}
 use Rattle.adf_archive.specs.Archive.{TellsArchive}
 use Rattle.adf_archive.specs.declared.fault.ArchiveFault.{ArchiveFault}
@@ -7,14 +7,14 @@ use Rattle.adf_jobs.specs.declared.reading.CheckJob.{CheckJob}
 use Rattle.adf_commands.specs.declared.fault.CommandFault.{CommandFault}
 use Rattle.adf_commands.specs.declared.fault.CommandFault.TheVariants.{ImagesRefused, Memory, NotChecked, Output}
 
--- why not all images are accepted, as the fault of a command
+-- the fault of an archive, as the fault of a command
 abbrev pub IsToldArchive : ArchiveFault → CommandFault → Type 0
 IsToldArchive archive.Refused told = told ≡ ImagesRefused
 IsToldArchive archive.NotChecked told = told ≡ NotChecked
 IsToldArchive archive.Output told = told ≡ Output
 IsToldArchive archive.Memory told = told ≡ Memory
 
--- the check of the images that a job names ends so
+-- the check of the images of a job ends like this
 abbrev pub EndsArchive : CheckJob → Option (List ℕ) → Option (List ℕ) → Result (Unit {0}) CommandFault → Type 0
 EndsArchive job old new (Ok done) = TellsArchive job old new (Ok done)
 EndsArchive job old new (Err ImagesRefused) = TellsArchive job old new (Err archive.Refused)

@@ -1,4 +1,4 @@
--- How a command comes to its end, by the bytes of the image that it reads and by what it prints.
+-- How a command ends, by the bytes of the image that it reads and by its output.
 use Rattle.std.specs.Prelude.{◌≡◌, ◌⊎◌, ⊤, ℕ, List, Option, Some, Result, Ok, Err, MatchOption, MatchResult}
 use Rattle.std.specs.Io.KnownBytes.{Keeps}
 use Rattle.adf_script.specs.Streams.{Writes}
@@ -14,27 +14,27 @@ use Rattle.adf_commands.specs.Texts.{BeginsJobText, IsJobText}
 use Rattle.adf_commands.specs.Faults.{status_of}
 use Rattle.adf_commands.specs.Refusals.{IsDosText, IsRefusalText, dos_line, refusal_line, told_line}
 
--- how a command ends: done, or with a fault
+-- the end of a command: success, or a fault
 abbrev pub Ending : Type 0
 Ending = Result (Unit {0}) CommandFault
 
--- where anything is refused nothing is written yet; else nothing, or a front of a text of this kind
+-- after a refusal nothing is written yet; after any other fault nothing, or a prefix of a text of this kind
 abbrev pub LeavesOff : (List ℕ → Type 0) → List ℕ → Option (List ℕ) → Option (List ℕ) → CommandFault → Type 0
 LeavesOff IsText bytes old new (Refused refusal) = IsRefusalText bytes (refusal_line refusal) × Keeps old new
 LeavesOff IsText bytes old new (Dos refusal) = Keeps old new
 LeavesOff IsText bytes old new fault = Keeps old new ⊎ WritesFrontOf old new IsText
 
--- what is told of bytes: a text of this kind, or, where that fails, a front of one that begins so
+-- the output for these bytes: a text of this kind, or after a fault a prefix of one that starts this way
 abbrev pub TellsOf : (IsText BeginsText : List ℕ → List ℕ → Type 0) → List ℕ → Option (List ℕ) → Option (List ℕ) → Ending → Type 0
 TellsOf IsText BeginsText bytes old new result =
     MatchResult result (λ _. Writes old new (IsText bytes)) (LeavesOff (BeginsText bytes) bytes old new)
 
--- what is told of some bytes
+-- the output for some bytes
 abbrev pub TellsSome : (IsText BeginsText : List ℕ → List ℕ → Type 0) → Option (List ℕ) → Option (List ℕ) → Ending → Type 0
 TellsSome IsText BeginsText old new result = (bytes : List ℕ) × TellsOf IsText BeginsText bytes old new result
 
--- what a job prints: nothing but the line of its fault, a text of the bytes of its file, what is told of images
--- that are checked, or of an image that is taken out of, or what nothing is said of
+-- the kind of a job's output: only the line of its fault; a text for the bytes of its file; the reports on checked
+-- images; the report on a rescue; or output without a promise
 pub data Prints : Type 0 where
   OnlyFaults : Prints
   OfBytes : Prints
@@ -51,7 +51,7 @@ prints (Boot image out file) = OnlyFaults
 prints (Serve job) = Unsaid
 prints job = OfBytes
 
--- what such a job comes to before a refusal is printed
+-- the result of such a job before a refusal is printed
 abbrev pub Does : Prints → (IsText BeginsText : List ℕ → List ℕ → Type 0) → Option (List ℕ) → Option (List ℕ) → Ending → Type 0
 Does OnlyFaults IsText BeginsText old new result = Keeps old new
 Does OfBytes IsText BeginsText old new result = TellsSome IsText BeginsText old new result
@@ -62,28 +62,29 @@ Does Unsaid IsText BeginsText old new result = ⊤
 abbrev pub DoesJob : ImageJob → Option (List ℕ) → Option (List ℕ) → Ending → Type 0
 DoesJob job = Does (prints job) (IsJobText job) (BeginsJobText job)
 
--- a fault ends a command: bytes that are refused are told as such; else nothing is written, or a front of its text or of a refusal's
+-- a fault ends a command: a refusal of the bytes is printed; otherwise nothing is written, or a prefix of its text or
+-- of a refusal's line
 abbrev pub EndsOff : (List ℕ → Type 0) → List ℕ → Option (List ℕ) → Option (List ℕ) → CommandFault → Type 0
 EndsOff BeginsText bytes old new (Refused refusal) = Writes old new (IsRefusalText bytes)
 EndsOff BeginsText bytes old new (Dos refusal) = Writes old new (λ text. text ≡ dos_line refusal)
 EndsOff BeginsText bytes old new fault = Keeps old new ⊎ WritesFrontOf old new (λ text. BeginsText text ⊎ (IsRefusalText bytes text ⊎ IsDosText text))
 
--- a line of some fault
+-- the line of some fault
 abbrev pub IsToldLine : List ℕ → Type 0
 IsToldLine text = (fault : CommandFault) × (told_line fault ≡ Some text)
 
--- a job that prints nothing but the line of its fault, or a front of such a line
+-- a job whose only output is the line of its fault, or a prefix of such a line
 abbrev pub TellsFault : Option (List ℕ) → Option (List ℕ) → Ending → Type 0
 TellsFault old new (Ok done) = Keeps old new
 TellsFault old new (Err fault) =
     MatchOption (told_line fault) (Keeps old new ⊎ WritesFrontOf old new IsToldLine) (λ line. Writes old new (λ text. text ≡ line))
 
--- a text of bytes, or their refusal, or how a fault ends that
+-- a text for the bytes, their refusal, or the output before a fault
 abbrev pub EndsSome : (IsText BeginsText : List ℕ → List ℕ → Type 0) → Option (List ℕ) → Option (List ℕ) → Ending → Type 0
 EndsSome IsText BeginsText old new result =
     (bytes : List ℕ) × MatchResult result (λ _. Writes old new (IsText bytes)) (EndsOff (BeginsText bytes) bytes old new)
 
--- what a job that prints so comes to
+-- the result of a job with this kind of output
 abbrev pub Tells : Prints → (IsText BeginsText : List ℕ → List ℕ → Type 0) → Option (List ℕ) → Option (List ℕ) → Ending → Type 0
 Tells OnlyFaults IsText BeginsText old new result = TellsFault old new result
 Tells OfBytes IsText BeginsText old new result = EndsSome IsText BeginsText old new result
@@ -91,7 +92,7 @@ Tells (OfImages job) IsText BeginsText old new result = EndsArchive job old new 
 Tells OfRescue IsText BeginsText old new result = TellsRescue old new result
 Tells Unsaid IsText BeginsText old new result = ⊤
 
--- what a job comes to
+-- the result of a job
 abbrev pub TellsJob : ImageJob → Option (List ℕ) → Option (List ℕ) → Ending → Type 0
 TellsJob job = Tells (prints job) (IsJobText job) (BeginsJobText job)
 

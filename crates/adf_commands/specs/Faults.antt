@@ -1,9 +1,9 @@
--- What the faults of commands tell, and their exit statuses.
+-- The messages of commands' faults, and their exit statuses.
 use Rattle.std.specs.Prelude.{◌≡◌, ◌≢◌, ⊤, ℕ, Bool, true, false, List, None}
 use Rattle.adf_block.specs.Image.{IsSize}
 use Rattle.ados_name.specs.Name.{IsName}
-use Rattle.ados_tree.specs.declared.fault.FaultKind.TheVariants.{NoMemory}
-use Rattle.ados_tree.specs.declared.fault.VolumeFault.{VolumeFault}
+use Rattle.ados_model.specs.declared.fault.FaultKind.TheVariants.{NoMemory}
+use Rattle.ados_model.specs.declared.fault.VolumeFault.{VolumeFault}
 use Rattle.ados_run.specs.declared.run.RunFault.{RunFault}
 use Rattle.ados_run.specs.declared.run.RunFault.TheVariants.{Rejected, NoMemory as NoRun}
 use Rattle.adf_text.specs.Letters.{letters as letter_text}
@@ -14,12 +14,12 @@ use Rattle.adf_commands.specs.declared.fault.CommandFault.TheVariants.{Blocks, D
 use Rattle.adf_archive.specs.Words.{kind_word}
 use Rattle.adf_commands.specs.Refusals.{IsImageRefusal, IsSizeRefusal, refusal_line, refused_line, told_line}
 
--- an image is refused as this fault says, or there was no memory
+-- an image is refused, as this fault says, or memory ran out
 abbrev pub IsRefusedFor : List ℕ → CommandFault → Type 0
 IsRefusedFor image (Refused refusal) = IsImageRefusal image (refusal_line refusal)
 IsRefusedFor image fault = fault ≡ Memory
 
--- a fault of a volume as that of a command: with its word and its block, or as want of memory
+-- a fault of a volume as that of a command: with its word and its block, or as out of memory
 abbrev pub IsToldAs : VolumeFault → CommandFault → Type 0
 IsToldAs fault (Refused refusal) = (fault.kind ≢ NoMemory) × (refusal_line refusal ≡ refused_line (kind_word fault.kind) fault.block)
 IsToldAs fault told = (told ≡ Memory) × (fault.kind ≡ NoMemory)
@@ -29,43 +29,43 @@ abbrev pub IsToldRun : RunFault → CommandFault → Type 0
 IsToldRun (Rejected rejected) told = IsToldAs rejected.fault told
 IsToldRun (NoRun image) told = told ≡ Memory
 
--- a fault that tells of no refused image
+-- a fault other than the refusal of an image
 abbrev pub IsNoImageRefusal : CommandFault → Type 0
 IsNoImageRefusal (Refused refusal) = ⊥
 IsNoImageRefusal fault = ⊤
 
--- a fault of which no line is printed
+-- a fault without a line on standard output
 abbrev pub IsNoRefusal : CommandFault → Type 0
 IsNoRefusal fault = told_line fault ≡ None
 
--- what does not go out of a volume, as the fault of a command
+-- a fault of output from a volume, as the fault of a command
 abbrev pub IsToldOut : OutFault → CommandFault → Type 0
 IsToldOut out.Output told = told ≡ Output
 IsToldOut fault told = IsNoImageRefusal told
 
--- bytes are refused by their number, or no image was read; nothing was taken out of one
+-- bytes are refused for their number, or no image was read
 abbrev pub IsNoImage : CommandFault → Type 0
 IsNoImage NotWhole = ⊥
 IsNoImage (Refused refusal) = (bytes : List ℕ) × IsSizeRefusal bytes (refusal_line refusal)
 IsNoImage fault = ⊤
 
--- a name that a word stands for: its bytes are those of the word, or its letters are
+-- the name for an argument, by its bytes or by its letters
 abbrev pub IsNamed : Bool → List ℕ → List ℕ → Type 0
 IsNamed true word name = letter_text name ≡ word
 IsNamed false word name = name ≡ word
 
--- why a word stands for no name of a volume: what it stands for is no name, or it has a letter without a byte; or there was no memory
+-- why an argument is no volume name: it is not a name, it has a letter past U+00FF, or memory ran out
 abbrev pub IsNameFault : Bool → List ℕ → CommandFault → Type 0
 IsNameFault as_letters word (Name given) = (given.now ≡ word) × ((name : List ℕ) × IsNamed as_letters word name × ¬ IsName name)
 IsNameFault as_letters word (Letter given) = as_letters ≡ true
 IsNameFault as_letters word fault = fault ≡ Memory
 
--- why no blank image is made: the word stands for no name, or there is no volume of that size; or there was no memory
+-- why no blank image is made: the argument is no volume name, no volume has this size, or memory ran out
 abbrev pub IsBlankFault : Bool → ℕ → List ℕ → CommandFault → Type 0
 IsBlankFault as_letters blocks word (Blocks given) = ¬ IsSize blocks × (given ≡ blocks)
 IsBlankFault as_letters blocks word fault = IsNameFault as_letters word fault
 
--- the exit status of a command that is not done
+-- the exit status of a command that failed
 abbrev pub status_of : CommandFault → ℕ
 status_of (Blocks blocks) = 1
 status_of (Letter word) = 1

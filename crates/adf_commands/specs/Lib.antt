@@ -1,4 +1,4 @@
--- What the commands print of images and of what is refused, what their faults tell, and how they end.
+-- The output of commands for images and for refusals, the messages of their faults, and how they end.
 pub mod Texts
 pub mod Refusals
 pub mod Faults

@@ -1,4 +1,4 @@
--- How `extract --damaged` comes to its end.
+-- How `extract --damaged` ends.
 use Rattle.std.specs.Prelude.{◌≡◌, ◌⊎◌, ℕ, Bool, true, false, List, Option, Some, Result, Ok, Err, ⊤}
 use Rattle.std.specs.Io.KnownBytes.{Keeps}
 use Rattle.adf_script.specs.Streams.{Writes}
@@ -9,20 +9,20 @@ use Rattle.adf_commands.specs.declared.fault.CommandFault.{CommandFault}
 use Rattle.adf_commands.specs.declared.fault.CommandFault.TheVariants.{Dos, Extracted, Memory, NotWhole, Refused}
 use Rattle.adf_commands.specs.Refusals.{IsSizeRefusal, dos_line, refusal_line, told_line}
 
--- why nothing is told of an image that was read: the host's files are not written, or there is no memory
+-- why there is no report on an image that was read: the host files cannot be written, or memory ran out
 abbrev pub IsRescueEnd : CommandFault → Type 0
 IsRescueEnd (Extracted fault) = ⊤
 IsRescueEnd Memory = ⊤
 IsRescueEnd fault = ⊥
 
--- what is told of an image of which all that is taken out is whole, or not all
+-- the report on a rescue, in which everything is whole or not
 abbrev pub IsRescueText : Bool → List ℕ → Type 0
 IsRescueText whole text = (image : List ℕ) × (rescue : Rescue) × IsRescue image rescue × (rescue.whole ≡ whole) × (text ≡ rescue.lines.items)
 
 abbrev pub IsSomeRescueText : List ℕ → Type 0
 IsSomeRescueText text = (whole : Bool) × IsRescueText whole text
 
--- what the command comes to before a refusal is printed; only of a wrong size an image is refused
+-- the result of the command before a refusal is printed; an image is refused only for a wrong size
 abbrev pub DoesRescue : Option (List ℕ) → Option (List ℕ) → Result (Unit {0}) CommandFault → Type 0
 DoesRescue old new (Ok done) = Writes old new (IsRescueText true)
 DoesRescue old new (Err NotWhole) = Writes old new (IsRescueText false)
@@ -30,7 +30,7 @@ DoesRescue old new (Err (Refused refusal)) = Keeps old new × ((bytes : List ℕ
 DoesRescue old new (Err (Dos refusal)) = Keeps old new
 DoesRescue old new (Err fault) = Keeps old new ⊎ WritesFrontOf old new IsSomeRescueText
 
--- and with it
+-- the result of the command with the output of a refusal
 abbrev pub TellsRescue : Option (List ℕ) → Option (List ℕ) → Result (Unit {0}) CommandFault → Type 0
 TellsRescue old new (Ok done) = Writes old new (IsRescueText true)
 TellsRescue old new (Err NotWhole) = Writes old new (IsRescueText false)

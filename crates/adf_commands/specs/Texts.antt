@@ -1,18 +1,17 @@
--- What the commands print of an image, by its bytes.
+-- The output of commands for an image, by its bytes.
 use Rattle.std.specs.Prelude.{◌≡◌, ℕ, pos, Bool, true, List, [], ◌∷◌, codes, Option, Some, None, option_map}
 use Rattle.ados_name.specs.declared.Date3.{Date3}
-use Rattle.ados_packet.specs.Numbers.{action_number}
-use Rattle.ados_packet.specs.Packet.{dos_true}
-use Rattle.ados_packet.specs.declared.action.Action.TheVariants.{DiskInfo}
-use Rattle.ados_packet.specs.declared.packet.Packet.{Packet}
-use Rattle.ados_packet.specs.declared.packet.Packet.TheVariants as packets
-use Rattle.ados_packet.specs.declared.answer.Answer.{Answer}
-use Rattle.ados_packet.specs.declared.answer.Body.TheVariants.{Disk}
-use Rattle.ados_tree.specs.Accepted.{Accepts}
-use Rattle.ados_tree.specs.Stands.{Stands}
-use Rattle.ados_tree.specs.Tree.{Tree, bytes_of, root}
-use Rattle.ados_tree.specs.Walk.{is_file}
-use Rattle.ados_volume.specs.Info.{disk_info}
+use Rattle.ados_model.specs.Packet.{action_number, dos_true}
+use Rattle.ados_model.specs.declared.packet.Action.TheVariants.{DiskInfo}
+use Rattle.ados_model.specs.declared.packet.Packet.{Packet}
+use Rattle.ados_model.specs.declared.packet.Packet.TheVariants as packets
+use Rattle.ados_model.specs.declared.answer.Answer.{Answer}
+use Rattle.ados_model.specs.declared.answer.Body.TheVariants.{Disk}
+use Rattle.ados_model.specs.Accepted.{Accepts}
+use Rattle.ados_model.specs.Stands.{Stands}
+use Rattle.ados_model.specs.Tree.{Tree, bytes_of, root}
+use Rattle.ados_model.specs.Change.{is_file}
+use Rattle.ados_model.specs.Objects.{disk_info}
 use Rattle.ados_port.specs.Step.{Step}
 use Rattle.ados_port.specs.Step.TheVariants as steps
 use Rattle.ados_port.specs.Step.TheVariants.{Put, Take}
@@ -27,44 +26,44 @@ use Rattle.files_out.specs.Words.{LeadsTo}
 abbrev pub first_moment : Date3
 first_moment = record { days = 0; minutes = 0; ticks = 0 }
 
--- a text of a tree that an image is accepted with: by whether its bitmap was written anew, by the image as it is then, and by its tree
+-- a text for an accepted image: by whether its bitmap was rebuilt, by the checked image, and by its tree
 abbrev pub OfAccepted : (Bool → List ℕ → Tree → List ℕ → Type 0) → List ℕ → List ℕ → Type 0
 OfAccepted IsText image text =
     (was_validated : Bool) × (checked : List ℕ) × (t : Tree)
     × Accepts image was_validated checked × Stands checked t × IsText was_validated checked t text
 
--- what DISK_INFO answers of a tree
+-- the answer of DISK_INFO for a tree
 abbrev pub disk_answer : Tree → Answer
 disk_answer t = record { action = action_number DiskInfo; res1 = dos_true; res2 = pos 0; body = Disk (disk_info t) }
 
--- that answer, and whether the image boots
+-- that answer, and whether the image is bootable
 abbrev pub IsInfoText : List ℕ → List ℕ → Type 0
 IsInfoText = OfAccepted (λ was_validated checked t text. text ≡ info_text (disk_answer t) checked)
 
--- the directory of a list: the root, or the one to which a word leads
+-- the directory to list: the root, or the one at a path
 abbrev pub IsListed : Tree → Option (List ℕ) → ℕ → Type 0
 IsListed t None dir = dir ≡ root t
 IsListed t (Some word) dir = LeadsTo t word dir
 
--- the list of that directory, its names as bytes or as letters, and a beginning of it
+-- the listing of that directory, with names as bytes or as letters; and the beginning of one
 abbrev pub IsListText : Option (List ℕ) → Bool → List ℕ → List ℕ → Type 0
 IsListText path as_letters = OfAccepted (λ was_validated checked t text. (dir : ℕ) × IsListed t path dir × IsList t dir as_letters text)
 
 abbrev pub BeginsListText : Option (List ℕ) → Bool → List ℕ → List ℕ → Type 0
 BeginsListText path as_letters = OfAccepted (λ was_validated checked t text. (dir : ℕ) × IsListed t path dir × BeginsList t dir as_letters text)
 
--- the list that is asked for
+-- the requested listing
 abbrev pub IsListOf : ListJob → List ℕ → List ℕ → Type 0
 IsListOf job = IsListText (option_map (λ word. word.now) job.path) job.letters
 
 abbrev pub BeginsListOf : ListJob → List ℕ → List ℕ → Type 0
 BeginsListOf job = BeginsListText (option_map (λ word. word.now) job.path) job.letters
 
--- the bytes of the file to which a word leads
+-- the bytes of the file at a path
 abbrev pub IsPrintText : List ℕ → List ℕ → List ℕ → Type 0
 IsPrintText word = OfAccepted (λ was_validated checked t text. (key : ℕ) × LeadsTo t word key × (is_file t key ≡ true) × (text ≡ bytes_of t key))
 
--- what a command prints of the bytes that it reads, and what that begins with; `blank` prints nothing
+-- the output of a command for the bytes that it reads, and its beginning; `blank` has none
 abbrev pub IsJobText : ImageJob → List ℕ → List ℕ → Type 0
 IsJobText (Info file) = IsInfoText
 IsJobText (ListOf job) = IsListOf job
@@ -75,6 +74,6 @@ abbrev pub BeginsJobText : ImageJob → List ℕ → List ℕ → Type 0
 BeginsJobText (ListOf job) = BeginsListOf job
 BeginsJobText job = IsJobText job
 
--- a DISK_INFO that is put, served at the first moment, and taken by client 1
+-- a DISK_INFO of client 1, put, served at the first time stamp, and taken
 abbrev pub disk_info_steps : List (Step Packet Date3)
 disk_info_steps = Put 1 packets.DiskInfo ∷ steps.Serve first_moment ∷ Take 1 ∷ []

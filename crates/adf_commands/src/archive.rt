@@ -9,7 +9,7 @@ use std::io::Write;
 use std::rt::Files;
 use std::thread::Threads;
 
-/// Checks the images that a job names, and tells of each. With `terminal` a line on `faults` says how many are done.
+/// Checks the images of a job, and reports on each. With `terminal`, a line on `faults` says how many are done.
 pub(crate) fn check_images<'a, R, W, F>(
     rt: &R,
     alloc: Global,

@@ -1,7 +1,7 @@
 //! The command `blank`.
 ghost use Rattle.std.specs.Prelude.{◌≡◌, List, ℕ, MatchResult, IfErr, IfOk};
 ghost use Rattle.ados_name.specs.Name.{IsName};
-ghost use Rattle.ados_tree.specs.Blank.{IsBlank};
+ghost use Rattle.ados_model.specs.Blank.{IsBlank};
 ghost use Rattle.adf_commands.specs.Faults.{IsBlankFault, IsNamed, IsNameFault, IsNoRefusal};
 
 use crate::fault::CommandFault;
@@ -14,7 +14,7 @@ use std::alloc::Global;
 use std::fs::File;
 use std::rt::Files;
 
-/// A blank volume, whose image is what `blank` writes to its file.
+/// A blank volume. `blank` writes its image to a file.
 pub(crate) fn blank_volume<'a>(
     alloc: Global,
     format: Format,
@@ -34,7 +34,7 @@ pub(crate) fn blank_volume<'a>(
     Ok(blank(alloc, format, blocks, label, moment)?)
 }
 
-/// The name of a volume that a word stands for, by its bytes or by its letters.
+/// The volume name for an argument, by its bytes or by its letters.
 fn volume_name<'a>(alloc: Global, word: &'a str, letters: bool) -> Result<Name, CommandFault<'a>>
     ensures { MatchResult result (IsNamed letters word.now) (IsNameFault letters word.now) }
 {
@@ -50,7 +50,7 @@ fn volume_name<'a>(alloc: Global, word: &'a str, letters: bool) -> Result<Name, 
     }
 }
 
-/// The name of a volume with these bytes, which the word stands for.
+/// The volume name with these bytes, for this argument.
 fn named<'a>(bytes: &[u8], word: &'a str) -> Result<Name, CommandFault<'a>>
     ensures ok { IfOk result (λ name. name ≡ bytes.now) }
     ensures fault { IfErr result (λ fault. (fault ≡ CommandFault.Name word.entry) × ¬ IsName bytes.now) }
@@ -61,7 +61,7 @@ fn named<'a>(bytes: &[u8], word: &'a str) -> Result<Name, CommandFault<'a>>
     }
 }
 
-/// Writes the image of a new volume, in place of what the file is. It is held meanwhile, where one is there.
+/// Writes the image of a new volume in place of a file. An existing file is locked meanwhile.
 pub(crate) fn write_new<'a, R: Files<File = File>>(
     rt: &R,
     alloc: Global,

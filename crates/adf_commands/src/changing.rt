@@ -3,7 +3,7 @@ use crate::fault::CommandFault;
 use crate::images::{Work, accept};
 use crate::refusal::Refusal;
 use adf_block::Image;
-use adf_host::{BoundedFault, read_bounded};
+use adf_io::read_bounded;
 use adf_jobs::ChangeJob;
 use ados_name::Date3;
 use ados_volume::Volume;
@@ -18,7 +18,7 @@ use std::rt::{Clock, Files};
 /// The most bytes of a boot block.
 const BOOT_BYTES: usize = 1_024;
 
-/// Makes a change of the volume in an image file, whole or not at all. What is passed over is told on `faults`.
+/// Makes a change of the volume in an image file, whole or not at all. It prints what was skipped on `faults`.
 pub(crate) fn change<'a, R, F>(
     rt: &R,
     alloc: Global,
@@ -35,7 +35,7 @@ where
     work.end(rt, alloc, volume.image())
 }
 
-/// The volume of an image, changed. What is passed over is told on `faults`.
+/// The changed volume of an image. It prints what was skipped on `faults`.
 fn changed<'a, R, F>(
     rt: &R,
     alloc: Global,
@@ -58,7 +58,7 @@ where
     }
 }
 
-/// The moment that is given, and else that of the host's clock.
+/// The given time stamp, or else that of the host's clock.
 fn given_or_now<'a, R: Clock>(rt: &R, given: Option<Date3>) -> Result<Date3, CommandFault<'a>> {
     match given {
         Some(moment) => Ok(moment),
@@ -66,14 +66,14 @@ fn given_or_now<'a, R: Clock>(rt: &R, given: Option<Date3>) -> Result<Date3, Com
     }
 }
 
-/// Tells a person what was passed over.
+/// Prints what was skipped.
 fn tell_passed_over<F: Write>(passed_over: &[PassedOver], faults: &mut F) {
     for passed in passed_over {
         let _ = write!(faults, "adf_serve: {passed}\n");
     }
 }
 
-/// Writes a boot block to an image file that is accepted: the bytes of a file, or none.
+/// Installs a boot block in an image file that is accepted: the bytes of a file, or none.
 pub(crate) fn boot<'a, R: Files<File = File>>(
     rt: &R,
     alloc: Global,
@@ -88,7 +88,8 @@ pub(crate) fn boot<'a, R: Files<File = File>>(
     work.end(rt, alloc, &image)
 }
 
-/// That an image is accepted. The check is made of a copy, since it may write a bitmap anew, which a boot block leaves as it is.
+/// Checks that an image is accepted. It checks a copy, because the check may rebuild the bitmap, and a boot block
+/// leaves it unchanged.
 fn accept_copy<'a>(alloc: Global, image: &Image) -> Result<(), CommandFault<'a>> {
     let copy = Vec::from_slice(alloc, image.as_bytes())?;
     match Image::from_bytes(copy) {
@@ -100,7 +101,7 @@ fn accept_copy<'a>(alloc: Global, image: &Image) -> Result<(), CommandFault<'a>>
     }
 }
 
-/// Puts the bytes of a file on an image as its boot block, or none.
+/// Installs the bytes of a file as an image's boot block, or removes it.
 fn put_boot<'a, R: Files>(
     rt: &R,
     alloc: Global,
@@ -118,7 +119,7 @@ fn put_boot<'a, R: Files>(
     }
 }
 
-/// The bytes of a file, or one more than a boot block has.
+/// The bytes of a file, at most one more than a boot block has.
 fn read_code<'a, R: Files>(
     rt: &R,
     alloc: Global,
@@ -129,7 +130,6 @@ fn read_code<'a, R: Files>(
     };
     match read_bounded(alloc, &mut reader, BOOT_BYTES + 1) {
         Ok(code) => Ok(code),
-        Err(BoundedFault::Read) => Err(CommandFault::Read(file)),
-        Err(BoundedFault::Memory) => Err(CommandFault::Memory),
+        Err(fault) => Err(CommandFault::of_input(fault, file)),
     }
 }

@@ -1,4 +1,4 @@
-//! Why a command is not done.
+//! Why a command fails.
 ghost use Rattle.std.specs.Prelude.{◌≡◌, IfOk, IfErr, option_map};
 ghost use Rattle.std.specs.String.{string_bytes};
 ghost use Rattle.adf_commands.specs.Faults.{status_of};
@@ -10,7 +10,7 @@ use adf_host::{HoldFault, ReplaceFault};
 use adf_io::InputFault;
 use adf_listing::PrintFault;
 use adf_transfer::Refused;
-use ados_packet::DosError;
+use ados_model::DosError;
 use ados_run::{RunFault, ScriptsFault};
 use ados_volume::VolumeFault;
 use files_in::InFault;
@@ -19,7 +19,7 @@ use host_trees::WriteFault;
 use std::alloc::{AllocError, Global};
 use thiserror::Error;
 
-/// Why a command is not done, with what a person is told of it.
+/// Why a command fails, with the message that is printed.
 #[derive(Debug, Drop, Error)]
 pub enum CommandFault<'a> {
     #[error("'{0}' cannot be read")]
@@ -76,7 +76,7 @@ impl<'a> CommandFault<'a> {
         }
     }
 
-    /// The line of standard output that tells of it: of what is refused one, and else none.
+    /// The line on standard output: one for a refusal, none for any other fault.
     pub(crate) fn line(&self, alloc: Global) -> Result<Option<String>, AllocError>
         ensures { IfOk result (λ line. option_map string_bytes line ≡ told_line self.now) }
     {
@@ -87,7 +87,7 @@ impl<'a> CommandFault<'a> {
         }
     }
 
-    /// The program's exit status: 1 for a wrong word, 3 for what is refused, 2 for any other fault.
+    /// The program's exit status: 1 for a wrong argument, 3 for a refusal, 2 for any other fault.
     pub fn status(&self) -> u8
         ensures { result ≡ status_of self.now }
     {

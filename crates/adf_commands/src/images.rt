@@ -1,12 +1,13 @@
-//! Image files: read to a bound, checked, held while they are changed, and replaced whole.
+//! Image files: read up to a bound, checked, locked during changes, and replaced whole.
 ghost use Rattle.std.specs.Prelude.{IfErr, MatchResult};
-ghost use Rattle.ados_tree.specs.Accepted.{Accepts};
+ghost use Rattle.ados_model.specs.Accepted.{Accepts};
 ghost use Rattle.adf_commands.specs.Faults.{IsNoImage, IsNoRefusal, IsRefusedFor};
 
 use crate::fault::CommandFault;
 use crate::refusal::Refusal;
 use adf_block::Image;
-use adf_host::{HeldFile, HoldFault, ImageFault, hold, hold_target, read_image_file, replace_file};
+use adf_host::{HeldFile, HoldFault, hold, hold_target, read_image_file, replace_file};
+use adf_io::LoadFault;
 use ados_volume::{Volume, check};
 use std::alloc::Global;
 use std::fs::File;
@@ -26,14 +27,15 @@ pub(crate) fn read_image<'a, R: Files>(
     }
 }
 
-/// Why a file gives no image.
-fn image_fault<'a>(fault: ImageFault, file: &'a str) -> CommandFault<'a>
+/// Why a file has no image.
+fn image_fault<'a>(fault: LoadFault, file: &'a str) -> CommandFault<'a>
     ensures { IsNoImage result }
 {
     match fault {
-        ImageFault::Read => CommandFault::Read(file),
-        ImageFault::Memory => CommandFault::Memory,
-        ImageFault::Size(fault) => CommandFault::Refused(Refusal::of_size(fault)),
+        LoadFault::Read => CommandFault::Read(file),
+        LoadFault::Memory => CommandFault::Memory,
+        LoadFault::TurnLimit => CommandFault::Endless(file),
+        LoadFault::Size(refused) => CommandFault::Refused(Refusal::of_size(refused.fault)),
     }
 }
 
@@ -57,7 +59,7 @@ pub(crate) fn accept<'a>(alloc: Global, image: Image) -> Result<Volume, CommandF
     }
 }
 
-/// Writes an image whole, in place of what the file is, which is held where it can be.
+/// Writes an image whole in place of a file. The file is locked if possible.
 pub(crate) fn write_image<'a, R: Files<File = File>>(
     rt: &R,
     alloc: Global,
@@ -67,13 +69,13 @@ pub(crate) fn write_image<'a, R: Files<File = File>>(
 ) -> Result<(), CommandFault<'a>>
     ensures { IfErr result IsNoRefusal }
 {
-    match replace_file(rt, alloc, file, held, image.as_bytes()) {
+    match replace_file(rt, alloc, file, held, image) {
         Ok(()) => Ok(()),
         Err(fault) => Err(CommandFault::Write(file, fault)),
     }
 }
 
-/// An image file that a command changes: it is held, and so is the file that is written in its place, until this is dropped.
+/// An image file that a command changes. It is locked, and so is the file to write, until this is dropped.
 #[derive(Drop)]
 pub(crate) struct Work<'a> {
     image: &'a str,
@@ -83,7 +85,7 @@ pub(crate) struct Work<'a> {
 }
 
 impl<'a> Work<'a> {
-    /// Begins to change an image file; the new image goes to `out`, or else to the file itself.
+    /// Starts to change an image file. The new image goes to `out`, or else to the file itself.
     pub(crate) fn begin<R: Files<File = File>>(
         rt: &R,
         image: &'a str,
@@ -107,7 +109,7 @@ impl<'a> Work<'a> {
         })
     }
 
-    /// The image, which is read once.
+    /// Reads the image. It is read once.
     pub(crate) fn read(&mut self, alloc: Global) -> Result<Image, CommandFault<'a>> {
         match self.held.read_image(alloc) {
             Ok(image) => Ok(image),
@@ -115,7 +117,7 @@ impl<'a> Work<'a> {
         }
     }
 
-    /// Writes the new image, and ends the work.
+    /// Writes the new image and ends the work.
     pub(crate) fn end<R: Files<File = File>>(
         self,
         rt: &R,
@@ -126,7 +128,7 @@ impl<'a> Work<'a> {
     }
 }
 
-/// Holds the file that is to be written, where one is there.
+/// Locks the file to write, if it exists.
 pub(crate) fn hold_out<'a, R: Files<File = File>>(
     rt: &R,
     out: &'a str,

@@ -9,8 +9,8 @@ use crate::images::read_image;
 use adf_block::Image;
 use adf_listing::write_info;
 use ados_handler::Handler;
+use ados_model::Packet;
 use ados_name::Date3;
-use ados_packet::Packet;
 use ados_port::{Outcome, RunDone, Step};
 use ados_run::run_volume;
 use std::alloc::{AllocError, Global};
@@ -24,7 +24,7 @@ pub const FIRST_MOMENT: Date3 = Date3 {
     ticks: 0,
 };
 
-/// Tells what DISK_INFO answers over the image of a file, and whether its boot blocks run.
+/// Prints the result of DISK_INFO for a file's image, and whether its boot checksum is right.
 pub(crate) fn print_info<'a, R: Files, W: Write>(
     rt: &R,
     alloc: Global,
@@ -37,7 +37,7 @@ pub(crate) fn print_info<'a, R: Files, W: Write>(
     tell_info(alloc, image, writer)
 }
 
-/// Tells what DISK_INFO answers over an image, and whether its boot blocks run.
+/// Prints the result of DISK_INFO for an image, and whether its boot checksum is right.
 fn tell_info<'a, W: Write>(
     alloc: Global,
     image: Image,
@@ -49,7 +49,7 @@ fn tell_info<'a, W: Write>(
     tell_answer(alloc, &done, writer)
 }
 
-/// Tells the answer of a run of `disk_info`, and whether the image after it boots.
+/// Prints the answer of a run of `disk_info`, and whether the image after it is bootable.
 fn tell_answer<'a, W: Write>(
     alloc: Global,
     done: &RunDone<Handler>,
@@ -70,7 +70,7 @@ fn tell_answer<'a, W: Write>(
     }
 }
 
-/// A DISK_INFO that is put, served and taken by the one client.
+/// A DISK_INFO of the only client, put, served and taken.
 fn disk_info(alloc: Global) -> Result<Vec<Step<Packet, Date3>>, AllocError>
     ensures { IfOk result (λ steps. steps.items ≡ disk_info_steps) }
 {

@@ -1,4 +1,4 @@
-//! Jobs on image files.
+//! The jobs on image files.
 ghost use Rattle.adf_commands.specs.Commands.{DoesJob, TellsJob};
 
 use crate::archive::check_images;
@@ -19,8 +19,8 @@ use std::rt::{Clock, Files};
 use std::sync::Wait;
 use std::thread::Threads;
 
-/// Does a job on image files. What it tells of an image goes to the writer, and what is refused; what is passed over is
-/// told on `faults`, and with `terminal` how far the check of images has come.
+/// Does a job on image files. The output for an image and refusals go to the writer. Skipped files go to `faults`, and
+/// with `terminal` the progress of a check.
 pub fn run_job<'a, R, W, F>(
     rt: &R,
     alloc: Global,
@@ -56,7 +56,7 @@ where
     Err(fault)
 }
 
-/// Does a job on image files, and tells nothing of what is refused.
+/// Does a job on image files, without output for refusals.
 fn do_job<'a, R, W, F>(
     rt: &R,
     alloc: Global,

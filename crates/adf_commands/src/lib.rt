@@ -1,4 +1,4 @@
-//! The commands on image files: what each does to files and volumes, what it tells, and why it is not done.
+//! The commands on image files: their effects on files and volumes, their output, and their faults.
 #![tactic(auto)]
 
 mod archive;

@@ -1,8 +1,8 @@
 //! The commands that take entries out of a volume.
 ghost use Rattle.std.specs.Prelude.{◌≡◌, IfErr, IfOk, option_map};
-ghost use Rattle.ados_tree.specs.Keys.{HasDirectory};
-ghost use Rattle.ados_tree.specs.Stands.{Stands};
-ghost use Rattle.ados_tree.specs.Tree.{Tree};
+ghost use Rattle.ados_model.specs.Keys.{HasDirectory};
+ghost use Rattle.ados_model.specs.Stands.{Stands};
+ghost use Rattle.ados_model.specs.Tree.{Tree};
 ghost use Rattle.adf_commands.specs.Texts.{BeginsListOf, IsListed, IsListOf, IsPrintText};
 ghost use Rattle.adf_commands.specs.Faults.{IsNoImageRefusal};
 ghost use Rattle.adf_commands.specs.Commands.{TellsOf, TellsSome};
@@ -14,7 +14,7 @@ use adf_block::Image;
 use adf_jobs::{ExtractJob, ListJob};
 use adf_listing::write_list;
 use adf_transfer::Refused;
-use ados_packet::DosError;
+use ados_model::DosError;
 use ados_volume::Volume;
 use files_out::{extract, locate_word, print_file};
 use std::alloc::Global;
@@ -22,7 +22,7 @@ use std::fs::File;
 use std::io::Write;
 use std::rt::Files;
 
-/// Tells the directories and files below a directory of the image of a file.
+/// Prints the directories and files below a directory of a file's image.
 pub(crate) fn print_list<'a, R: Files, W: Write>(
     rt: &R,
     alloc: Global,
@@ -35,7 +35,7 @@ pub(crate) fn print_list<'a, R: Files, W: Write>(
     tell_list(alloc, image, job, writer)
 }
 
-/// Tells the directories and files below a directory of an image.
+/// Prints the directories and files below a directory of an image.
 fn tell_list<'a, W: Write>(
     alloc: Global,
     image: Image,
@@ -52,7 +52,7 @@ fn tell_list<'a, W: Write>(
     }
 }
 
-/// The directory to which a path leads, without one the root.
+/// The directory at a path; the root without one.
 fn listed_directory<'a>(
     alloc: Global,
     volume: &mut Volume,
@@ -76,7 +76,7 @@ fn listed_directory<'a>(
     Ok(key)
 }
 
-/// That a path leads to a file where a directory is wanted.
+/// The fault of a path to a file where a directory is needed.
 fn no_directory<'a>(alloc: Global, word: &'a str) -> CommandFault<'a>
     ensures { IsNoImageRefusal result }
 {
@@ -92,7 +92,7 @@ fn no_directory<'a>(alloc: Global, word: &'a str) -> CommandFault<'a>
     }
 }
 
-/// Tells the bytes of a file of the image of a file.
+/// Prints the bytes of a file in a file's image.
 pub(crate) fn print_bytes<'a, R: Files, W: Write>(
     rt: &R,
     alloc: Global,
@@ -106,7 +106,7 @@ pub(crate) fn print_bytes<'a, R: Files, W: Write>(
     tell_bytes(alloc, image, path, writer)
 }
 
-/// Tells the bytes of a file of an image.
+/// Prints the bytes of a file in an image.
 fn tell_bytes<'a, W: Write>(
     alloc: Global,
     image: Image,
@@ -122,7 +122,7 @@ fn tell_bytes<'a, W: Write>(
     }
 }
 
-/// Writes entries of an image file as files and directories of the host.
+/// Writes entries of an image file to files and directories of the host.
 pub(crate) fn take_out<'a, R: Files<File = File>>(
     rt: &R,
     alloc: Global,

@@ -1,4 +1,4 @@
-//! What a command writes to its streams.
+//! The output streams of a command.
 ghost use Rattle.std.specs.Prelude.{◌≡◌, OnOk, OnErr, IfErr};
 ghost use Rattle.std.specs.Io.KnownBytes.{Appends};
 ghost use Rattle.adf_listing.specs.Fronts.{WritesFront};
@@ -23,7 +23,7 @@ pub(crate) fn tell<'a, W: Write>(writer: &mut W, text: &[u8]) -> Result<(), Comm
     }
 }
 
-/// The exit status of a command, which tells a person of its fault.
+/// The exit status of a command. It prints the fault.
 pub fn status_of<F: Write>(done: Result<(), CommandFault<'_>>, faults: &mut F) -> u8
     ensures { result ≡ exit_status done.entry }
 {
@@ -36,8 +36,8 @@ pub fn status_of<F: Write>(done: Result<(), CommandFault<'_>>, faults: &mut F) -
     }
 }
 
-/// Tells a person of a fault, but of a refused image and a faulty script, of which standard output tells all, and of what the
-/// check of images and the lines of what was taken out have told already.
+/// Prints a fault, unless the output has it already: refused images, faulty scripts, and the results of `check` and of
+/// `extract --damaged`.
 fn tell_fault<F: Write>(fault: &CommandFault<'_>, faults: &mut F) {
     if !matches!(
         fault,

@@ -1,7 +1,7 @@
-//! Why an image is refused, and what AmigaDOS refuses.
+//! Refusals of images, and refusals by AmigaDOS.
 ghost use Rattle.std.specs.Prelude.{◌≡◌, ◌≢◌, IfSome, IfNone, IfOk};
 ghost use Rattle.std.specs.String.{string_bytes};
-ghost use Rattle.ados_tree.specs.declared.fault.FaultKind.TheVariants.{NoMemory};
+ghost use Rattle.ados_model.specs.declared.fault.FaultKind.TheVariants.{NoMemory};
 ghost use Rattle.adf_archive.specs.Words.{kind_word, size_word};
 ghost use Rattle.adf_commands.specs.Refusals.{dos_line, refusal_line};
 
@@ -13,7 +13,7 @@ use std::alloc::{AllocError, Global};
 use std::fmt;
 use thiserror::Error;
 
-/// Why an image is refused: the word for its fault, and the block that shows it, which is 0 for a fault of the size.
+/// Why an image is refused: the word for its fault, and the block that shows it. A fault of the size has block 0.
 #[derive(Clone, Copy, Debug, Error)]
 #[error("refused {kind} {block}")]
 pub struct Refusal {
@@ -33,7 +33,7 @@ impl Refusal {
         }
     }
 
-    /// The refusal of a volume. None where memory was wanting, for which no image is refused.
+    /// The refusal of a volume. Out of memory is none, because no image is refused for it.
     pub(crate) fn of_volume(fault: VolumeFault) -> Option<Refusal>
         ensures kind { IfSome result (λ refusal. refusal.kind.now ≡ kind_word fault.kind) }
         ensures block { IfSome result (λ refusal. refusal.block ≡ fault.block) }
@@ -47,7 +47,7 @@ impl Refusal {
         })
     }
 
-    /// Its line of standard output.
+    /// Its line on standard output.
     pub(crate) fn line(&self, alloc: Global) -> Result<String, AllocError>
         ensures { IfOk result (λ line. string_bytes line ≡ refusal_line self.now) }
     {
@@ -57,16 +57,16 @@ impl Refusal {
     }
 }
 
-/// What AmigaDOS refuses. As text it is the words for the error.
+/// A refusal by AmigaDOS. As text it is the text for the error.
 #[derive(Debug, Drop)]
 pub struct DosRefusal {
-    /// The error, and the path that it is told of.
+    /// The error, and the path that it is about.
     pub refused: Refused,
-    /// What is wanting where the disk is full.
+    /// The missing blocks if the disk is full.
     pub room: Option<Room>,
 }
 
-/// How many blocks are needed, and how many are free.
+/// The number of blocks needed, and the number of free blocks.
 #[derive(Clone, Copy, Debug)]
 pub struct Room {
     pub needed: u64,
@@ -74,7 +74,7 @@ pub struct Room {
 }
 
 impl DosRefusal {
-    /// Its line of standard output.
+    /// Its line on standard output.
     pub(crate) fn line(&self, alloc: Global) -> Result<String, AllocError>
         ensures { IfOk result (λ line. string_bytes line ≡ dos_line self.now) }
     {

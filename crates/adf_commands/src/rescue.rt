@@ -14,8 +14,8 @@ use std::fs::File;
 use std::io::Write;
 use std::rt::Files;
 
-/// Writes what can be trusted of an image file as files and directories of the host, and tells what that is; on `faults` which
-/// files are cut short.
+/// Writes what can be trusted in an image file to files and directories of the host, and reports on it. It prints on
+/// `faults` which files are cut short.
 pub(crate) fn take_rescue<'a, R, W, F>(
     rt: &R,
     alloc: Global,
@@ -40,7 +40,7 @@ where
     }
 }
 
-/// Tells a person which files are cut short.
+/// Prints which files are cut short.
 fn tell_cut<F: Write>(cut: &[String], faults: &mut F) {
     for path in cut {
         let path = path.as_str();
@@ -51,7 +51,7 @@ fn tell_cut<F: Write>(cut: &[String], faults: &mut F) {
 /// Why a file is cut short.
 const CUT: &str = "all files that are not whole have four times the bytes of the image";
 
-/// What is taken out of an image.
+/// The rescue of an image.
 fn rescue_of<'a, R: Files<File = File>>(
     rt: &R,
     alloc: Global,

@@ -1,28 +1,30 @@
-//! The command `serve`: scripts over an image, each as a client on a thread of its own.
+//! The command `serve`: scripts over an image, each as a client on its own thread.
 ghost use Rattle.std.specs.Prelude.{◌≡◌, length, IfOk};
 
 use crate::fault::CommandFault;
 use crate::images::{hold_out, open_volume, write_image};
 use crate::output::tell;
 use adf_host::HeldFile;
+use adf_io::read_bounded;
 use adf_jobs::ServeJob;
-use adf_script::read_script;
+use adf_script::{LONGEST_SCRIPT, read_script};
 use ados_run::{ClientEnding, OpenGate, VolumeServed, serve_volume};
 use std::alloc::Global;
 use std::fs;
-use std::fs::File;
+use std::fs::{File, OpenFile};
 use std::io::Write;
 use std::rt::Files;
 use std::sync::Wait;
 use std::thread::Threads;
 
-/// What a client was told, and how it came to its end.
+/// The output of a client, and how it ended.
 type ClientText = (Vec<u8>, ClientEnding);
 
-/// Runs the scripts of the clients over an image, prints what each client was told, and writes the image where that is asked for.
+/// Runs the scripts of the clients over an image, prints the output of each client, and writes the image if requested.
 ///
-/// The image is written even where standard output refuses the texts, or a script is faulty. The file that it goes to is held
-/// from the start; that another command holds it is a fault of writing, which comes after those of reading and of the work.
+/// The image is written even if standard output cannot be written or a script is faulty. Its file is locked from the
+/// start. If another command has locked it, this is a fault of writing, reported after those of reading and of the
+/// work.
 pub(crate) fn serve<'a, R, W>(
     rt: &R,
     alloc: Global,
@@ -41,7 +43,7 @@ where
     finish(rt, alloc, &served, job.out, held, writer)
 }
 
-/// Runs the scripts of these files over the volume of the image.
+/// Runs the scripts in these files over the volume of the image.
 fn serve_files<'a, R>(
     rt: &R,
     alloc: Global,
@@ -58,7 +60,7 @@ where
     }
 }
 
-/// Prints what each client was told, writes the image where that is asked for, and judges what the clients came to.
+/// Prints the output of each client, writes the image if requested, and judges how the clients ended.
 fn finish<'a, R: Files<File = File>, W: Write>(
     rt: &R,
     alloc: Global,
@@ -82,7 +84,7 @@ fn finish<'a, R: Files<File = File>, W: Write>(
     judge(&served.texts)
 }
 
-/// The scripts of these files, in their order. No packet of theirs is held back.
+/// The scripts in these files, in order. No gate holds back their packets.
 fn read_scripts<'a, R: Files>(
     rt: &R,
     alloc: Global,
@@ -98,7 +100,7 @@ fn read_scripts<'a, R: Files>(
     Ok(scripts)
 }
 
-/// The script of a file. Of one that is too long the front is kept, which is too long as well.
+/// The script in a file. Of one that is too long, the start is kept, which is too long as well.
 fn script_of<'a, R: Files>(
     rt: &R,
     alloc: Global,
@@ -107,13 +109,26 @@ fn script_of<'a, R: Files>(
     let Ok(mut reader) = fs::open(rt, file) else {
         return Err(CommandFault::Read(file));
     };
-    match read_script(alloc, &mut reader) {
+    let script = if is_too_long(&reader) {
+        read_bounded(alloc, &mut reader, LONGEST_SCRIPT + 1)
+    } else {
+        read_script(alloc, &mut reader)
+    };
+    match script {
         Ok(script) => Ok(script),
         Err(fault) => Err(CommandFault::of_input(fault, file)),
     }
 }
 
-/// Prints what the clients were told, in their order.
+/// Whether an open file is a regular file that is longer than a script may be.
+fn is_too_long<F: OpenFile>(file: &F) -> bool {
+    match file.metadata() {
+        Ok(found) => found.is_file() && found.len() > LONGEST_SCRIPT as u64,
+        Err(_) => false,
+    }
+}
+
+/// Prints the output of the clients, in order.
 fn tell_all<'a, W: Write>(texts: &[ClientText], writer: &mut W) -> Result<(), CommandFault<'a>> {
     for (text, _) in texts {
         tell(writer, text.as_slice())?;
@@ -121,7 +136,7 @@ fn tell_all<'a, W: Write>(texts: &[ClientText], writer: &mut W) -> Result<(), Co
     Ok(())
 }
 
-/// Whether all clients came to the end of a script without fault. A client that ran out of tries goes before a faulty script.
+/// Whether all scripts ended without a fault. A client that ran out of tries counts before a faulty script.
 fn judge<'a>(texts: &[ClientText]) -> Result<(), CommandFault<'a>> {
     if texts.iter().any(|told| told.1 == ClientEnding::Tries) {
         return Err(CommandFault::Tries);

@@ -1,3 +1,2 @@
--- Lemmas on input that is read up to a bound or piece by piece.
-mod Bounds
+-- Lemmas on images that are read piece by piece.
 mod Sketching

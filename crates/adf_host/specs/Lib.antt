@@ -1,5 +1,4 @@
--- What is promised of bytes, images and the names of files beside others.
+-- Contracts of the lengths of images, of their sketches and of the names of temporary files.
 pub mod Beside
-pub mod Bounded
 pub mod Images
 pub mod Sketched

@@ -1,6 +1,7 @@
-//! Image files that a command holds while it works on them.
-use crate::image_file::{ImageFault, read_open};
+//! Image files that a command locks while it works on them.
+use crate::image_file::read_open;
 use adf_block::Image;
+use adf_io::LoadFault;
 use std::alloc::Global;
 use std::fs;
 use std::fs::{File, Metadata, TryLockError};
@@ -8,13 +9,13 @@ use std::os::unix::fs::MetadataExt;
 use std::rt::Files;
 use thiserror::Error;
 
-/// Why a file is not held.
+/// Why a file is not locked.
 #[derive(Clone, Copy, Debug, PartialEq, Eq, Error)]
 pub enum HoldFault {
     /// It cannot be opened.
     #[error("it cannot be read")]
     Open,
-    /// Another command holds it.
+    /// Another command has locked it.
     #[error("another command works on it")]
     Busy,
     /// The host has no locks for it.
@@ -22,18 +23,18 @@ pub enum HoldFault {
     Lock,
 }
 
-/// A file that is held until this is dropped.
+/// A file that is locked until this is dropped.
 #[derive(Drop)]
 pub struct HeldFile {
     file: File,
 }
 
-/// How often a file is opened anew that was replaced meanwhile.
+/// The maximum number of times that a file is opened again because it was replaced meanwhile.
 const TRIES: u32 = 16;
 
-/// Holds a file for a command that is to change it. A file that another command holds is refused at once.
+/// Locks a file for a command that will change it. A file that another command has locked is refused at once.
 ///
-/// A file that was replaced before it was locked is no longer the one that its path names, so the new one is taken.
+/// If the file was replaced before it was locked, its path names another file, which is locked instead.
 pub fn hold<R: Files<File = File>>(rt: &R, path: &str) -> Result<HeldFile, HoldFault> {
     for _ in 0..TRIES {
         let Ok(file) = fs::open(rt, path) else {
@@ -47,8 +48,8 @@ pub fn hold<R: Files<File = File>>(rt: &R, path: &str) -> Result<HeldFile, HoldF
     Err(HoldFault::Busy)
 }
 
-/// Holds the file that a command is to write to, if a regular file is there that can be read; where it is the one that the
-/// command holds already, once more. So it does not write over a file on which another one works.
+/// Locks the file that a command will write to, if it is an existing readable regular file. If the command has already
+/// locked it, it is locked once more. So the command does not overwrite a file that another command works on.
 pub fn hold_target<R: Files<File = File>>(
     rt: &R,
     path: &str,
@@ -69,7 +70,7 @@ pub fn hold_target<R: Files<File = File>>(
     }
 }
 
-/// Locks a file, unless another command has it locked.
+/// Locks a file, unless another command has locked it.
 fn lock(file: &File) -> Result<(), HoldFault> {
     match file.try_lock() {
         Ok(()) => Ok(()),
@@ -86,18 +87,18 @@ fn is_named<R: Files>(rt: &R, file: &File, path: &str) -> bool {
     }
 }
 
-/// Whether both tell of one file: of the same number on the same device.
+/// Whether both describe one file: the same number on the same device.
 pub(crate) fn is_same(one: &Metadata, other: &Metadata) -> bool {
     one.dev() == other.dev() && one.ino() == other.ino()
 }
 
 impl HeldFile {
-    /// The image of the file, which is to be read once. A regular file of a wrong length is refused by it.
-    pub fn read_image(&mut self, alloc: Global) -> Result<Image, ImageFault> {
+    /// Reads the image of the file. To be called once. A regular file of a wrong length is refused by its length.
+    pub fn read_image(&mut self, alloc: Global) -> Result<Image, LoadFault> {
         read_open(alloc, &mut self.file)
     }
 
-    /// The same file, held until both are dropped.
+    /// The same file, locked until both are dropped.
     fn again(&self) -> Result<HeldFile, HoldFault> {
         match self.file.try_clone() {
             Ok(file) => Ok(HeldFile { file }),
@@ -105,7 +106,7 @@ impl HeldFile {
         }
     }
 
-    /// Whether it is the file of which this tells.
+    /// Whether this is the file with this description.
     pub(crate) fn is(&self, found: &Metadata) -> bool {
         match self.file.metadata() {
             Ok(held) => is_same(&held, found),

@@ -1,51 +1,19 @@
-//! Image files, of which no more is read than the largest image has bytes, and one.
-ghost use Rattle.std.specs.Prelude.{IfOk, IfErr, MatchOption};
-ghost use Rattle.adf_io.specs.Load.{ReadsAll};
-ghost use Rattle.adf_host.specs.Images.{IsImageLength, IsBoundedRefusal};
+//! Image files: read whole, by `load_image`.
+ghost use Rattle.std.specs.Prelude.{MatchOption};
+ghost use Rattle.adf_host.specs.Images.{IsImageLength};
 ghost use Rattle.adf_block.specs.Size.{IsSizeFault};
 
-use crate::bounded::{BoundedFault, read_expected};
 use adf_block::layout::{BLOCK_BYTES, FEWEST_BLOCKS, MOST_BLOCKS};
-use adf_block::{Image, SizeFault};
+use adf_block::{Image, SizeFault, SizeRefused};
+use adf_io::{LoadFault, load_image, load_image_with_room};
+use ados_check::whole_pages;
 use std::alloc::Global;
 use std::fs;
 use std::fs::OpenFile;
 use std::io::Read;
 use std::rt::Files;
-use thiserror::Error;
 
-/// Why a file gives no image.
-#[derive(Clone, Copy, Debug, PartialEq, Eq, Error)]
-pub enum ImageFault {
-    /// It cannot be opened or read.
-    #[error("it cannot be read")]
-    Read,
-    /// There is no memory for its bytes.
-    #[error("there is not enough memory")]
-    Memory,
-    /// It has no size that a volume may have.
-    #[error("it has no size that a volume may have")]
-    Size(SizeFault),
-}
-
-impl From<BoundedFault> for ImageFault {
-    ghost use Rattle.adf_host.specs.Images.{image_fault};
-    ghost use Rattle.std.specs.Prelude.{◌≡◌};
-
-    ghost from_gives = { λ fault own. own ≡ image_fault fault };
-
-    fn from(fault: BoundedFault) -> ImageFault {
-        match fault {
-            BoundedFault::Read => ImageFault::Read,
-            BoundedFault::Memory => ImageFault::Memory,
-        }
-    }
-}
-
-/// The most bytes of an image.
-const MOST_BYTES: usize = BLOCK_BYTES as usize * MOST_BLOCKS as usize;
-
-/// What is wrong with a file's length, in bytes, for an image; none where it is right.
+/// What is wrong with the length of a file, in bytes, as that of an image; `None` if it is right.
 pub fn size_fault(length: u64) -> Option<SizeFault>
     ensures { MatchOption result (IsImageLength length) (IsSizeFault length) }
 {
@@ -62,52 +30,34 @@ pub fn size_fault(length: u64) -> Option<SizeFault>
     None
 }
 
-/// The image of all bytes up to the end of input, of which at most one more than the largest image has is read. A size is
-/// refused by what was read.
-pub fn load_bounded<R: Read>(alloc: Global, reader: &mut R) -> Result<Image, ImageFault>
-    ensures ok { IfOk result (ReadsAll (R.remaining reader.old) (R.remaining reader.new)) }
-    ensures err { IfErr result (IsBoundedRefusal (R.remaining reader.old) (R.remaining reader.new)) }
-{
-    load_expected(alloc, reader, None)
-}
+/// The minimum number of bytes that are read into huge pages.
+const LARGE: usize = 524_288;
 
-/// As [`load_bounded`], of input of which may be known how many bytes to expect.
-fn load_expected<R: Read>(
-    alloc: Global,
-    reader: &mut R,
-    expected: Option<usize>,
-) -> Result<Image, ImageFault>
-    ensures ok { IfOk result (ReadsAll (R.remaining reader.old) (R.remaining reader.new)) }
-    ensures err { IfErr result (IsBoundedRefusal (R.remaining reader.old) (R.remaining reader.new)) }
-{
-    let bytes = read_expected(alloc, reader, expected, MOST_BYTES + 1)?;
-    match Image::from_bytes(bytes) {
-        Ok(image) => Ok(image),
-        Err(refused) => Err(ImageFault::Size(refused.fault)),
-    }
-}
-
-/// The image of an open file. A regular file of a wrong length is refused by it, and not read.
+/// Reads the image of an open file. A regular file of a wrong length is refused by its length, and not read.
 pub(crate) fn read_open<F: Read + OpenFile>(
     alloc: Global,
     file: &mut F,
-) -> Result<Image, ImageFault> {
-    let expected = match file.metadata() {
-        Ok(found) if found.is_file() => {
-            if let Some(fault) = size_fault(found.len()) {
-                return Err(ImageFault::Size(fault));
+) -> Result<Image, LoadFault> {
+    match file.metadata() {
+        Ok(found) if found.is_file() => match size_fault(found.len()) {
+            None => {
+                // With room for one more byte the end is reached before the memory is full.
+                let room = whole_pages((found.len() as usize).saturating_add(1), LARGE);
+                load_image_with_room(alloc, file, room)
             }
-            Some(found.len() as usize)
-        }
-        _ => None,
-    };
-    load_expected(alloc, file, expected)
+            Some(fault) => Err(LoadFault::Size(SizeRefused {
+                fault,
+                bytes: Vec::new(alloc),
+            })),
+        },
+        _ => load_image(alloc, file),
+    }
 }
 
-/// The image of a file. It is read even where a command holds it.
-pub fn read_image_file<R: Files>(rt: &R, alloc: Global, path: &str) -> Result<Image, ImageFault> {
+/// Reads the image of a file, even if a command has locked the file.
+pub fn read_image_file<R: Files>(rt: &R, alloc: Global, path: &str) -> Result<Image, LoadFault> {
     match fs::open(rt, path) {
         Ok(mut file) => read_open(alloc, &mut file),
-        Err(_) => Err(ImageFault::Read),
+        Err(_) => Err(LoadFault::Read),
     }
 }

@@ -3,9 +3,10 @@ use std::fs::{File, OpenFile};
 use std::io::Error;
 use std::os::unix::fs::fchown;
 
-/// An open file whose owner can be set, wherever its name leads by then.
+/// An open file whose owner can be set, whatever its name leads to by then.
 pub trait OwnedFile: OpenFile {
-    /// Sets its user and its group by their numbers; none leaves what it has. Fails where the process may not.
+    /// Sets the user and the group by their numbers; `None` leaves one unchanged. Fails if the process has no
+    /// permission.
     fn set_owner(&self, user: Option<u32>, group: Option<u32>) -> Result<(), Error>;
 }
 

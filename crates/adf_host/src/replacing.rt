@@ -1,7 +1,9 @@
-//! Files that are replaced whole: until the new bytes are on the disk the old ones stay.
+//! Files that are replaced whole: the old bytes stay until the new ones are on the disk.
 use crate::beside::beside_path;
 use crate::held::{HeldFile, is_same};
+use crate::new_bytes::NewBytes;
 use crate::owned::OwnedFile;
+use adf_block::Image;
 use std::alloc::{AllocError, Global};
 use std::fs;
 use std::fs::{FileTimes, Metadata, OpenFile, OpenOptions, Permissions};
@@ -12,25 +14,25 @@ use std::rt::Files;
 use std::time::SystemTime;
 use thiserror::Error;
 
-/// Why a file is not replaced. Its old bytes are what is there.
+/// Why a file is not replaced. Its old bytes are still there.
 #[derive(Clone, Copy, Debug, Error)]
 pub enum ReplaceFault {
-    /// It cannot be looked at or be opened to be written, or is a link that leads nowhere.
+    /// It cannot be examined or opened for writing, or is a link that leads nowhere.
     #[error("cannot be written: {0}")]
     Target(Error),
     /// No file can be made beside it.
     #[error("cannot be written: no file can be made beside it: {0}")]
     Beside(Error),
-    /// The new bytes cannot be written, or not be brought to the disk.
+    /// The new bytes cannot be written, or not be flushed to the disk.
     #[error("cannot be written: {0}")]
     Write(Error),
     /// The new file cannot take its place.
     #[error("cannot be replaced: {0}")]
     Rename(Error),
-    /// Its path leads to another file than the one that was held or found.
+    /// Its path leads to another file than the one that was locked or found.
     #[error("cannot be written: another file has taken its place")]
     Moved,
-    /// There is no memory for a path.
+    /// There is not enough memory for a path.
     #[error("cannot be written: there is not enough memory")]
     Memory,
 }
@@ -41,29 +43,30 @@ impl From<AllocError> for ReplaceFault {
     }
 }
 
-/// How many names are tried for the file beside another.
+/// The maximum number of names that are tried for a temporary file.
 const TRIES: u32 = 1_000;
 
-/// The mode bits that a file hands on to the one that takes its place: who may read, write and run it.
+/// The mode bits that a new file takes over from the file that it replaces: the rights to read, write and run it.
 const ACCESS_BITS: u32 = 0o777;
 
-/// Writes these bytes as the file at a path: to a new file beside it, which is brought to the disk and then renamed over
-/// it. Who may read, write and run a file that was there stays, and so do its owner and its group where the process may set
-/// them; a link stays, and what it leads to is replaced.
+/// Writes an image as the file at a path, by `store_image`: to a temporary file beside it, which is flushed to the disk
+/// and then renamed over it. The rights to read, write and run an existing file stay, and so do its owner and its group
+/// if the process may set them. A link stays, and the file that it leads to is replaced.
 ///
-/// After a fault the old bytes are there, and the file beside is gone. A file that is no regular one, as a device or a pipe,
-/// is written straight. One that the process may not write is refused, and so is a path that no longer leads to the file
-/// that is held for it.
+/// After a fault the old bytes are there, and the temporary file is removed. A file that is not regular, such as a
+/// device or a pipe, is written directly. A file that the process may not write is refused, and so is a path that no
+/// longer leads to the file locked for it.
 pub fn replace_file<R: Files>(
     rt: &R,
     alloc: Global,
     path: &str,
     held: Option<&HeldFile>,
-    bytes: &[u8],
+    image: &Image,
 ) -> Result<(), ReplaceFault>
 where
     R::File: OwnedFile,
 {
+    let bytes = NewBytes::Image(image);
     match fs::metadata(rt, path) {
         Ok(found) if !may_be(held, &found) => Err(ReplaceFault::Moved),
         Ok(found) if !found.is_file() => write_straight(rt, path, &found, bytes),
@@ -73,7 +76,7 @@ where
             if !may_be(held, &found) {
                 return Err(ReplaceFault::Moved);
             }
-            replace_found(rt, alloc, real.as_str(), &found, bytes, None)
+            write_over(rt, alloc, real.as_str(), &found, bytes, None)
         }
         Err(error) if error.kind() == ErrorKind::NotFound && held.is_none() => {
             if fs::symlink_metadata(rt, path).is_ok() {
@@ -85,7 +88,7 @@ where
     }
 }
 
-/// Whether what was found at a path may be the file that is held for it.
+/// Whether the file found at a path may be the file locked for it.
 fn may_be(held: Option<&HeldFile>, found: &Metadata) -> bool {
     match held {
         Some(held) => held.is(found),
@@ -93,7 +96,8 @@ fn may_be(held: Option<&HeldFile>, found: &Metadata) -> bool {
     }
 }
 
-/// Opens the file that was found at a path to write to it, if it is still there, and asks its handle what it is.
+/// Opens the file that was found at a path for writing, if it is still there, and returns the description by its
+/// handle.
 fn open_found<R: Files>(
     rt: &R,
     path: &str,
@@ -111,25 +115,40 @@ fn open_found<R: Files>(
     }
 }
 
-/// Writes to what is no regular file.
+/// Writes to a file that is not regular.
 fn write_straight<R: Files>(
     rt: &R,
     path: &str,
     found: &Metadata,
-    bytes: &[u8],
+    bytes: NewBytes<'_>,
 ) -> Result<(), ReplaceFault> {
     let (mut file, _) = open_found(rt, path, found)?;
-    file.write_all(bytes).map_err(ReplaceFault::Write)
+    bytes.put(&mut file).map_err(ReplaceFault::Write)
 }
 
-/// Replaces a regular file that was found at a path, as [`replace_file`] does; a link that stands there by now is refused.
-/// The new file gets this time, or that of now.
+/// Replaces a regular file that was found at a path by these bytes, as [`replace_file`] does. A link that is there by
+/// now is refused. The new file gets this time.
 pub fn replace_found<R: Files>(
     rt: &R,
     alloc: Global,
     path: &str,
     found: &Metadata,
     bytes: &[u8],
+    time: SystemTime,
+) -> Result<(), ReplaceFault>
+where
+    R::File: OwnedFile,
+{
+    write_over(rt, alloc, path, found, NewBytes::Bytes(bytes), Some(time))
+}
+
+/// Writes a new file over the regular file that was found at a path.
+fn write_over<R: Files>(
+    rt: &R,
+    alloc: Global,
+    path: &str,
+    found: &Metadata,
+    bytes: NewBytes<'_>,
     time: Option<SystemTime>,
 ) -> Result<(), ReplaceFault>
 where
@@ -139,14 +158,15 @@ where
     write_beside(rt, alloc, path, Some(old), bytes, time)
 }
 
-/// Writes a new file beside a regular one, of which its handle told this, or beside where there is none yet, and renames it. It
-/// gets this time, or that of now. After a fault what was there is there, and the file beside is gone.
+/// Writes a new file beside a regular file, described by its handle, or at a path with no file yet, and renames it. The
+/// file gets this time, or the current time. After a fault the old state is unchanged, and the temporary file is
+/// removed.
 fn write_beside<R: Files>(
     rt: &R,
     alloc: Global,
     path: &str,
     old: Option<Metadata>,
-    bytes: &[u8],
+    bytes: NewBytes<'_>,
     time: Option<SystemTime>,
 ) -> Result<(), ReplaceFault>
 where
@@ -166,8 +186,8 @@ where
     done
 }
 
-/// Brings the names of a file's directory to the disk, where the host can. The file has its place by then, so that this fails
-/// is no fault.
+/// Flushes the names of a file's directory to the disk, if the host can. The file is already in its place, so a failure
+/// is not a fault.
 fn sync_names<R: Files>(rt: &R, path: &str) {
     let above = match Path::new(path).parent() {
         Some(above) if !above.as_str().is_empty() => above.as_str(),
@@ -178,7 +198,7 @@ fn sync_names<R: Files>(rt: &R, path: &str) {
     }
 }
 
-/// Makes a file beside another; one that is to take the place of a file is at first for nobody else.
+/// Makes a temporary file beside another one. If it is to replace a file, at first only its owner has rights to it.
 fn make_beside<R: Files>(
     rt: &R,
     alloc: Global,
@@ -201,15 +221,15 @@ fn make_beside<R: Files>(
     Err(ReplaceFault::Beside(Error::from(ErrorKind::AlreadyExists)))
 }
 
-/// Writes the bytes, with the owner and the mode bits of the old file, and brings them to the disk. All goes through the
-/// handle: by now its name may lead anywhere.
+/// Writes the bytes, with the owner and the mode bits of the old file, and flushes them to the disk. Everything goes
+/// through the handle, because by now the name may lead anywhere.
 fn fill<F: Write + OwnedFile + Drop>(
     mut file: F,
     old: Option<Metadata>,
-    bytes: &[u8],
+    bytes: NewBytes<'_>,
     time: Option<SystemTime>,
 ) -> Result<(), Error> {
-    file.write_all(bytes)?;
+    bytes.put(&mut file)?;
     if let Some(old) = old {
         take_after(&file, &old)?;
     }
@@ -221,7 +241,7 @@ fn fill<F: Write + OwnedFile + Drop>(
 
 /// Gives a file the owner and the mode bits of the old one.
 fn take_after<F: OwnedFile>(file: &F, old: &Metadata) -> Result<(), Error> {
-    // Only who may gives a file away, and the bytes matter more than their owner.
+    // Only a privileged process may give a file away, and the bytes matter more than their owner.
     if file.set_owner(Some(old.uid()), Some(old.gid())).is_err() {
         let _ = file.set_owner(None, Some(old.gid()));
     }

@@ -1,32 +1,33 @@
-//! Sketches of image files, read through one small buffer: only what a check may ask for takes memory.
+//! Sketches of image files, read through one small buffer: memory is needed only for what a check may ask for.
 ghost use Rattle.std.specs.Prelude.{◌≡◌, ◌<◌, [], length, IfOk, IfSome, IsTrue};
 ghost use Rattle.std.specs.Io.KnownBytes.{Consumes};
 ghost use Rattle.adf_block.specs.Image.{IsSize, block_count};
 ghost use Rattle.adf_io.specs.Load.{ReadsAll};
 ghost use Rattle.adf_host.specs.Sketched.{ReadsBlocks};
 
-use crate::bounded::{BoundedFault, read_at};
 use crate::image_file::size_fault;
 use adf_block::layout::BLOCK_BYTES;
+use adf_io::{InputFault, read_some};
 use ados_check::Sketch;
 use std::alloc::Global;
 use std::fs;
 use std::fs::OpenFile;
-use std::io::{Read, Result as IoResult};
+use std::io::{ErrorKind, Read, Result as IoResult};
 use std::rt::Files;
 
-/// The bytes of a block.
+/// Bytes in a block.
 const BLOCK: usize = BLOCK_BYTES as usize;
 
-/// The most bytes of a piece, in whole blocks: so few that they are still in the processor's cache when they are looked at.
+/// The maximum number of bytes in a piece, in whole blocks. It is small, so that they are still in the processor's
+/// cache when they are examined.
 const PIECE: usize = 128 * BLOCK;
 
-/// The sketch of all bytes up to the end of input, which are so many blocks; none where they are fewer or more.
+/// The sketch of all bytes up to the end of input if they are `blocks` blocks; otherwise `None`.
 pub fn read_sketch<R: Read>(
     alloc: Global,
     reader: &mut R,
     blocks: u32,
-) -> Result<Option<Sketch>, BoundedFault>
+) -> Result<Option<Sketch>, InputFault>
     requires { IsSize blocks }
     ensures { IfOk result (λ found. IfSome found (ReadsBlocks blocks (R.remaining reader.old) (R.remaining reader.new))) }
 {
@@ -45,31 +46,27 @@ pub fn read_sketch<R: Read>(
     Ok(is_at_end(reader, &mut piece)?.then_some(sketch))
 }
 
-/// Reads over all of a piece, and tells whether there were bytes enough for that.
+/// Reads until the piece is full. Returns whether there were enough bytes.
 fn fill<R: Read>(reader: &mut R, piece: &mut [u8]) -> IoResult<bool>
     ensures length { length piece.new ≡ length piece.old }
     ensures bytes { IfOk result (λ full. IsTrue full → Consumes (R.remaining reader.old) (R.remaining reader.new) piece.new) }
 {
-    let mut filled = 0;
-    while filled < piece.len() {
-        let count = read_at(reader, piece, filled)?;
-        if count == 0 {
-            return Ok(false);
-        }
-        filled += count;
+    match reader.read_exact(piece) {
+        Ok(()) => Ok(true),
+        Err(error) if error.kind() == ErrorKind::UnexpectedEof => Ok(false),
+        Err(error) => Err(error),
     }
-    Ok(true)
 }
 
-/// Whether a reader has no more bytes. One that has some writes over the buffer.
+/// Whether a reader has no more bytes. If it has some, the buffer is overwritten.
 fn is_at_end<R: Read>(reader: &mut R, buffer: &mut [u8]) -> IoResult<bool>
     requires { 0 < length buffer.old }
     ensures { IfOk result (λ ended. IsTrue ended → ReadsAll (R.remaining reader.old) (R.remaining reader.new) []) }
 {
-    Ok(read_at(reader, buffer, 0)? == 0)
+    Ok(read_some(reader, buffer)? == 0)
 }
 
-/// How many blocks an open file has: none where it is no regular file, or has a wrong length for an image.
+/// The number of blocks of an open file; `None` if it is not a regular file or has a wrong length for an image.
 fn blocks_of<F: OpenFile>(file: &F) -> Option<u32>
     ensures { IfSome result IsSize }
 {
@@ -80,12 +77,12 @@ fn blocks_of<F: OpenFile>(file: &F) -> Option<u32>
     Some((found.len() / u64::from(BLOCK_BYTES)) as u32)
 }
 
-/// The sketch of an image file: none where it is no regular file, has a wrong length or another one than it had, cannot be
-/// read, or where there is no memory. Who reads the file whole is told which.
+/// The sketch of an image file; `None` if it is not a regular file, has a wrong length, changed its length, cannot be
+/// read, or if memory runs out. A caller that then reads the whole file gets the reason.
 pub fn sketch_image_file<R: Files>(rt: &R, alloc: Global, path: &str) -> Option<Sketch>
     ensures { IfSome result (λ sketch. IsSize (block_count sketch)) }
 {
-    // A pipe gives its bytes once: it is left for who reads it whole, and not opened.
+    // A pipe can be read only once. It is not opened here, but left to the caller that reads it whole.
     if !fs::metadata(rt, path).ok()?.is_file() {
         return None;
     }

@@ -1,44 +1,77 @@
--- Input of which only the front is kept.
-use Rattle.std.proofs.Common.{◌≡◌, ◌≤◌, ◌<◌, ◌+◌, ℕ, zero, suc, List, [], ◌∷◌, ◌++◌, take, length, refl, ap, sym, ◌∙◌, Option, append-nil, length-append, subst, min, ◌-◌, arith}
-use Rattle.std.specs.Io.KnownBytes.{Consumes, IsAtEnd}
-use Rattle.std.proofs.KnownBytes.{Consumes-nil, Consumes-trans}
-use Rattle.std.proofs.lemmas.List.{take_min}
-use Rattle.std.proofs.Math.Seq.{take-nil}
+-- Input of which only the first bytes are kept.
+use Rattle.std.proofs.Common.{◌≡◌, ◌≤◌, ◌<◌, ◌+◌, ℕ, List, [], ◌++◌, take, length, ap, sym, subst, ◌∙◌, Option, Result, Ok, Err, length-append, take_all, arith}
+use lib.Seq.{take-append_seam}
+use Rattle.std.proofs.lemmas.List.{length-take}
+use Rattle.std.specs.Io.KnownBytes.{Consumes}
+use Rattle.std.proofs.KnownBytes.{Consumes-trans}
+use Rattle.adf_io.specs.Front.{GivesNoEnd, ReadsCounted}
+use Rattle.adf_io.specs.Load.{IsRefusedSize, ReadsAll}
+use Rattle.adf_io.specs.steps.Reads.{GivesOn, ReadsOn, ReadsRest}
+use Rattle.adf_io.specs.declared.input.Input.{Input}
+use Rattle.adf_block.specs.Size.{IsSizeFault}
+use Rattle.adf_block.specs.declared.volume_size.SizeRefused.{SizeRefused}
 
-pub take-take-append : (n : ℕ) (xs ys : List ℕ) → take n (take n xs ++ ys) ≡ take n (xs ++ ys)
-take-take-append zero xs ys = refl
-take-take-append (suc n) [] ys = refl
-take-take-append (suc n) (x ∷ xs) ys = ap (λ (l : List ℕ). x ∷ l) (take-take-append n xs ys)
-
--- what is appended is as much as still belongs to the front
-pub front_kept : (xs ys : List ℕ) (n k : ℕ) → length xs ≤ n → k ≡ min (length ys) (n - length xs) → xs ++ take k ys ≡ take n (xs ++ ys)
-front_kept [] ys n k fits kept = ap (λ (m : ℕ). take m ys) (kept ∙ omega arith) ∙ take_min n ys
-front_kept (x ∷ xs) ys zero k fits kept = absurd (omega (arith, fits))
-front_kept (x ∷ xs) ys (suc n) k fits kept = ap (λ (l : List ℕ). x ∷ l) (front_kept xs ys n k (omega (arith, fits)) (kept ∙ omega arith))
-
--- so many reads gave some bytes, whose front is kept
-pub record KeepsFront (old new : Option (List ℕ)) (most : ℕ) (kept : List ℕ) (reads : ℕ) : Type 0 where
-  pub seen : List ℕ
-  pub consumed : Consumes old new seen
-  pub front : kept ≡ take most seen
-  pub many : reads ≤ length seen
-
-pub nothing_read : (a : Option (List ℕ)) (most : ℕ) (kept : List ℕ) → kept ≡ [] → KeepsFront a a most kept 0
-nothing_read a most kept none = record { seen = []; consumed = Consumes-nil a; front = none ∙ sym (take-nil most); many = omega arith }
-
-pub read_more : (a b c : Option (List ℕ)) (most : ℕ) (kept part new : List ℕ) (reads : ℕ) → KeepsFront a b most kept reads → Consumes b c part → 0 < length part → new ≡ take most (kept ++ part) → KeepsFront a c most new (reads + 1)
-read_more a b c most kept part new reads before read some more = record {
-  seen = before.seen ++ part;
-  consumed = Consumes-trans a b c before.seen part before.consumed read;
-  front = more ∙ ap (λ (l : List ℕ). take most (l ++ part)) before.front ∙ take-take-append most before.seen part;
-  many = omega (arith, before.many, some, length-append before.seen part);
+-- fewer bytes than there was room for are all bytes
+pub counted_short : (most : ℕ) (a b : Option (List ℕ)) (before : List ℕ) (reads : ℕ) (input : Input) → before ≡ [] → ReadsOn most a b before input.front.items reads → length input.front.items < most → input.more ≡ 0
+    → ReadsCounted most a b input
+counted_short most a b before reads input start on short none = record {
+  seen = input.front.items;
+  consumed = subst (Consumes a b) (sym (on.grown ∙ ap (λ (l : List ℕ). l ++ on.rest) start)) on.consumed;
+  end = on.ended short;
+  front = sym (take_all most input.front.items on.within);
+  counted = omega (arith, none);
 }
 
-pub read_all : (a b c : Option (List ℕ)) (most : ℕ) (kept part : List ℕ) (n reads : ℕ) → KeepsFront a b most kept reads → Consumes b c (take n part) → n ≡ 0 → IsAtEnd c
-    → (input : List ℕ) × Consumes a c input × IsAtEnd c × (kept ≡ take most input)
-read_all a b c most kept part n reads before last none end =
-    (before.seen, subst (Consumes a c) (append-nil before.seen) (Consumes-trans a b c before.seen [] before.consumed (subst (λ k. Consumes b c (take k part)) none last)), end, before.front)
+-- the rest of a longer input was counted
+pub counted_rest : (most : ℕ) (a b c : Option (List ℕ)) (before : List ℕ) (reads : ℕ) (input : Input) → before ≡ [] → ReadsOn most a b before input.front.items reads → most ≤ length input.front.items → ReadsRest b c input.more
+    → ReadsCounted most a c input
+counted_rest most a b c before reads input start on full (rest, consumed, end, counted) =
+    let front = input.front.items in
+    let size : length front ≡ most = omega (arith, on.within, full) in
+    let given : Consumes a b front = subst (Consumes a b) (sym (on.grown ∙ ap (λ (l : List ℕ). l ++ on.rest) start)) on.consumed in
+    record {
+      seen = front ++ rest;
+      consumed = Consumes-trans a b c front rest given consumed;
+      end = end;
+      front = sym (ap (λ k. take k (front ++ rest)) (sym size) ∙ take-append_seam front rest);
+      counted = length-append front rest ∙ omega (arith, counted);
+    }
 
--- so many reads without an end
-pub no_end : (a b : Option (List ℕ)) (most : ℕ) (kept : List ℕ) (reads least : ℕ) → KeepsFront a b most kept reads → least ≤ reads → (input : List ℕ) × Consumes a b input × (least ≤ length input)
-no_end a b most kept reads least before many = (before.seen, before.consumed, omega (arith, before.many, many))
+-- a fault, whatever value was wanted
+abbrev pub as_fault : {A E : Type 0} → Result A E → Result ℕ E
+as_fault (Ok value) = Ok 0
+as_fault (Err fault) = Err fault
+
+-- no end within the reads of the first bytes and the remaining reads
+pub no_end_behind : (most : ℕ) (a b c : Option (List ℕ)) (before front : List ℕ) (reads left : ℕ) → ReadsOn most a b before front reads → GivesOn left b c → 2097152 ≤ reads + left → GivesNoEnd a c
+no_end_behind most a b c before front reads left on (rest, consumed, many) limit =
+    (on.rest ++ rest, Consumes-trans a b c on.rest rest on.consumed consumed, omega (arith, length-append on.rest rest, on.many, many, limit))
+
+-- if no bytes came after the kept ones, these are all
+pub reads_whole : (most : ℕ) (a b : Option (List ℕ)) (input : Input) (bytes : List ℕ) → ReadsCounted most a b input → input.more ≡ 0 → bytes ≡ input.front.items → ReadsAll a b bytes
+reads_whole most a b input bytes counted none same =
+    let all : input.front.items ≡ counted.seen =
+    counted.front ∙ take_all most counted.seen (omega (arith, counted.counted, none, ap length counted.front, length-take most counted.seen)) in
+    (subst (Consumes a b) (sym (same ∙ all)) counted.consumed, counted.end)
+
+-- the bytes have a wrong size, and none came after them
+pub refused_whole : (a b : Option (List ℕ)) (input : Input) (refused : SizeRefused) → ReadsCounted 52020224 a b input → input.more ≡ 0 → refused.bytes.items ≡ input.front.items
+    → IsSizeFault (length input.front.items) refused.fault → IsRefusedSize a b refused
+refused_whole a b input refused counted none same faulty = record {
+  seen = counted.seen;
+  consumed = counted.consumed;
+  end = counted.end;
+  front = same ∙ counted.front;
+  faulty = subst (λ n. IsSizeFault n refused.fault) (omega (arith, counted.counted, none)) faulty;
+}
+
+-- more bytes came after them than the largest image has
+pub refused_more : (a b : Option (List ℕ)) (input : Input) (refused : SizeRefused) → ReadsCounted 52020224 a b input → 0 < input.more → refused.bytes.items ≡ input.front.items
+    → IsSizeFault (52020224 + input.more) refused.fault → IsRefusedSize a b refused
+refused_more a b input refused counted more same faulty = record {
+  seen = counted.seen;
+  consumed = counted.consumed;
+  end = counted.end;
+  front = same ∙ counted.front;
+  faulty = subst (λ n. IsSizeFault n refused.fault) (omega (arith, counted.counted, more, ap length counted.front, length-take 52020224 counted.seen)) faulty;
+}

@@ -1,4 +1,4 @@
--- Lemmas on input of which the front is kept, on loads, and on writes that go on where the one before stopped.
+-- Lemmas on consecutive reads, on input of which the first bytes are kept, and on consecutive writes.
+mod Parts
 mod Fronts
 mod Puts
-mod Loads

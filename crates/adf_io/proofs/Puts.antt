@@ -1,11 +1,11 @@
--- Bytes of which a writer took the front.
+-- Bytes of which a writer accepted the first ones.
 use Rattle.std.proofs.Common.{◌≡◌, ◌≤◌, ◌+◌, ℕ, List, ◌++◌, take, drop, length, sym, ap, subst, ◌∙◌, arith, Option, take_all, append-nil}
 use Rattle.std.specs.Io.KnownBytes.{Appends, Keeps}
 use Rattle.std.proofs.KnownBytes.{Appends-nil, Appends-trans, Appends-kept}
 use Rattle.std.proofs.lemmas.List.{length-drop}
 use Rattle.std.proofs.Math.Seq.{take-add}
 
--- the writer took this many bytes
+-- the writer accepted this many bytes
 pub record Took (old new : Option (List ℕ)) (bytes : List ℕ) (written : ℕ) : Type 0 where
   pub within : written ≤ length bytes
   pub appended : Appends old new (take written bytes)

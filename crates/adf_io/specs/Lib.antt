@@ -1,3 +1,4 @@
--- What is kept of input, what is loaded, and what a load that gives no image tells.
+-- What is kept of input, what is loaded, and what a failed load says. Definitions for steps are in `steps`.
 pub mod Front
 pub mod Load
+pub mod steps

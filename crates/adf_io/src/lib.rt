@@ -1,12 +1,15 @@
-//! What comes in from readers and goes out to writers: input read to its end, output as far as it is taken, and images.
+//! Input from readers and output to writers: input read to its end or to a bound, output as far as it is accepted, and
+//! images.
 #![tactic(auto)]
 
 mod input;
 mod load;
 mod output;
+mod part;
 mod store;
 
-pub use input::{InputFault, read_input};
-pub use load::{LoadFault, load_image};
+pub use input::{Input, InputFault, read_bounded, read_counted, read_input};
+pub use load::{LoadFault, load_image, load_image_with_room};
 pub use output::{StoreFault, write_output};
+pub use part::read_some;
 pub use store::store_image;

@@ -1,17 +1,17 @@
-//! Bytes that go out whole, or as far as the writer took them.
+//! Bytes written whole, or as far as the writer accepted them.
 ghost use Rattle.std.specs.Prelude.{◌≤◌, take, length, OnOk, IfErr};
 ghost use Rattle.std.specs.Io.KnownBytes.{Appends};
 
 use std::io::{ErrorKind, Write};
 
-/// A write failed, or took no byte.
+/// A write failed, or accepted no byte.
 #[derive(Clone, Copy, Debug, PartialEq, Eq)]
 pub struct StoreFault {
-    /// How many bytes went out before.
+    /// The number of bytes written before.
     pub written: usize,
 }
 
-/// Writes all bytes. A write that was interrupted is tried again.
+/// Writes all bytes. An interrupted write is repeated.
 pub fn write_output<W: Write>(bytes: &[u8], writer: &mut W) -> Result<(), StoreFault>
     ensures ok { OnOk result (Appends (W.contents writer.old) (W.contents writer.new) bytes.now) }
     ensures prefix { IfErr result (λ fault. Appends (W.contents writer.old) (W.contents writer.new) (take fault.written bytes.now)) }

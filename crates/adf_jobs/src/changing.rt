@@ -1,53 +1,53 @@
-//! What commands that change an image are asked for.
+//! The jobs of commands that change an image.
 
 use ados_name::Date3;
 
-/// A change of a volume, and where the image goes.
+/// A change of a volume, and the file for the changed image.
 #[derive(Drop)]
 pub struct ChangeJob<'a> {
     pub image: &'a str,
-    /// The file to write in place of the image's own.
+    /// The file for the changed image, in place of the image's own.
     pub out: Option<&'a str>,
-    /// The moment of the change, the host's clock where none is given.
+    /// The time stamp of the change; by default the host's clock.
     pub moment: Option<Date3>,
     pub change: Change<'a>,
 }
 
-/// A change of a volume, which is made whole or not at all.
+/// A change of a volume. It is made whole or not at all.
 #[derive(Drop)]
 pub enum Change<'a> {
-    /// `add`: files and directories of the host into a directory.
+    /// `add`: puts files and directories of the host into a directory.
     Add {
         files: Vec<&'a str>,
         to: &'a str,
         force: bool,
     },
-    /// `mkdir`: new directories.
+    /// `mkdir`: makes directories.
     MakeDirectories {
         paths: Vec<&'a str>,
     },
-    /// `delete`: with `all` also what lies below a directory, with `force` also what is protected from it.
+    /// `delete`: deletes entries. With `all`, everything below a directory too; with `force`, protected entries too.
     Delete {
         paths: Vec<&'a str>,
         all: bool,
         force: bool,
     },
-    /// `rename`: an entry to another place.
+    /// `rename`: moves an entry to another name or directory.
     Rename {
         old: &'a str,
         new: &'a str,
     },
-    /// `protect`: the eight low bits, by their letters.
+    /// `protect`: sets the eight low protection bits, given by letters.
     Protect {
         path: &'a str,
         letters: &'a str,
     },
-    /// `comment`: another comment.
+    /// `comment`: sets a comment.
     Comment {
         path: &'a str,
         text: &'a str,
     },
-    /// `relabel`: another name of the volume.
+    /// `relabel`: renames the volume.
     Relabel {
         name: &'a str,
     },

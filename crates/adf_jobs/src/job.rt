@@ -9,20 +9,20 @@ use ados_name::Date3;
 /// A job of the program.
 #[derive(Drop)]
 pub enum Job<'a> {
-    /// No words: a script from standard input over a blank floppy.
+    /// No arguments: a script from standard input over a blank floppy.
     Script,
-    /// A command, and what it is asked for.
+    /// A command with its arguments.
     OnImage(ImageJob<'a>),
 }
 
 /// A command on an image file.
 ///
-/// Names and paths of files of the host are the words themselves. So are names, paths and comments of an image: their
-/// letters U+0000 to U+00FF stand for the bytes of the same number, and no byte stands for any other letter.
+/// Names and paths of host files are the arguments themselves. So are names, paths and comments in an image: a letter
+/// U+0000 to U+00FF is the byte with its number. Any other letter is no byte.
 #[derive(Drop)]
 pub enum ImageJob<'a> {
-    /// `blank`: a blank image of so many blocks. With `letters` the name's letters stand for bytes, else its bytes are
-    /// those of the word.
+    /// `blank`: makes a blank image of `blocks` blocks. With `letters` the letters of the name are bytes; otherwise
+    /// the name has the bytes of the argument.
     Blank {
         format: Format,
         blocks: u32,
@@ -31,44 +31,44 @@ pub enum ImageJob<'a> {
         letters: bool,
         file: &'a str,
     },
-    /// `info`: what the handler tells of the disk, and whether it boots.
+    /// `info`: describes the disk, and says whether it is bootable.
     Info {
         file: &'a str,
     },
-    /// `check`: whether images are accepted.
+    /// `check`: checks images.
     Check(CheckJob<'a>),
-    /// `list`: directories and files.
+    /// `list`: lists directories and files.
     List(ListJob<'a>),
-    /// `extract`: entries as files and directories of the host.
+    /// `extract`: copies entries to files and directories of the host.
     Extract(ExtractJob<'a>),
-    /// `extract --damaged`: what can be trusted of an image that may be refused.
+    /// `extract --damaged`: copies what can be trusted of a possibly damaged image.
     Salvage(SalvageJob<'a>),
-    /// `print`: the bytes of a file.
+    /// `print`: prints the bytes of a file.
     Print {
         image: &'a str,
         path: &'a str,
     },
     /// A command that changes the volume.
     Change(ChangeJob<'a>),
-    /// `boot`: the boot block of a file, or none. The image goes to `out`, or else to its own file.
+    /// `boot`: installs the boot block of a file, or removes it. The image goes to `out`, or to its own file.
     Boot {
         image: &'a str,
         out: Option<&'a str>,
         file: Option<&'a str>,
     },
-    /// `serve`: scripts over an image.
+    /// `serve`: runs scripts over an image.
     Serve(ServeJob<'a>),
 }
 
-/// What `serve` is asked for.
+/// The arguments of `serve`.
 #[derive(Drop)]
 pub struct ServeJob<'a> {
     pub image: &'a str,
-    /// The scripts of the clients 1, 2 and so on.
+    /// The scripts of clients 1, 2 and so on.
     pub scripts: Vec<&'a str>,
-    /// Where the image is to be written.
+    /// The file for the resulting image.
     pub out: Option<&'a str>,
-    /// How often a client tries to put a packet, and to take its reply.
+    /// The number of tries of a client for each put and each reply.
     pub turns: u64,
     pub moment: Date3,
     ghost some: { 0 < length scripts.items },

@@ -1,4 +1,4 @@
-//! What the program is asked for: its jobs, as values that the command line makes and the work is done from.
+//! The program's jobs, as values. The command line is parsed into them, and the work is done by them.
 #![tactic(auto)]
 
 mod changing;

@@ -1,50 +1,50 @@
-//! What commands that change no image are asked for.
+//! The jobs of commands that change no image.
 ghost use Rattle.std.specs.Prelude.{◌<◌, length};
 
-/// What `check` is asked for.
+/// The arguments of `check`.
 #[derive(Drop)]
 pub struct CheckJob<'a> {
     /// Image files, and directories with image files in them.
     pub files: Vec<&'a str>,
-    /// Whether every fault of an image is told; else one.
+    /// Whether every fault of an image is reported; otherwise the first one.
     pub all: bool,
-    /// Whether each image is told of as a JSON object.
+    /// Whether the report on each image is a JSON object.
     pub json: bool,
-    /// How many images are checked at a time; as many as there are processors where it is left out.
+    /// The number of images checked in parallel; by default the number of processors.
     pub jobs: Option<u32>,
     ghost some: { 0 < length files.items },
 }
 
-/// What `list` is asked for.
+/// The arguments of `list`.
 #[derive(Drop)]
 pub struct ListJob<'a> {
     pub image: &'a str,
-    /// The directory whose entries are listed, the root where none is named.
+    /// The directory to list; by default the root.
     pub path: Option<&'a str>,
-    /// Whether names are written as letters; else their bytes stand as they are.
+    /// Whether names are printed as letters; otherwise as their bytes.
     pub letters: bool,
 }
 
-/// What `extract` is asked for.
+/// The arguments of `extract`.
 #[derive(Drop)]
 pub struct ExtractJob<'a> {
     pub image: &'a str,
-    /// The entries, each with all that lies below it; with none, all that lies in the root.
+    /// The entries, each with everything below it; by default all entries of the root.
     pub paths: Vec<&'a str>,
-    /// The directory of the host that they are written to.
+    /// The host directory to write to.
     pub to: &'a str,
-    /// Whether a file `.uaem` is written beside each.
+    /// Whether a note `.uaem` is written beside each entry.
     pub meta: bool,
-    /// Whether files of the host that are there are replaced.
+    /// Whether existing files of the host are replaced.
     pub force: bool,
 }
 
-/// What `extract --damaged` is asked for.
+/// The arguments of `extract --damaged`.
 #[derive(Drop)]
 pub struct SalvageJob<'a> {
     pub image: &'a str,
-    /// The directory of the host that is written to.
+    /// The host directory to write to.
     pub to: &'a str,
-    /// Whether a file `.uaem` is written beside each.
+    /// Whether a note `.uaem` is written beside each entry.
     pub meta: bool,
 }

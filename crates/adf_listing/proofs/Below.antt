@@ -1,26 +1,26 @@
--- What lies below a directory: no key below itself, none twice, and so fewer than there are blocks.
+-- Everything below a directory: no key is below itself or occurs twice, so there are fewer keys than blocks.
 use Rattle.std.proofs.Common.{◌≡◌, ◌≢◌, ℕ, zero, suc, ◌+◌, ◌<◌, ◌≤◌, ◌⊎◌, inl, inr, List, [], ◌∷◌, ◌++◌, length, Contains, Some, None, refl, sym, ap, ◌∙◌, subst, arith}
 use Rattle.std.specs.Prelude.{option_and_then}
 use Rattle.std.specs.List.{flat_map}
-use Rattle.ados_chain.proofs.Lists.{Once, Contains-cases, Contains-nil, length-once}
-use Rattle.ados_tree.specs.Tree.{Node, Tree, Proper, LeadsToRoot, entries, name_of, parent_of, root}
-use Rattle.ados_tree.specs.Tree.LeadsToRoot.{at_root, by_parent}
-use Rattle.ados_tree.proofs.Nodes.{parent_in}
+use Rattle.ados_model.proofs.KeyLists.{Once, Contains-cases, Contains-nil, length-once}
+use Rattle.ados_model.specs.Tree.{Node, Tree, Proper, LeadsToRoot, entries, name_of, parent_of, root}
+use Rattle.ados_model.specs.Tree.LeadsToRoot.{at_root, by_parent}
+use Rattle.ados_model.proofs.Nodes.{parent_in}
 use Rattle.adf_listing.specs.Listing.{below, front, listing}
 use Rattle.adf_listing.specs.steps.Levels.{with_below}
 use Rattle.adf_listing.proofs.Lists.{Once-cons, Once-joined, in_joined, length-joined}
 
--- repeated parents, at least one, lead from the key to the directory
+-- a chain of one or more parents leads from the key to the directory
 data IsBelow (t : Tree) : ℕ → ℕ → Type 0 where
   directly : {dir key : ℕ} → parent_of t key ≡ Some dir → IsBelow t dir key
   deeper : {dir key above : ℕ} → parent_of t key ≡ Some above → IsBelow t dir above → IsBelow t dir key
 
--- the keys below a directory, so many levels down
+-- the keys below a directory, to a depth of n
 unfoldable pub keys_below : Tree → ℕ → ℕ → List ℕ
 keys_below t zero dir = []
 keys_below t (suc n) dir = flat_map (λ key. key ∷ keys_below t n key) (entries t dir)
 
--- they are as many as are listed
+-- there are as many keys as listed entries
 same_length : (t : Tree) (n : ℕ) (before : List ℕ) (dir : ℕ) → length (below t n before dir) ≡ length (keys_below t n dir)
 unfolding below keys_below
 same_length t zero before dir = refl
@@ -46,7 +46,7 @@ module _ (t : Tree) (proper : Proper t) where
   parent_below dir key (directly p) = (dir, p)
   parent_below dir key (deeper {above = a} p b) = (a, p)
 
-  -- what lies below itself has a parent that does
+  -- a key below itself has a parent below itself
   loop_above : (key next dir : ℕ) → key ≡ next → parent_of t key ≡ Some dir → IsBelow t key next → IsBelow t dir dir
   loop_above key next dir same p (directly q) =
       let up : key ≡ dir = cc (ap (parent_of t) same, p, q) in
@@ -59,7 +59,7 @@ module _ (t : Tree) (proper : Proper t) where
   not_below_itself key (at_root e) b = let p = parent_below key key b in root_alone key p.0 e p.1
   not_below_itself key (by_parent {dir = dir} p rest) b = not_below_itself dir rest (loop_above key key dir refl p b)
 
-  -- of two entries of a directory none lies below the other
+  -- of two entries of a directory, neither is below the other
   not_below_beside : (dir j k : ℕ) → LeadsToRoot t dir → parent_of t j ≡ Some dir → parent_of t k ≡ Some dir → IsBelow t j k → ⊥
   not_below_beside dir j k l p q (directly r) =
       let same : j ≡ dir = cc (q, r) in
@@ -68,7 +68,7 @@ module _ (t : Tree) (proper : Proper t) where
       let same : a ≡ dir = cc (q, r) in
       not_below_itself dir l (from_above dir j dir p (subst (IsBelow t j) same b))
 
-  -- and no key lies below both
+  -- no key is below both
   below_one : (dir j k x : ℕ) → LeadsToRoot t dir → parent_of t j ≡ Some dir → parent_of t k ≡ Some dir → j ≢ k → IsBelow t j x → IsBelow t k x → ⊥
   below_one dir j k x l p q other (directly r) (directly s) = let same : j ≡ k = cc (r, s) in other same
   below_one dir j k x l p q other (directly r) (deeper {above = a} s c) =
@@ -92,7 +92,7 @@ module _ (t : Tree) (proper : Proper t) where
         | inr later ↦ from_above dir r.0 key p (keys_are_below n r.0 key later)
       ]
 
-  -- the entry of a directory, or below it
+  -- the entry of a directory, or a key below it
   at_or_below : (n j x : ℕ) → Contains (j ∷ keys_below t n j) x → (j ≡ x) ⊎ IsBelow t j x
   at_or_below n j x m = elim (Contains-cases j (keys_below t n j) x m) [ inl same ↦ inl same | inr later ↦ inr (keys_are_below n j x later) ]
 
@@ -122,7 +122,7 @@ module _ (t : Tree) (proper : Proper t) where
       let n = parent_in (t.nodes key) p.0 p.1 in
       (proper.inside key n.0 n.1).1
 
-  -- the entries below an object are fewer than the blocks
+  -- there are fewer entries below an object than blocks
   pub listing_short : (dir : ℕ) (node : Node) → t.nodes dir ≡ Some node → length (listing t dir) + 1 ≤ t.blocks
   listing_short dir node is =
       let keys = keys_below t t.blocks dir in
@@ -135,6 +135,6 @@ module _ (t : Tree) (proper : Proper t) where
       ]) in
       omega (arith, short, same_length t t.blocks (front t t.blocks dir) dir)
 
-  -- a directory is none of its own entries
+  -- a directory is not one of its own entries
   pub entries_once : (dir : ℕ) → LeadsToRoot t dir → Once (dir ∷ entries t dir)
   entries_once dir l = Once-cons dir (entries t dir) (λ c. not_below_itself dir l (directly (parent_of_entry dir dir c))) (proper.once dir)

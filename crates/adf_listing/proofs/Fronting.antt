@@ -1,10 +1,10 @@
--- What stands before the names in a directory, found on the way up.
+-- The path before the names in a directory, found on the way up.
 use Rattle.std.proofs.Common.{◌≡◌, ℕ, zero, suc, List, [], ◌∷◌, ◌++◌, Some, None, append_assoc, append-nil, refl, sym, ap, ◌∙◌}
-use Rattle.ados_tree.specs.Tree.{Tree, name_of, parent_of}
+use Rattle.ados_model.specs.Tree.{Tree, name_of, parent_of}
 use Rattle.adf_listing.specs.Listing.{front}
 use Rattle.adf_listing.specs.steps.Fronting.{names_down}
 
--- the directory above comes before all names that are there
+-- the name of the directory above comes before all names so far
 pub names_pushed : (t : Tree) (keys : List ℕ) (key : ℕ) → names_down t (keys ++ key ∷ []) ≡ (name_of t key ++ 47 ∷ []) ++ names_down t keys
 names_pushed t [] key = sym (append-nil (name_of t key ++ 47 ∷ []))
 names_pushed t (k ∷ keys) key =
@@ -19,13 +19,13 @@ climbs t depth key above keys up =
     rw up (ap (λ (l : List ℕ). front t depth above ++ l) (names_pushed t keys key)
     ∙ sym (append_assoc (front t depth above) (name_of t key ++ 47 ∷ []) (names_down t keys)))
 
--- nothing stands before the names in the root
+-- the path before the names in the root is empty
 pub nothing_above : (t : Tree) (depth key : ℕ) → parent_of t key ≡ None → front t depth key ≡ []
 unfolding front
 nothing_above t zero key none = refl
 nothing_above t (suc depth) key none = rw none refl
 
--- and nothing where no directory is left to look at
+-- it is empty if no directory is left
 pub nothing_deeper : (t : Tree) (depth key : ℕ) → depth ≡ 0 → front t depth key ≡ []
 unfolding front
 nothing_deeper t depth key none = rw none refl

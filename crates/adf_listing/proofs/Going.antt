@@ -1,7 +1,7 @@
--- What one step of a list comes to.
+-- The result of one step of a listing.
 use Rattle.std.proofs.Common.{◌≡◌, ℕ, ◌<◌, Bool, true, List, [], ◌∷◌, ◌++◌, Some, append-nil, refl, sym, ◌∙◌, subst}
-use Rattle.ados_tree.specs.Tree.{Node, Tree}
-use Rattle.ados_volume.specs.Examined.{file_info}
+use Rattle.ados_model.specs.Tree.{Node, Tree}
+use Rattle.ados_model.specs.Objects.{file_info}
 use Rattle.adf_listing.specs.declared.listing.Listing.{Listing}
 use Rattle.adf_listing.specs.Listing.{Listed, IsLine, shown}
 use Rattle.adf_listing.specs.steps.Levels.{IsSoFar, entry_at, work}
@@ -10,13 +10,13 @@ use Rattle.adf_listing.proofs.Left.{Lists}
 use Rattle.adf_listing.proofs.InOrder.{line_alone}
 
 module _ (t : Tree) (dir : ℕ) (s : Bool) (old new : Listing) (first left : List Listed) where
-  -- an entry came, with its line
+  -- one entry was listed, with its line
   pub goes_to_entry : (own line : List ℕ) (key : ℕ) (node : Node) → t.nodes key ≡ Some node → IsLine (file_info t.format key node) (shown s own) line → new.text.items ≡ old.text.items ++ line
       → Lists t dir old.levels.items new.levels.items new.path.items first left own key → GoesOn t dir s old new first left true
   goes_to_entry own line key node is is_line text l =
       (entry_at own key ∷ [], l.rest, line, l.split, line_alone t s own key node line is is_line, text, l.so_far, l.less)
 
-  -- the directory at hand came to its end
+  -- the current directory has no more entries
   pub goes_up : new.text.items ≡ old.text.items → IsSoFar t dir new.levels.items new.path.items first left × (work new.levels.items left < work old.levels.items left) → GoesOn t dir s old new first left true
   goes_up text ended = (
     [],

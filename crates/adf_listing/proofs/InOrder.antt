@@ -1,7 +1,7 @@
--- Lines of entries, one after another.
+-- Lines of entries, one after the other.
 use Rattle.std.proofs.Common.{◌≡◌, ℕ, Bool, List, [], ◌∷◌, ◌++◌, Some, append_assoc, append-nil, refl, sym, ap, ◌∙◌, subst}
-use Rattle.ados_tree.specs.Tree.{Node, Tree}
-use Rattle.ados_volume.specs.Examined.{file_info}
+use Rattle.ados_model.specs.Tree.{Node, Tree}
+use Rattle.ados_model.specs.Objects.{file_info}
 use Rattle.adf_listing.specs.Listing.{Listed, AreLines, IsLine, shown}
 use Rattle.adf_listing.specs.steps.Levels.{entry_at}
 

@@ -1,13 +1,13 @@
--- What is left of the directories that stand open, and what one step leaves of it.
+-- What is left of the open directories, and what is left after one step.
 use Rattle.std.proofs.Common.{◌≡◌, ◌≢◌, ℕ, zero, suc, ◌+◌, ◌-◌, ◌*◌, ◌<◌, List, [], ◌∷◌, ◌++◌, length, take, Some, length-append, append_assoc, append-nil, refl, sym, ap, ap₂, ◌∙◌, subst, arith}
 use Rattle.std.specs.List.{flat_map}
 use Rattle.std.proofs.lemmas.List.{same_from_push, length_push, take_at}
 use Rattle.ados_chain.specs.Look.{first_left}
 use Rattle.ados_chain.specs.declared.read.Next.TheVariants.{Entry}
 use Rattle.ados_chain.proofs.Order.{behind-later}
-use Rattle.ados_tree.specs.Change.{entries_after}
-use Rattle.ados_tree.specs.Tree.{Node, Tree, Proper, LeadsToRoot, entries, name_of}
-use Rattle.ados_tree.specs.Tree.LeadsToRoot.{by_parent}
+use Rattle.ados_model.specs.Change.{entries_after}
+use Rattle.ados_model.specs.Tree.{Node, Tree, Proper, LeadsToRoot, entries, name_of}
+use Rattle.ados_model.specs.Tree.LeadsToRoot.{by_parent}
 use Rattle.adf_listing.specs.declared.listing.Level.{Level}
 use Rattle.adf_listing.specs.Listing.{Listed, below, front, listing}
 use Rattle.adf_listing.specs.steps.Levels.{IsOpen, IsLeft, IsSoFar, entry_at, with_below, work}
@@ -15,7 +15,7 @@ use Rattle.adf_listing.specs.steps.Levels.IsLeft.{none, more}
 use Rattle.adf_listing.proofs.Behind.{behind_next, behind_first, none_behind, next_behind}
 use Rattle.adf_listing.proofs.Below.{listing_short, entries_once}
 
--- the last directory that stands open, and what is left of those before it
+-- the last open directory, and what is left of those before it
 record IsLast (t : Tree) (lower : List Level) (level : Level) (path : List ℕ) (left : List Listed) (depth : ℕ) : Type 0 where
   opened : IsOpen t level path
   later : List Listed
@@ -30,7 +30,7 @@ last_left {t = t} {path = path} {left = left} {depth = depth} lower level e (mor
     subst (λ (ls : List Level). IsLast t ls level path left depth) same.0
     (subst (λ (l : Level). IsLast t low l path left depth) same.1 (record { opened = o; later = later; rest = rest; split = split }))
 
--- a longer path begins with the same
+-- a longer path starts the same
 left_longer : {t : Tree} {levels : List Level} {before : List ℕ} {left : List Listed} {depth : ℕ} (tail : List ℕ)
     → IsLeft t levels before left depth → IsLeft t levels (before ++ tail) left depth
 left_longer tail none = none
@@ -47,13 +47,13 @@ left_longer {before = before} tail (more e o rest split) =
     })
     rest split
 
--- a directory has as many levels below it as there are blocks, but for those that stand open
+-- the depth left below a directory is the number of blocks without the open directories
 levels_deep : {t : Tree} {levels : List Level} {path : List ℕ} {left : List Listed} {depth : ℕ} → IsLeft t levels path left depth → depth + length levels ≡ t.blocks
 levels_deep none = omega arith
 levels_deep (more {lower = lower} {level = level} e o rest split) =
     let deep = levels_deep rest in omega (arith, deep, ap length e, length_push lower level)
 
--- nothing is left where no directory stands open
+-- nothing is left without an open directory
 none_left : {t : Tree} {levels : List Level} {path : List ℕ} {left : List Listed} {depth : ℕ} → levels ≡ [] → IsLeft t levels path left depth → left ≡ []
 none_left e none = refl
 none_left e (more {lower = lower} {level = level} f o rest split) = absurd (omega (arith, ap length e, ap length f, length_push lower level))
@@ -61,13 +61,13 @@ none_left e (more {lower = lower} {level = level} f o rest split) = absurd (omeg
 pub none_so_far : {t : Tree} {dir : ℕ} {levels : List Level} {path : List ℕ} {first left : List Listed} → levels ≡ [] → IsSoFar t dir levels path first left → left ≡ []
 none_so_far e so = none_left e so.is_left
 
--- an object with no entries has nothing below it
+-- nothing is below an object without entries
 below_file : (t : Tree) (depth : ℕ) (before : List ℕ) (key : ℕ) → entries t key ≡ [] → below t depth before key ≡ []
 unfolding below
 below_file t zero before key e = refl
 below_file t (suc depth) before key e = ap (flat_map (with_below t depth before)) e
 
--- a directory is opened: all that is below it is left, and then what was
+-- a directory is opened: everything below it is left, then what was left before
 open_directory : {t : Tree} (lower : List Level) (level : Level) (path : List ℕ) (later : List Listed) (depth key : ℕ)
     → level.dir ≡ key → level.last ≡ key → level.path ≡ length path → LeadsToRoot t key → IsLeft t lower path later (suc depth)
     → IsLeft t (lower ++ level ∷ []) path (below t (suc depth) path key ++ later) depth
@@ -85,7 +85,7 @@ open_directory {t = t} lower level path later depth key dir last place rooted re
     })
     rest refl
 
--- the next entry of the directory at hand: what is left behind it, and how the path goes on
+-- the next entry of the current directory: what is left after it, and the new path
 record IsNext (t : Tree) (lower : List Level) (level : Level) (path : List ℕ) (left : List Listed) (depth key : ℕ) : Type 0 where
   before : List ℕ
   place : take level.path path ≡ before
@@ -94,7 +94,7 @@ record IsNext (t : Tree) (lower : List Level) (level : Level) (path : List ℕ) 
   split : left ≡ entry_at (before ++ name_of t key) key ∷ (below t depth (before ++ name_of t key ++ 47 ∷ []) key ++ after)
   goes_on : (tail : List ℕ) → IsLeft t (lower ++ (record level { last = key }) ∷ []) (before ++ tail) after depth
 
--- the list after a step: this entry came
+-- the listing after a step that listed this entry
 pub record Lists (t : Tree) (dir : ℕ) (levels new : List Level) (path : List ℕ) (first left : List Listed) (own : List ℕ) (key : ℕ) : Type 0 where
   pub rest : List Listed
   pub split : left ≡ entry_at own key ∷ rest
@@ -102,7 +102,7 @@ pub record Lists (t : Tree) (dir : ℕ) (levels new : List Level) (path : List �
   pub less : work new rest < work levels left
 
 module _ (t : Tree) (proper : Proper t) where
-  -- the directory stands open, and all is left
+  -- the directory is open, and all of it is left
   pub starts : (top : ℕ) (node : Node) (level : Level) (levels : List Level) (path : List ℕ) → t.nodes top ≡ Some node → levels ≡ level ∷ [] → path ≡ front t t.blocks top
       → level.dir ≡ top → level.last ≡ top → level.path ≡ length path
       → IsSoFar t top levels path [] (listing t top) × (work levels (listing t top) < 2 * t.blocks)
@@ -126,7 +126,7 @@ module _ (t : Tree) (proper : Proper t) where
         omega (arith, short, ap length e),
       )
 
-  -- the directory at hand has no entry left
+  -- the current directory has no entries left
   pub ends : (top : ℕ) (levels lower : List Level) (level : Level) (path : List ℕ) (first left : List Listed) → levels ≡ lower ++ level ∷ []
       → ((key : ℕ) → first_left (entries_after t level.dir level.last) ≢ Entry key) → IsSoFar t top levels path first left
       → IsSoFar t top lower path first left × (work lower left < work levels left)
@@ -202,7 +202,7 @@ module _ (t : Tree) (proper : Proper t) where
         less = omega (arith, ap length split, ap length e, ap length new_is, length_push lower level, length_push lower (record level { last = key }));
       }
 
-  -- the next entry is a directory, which stands open then
+  -- the next entry is a directory, which is now open
   pub lists_directory : (top : ℕ) (levels lower new : List Level) (level child : Level) (path own longer : List ℕ) (first left : List Listed) (key : ℕ) → levels ≡ lower ++ level ∷ []
       → first_left (entries_after t level.dir level.last) ≡ Entry key → IsSoFar t top levels path first left
       → own ≡ take level.path path ++ name_of t key → longer ≡ own ++ 47 ∷ []

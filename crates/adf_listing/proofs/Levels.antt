@@ -1,4 +1,4 @@
--- Levels that are taken off and put back.
+-- Levels that are popped and pushed.
 use Rattle.std.proofs.Common.{◌≡◌, ℕ, List, [], ◌∷◌, ◌++◌, Option, Some, IfSome, option_to_list, subst}
 use Rattle.std.proofs.lemmas.List.Elements.{All-nil, All-pop, All-push, All-same}
 use Rattle.adf_listing.specs.declared.listing.Level.{Level}

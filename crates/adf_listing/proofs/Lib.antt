@@ -1,4 +1,5 @@
--- Lemmas on fronts of a text, on the directories that a list stands in, on what lies below them and comes next, and on what is written of it.
+-- Lemmas about prefixes of a text, the open directories of a listing, everything below them and after them, and the
+-- written text.
 pub mod Levels
 pub mod Lists
 pub mod Behind

@@ -1,15 +1,15 @@
--- Lists without one twice, and lists joined from others.
+-- Lists without duplicates, and concatenated lists.
 use Rattle.std.proofs.Common.{◌≡◌, ◌≢◌, ℕ, ◌+◌, inl, inr, List, [], ◌∷◌, ◌++◌, length, Contains, length-append, refl, sym, ap₂, ◌∙◌, subst}
 use Rattle.std.specs.List.{flat_map}
 use Rattle.std.proofs.lemmas.List.Elements.{Contains-append_cases, Contains-get_or}
 use Rattle.std.proofs.lemmas.List.Kept.{AllPairs-cons}
-use Rattle.ados_chain.proofs.Lists.{Once, Once-head, Once-tail, Contains-here, Contains-later, Contains-nil}
+use Rattle.ados_model.proofs.KeyLists.{Once, Once-head, Once-tail, Contains-here, Contains-later, Contains-nil}
 
 -- one more in front
 pub Once-cons : (x : ℕ) (xs : List ℕ) → ¬ Contains xs x → Once xs → Once (x ∷ xs)
 Once-cons x xs n h = AllPairs-cons (λ j k. j ≢ k) x xs (λ k d l e. n (subst (Contains xs) (sym e) (Contains-get_or xs k d l))) h
 
--- two lists that share none
+-- two lists without common elements
 Once-append : (xs ys : List ℕ) → Once xs → Once ys → ((x : ℕ) → Contains xs x → ¬ Contains ys x) → Once (xs ++ ys)
 Once-append [] ys h g apart = g
 Once-append (x ∷ xs) ys h g apart =
@@ -17,7 +17,7 @@ Once-append (x ∷ xs) ys h g apart =
     (λ m. elim (Contains-append_cases xs ys x m) [ inl a ↦ Once-head x xs h a | inr b ↦ apart x (Contains-here x xs) b ])
     (Once-append xs ys (Once-tail x xs h) g (λ y c. apart y (Contains-later x xs y c)))
 
--- what a joined list has is in one of its lists
+-- an element of a concatenation is in one of its lists
 pub in_joined : (f : ℕ → List ℕ) (xs : List ℕ) (y : ℕ) → Contains (flat_map f xs) y → (x : ℕ) × Contains xs x × Contains (f x) y
 in_joined f [] y m = absurd (Contains-nil y m)
 in_joined f (x ∷ xs) y m = elim (Contains-append_cases (f x) (flat_map f xs) y m) [
@@ -25,7 +25,7 @@ in_joined f (x ∷ xs) y m = elim (Contains-append_cases (f x) (flat_map f xs) y
   | inr later ↦ let r = in_joined f xs y later in (r.0, Contains-later x xs r.0 r.1, r.2)
 ]
 
--- lists of which no two share one
+-- lists without common elements
 pub Once-joined : (f : ℕ → List ℕ) (xs : List ℕ) → Once xs → ((x : ℕ) → Contains xs x → Once (f x))
     → ((x y k : ℕ) → Contains xs x → Contains xs y → x ≢ y → Contains (f x) k → ¬ Contains (f y) k) → Once (flat_map f xs)
 Once-joined f [] once each apart = once
@@ -36,7 +36,7 @@ Once-joined f (x ∷ xs) once each apart =
     let r = in_joined f xs k later in
     apart x r.0 k (Contains-here x xs) (Contains-later x xs r.0 r.1) (λ same. Once-head x xs once (subst (Contains xs) (sym same) r.1)) here r.2)
 
--- lists as long as others, joined
+-- concatenations of lists of equal lengths
 pub length-joined : {A B : Type 0} (f : ℕ → List A) (g : ℕ → List B) → ((x : ℕ) → length (f x) ≡ length (g x)) → (xs : List ℕ) → length (flat_map f xs) ≡ length (flat_map g xs)
 length-joined f g same [] = refl
 length-joined f g same (x ∷ xs) =

@@ -1,4 +1,4 @@
--- The pieces of a line, one behind another.
+-- The parts of a line, one after the other.
 use Rattle.std.proofs.Common.{◌≡◌, ℕ, ◌-◌, min, List, ◌++◌, drop, replicate, append_assoc, ap, ◌∙◌, arith}
 use Rattle.std.specs.Prelude.{codes}
 use Rattle.std.proofs.lemmas.List.{drop-replicate}

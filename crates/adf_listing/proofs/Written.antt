@@ -1,9 +1,9 @@
--- A list that is written so far.
+-- A listing written so far.
 use Rattle.std.proofs.Common.{◌≡◌, ℕ, ◌+◌, ◌*◌, ◌≤◌, Bool, true, false, List, [], ◌++◌, Option, append_assoc, append-nil, refl, sym, ap, ◌∙◌, subst, arith}
 use Rattle.std.specs.Io.KnownBytes.{Appends}
 use Rattle.std.proofs.KnownBytes.{Appends-nil, Appends-trans}
 use Rattle.std.proofs.lemmas.List.{nil_from_length}
-use Rattle.ados_tree.specs.Tree.{Tree}
+use Rattle.ados_model.specs.Tree.{Tree}
 use Rattle.adf_listing.specs.declared.listing.Listing.{Listing}
 use Rattle.adf_script.specs.Streams.{Writes}
 use Rattle.adf_listing.specs.Fronts.{WritesFront, WritesFrontOf}
@@ -12,7 +12,8 @@ use Rattle.adf_listing.specs.steps.Levels.{IsSoFar, work}
 use Rattle.adf_listing.specs.steps.Going.{GoesOn, Passes, Starts}
 use Rattle.adf_listing.proofs.InOrder.{lines_append}
 
--- of the volume's line and the lines of the entries that came, the front is written and the text is the rest; there are turns enough for what is left
+-- of the volume's line and the lines so far, a prefix is written and the text is the rest; the remaining turns suffice
+-- for what is left
 pub record IsWritten (t : Tree) (dir : ℕ) (s : Bool) (old new : Option (List ℕ)) (at : Listing) (turns : ℕ) : Type 0 where
   pub first : List Listed
   pub left : List Listed
@@ -24,7 +25,7 @@ pub record IsWritten (t : Tree) (dir : ℕ) (s : Bool) (old new : Option (List �
   pub told : volume_line t s ++ lines ≡ written ++ at.text.items
   pub fits : work at.levels.items left + turns ≤ 2 * t.blocks
 
--- a step that goes on, and one that does not
+-- a step that goes on, and the last step
 pub went_on : (t : Tree) (dir : ℕ) (s : Bool) (at after : Listing) (first left : List Listed) (goes : Bool) → goes ≡ true → GoesOn t dir s at after first left goes → GoesOn t dir s at after first left true
 went_on t dir s at after first left true e g = g
 went_on t dir s at after first left false e g = absurd (cc e)
@@ -51,7 +52,7 @@ module _ (t : Tree) (dir : ℕ) (s : Bool) (old : Option (List ℕ)) where
   pub written_nothing : WritesFrontOf old old (BeginsList t dir s)
   written_nothing = (volume_line t s ++ [], ([], listing t dir, [], refl, refl, refl), ([], Appends-nil old, (volume_line t s ++ [], refl)))
 
-  -- a step went on
+  -- a step goes on
   pub written_on : (new : Option (List ℕ)) (at after : Listing) (turns : ℕ) (w : IsWritten t dir s old new at turns) → GoesOn t dir s at after w.first w.left true → IsWritten t dir s old new after (turns + 1)
   written_on new at after turns w (came, rest, lines, split, are, text, so_far, less) = record {
     first = w.first ++ came;
@@ -93,14 +94,14 @@ module _ (t : Tree) (dir : ℕ) (s : Bool) (old : Option (List ℕ)) where
     ),
   )
 
-  -- nothing is left once the turns are over
+  -- nothing is left after all turns
   pub none_in_turns : (new : Option (List ℕ)) (at : Listing) (turns : ℕ) (w : IsWritten t dir s old new at turns) → 2 * t.blocks ≤ turns → w.left ≡ []
   none_in_turns new at turns w over = nil_from_length w.left (omega (arith, w.fits, over))
 
   begins : (new : Option (List ℕ)) (at : Listing) (turns : ℕ) (w : IsWritten t dir s old new at turns) → BeginsList t dir s (volume_line t s ++ w.lines)
   begins new at turns w = (w.first, w.left, w.lines, w.so_far.split, w.are, refl)
 
-  -- a front of the text is written
+  -- a prefix of the text is written
   pub written_front : (mid new : Option (List ℕ)) (at : Listing) (turns : ℕ) (text : List ℕ) → IsWritten t dir s old mid at turns → text ≡ at.text.items → WritesFront mid new text → WritesFrontOf old new (BeginsList t dir s)
   written_front mid new at turns text w same (more, appended, (rest, split)) = (
     volume_line t s ++ w.lines,

@@ -1,4 +1,4 @@
--- What is printed of a volume, and what a writer that failed took of it; what only the calls inside speak of stands in steps.
+-- The text of a volume, and what a failed writer wrote of it. Definitions for steps are in `steps`.
 pub mod Fronts
 pub mod Info
 pub mod Listing

@@ -1,4 +1,4 @@
--- What only the calls inside speak of: where a list of a volume stands, and what one step of it comes to.
+-- Definitions for steps: the position of a listing, and the result of one step of it.
 pub mod Levels
 pub mod Going
 pub mod Fronting

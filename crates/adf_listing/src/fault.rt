@@ -4,9 +4,9 @@ use std::alloc::AllocError;
 /// Why a text is not printed whole.
 #[derive(Clone, Copy, Debug, PartialEq, Eq)]
 pub enum PrintFault {
-    /// A write failed, or took no byte.
+    /// A write failed, or wrote no byte.
     Write,
-    /// There is no memory for the text.
+    /// Out of memory.
     Memory,
 }
 

@@ -1,15 +1,15 @@
-//! What stands before the names in a directory.
+//! The path before the names in a directory.
 ghost use Rattle.std.specs.Prelude.{◌≡◌, IfOk, All};
-ghost use Rattle.ados_tree.specs.Keys.{HasKey};
-ghost use Rattle.ados_tree.specs.Stands.{Stands};
-ghost use Rattle.ados_tree.specs.Tree.{Tree};
+ghost use Rattle.ados_model.specs.Keys.{HasKey};
+ghost use Rattle.ados_model.specs.Stands.{Stands};
+ghost use Rattle.ados_model.specs.Tree.{Tree};
 ghost use Rattle.adf_listing.specs.Listing.{front};
 ghost use Rattle.adf_listing.specs.steps.Fronting.{names_down};
 
 use ados_volume::Volume;
 use std::alloc::{AllocError, Global};
 
-/// The names of the directories that lead from the root to the names in this one, each with `/` behind it.
+/// The names of the directories from the root down to this one, each followed by `/`.
 pub(crate) fn front_of(alloc: Global, volume: &Volume, dir: u32) -> Result<Vec<u8>, AllocError>
     requires { HasKey volume.now.image dir }
     ensures { IfOk result (λ text. (t : Tree) → Stands volume.now.image t → text.items ≡ front t t.blocks dir) }
@@ -23,7 +23,7 @@ pub(crate) fn front_of(alloc: Global, volume: &Volume, dir: u32) -> Result<Vec<u
     Ok(text)
 }
 
-/// A directory and those above it, without the root. There are no more of them than blocks.
+/// A directory and all directories above it, without the root. There are no more of them than blocks.
 fn keys_up(alloc: Global, volume: &Volume, dir: u32) -> Result<Vec<u32>, AllocError>
     requires { HasKey volume.now.image dir }
     ensures keys { IfOk result (λ keys. All (HasKey volume.now.image) keys.items) }

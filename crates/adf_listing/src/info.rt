@@ -1,4 +1,4 @@
-//! What DISK_INFO tells, and whether the boot blocks run.
+//! The result of DISK_INFO as text, and whether the disk is bootable.
 ghost use Rattle.std.specs.Prelude.{◌≡◌, IfOk, OnOk, OnErr};
 ghost use Rattle.std.specs.Io.KnownBytes.{Appends, Keeps};
 ghost use Rattle.adf_listing.specs.Fronts.{WritesFront};
@@ -8,12 +8,12 @@ use crate::fault::PrintFault;
 use crate::output::write_text;
 use adf_block::Image;
 use adf_script::text::results_text;
-use ados_packet::Answer;
+use ados_model::Answer;
 use std::alloc::Global;
 use std::io::Write;
 
-/// Writes the results of an answer to DISK_INFO as a script's line tells them, and then `boot yes` or `boot no`: whether
-/// the image's boot sum is right. Nothing is written where there is no memory for the text.
+/// Writes the results of an answer to DISK_INFO as a script prints them, then `boot yes` or `boot no`: whether the
+/// boot checksum is right. If memory runs out, nothing is written.
 pub fn write_info<W: Write>(
     alloc: Global,
     answer: &Answer,
@@ -29,7 +29,7 @@ pub fn write_info<W: Write>(
     write_text(text.as_slice(), writer)
 }
 
-/// The line of the boot blocks.
+/// The line for the boot blocks.
 fn boot_text(image: &Image) -> &'static str
     ensures { result.now ≡ boot_line image.now }
 {

@@ -1,21 +1,21 @@
-//! What is asked of a volume while it is listed.
+//! Reads of a volume for a listing.
 ghost use Rattle.std.specs.Prelude.{◌≡◌, ◌≢◌, ◌↔◌, ℕ, IfSome, IfNone, IsTrue, Some, pos};
 ghost use Rattle.ados_chain.specs.Look.{first_left};
 ghost use Rattle.ados_chain.specs.declared.read.Next.TheVariants.{Entry};
-ghost use Rattle.ados_tree.specs.Change.{entries_after};
-ghost use Rattle.ados_tree.specs.Keys.{HasDirectory, HasKey};
-ghost use Rattle.ados_tree.specs.Stands.{Stands};
-ghost use Rattle.ados_tree.specs.Tree.{Tree, Node};
-ghost use Rattle.ados_volume.specs.Examined.{file_info};
+ghost use Rattle.ados_model.specs.Change.{entries_after};
+ghost use Rattle.ados_model.specs.Keys.{HasDirectory, HasKey};
+ghost use Rattle.ados_model.specs.Stands.{Stands};
+ghost use Rattle.ados_model.specs.Tree.{Tree, Node};
+ghost use Rattle.ados_model.specs.Objects.{file_info};
 ghost use Rattle.ados_volume.specs.Order.{IsPlaceIn};
 
-use ados_packet::FileInfo;
+use ados_model::FileInfo;
 use ados_volume::{Next, Volume};
 
 /// The entry type of a directory other than the root.
 const DIRECTORY: i32 = 2;
 
-/// The entry of a directory behind this one; the directory's own key asks for the first.
+/// The entry of a directory after this key; the directory's own key is before all.
 pub(crate) fn entry_behind(volume: &Volume, dir: u32, last: u32) -> Option<u32>
     requires dir { HasDirectory volume.now.image dir }
     requires place { IsPlaceIn volume.now.image dir last }
@@ -30,7 +30,7 @@ pub(crate) fn entry_behind(volume: &Volume, dir: u32, last: u32) -> Option<u32>
     }
 }
 
-/// What there is to tell of an object; of one of the type 2 that it is a directory.
+/// The description of an object. Type 2 means a directory.
 pub(crate) fn describe(volume: &Volume, key: u32) -> FileInfo
     requires { HasKey volume.now.image key }
     ensures directory { result.entry_type ≡ pos 2 → HasDirectory volume.now.image key }
@@ -39,7 +39,7 @@ pub(crate) fn describe(volume: &Volume, key: u32) -> FileInfo
     volume.examine(key)
 }
 
-/// Whether it is a directory other than the root.
+/// Whether the object is a directory other than the root.
 pub(crate) fn is_directory(info: &FileInfo) -> bool
     ensures { IsTrue result ↔ info.now.entry_type ≡ pos 2 }
 {

@@ -1,4 +1,4 @@
-//! What the program prints of a volume: what DISK_INFO tells of it, and all its directories and files.
+//! The text of a volume: the result of DISK_INFO, and all directories and files.
 #![tactic(auto)]
 
 mod fault;

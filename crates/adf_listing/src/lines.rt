@@ -1,4 +1,4 @@
-//! The lines of a list.
+//! The lines of a listing.
 ghost use Rattle.std.specs.Prelude.{◌≡◌, ◌++◌, OnOk};
 ghost use Rattle.ados_name.specs.Protection.{letters};
 ghost use Rattle.adf_script.specs.Text.{line, spaced};
@@ -6,17 +6,18 @@ ghost use Rattle.adf_listing.specs.Listing.{right_in, shown, size_text};
 ghost use Rattle.adf_listing.specs.steps.Going.{PushesLine};
 
 use adf_text::letter_text;
-use ados_packet::FileInfo;
+use ados_model::FileInfo;
 use itoa::Buffer;
 use std::alloc::{AllocError, Global};
 
 /// The entry type of a file.
 const FILE: i32 = -3;
 
-/// As many blanks as a size has places.
+/// As many spaces as a size has places.
 const BLANKS: &[u8] = b"        ";
 
-/// Appends the line of an entry: its size right in 8 places, or `dir`, its protection bits, its date and its path.
+/// Appends the line of an entry: its size or `dir`, right-aligned in 8 places, then its protection bits, its date and
+/// its path.
 pub(crate) fn push_entry(
     alloc: Global,
     text: &mut Vec<u8>,
@@ -38,7 +39,7 @@ pub(crate) fn push_entry(
     Ok(())
 }
 
-/// Appends names: their bytes, or the letters that these stand for.
+/// Appends names: their bytes, or the letters of these bytes.
 pub(crate) fn push_names(
     alloc: Global,
     text: &mut Vec<u8>,
@@ -55,7 +56,7 @@ pub(crate) fn push_names(
     }
 }
 
-/// The bytes of a file as a number, or `dir`.
+/// The size of a file as a number, or `dir`.
 fn size_word<'a>(digits: &'a mut Buffer, info: &FileInfo) -> &'a str
     ensures { result.now ≡ size_text info.now }
 {
@@ -66,7 +67,7 @@ fn size_word<'a>(digits: &'a mut Buffer, info: &FileInfo) -> &'a str
     }
 }
 
-/// Appends a word right in 8 places.
+/// Appends a word, right-aligned in 8 places.
 fn push_right(text: &mut Vec<u8>, word: &[u8]) -> Result<(), AllocError>
     ensures { OnOk result (text.new.items ≡ text.old.items ++ right_in 8 word.now) }
 {
@@ -75,7 +76,7 @@ fn push_right(text: &mut Vec<u8>, word: &[u8]) -> Result<(), AllocError>
     Ok(())
 }
 
-/// Appends a word behind a space.
+/// Appends a space and a word.
 fn push_spaced(text: &mut Vec<u8>, word: &[u8]) -> Result<(), AllocError>
     ensures { OnOk result (text.new.items ≡ text.old.items ++ spaced word.now) }
 {

@@ -1,9 +1,9 @@
-//! The directories and files below a directory of a volume.
+//! The listing of everything below a directory of a volume.
 ghost use Rattle.std.specs.Prelude.{◌≡◌, ℕ, [], List, IfOk, OnOk, OnErr};
 ghost use Rattle.std.specs.Io.KnownBytes.{Appends};
-ghost use Rattle.ados_tree.specs.Keys.{HasDirectory};
-ghost use Rattle.ados_tree.specs.Stands.{Stands};
-ghost use Rattle.ados_tree.specs.Tree.{Tree};
+ghost use Rattle.ados_model.specs.Keys.{HasDirectory};
+ghost use Rattle.ados_model.specs.Stands.{Stands};
+ghost use Rattle.ados_model.specs.Tree.{Tree};
 ghost use Rattle.adf_script.specs.Streams.{Writes};
 ghost use Rattle.adf_listing.specs.Fronts.{WritesFront, WritesFrontOf};
 ghost use Rattle.adf_listing.specs.Listing.{BeginsList, IsList, Listed};
@@ -19,10 +19,10 @@ use ados_volume::Volume;
 use std::alloc::{AllocError, Global};
 use std::io::Write;
 
-/// Text is written when there is so much of it.
+/// The number of bytes of text after which it is written.
 const ENOUGH: usize = 65_536;
 
-/// A directory that is being listed: its entry that was listed last, or the directory itself, and the length of its path.
+/// A directory being listed: its entry listed last, or the directory itself, and the length of its path.
 #[derive(Clone, Copy)]
 pub struct Level {
     dir: u32,
@@ -30,8 +30,8 @@ pub struct Level {
     path: usize,
 }
 
-/// The directories from the first to the one that is being listed, the path of its entry that was listed last, and the
-/// text that is not written yet.
+/// The directories from the first down to the current one, the path of the entry listed last, and the text not written
+/// yet.
 #[derive(Drop)]
 pub struct Listing {
     levels: Vec<Level>,
@@ -39,10 +39,11 @@ pub struct Listing {
     text: Vec<u8>,
 }
 
-/// Writes the volume's name, and a line for each entry below a directory, with its path from the root and a directory
-/// directly before its contents. Names are written as their bytes stand, or with `letters` as the letters of these bytes.
+/// Writes the volume's name, and a line for each entry below a directory. A path starts at the root, and a directory
+/// comes directly before its contents. Names are printed as their bytes, or with `letters` as the letters of these
+/// bytes.
 ///
-/// Where the writer fails, or there is no memory, it has taken a front of that text.
+/// If the writer fails or memory runs out, it has written a prefix of that text.
 pub fn write_list<W: Write>(
     alloc: Global,
     volume: &Volume,
@@ -66,7 +67,7 @@ pub fn write_list<W: Write>(
 }
 
 impl Listing {
-    /// The line of the volume, before the first entry of a directory.
+    /// The line for the volume, before the first entry of a directory.
     fn start(alloc: Global, volume: &Volume, dir: u32, letters: bool) -> Result<Listing, AllocError>
         requires { HasDirectory volume.now.image dir }
         ensures places { IfOk result (λ made. ArePlacesInDirectories volume.now.image made.levels.items) }
@@ -87,8 +88,8 @@ impl Listing {
         Ok(Listing { levels, path, text })
     }
 
-    /// Goes on to the next entry of the directory at hand, or back to the directory that holds it. False where no
-    /// directory is left.
+    /// Moves on to the next entry of the current directory, or back to the directory above it. The result is false if
+    /// no directory is left.
     fn go_on(&mut self, alloc: Global, volume: &Volume, letters: bool) -> Result<bool, AllocError>
         requires { ArePlacesInDirectories volume.now.image self.old.levels.items }
         ensures places { OnOk result (ArePlacesInDirectories volume.now.image self.new.levels.items) }
@@ -117,7 +118,7 @@ impl Listing {
         Ok(true)
     }
 
-    /// Writes the text, if there is enough of it.
+    /// Writes the text if it is long enough.
     fn write_when_long<W: Write>(&mut self, writer: &mut W) -> Result<(), PrintFault>
         ensures levels { self.new.levels.items ≡ self.old.levels.items }
         ensures path { self.new.path.items ≡ self.old.path.items }

@@ -1,11 +1,11 @@
--- What the answer of the check says of the entries that are told.
+-- The result of the check, in terms of the entries.
 use Rattle.std.proofs.Common.{ℕ, Bool, true, false, List, Result, Ok, Err, IfOk, OnOk, sym, ap, ◌∙◌, subst}
 use Rattle.adf_block.specs.Image.{long}
-use Rattle.adf_block.specs.Fields.{bitmap_flag}
-use Rattle.ados_tree.specs.Accepted.{Accepts}
-use Rattle.ados_tree.specs.Stands.{Stands}
-use Rattle.ados_tree.specs.Tree.{Tree}
-use Rattle.ados_tree.proofs.Standing.{root_is}
+use Rattle.adf_block.specs.Layout.{bitmap_flag}
+use Rattle.ados_model.specs.Accepted.{Accepts}
+use Rattle.ados_model.specs.Stands.{Stands}
+use Rattle.ados_model.specs.Tree.{Tree}
+use Rattle.ados_model.proofs.Standing.{root_is}
 
 pub if_ok : {A E : Type 0} (r : Result A E) (P Q : A → Type 0) → ((a : A) → P a → Q a) → IfOk r P → IfOk r Q
 if_ok (Ok a) P Q f h = f a h
@@ -19,7 +19,7 @@ pub on_ok : {A E : Type 0} (r : Result A E) (P Q : Type 0) → (P → Q) → OnO
 on_ok (Ok a) P Q f h = f h
 on_ok (Err e) P Q f h = h
 
--- an image that stands for a tree is accepted as it is
+-- an image that represents a tree is accepted with the same tree
 pub same_tree : (image accepted : List ℕ) (validated : Bool) → Accepts image validated accepted → (t : Tree) → Stands image t → Stands accepted t
 same_tree image accepted false a t s = subst (λ (xs : List ℕ). Stands xs t) (sym a.2) s
 same_tree image accepted true a t s =

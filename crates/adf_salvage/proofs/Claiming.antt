@@ -1,4 +1,4 @@
--- What the notes of the blocks say of the sound files.
+-- The claims of the blocks, in terms of the sound files.
 use Rattle.std.proofs.Common.{◌≡◌, ◌≢◌, ne_eqb, ℕ, zero, suc, ◌+◌, ◌<◌, ◌==◌, inl, inr, Bool, true, false, MatchBool, All, List, [], ◌∷◌, ◌++◌, length, take, drop, get_or, Contains, refl, sym, ap, ◌∙◌, subst, arith}
 use Rattle.std.proofs.lemmas.Bool.{cases_lt, cases_eq, eq-eqb}
 use Rattle.std.proofs.Math.ListN.{drop_of_length-le}
@@ -49,7 +49,7 @@ module _ (image : List ℕ) (n block : ℕ) where
   )
   claim_same Several h none = h
 
--- to note a file twice is to note it once
+-- noting a file twice is noting it once
 with_twice : (file : ℕ) (c : Claim) → with_claim file (with_claim file c) ≡ with_claim file c
 with_twice file Free = rw (eq-eqb file file refl) refl
 with_twice file (One other) = elim (cases_eq other file) [
@@ -83,7 +83,7 @@ noted_more file x block xs old new new' h here there = elim (cases_eq block x) [
     only y b (zero, l, e) = sym e
     only y b (suc k, l, e) = absurd (omega (arith, l))
 
--- each sound file below n is told of, and one more
+-- the claims are right for the sound files below n, and for one more
 pub claims_more : (image : List ℕ) (n : ℕ) (old new : List Claim) → AreClaims image n old → IsIntact image n → ((block : ℕ) → block < block_count image → IsNoted n (own_blocks image n) old new block) → AreClaims image (n + 1) new
 claims_more image n old new h intact noted block l = elim (noted block l) [
   | inl a ↦ subst (IsClaim image (n + 1) block) (sym a.1) (claim_more image n block (claim_at old block) (h block l) intact a.0)
@@ -93,14 +93,14 @@ claims_more image n old new h intact noted block l = elim (noted block l) [
 pub claims_same : (image : List ℕ) (n : ℕ) (old : List Claim) → AreClaims image n old → ¬ IsIntact image n → AreClaims image (n + 1) old
 claims_same image n old h none block l = claim_same image n block (claim_at old block) (h block l) (λ i _. none i)
 
--- the blocks of a sound file are in the image
+-- the blocks of a sound file are inside the image
 pub own_within : (image : List ℕ) (file : ℕ) → IsIntact image file → (block : ℕ) → Names image file block → block < block_count image
 own_within image file i block m =
     let here = own_inside image file (lawful_holders image file i.lawful) (lawful_data_blocks image file i.lawful) m.0 m.1 in
     omega (arith, here.1, get_or_default (own_blocks image file) m.0 0 block m.1, m.2)
 
 module _ (image : List ℕ) (claims : List Claim) (h : AreClaims image (block_count image) claims) (file : ℕ) (i : IsIntact image file) where
-  -- a sound file whose blocks it alone names is whole
+  -- a sound file is whole if only it names its blocks
   pub is_whole : All (λ (block : ℕ). claim_at claims block ≡ One file) (own_blocks image file) → IsWhole image file
   is_whole all = record {
     intact = i;
@@ -111,7 +111,7 @@ module _ (image : List ℕ) (claims : List Claim) (h : AreClaims image (block_co
         told.3 other j.header.inside.1 j k;
   }
 
-  -- and of a whole file each block is noted so
+  -- each block of a whole file has its claim
   pub whole_noted : IsWhole image file → All (λ (block : ℕ). claim_at claims block ≡ One file) (own_blocks image file)
   whole_noted w = λ k d l.
       let block = get_or (own_blocks image file) k d in
@@ -124,19 +124,19 @@ module _ (image : List ℕ) (claims : List Claim) (h : AreClaims image (block_co
       go block Several m told =
           absurd (told.2 (w.alone told.0 block told.3 m told.4 ∙ sym (w.alone told.1 block told.5 m told.6)))
 
--- the blocks of a sound file, as places of a list with one for each block
+-- the blocks of a sound file are indices of a list with an element for each block
 pub all_within : (image : List ℕ) (file : ℕ) → IsIntact image file → (xs : List ℕ) (n : ℕ) → xs ≡ own_blocks image file → n ≡ block_count image → All (λ (block : ℕ). block < n) xs
 all_within image file i xs n e size = subst (λ (ys : List ℕ). All (λ (block : ℕ). block < n) ys) (sym e)
     (λ k d l. omega (arith, size, own_within image file i (get_or (own_blocks image file) k d) (k, l, get_or_default (own_blocks image file) k (get_or (own_blocks image file) k d) d l)))
 
--- whether the blocks of a sound file are noted so decides whether it is whole
+-- the claims of its blocks decide whether a sound file is whole
 pub whole_decided : (image : List ℕ) (claims : List Claim) (file : ℕ) (xs : List ℕ) (answer : Bool) → AreClaims image (block_count image) claims → IsIntact image file → xs ≡ own_blocks image file
     → MatchBool answer (All (λ (block : ℕ). claim_at claims block ≡ One file) xs) (¬ All (λ (block : ℕ). claim_at claims block ≡ One file) xs) → MatchBool answer (IsWhole image file) (¬ IsWhole image file)
 whole_decided image claims file xs true h i e all = is_whole image claims h file i (subst (λ (ys : List ℕ). All (λ (block : ℕ). claim_at claims block ≡ One file) ys) e all)
 whole_decided image claims file xs false h i e none = λ w.
     none (subst (λ (ys : List ℕ). All (λ (block : ℕ). claim_at claims block ≡ One file) ys) (sym e) (whole_noted image claims h file i w))
 
--- a list that was written over by one as long
+-- a list overwritten by one of the same length
 pub refilled : {X : Type 0} (new old : List X) (len : ℕ) → length new ≡ length old → len ≡ length old → take len (new ++ drop (length new) old) ≡ new
 refilled new old len room count =
     let none : drop (length new) old ≡ [] = drop_of_length-le old (omega (arith, room)) in

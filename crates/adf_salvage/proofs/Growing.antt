@@ -21,12 +21,12 @@ all_more P xs e all last k d l = elim (cases_lt k (length xs)) [
   | inr a ↦ (let here : length xs ≡ k = omega (arith, a, l, length-append xs (e ∷ [])) in subst P (sym (get_or_push xs e d k here)) last)
 ]
 
--- one entry more is told with the header of another
+-- one more entry, with the header of another
 pub headers_grow : (found found' entries : List Salvaged) (e f : Salvaged) → headers_of found ≡ headers_of entries → found' ≡ found ++ f ∷ [] → f.header ≡ e.header → headers_of found' ≡ headers_of (entries ++ e ∷ [])
 headers_grow found found' entries e f same grown is =
     ap headers_of grown ∙ headers_more found f ∙ ap₂ (λ (xs : List ℕ) (h : ℕ). xs ++ h ∷ []) same is ∙ sym (headers_more entries e)
 
--- the bytes of files that are not whole, with one entry more
+-- the bytes of broken files, with one more entry
 pub broken_more : (xs : List Salvaged) (e : Salvaged) → broken_total (xs ++ e ∷ []) ≡ broken_total xs + broken_length e.state
 unfolding broken_total
 broken_more [] e = omega arith

@@ -1,4 +1,4 @@
--- Why a file whose parts are right is sound, and the parts of a sound file are right.
+-- A file with right parts is sound, and a sound file has right parts.
 pub mod SoundParts
 pub mod OwnBlocks
 pub mod Claiming

@@ -1,4 +1,4 @@
--- The blocks of a file as they are gathered.
+-- The blocks of a file, while they are gathered.
 use Rattle.std.proofs.lemmas.List.Elements.{All-from_get_or}
 use Rattle.std.proofs.Common.{All, ◌≡◌, ℕ, zero, suc, ◌+◌, ◌-◌, ◌/◌, ◌%◌, ◌<◌, ◌≤◌, inl, inr, Bool, true, false, MatchBool, List, [], ◌∷◌, ◌++◌, length, map, get_or, slice_index, refl, sym, ap, ◌∙◌, subst, arith}
 use Rattle.std.specs.List.{range_with_len}
@@ -6,15 +6,15 @@ use Rattle.std.proofs.lemmas.Bool.{cases_lt}
 use Rattle.std.proofs.lemmas.List.{ext_get_or, append_assoc, get_or_append_left, length-append}
 use Rattle.std.proofs.lemmas.List.FromFn.{map-range_with_len_more}
 use Rattle.adf_block.specs.declared.Format.TheVariants.{Ofs}
-use Rattle.adf_block.specs.Image.{block_count, long, IsInside}
-use Rattle.adf_block.specs.Fields.{next_data}
-use Rattle.ados_data.specs.File.{format_of, pointer_block, data_block, data_blocks, extension_blocks}
+use Rattle.adf_block.specs.Image.{block_count, long, IsInside, format_of}
+use Rattle.adf_block.specs.Layout.{next_data}
+use Rattle.ados_model.specs.File.{pointer_block, data_block, data_blocks, extension_blocks}
 use Rattle.ados_data.proofs.Sizes.{in_extensions}
 use Rattle.adf_salvage.specs.Sound.{own_blocks}
 use Rattle.adf_salvage.specs.steps.Parts.{IsHolder, HasHolders, IsDataBlock, HasData, data_needed, extensions_needed, data_before}
 use Rattle.adf_salvage.proofs.SoundParts.{length-extensions, header-is, length-own, own-header, own-data, data-at}
 
--- an answer, by what it says where it is yes and where it is no
+-- a result, by its meaning for true and for false
 pub decided : (A B : Type 0) (b : Bool) → (b ≡ true → A) → (b ≡ false → B) → MatchBool b A B
 decided A B true f g = f refl
 decided A B false f g = g refl
@@ -86,7 +86,7 @@ module _ (image : List ℕ) (file : ℕ) where
   pub holder_read : (xs : List ℕ) (i holder : ℕ) → xs ≡ (file ∷ extension_blocks image file) ++ map (data_block image file) (range_with_len 0 i) → i < data_needed image file → holder ≡ get_or xs (i / 72) holder → holder ≡ pointer_block image file (i / 72)
   holder_read xs i holder e l is = is ∙ holder_is xs i holder e l
 
-  -- what the pointer names is the data block
+  -- the block in the pointer is the data block
   pub named_block : (xs : List ℕ) (i holder block : ℕ) → xs ≡ (file ∷ extension_blocks image file) ++ map (data_block image file) (range_with_len 0 i) → i < data_needed image file → holder ≡ get_or xs (i / 72) holder
       → block ≡ long image holder (77 - i % 72) → block ≡ data_block image file i
   named_block xs i holder block e l is read = read ∙ ap (λ (b : ℕ). long image b (77 - i % 72)) (holder_read xs i holder e l is)

@@ -1,13 +1,15 @@
--- A file is lawful exactly where its pointer blocks and its data blocks are right in their places, and none stands twice.
+-- A file is lawful exactly if its pointer blocks and data blocks have the right fields for their positions and are
+-- distinct.
 use Rattle.std.proofs.Common.{◌≡◌, ℕ, zero, suc, ◌+◌, ◌-◌, ◌*◌, ◌/◌, ◌%◌, ◌<◌, ◌≤◌, inl, inr, min, List, ◌∷◌, length, slice_index, get_or-append-add, refl, sym, ap, ◌∙◌, subst, arith}
 use Rattle.std.proofs.lemmas.Bool.{cases_lt, cases_order}
 use Rattle.std.proofs.lemmas.List.{get_or_past, get_or_append_left, length-append}
 use Rattle.std.proofs.lemmas.List.FromFn.{length-map-range_with_len, get_or-map-range_with_len}
 use Rattle.adf_block.specs.declared.Format.TheVariants.{Ofs}
-use Rattle.adf_block.specs.Image.{block_count, long, IsInside}
-use Rattle.adf_block.specs.Fields.{pointer, pointer_count, next_data, next_extension, file_size}
-use Rattle.ados_data.specs.Cost.{data_count, extension_count}
-use Rattle.ados_data.specs.File.{HasExtension, HasOfsData, AreApart, LawfulFile, format_of, file_byte, pointer_block, data_block, data_blocks, extension_blocks, contents}
+use Rattle.adf_block.specs.Image.{block_count, long, IsInside, pointer, pointer_count, file_size, format_of}
+use Rattle.adf_block.specs.Layout.{next_data, next_extension}
+use Rattle.ados_model.specs.Tree.{data_count, extension_count}
+use Rattle.ados_model.specs.Stands.{HasExtension, HasOfsData, file_byte}
+use Rattle.ados_model.specs.File.{AreApart, LawfulFile, pointer_block, data_block, data_blocks, extension_blocks, contents}
 use Rattle.ados_data.proofs.Chains.{chained, next_of}
 use Rattle.ados_data.proofs.Spelled.{link_of}
 use Rattle.ados_data.proofs.Sizes.{in_extensions}
@@ -185,7 +187,7 @@ module _ (image : List ℕ) (file : ℕ) where
           ∙ ap (slice_index (own_blocks image file)) (sym second) ∙ own-data (j - suc (extensions_needed image file))))
     ]
 
-    -- a sound file has no more data blocks than the image has blocks
+    -- a sound file has at most as many data blocks as the image has blocks
     pub lawful_few : data_needed image file ≤ block_count image
     lawful_few =
         let different : AreDifferent (data_blocks image file) = λ i j l m e. elim (cases_order i j) [

@@ -1,16 +1,17 @@
--- What is told of the entries of an image.
+-- The descriptions of an image's entries.
 use Rattle.std.specs.Prelude.{◌≡◌, ◌≢◌, ℕ, ◌+◌, ◌*◌, ◌≤◌, ◌⊎◌, Bool, List, [], ◌∷◌, length, All, AllPairs, Contains, map, Some, false, ⊤}
 use Rattle.adf_block.specs.Boot.{HasKind}
 use Rattle.adf_block.specs.declared.boot.BootKind.TheVariants.{Ofs, Ffs}
 use Rattle.adf_block.specs.Frame.{OnlyLong}
-use Rattle.adf_block.specs.Fields.{protection, comment_byte, date_long, name_byte, text_at}
-use Rattle.ados_data.specs.File.{contents}
-use Rattle.ados_tree.specs.Accepted.{Accepts}
-use Rattle.ados_tree.specs.Dates.{date_at}
-use Rattle.ados_tree.specs.Faults.{HasDirectoryType, HasFileType}
-use Rattle.ados_tree.specs.Stands.{Stands}
-use Rattle.ados_tree.specs.Tree.{Content, Node, Tree, entries, root}
-use Rattle.ados_tree.specs.Tree.Content.{Directory, File}
+use Rattle.adf_block.specs.Image.{protection}
+use Rattle.adf_block.specs.Layout.{comment_byte, date_long, name_byte}
+use Rattle.adf_block.specs.Whole.{text_at}
+use Rattle.ados_model.specs.File.{contents}
+use Rattle.ados_model.specs.Accepted.{Accepts}
+use Rattle.ados_model.specs.Stands.{date_at, Stands}
+use Rattle.ados_model.specs.Faults.{HasDirectoryType, HasFileType}
+use Rattle.ados_model.specs.Tree.{Content, Node, Tree, entries, root}
+use Rattle.ados_model.specs.Tree.Content.{Directory, File}
 use Rattle.adf_transfer.specs.Below.{AreBelow}
 use Rattle.adf_transfer.specs.Located.{Located}
 use Rattle.adf_salvage.specs.declared.salvaged.Salvaged.{Salvaged}
@@ -18,13 +19,13 @@ use Rattle.adf_salvage.specs.declared.salvaged.State.{State}
 use Rattle.adf_salvage.specs.declared.salvaged.State.TheVariants as states
 use Rattle.adf_salvage.specs.Sound.{IsSoundHeader, IsWhole}
 
--- a directory; or a whole file, and its bytes; or a file that is not whole
+-- a directory; a whole file with its bytes; or a broken file
 abbrev pub HasState : List ℕ → ℕ → State → Type 0
 HasState image block states.Directory = HasDirectoryType image block
 HasState image block (states.Whole bytes) = IsWhole image block × (bytes.items ≡ contents image block)
 HasState image block (states.Broken missing cut bytes) = HasFileType image block × ¬ IsWhole image block
 
--- the header is sound, and all but the path and whether it was found is told as it stands there
+-- the header is sound, and the description has its fields; the path and whether the entry was recovered are free
 pub record IsSalvaged (image : List ℕ) (entry : Salvaged) : Type 0 where
   pub header : IsSoundHeader image entry.header
   pub name : entry.name ≡ text_at image entry.header name_byte
@@ -37,29 +38,29 @@ pub record IsSalvaged (image : List ℕ) (entry : Salvaged) : Type 0 where
 abbrev pub headers_of : List Salvaged → List ℕ
 headers_of found = map (λ entry. entry.header) found
 
--- each sound header of the image is told of, once, and nothing else
+-- the entries are exactly the sound headers of the image, each once
 pub record AreSalvaged (image : List ℕ) (found : List Salvaged) : Type 0 where
   pub told : All (IsSalvaged image) found
   pub once : AllPairs (λ a b. a ≢ b) (headers_of found)
   pub all : (block : ℕ) → IsSoundHeader image block → Contains (headers_of found) block
 
--- a file with all its bytes, or a directory
+-- a directory, or a file with all its bytes
 abbrev pub HoldsAll : Content → State → Type 0
 HoldsAll (Directory keys) states.Directory = ⊤
 HoldsAll (File bytes) (states.Whole held) = held.items ≡ bytes
 HoldsAll _ _ = ⊥
 
--- how many bytes are told of a file that is not whole
+-- the number of bytes of a broken file
 abbrev pub broken_length : State → ℕ
 broken_length (states.Broken missing cut bytes) = length bytes.items
 broken_length state = 0
 
--- and of all of them
+-- the number of bytes of all broken files
 unfoldable pub broken_total : List Salvaged → ℕ
 broken_total [] = 0
 broken_total (entry ∷ rest) = broken_length entry.state + broken_total rest
 
--- an entry of the tree as it is, whole and not found
+-- an entry of the tree with its metadata, whole and not recovered
 pub record IsOfTree (t : Tree) (entry : Salvaged) : Type 0 where
   pub node : Node
   pub at : t.nodes entry.header ≡ Some node
@@ -79,13 +80,13 @@ pub record AreOfTree (t : Tree) (found : List Salvaged) : Type 0 where
   pub below : AreBelow t [] (entries t (root t)) (map located_of found)
   pub told : All (IsOfTree t) found
 
--- the image as it is read: as it is, but for its first four bytes where these name neither kind
+-- the image with a valid kind: unchanged, except that other first four bytes are replaced
 pub record IsReadAs (image read : List ℕ) : Type 0 where
   pub known : HasKind image Ofs ⊎ HasKind image Ffs → read ≡ image
   pub rest : OnlyLong 0 0 image read
 
--- the image was accepted, perhaps with a new bitmap, and these are the entries of its tree; or they are its sound headers, and all
--- files that are not whole have together at most four times as many bytes as the image
+-- the image was accepted, possibly with a new bitmap, and these are the entries of its tree; or they are its sound
+-- headers, and all broken files together have at most four times the bytes of the image
 abbrev pub Salvages : List ℕ → List Salvaged → Type 0
 Salvages image found =
     ((accepted : List ℕ) × (validated : Bool) × Accepts image validated accepted × ((t : Tree) → Stands accepted t → AreOfTree t found))

@@ -1,10 +1,11 @@
--- Which headers and files of an image are sound by themselves, wherever a chain may lead.
+-- The headers and files of an image that are sound by themselves, wherever hash chains lead.
 use Rattle.std.specs.Prelude.{◌≡◌, ℕ, ◌≤◌, List, ◌∷◌, ◌++◌, Contains}
-use Rattle.adf_block.specs.Image.{block_count, block_sum, byte_at, IsInside}
-use Rattle.adf_block.specs.Fields.{primary_type, own_key, header_type, comment_byte, name_byte, text_at}
+use Rattle.adf_block.specs.Image.{block_count, block_sum, byte_at, IsInside, primary_type, own_key}
+use Rattle.adf_block.specs.Layout.{header_type, comment_byte, name_byte}
+use Rattle.adf_block.specs.Whole.{text_at}
 use Rattle.ados_name.specs.Name.{IsName}
-use Rattle.ados_data.specs.File.{LawfulFile, data_blocks, extension_blocks}
-use Rattle.ados_tree.specs.Faults.{HasFileType}
+use Rattle.ados_model.specs.File.{LawfulFile, data_blocks, extension_blocks}
+use Rattle.ados_model.specs.Faults.{HasFileType}
 use Rattle.ados_check.specs.Marks.{HasEntryType}
 
 -- the header of a directory or file with the right fields, in its own block
@@ -17,7 +18,8 @@ pub record IsSoundHeader (image : List ℕ) (block : ℕ) : Type 0 where
   pub name : IsName (text_at image block name_byte)
   pub comment : byte_at image block comment_byte ≤ 79
 
--- a sound file: its header, and its blocks, as many as its size needs, each right in its place, inside the volume and in no two places
+-- a sound file: its header, and exactly the blocks that its size needs, each with the right fields for its position,
+-- inside the volume and distinct
 pub record IsIntact (image : List ℕ) (file : ℕ) : Type 0 where
   pub header : IsSoundHeader image file
   pub is_file : HasFileType image file
@@ -31,7 +33,7 @@ own_blocks image file = (file ∷ extension_blocks image file) ++ data_blocks im
 abbrev pub Names : List ℕ → ℕ → ℕ → Type 0
 Names image file block = Contains (own_blocks image file) block
 
--- a whole file: sound, and no other sound file names a block of it
+-- a whole file: sound, and no other sound file names one of its blocks
 pub record IsWhole (image : List ℕ) (file : ℕ) : Type 0 where
   pub intact : IsIntact image file
   pub alone : (other block : ℕ) → IsIntact image other → Names image file block → Names image other block → other ≡ file

@@ -1,4 +1,4 @@
--- What is found out of a file, block by block.
+-- The results for a file, block by block.
 pub mod Parts
 pub mod Claims
 pub mod Gathering

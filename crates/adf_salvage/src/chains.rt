@@ -1,4 +1,4 @@
-//! The entries that the chains lead to, from the root on.
+//! The entries along the hash chains, from the root.
 ghost use Rattle.std.specs.Prelude.{◌≡◌, ◌<◌, length, OnOk};
 ghost use Rattle.adf_block.specs.Image.{block_count};
 ghost use Rattle.adf_salvage.specs.steps.Claims.{AreClaims};
@@ -12,8 +12,8 @@ use adf_block::Image;
 use adf_block::layout::{FIRST_SLOT, NEXT_IN_CHAIN, TABLE_LONGS};
 use std::alloc::{AllocError, Global};
 
-/// Adds all that the chains lead to: what is in the root, and then what is in the directories, in the order in which these
-/// were met.
+/// Adds all entries along the hash chains: those of the root, then those of each directory in the order in which they
+/// were found.
 pub(crate) fn add_reached(
     alloc: Global,
     image: &Image,
@@ -40,7 +40,7 @@ pub(crate) fn add_reached(
     Ok(())
 }
 
-/// Adds what the chains of a directory lead to, under its path.
+/// Adds the entries along the hash chains of a directory, under its path.
 fn add_chains(
     alloc: Global,
     image: &Image,
@@ -62,7 +62,7 @@ fn add_chains(
     Ok(())
 }
 
-/// Adds the entries of a chain, as far as it leads to sound headers that were not met.
+/// Adds the entries of a hash chain, as long as they are sound headers that were not found before.
 fn add_chain(
     alloc: Global,
     image: &Image,

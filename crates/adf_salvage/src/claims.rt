@@ -1,4 +1,4 @@
-//! Which sound files name a block.
+//! The sound files that name a block.
 ghost use Rattle.std.specs.Prelude.{◌≡◌, ◌<◌, ℕ, length, All, IfOk, MatchBool};
 ghost use Rattle.adf_block.specs.Image.{block_count};
 ghost use Rattle.adf_salvage.specs.steps.Claims.{AreClaims, IsNoted, claim_at, with_claim};
@@ -8,18 +8,18 @@ use crate::intact::own_blocks;
 use adf_block::Image;
 use std::alloc::{AllocError, Global};
 
-/// Which sound files name a block.
+/// The sound files that name a block.
 #[derive(Clone, Copy, Debug, PartialEq, Eq)]
 pub(crate) enum Claim {
     /// None.
     Free,
-    /// One, by its header.
+    /// One, given by its header.
     One(u32),
     Several,
 }
 
 impl Claim {
-    /// The note once one more file names the block.
+    /// The claim after one more file names the block.
     fn with(self, file: u32) -> Claim
         ensures { result ≡ with_claim file self }
     {
@@ -31,7 +31,7 @@ impl Claim {
     }
 }
 
-/// For each block of an image, which sound files name it.
+/// For each block of an image, the sound files that name it.
 pub(crate) fn claims(alloc: Global, image: &Image) -> Result<Vec<Claim>, AllocError>
     ensures count { IfOk result (λ claims. length claims.items ≡ block_count image.now) }
     ensures claims { IfOk result (λ claims. AreClaims image.now (block_count image.now) claims.items) }
@@ -56,7 +56,7 @@ fn note(claims: &mut [Claim], file: u32, blocks: &[u32])
     }
 }
 
-/// Whether each of these blocks is named by one file alone, this one.
+/// Whether only this file names each of these blocks.
 pub(crate) fn are_alone(claims: &[Claim], file: u32, blocks: &[u32]) -> bool
     requires { All (λ block. block < length claims.now) blocks.now }
     ensures { MatchBool result (All (λ block. claim_at claims.now block ≡ one file) blocks.now) (¬ All (λ block. claim_at claims.now block ≡ one file) blocks.now) }

@@ -1,9 +1,10 @@
 //! The data blocks of a file.
 ghost use Rattle.std.specs.Prelude.{◌≡◌, ◌<◌, ◌-◌, ◌*◌, ◌++◌, ◌∷◌, ◌↔◌, min, IfOk, IsTrue, MatchBool};
-ghost use Rattle.adf_block.specs.Image.{block_count, long};
+ghost use Rattle.adf_block.specs.Image.{block_count, long, file_size, format_of};
 ghost use Rattle.adf_block.specs.declared.Format.TheVariants.{Ofs};
-ghost use Rattle.adf_block.specs.Fields.{file_size, next_data, ofs_room};
-ghost use Rattle.ados_data.specs.File.{HasOfsData, data_blocks, extension_blocks, format_of};
+ghost use Rattle.adf_block.specs.Layout.{next_data, ofs_room};
+ghost use Rattle.ados_model.specs.Stands.{HasOfsData};
+ghost use Rattle.ados_model.specs.File.{data_blocks, extension_blocks};
 ghost use Rattle.adf_salvage.specs.steps.Parts.{HasData, HasHolders, IsDataBlock, data_needed};
 
 use adf_block::layout::{
@@ -13,7 +14,7 @@ use adf_block::layout::{
 use adf_block::{Format, Image};
 use std::alloc::AllocError;
 
-/// Puts the data blocks of a file behind its pointer blocks, if each is right in its place.
+/// Adds the data blocks of a file after its pointer blocks, if each has the right fields for its position.
 pub(crate) fn push_data(
     image: &Image,
     file: u32,
@@ -39,7 +40,7 @@ pub(crate) fn push_data(
     Ok(is_last(image, before))
 }
 
-/// Whether no data block follows: only in OFS does a block name the next one.
+/// Whether no data block follows. Only OFS has links between data blocks.
 fn is_last(image: &Image, block: u32) -> bool
     requires { block < block_count image.now }
     ensures { IsTrue result ↔ (format_of image.now ≡ Ofs → long image.now block next_data ≡ 0) }
@@ -50,7 +51,7 @@ fn is_last(image: &Image, block: u32) -> bool
     }
 }
 
-/// Whether a block can be data block `i` of a file, behind the block in front of it.
+/// Whether a block can be data block `i` of a file, after the block before it.
 fn is_data(image: &Image, file: u32, i: u32, before: u32, block: u32) -> bool
     requires file { file < block_count image.now }
     requires before { before < block_count image.now }
@@ -78,7 +79,7 @@ pub(crate) fn is_ofs_data(image: &Image, file: u32, i: u32, block: u32) -> bool
         && u64::from(image.long(block, HELD)) == held_in(image.long(file, SIZE), i)
 }
 
-/// How many bytes stand in OFS data block `i` of a file of this size.
+/// The number of data bytes in OFS data block `i` of a file with this size.
 fn held_in(size: u32, i: u32) -> u64
     ensures { result ≡ min ofs_room (size - ofs_room * i) }
 {

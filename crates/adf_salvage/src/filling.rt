@@ -1,4 +1,4 @@
-//! The bytes of files that are not whole.
+//! The bytes of broken files.
 ghost use Rattle.std.specs.Prelude.{◌≡◌, ◌<◌, ◌≤◌, ◌*◌, length, IfOk};
 ghost use Rattle.adf_block.specs.Image.{block_count};
 ghost use Rattle.adf_salvage.specs.Salvaged.{AreSalvaged, HasState, IsSalvaged, broken_length, broken_total};
@@ -8,11 +8,11 @@ use crate::salvaged::{Salvaged, State};
 use adf_block::Image;
 use std::alloc::{AllocError, Global};
 
-/// How many times as many bytes as the image has all files that are not whole may have together.
+/// The most bytes of all broken files together, as a multiple of the image's bytes.
 const SHARE: usize = 4;
 
-/// These entries, with the bytes of the files that are not whole. Of all these files together no more is told than four times
-/// as many bytes as the image has: the first of them take what they need, and what comes then is cut short.
+/// These entries, with the bytes of their broken files. All broken files together get at most four times the bytes of
+/// the image: the first ones get what they need, later ones are cut short.
 pub(crate) fn with_pieces(
     alloc: Global,
     image: &Image,
@@ -32,7 +32,7 @@ pub(crate) fn with_pieces(
     Ok(found)
 }
 
-/// An entry, with at most so many bytes of its file where that is not whole.
+/// An entry with at most this many bytes of its file, if that is broken.
 fn with_bytes(
     alloc: Global,
     image: &Image,
@@ -67,7 +67,7 @@ fn with_bytes(
     })
 }
 
-/// How much is left of a file, with at most so many of its bytes where it is not whole.
+/// The state of a file with at most this many bytes, if it is broken.
 fn filled(
     alloc: Global,
     image: &Image,
@@ -99,7 +99,7 @@ fn filled(
     }
 }
 
-/// How many bytes are told of a file that is not whole.
+/// The number of bytes of a broken file.
 fn length_of(state: &State) -> usize
     ensures { result ≡ broken_length state.now }
 {

@@ -1,4 +1,4 @@
-//! The entries of a damaged image, as they are gathered.
+//! The entries of a damaged image, while they are gathered.
 ghost use Rattle.std.specs.Prelude.{◌≡◌, ◌↔◌, length, IfOk, IsSome, IsTrue, OnOk};
 ghost use Rattle.adf_block.specs.Image.{block_count};
 ghost use Rattle.adf_salvage.specs.steps.Claims.{AreClaims};
@@ -13,18 +13,18 @@ use adf_block::Image;
 use std::alloc::{AllocError, Global};
 use std::collections::BTreeSet;
 
-/// The entries that were met so far.
+/// The entries found so far.
 #[derive(Drop)]
 pub(crate) struct Gathered {
     pub(crate) entries: Vec<Salvaged>,
-    /// For each block the place of its entry, if its header was met.
+    /// For each block, the index of its entry, if its header was found.
     pub(crate) places: Vec<Option<usize>>,
-    /// The paths that are taken.
+    /// The paths in use.
     pub(crate) paths: BTreeSet<Vec<u8>>,
 }
 
 impl Gathered {
-    /// Nothing was met, and no entry can have the path of the directory for what is found.
+    /// No entries. The path of the directory for recovered entries is in use already.
     pub(crate) fn new(alloc: Global, image: &Image) -> Result<Gathered, AllocError>
         ensures { IfOk result (λ gathered. AreGathered image.now gathered.entries.items gathered.places.items) }
     {
@@ -37,7 +37,7 @@ impl Gathered {
         })
     }
 
-    /// Whether a block is a sound header that was not met.
+    /// Whether a block is a sound header that was not found before.
     pub(crate) fn is_new(&self, image: &Image, block: u32) -> bool
         requires { length self.now.places.items ≡ block_count image.now }
         ensures { IsTrue result ↔ IsNew image.now self.now.places.items block }
@@ -47,13 +47,13 @@ impl Gathered {
             && is_sound_header(image, block)
     }
 
-    /// The entry of a header, if it was met.
+    /// The entry of a header, if it was found.
     pub(crate) fn entry(&self, block: u32) -> Option<&Salvaged> {
         let place = (*self.places.get(block as usize)?)?;
         self.entries.get(place)
     }
 
-    /// Adds the entry of a header that is met now, under its name behind a front.
+    /// Adds the entry of a header. Its path is a prefix and its name.
     pub(crate) fn add(
         &mut self,
         alloc: Global,

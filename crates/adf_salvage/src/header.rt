@@ -1,10 +1,11 @@
 //! Headers that are sound by themselves.
 ghost use Rattle.std.specs.Prelude.{◌≡◌, ◌<◌, ◌↔◌, IsTrue, MatchOption};
 ghost use Rattle.adf_block.specs.Image.{block_count};
-ghost use Rattle.adf_block.specs.Fields.{name_byte, text_at};
+ghost use Rattle.adf_block.specs.Layout.{name_byte};
+ghost use Rattle.adf_block.specs.Whole.{text_at};
 ghost use Rattle.ados_name.specs.Name.{IsName};
 ghost use Rattle.ados_check.specs.Marks.{HasEntryType};
-ghost use Rattle.ados_tree.specs.Faults.{HasFileType};
+ghost use Rattle.ados_model.specs.Faults.{HasFileType};
 ghost use Rattle.adf_salvage.specs.Sound.{IsSoundHeader};
 
 use adf_block::Image;
@@ -28,7 +29,7 @@ pub(crate) fn is_sound_header(image: &Image, block: u32) -> bool
         && usize::from(image.byte(block, COMMENT_BYTE)) <= Comment::MAX_LEN
 }
 
-/// Whether a header says that it is that of a directory or file.
+/// Whether a header has the type of a directory or of a file.
 fn is_entry(image: &Image, block: u32) -> bool
     requires { block < block_count image.now }
     ensures { IsTrue result ↔ HasEntryType image.now block }
@@ -37,7 +38,7 @@ fn is_entry(image: &Image, block: u32) -> bool
     kind == DIRECTORY_TYPE || kind == FILE_TYPE
 }
 
-/// Whether a header says that it is that of a file.
+/// Whether a header has the type of a file.
 pub(crate) fn is_file(image: &Image, block: u32) -> bool
     requires { block < block_count image.now }
     ensures { IsTrue result ↔ HasFileType image.now block }
@@ -45,7 +46,7 @@ pub(crate) fn is_file(image: &Image, block: u32) -> bool
     image.long(block, SECONDARY_TYPE) == FILE_TYPE
 }
 
-/// The name in a block, if it is valid.
+/// The name in a block, or `None` if it is not valid.
 pub(crate) fn name_of(image: &Image, key: u32) -> Option<Name>
     requires { key < block_count image.now }
     ensures { MatchOption result (¬ IsName (text_at image.now key name_byte))

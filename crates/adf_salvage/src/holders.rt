@@ -1,8 +1,9 @@
 //! The pointer blocks of a file: its header and its extension blocks.
 ghost use Rattle.std.specs.Prelude.{◌≡◌, ◌<◌, ◌-◌, ◌*◌, ◌∷◌, min, ◌↔◌, IfOk, IsTrue, MatchOption};
 ghost use Rattle.adf_block.specs.Image.{block_count};
-ghost use Rattle.adf_block.specs.Fields.{table_longs};
-ghost use Rattle.ados_data.specs.File.{HasExtension, extension_blocks};
+ghost use Rattle.adf_block.specs.Layout.{table_longs};
+ghost use Rattle.ados_model.specs.Stands.{HasExtension};
+ghost use Rattle.ados_model.specs.File.{extension_blocks};
 ghost use Rattle.adf_salvage.specs.steps.Parts.{HasHolders, IsHolder, data_needed};
 
 use adf_block::layout::{
@@ -12,7 +13,7 @@ use adf_block::layout::{
 use adf_block::{Format, Image};
 use std::alloc::{AllocError, Global};
 
-/// How many data blocks a file has by its size.
+/// The number of data blocks that the size of a file needs.
 pub(crate) fn data_needed(image: &Image, file: u32) -> u32
     requires { file < block_count image.now }
     ensures { result ≡ data_needed image.now file }
@@ -24,7 +25,8 @@ pub(crate) fn data_needed(image: &Image, file: u32) -> u32
     image.long(file, SIZE).div_ceil(room)
 }
 
-/// The header and the extension blocks of a file that needs so many data blocks, where each is right in its place.
+/// The header and the extension blocks of a file with this many data blocks, if each has the right fields for its
+/// position.
 pub(crate) fn holders(
     alloc: Global,
     image: &Image,
@@ -51,7 +53,7 @@ pub(crate) fn holders(
     Ok(Some(blocks))
 }
 
-/// Whether a block can be pointer block `q` of a file that needs so many data blocks.
+/// Whether a block can be pointer block `q` of a file with this many data blocks.
 fn is_holder(image: &Image, file: u32, q: u32, block: u32, needed: u32) -> bool
     requires needed { needed ≡ data_needed image.now file }
     ensures { IsTrue result ↔ IsHolder image.now file q block }
@@ -62,7 +64,7 @@ fn is_holder(image: &Image, file: u32, q: u32, block: u32, needed: u32) -> bool
         && u64::from(image.long(block, POINTER_COUNT)) == pointers_in(q, needed)
 }
 
-/// How many pointers stand in pointer block `q` of a file of so many data blocks.
+/// The number of pointers in pointer block `q` of a file with this many data blocks.
 fn pointers_in(q: u32, needed: u32) -> u64
     ensures { result ≡ min table_longs (needed - table_longs * q) }
 {

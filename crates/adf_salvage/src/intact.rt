@@ -1,4 +1,4 @@
-//! Sound files, and the blocks that they name.
+//! Sound files, and their blocks.
 ghost use Rattle.std.specs.Prelude.{◌≡◌, ◌<◌, IfOk, MatchBool, MatchOption, All};
 ghost use Rattle.adf_block.specs.Image.{block_count};
 ghost use Rattle.adf_salvage.specs.Sound.{IsIntact, own_blocks};
@@ -39,7 +39,7 @@ pub(crate) fn own_blocks(
     Ok(Some(blocks))
 }
 
-/// Whether no block stands twice among these, which are below a number of blocks.
+/// Whether these blocks, all below `count`, are distinct.
 fn are_once(alloc: Global, count: u32, blocks: &[u32]) -> Result<bool, AllocError>
     requires { All (λ block. block < count) blocks.now }
     ensures { IfOk result (λ once. MatchBool once (AreOnce blocks.now) (¬ AreOnce blocks.now)) }

@@ -6,13 +6,14 @@ use crate::header::{is_file, is_sound_header};
 use adf_block::layout::{DATA_TYPE, KIND, OWN_KEY, PRIMARY_TYPE};
 use adf_block::{BootKind, Image};
 
-/// `DOS` and the byte of OFS, as a long.
+/// `DOS`, 0: OFS, as a long.
 const OFS_KIND: u32 = 0x444f_5300;
 
-/// `DOS` and the byte of FFS, as a long.
+/// `DOS`, 1: FFS, as a long.
 const FFS_KIND: u32 = 0x444f_5301;
 
-/// The image as it is read: where its first four bytes name neither kind, they become those of the kind that its blocks show.
+/// The image with a valid kind. If its first four bytes are neither OFS nor FFS, they become the kind that its blocks
+/// suggest.
 pub(crate) fn with_kind(image: Image) -> Image
     ensures { IsReadAs image result }
 {
@@ -32,7 +33,7 @@ pub(crate) fn with_kind(image: Image) -> Image
     }
 }
 
-/// Whether a block has the type and the sum of OFS data, and names the sound header of a file.
+/// Whether a block is an OFS data block with a right checksum that names the sound header of a file.
 fn has_ofs_data(image: &Image) -> bool {
     for block in 0..image.blocks() {
         if image.long(block, PRIMARY_TYPE) == DATA_TYPE && image.sum(block) == 0 {

@@ -1,5 +1,5 @@
-//! What can be trusted of an image that the check refuses: each sound header of it, and of each file its bytes where no
-//! other file names a block of it.
+//! What can be trusted in an image that the check refuses: each sound header, and the bytes of each file whose blocks
+//! no other file names.
 #![tactic(auto)]
 
 mod chains;

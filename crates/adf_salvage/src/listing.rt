@@ -1,8 +1,8 @@
-//! The entries of a volume that was accepted.
+//! The entries of an accepted volume.
 ghost use Rattle.std.specs.Prelude.{◌≡◌, All, IfOk, Some, map};
-ghost use Rattle.ados_tree.specs.Keys.{HasKey};
-ghost use Rattle.ados_tree.specs.Stands.{Stands};
-ghost use Rattle.ados_tree.specs.Tree.{Node, Tree};
+ghost use Rattle.ados_model.specs.Keys.{HasKey};
+ghost use Rattle.ados_model.specs.Stands.{Stands};
+ghost use Rattle.ados_model.specs.Tree.{Node, Tree};
 ghost use Rattle.adf_salvage.specs.Salvaged.{AreOfTree, HoldsAll, IsOfTree, located_of};
 
 use crate::salvaged::{Salvaged, State};
@@ -10,7 +10,7 @@ use adf_transfer::{Below, entries_below, read_file};
 use ados_volume::Volume;
 use std::alloc::{AllocError, Global};
 
-/// All entries of a volume, whole, in its order.
+/// All entries of a volume, in its order, with whole files.
 pub(crate) fn volume_entries(alloc: Global, volume: &Volume) -> Result<Vec<Salvaged>, AllocError>
     ensures { IfOk result (λ found. (t : Tree) → Stands volume.now.image t → AreOfTree t found.items) }
 {
@@ -18,7 +18,7 @@ pub(crate) fn volume_entries(alloc: Global, volume: &Volume) -> Result<Vec<Salva
     entries_of(alloc, volume, &below)
 }
 
-/// These entries of a volume, whole.
+/// These entries of a volume, with whole files.
 fn entries_of(alloc: Global, volume: &Volume, below: &[Below]) -> Result<Vec<Salvaged>, AllocError>
     requires { All (λ entry. HasKey volume.now.image entry.key) below.now }
     ensures located { IfOk result (λ found. map located_of found.items ≡ below.now) }
@@ -31,7 +31,7 @@ fn entries_of(alloc: Global, volume: &Volume, below: &[Below]) -> Result<Vec<Sal
     Ok(found)
 }
 
-/// An entry of a volume, whole.
+/// An entry of a volume, with a whole file.
 fn entry_of(alloc: Global, volume: &Volume, entry: &Below) -> Result<Salvaged, AllocError>
     requires { HasKey volume.now.image entry.now.key }
     ensures told { IfOk result (λ told. (t : Tree) → Stands volume.now.image t → IsOfTree t told) }
@@ -54,7 +54,7 @@ fn entry_of(alloc: Global, volume: &Volume, entry: &Below) -> Result<Salvaged, A
     })
 }
 
-/// What an object holds.
+/// The state of an object.
 fn state_in(alloc: Global, volume: &Volume, key: u32) -> Result<State, AllocError>
     requires { HasKey volume.now.image key }
     ensures { IfOk result (λ state. (t : Tree) (node : Node) → Stands volume.now.image t → t.nodes key ≡ Some node → HoldsAll node.content state) }

@@ -1,13 +1,13 @@
-//! The paths of entries, each of another entry.
+//! The paths of entries, each different.
 use itoa::Buffer;
 use std::alloc::{AllocError, Global};
 use std::collections::BTreeSet;
 
-/// The directory for what was found.
+/// The directory for recovered entries.
 pub(crate) const LOST_AND_FOUND: &[u8] = b"lost+found";
 
-/// The path of a name behind a front, with `~` and the number of its header behind it as often as it is taken. It is taken
-/// from now on.
+/// The path of a prefix and a name. While it is in use already, `~` and the number of the header are appended. The
+/// result is then in use.
 pub(crate) fn free_path(
     alloc: Global,
     taken: &mut BTreeSet<Vec<u8>>,
@@ -27,7 +27,7 @@ pub(crate) fn free_path(
     Ok(path)
 }
 
-/// A name behind a front, if there is one.
+/// A name after a prefix, if that is not empty.
 pub(crate) fn joined(alloc: Global, front: &[u8], name: &[u8]) -> Result<Vec<u8>, AllocError> {
     let mut path = Vec::new(alloc);
     if !front.is_empty() {

@@ -1,4 +1,4 @@
-//! What is left of a file that is not whole.
+//! The rest of a broken file.
 ghost use Rattle.std.specs.Prelude.{◌≡◌, ◌<◌, ◌≤◌, length, IfOk, IfSome, IsTrue, OnOk};
 ghost use Rattle.adf_block.specs.Image.{block_count};
 
@@ -11,22 +11,21 @@ use adf_block::layout::{
 use adf_block::{Format, Image};
 use std::alloc::{AllocError, Global};
 
-/// The bytes of a block.
+/// Bytes in a block.
 const BLOCK: usize = BLOCK_BYTES as usize;
 
-/// What is left of a file that is not whole.
+/// The rest of a broken file.
 #[derive(Drop)]
 pub(crate) struct Remains {
-    /// How many of its data blocks are missing.
+    /// The number of missing data blocks.
     pub(crate) missing: u32,
-    /// Whether more is left than its bytes hold.
+    /// Whether the rest has more bytes than these.
     pub(crate) cut: bool,
     pub(crate) bytes: Vec<u8>,
 }
 
-/// What is left of a file: the bytes of the blocks that are sound where they belong, up to the last of them, and zeros where
-/// blocks before it are missing; of all that at most so many bytes. It has no more blocks than its size says, and no more
-/// than the image.
+/// The rest of a file: the bytes of its sound data blocks at their positions, up to the last of them, and zeros for
+/// missing ones, at most `most` bytes. It has at most as many blocks as its size needs, and as the image has.
 pub(crate) fn pieces(
     alloc: Global,
     image: &Image,
@@ -64,7 +63,7 @@ pub(crate) fn pieces(
 }
 
 impl Remains {
-    /// Puts data at a place of the bytes, before which zeros stand where nothing was put, as far as there may be so many bytes.
+    /// Puts data at a position, as far as `most` bytes allow. Bytes before it that were not put are 0.
     fn put(&mut self, at: usize, data: &[u8], most: usize) -> Result<(), AllocError>
         requires { length self.old.bytes.items ≤ most }
         ensures bounded { OnOk result (length self.new.bytes.items ≤ most) }
@@ -85,7 +84,7 @@ impl Remains {
     }
 }
 
-/// The byte of a data block where its data starts.
+/// The byte of a data block where its data starts: 24 in OFS, 0 in FFS.
 fn data_start(image: &Image) -> usize
     ensures { result ≤ 24 }
 {
@@ -95,8 +94,8 @@ fn data_start(image: &Image) -> usize
     }
 }
 
-/// Data block `i` of a file, if it is sound: the one that its pointer names; where that is none, in OFS the one that the
-/// header or data block in front of it names.
+/// Data block `i` of a file, if it is sound: the one in its pointer, or else, in OFS, the one that the block before it
+/// links to.
 fn block_at(
     image: &Image,
     file: u32,
@@ -122,7 +121,7 @@ fn block_at(
     None
 }
 
-/// Whether a block can be data block `i` of a file, by itself.
+/// Whether a block, by itself, can be data block `i` of a file.
 fn is_piece(image: &Image, file: u32, i: u32, block: u32) -> bool
     requires { file < block_count image.now }
     ensures { IsTrue result → block < block_count image.now }
@@ -136,7 +135,7 @@ fn is_piece(image: &Image, file: u32, i: u32, block: u32) -> bool
     }
 }
 
-/// The extension block of a file behind a pointer block, if it is sound.
+/// The extension block after a pointer block, if it is sound.
 fn next_holder(image: &Image, file: u32, holder: Option<u32>) -> Option<u32>
     requires { IfSome holder (λ block. block < block_count image.now) }
     ensures { IfSome result (λ block. block < block_count image.now) }

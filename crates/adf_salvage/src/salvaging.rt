@@ -1,7 +1,7 @@
-//! All that can be trusted of an image.
+//! Everything in an image that can be trusted.
 ghost use Rattle.std.specs.Prelude.{◌≤◌, ◌*◌, length, IfOk};
-ghost use Rattle.ados_tree.specs.Stands.{Stands};
-ghost use Rattle.ados_tree.specs.Tree.{Tree};
+ghost use Rattle.ados_model.specs.Stands.{Stands};
+ghost use Rattle.ados_model.specs.Tree.{Tree};
 ghost use Rattle.adf_salvage.specs.Salvaged.{AreOfTree, AreSalvaged, Salvages, broken_total};
 
 use crate::chains::add_reached;
@@ -16,11 +16,11 @@ use adf_block::Image;
 use ados_volume::{FaultKind, check};
 use std::alloc::{AllocError, Global};
 
-/// All that can be trusted of an image, each header once, a directory before its entries.
+/// Everything in an image that can be trusted, each header once, a directory before its entries.
 ///
-/// Of an image that the check accepts these are the entries of its tree. Of any other they are its sound headers: first what
-/// the chains lead to from the root, then what these did not lead to. Where its first four bytes name neither kind it is read
-/// as one of the kind that its blocks show. All files that are not whole have together at most four times as many bytes as the
+/// For an image that the check accepts, these are the entries of its tree. For any other, they are its sound headers:
+/// first those along hash chains from the root, then the others. If its first four bytes are neither OFS nor FFS, it
+/// is read as the kind that its blocks suggest. All broken files together have at most four times the bytes of the
 /// image.
 pub fn salvage(alloc: Global, image: Image) -> Result<Vec<Salvaged>, AllocError>
     ensures salvages { IfOk result (λ found. Salvages image found.items) }

@@ -1,7 +1,7 @@
-//! How much is left of a file.
+//! The state of a file.
 ghost use Rattle.std.specs.Prelude.{◌≡◌, ◌<◌, length, IfOk, MatchBool};
 ghost use Rattle.adf_block.specs.Image.{block_count};
-ghost use Rattle.ados_data.specs.File.{LawfulFile, contents};
+ghost use Rattle.ados_model.specs.File.{LawfulFile, contents};
 ghost use Rattle.adf_salvage.specs.Salvaged.{HasState};
 ghost use Rattle.adf_salvage.specs.Sound.{IsSoundHeader, IsWhole};
 ghost use Rattle.adf_salvage.specs.steps.Claims.{AreClaims};
@@ -15,7 +15,7 @@ use adf_block::layout::SIZE;
 use ados_data::read_at;
 use std::alloc::{AllocError, Global};
 
-/// What a sound header is of, and how much is left of a file. Of one that is not whole nothing is told yet.
+/// Whether a sound header is a directory, a whole file or a broken one. A broken file has no bytes yet.
 pub(crate) fn state_of(
     alloc: Global,
     image: &Image,

@@ -1,8 +1,9 @@
-//! What a sound header tells.
+//! The entry of a sound header.
 ghost use Rattle.std.specs.Prelude.{◌≡◌, ◌<◌, ◌≤◌, length, IfOk};
 ghost use Rattle.adf_block.specs.Image.{block_count, byte_at};
-ghost use Rattle.adf_block.specs.Fields.{comment_byte, date_long, text_at};
-ghost use Rattle.ados_tree.specs.Dates.{date_at};
+ghost use Rattle.adf_block.specs.Layout.{comment_byte, date_long};
+ghost use Rattle.adf_block.specs.Whole.{text_at};
+ghost use Rattle.ados_model.specs.Stands.{date_at};
 ghost use Rattle.adf_salvage.specs.Salvaged.{IsSalvaged};
 ghost use Rattle.adf_salvage.specs.Sound.{IsSoundHeader};
 ghost use Rattle.adf_salvage.specs.steps.Claims.{AreClaims};
@@ -59,7 +60,7 @@ fn date_of(image: &Image, block: u32) -> Date3
     }
 }
 
-/// The comment of a header.
+/// The comment in a header.
 fn comment_of(image: &Image, block: u32) -> Comment
     requires inside { block < block_count image.now }
     requires short { byte_at image.now block comment_byte ≤ 79 }
@@ -68,7 +69,7 @@ fn comment_of(image: &Image, block: u32) -> Comment
     as_comment(comment_text(image, block))
 }
 
-/// The bytes of the comment of a header.
+/// The bytes of the comment in a header.
 fn comment_text(image: &Image, block: u32) -> &[u8]
     requires inside { block < block_count image.now }
     requires short { byte_at image.now block comment_byte ≤ 79 }
@@ -80,7 +81,7 @@ fn comment_text(image: &Image, block: u32) -> &[u8]
     &image.block(block)[start..start + length]
 }
 
-/// A text as a comment.
+/// These bytes as a comment.
 fn as_comment(text: &[u8]) -> Comment
     requires { length text.now ≤ 79 }
     ensures { result ≡ text.now }

@@ -1,4 +1,4 @@
-//! The sound headers that no chain led to.
+//! The sound headers that no hash chain leads to.
 ghost use Rattle.std.specs.Prelude.{◌≡◌, ℕ, length, IsSome, OnOk};
 ghost use Rattle.adf_block.specs.Image.{block_count};
 ghost use Rattle.adf_salvage.specs.Sound.{IsSoundHeader};
@@ -13,7 +13,7 @@ use adf_block::Image;
 use adf_block::layout::{DIRECTORY_TYPE, PARENT, SECONDARY_TYPE};
 use std::alloc::{AllocError, Global};
 
-/// Adds each sound header that was not met, a directory before what names it as its parent.
+/// Adds each sound header that was not found yet. A directory comes before the entries that name it as their parent.
 pub(crate) fn add_unreached(
     alloc: Global,
     image: &Image,
@@ -35,7 +35,7 @@ pub(crate) fn add_unreached(
     Ok(())
 }
 
-/// Adds a header, behind the directories above it that were not met.
+/// Adds a header after the directories above it that were not found yet.
 fn add_with_parents(
     alloc: Global,
     image: &Image,
@@ -72,7 +72,7 @@ fn add_with_parents(
     add_found(alloc, image, claims, block, gathered)
 }
 
-/// Adds a header that no chain led to, unless it was met.
+/// Adds a header that no hash chain leads to, unless it was found already.
 fn add_found(
     alloc: Global,
     image: &Image,
@@ -93,7 +93,7 @@ fn add_found(
     gathered.add(alloc, image, claims, block, &front, true)
 }
 
-/// The path of the directory for what was found in another one: by that one's path, if it was met.
+/// The path of the directory for a recovered entry: that of its parent, if that was found.
 fn front_of(alloc: Global, gathered: &Gathered, parent: u32) -> Result<Vec<u8>, AllocError> {
     let Some(entry) = gathered.entry(parent) else {
         return joined(alloc, &[], LOST_AND_FOUND);

@@ -1,4 +1,4 @@
--- Fields read off the front of bytes.
+-- Fields at the start of bytes.
 use Rattle.std.proofs.Common.{◌≡◌, ◌≢◌, ◌≤◌, ◌<◌, inl, inr, ℕ, suc, ℤ, false, List, [], ◌∷◌, ◌++◌, length, replicate, get_or, Option, Bor, refl, sym, ap, subst, ◌∙◌, arith, append_assoc}
 use Rattle.std.specs.Prelude.{◌||◌, Some, None, MatchOption, All}
 use Rattle.std.specs.Str.Parse.{AllDigits}
@@ -37,7 +37,7 @@ value_plain values n bytes s = elim s [
   | inr w ↦ ap (has_byte 32) w.2 ∙ other_byte 36 w.1 (omega arith) (number_plain w.0 w.1 w.3)
 ]
 
--- bytes are cut in one way
+-- bytes are cut in only one way
 pub cut_unique : (a c b d : List ℕ) → has_byte 32 a ≡ false → has_byte 32 c ≡ false → IsBehind b → IsBehind d → a ++ b ≡ c ++ d → (a ≡ c) × (b ≡ d)
 cut_unique a c [] [] no_a no_c at_b at_d e = (sym (append-nil a) ∙ e ∙ append-nil c, refl)
 cut_unique a c [] (y ∷ ys) no_a no_c at_b at_d e =
@@ -48,7 +48,7 @@ cut_unique a c (x ∷ xs) (y ∷ ys) no_a no_c at_b at_d e =
     let same = split_unique 32 a c xs ys no_a no_c (sym (ap (λ z. a ++ z ∷ xs) at_b) ∙ e ∙ ap (λ z. c ++ z ∷ ys) at_d)
     in (same.0, λ i. (at_b ∙ sym at_d) i ∷ same.1 i)
 
--- what stands behind a field
+-- the bytes after a field
 pub behind_fields : (values : List (Option ℕ)) (fields : List Field) (bytes : List ℕ) → SpellsFields values fields bytes → IsBehind bytes
 behind_fields values [] bytes s = subst IsBehind (sym s) tt
 behind_fields values (field ∷ fields) bytes s = subst IsBehind (sym s.2) refl
@@ -121,7 +121,7 @@ module _ (values : List (Option ℕ)) (rest : List ℕ) where
     pub text_too_long : (length text ≤ 255 → ⊥) → ReadsNone values a_text rest
     text_too_long long other fields s = long (subst (λ t. length t ≤ 255) (same_text other s.0 s.1 s.2 s.3.0.0 s.3.0.1).0 s.3.1)
 
--- what a look for a text in quotes came to
+-- the result of a search for a text in quotes
 pub long_text_found : (values : List (Option ℕ)) (rest : List ℕ) (found : Option (Bor (List ℕ) × Bor (List ℕ)))
     → MatchOption found
     ((line text behind : List ℕ) → rest ≡ 32 ∷ (34 ∷ line) → ¬ (IsSplit 34 line text behind))
@@ -130,7 +130,7 @@ pub long_text_found : (values : List (Option ℕ)) (rest : List ℕ) (found : Op
 long_text_found values rest None none = long_text_reads_none values rest none
 long_text_found values rest (Some parts) some = long_text_reads values rest parts.0.now parts.1.now some
 
--- the bytes of a text are bytes
+-- the elements of a text are bytes
 pub text_bytes : (rest text behind : List ℕ) → (line : List ℕ) × (rest ≡ 32 ∷ (34 ∷ line)) × IsSplit 34 line text behind
     → ((i : ℕ) → get_or rest i 0 < 256) → All (λ c. c < 256) text
 text_bytes rest text behind is_split bytes i d within =

@@ -1,4 +1,4 @@
--- Lemmas on the words, pieces, fields and numbers of lines, and then on what a script has told so far.
+-- Lemmas about the words, parts, fields and numbers of lines, and about the output of a script so far.
 pub mod Splitting
 pub mod LineLemmas
 pub mod Numerals

@@ -1,4 +1,4 @@
--- The first line of a script, and the packet lines that are left behind it.
+-- The first line of a script, and the remaining packet lines.
 use Rattle.std.proofs.Common.{◌≡◌, ℕ, ◌+◌, ◌<◌, true, false, cond, List, [], ◌∷◌, ◌++◌, length, slice_get, refl, sym, ap, ◌∙◌, arith, append_assoc, append-nil, length-append}
 use Rattle.std.specs.Prelude.{Some, not, filter}
 use Rattle.std.specs.List.{enumerate_from}
@@ -17,7 +17,7 @@ lines_of-ended (x ∷ xs) rest h =
     let tests = or_false _ _ h
     in ap (λ b. cond b ([] ∷ lines_of (xs ++ 10 ∷ rest)) (on_first x (lines_of (xs ++ 10 ∷ rest)))) tests.0 ∙ ap (on_first x) (lines_of-ended xs rest tests.1)
 
--- a last line without one
+-- a last line without a line feed
 pub lines_of-last : (line : List ℕ) → has_byte 10 line ≡ false → 0 < length line → lines_of line ≡ line ∷ []
 lines_of-last [] h some = absurd (omega (arith, some))
 lines_of-last (x ∷ []) h some = ap (λ b. cond b ([] ∷ []) ((x ∷ []) ∷ [])) (or_false _ _ h).0

@@ -1,4 +1,4 @@
--- What numbers are made of.
+-- The bytes of numbers.
 use Rattle.std.proofs.Common.{inl, inr, ℕ, zero, suc, ◌<◌, ℤ, List, [], ◌∷◌, get_or, sym, subst, arith}
 use Rattle.std.specs.Str.{IsUtf8}
 use Rattle.std.specs.Str.Parse.{AllDigits}
@@ -15,11 +15,11 @@ minus_below : (ds : List ℕ) → AllDigits 10 ds → (i : ℕ) → get_or (45 �
 minus_below ds all zero = omega arith
 minus_below ds all (suc i) = digits_below ds all i
 
--- a number is text
+-- a number is UTF-8
 pub number_is_text : (n : ℕ) (bytes : List ℕ) → IsNumber n bytes → IsUtf8 bytes
 number_is_text n bytes s = IsUtf8-from_ascii bytes (digits_below bytes s.0.1)
 
--- a signed number is text
+-- a signed number is UTF-8
 pub signed_is_text : (z : ℤ) (bytes : List ℕ) → IsSigned z bytes → IsUtf8 bytes
 signed_is_text z bytes s = elim s [
   | inl w ↦ IsUtf8-from_ascii bytes (digits_below bytes w.1.0.1)

@@ -1,14 +1,13 @@
--- What lines tell, one after another, is the text of one run of them.
+-- The output of lines, one after the other, is that of one run.
 use Rattle.std.proofs.Common.{◌≡◌, ℕ, ◌+◌, Bool, true, false, List, [], ◌∷◌, ◌++◌, length, slice_get, refl, sym, ap, subst, ◌∙◌, arith, append_assoc, length-append}
 use Rattle.std.specs.Prelude.{Option, flat_map}
 use Rattle.std.specs.Bool.{MatchBool}
 use Rattle.std.proofs.lemmas.List.{map-append}
 use Rattle.std.proofs.lemmas.Grind.{flat_map-append}
 use Rattle.std.proofs.lemmas.Option.{none-some}
-use Rattle.ados_packet.specs.declared.packet.Packet.{Packet}
-use Rattle.ados_packet.specs.declared.answer.Answer.{Answer}
-use Rattle.ados_port.specs.Port.{PortState}
-use Rattle.ados_port.specs.History.{PortHistory}
+use Rattle.ados_model.specs.declared.packet.Packet.{Packet}
+use Rattle.ados_model.specs.declared.answer.Answer.{Answer}
+use Rattle.ados_port.specs.History.{PortState, PortHistory}
 use Rattle.ados_port.specs.Lawful.{numbered}
 use Rattle.ados_port.proofs.Histories.{history_nil}
 use Rattle.ados_port.proofs.Joining.{history_joins}
@@ -22,13 +21,13 @@ use Rattle.adf_script.specs.Told.LinesTell.{ended, answered, closed, faulty}
 use Rattle.adf_script.specs.Ran.{Ending, AtEnd, AtClosed, AtFault, EndsWith, is_whole, last_steps, last_outcomes, last_line, TellsRun, LinesAreOneRun}
 use Rattle.adf_script.proofs.Pushing.{numbered-push, reply_lines-push, packets-answered}
 
--- the first behind a list
+-- the first element after a list
 slice_get-behind : {X : Type 0} (xs ys : List X) → slice_get (xs ++ ys) (length xs) ≡ slice_get ys 0
 slice_get-behind [] ys = refl
 slice_get-behind (x ∷ xs) ys = slice_get-behind xs ys
 
 module _ {S M : Type 0} (gives : S → Packet → M → S → Answer → Type 0) (has_died : S → Bool) (opening : PortState S Packet Answer) (moment : M) (all : List (ℕ × List ℕ)) where
-  -- the run of the lines that are behind, where these are left and the replies have these values
+  -- the run of the lines so far, with these lines left and these values of replies
   record Before (port : PortState S Packet Answer) (lines : List (ℕ × List ℕ)) (values : List (Option ℕ)) (next : ℕ) : Type 0 where
     passed : List (ℕ × List ℕ)
     packets : List Packet
@@ -57,11 +56,11 @@ module _ {S M : Type 0} (gives : S → Packet → M → S → Answer → Type 0)
   }
 
   module _ {port : PortState S Packet Answer} {lines : List (ℕ × List ℕ)} {values : List (Option ℕ)} {next : ℕ} (before : Before port lines values next) where
-    -- the next line is the first that is left
+    -- the next line is the first of the remaining ones
     next_line : slice_get all (length before.packets) ≡ slice_get lines 0
     next_line = ap (slice_get all) before.many_lines ∙ ap (λ l. slice_get l (length before.passed)) before.lines_are ∙ slice_get-behind before.passed lines
 
-    -- what the lines behind told, and then this last one
+    -- the output of the lines so far, then this last line
     tells_last : (ending : Ending) → EndsWith all before.answers (length before.packets) ending → (closing : PortState S Packet Answer)
         → PortHistory gives has_died port (last_steps ending) (last_outcomes ending) closing
         → TellsRun gives has_died opening moment all (reply_lines 1 1 before.answers ++ last_line (length before.answers) ending) (is_whole ending)
@@ -111,14 +110,14 @@ module _ {S M : Type 0} (gives : S → Packet → M → S → Answer → Type 0)
               (history_joins gives has_died opening steps outcomes port before.history (steps_of moment packet) (outcomes_of (record { number = next; answer = answer })) new history));
         }
 
-    -- its line stands behind those of the replies before
+    -- its line follows those of earlier replies
     text_behind : (answer : Answer) (text : List ℕ) → reply_lines 1 1 (before.answers ++ answer ∷ []) ++ text ≡ reply_lines 1 1 before.answers ++ (reply_line 1 next answer ++ text)
     text_behind answer text =
         let numbers : 1 + length before.answers ≡ next = omega (arith, before.next_is)
         in ap (λ l. l ++ text) (reply_lines-push 1 1 before.answers answer ∙ ap (λ n. reply_lines 1 1 before.answers ++ reply_line 1 n answer) numbers)
         ∙ append_assoc (reply_lines 1 1 before.answers) (reply_line 1 next answer) text
 
-  -- what the lines that are left tell ends the run of those behind
+  -- the output of the remaining lines completes the run
   tells_run : {port : PortState S Packet Answer} {lines : List (ℕ × List ℕ)} {values : List (Option ℕ)} {next : ℕ} {text : List ℕ} {whole : Bool}
       → LinesTell gives has_died moment port lines values next text whole → (before : Before port lines values next)
       → TellsRun gives has_died opening moment all (reply_lines 1 1 before.answers ++ text) whole

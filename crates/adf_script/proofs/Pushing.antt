@@ -1,9 +1,9 @@
--- One more reply or packet at the end.
+-- One more reply or packet.
 use Rattle.std.proofs.Common.{◌≡◌, ℕ, ◌+◌, inl, inr, List, [], ◌∷◌, ◌++◌, length, take, sym, ap, subst, ◌∙◌, arith, append_assoc, length-append}
 use Rattle.std.proofs.lemmas.List.{append-nil, take-append-le, take_all}
 use Rattle.std.proofs.lemmas.Option.{slice_get_within}
-use Rattle.ados_packet.specs.declared.packet.Packet.{Packet}
-use Rattle.ados_packet.specs.declared.answer.Answer.{Answer}
+use Rattle.ados_model.specs.declared.packet.Packet.{Packet}
+use Rattle.ados_model.specs.declared.answer.Answer.{Answer}
 use Rattle.ados_port.specs.Lawful.{numbered}
 use Rattle.ados_port.proofs.Histories.{slice_get-push_at}
 use Rattle.adf_script.specs.Values.{answer_values}
@@ -39,7 +39,7 @@ packets-push lines answers packets packet as_many each puts i p at_i = elim (sli
       (subst (λ n. NextPuts lines (answer_values answers) n p) (sym w.0) (subst (NextPuts lines (answer_values answers) (length packets)) (sym w.1) puts))
 ]
 
--- and its answer
+-- one more answer
 pub packets-answered : (lines : List (ℕ × List ℕ)) (answers : List Answer) (packets : List Packet) (packet : Packet) (answer : Answer) → length packets ≡ length answers
     → ArePackets lines answers packets → NextPuts lines (answer_values answers) (length packets) packet → ArePackets lines (answers ++ answer ∷ []) (packets ++ packet ∷ [])
 packets-answered lines answers packets packet answer as_many each puts i p at_i =

@@ -1,10 +1,10 @@
--- One packet through a port that nothing waits at.
+-- One packet through a port where none waits.
 use Rattle.std.proofs.Common.{◌≡◌, ◌≢◌, ◌⊎◌, inl, inr, ℕ, ◌+◌, ◌-◌, Bool, true, false, List, [], ◌∷◌, ◌++◌, sym, ap, subst, ◌∙◌}
 use Rattle.std.specs.Prelude.{slice_set, Some}
 use Rattle.std.specs.Bool.{MatchBool}
-use Rattle.ados_packet.specs.declared.packet.Packet.{Packet}
-use Rattle.ados_packet.specs.declared.answer.Answer.{Answer}
-use Rattle.ados_port.specs.Port.{ClientState, PortState, client_state}
+use Rattle.ados_model.specs.declared.packet.Packet.{Packet}
+use Rattle.ados_model.specs.declared.answer.Answer.{Answer}
+use Rattle.ados_port.specs.History.{ClientState, PortState, client_state}
 use Rattle.ados_port.specs.Steps.{PutGives, ServeGives, TakeGives}
 use Rattle.ados_port.specs.PutRefused.TheVariants.{Closed, NoRoom}
 use Rattle.ados_port.specs.Reply.{Reply}
@@ -17,7 +17,7 @@ module _ {S : Type 0} where
   abbrev put_port : S → ℕ → Packet → PortState S Packet Answer
   put_port server count packet = record { server = server; clients = record { accepted = count + 1; taken = count; untaken = [] } ∷ []; waiting = (1, packet) ∷ [] }
 
-  -- its reply is there
+  -- its reply is ready
   abbrev served_port : S → ℕ → Answer → PortState S Packet Answer
   served_port server count answer = record { server = server; clients = record { accepted = count + 1; taken = count; untaken = answer ∷ [] } ∷ []; waiting = [] }
 
@@ -71,7 +71,7 @@ module _ {S M : Type 0} (gives : S → Packet → M → S → Answer → Type 0)
       in let is_reply : reply ≡ record { number = count + 1; answer = w.0 } = let e = w.3 in cc
       in (ap (λ r. r.number) is_reply, w.4 ∙ ap (λ l. record { server = server; clients = record { accepted = count + 1; taken = count + 1; untaken = l } ∷ []; waiting = [] }) is_rest)
 
-  -- a packet that was put and served has its reply
+  -- a packet that was put and served has a reply
   pub reply_is_there : (old : PortState S Packet Answer) (count : ℕ) → IsQuiet old count → (packet : Packet) (moment : M) (number : ℕ) (put served new : PortState S Packet Answer) (outcome last : Outcome Packet Answer)
       → PutGives has_died old 1 packet (Accepted number) put → ServeGives gives put moment outcome served → TakeGives served 1 last new
       → ((reply : Reply Answer) → last ≢ Taken reply) → ⊥

@@ -1,4 +1,4 @@
--- Bytes split at the first of a separating byte.
+-- Splits at a separating byte.
 use Rattle.std.proofs.Common.{◌≡◌, ℕ, suc, ◌+◌, ◌<◌, ◌≤◌, Bool, true, false, cond, nat_lt, ◌⊎◌, inl, inr, List, [], ◌∷◌, ◌++◌, length, take, drop, Option, Some, None, MatchOption, refl, sym, ap, subst, ◌∙◌, arith, eq-eqb}
 use Rattle.std.specs.Prelude.{not, ◌||◌, ◌==◌}
 use Rattle.std.specs.List.{position, position_or_len}
@@ -18,7 +18,7 @@ or_false false b e = (refl, e)
 pub true_is_false : {P : Type 0} (b : Bool) → b ≡ true → b ≡ false → P
 true_is_false b is isn't = cc
 
--- the separator stands in a list that has it
+-- a list with the separator has it
 pub has_byte-split : (separator : ℕ) (front rest : List ℕ) → has_byte separator (front ++ separator ∷ rest) ≡ true
 has_byte-split separator [] rest = ap (λ b. b || has_byte separator rest) (eq-eqb separator separator refl)
 has_byte-split separator (x ∷ xs) rest = ap (λ b. (x == separator) || b) (has_byte-split separator xs rest) ∙ last (x == separator)
@@ -27,7 +27,7 @@ has_byte-split separator (x ∷ xs) rest = ap (λ b. (x == separator) || b) (has
     last true = refl
     last false = refl
 
--- a list is split in one way
+-- a list is split in only one way
 pub split_unique : (separator : ℕ) (a c b d : List ℕ) → has_byte separator a ≡ false → has_byte separator c ≡ false
     → a ++ separator ∷ b ≡ c ++ separator ∷ d → (a ≡ c) × (b ≡ d)
 split_unique separator [] [] b d no_a no_c e = (refl, cc)
@@ -47,7 +47,7 @@ module _ (separator : ℕ) where
   abbrev is_separator : ℕ → Bool
   is_separator = λ byte. byte == separator
 
-  -- how far it is to the first one
+  -- the position of the first separator
   abbrev place : List ℕ → ℕ
   place bytes = position_or_len is_separator bytes
 
@@ -85,7 +85,7 @@ module _ (separator : ℕ) where
         )
   ]
 
-  -- what `position` finds
+  -- the result of `position`
   pub split_at : (bytes : List ℕ) (found : Option ℕ) → found ≡ position is_separator bytes → MatchOption found (has_byte separator bytes ≡ false) (Split bytes)
   split_at bytes found e = subst (λ o. MatchOption o (has_byte separator bytes ≡ false) (Split bytes)) (sym e)
       (elim (true_or_false (nat_lt (place bytes) (length bytes))) [

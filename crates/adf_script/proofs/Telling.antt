@@ -1,4 +1,4 @@
--- What a script has told so far, line after line.
+-- The output of a script so far, line by line.
 use Rattle.std.proofs.Common.{◌≡◌, ℕ, zero, suc, ◌+◌, inl, inr, Bool, true, false, List, [], ◌∷◌, ◌++◌, length, take, drop, slice_get, refl, sym, ap, subst, ◌∙◌, arith, append_assoc, length-append}
 use Rattle.std.specs.Prelude.{Option, Some, None}
 use Rattle.std.specs.Bool.{MatchBool}
@@ -6,10 +6,9 @@ use Rattle.std.specs.Io.KnownBytes.{Appends, Consumes, IsAtEnd, Keeps}
 use Rattle.std.proofs.lemmas.List.{take_all, length-take}
 use Rattle.std.proofs.lemmas.Bool.{cases_lt, lt-ltb}
 use Rattle.std.proofs.lemmas.Option.{none-some, same_Some}
-use Rattle.ados_packet.specs.declared.packet.Packet.{Packet}
-use Rattle.ados_packet.specs.declared.answer.Answer.{Answer}
-use Rattle.ados_port.specs.Port.{PortState}
-use Rattle.ados_port.specs.History.{PortHistory}
+use Rattle.ados_model.specs.declared.packet.Packet.{Packet}
+use Rattle.ados_model.specs.declared.answer.Answer.{Answer}
+use Rattle.ados_port.specs.History.{PortState, PortHistory}
 use Rattle.ados_port.specs.Steps.{StepGives}
 use Rattle.ados_port.specs.Step.TheVariants.{Put, Serve, Take}
 use Rattle.ados_port.specs.PutRefused.TheVariants.{Closed}
@@ -27,7 +26,7 @@ use Rattle.adf_script.specs.Streams.{Writes, ReadsAndWrites}
 use Rattle.adf_script.proofs.Quiet.{put_closed}
 use Rattle.std.proofs.KnownBytes.{Appends-nil as appends_nothing, Appends-trans as appends_more, Appends-kept as appends_kept}
 
--- what is left from an element on, and where there is none
+-- the rest of a list from an element, and from none
 drop-next : {X : Type 0} (xs : List X) (i : ℕ) (x : X) → slice_get xs i ≡ Some x → drop i xs ≡ x ∷ drop (suc i) xs
 drop-next [] i x h = absurd (none-some x h)
 drop-next (y ∷ ys) zero x h = ap (λ z. z ∷ ys) (same_Some y x h)
@@ -40,7 +39,7 @@ drop-none (y ∷ ys) zero h = absurd (none-some y (sym h))
 drop-none (y ∷ ys) (suc i) h = drop-none ys i h
 
 module _ {S M : Type 0} (gives : S → Packet → M → S → Answer → Type 0) (has_died : S → Bool) where
-  -- the history of a packet that went through
+  -- the history of one packet
   history_of_call : (moment : M) (old new : PortState S Packet Answer) (packet : Packet) (reply : Reply Answer) → Calls gives has_died moment old packet reply new
       → PortHistory gives has_died old (steps_of moment packet) (outcomes_of reply) new
   history_of_call moment old new packet reply calls =
@@ -49,7 +48,7 @@ module _ {S M : Type 0} (gives : S → Packet → M → S → Answer → Type 0)
       in (grow gives has_died old _ _ calls.served two (Take 1) (Taken reply) new calls.takes).history
 
 module _ {S M : Type 0} (gives : S → Packet → M → S → Answer → Type 0) (has_died : S → Bool) (opening : PortState S Packet Answer) (moment : M) (script : List ℕ) (contents : Option (List ℕ)) where
-  -- what the lines of the script tell, and what these and all behind them tell from a port on, in which so many replies were taken
+  -- the output of the script's lines, and of the remaining lines from a port after this many replies
   abbrev AllTell : List ℕ → Bool → Type 0
   AllTell text whole = LinesTell gives has_died moment opening (kept_lines script) [] 1 text whole
 
@@ -59,7 +58,7 @@ module _ {S M : Type 0} (gives : S → Packet → M → S → Answer → Type 0)
   abbrev RestTells : PortState S Packet Answer → List (Option ℕ) → List ℕ → Bool → Type 0
   RestTells port values text whole = TellOn port (drop (length values) (kept_lines script)) values text whole
 
-  -- after replies of these values: whatever the rest of the lines tells, the script tells behind what is written
+  -- after replies with these values: whatever the remaining lines print, the script prints after the text so far
   pub record SoFar (values : List (Option ℕ)) (port : PortState S Packet Answer) (now : Option (List ℕ)) : Type 0 where
     pub quiet : IsQuiet port (length values)
     pub told : List ℕ
@@ -75,7 +74,7 @@ module _ {S M : Type 0} (gives : S → Packet → M → S → Answer → Type 0)
   nothing_told quiet = record { quiet = quiet; told = []; written = appends_nothing contents; tells = λ text whole rest. rest }
 
   module _ (values : List (Option ℕ)) (port : PortState S Packet Answer) (now : Option (List ℕ)) (sofar : SoFar values port now) where
-    -- the lines end with this text behind what is written
+    -- the lines end with this text after the text so far
     told_last : (text : List ℕ) (whole : Bool) (after : Option (List ℕ)) → is_too_long script ≡ false → RestTells port values text whole → Appends now after text
         → Writes contents after (λ written. Told gives has_died opening moment script written whole)
     told_last text whole after short rest more = (
@@ -138,7 +137,7 @@ module _ {S M : Type 0} (gives : S → Packet → M → S → Answer → Type 0)
       in let is_fault : Faulty = (refl, refl)
       in subst (λ b. MatchBool b Faulty (LinesTell gives has_died moment opening (kept_lines script) [] 1 (fault_line 1 0) false)) (sym long) is_fault
 
-  -- the front of a script tells what the script does
+  -- the start of a script has the same output as the script
   pub told_of_front : (script kept written : List ℕ) (whole : Bool) → kept ≡ take 1048577 script → Told gives has_died opening moment kept written whole → Told gives has_died opening moment script written whole
   told_of_front script kept written whole is_front told = elim (cases_lt 1048576 (length script)) [
     | inl long ↦
@@ -150,7 +149,7 @@ module _ {S M : Type 0} (gives : S → Packet → M → S → Answer → Type 0)
     | inr short ↦ subst (λ l. Told gives has_died opening moment l written whole) (is_front ∙ take_all 1048577 script (omega (arith, short))) told
   ]
 
-  -- from the streams of a run to all that was read
+  -- from the streams of a run to everything that was read
   pub told_through : (reader_old reader_new writer_old writer_mid writer_new : Option (List ℕ)) (kept view : List ℕ) (whole : Bool) → view ≡ kept
       → (script : List ℕ) × Consumes reader_old reader_new script × IsAtEnd reader_new × (kept ≡ take 1048577 script)
       → Keeps writer_mid writer_new

@@ -1,8 +1,8 @@
--- Which packets a word puts.
+-- The packets of a word.
 use Rattle.std.proofs.Common.{◌≡◌, ◌≢◌, Bool, true, false, ℕ, List, [], ◌∷◌, ◌++◌, Option, Some, None, MatchOption, refl, sym, ap, subst, ◌∙◌}
 use Rattle.std.specs.Prelude.{◌==◌, ◌&&◌, if◌then◌else◌, Result, Ok, Err, IfOk}
-use Rattle.ados_packet.specs.declared.packet.Packet.{Packet}
-use Rattle.ados_packet.specs.declared.packet.Packet.TheVariants as packet
+use Rattle.ados_model.specs.declared.packet.Packet.{Packet}
+use Rattle.ados_model.specs.declared.packet.Packet.TheVariants as packet
 use Rattle.adf_script.specs.declared.words.Word.{Word}
 use Rattle.adf_script.specs.declared.words.Word.TheVariants.{Die, Locate, RenameDisk, Free, Delete, Rename, Copy, Protect, MakeDir, Examine, Next, DiskInfo, Info, Comment, Parent, Date, Same, Read, Write, Update, Input, Output, End, Seek, Size, Other}
 use Rattle.adf_script.specs.declared.words.TheConstants.Word.{ALL}
@@ -56,7 +56,7 @@ spelled_once a b e =
     let same : Some a ≡ Some b = sym (by_spelling a) ∙ ap (λ l. word_of l ALL) e ∙ by_spelling b
     in cc
 
--- the word of a packet's line
+-- the word for a packet
 abbrev kind_of : Packet → Word
 kind_of packet.Die = Die
 kind_of (packet.LocateObject lock path mode) = Locate
@@ -169,11 +169,11 @@ each_of (packet.Seek handle offset mode) Fact each = each handle offset mode
 each_of (packet.SetFileSize handle offset mode) Fact each = each handle offset mode
 each_of (packet.Other action) Fact each = each action
 
--- a fact of all packets with this word
+-- a fact about all packets with this word
 of_word : (word : Word) (Fact : Packet → Type 0) → EachOf word Fact → (p : Packet) → (form_of p).0 ≡ spelling word → Fact p
 of_word word Fact each p e = each_of p Fact (subst (λ w. EachOf w Fact) (spelled_once word (kind_of p) (sym e ∙ kind_spelled p)) each)
 
--- what follows where the answer is Ok
+-- a consequence for an Ok result
 pub if_ok_map : {T E : Type 0} (r : Result T E) (P Q : T → Type 0) → ((x : T) → P x → Q x) → IfOk r P → IfOk r Q
 if_ok_map (Ok x) P Q f h = f x h
 if_ok_map (Err e) P Q f h = h
@@ -184,11 +184,11 @@ module _ (values : List (Option ℕ)) (line front rest : List ℕ) (is_cut : IsC
       cut_unique (form_of p).0 front s.0 rest (ap (has_byte 32) (kind_spelled p) ∙ word_plain (kind_of p)) is_cut.plain
       (behind_fields values (form_of p).1 s.0 s.2) is_cut.ended (sym s.1 ∙ is_cut.whole)
 
-  -- a line that begins with no word
+  -- a line that starts with no word
   pub unknown_word : ((word : Word) → front ≢ spelling word) → IsFaulty values line
   unknown_word none p s = none (kind_of p) (sym (front_and_rest p s).0 ∙ kind_spelled p)
 
-  -- a line that begins with a word
+  -- a line that starts with a word
   pub known_word : (word : Word) → front ≡ spelling word → (found : Option Packet) → Puts word values rest found
       → MatchOption found (IsFaulty values line) (λ p. IsPacketLine values p line)
   known_word word is_front None none = λ p s.

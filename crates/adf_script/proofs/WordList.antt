@@ -1,11 +1,11 @@
--- The words of lines: each stands in the list of all, and no two have one spelling.
+-- The words of lines: each is in the list of all, and no two have the same spelling.
 use Rattle.std.proofs.Common.{◌≡◌, ◌≢◌, ℕ, ◌<◌, List, get_or, refl, sym, ap, ◌∙◌, arith}
 use Rattle.adf_script.specs.declared.words.Word.{Word}
 use Rattle.adf_script.specs.declared.words.Word.TheVariants.{Die, Locate, RenameDisk, Free, Delete, Rename, Copy, Protect, MakeDir, Examine, Next, DiskInfo, Info, Comment, Parent, Date, Same, Read, Write, Update, Input, Output, End, Seek, Size, Other}
 use Rattle.adf_script.specs.declared.words.TheConstants.Word.{ALL}
 use Rattle.adf_script.specs.steps.Words.{spelling}
 
--- where a word stands in the list
+-- the position of a word in the list
 abbrev pub place_of : Word → ℕ
 place_of Die = 0
 place_of Locate = 1
@@ -90,6 +90,6 @@ within Seek = omega arith
 within Size = omega arith
 within Other = omega arith
 
--- no word of the list is spelled
+-- no word of the list has this spelling
 pub none_spelled : (bytes : List ℕ) → ((k : ℕ) → k < 26 → bytes ≢ spelling (get_or ALL k Die)) → (word : Word) → bytes ≢ spelling word
 none_spelled bytes none word e = none (place_of word) (within word) (e ∙ sym (ap spelling (listed word)))

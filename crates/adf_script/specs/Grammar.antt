@@ -1,8 +1,8 @@
--- How a line of a script spells a packet.
+-- The packet that a line of a script stands for.
 use Rattle.std.specs.Prelude.{◌≡◌, ◌⊎◌, ℕ, zero, suc, ◌^◌, ◌<◌, ◌≤◌, ℤ, pos, negsuc, false, List, [], ◌∷◌, ◌++◌, length, replicate, Option, Some, codes}
 use Rattle.std.specs.Str.Parse.{IsNumeral, digits_value}
-use Rattle.ados_packet.specs.declared.packet.Packet.{Packet}
-use Rattle.ados_packet.specs.declared.packet.Packet.TheVariants.{Die, LocateObject, RenameDisk, FreeLock, DeleteObject, RenameObject, CopyDir, SetProtect, CreateDir, ExamineObject, ExamineNext, DiskInfo, Info, SetComment, Parent, SetDate, SameLock, Read, Write, FindUpdate, FindInput, FindOutput, End, Seek, SetFileSize, Other}
+use Rattle.ados_model.specs.declared.packet.Packet.{Packet}
+use Rattle.ados_model.specs.declared.packet.Packet.TheVariants.{Die, LocateObject, RenameDisk, FreeLock, DeleteObject, RenameObject, CopyDir, SetProtect, CreateDir, ExamineObject, ExamineNext, DiskInfo, Info, SetComment, Parent, SetDate, SameLock, Read, Write, FindUpdate, FindInput, FindOutput, End, Seek, SetFileSize, Other}
 use Rattle.adf_script.specs.Pieces.{has_byte}
 use Rattle.adf_script.specs.Values.{reply_value}
 
@@ -14,7 +14,7 @@ abbrev pub negative : ℕ → ℤ
 negative zero = pos zero
 negative (suc n) = negsuc n
 
--- a decimal number with an optional `-` in front, in the range of 32 bits
+-- a signed decimal number of 32 bits, with an optional `-`
 abbrev pub IsSigned : ℤ → List ℕ → Type 0
 IsSigned z bytes =
     ((n : ℕ) × IsNumber n bytes × (n < 2 ^ 31) × (z ≡ pos n))
@@ -26,12 +26,12 @@ IsValue values n bytes =
     IsNumber n bytes
     ⊎ ((k : ℕ) × (digits : List ℕ) × (bytes ≡ 36 ∷ digits) × IsNumber k digits × (reply_value values k ≡ Some n))
 
--- a text in quotes, which holds no quote; nor does it hold a line feed, since no line does
+-- a text in quotes, without a quote in it; lines have no line feeds, so neither has the text
 abbrev pub IsQuoted : List ℕ → List ℕ → Type 0
 IsQuoted text bytes = (bytes ≡ 34 ∷ text ++ 34 ∷ []) × (has_byte 34 text ≡ false)
 
--- a field behind a line's word: the number of a lock, a handle or a key; another number, unsigned or signed; a text of at
--- most 255 bytes, and one of any length; how many zeros a buffer has
+-- a field of a line: the number of a lock, handle or key; another number, unsigned or signed; a text of at most 255
+-- bytes, or of any length; the number of zeros in a buffer
 pub data Field : Type 0 where
   Value : (n : ℕ) → Field
   Number : (n : ℕ) → Field
@@ -40,7 +40,7 @@ pub data Field : Type 0 where
   LongText : (text : List ℕ) → Field
   Zeros : (buffer : List ℕ) → Field
 
--- the bytes spell the field, where the replies before have these values
+-- the bytes are this field, with these values of earlier replies
 abbrev pub SpellsField : List (Option ℕ) → Field → List ℕ → Type 0
 SpellsField values (Value n) bytes = IsValue values n bytes
 SpellsField values (Number n) bytes = IsNumber n bytes
@@ -49,13 +49,13 @@ SpellsField values (Text text) bytes = IsQuoted text bytes × (length text ≤ 2
 SpellsField values (LongText text) bytes = IsQuoted text bytes
 SpellsField values (Zeros buffer) bytes = IsNumber (length buffer) bytes × (length buffer ≤ 1048576) × (buffer ≡ replicate (length buffer) 0)
 
--- the bytes spell the fields to the line's end, each behind one space
+-- the bytes are these fields, each after one space, up to the end of the line
 abbrev pub SpellsFields : List (Option ℕ) → List Field → List ℕ → Type 0
 SpellsFields values [] bytes = bytes ≡ []
 SpellsFields values (field ∷ fields) bytes =
     (spelled : List ℕ) × (behind : List ℕ) × (bytes ≡ 32 ∷ (spelled ++ behind)) × SpellsField values field spelled × SpellsFields values fields behind
 
--- the word and the fields of each packet's line
+-- the word and the fields for each packet
 abbrev pub form_of : Packet → List ℕ × List Field
 form_of Die = (codes "die", [])
 form_of DiskInfo = (codes "diskinfo", [])
@@ -84,10 +84,10 @@ form_of (SetFileSize handle offset mode) = (codes "size", Value handle ∷ Signe
 form_of (SameLock first second) = (codes "same", Value first ∷ Value second ∷ [])
 form_of (Other action) = (codes "other", Signed action ∷ [])
 
--- after replies with these values the line puts this packet
+-- with these values of earlier replies, the line stands for this packet
 abbrev pub IsPacketLine : List (Option ℕ) → Packet → List ℕ → Type 0
 IsPacketLine values packet line = (rest : List ℕ) × (line ≡ (form_of packet).0 ++ rest) × SpellsFields values (form_of packet).1 rest
 
--- it puts none
+-- the line stands for no packet
 abbrev pub IsFaulty : List (Option ℕ) → List ℕ → Type 0
 IsFaulty values line = (packet : Packet) → IsPacketLine values packet line → ⊥

@@ -1,7 +1,6 @@
--- From a script to what is printed: its lines, how they spell packets, what replies are worth and print, and what a whole
--- script tells, at a port of its own and among other clients. What only the calls inside speak of stands in steps.
-pub use Rattle.ados_packet.specs.Packet
-pub use Rattle.ados_port.specs.Port
+-- From a script to its output: its lines, their packets, the values and the text of replies, and the output of a whole
+-- script, at its own port and among other clients. Definitions for steps are in `steps`.
+pub use Rattle.ados_model.specs.Packet
 pub use Rattle.ados_port.specs.History
 pub use Rattle.ados_port.specs.Lawful
 pub mod Lines

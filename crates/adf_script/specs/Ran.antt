@@ -1,10 +1,10 @@
--- What a script tells, as one run: its packets go through the port in one history, from the opening to the script's end.
+-- The output of a script as one run: its packets go through the port in one history, from the opening to the script's
+-- end.
 use Rattle.std.specs.Prelude.{◌≡◌, ℕ, ◌+◌, Bool, true, false, List, [], ◌∷◌, ◌++◌, length, flat_map}
 use Rattle.std.specs.Bool.{MatchBool}
-use Rattle.ados_packet.specs.declared.packet.Packet.{Packet}
-use Rattle.ados_packet.specs.declared.answer.Answer.{Answer}
-use Rattle.ados_port.specs.Port.{PortState}
-use Rattle.ados_port.specs.History.{PortHistory}
+use Rattle.ados_model.specs.declared.packet.Packet.{Packet}
+use Rattle.ados_model.specs.declared.answer.Answer.{Answer}
+use Rattle.ados_port.specs.History.{PortState, PortHistory}
 use Rattle.ados_port.specs.Lawful.{numbered}
 use Rattle.ados_port.specs.Step.{Step}
 use Rattle.ados_port.specs.Step.TheVariants.{Put}
@@ -17,7 +17,7 @@ use Rattle.adf_script.specs.Packets.{ArePackets, NextPuts, NextIsFaulty, NoneIsL
 use Rattle.adf_script.specs.Text.{reply_lines, closed_line, fault_line}
 use Rattle.adf_script.specs.Told.{Told, steps_of, outcomes_of}
 
--- how a script comes to its end: with no line left, at a put that is refused as closed, at the faulty line with this number
+-- how a script ends: no line is left, a put is refused as closed, or the line with this number is faulty
 pub data Ending : Type 0 where
   AtEnd : Ending
   AtClosed : (packet : Packet) → Ending
@@ -28,7 +28,7 @@ is_whole AtEnd = true
 is_whole (AtClosed packet) = true
 is_whole (AtFault number) = false
 
--- after these answers and so many packets the lines come to this end
+-- after these answers and this many packets, the lines end this way
 abbrev pub EndsWith : List (ℕ × List ℕ) → List Answer → ℕ → Ending → Type 0
 EndsWith lines answers count AtEnd = NoneIsLeft lines count
 EndsWith lines answers count (AtClosed packet) = NextPuts lines (answer_values answers) count packet
@@ -44,14 +44,14 @@ last_outcomes AtEnd = []
 last_outcomes (AtClosed packet) = Refused (Closed packet) ∷ []
 last_outcomes (AtFault number) = []
 
--- the last line, after these many replies
+-- the last line of the output after this many replies
 abbrev pub last_line : ℕ → Ending → List ℕ
 last_line count AtEnd = []
 last_line count (AtClosed packet) = closed_line 1 (count + 1)
 last_line count (AtFault number) = fault_line 1 number
 
 module _ {S M : Type 0} (gives : S → Packet → M → S → Answer → Type 0) (has_died : S → Bool) (opening : PortState S Packet Answer) (moment : M) where
-  -- the lines' packets went through the port one after another, with these answers and this end
+  -- the packets of the lines went through the port one after the other, with these answers and this end
   pub record Ran (lines : List (ℕ × List ℕ)) (answers : List Answer) (ending : Ending) : Type 0 where
     pub packets : List Packet
     pub each : ArePackets lines answers packets
@@ -62,20 +62,20 @@ module _ {S M : Type 0} (gives : S → Packet → M → S → Answer → Type 0)
         (flat_map outcomes_of (numbered 1 answers) ++ last_outcomes ending)
         closing
 
-  -- the text is that of one run of these lines, which are a whole script or one with a fault
+  -- the text is the output of one run of these lines, a whole script or one with a fault
   abbrev pub TellsRun : List (ℕ × List ℕ) → List ℕ → Bool → Type 0
   TellsRun lines text whole =
       (answers : List Answer) × (ending : Ending) × Ran lines answers ending × (whole ≡ is_whole ending)
       × (text ≡ reply_lines 1 1 answers ++ last_line (length answers) ending)
 
-  -- what is written is the text of one run of the script that was read; of one that is too long, only that
+  -- the output is that of one run of the script that was read; a script that is too long prints one line
   abbrev pub TellsOneRun : List ℕ → List ℕ → Bool → Type 0
   TellsOneRun read written whole =
       MatchBool (is_too_long read)
       ((whole ≡ false) × (written ≡ fault_line 1 0))
       (TellsRun (kept_lines read) written whole)
 
--- what is told of a script line by line is the text of one run of it, in one history of the port from its opening on
+-- the output of a script line by line is that of one run, in one history of the port from its opening
 abbrev pub LinesAreOneRun : {S M : Type 0} (gives : S → Packet → M → S → Answer → Type 0) (has_died : S → Bool) → Type 0
 LinesAreOneRun {S} {M} gives has_died =
     (opening : PortState S Packet Answer) (moment : M) (read written : List ℕ) (whole : Bool)

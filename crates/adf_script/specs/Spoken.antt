@@ -1,8 +1,8 @@
--- What a client of a running port tells of its script.
+-- The output of one client's script at a running port.
 use Rattle.std.specs.Prelude.{◌≡◌, ◌⊎◌, ℕ, ◌+◌, Bool, IsTrue, List, [], ◌++◌, length}
 use Rattle.std.specs.Bool.{MatchBool}
-use Rattle.ados_packet.specs.declared.packet.Packet.{Packet}
-use Rattle.ados_packet.specs.declared.answer.Answer.{Answer}
+use Rattle.ados_model.specs.declared.packet.Packet.{Packet}
+use Rattle.ados_model.specs.declared.answer.Answer.{Answer}
 use Rattle.ados_port.specs.Lawful.{numbered}
 use Rattle.ados_port.specs.Reply.{Reply}
 use Rattle.adf_script.specs.declared.ending.ClientEnding.{ClientEnding}
@@ -12,7 +12,8 @@ use Rattle.adf_script.specs.Values.{answer_values}
 use Rattle.adf_script.specs.Text.{reply_lines, closed_line, fault_line, no_reply_line, no_room_line}
 use Rattle.adf_script.specs.Packets.{ArePackets, NextPuts, NextIsFaulty, NoneIsLeft}
 
--- the last line of a client that has put so many packets and taken these answers; knows: its end knows of the close
+-- the last line of a client that put this many packets and took these answers; `knows`: its end knows that the port is
+-- closed
 abbrev pub SpokenEnd : ℕ → List (ℕ × List ℕ) → List Answer → ℕ → Bool → List ℕ → ClientEnding → Type 0
 SpokenEnd client lines answers puts knows text Done =
     (puts ≡ length answers)
@@ -24,7 +25,7 @@ SpokenEnd client lines answers puts knows text Tries =
     ((puts ≡ length answers) × (packet : Packet) × NextPuts lines (answer_values answers) puts packet × (text ≡ no_room_line client (puts + 1)))
     ⊎ ((puts ≡ length answers + 1) × (text ≡ no_reply_line client puts))
 
--- the client put the packets of its script, took these replies, and its text tells of them
+-- the client put the packets of its script, took these replies, and its text has their lines
 abbrev pub Spoken : ℕ → List ℕ → List Packet → List (Reply Answer) → Bool → List ℕ → ClientEnding → Type 0
 Spoken client script puts taken knows text ending =
     MatchBool (is_too_long script)

@@ -1,5 +1,5 @@
--- What only the calls inside speak of: which words lines begin with, what it is to read their fields, what is left of a script,
--- and what one packet at a port with one client comes to.
+-- Definitions for steps: the first words of lines, the fields of a line, the rest of a script, and the result of
+-- one packet at a port with one client.
 pub mod Words
 pub mod Reading
 pub mod Left

@@ -1,11 +1,11 @@
-//! One packet through a port.
+//! One packet sent through a port.
 ghost use Rattle.std.specs.Prelude.{ℕ};
 ghost use Rattle.adf_script.specs.steps.Calls.{IsQuiet, CallGives};
 
-use ados_packet::{Answer, Packet};
+use ados_model::{Answer, Packet};
 use ados_port::{Exchange, Outcome, PutRefused, Reply, Server, Step};
 
-/// Puts a packet of client 1, serves it and takes its reply.
+/// Puts a packet of client 1, serves it and takes the reply.
 pub(crate) fn call<S>(
     exchange: &mut Exchange<S>,
     moment: S::Moment,

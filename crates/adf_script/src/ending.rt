@@ -1,12 +1,12 @@
-//! How a client comes to the end of its script.
+//! How a client's script ends.
 
-/// How a client of a running port came to its end.
+/// How the script of a client at a running port ended.
 #[derive(Clone, Copy, Debug, PartialEq, Eq)]
 pub enum ClientEnding {
-    /// No line was left, or the port was closed.
+    /// All lines were run, or the port was closed.
     Done,
-    /// A line of the script is faulty, or the script is too long. The text that was told says where.
+    /// A line of the script is faulty, or the script is too long. The last line of the text has the number.
     Script,
-    /// A packet found no room, or a reply did not come, in so many tries.
+    /// A packet found no room, or a reply did not come, within the number of tries.
     Tries,
 }

@@ -1,19 +1,19 @@
-//! Why a script comes to no good end.
+//! The faults of a script's run.
 use adf_io::InputFault;
 use std::alloc::AllocError;
 
-/// Why a script was not run to a good end.
+/// Why a script's run failed.
 #[derive(Clone, Copy, Debug, PartialEq, Eq)]
 pub enum TryFault {
-    /// A line of the script is faulty, or the script is too long. The text that was written says where.
+    /// A line of the script is faulty, or the script is too long. The last line of the written text has the number.
     Script,
     /// The reader failed.
     Read,
-    /// The writer failed, or took nothing.
+    /// The writer failed, or wrote nothing.
     Write,
-    /// There was no memory.
+    /// Out of memory.
     Memory,
-    /// The reader gave no end within 2,097,152 reads.
+    /// The reader did not end within 2,097,152 reads.
     TurnLimit,
 }
 

@@ -1,4 +1,4 @@
-//! Fields behind the word of a line, read off the front of what is left. Each stands behind one space.
+//! Fields after the word of a line. Each follows one space, and a call returns the rest of the line.
 ghost use Rattle.std.specs.Prelude.{◌≡◌, ◌≢◌, ◌∷◌, ◌++◌, [], ℕ, false, List, Option, replicate, IfOk, IfSome, MatchOption};
 ghost use Rattle.ados_name.specs.Path.{IsPathText};
 ghost use Rattle.adf_script.specs.Pieces.{IsCut};
@@ -7,14 +7,14 @@ ghost use Rattle.adf_script.specs.steps.Reading.{IsQuoted, IsUnquoted, a_value, 
 use crate::numbers::{number, value};
 use crate::pieces::{behind, cut, split_once};
 use crate::signed::signed;
+use ados_model::Text;
 use ados_name::{Date3, PathText};
-use ados_packet::Text;
 use std::alloc::{AllocError, Global};
 
-/// The most bytes that a READ of a script asks for.
+/// The most bytes that a READ in a script requests.
 const LONGEST_READ: u32 = 1_048_576;
 
-/// The bytes of a field that has no space, and what stands behind it.
+/// The bytes of a field without spaces, and the rest after it.
 fn plain(rest: &[u8]) -> Option<(&[u8], &[u8])>
     ensures { MatchOption result
         ((line : List ℕ) → rest.now ≢ 32 ∷ line)
@@ -26,7 +26,7 @@ fn plain(rest: &[u8]) -> Option<(&[u8], &[u8])>
     }
 }
 
-/// The bytes of a text between its quotes, and what stands behind it.
+/// The bytes of a text between quotes, and the rest after it.
 fn quoted(rest: &[u8]) -> Option<(&[u8], &[u8])>
     ensures { MatchOption result
         (IsUnquoted rest.now)
@@ -68,7 +68,7 @@ pub(crate) fn signed_field(rest: &[u8]) -> Option<(i32, &[u8])>
     Some((z, behind))
 }
 
-/// How many zeros a READ is to fill: at most 1,048,576.
+/// The number of zeros in the buffer of a READ, at most 1,048,576.
 pub(crate) fn zeros_field(rest: &[u8]) -> Option<(u32, &[u8])>
     ensures { (values : List (Option ℕ)) → MatchOption result
         (ReadsNone values a_buffer rest.now)
@@ -105,7 +105,7 @@ pub(crate) fn text_field(rest: &[u8]) -> Option<(&[u8], &[u8])>
     Some((text, behind))
 }
 
-/// The text of a packet, of bytes that were read as a path, a name or a comment.
+/// These bytes as a packet's text. They were read as a path, a name or a comment.
 pub(crate) fn text_of(alloc: Global, text: &[u8]) -> Result<Text, AllocError>
     requires { IsPathText text.now }
     ensures { IfOk result (λ made. made ≡ text.now) }
@@ -116,7 +116,7 @@ pub(crate) fn text_of(alloc: Global, text: &[u8]) -> Result<Text, AllocError>
     }
 }
 
-/// A lock and a path from its object.
+/// A lock, and a path from its object.
 pub(crate) fn object_fields<'a>(
     values: &[Option<u32>],
     rest: &'a [u8],

@@ -6,7 +6,7 @@ ghost use Rattle.adf_script.specs.declared.words.Word.TheVariants as word;
 
 use crate::fields::{long_text_field, value_field, zeros_field};
 use crate::shapes::{end, object, one_value, target};
-use ados_packet::{Buffer, Packet};
+use ados_model::{Buffer, Packet};
 use std::alloc::{AllocError, Global};
 
 pub(crate) fn update(
@@ -77,7 +77,7 @@ pub(crate) fn size(values: &[Option<u32>], rest: &[u8]) -> Option<Packet>
     })
 }
 
-/// Its buffer has as many zeros as are to be read.
+/// The buffer has as many zeros as bytes are to be read.
 pub(crate) fn read(
     alloc: Global,
     values: &[Option<u32>],
@@ -93,7 +93,7 @@ pub(crate) fn read(
     Ok(Some(Packet::Read { handle, buffer }))
 }
 
-/// A handle and how many zeros its buffer has.
+/// A handle, and the number of zeros in its buffer.
 fn buffer_of(values: &[Option<u32>], rest: &[u8]) -> Option<(u32, u32)>
     ensures { MatchOption result
         (PutsNone word.Read values.now rest.now)
@@ -105,7 +105,7 @@ fn buffer_of(values: &[Option<u32>], rest: &[u8]) -> Option<(u32, u32)>
     Some((handle, count))
 }
 
-/// Its buffer has the bytes of the text.
+/// The buffer has the bytes of the text.
 pub(crate) fn write(
     alloc: Global,
     values: &[Option<u32>],
@@ -120,7 +120,7 @@ pub(crate) fn write(
     Ok(Some(Packet::Write { handle, bytes }))
 }
 
-/// A handle and the text that is to be written.
+/// A handle, and the text to write.
 fn written<'a>(values: &[Option<u32>], rest: &'a [u8]) -> Option<(u32, &'a [u8])>
     ensures { MatchOption result
         (PutsNone word.Write values.now rest.now)

@@ -1,4 +1,4 @@
-//! What packet a line of a script spells.
+//! The packet that a line of a script stands for.
 ghost use Rattle.std.specs.Prelude.{IfOk, MatchOption};
 ghost use Rattle.adf_script.specs.Grammar.{IsPacketLine, IsFaulty};
 ghost use Rattle.adf_script.specs.steps.Words.{Puts};
@@ -10,10 +10,11 @@ use crate::other_lines::other;
 use crate::pieces::cut;
 use crate::shapes::end;
 use crate::words::Word;
-use ados_packet::Packet;
+use ados_model::Packet;
 use std::alloc::{AllocError, Global};
 
-/// The packet that a line puts, where it puts one. The values are those of the replies so far, which `$k` stands for.
+/// The packet of a line, or `None` for a faulty line. `values` are the values of the replies so far, to which `$k`
+/// refers.
 pub fn parse(
     alloc: Global,
     values: &[Option<u32>],
@@ -30,7 +31,7 @@ pub fn parse(
     }
 }
 
-/// The packet that a word puts with what stands behind it.
+/// The packet of a word and the rest of its line.
 fn packet_of(
     alloc: Global,
     word: Word,

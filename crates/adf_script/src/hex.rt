@@ -4,7 +4,7 @@ ghost use Rattle.adf_script.specs.Text.{hex_digit, hex_byte, hex_long};
 
 use std::alloc::AllocError;
 
-/// Each byte as two digits.
+/// Appends two digits for each byte.
 pub(crate) fn push_hex(text: &mut Vec<u8>, bytes: &[u8]) -> Result<(), AllocError>
     ensures { OnOk result (text.new.items ≡ text.old.items ++ flat_map hex_byte bytes.now) }
 {

@@ -1,12 +1,16 @@
 //! Scripts: lines that put packets to a message port, and a line of text for each reply.
 //!
-//! A script is lines that end in a line feed. Empty lines, and lines that begin with `#`, are passed over. Each other
-//! line is to spell a packet: a word, and its fields, each behind one space. Client 1 puts the packet, it is served, and
-//! its reply is taken before the next line is read. The form of scripts and of their text is this project's own.
+//! A line ends in a line feed. Empty lines and lines that start with `#` are skipped. Each other line is a packet: a word
+//! and its fields, each after one space. Client 1 puts the packet, the handler serves it, and the client takes the reply
+//! before the next line is read. The form of scripts and of their text is this project's own.
 //!
-//! Fields are `T`, a text in quotes; `N`, a decimal number of 32 bits; `S`, one with an optional `-` in the range of a
-//! signed number; and `L`, `H` and `K`, the number of a lock, a handle or a key, which is an `N` or `$k`, the value of
-//! reply k: its handle where it has one, its entry's key where it has an entry, else its first result.
+//! Fields are:
+//!
+//! - `T`: a text in quotes.
+//! - `N`: an unsigned decimal number of 32 bits.
+//! - `S`: a signed decimal number of 32 bits.
+//! - `L`, `H`, `K`: the number of a lock, a handle or a key. It is an `N` or `$k`, the value of reply k. The value is
+//!   the reply's handle, else the key of its entry, else its first result.
 //!
 //! | Lines | |
 //! |---|---|

@@ -4,7 +4,7 @@ ghost use Rattle.adf_script.specs.Lines.{lines_of, is_skipped};
 
 use crate::pieces::split_once;
 
-/// The first line of a script, without its line feed, and what stands behind it.
+/// The first line of a script without its line feed, and the rest after it.
 pub(crate) fn first_line(script: &[u8]) -> (&[u8], &[u8])
     requires { 0 < length script.now }
     ensures lines { lines_of script.now ≡ result.0.now ∷ lines_of result.1.now }
@@ -16,7 +16,7 @@ pub(crate) fn first_line(script: &[u8]) -> (&[u8], &[u8])
     }
 }
 
-/// Whether the line is to be passed over: an empty one, or a remark.
+/// Whether the line is skipped: it is empty or a comment.
 pub(crate) fn is_passed_over(line: &[u8]) -> bool
     ensures { result ≡ is_skipped line.now }
 {

@@ -1,11 +1,11 @@
-//! The packets of lines about locks.
+//! The packets of lines for locks.
 ghost use Rattle.std.specs.Prelude.{IfOk};
 ghost use Rattle.adf_script.specs.steps.Words.{Puts};
 ghost use Rattle.adf_script.specs.declared.words.Word.TheVariants as word;
 
 use crate::fields::{signed_field, text_field, text_of, value_field};
 use crate::shapes::{end, one_value, two_values};
-use ados_packet::Packet;
+use ados_model::Packet;
 use std::alloc::{AllocError, Global};
 
 pub(crate) fn locate(

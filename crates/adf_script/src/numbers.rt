@@ -1,11 +1,11 @@
-//! Unsigned numbers in a line, and the values of replies that stand for them.
+//! Unsigned numbers in a line, and values of replies.
 ghost use Rattle.std.specs.Prelude.{◌≡◌, ℕ, MatchOption};
 ghost use Rattle.adf_script.specs.Values.{reply_value};
 ghost use Rattle.adf_script.specs.Grammar.{IsNumber, IsValue};
 
 use crate::pieces::behind;
 
-/// The decimal number of 32 bits that a field spells.
+/// The unsigned decimal number of 32 bits in a field.
 pub(crate) fn number(field: &[u8]) -> Option<u32>
     ensures { MatchOption result ((n : ℕ) → IsNumber n field.now → ⊥) (λ n. IsNumber n field.now) }
 {
@@ -18,7 +18,7 @@ pub(crate) fn number(field: &[u8]) -> Option<u32>
     }
 }
 
-/// The value of the reply with this number. Numbers begin at 1.
+/// The value of the reply with this number, from 1.
 fn reply_value(values: &[Option<u32>], number: u32) -> Option<u32>
     ensures { result ≡ reply_value values.now number }
 {
@@ -31,7 +31,7 @@ fn reply_value(values: &[Option<u32>], number: u32) -> Option<u32>
     }
 }
 
-/// The number that a field spells, or, behind a `$`, the value of the reply with that number.
+/// The number in a field; after a `$`, the value of the reply with that number.
 pub(crate) fn value(values: &[Option<u32>], field: &[u8]) -> Option<u32>
     ensures { MatchOption result ((n : ℕ) → IsValue values.now n field.now → ⊥) (λ n. IsValue values.now n field.now) }
 {

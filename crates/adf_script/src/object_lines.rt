@@ -1,11 +1,11 @@
-//! The packets of lines about objects and their names.
+//! The packets of lines for objects and their names.
 ghost use Rattle.std.specs.Prelude.{ℕ, List, Option, IfOk};
 ghost use Rattle.adf_script.specs.steps.Words.{Puts};
 ghost use Rattle.adf_script.specs.declared.words.Word.TheVariants as word;
 
 use crate::fields::{date_fields, number_field, object_fields, text_field, text_of};
 use crate::shapes::{end, object};
-use ados_packet::Packet;
+use ados_model::Packet;
 use std::alloc::{AllocError, Global};
 
 pub(crate) fn delete(

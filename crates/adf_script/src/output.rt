@@ -1,11 +1,11 @@
-//! Writes what a script tells.
+//! Writes the output of a script.
 ghost use Rattle.std.specs.Prelude.{◌≡◌, ◌≢◌, OnOk};
 ghost use Rattle.std.specs.Io.KnownBytes.{Appends};
 ghost use Rattle.adf_script.specs.Text.{reply_line, closed_line, fault_line};
 
 use crate::fault::TryFault;
 use crate::text::{closed_text, fault_text, reply_text};
-use ados_packet::Answer;
+use ados_model::Answer;
 use ados_port::Reply;
 use std::alloc::Global;
 use std::io::Write;
@@ -21,7 +21,7 @@ fn write_text<W: Write>(writer: &mut W, text: &[u8]) -> Result<(), TryFault>
     }
 }
 
-/// Writes the line of a reply of client 1.
+/// Writes the line for a reply to client 1.
 pub(crate) fn write_reply<W: Write>(
     alloc: Global,
     writer: &mut W,
@@ -36,7 +36,7 @@ pub(crate) fn write_reply<W: Write>(
     write_text(writer, &text)
 }
 
-/// Writes that client 1 found the port closed.
+/// Writes that the port was closed to client 1.
 pub(crate) fn write_closed<W: Write>(
     alloc: Global,
     writer: &mut W,

@@ -1,4 +1,4 @@
-//! The packet lines of a script, one after another.
+//! The packet lines of a script, one after the other.
 ghost use Rattle.std.specs.Prelude.{◌≡◌, IfOk, MatchOption};
 ghost use Rattle.adf_script.specs.Lines.{kept_lines};
 ghost use Rattle.adf_script.specs.Packets.{NoneIsLeft};
@@ -7,23 +7,23 @@ ghost use Rattle.adf_script.specs.steps.Left.{Passes};
 
 use crate::grammar::parse;
 use crate::lines::{first_line, is_passed_over};
-use ados_packet::Packet;
+use ados_model::Packet;
 use std::alloc::{AllocError, Global};
 use std::marker::Model;
 use std::snapshot::Snapshot;
 
-/// What the next packet line of a script comes to.
+/// The result of the next packet line.
 #[derive(Drop)]
 pub enum NextLine {
-    /// There is none.
+    /// No line is left.
     End,
     /// The line with this number among all lines is faulty.
     Faulty(u64),
-    /// It puts this packet, which has this number among the packets of the script.
+    /// The line puts this packet. The number counts the packets of the script from 1.
     Puts(u64, Packet),
 }
 
-/// The packet lines of a script, of which so many are behind.
+/// The packet lines of a script, and how many were read.
 #[derive(Drop)]
 pub struct PacketLines<'a> {
     script: Snapshot<&'a [u8]>,
@@ -46,7 +46,7 @@ impl<'a> Model for PacketLines<'a> {
 }
 
 impl<'a> PacketLines<'a> {
-    /// Those of a script, from its first line on.
+    /// The packet lines of a script, before the first.
     pub fn of(script: &'a [u8]) -> PacketLines<'a>
         ensures { result ≡ record { lines = kept_lines script.now; count = 0 } }
     {
@@ -58,7 +58,7 @@ impl<'a> PacketLines<'a> {
         }
     }
 
-    /// The next packet line, with its number among all lines.
+    /// Moves on to the next packet line. The result has its number among all lines.
     fn next_line(&mut self) -> Option<(u64, &'a [u8])>
         ensures { MatchOption result
             (NoneIsLeft self.old.lines self.old.count)
@@ -76,7 +76,7 @@ impl<'a> PacketLines<'a> {
         None
     }
 
-    /// What the next packet line comes to. The values are those of the replies so far, which `$k` stands for.
+    /// The result of the next packet line. `values` are the values of the replies so far, to which `$k` refers.
     pub fn next(&mut self, alloc: Global, values: &[Option<u32>]) -> Result<NextLine, AllocError>
         ensures { IfOk result (λ next. NextGives self.old values.now next self.new) }
     {

@@ -1,15 +1,15 @@
-//! Bytes at the first of a separating byte.
+//! Splits at a separating byte.
 ghost use Rattle.std.specs.Prelude.{◌≡◌, ◌≢◌, ◌==◌, ◌∷◌, ℕ, List, false, position, MatchOption};
 ghost use Rattle.adf_script.specs.Pieces.{has_byte, IsSplit, IsCut};
 
-/// The place of the first such byte.
+/// The position of the first such byte.
 fn place_of(bytes: &[u8], separator: u8) -> Option<usize>
     ensures { result ≡ position (λ byte. byte == separator) bytes.now }
 {
     bytes.iter().position(|byte| *byte == separator)
 }
 
-/// What stands in front of the first separator and behind it, where there is one.
+/// The bytes before the first separator and those after it, or `None`.
 pub(crate) fn split_once(bytes: &[u8], separator: u8) -> Option<(&[u8], &[u8])>
     ensures { MatchOption result
         (has_byte separator bytes.now ≡ false)
@@ -21,7 +21,7 @@ pub(crate) fn split_once(bytes: &[u8], separator: u8) -> Option<(&[u8], &[u8])>
     }
 }
 
-/// What stands in front of the first space, and the rest from that space on.
+/// The bytes before the first space, and the rest from that space.
 pub(crate) fn cut(bytes: &[u8]) -> (&[u8], &[u8])
     ensures { IsCut bytes.now result.0.now result.1.now }
 {
@@ -31,7 +31,7 @@ pub(crate) fn cut(bytes: &[u8]) -> (&[u8], &[u8])
     }
 }
 
-/// What stands behind this byte, where the bytes begin with it.
+/// The bytes after this byte, if it is the first one.
 pub(crate) fn behind(bytes: &[u8], byte: u8) -> Option<&[u8]>
     ensures { MatchOption result
         ((rest : List ℕ) → bytes.now ≢ byte ∷ rest)

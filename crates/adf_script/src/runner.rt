@@ -2,8 +2,8 @@
 ghost use Rattle.std.specs.Prelude.{◌≡◌, ◌≢◌, ◌∷◌, ◌++◌, [], OnOk, false, true};
 ghost use Rattle.std.specs.Io.KnownBytes.{Appends};
 ghost use Rattle.adf_io.specs.Front.{GivesNoEnd};
-ghost use Rattle.ados_packet.specs.declared.packet.Packet.{Packet};
-ghost use Rattle.ados_port.specs.Port.{opening_port};
+ghost use Rattle.ados_model.specs.declared.packet.Packet.{Packet};
+ghost use Rattle.ados_port.specs.History.{opening_port};
 ghost use Rattle.adf_script.specs.Lines.{is_too_long};
 ghost use Rattle.adf_script.specs.steps.Calls.{IsQuiet};
 ghost use Rattle.adf_script.specs.Text.{closed_line, reply_line};
@@ -16,12 +16,12 @@ use crate::input::{LONGEST_SCRIPT, read_script};
 use crate::output::{write_closed, write_fault, write_reply};
 use crate::packet_lines::{NextLine, PacketLines};
 use crate::values::keep_value;
-use ados_packet::{Answer, Packet};
+use ados_model::{Answer, Packet};
 use ados_port::{Exchange, PutRefused, Reply, Server};
 use std::alloc::Global;
 use std::io::{Read, Write};
 
-/// Runs the lines of a script: each packet is put, served and its reply taken before the next line is read.
+/// Runs the lines of a script. Each packet is put and served, and its reply taken, before the next line is read.
 fn run_lines<S, W>(
     alloc: Global,
     exchange: &mut Exchange<S>,
@@ -57,7 +57,7 @@ where
     }
 }
 
-/// Writes the line of a reply, and keeps its value behind those of the replies before it.
+/// Writes the line of a reply, and keeps its value.
 fn tell_reply<W: Write>(
     alloc: Global,
     writer: &mut W,
@@ -75,7 +75,7 @@ fn tell_reply<W: Write>(
     Ok(())
 }
 
-/// Writes that the port was closed to the packet with this number, where that is why its put was refused.
+/// Writes that the port was closed to the packet with this number, if that is why its put was refused.
 fn tell_refused<W: Write>(
     alloc: Global,
     writer: &mut W,
@@ -93,7 +93,7 @@ fn tell_refused<W: Write>(
     }
 }
 
-/// Runs a script of which as much as is kept of a long one is given.
+/// Runs a script. Of one that is too long, only its start is given.
 fn tell<S, W>(
     alloc: Global,
     server: S,
@@ -120,11 +120,11 @@ where
     run_lines(alloc, &mut exchange, moment, script, writer)
 }
 
-/// Reads a script to its end, runs it as client 1 of a port over this server, each packet at this moment, and writes a
-/// line for each reply.
+/// Reads a script to its end and runs it as client 1 of a port over this server. All packets have the time stamp
+/// `moment`. It writes a line for each reply.
 ///
-/// At most 1,048,577 bytes are kept. What was written is told of a whole script where the answer is Ok, and of one with
-/// a faulty line, or of one that is too long, where it is `Script`; of any other fault nothing is told.
+/// At most 1,048,577 bytes are kept. After `Ok`, the output is that of the whole script; after `Script`, that of one
+/// with a faulty line or of one that is too long. After any other fault nothing is promised of the output.
 pub fn run_script<S, R, W>(
     alloc: Global,
     server: S,
@@ -140,7 +140,7 @@ where
         (ReadsAndTells S.gives S.has_died server moment true R.remaining reader.old reader.new W.contents writer.old writer.new) }
     ensures faulty { result ≡ Err TryFault.Script →
         ReadsAndTells S.gives S.has_died server moment false R.remaining reader.old reader.new W.contents writer.old writer.new }
-    // An end that was near enough is found.
+    // An end within the limit is found.
     ensures endless { result ≡ Err TryFault.TurnLimit → GivesNoEnd (R.remaining reader.old) (R.remaining reader.new) }
 {
     let script = read_script(alloc, reader)?;

@@ -1,12 +1,12 @@
-//! The fields of lines that several packets share, read to the line's end.
+//! The fields that several packets share, up to the end of the line.
 ghost use Rattle.std.specs.Prelude.{◌≡◌, ◌≢◌, [], IfOk, MatchOption};
 ghost use Rattle.adf_script.specs.steps.Reading.{a_value, a_pair, an_object, a_target, ReadsToEnd};
 
 use crate::fields::{object_fields, signed_field, text_of, value_field};
-use ados_packet::Text;
+use ados_model::Text;
 use std::alloc::{AllocError, Global};
 
-/// Whether nothing is left of the line.
+/// Whether the line has ended.
 pub(crate) fn end(rest: &[u8]) -> Option<()>
     ensures { MatchOption result (rest.now ≢ []) (λ _. rest.now ≡ []) }
 {

@@ -2,7 +2,7 @@
 ghost use Rattle.std.specs.Prelude.{ℤ, MatchOption};
 ghost use Rattle.adf_script.specs.Grammar.{IsSigned};
 
-/// The decimal number of 32 bits that a field spells, with an optional `-` in front.
+/// The signed decimal number of 32 bits in a field, with an optional `-`.
 pub(crate) fn signed(field: &[u8]) -> Option<i32>
     ensures { MatchOption result ((z : ℤ) → IsSigned z field.now → ⊥) (λ z. IsSigned z field.now) }
 {

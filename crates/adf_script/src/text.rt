@@ -1,12 +1,12 @@
-//! The lines that tell of a client's replies, and of its end.
+//! The lines for a client's replies and for its end.
 ghost use Rattle.std.specs.Prelude.{◌≡◌, ◌++◌, IfOk, OnOk};
 ghost use Rattle.adf_script.specs.Text.{count_read, read_text, entry_text, disk_text, body_text, results, line, reply_line, closed_line, no_reply_line, no_room_line, fault_line};
 
 use crate::hex::{push_hex, push_hex_long};
-use ados_packet::{Action, Answer, Body, DiskInfo, FileInfo};
+use ados_model::{Action, Answer, Body, DiskInfo, FileInfo};
 use std::alloc::{AllocError, Global};
 
-/// The line of a reply, with its line feed.
+/// The line for a reply, with its line feed.
 pub fn reply_text(
     alloc: Global,
     client: usize,
@@ -20,7 +20,7 @@ pub fn reply_text(
     Ok(text)
 }
 
-/// A line of an answer's results alone, with its line feed.
+/// A line with an answer's results only, with its line feed.
 pub fn results_text(alloc: Global, answer: &Answer) -> Result<Vec<u8>, AllocError>
     ensures { IfOk result (λ text. text.items ≡ line (results answer.now)) }
 {
@@ -41,7 +41,7 @@ fn push_results(alloc: Global, text: &mut Vec<u8>, answer: &Answer) -> Result<()
     Ok(())
 }
 
-/// The line of a put that was refused as closed.
+/// The line for a put that was refused as closed.
 pub fn closed_text(alloc: Global, client: usize, number: u64) -> Result<Vec<u8>, AllocError>
     ensures { IfOk result (λ text. text.items ≡ closed_line client number) }
 {
@@ -49,7 +49,7 @@ pub fn closed_text(alloc: Global, client: usize, number: u64) -> Result<Vec<u8>,
     Ok(text.into_bytes())
 }
 
-/// The line of a client that got no reply to its packet with this number.
+/// The line for a client without a reply to its packet of this number.
 pub fn no_reply_text(alloc: Global, client: usize, number: u64) -> Result<Vec<u8>, AllocError>
     ensures { IfOk result (λ text. text.items ≡ no_reply_line client number) }
 {
@@ -57,7 +57,7 @@ pub fn no_reply_text(alloc: Global, client: usize, number: u64) -> Result<Vec<u8
     Ok(text.into_bytes())
 }
 
-/// The line of a client whose packet, which would have had this number, found no room.
+/// The line for a client whose packet found no room. The packet would have had this number.
 pub fn no_room_text(alloc: Global, client: usize, number: u64) -> Result<Vec<u8>, AllocError>
     ensures { IfOk result (λ text. text.items ≡ no_room_line client number) }
 {
@@ -65,7 +65,7 @@ pub fn no_room_text(alloc: Global, client: usize, number: u64) -> Result<Vec<u8>
     Ok(text.into_bytes())
 }
 
-/// The line of a faulty line, by its number.
+/// The line for a faulty line, with its number.
 pub fn fault_text(alloc: Global, client: usize, number: u64) -> Result<Vec<u8>, AllocError>
     ensures { IfOk result (λ text. text.items ≡ fault_line client number) }
 {
@@ -85,7 +85,7 @@ fn push_body(alloc: Global, text: &mut Vec<u8>, answer: &Answer) -> Result<(), A
     }
 }
 
-/// How many bytes a READ gave. The buffer of a WRITE is not printed.
+/// The number of bytes that a READ returned. The buffer of a WRITE is not printed.
 fn count_read(answer: &Answer) -> usize
     ensures { result ≡ count_read answer.now.action answer.now.res1 }
 {

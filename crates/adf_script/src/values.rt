@@ -2,10 +2,10 @@
 ghost use Rattle.std.specs.Prelude.{◌≡◌, ◌++◌, ◌∷◌, [], OnOk};
 ghost use Rattle.adf_script.specs.Values.{answer_value, result_value};
 
-use ados_packet::{Answer, Body};
+use ados_model::{Answer, Body};
 use std::alloc::AllocError;
 
-/// What later lines call `$k`: the answer's handle or its entry's key, or else its first result.
+/// The value of `$k` for an answer: its handle, else the key of its entry, else its first result.
 pub fn answer_value(answer: &Answer) -> Option<u32>
     ensures { result ≡ answer_value answer.now }
 {
@@ -18,14 +18,14 @@ pub fn answer_value(answer: &Answer) -> Option<u32>
     }
 }
 
-/// None where the result is negative.
+/// None if the result is negative.
 fn result_value(res1: i32) -> Option<u32>
     ensures { result ≡ result_value res1 }
 {
     u32::try_from(res1).ok()
 }
 
-/// Keeps the value of one more reply, behind those of the replies before it.
+/// Appends the value of one more reply.
 pub fn keep_value(values: &mut Vec<Option<u32>>, answer: &Answer) -> Result<(), AllocError>
     ensures { OnOk result (values.new.items ≡ values.old.items ++ answer_value answer.now ∷ []) }
 {

@@ -1,8 +1,8 @@
-//! The words that lines begin with.
+//! The words at the start of lines.
 ghost use Rattle.std.specs.Prelude.{◌≡◌, ◌≢◌, MatchOption};
 ghost use Rattle.adf_script.specs.steps.Words.{spelling};
 
-/// The word in front of a line. It says which packet the line puts.
+/// The word of a line. It selects the packet.
 #[derive(Clone, Copy)]
 pub(crate) enum Word {
     Die,
@@ -96,7 +96,7 @@ impl Word {
         }
     }
 
-    /// The word that the bytes spell.
+    /// The word with this spelling.
     pub(crate) fn spelled(bytes: &[u8]) -> Option<Word>
         ensures { MatchOption result ((word : Word) → bytes.now ≢ spelling word) (λ word. bytes.now ≡ spelling word) }
     {

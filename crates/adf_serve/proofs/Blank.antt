@@ -1,11 +1,11 @@
--- The blank floppy stands for its tree.
+-- The blank floppy represents its tree.
 use Rattle.std.proofs.Common.{ℕ, ◌<◌, List, [], ◌∷◌, codes, arith, lit<, lit≤}
 use Rattle.std.proofs.lemmas.List.Elements.{All-nil, All-cons}
 use Rattle.adf_block.specs.declared.Format.TheVariants.{Ffs}
 use Rattle.ados_name.specs.Name.{IsName, IsNameByte}
-use Rattle.ados_tree.specs.Blank.{IsBlank, blank_tree}
-use Rattle.ados_tree.specs.Stands.{Stands}
-use Rattle.ados_tree.proofs.Blank.{blank_stands}
+use Rattle.ados_model.specs.Blank.{IsBlank, blank_tree}
+use Rattle.ados_model.specs.Stands.{Stands}
+use Rattle.ados_model.proofs.Blank.{blank_stands}
 use Rattle.adf_commands.specs.Texts.{first_moment}
 
 letter : (c : ℕ) → c < 256 → 58 < c → IsNameByte c

@@ -1,3 +1,3 @@
--- Lemmas on the blank floppy and on what a script over it tells.
+-- Lemmas about the blank floppy, and about the output of a script over it.
 pub mod Blank
 pub mod Telling

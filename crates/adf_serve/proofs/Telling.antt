@@ -1,17 +1,17 @@
--- What a script over a handler tells is what it tells over the tree.
+-- The output of a script over a handler is its output over the tree.
 use Rattle.std.proofs.Common.{◌≡◌, ℕ, Bool, true, false, List, [], Option, codes, subst}
 use Rattle.std.specs.Bool.{MatchBool}
 use Rattle.adf_block.specs.declared.Format.TheVariants.{Ffs}
-use Rattle.ados_tree.specs.Tree.{Tree}
-use Rattle.ados_tree.specs.Blank.{IsBlank, blank_tree}
-use Rattle.ados_tree.specs.Stands.{Stands}
-use Rattle.ados_port.specs.Port.{PortState, opening_port}
-use Rattle.ados_packet.specs.declared.packet.Packet.{Packet}
-use Rattle.ados_packet.specs.declared.answer.Answer.{Answer}
-use Rattle.ados_handler.specs.Session.{Session, opening_session}
-use Rattle.ados_handler.specs.Handler.{HandlerState}
+use Rattle.ados_model.specs.Tree.{Tree}
+use Rattle.ados_model.specs.Blank.{IsBlank, blank_tree}
+use Rattle.ados_model.specs.Stands.{Stands}
+use Rattle.ados_port.specs.History.{PortState, opening_port}
+use Rattle.ados_model.specs.declared.packet.Packet.{Packet}
+use Rattle.ados_model.specs.declared.answer.Answer.{Answer}
+use Rattle.ados_model.specs.Session.{Session, opening_session, HandlerState}
 use Rattle.ados_handler.specs.Gives.{HandlerGives}
-use Rattle.ados_run.specs.TreePort.{means, tree_died, handler_died, over_tree}
+use Rattle.ados_run.specs.TreePort.{means, tree_died, over_tree}
+use Rattle.ados_run.specs.Runs.{handler_died}
 use Rattle.ados_run.proofs.Following.{each_side_is_a_history, histories_follow_trees}
 use Rattle.adf_script.specs.Lines.{kept_lines, is_too_long}
 use Rattle.adf_script.specs.Streams.{ReadsAndWrites}

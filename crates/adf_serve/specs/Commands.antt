@@ -4,7 +4,7 @@ use Rattle.std.specs.Io.KnownBytes.{Keeps}
 use Rattle.adf_jobs.specs.declared.job.ImageJob.{ImageJob}
 use Rattle.adf_commands.specs.Commands.{Ending, TellsJob, exit_status}
 
--- a command line ends with this status: some job came to its end so, or there was none, and nothing is printed
+-- a command line ends with this status: some job ended like this; or there was no job, and nothing is printed
 abbrev pub RunsCommand : ℕ → Option (List ℕ) → Option (List ℕ) → Type 0
 RunsCommand status old new =
     ((job : ImageJob) × (done : Ending) × TellsJob job old new done × (status ≡ exit_status done))

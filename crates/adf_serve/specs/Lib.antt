@@ -1,3 +1,3 @@
--- Over which floppy the program runs a script, and what it then tells; how a command line ends.
+-- The floppy for the program's script and the script's output; and how a command line ends.
 pub mod Script
 pub mod Commands

@@ -1,24 +1,24 @@
--- What the program tells of a script.
+-- The program's output for a script.
 use Rattle.std.specs.Prelude.{ℕ, Bool, List, Option, codes}
 use Rattle.adf_block.specs.declared.Format.TheVariants.{Ffs}
-use Rattle.ados_tree.specs.Blank.{blank_tree}
-use Rattle.ados_port.specs.Port.{opening_port}
-use Rattle.ados_handler.specs.Session.{opening_session}
+use Rattle.ados_model.specs.Blank.{blank_tree}
+use Rattle.ados_port.specs.History.{opening_port}
+use Rattle.ados_model.specs.Session.{opening_session}
 use Rattle.ados_run.specs.TreePort.{TreeState, means, tree_died}
 use Rattle.adf_script.specs.Streams.{ReadsAndWrites}
 use Rattle.adf_script.specs.Told.{Told}
 use Rattle.adf_commands.specs.Texts.{first_moment}
 
--- a blank double-density floppy of the Fast File System with the name `Work`, made at the first moment, with nothing held
+-- a blank double-density FFS floppy with the name `Work`, made at the first time stamp, without locks and handles
 abbrev pub work_floppy : TreeState
 work_floppy = record { tree = blank_tree Ffs 1760 (codes "Work") first_moment; session = opening_session }
 
--- what is told of a script, as client 1 of a port over that floppy, each packet answered at the first moment as it is meant: of
--- a whole one, or of one with a fault
+-- the output of a script as client 1 of a port over that floppy; each packet is answered at the first time stamp,
+-- according to its meaning; `whole` is false for a script with a fault
 abbrev pub ToldOnFloppy : Bool → List ℕ → List ℕ → Type 0
 ToldOnFloppy whole read written = Told means tree_died (opening_port work_floppy 1) first_moment read written whole
 
--- a script is read to its end, and that is written
+-- a script is read to its end, and its output is written
 abbrev pub RunsScript : Option (List ℕ) → Option (List ℕ) → Option (List ℕ) → Option (List ℕ) → Bool → Type 0
 RunsScript reader_old reader_new writer_old writer_new whole =
     ReadsAndWrites reader_old reader_new writer_old writer_new (λ read written. ToldOnFloppy whole read written)

@@ -1,8 +1,8 @@
-//! The program without words: a script over a blank floppy.
+//! The program without arguments: a script over a blank floppy.
 ghost use Rattle.std.specs.Prelude.{◌≡◌, true, false, codes, IfOk, OnOk};
 ghost use Rattle.adf_block.specs.declared.Format.TheVariants.{Ffs};
-ghost use Rattle.ados_tree.specs.Blank.{IsBlank};
-ghost use Rattle.ados_handler.specs.Session.{opening_session};
+ghost use Rattle.ados_model.specs.Blank.{IsBlank};
+ghost use Rattle.ados_model.specs.Session.{opening_session};
 ghost use Rattle.adf_commands.specs.Texts.{first_moment};
 ghost use Rattle.adf_serve.specs.Script.{RunsScript};
 
@@ -18,8 +18,8 @@ use std::io::{Read, Write};
 /// The blocks of a double-density floppy.
 const BLOCKS: u32 = 1_760;
 
-/// Runs a script as the one client of a port over a blank floppy `Work`, all at the first moment. `Ok` goes with a
-/// whole script, `Script` with one that has a faulty line or is too long.
+/// Runs a script as the only client of a port over a blank floppy `Work`. Each packet has the first time stamp. `Ok`
+/// means a whole script, `Script` one with a faulty line or one that is too long.
 pub fn try_script<R: Read, W: Write>(
     alloc: Global,
     reader: &mut R,
@@ -33,7 +33,7 @@ pub fn try_script<R: Read, W: Write>(
     run_script(alloc, handler, FIRST_MOMENT, reader, writer)
 }
 
-/// A handler over a blank floppy `Work` of the Fast File System, made at the first moment.
+/// A handler over a blank FFS floppy `Work`, made at the first time stamp.
 fn work_floppy(alloc: Global) -> Result<Handler, AllocError>
     ensures image { IfOk result (λ handler. IsBlank Ffs 1760 (codes "Work") first_moment handler.image) }
     ensures session { IfOk result (λ handler. handler.session ≡ opening_session) }

@@ -1,4 +1,4 @@
-//! The program's words.
+//! The program's arguments.
 ghost use Rattle.std.specs.Prelude.{◌≡◌, ◌≢◌, ◌⊎◌, [], true, false};
 ghost use Rattle.adf_serve.specs.Commands.{RunsCommand};
 ghost use Rattle.adf_serve.specs.Script.{RunsScript};
@@ -16,10 +16,10 @@ use std::rt::{Clock, Files};
 use std::sync::Wait;
 use std::thread::Threads;
 
-/// Runs the program on the words behind its own name, and answers its exit status: 0 done, 1 a wrong command line,
-/// 2 a file or stream that cannot be read or written, no memory, no thread, or a client that ran out of tries, 3 an
-/// image, a name, a script or a change that is refused. What went wrong with the words, the files or the streams is told on
-/// `faults`, and where that is a terminal, also how far the check of images has come.
+/// Runs the program on the arguments after its own name, and returns its exit status: 0 success; 1 a wrong command
+/// line; 2 a file or stream that cannot be read or written, no memory, no thread, or a client that ran out of tries; 3
+/// a refused image, name, script or change. Faults of arguments, files and streams are printed on `faults`. With
+/// `terminal`, the progress of a check is printed there too.
 pub fn run_words<T, R, W, F>(
     rt: &T,
     alloc: Global,
@@ -59,7 +59,7 @@ where
     }
 }
 
-/// Tells a person why words ask for no job, and answers the exit status: 1, or 2 where there is no memory to read them.
+/// Prints why a command line has no job, and returns the exit status: 1, or 2 if memory ran out.
 pub fn tell_wrong_words<F: Write>(fault: WordsFault, faults: &mut F) -> u8
     ensures { (result ≡ 1) ⊎ (result ≡ 2) }
 {
@@ -95,7 +95,7 @@ fn run_script<R: Read, W: Write, F: Write>(
     }
 }
 
-/// Tells a person why a script was not run, but of a faulty one, of which standard output tells all.
+/// Prints why a script was not run. For a faulty script, the output has the fault already.
 fn tell_fault<F: Write>(fault: TryFault, faults: &mut F) {
     let text = match fault {
         TryFault::Script => return,

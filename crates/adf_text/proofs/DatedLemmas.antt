@@ -1,4 +1,4 @@
--- The text of a date: it is of one date alone, which letters it has, and where it ends.
+-- The text of a date: it belongs to one date only, its letters, and where it ends.
 use Rattle.std.proofs.Common.{◌≡◌, ℕ, suc, ℤ, pos, negsuc, ◌+ℤ◌, ◌-ℤ◌, ◌+◌, ◌*◌, ◌/◌, ◌%◌, ◌<◌, ◌≤◌, ◌^◌, ◌==◌, Bool, true, false, List, [], ◌∷◌, ◌++◌, Option, Some, length, take, drop, All, append_assoc, refl, sym, ap, subst, ◌∙◌, arith}
 use Rattle.std.specs.Bool.{MatchBool, ⊤}
 use Rattle.std.specs.Char.{digit_value}
@@ -54,7 +54,7 @@ split-decimal m n vs ws few_m few_n same =
     let parts = split-digits (decimal m) (decimal n) vs ws (decimal_is_IsNumeral m fm).0.1 (decimal_is_IsNumeral n fn).0.1 same in
     (decimal_injective m n fm fn parts.0, parts.1)
 
--- a text that is not of a civil date, and what follows
+-- a text without a calendar date, and the rest after it
 pub raw-shape : (d : Date3) (vs : List ℕ) → raw_text d ++ 32 ∷ vs ≡ 114 ∷ (97 ∷ (119 ∷ (32 ∷ (decimal d.days ++ 32 ∷ (decimal d.minutes ++ 32 ∷ (decimal d.ticks ++ 32 ∷ vs))))))
 raw-shape d vs = simp append_assoc refl
 
@@ -67,7 +67,7 @@ raw-same d e vs ws of_d of_e same =
     let ticks = split-decimal d.ticks e.ticks _ _ of_d.ticks of_e.ticks minutes.1 in
     (λ i. record { days = days.0 i; minutes = minutes.0 i; ticks = ticks.0 i }, ticks.1)
 
--- what stands behind the day, and what follows
+-- the rest after the day
 abbrev pub time : ℕ → ℕ → List ℕ → List ℕ
 time minutes ticks rest = codes " " ++ (pad2 (minutes / 60) ++ (codes ":" ++ (pad2 (minutes % 60) ++ (codes ":" ++ (pad2 (ticks / 50) ++ (codes "." ++ (pad2 (2 * (ticks % 50)) ++ rest)))))))
 
@@ -120,7 +120,7 @@ days-same m n date other of_date of_other same =
     let starts = epoch_day_same of_date.epoch of_other.epoch (first.0 ∙ sym second.0) month day in
     days-after (epoch_day date) (epoch_day of_date.epoch) (epoch_day other) (epoch_day of_other.epoch) m n of_date.number of_other.number starts same
 
--- a year is not written as `raw`
+-- a year does not start with `raw`
 pub not_raw : (year : ℤ) (rest others : List ℕ) → IsYear year → year_text year ++ rest ≡ 114 ∷ others → ⊥
 not_raw (pos n) rest others within same =
     let head : 48 + n / 100 / 10 ≡ 114 = cc in
@@ -133,7 +133,7 @@ civil-not_raw date m t e vs ws same =
     let year : year_text date.year ++ (45 ∷ (pad2 date.month ++ (45 ∷ (pad2 date.day ++ time m t vs)))) ≡ civil_text date m t ++ vs = simp append_assoc refl in
     not_raw date.year _ _ date.year_in (year ∙ same ∙ raw-shape e ws)
 
--- the day and time that a text is of
+-- the day and time of a text
 abbrev pub Civil : Date3 → List ℕ → Type 0
 Civil d x = (date : Date) × IsDaysAfterEpoch d.days date × (x ≡ civil_text date d.minutes d.ticks)
 
@@ -155,12 +155,12 @@ module _ (d e : Date3) (x y vs ws : List ℕ) (of_d : IsStamp d) (of_e : IsStamp
 
 -- ---- letters of a date's text
 
--- a letter of a word: one with a picture, and no space
+-- a letter of a word: no control character, no space
 pub record IsWordLetter (c : ℕ) : Type 0 where
   pub low : 33 ≤ c
   pub high : c < 127
 
--- the same, or a space
+-- a letter of a word, or a space
 pub record IsTextLetter (c : ℕ) : Type 0 where
   pub low : 32 ≤ c
   pub high : c < 127
@@ -213,10 +213,10 @@ All-decimal n few = let wide : n < 2 ^ 64 = omega arith in All-digits (decimal n
 pub no_spaces : (xs : List ℕ) → All IsWordLetter xs → All (λ c. (c == 32) ≡ false) xs
 no_spaces xs word = All-weaker IsWordLetter (λ c. (c == 32) ≡ false) (λ c is. let low = is.low in false_from_ne_true (c == 32) (λ e. let same = eqb-true c 32 e in omega (arith, low, same))) xs word
 
--- ---- the front of a list up to what passes a test
+-- ---- the prefix of a list up to the first element that passes a test
 
 module _ (p : ℕ → Bool) where
-  -- nothing, or what begins with what passes
+  -- empty, or starting with an element that passes
   abbrev pub Stops : List ℕ → Type 0
   Stops [] = ⊤
   Stops (c ∷ more) = p c ≡ true
@@ -238,7 +238,7 @@ module _ (p : ℕ → Bool) where
       let rest = split-first xs ys vs ws (All-tail (λ c. p c ≡ false) x xs fx) (All-tail (λ c. p c ≡ false) y ys fy) sv sw tail in
       (λ i. head i ∷ rest.0 i, rest.1)
 
--- what stands apart stops at a space
+-- a rest that stands apart stops at a space
 pub apart-stops : (xs : List ℕ) → StandsApart xs → Stops (λ c. c == 32) xs
 apart-stops [] is = tt
 apart-stops (c ∷ more) is = ap (λ x. x == 32) is
@@ -248,7 +248,7 @@ apart-stops (c ∷ more) is = ap (λ x. x == 32) is
 text_letters : (xs : List ℕ) → All IsWordLetter xs → All IsTextLetter xs
 text_letters xs word = All-weaker IsWordLetter IsTextLetter text_letter xs word
 
--- a word, a letter and what follows
+-- a word, a letter and the rest
 All-then : (xs : List ℕ) (c : ℕ) (ys : List ℕ) → All IsWordLetter xs → 32 ≤ c → c < 127 → All IsTextLetter ys → All IsTextLetter (xs ++ c ∷ ys)
 All-then xs c ys word low high rest =
     All-append IsTextLetter xs (c ∷ ys) (text_letters xs word) (All-cons IsTextLetter c ys (record { low = low; high = high }) rest)
@@ -288,7 +288,7 @@ All-date d x stamp is = by (has_civil_text d) refl is
         All-same IsTextLetter x _ of.2 (All-civil_text of.0 d.minutes d.ticks (ltb-true d.minutes 1440 days.1) (ltb-true d.ticks 3000 hours.1))
     by false civil of = All-same IsTextLetter x _ of (All-raw_text d stamp)
 
--- ---- a text begins with one date
+-- ---- a text starts with one date
 
 apart-shape : (x : List ℕ) → StandsApart x → (v : List ℕ) × (x ++ 32 ∷ [] ≡ 32 ∷ v)
 apart-shape [] is = ([], refl)
@@ -311,7 +311,7 @@ pub word-found : (text word rest x behind : List ℕ) → text ≡ word ++ rest 
 word-found text word rest x behind whole plain apart of_word apart_too is =
     split-first (λ c. c == 32) word x rest behind plain (no_spaces x of_word) (apart-stops rest apart) (apart-stops behind apart_too) (sym whole ∙ is)
 
--- ---- the day that a text is of
+-- ---- the day of a text
 
 same-epoch : (first epoch : Date) → IsYmd (pos 1978) (pos 1) (pos 1) first → IsYmd (pos 1978) (pos 1) (pos 1) epoch → epoch_day first ≡ epoch_day epoch
 same-epoch first epoch is of =
@@ -354,7 +354,7 @@ no-date text shown date none dated finds = λ d behind stamp begins.
     let same : date ≡ d = cc in
     none behind begins.apart (begins.stands ∙ ap (λ x. x ++ behind) (text-same d begins.shown shown begins.dated (subst (λ x. IsTextOf x shown) same dated)))
 
--- ---- the parts of a date, as its reader finds them
+-- ---- the parts of a date, as the reader finds them
 
 raw-tail : (d : Date3) (vs : List ℕ) → raw_text d ++ vs ≡ 114 ∷ (97 ∷ (119 ∷ (32 ∷ (decimal d.days ++ 32 ∷ (decimal d.minutes ++ 32 ∷ (decimal d.ticks ++ vs))))))
 raw-tail d vs = simp append_assoc refl
@@ -381,7 +381,7 @@ finds-civil text found none finds date behind stamp begins = by (has_civil_text 
         finds date of.0 behind stamp of.1 (ltb-true date.minutes 1440 days.1) (ltb-true date.ticks 3000 hours.1) (begins.stands ∙ ap (λ x. x ++ behind) of.2)
     by false civil of = absurd (none _ (begins.stands ∙ ap (λ x. x ++ behind) of ∙ raw-tail date behind))
 
--- the day and the time of a civil text
+-- the day and the time of a calendar text
 pub civil-parts : (text word rest : List ℕ) (civil : Date) (m t : ℕ) (behind : List ℕ) → text ≡ word ++ rest → All (λ c. (c == 32) ≡ false) word → StandsApart rest
     → text ≡ civil_text civil m t ++ behind → (word ≡ date_text civil) × (rest ≡ time m t behind)
 civil-parts text word rest civil m t behind whole plain apart is =

@@ -1,4 +1,4 @@
--- Escapes are read back as the bytes that they stand for.
+-- Escapes are read back as their bytes.
 use Rattle.std.proofs.Common.{◌≡◌, ℕ, true, false, List, [], ◌∷◌, ◌++◌, All, refl, ap, ◌∙◌, ⊎_elim}
 use Rattle.std.proofs.lemmas.Bool.{cond-true, cond-false, cases_Bool, both_ways}
 use Rattle.std.proofs.lemmas.List.Elements.{All-nil, All-cons, All-head, All-tail, All-append, All-weaker, All-same}
@@ -29,7 +29,7 @@ percent_decode-escaped place (b ∷ bs) small =
     ∙ percent_decode_not_percent b (escaped place bs) (λ percent. both_ways _ kept (ap (needs_escape place) percent ∙ needs_escape-percent place)) ∙ rest)
     (cases_Bool (needs_escape place b))
 
--- what holds of each byte that is kept, and of `%` and hexadecimal digits, holds of the bytes with escapes
+-- what holds for each byte that is kept, for `%` and for hexadecimal digits, holds for the bytes with escapes
 pub All-escaped : (P : ℕ → Type 0) (place : Place) → ((b : ℕ) → IsEscapeByte b → P b)
     → (bytes : List ℕ) → All (λ b. needs_escape place b ≡ false → P b) bytes → All P (escaped place bytes)
 All-escaped P place escape [] kept = All-nil P

@@ -1,4 +1,4 @@
--- The name of a host's file.
+-- The name of a host file.
 use Rattle.std.proofs.Common.{◌≡◌, ◌≢◌, ℕ, ◌+◌, ◌/◌, ◌%◌, ◌<◌, ◌≤◌, false, cond, ltb, List, [], ◌∷◌, length, All, refl, sym, ap, subst, ◌∙◌, ⊎_elim, arith}
 use Rattle.std.specs.Prelude.{codes}
 use Rattle.std.specs.Str.{bytes_eq, chars}
@@ -83,7 +83,7 @@ chars-host_name name is = chars-letters (host_letters name) (All-weaker IsHostLe
 pub All-host_bytes : (name : List ℕ) → IsName name → All IsByte (host_letters name)
 All-host_bytes name is = All-weaker IsHostLetter IsByte (λ b h. h.byte) (host_letters name) (All-host_letters name is)
 
--- the UTF-8 of a letter of two bytes
+-- the UTF-8 form of a letter with two bytes
 encode-two : (c : ℕ) → 128 ≤ c → c < 256 → encode c ≡ (192 + c / 64) ∷ (128 + c % 64) ∷ []
 unfolding encode
 encode-two c high low = cond-false (ltb c 128) _ _ (le-ltb c 128 high) ∙ cond-true (ltb c 2048) _ _ (lt-ltb c 2048 (omega arith))
@@ -110,7 +110,7 @@ All-letters [] plain = All-nil IsPlain
 All-letters (b ∷ bs) plain =
     All-append IsPlain (encode b) (letters bs) (All-encode b (All-head IsHostLetter b bs plain)) (All-letters bs (All-tail IsHostLetter b bs plain))
 
--- a host's name of another length than what is written for the name
+-- the host's name differs from a name that is written in a longer form
 module _ (name : List ℕ) (is : IsName name) where
   other_text : (dots written : List ℕ) → letters dots ≡ dots → percent_decode dots ≡ dots → host_letters dots ≡ written → length dots < length written → host_name name ≢ dots
   other_text dots written ascii plain escaped longer same =
@@ -149,6 +149,6 @@ IsHostName-host_name name is =
       plain = All-letters (host_letters name) (All-host_letters name is);
     }
 
--- the text of the letters that were made of the name
+-- the text of the letters for the name
 pub IsHostName-text : (name shown text : List ℕ) → IsName name → shown ≡ host_letters name → text ≡ letters shown → IsHostName text
 IsHostName-text name shown text is made spelled = subst IsHostName (sym (spelled ∙ ap letters made)) (IsHostName-host_name name is)

@@ -23,7 +23,7 @@ chars-letters bytes small = chars-encodes bytes (all_scalars-bytes bytes small)
 pub All-bytes : (bytes : List ℕ) → ((k : ℕ) → Fits w8 (get_or bytes k 0)) → All IsByte bytes
 All-bytes bytes fit = All-from_get_or IsByte bytes 0 (λ k inside. let fits = fit k in omega arith)
 
--- behind bytes stands a letter that is none
+-- bytes followed by a letter that is none
 pub IsFirstForeign-here : (text bytes : List ℕ) (place letter : ℕ) → bytes ≡ take place (chars text) → All IsByte bytes
     → (place < length (chars text)) × (letter ≡ get_or (chars text) place letter) → 256 ≤ letter → IsFirstForeign text letter place
 IsFirstForeign-here text bytes place letter front small stands past = record {
@@ -32,7 +32,7 @@ IsFirstForeign-here text bytes place letter front small stands past = record {
   before = All-same IsByte (take place (chars text)) bytes (sym front) small;
 }
 
--- the list of a text's letters, as far as a loop has come
+-- the list of a text's letters, up to the loop's position
 module _ (text items yielded : List ℕ) (front : items ≡ take (length yielded) (chars text)) where
   pub front-more : (letter byte : ℕ) (new : List ℕ) → new ≡ items ++ byte ∷ [] → byte ≡ letter
       → (length yielded < length (chars text)) × (letter ≡ get_or (chars text) (length yielded) letter)

@@ -1,4 +1,4 @@
--- The letters of bits spell these bits.
+-- The letters of bits are read back as these bits.
 use Rattle.std.proofs.Common.{◌≡◌, ℕ, zero, suc, ◌+◌, ◌*◌, ◌/◌, ◌%◌, ◌<◌, ◌==◌, Bool, true, false, List, [], ◌∷◌, ◌++◌, map, take, drop, refl, sym, ap, ◌∙◌, inr, arith}
 use Rattle.std.specs.Prelude.{not, ◌&&◌, ◌||◌, nat_lt}
 use Rattle.std.specs.List.{list_any}
@@ -8,15 +8,16 @@ use Rattle.std.proofs.lemmas.Bool.{and_parts, not-true, ltb-true}
 use Rattle.std.proofs.lemmas.Str.{encode_ascii}
 use Rattle.std.proofs.lemmas.Nat.{mod-pow-add}
 use Rattle.std.proofs.lemmas.Nat.Bits.{bit_at-lt}
-use Rattle.ados_name.specs.Protection.{is_set, letter_or_dash}
+use Rattle.ados_name.specs.Name.{is_set}
+use Rattle.ados_name.specs.Protection.{letter_or_dash}
 use Rattle.adf_text.specs.Letters.{letters}
 use Rattle.adf_text.specs.ProtectionLetters.{protection_letters, has, bit, protection_of, AreLetters}
 
--- what a place shows: its letter or a dash
+-- what a place shows: its letter, or a dash
 abbrev shown : Bool × ℕ → ℕ
 shown place = letter_or_dash place.0 place.1
 
--- no place is that of the letter
+-- no place has this letter
 abbrev lack : ℕ → List (Bool × ℕ) → Bool
 lack c [] = true
 lack c (place ∷ places) = not (place.1 == c) && lack c places
@@ -36,7 +37,7 @@ none-shown c (place ∷ places) dash lacks =
     let head = missed c place.0 place.1 dash (not-true (place.1 == c) parts.0) in
     ap (λ b. b || list_any (λ x. x == c) (map shown places)) head ∙ none-shown c places dash parts.1
 
--- a letter that has one place is there where that place shows it
+-- a letter with one place occurs if that place shows it
 one-shown : (c : ℕ) (before after : List (Bool × ℕ)) (set : Bool) → (45 == c) ≡ false → (c == c) ≡ true → lack c before ≡ true → lack c after ≡ true
     → list_any (λ x. x == c) (map shown (before ++ (set, c) ∷ after)) ≡ set
 one-shown c [] after set dash same front lacks =
@@ -55,7 +56,7 @@ bit-of zero value small = omega arith
 bit-of (suc zero) value small = omega arith
 bit-of (suc (suc b)) value small = absurd (omega arith)
 
--- a sum of eight bits, from the lowest on
+-- a sum of eight bits, from the lowest
 assemble : (n8 n7 n6 n5 n4 n3 n2 n1 n0 b7 b6 b5 b4 b3 b2 b1 b0 : ℕ) → n8 ≡ b7 * 128 + n7 → n7 ≡ b6 * 64 + n6 → n6 ≡ b5 * 32 + n5 → n5 ≡ b4 * 16 + n4
     → n4 ≡ b3 * 8 + n3 → n3 ≡ b2 * 4 + n2 → n2 ≡ b1 * 2 + n1 → n1 ≡ b0 * 1 + n0 → n0 ≡ 0
     → 128 * b7 + 64 * b6 + 32 * b5 + 16 * b4 + 8 * b3 + 4 * b2 + 2 * b1 + 1 * b0 ≡ n8
@@ -134,7 +135,7 @@ same-1 n = omega arith
 same-0 : (n : ℕ) → n % 256 / 1 % 2 ≡ n / 1 % 2
 same-0 n = omega arith
 
--- the letters show the low eight bits alone
+-- the letters show only the low eight bits
 pub protection_letters-low : (n : ℕ) → protection_letters (n % 256) ≡ protection_letters n
 protection_letters-low n = λ i. letter_or_dash (same-7 n i == 1) 104 ∷ letter_or_dash (same-6 n i == 1) 115 ∷ letter_or_dash (same-5 n i == 1) 112
     ∷ letter_or_dash (same-4 n i == 1) 97 ∷ letter_or_dash (not (same-3 n i == 1)) 114 ∷ letter_or_dash (not (same-2 n i == 1)) 119
@@ -143,7 +144,7 @@ protection_letters-low n = λ i. letter_or_dash (same-7 n i == 1) 104 ∷ letter
 pub AreLetters-letters : (bits : ℕ) → AreLetters (protection_letters bits)
 AreLetters-letters bits = inr (sym (ap protection_letters (protection_of-letters bits) ∙ protection_letters-low bits))
 
--- all of these letters are ASCII
+-- all these letters are ASCII
 abbrev low : List (Bool × ℕ) → Bool
 low [] = true
 low (place ∷ places) = nat_lt place.1 128 && low places

@@ -1,4 +1,4 @@
--- A file is read as one thing, and what is written is read back.
+-- A file is read as one note, and a written note is read back.
 use Rattle.std.proofs.Common.{◌≡◌, ℕ, ◌%◌, ◌<◌, ◌≤◌, Bool, true, false, List, [], ◌∷◌, ◌++◌, length, drop, All, append_assoc, refl, sym, ap, subst, ◌∙◌, inl, inr, arith}
 use Rattle.std.specs.Prelude.{◌⊎◌, ◌||◌, ◌==◌, not}
 use Rattle.std.specs.Str.{chars}
@@ -8,7 +8,8 @@ use Rattle.std.proofs.lemmas.List.Elements.{All-from_recursion, All-nil, All-con
 use Rattle.std.proofs.lemmas.Option.{slice_get_within, get_or_from_slice_get}
 use Rattle.std.proofs.lemmas.Str.{encodes_same, encodes-append, encode_ascii}
 use Rattle.percent_encoding.proofs.PercentLemmas.{IsEscapeByte}
-use Rattle.ados_name.specs.Protection.{is_set, letter_or_dash}
+use Rattle.ados_name.specs.Name.{is_set}
+use Rattle.ados_name.specs.Protection.{letter_or_dash}
 use Rattle.ados_name.specs.declared.Date3.{Date3}
 use Rattle.adf_text.specs.declared.escapes.Place.TheVariants.{Comment}
 use Rattle.adf_text.specs.declared.uaem.Uaem.{Uaem}
@@ -37,7 +38,7 @@ end-stops end (inr (inr is)) = subst (Stops is_control) (sym is) refl
 plain : (line : List ℕ) → All IsLineLetter line → All (λ c. is_control c ≡ false) line
 plain line is = All-weaker IsLineLetter (λ c. is_control c ≡ false) (λ c letter. letter.plain) line is
 
--- what stands in front of the first letter without a picture
+-- the letters before the first control character
 front-same : (file line front end more : List ℕ) → file ≡ letters (line ++ end) → file ≡ letters (front ++ more) → All IsLineLetter line → All IsLineLetter front
     → Stops is_control end → Stops is_control more → (line ≡ front) × (end ≡ more)
 front-same file line front end more first second of_line of_front stops others =
@@ -56,7 +57,7 @@ file-bytes : (file line : List ℕ) (has : HasLine file line) → All IsByte (li
 file-bytes file line has =
     All-append IsByte line has.end (All-weaker IsLineLetter IsByte (λ c letter. letter.byte) line has.plain) (end-bytes has.end has.ends)
 
--- ---- what a line tells is one thing
+-- ---- a line has one content
 
 low-same : (b c : ℕ) → b < 256 → c < 256 → b % 256 ≡ c % 256 → b ≡ c
 low-same b c few_b few_c same = omega arith
@@ -79,7 +80,7 @@ reads-same file noted other stamp stamp_other first second =
     let line = line-same file first.0 second.0 first.1 second.1 in
     tells-same first.0 noted other stamp stamp_other first.2 (subst (λ x. Tells x other) (sym line) second.2)
 
--- ---- where a fault is found, nothing is read
+-- ---- a file with a fault is not read
 
 pub fault-none : (file : List ℕ) (fault : UaemFault) → IsUaemFaultOf file fault → (fault ≡ Memory) ⊎ ((noted : Uaem) → IsNoted noted → Reads file noted → ⊥)
 fault-none file (NotUtf8 place) is = inr (λ noted of reads.
@@ -108,7 +109,7 @@ fault-none file (LongComment long) is = inr (λ noted of reads.
     omega (arith, shorter, long_is, past, lengths))
 fault-none file Memory is = inl refl
 
--- ---- what is written is read back
+-- ---- a written line is read back
 
 line_letter : (c : ℕ) → 32 ≤ c → c < 127 → IsLineLetter c
 line_letter c low high = record { byte = omega arith; plain = grind (arith, nat_tests) }

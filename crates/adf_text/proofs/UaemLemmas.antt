@@ -1,4 +1,4 @@
--- A line is of one thing alone.
+-- A line belongs to one content only.
 use Rattle.std.proofs.Common.{◌≡◌, ℕ, List, [], ◌∷◌, ◌++◌, drop, All, append_assoc, refl, sym, ap, ◌∙◌}
 use Rattle.std.specs.Prelude.{codes}
 use Rattle.std.proofs.lemmas.List.{same_from_push}

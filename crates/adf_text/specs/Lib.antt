@@ -1,6 +1,5 @@
--- Letters of bytes, escapes of those that have no picture, names of files on a host, letters of protection bits, dates that a
--- text begins with, and lines beside a file, as they are written and as they are read. What only the calls inside speak of
--- stands in steps.
+-- Letters of bytes, escapes, names of host files, letters of protection bits, dates at the start of a text, and the
+-- notes beside files, written and read. Definitions for steps are in `steps`.
 pub mod Letters
 pub mod Escapes
 pub mod HostNames

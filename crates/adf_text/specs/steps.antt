@@ -1,3 +1,3 @@
--- What only the calls inside speak of: what the parts of the readers of dates and lines find.
+-- Definitions for steps: the results of parts of the readers for dates and lines.
 pub mod Finds
 pub mod Parts

@@ -1,4 +1,4 @@
-//! Bytes that a text shows as `%` and two upper-case hexadecimal digits.
+//! Escapes of bytes: `%` and two upper-case hexadecimal digits.
 ghost use Rattle.std.specs.Prelude.{◌≡◌, IfOk, IfErr, OnOk, All, ◌++◌};
 ghost use Rattle.std.specs.Str.{chars};
 ghost use Rattle.adf_text.specs.Letters.{IsByte, IsFaultOf};
@@ -8,7 +8,7 @@ use crate::letters::{LettersFault, letter_bytes};
 use percent_encoding::{percent_decode, percent_encode_byte};
 use std::alloc::{AllocError, Global};
 
-/// Where bytes are shown.
+/// Where bytes are printed.
 #[derive(Clone, Copy)]
 pub(crate) enum Place {
     HostName,
@@ -16,7 +16,7 @@ pub(crate) enum Place {
 }
 
 impl Place {
-    /// Whether the byte is escaped there: the bytes 00 to 1F, 7F to 9F and `%`, and in a host's name `\`.
+    /// Whether the byte is escaped there: 00 to 1F, 7F to 9F and `%`; in a host's name also `\`.
     fn needs_escape(self, byte: u8) -> bool
         ensures { result ≡ needs_escape self byte }
     {
@@ -27,14 +27,14 @@ impl Place {
     }
 }
 
-/// Whether the byte has no picture: 00 to 1F and 7F to 9F.
+/// Whether the byte is a control character: 00 to 1F or 7F to 9F.
 pub(crate) fn is_control(byte: u8) -> bool
     ensures { result ≡ is_control byte }
 {
     byte < 32 || (127 <= byte && byte < 160)
 }
 
-/// The bytes with an escape for each that needs one there.
+/// The bytes, with an escape for each that needs one there.
 pub(crate) fn escaped(alloc: Global, bytes: &[u8], place: Place) -> Result<Vec<u8>, AllocError>
     ensures { IfOk result (λ shown. shown.items ≡ escaped place bytes.now) }
 {
@@ -55,7 +55,7 @@ fn push_escaped(shown: &mut Vec<u8>, byte: u8, place: Place) -> Result<(), Alloc
     Ok(())
 }
 
-/// The bytes that a text's letters stand for, with each escape as its byte.
+/// The bytes of a text's letters. Each escape is the byte of its digits.
 pub(crate) fn unescaped(alloc: Global, text: &str) -> Result<Vec<u8>, LettersFault>
     ensures ok { IfOk result (λ bytes. bytes.items ≡ unescaped text.now) }
     ensures letters { OnOk result (All IsByte (chars text.now)) }

@@ -1,4 +1,4 @@
-//! Dates that a text begins with, as `Date3::text` writes them.
+//! Dates at the start of a text, in the form of `Date3::text`.
 ghost use Rattle.std.specs.Prelude.{◌≡◌, ◌≢◌, ◌≤◌, ◌<◌, ◌^◌, ◌==◌, false, ℕ, List, ◌++◌, All, IfOk, IsTrue, ◌↔◌, IfNone, IfSome, MatchOption};
 ghost use Rattle.std.specs.Fmt.{decimal};
 ghost use Rattle.adf_text.specs.Dated.{IsStamp, StandsApart, BeginsWithDate, HasNoDate};
@@ -10,7 +10,7 @@ use jiff::fmt::temporal;
 use std::alloc::{AllocError, Global};
 use std::str;
 
-/// The date that the text begins with, and what stands behind it: nothing, or a space and more.
+/// The date at the start of the text and the rest after it, or `None`. The rest is empty or starts with a space.
 pub(crate) fn front_date(alloc: Global, text: &[u8]) -> Result<Option<(Date3, &[u8])>, AllocError>
     ensures found { IfOk result (λ found. MatchOption found (HasNoDate text.now) (λ f. BeginsWithDate text.now f.0 f.1.now)) }
     ensures stamp { IfOk result (λ found. IfSome found (λ f. IsStamp f.0)) }
@@ -25,7 +25,7 @@ pub(crate) fn front_date(alloc: Global, text: &[u8]) -> Result<Option<(Date3, &[
     }
 }
 
-// What stands behind a word at the front of a text.
+// The rest of a text after a word at its start.
 fn behind_word<'a>(text: &'a [u8], word: &[u8]) -> Option<&'a [u8]>
     ensures none { IfNone result ((behind : List ℕ) → StandsApart behind → text.now ≢ word.now ++ behind) }
     ensures stands { IfSome result (λ behind. text.now ≡ word.now ++ behind.now) }
@@ -47,7 +47,7 @@ fn stands_apart(behind: &[u8]) -> bool
     }
 }
 
-// The date that the text begins with, if it begins with one.
+// The date at the start of the text, if there is one.
 fn found_date(text: &[u8]) -> Option<Date3>
     ensures { FindsDate text.now result }
 {
@@ -70,7 +70,7 @@ fn found_numbers(text: &[u8]) -> Option<Date3>
     })
 }
 
-// The number behind a space, and what stands behind the number.
+// The number after a space, and the rest after it.
 fn found_number(text: &[u8]) -> Option<(u32, &[u8])>
     ensures { FindsNumber text.now result }
 {
@@ -88,7 +88,7 @@ fn number(word: &[u8]) -> Option<u32>
     }
 }
 
-// The bytes before the first space, and what stands from there on.
+// The bytes before the first space, and the rest from there.
 fn first_word(text: &[u8]) -> (&[u8], &[u8])
     ensures whole { text.now ≡ result.0.now ++ result.1.now }
     ensures word { All (λ c. (c == 32) ≡ false) result.0.now }
@@ -122,7 +122,7 @@ fn pair(tens: u8, ones: u8) -> u32
     10 * tens.saturating_sub(b'0') as u32 + ones.saturating_sub(b'0') as u32
 }
 
-// How many days after 1 January 1978 the day is that the text is of.
+// The number of days from 1 January 1978 to the day in the text.
 fn found_day(text: &[u8]) -> Option<u32>
     ensures { FindsDay text.now result }
 {

@@ -1,4 +1,4 @@
-//! Names of entries as names of files on a host.
+//! Names of entries as names of host files.
 ghost use Rattle.std.specs.Prelude.{◌≡◌, IfOk, IfErr, OnOk, All};
 ghost use Rattle.std.specs.Str.{chars};
 ghost use Rattle.std.specs.String.{string_bytes};
@@ -11,8 +11,8 @@ use crate::letters::{LettersFault, letter_text};
 use ados_name::Name;
 use std::alloc::{AllocError, Global};
 
-/// The name of an entry as the name of a host's file: its letters, with `%` and two upper-case hexadecimal digits for
-/// the bytes 00 to 1F and 7F to 9F, for `%` and `\`, and for the first dot of `.` and `..`.
+/// The name of an entry as the name of a host file: its letters in UTF-8. The bytes 00 to 1F and 7F to 9F, `%` and `\`
+/// become `%` and two upper-case hexadecimal digits, and so does the first dot of `.` and `..`.
 pub fn host_name(alloc: Global, name: &Name) -> Result<String, AllocError>
     ensures value { IfOk result (λ text. string_bytes text ≡ host_name name.now) }
     ensures fit { IfOk result (λ text. IsHostName (string_bytes text)) }
@@ -32,10 +32,10 @@ fn host_letters(alloc: Global, name: &[u8]) -> Result<Vec<u8>, AllocError>
     escaped(alloc, name, Place::HostName)
 }
 
-/// The bytes that the name of a host's file stands for: its letters, with each `%` and two hexadecimal digits as the
-/// byte of these digits. A `%` before anything else stands for itself.
+/// The bytes of a host file's name: its letters, with each `%` and two hexadecimal digits as the byte of these digits.
+/// Any other `%` is the byte `%`.
 ///
-/// It fails at a letter past U+00FF, and else only for want of memory. Whether the bytes are a name, `Name::new` tells.
+/// It fails for a letter past U+00FF, or if memory runs out. `Name::new` then checks whether the bytes are a name.
 pub fn host_name_bytes(alloc: Global, text: &str) -> Result<Vec<u8>, LettersFault>
     ensures ok { IfOk result (λ bytes. bytes.items ≡ unescaped text.now) }
     ensures letters { OnOk result (All IsByte (chars text.now)) }
@@ -44,7 +44,7 @@ pub fn host_name_bytes(alloc: Global, text: &str) -> Result<Vec<u8>, LettersFaul
     unescaped(alloc, text)
 }
 
-/// The name of a host's file stands for the name that it was made of.
+/// The host name of an entry is read back as the entry's name.
 pub fn host_names_come_back()
     ensures { HostNamesComeBack }
 {}

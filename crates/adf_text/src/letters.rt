@@ -1,4 +1,4 @@
-//! Letters of ISO 8859-1, which the bytes of names, comments and paths stand for.
+//! Letters of ISO 8859-1 for the bytes of names, comments and paths.
 ghost use Rattle.std.specs.Prelude.{◌≡◌, IfOk, IfErr, OnOk, All};
 ghost use Rattle.std.specs.Str.{chars};
 ghost use Rattle.std.specs.String.{string_bytes};
@@ -6,12 +6,12 @@ ghost use Rattle.adf_text.specs.Letters.{IsByte, letters, IsFaultOf, LettersCome
 
 use std::alloc::{AllocError, Global};
 
-/// Why a text stands for no bytes.
+/// Why a text has no bytes.
 #[derive(Clone, Copy, Debug, PartialEq, Eq)]
 pub enum LettersFault {
-    /// The first letter past U+00FF, and how many letters stand before it.
+    /// The first letter past U+00FF, and the number of letters before it.
     NoByte { letter: char, place: usize },
-    /// There was no memory.
+    /// Out of memory.
     Memory,
 }
 
@@ -33,7 +33,7 @@ pub fn letter_text(alloc: Global, bytes: &[u8]) -> Result<String, AllocError>
     bytes.iter().map(|byte| char::from(*byte)).collect(alloc)
 }
 
-/// The bytes that the letters of a text stand for. It fails at a letter past U+00FF, and else only for want of memory.
+/// The bytes of a text's letters. It fails for a letter past U+00FF, or if memory runs out.
 pub fn letter_bytes(alloc: Global, text: &str) -> Result<Vec<u8>, LettersFault>
     ensures ok { IfOk result (λ bytes. letters bytes.items ≡ text.now) }
     ensures letters { OnOk result (All IsByte (chars text.now)) }
@@ -54,7 +54,7 @@ pub fn letter_bytes(alloc: Global, text: &str) -> Result<Vec<u8>, LettersFault>
     Ok(bytes)
 }
 
-/// Of bytes, the letters give the same bytes back.
+/// The letters of bytes are read back as these bytes.
 pub fn letters_come_back()
     ensures { LettersComeBack }
 {}

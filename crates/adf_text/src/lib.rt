@@ -1,4 +1,4 @@
-//! Text for people in place of an Amiga's bytes: letters, names of host files, and what emulators note beside a file.
+//! Readable text for an Amiga's bytes: letters, names of host files, and the notes that emulators keep beside a file.
 #![tactic(auto)]
 
 mod escapes;

@@ -4,8 +4,8 @@ ghost use Rattle.adf_text.specs.ProtectionLetters.{has, protection_letters, prot
 
 use ados_name::Protect;
 
-/// Bits 7 to 0 as the letters `hsparwed`, in the form of the emulators FS-UAE and Amiberry: `h`, `s`, `p` and `a` where
-/// bits 7 to 4 are set, `r`, `w`, `e` and `d` where bits 3 to 0 are clear, and else a dash.
+/// Bits 7 to 0 as the letters `hsparwed`, in the form of the emulators FS-UAE and Amiberry. `h`, `s`, `p` and `a` are
+/// shown for set bits 7 to 4, `r`, `w`, `e` and `d` for clear bits 3 to 0, and a dash otherwise.
 pub fn protection_letters(protect: Protect) -> [u8; 8]
     ensures { result ≡ protection_letters protect.0 }
 {
@@ -26,7 +26,7 @@ pub fn protection_letters(protect: Protect) -> [u8; 8]
     ]
 }
 
-/// The eight bits that letters spell, either eight places with a letter of `hsparwed` or a dash each, or some of these
+/// The eight bits for letters. The text is eight places, each its letter of `hsparwed` or a dash, or some of these
 /// letters in any order. All other bits are clear.
 pub fn protection_of_letters(text: &[u8]) -> Option<Protect>
     ensures spelled { IsSome result ↔ AreLetters text.now }
@@ -71,7 +71,7 @@ fn is_letter_set(text: &[u8]) -> bool
     count_of(b"hsparwed", text) == text.len()
 }
 
-// How many of these letters the text has.
+// The number of these letters in the text.
 fn count_of(letters: &[u8], text: &[u8]) -> usize
     ensures { result ≡ count_by (has text.now) letters.now }
 {
@@ -81,7 +81,7 @@ fn count_of(letters: &[u8], text: &[u8]) -> usize
         .count()
 }
 
-/// The letters of protection bits spell the same eight bits.
+/// The letters of protection bits are read back as the same eight bits.
 pub fn protection_letters_come_back()
     ensures { ProtectionComesBack }
 {}

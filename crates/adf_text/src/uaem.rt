@@ -1,4 +1,4 @@
-//! Lines that emulators keep beside a host's file: what an Amiga knows of it and the host does not.
+//! The note that emulators keep beside a host file: metadata that the host cannot store.
 ghost use Rattle.std.specs.Prelude.{◌≡◌, IfOk};
 ghost use Rattle.std.specs.String.{string_bytes};
 ghost use Rattle.adf_text.specs.Uaem.{IsLineOf, LineTellsOne};
@@ -9,7 +9,7 @@ use crate::protection::protection_letters;
 use ados_name::{Comment, Date3, Protect};
 use std::alloc::{AllocError, Global};
 
-/// What a line beside a file tells of it. Of the protection bits it tells the low eight.
+/// The contents of a note. Of the protection bits it has the low eight.
 #[derive(Clone, Copy, Debug, PartialEq, Eq)]
 pub struct Uaem {
     pub protect: Protect,
@@ -17,12 +17,12 @@ pub struct Uaem {
     pub comment: Comment,
 }
 
-/// The line `hsparwed YYYY-MM-DD HH:MM:SS.CC COMMENT` and a line feed, as FS-UAE and Amiberry keep it in a file whose
+/// The line `hsparwed YYYY-MM-DD HH:MM:SS.CC COMMENT` with a line feed. FS-UAE and Amiberry keep it in a file whose
 /// name ends in `.uaem`.
 ///
-/// `CC` is hundredths of a second, two for each tick. A date without a civil text stands as `raw DAYS MINUTES TICKS`.
-/// The comment is in letters, with `%` and two hexadecimal digits for its bytes 00 to 1F, 7F to 9F and `%`, so that it
-/// stays on the line. The space before it also stands where it is empty.
+/// `CC` is hundredths of a second, two for each tick. A date without a calendar text is `raw DAYS MINUTES TICKS`. The
+/// comment is in letters; its bytes 00 to 1F, 7F to 9F and `%` are `%` and two hexadecimal digits, so it stays on the
+/// line. The space before it is written even if it is empty.
 pub fn uaem_line(alloc: Global, noted: &Uaem) -> Result<String, AllocError>
     ensures { IfOk result (λ text. IsLineOf noted.now (string_bytes text)) }
 {
@@ -33,7 +33,7 @@ pub fn uaem_line(alloc: Global, noted: &Uaem) -> Result<String, AllocError>
     format!(in alloc; "{protection} {date} {comment}\n")
 }
 
-/// A line is of one choice of eight bits, date and comment, so whoever finds what a line is of has what it was made of.
+/// A line belongs to exactly one choice of eight bits, date and comment.
 pub fn line_tells_one()
     ensures { LineTellsOne }
 {}

@@ -1,4 +1,4 @@
-//! Lines beside a host's file, read back.
+//! The note beside a host file, read back.
 ghost use Rattle.std.specs.Prelude.{◌≡◌, ◌<◌, ◌↔◌, ◌++◌, false, All, IsTrue, IfOk, IfErr, IfNone, IfSome};
 ghost use Rattle.adf_text.specs.Escapes.{is_control};
 ghost use Rattle.adf_text.specs.ProtectionLetters.{protection_letters};
@@ -15,22 +15,23 @@ use percent_encoding::percent_decode;
 use std::alloc::{AllocError, Global};
 use std::str;
 
-/// Why a file beside a host's file cannot be read. Places count letters from 0, but for the first one's, which counts bytes.
+/// Why a note cannot be read. Places count letters from 0; in `NotUtf8` they count bytes.
 #[derive(Clone, Copy, Debug, PartialEq, Eq)]
 pub enum UaemFault {
-    /// From this byte on the file is no UTF-8.
+    /// The file is not UTF-8 from this byte.
     NotUtf8 { place: usize },
-    /// The first letter past U+00FF, which no byte stands for.
+    /// The first letter past U+00FF.
     NoByte { letter: char, place: usize },
-    /// The first letter without a picture (00 to 1F, 7F to 9F) that is not of the line's end; a second line is one too.
+    /// The first control character (00 to 1F, 7F to 9F) that is not the end of the line. A second line counts as one.
     Control { place: usize },
-    /// The line does not begin with eight places of `hsparwed`, each its letter or a dash, and a space.
+    /// The line does not start with eight places of `hsparwed`, each its letter or a dash, and a space.
     NoProtection,
-    /// Behind the protection, at place 9, stands no date `YYYY-MM-DD HH:MM:SS.CC` with even `CC`, and no `raw DAYS MINUTES TICKS`.
+    /// After the protection, at place 9, there is no date `YYYY-MM-DD HH:MM:SS.CC` with even `CC`, and no `raw DAYS
+    /// MINUTES TICKS`.
     NoDate,
-    /// The comment has so many bytes, and may have 79.
+    /// The comment has this many bytes; 79 are allowed.
     LongComment { length: usize },
-    /// There was no memory.
+    /// Out of memory.
     Memory,
 }
 
@@ -59,11 +60,12 @@ impl From<LettersFault> for UaemFault {
     }
 }
 
-/// What the file tells that FS-UAE and Amiberry keep beside another, under its name and `.uaem`: the way back of `uaem_line`.
+/// Reads the note that FS-UAE and Amiberry keep beside a file, under its name and `.uaem`. It is the inverse of
+/// `uaem_line`.
 ///
-/// The file is one line in UTF-8; its end may be a line feed, a carriage return and a line feed, or missing. Behind the date
-/// the comment may be missing, with its space or without. In the comment `%` and two hexadecimal digits are a byte, and any
-/// other `%` stands for itself. All else is a fault: nothing is guessed.
+/// The file is one line in UTF-8. It ends in a line feed, in a carriage return and a line feed, or in nothing. The
+/// comment after the date may be missing, with or without its space. In the comment, `%` and two hexadecimal digits
+/// are a byte, and any other `%` is the byte `%`. Anything else is a fault.
 pub fn read_uaem(alloc: Global, file: &[u8]) -> Result<Uaem, UaemFault>
     ensures ok { IfOk result (Reads file.now) }
     ensures fault { IfErr result (IsUaemFaultOf file.now) }
@@ -104,7 +106,7 @@ fn one_line(text: &[u8]) -> Result<&[u8], UaemFault>
     Ok(line)
 }
 
-// The bytes before the first one without a picture, and what stands from there on.
+// The bytes before the first control character, and the rest from there.
 fn split_at_control(text: &[u8]) -> (&[u8], &[u8])
     ensures whole { text.now ≡ result.0.now ++ result.1.now }
     ensures plain { All (λ c. is_control c ≡ false) result.0.now }
@@ -128,7 +130,7 @@ fn is_line_end(text: &[u8]) -> bool
     }
 }
 
-// The bits whose letters the line begins with, and what stands behind the space.
+// The bits at the start of the line, and the rest after the space.
 fn front_protection(line: &[u8]) -> Option<(Protect, &[u8])>
     ensures none { IfNone result (HasNoBits line.now) }
     ensures bits { IfSome result (λ found. BeginsWithBits line.now found.0.0 found.1.now) }
@@ -152,7 +154,7 @@ fn are_letters_of(text: &[u8], protect: Protect) -> bool
     text == protection_letters(protect).as_slice()
 }
 
-// The comment of what stands behind the date.
+// The comment in the rest after the date.
 fn comment_behind(alloc: Global, behind: &[u8]) -> Result<Comment, UaemFault>
     ensures ok { IfOk result (λ comment. comment ≡ comment_of behind.now) }
     ensures fault { IfErr result (IsTooLong behind.now) }
@@ -184,13 +186,13 @@ fn comment_bytes(alloc: Global, behind: &[u8]) -> Result<Vec<u8>, AllocError>
     Ok(bytes)
 }
 
-/// A file is read as one thing at most.
+/// A file is read as at most one note.
 pub fn uaem_reads_one()
     ensures one { ReadsOne }
     ensures none { FaultReadsNone }
 {}
 
-/// The line that `uaem_line` writes is read as the same eight bits, date and comment.
+/// The line of `uaem_line` is read back as the same eight bits, date and comment.
 pub fn uaem_comes_back()
     ensures { UaemComesBack }
 {}

@@ -1,25 +1,25 @@
--- Whether bits deny that an entry is deleted with all that lies below it.
+-- Whether protection bits deny the deletion of an entry with everything below it.
 use Rattle.std.proofs.Common.{◌≡◌, ℕ, zero, suc, ◌<◌, inl, inr, Bool, true, false, not, List, [], ◌∷◌, length, get_or, Contains, IsSome, is_some, refl, sym, ap, ap₂, ◌∙◌, subst, arith}
 use Rattle.std.specs.Prelude.{◌&&◌}
 use Rattle.std.proofs.lemmas.Bool.{false≢true, true≢false}
-use Rattle.ados_chain.proofs.Lists.{Contains-cases, Contains-here, Contains-later, Contains-nil}
-use Rattle.ados_name.specs.Protection.{denies_delete}
-use Rattle.ados_tree.specs.Tree.{Tree, Proper, entries}
-use Rattle.ados_tree.proofs.Nodes.{parent_in}
+use Rattle.ados_model.proofs.KeyLists.{Contains-cases, Contains-here, Contains-later, Contains-nil}
+use Rattle.ados_name.specs.Name.{denies_delete}
+use Rattle.ados_model.specs.Tree.{Tree, Proper, entries}
+use Rattle.ados_model.proofs.Nodes.{parent_in}
 use Rattle.ados_change.specs.Conditions.IsUnder.{itself}
-use Rattle.ados_handler.specs.Objects.{protection_of}
+use Rattle.ados_model.specs.Objects.{protection_of}
 use Rattle.adf_transfer.specs.Located.{Located}
 use Rattle.adf_transfer.specs.Below.{AreBelow}
 use Rattle.adf_transfer.specs.Pruned.{IsDenied}
 use Rattle.adf_transfer.proofs.Going.{keys_of}
 use Rattle.adf_transfer.proofs.Under.{among_held, among_under, under_among}
 
--- a test of bits that force passes over
+-- a test of protection bits that `force` skips
 unforced : (force denies : Bool) → not force && denies ≡ true → (force ≡ false) × (denies ≡ true)
 unforced true denies h = absurd (false≢true h)
 unforced false denies h = (refl, h)
 
--- an entry of a list has its key among the list's
+-- the key of a list's entry is among the list's keys
 key_among : (es : List Located) (i : ℕ) (e : Located) → i < length es → e ≡ get_or es i e → Contains (keys_of es) e.key
 key_among [] i e inside is = absurd (omega arith)
 key_among (x ∷ xs) zero e inside is = subst (λ (y : Located). Contains (keys_of (x ∷ xs)) y.key) (sym is) (Contains-here x.key (keys_of xs))
@@ -33,7 +33,7 @@ none_passes (x ∷ xs) test each k c = elim (Contains-cases x.key (keys_of xs) k
   | inr later ↦ none_passes xs test (λ i l d. each (suc i) (omega arith) d) k later
 ]
 
--- without force, the bits of an object deny that it is deleted
+-- without `force`, a protection bit of an object denies deletion
 abbrev pub denies : Tree → Bool → ℕ → Bool
 denies t force k = not force && denies_delete (protection_of t k)
 

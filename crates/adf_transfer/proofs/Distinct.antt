@@ -1,9 +1,9 @@
--- Lists in which no number stands twice.
+-- Lists without duplicates.
 use Rattle.std.proofs.Common.{◌≡◌, ◌≢◌, ℕ, inl, inr, List, [], ◌∷◌, ◌++◌, reverse, Contains, sym, subst, arith}
 use Rattle.std.proofs.lemmas.List.{reverse-append}
 use Rattle.std.proofs.lemmas.List.Elements.{Contains-append_cases, Contains-get_or}
 use Rattle.std.proofs.lemmas.List.Kept.{AllPairs-cons}
-use Rattle.ados_chain.proofs.Lists.{Once, Once-tail, Once-head, Contains-cases, Contains-here, Contains-later, Contains-nil}
+use Rattle.ados_model.proofs.KeyLists.{Once, Once-tail, Once-head, Contains-cases, Contains-here, Contains-later, Contains-nil}
 
 pub Once-nil : Once []
 Once-nil i j d l m = absurd (omega arith)

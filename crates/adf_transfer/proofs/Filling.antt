@@ -1,28 +1,29 @@
--- A file that is written over and cut holds what is put in its place.
+-- A file that is overwritten and then cut has exactly the new bytes.
 use Rattle.std.proofs.Common.{◌≡◌, ◌≢◌, ℕ, ◌+◌, ◌<◌, ◌≤◌, inl, inr, Bool, true, false, nat_lt, if◌then◌else◌, List, [], ◌∷◌, length, take, drop, Option, Some, None, IsSome, is_some, option_map, refl, sym, ap, ◌∙◌, subst, arith, ltb-false, le-ltb, lt-ltb}
 use Rattle.std.proofs.lemmas.Bool.{cases_eq}
 use Rattle.std.proofs.lemmas.List.{take_all}
 use Rattle.std.proofs.Math.Seq.{take-append_seam}
 use Rattle.ados_name.specs.declared.Date3.{Date3}
-use Rattle.ados_tree.specs.Tree.{Node, Tree, Proper, bytes_in, bytes_of, content_at, root, size_in, size_of}
-use Rattle.ados_tree.specs.Tree.Content.{Directory, File}
-use Rattle.ados_tree.specs.Change.{changed, overlaid, rewritten, shortened, with_comment, with_protection, without_archive, written}
-use Rattle.ados_tree.specs.Stands.{Stands}
-use Rattle.ados_tree.proofs.Nodes.{content_in}
-use Rattle.ados_tree.proofs.OneTree.{one_tree}
+use Rattle.ados_model.specs.Tree.{Node, Tree, Proper, bytes_in, bytes_of, content_at, root, size_in, size_of}
+use Rattle.ados_model.specs.Tree.Content.{Directory, File}
+use Rattle.ados_model.specs.Change.{changed, overlaid, rewritten, shortened, with_comment, with_protection, written}
+use Rattle.ados_name.specs.Name.{without_archive}
+use Rattle.ados_model.specs.Stands.{Stands}
+use Rattle.ados_model.proofs.Nodes.{content_in}
+use Rattle.ados_model.proofs.OneTree.{one_tree}
 use Rattle.ados_change.proofs.Changed.{nodes_here, nodes_other}
 use Rattle.adf_transfer.specs.declared.put.NewFile.{NewFile}
 use Rattle.adf_transfer.specs.Changes.{described, filled}
 use Rattle.adf_transfer.specs.steps.CutBack.{cut_back}
 
--- the key of an entry, and that of a file
+-- the key of an entry, and the key of a file
 abbrev pub IsEntry : ℕ → Tree → Type 0
 IsEntry key t = IsSome (t.nodes key) × (key ≢ root t)
 
 abbrev pub IsFileKey : ℕ → Tree → Type 0
 IsFileKey key t = (bytes : List ℕ) × (content_at t key ≡ Some (File bytes))
 
--- the tree but for what a file holds and for its date and bits
+-- trees that differ only in a file's bytes, date and protection bits
 pub record IsHolding (t v : Tree) (key : ℕ) (bytes : List ℕ) : Type 0 where
   pub blocks : v.blocks ≡ t.blocks
   pub format : v.format ≡ t.format
@@ -72,12 +73,12 @@ module _ (t v : Tree) (key : ℕ) (bytes : List ℕ) (h : IsHolding t v key byte
     content = refl;
   }
 
-  -- written over from its beginning
+  -- overwritten from its start
   pub holds_written : (moment : Date3) (new : List ℕ) → IsHolding t (written moment key 0 new v) key (overlaid bytes 0 new)
   holds_written moment [] = h
   holds_written moment (c ∷ cs) = subst (λ (old : List ℕ). IsHolding t (written moment key 0 (c ∷ cs) v) key (overlaid old 0 (c ∷ cs))) bytes_held (holds_more moment (overlaid (bytes_of v key) 0 (c ∷ cs)))
 
-  -- cut where it is longer
+  -- cut if it is longer
   pub holds_cut : (moment : Date3) (size : ℕ) → IsHolding t (cut_back moment key size v) key (take size bytes)
   holds_cut moment size = go (nat_lt size (size_of v key)) refl
     where
@@ -95,7 +96,7 @@ module _ (t v : Tree) (key : ℕ) (bytes : List ℕ) (h : IsHolding t v key byte
         cc clash,
   )
 
--- what was written over and then cut is what was put there
+-- bytes overwritten and then cut are the new bytes
 whole : (new old : List ℕ) → take (length new) (overlaid old 0 new) ≡ new
 whole new old = take-append_seam new (drop (0 + length new) old)
 
@@ -105,7 +106,7 @@ holds_put t moment key old new file =
     subst (IsHolding t (cut_back moment key (length new) (written moment key 0 new t)) key) (whole new old)
     (holds_cut t (written moment key 0 new t) key (overlaid old 0 new) wrote moment (length new))
 
--- the file's node with all that is told of it
+-- the file's node with its new metadata
 abbrev telling : NewFile → Node → Node
 telling file node = record node { protection = file.protection.0; comment = file.comment; date = file.date }
 
@@ -128,7 +129,7 @@ module _ (moment : Date3) (key : ℕ) (file : NewFile) (v : Tree) where
       let text = nodes_here key (option_map (λ (a : Node). record a { comment = file.comment }) (with_bits.nodes key)) with_bits ∙ ap (option_map (λ (a : Node). record a { comment = file.comment })) bits in
       nodes_here key (option_map (λ (a : Node). record a { date = file.date }) (with_text.nodes key)) with_text ∙ ap (option_map (λ (a : Node). record a { date = file.date })) text
 
--- what is told of a file hides how its bytes came to it
+-- the metadata of a file does not depend on how its bytes were written
 pub described_same : (t v w : Tree) (moment : Date3) (key : ℕ) (file : NewFile) (bytes : List ℕ) → IsHolding t v key bytes → IsHolding t w key bytes → described moment key file v ≡ described moment key file w
 described_same t v w moment key file bytes h g =
     let blocks : v.blocks ≡ w.blocks = h.blocks ∙ sym g.blocks in
@@ -155,7 +156,7 @@ described_same t v w moment key file bytes h g =
       | inr other ↦ described_other moment key file v k other ∙ h.others k other ∙ sym (g.others k other) ∙ sym (described_other moment key file w k other)
     ]
 
--- a file that is written over, cut and described is filled
+-- a file that is overwritten, cut and described is filled
 pub filled_is : (t : Tree) (moment : Date3) (key : ℕ) (file : NewFile) (old : List ℕ) → content_at t key ≡ Some (File old)
     → described moment key file (cut_back moment key (length file.bytes.now) (written moment key 0 file.bytes.now t)) ≡ filled moment key file t
 filled_is t moment key file old is =
@@ -163,7 +164,7 @@ filled_is t moment key file old is =
     (holds_put t moment key old file.bytes.now is)
     (holds_more t t key old (holds_its_own t key old is) moment file.bytes.now)
 
--- an entry stays one whatever of it is changed
+-- an entry stays an entry after a change of its node
 pub entry_changed : (t : Tree) (key : ℕ) (f : Node → Node) → IsEntry key t → IsEntry key (changed key f t)
 entry_changed t key f is = (ap is_some (nodes_here key (option_map f (t.nodes key)) t) ∙ go (t.nodes key) is.0, is.1)
   where
@@ -171,11 +172,11 @@ entry_changed t key f is = (ap is_some (nodes_here key (option_map f (t.nodes ke
     go (Some node) there = refl
     go None there = there
 
--- what holds of the tree of a changed image
+-- a fact about the tree of a changed image
 pub after_change : (P : Tree → Type 0) (change : Tree → Tree) (old new : List ℕ) (t : Tree) → Stands old t → ((v : Tree) → Stands old v → Stands new (change v)) → P (change t) → (u : Tree) → Stands new u → P u
 after_change P change old new t s stands holds u r = subst P (one_tree new (change t) u (stands t s) r) holds
 
--- a file that is not longer stays, and a longer one is cut
+-- a file that is not longer is unchanged, a longer one is cut
 pub is_not_cut : (t : Tree) (moment : Date3) (key size : ℕ) → size_of t key ≤ size → t ≡ cut_back moment key size t
 is_not_cut t moment key size short = sym (ap (λ (b : Bool). if b then shortened moment key size t else t) (le-ltb size (size_of t key) short))
 

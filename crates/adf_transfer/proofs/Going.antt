@@ -1,10 +1,10 @@
--- How far all that lies below a directory is gone through.
+-- The progress of a walk over everything below a directory.
 use Rattle.std.proofs.Common.{◌≡◌, ◌≢◌, ℕ, suc, ◌<◌, inl, inr, List, [], ◌∷◌, ◌++◌, length, map, reverse, Contains, Some, IsSome, is_some, refl, sym, ap, ◌∙◌, subst, arith, append_assoc, length-append}
 use Rattle.std.proofs.lemmas.List.{append-nil, map-append, reverse-append}
 use Rattle.std.proofs.lemmas.List.Elements.{Contains-append_cases, Contains-append_left, Contains-append_right}
-use Rattle.ados_chain.proofs.Lists.{Once, Once-before, Once-front, Contains-cases, Contains-here, Contains-later, Contains-nil, length-once}
-use Rattle.ados_tree.specs.Tree.{Tree, Proper, entries, parent_of}
-use Rattle.ados_tree.proofs.Nodes.{parent_in}
+use Rattle.ados_model.proofs.KeyLists.{Once, Once-before, Once-front, Contains-cases, Contains-here, Contains-later, Contains-nil, length-once}
+use Rattle.ados_model.specs.Tree.{Tree, Proper, entries, parent_of}
+use Rattle.ados_model.proofs.Nodes.{parent_in}
 use Rattle.ados_change.specs.Conditions.{IsUnder}
 use Rattle.ados_change.specs.Conditions.IsUnder.{itself, by_parent as under_parent}
 use Rattle.adf_transfer.specs.Located.{Located}
@@ -18,11 +18,11 @@ use Rattle.adf_transfer.proofs.Waiting.Following.{done, next}
 abbrev pub keys_of : List Located → List ℕ
 keys_of es = map (λ e. e.key) es
 
--- the directory that holds it was gone through, and is the top or lies below it
+-- the entry's directory was visited, and is the top or below it
 abbrev pub IsHeld : Tree → ℕ → List ℕ → ℕ → Type 0
 IsHeld t top gone key = (dir : ℕ) × (parent_of t key ≡ Some dir) × Contains (top ∷ gone) dir × IsUnder t top dir
 
--- no key stands twice among those that were gone through and those that wait
+-- no key occurs twice among the visited and the waiting ones
 pub record AreApart (t : Tree) (top : ℕ) (gone waiting : List ℕ) : Type 0 where
   pub gone_once : Once gone
   pub waiting_once : Once waiting
@@ -34,7 +34,7 @@ module _ (t : Tree) (proper : Proper t) (top : ℕ) where
   held_node : (gone : List ℕ) (x : ℕ) → IsHeld t top gone x → x < t.blocks
   held_node gone x h = let n = parent_in (t.nodes x) h.0 h.1 in (proper.inside x n.0 n.1).1
 
-  -- nothing that is held is the top
+  -- a held key is not the top
   not_top : (gone : List ℕ) (x : ℕ) → IsHeld t top gone x → x ≢ top
   not_top gone x h same =
       let n = parent_in (t.nodes x) h.0 h.1 in
@@ -43,7 +43,7 @@ module _ (t : Tree) (proper : Proper t) (top : ℕ) where
   entry_parent : (dir x : ℕ) → Contains (entries t dir) x → parent_of t x ≡ Some dir
   entry_parent dir x c = (proper.listed dir x).0 c
 
-  -- at the start the entries of the top wait
+  -- at the start, the entries of the top wait
   pub apart_at_first : AreApart t top [] (reverse (entries t top))
   apart_at_first = record {
     gone_once = Once-nil;
@@ -60,7 +60,7 @@ module _ (t : Tree) (proper : Proper t) (top : ℕ) where
     key_held : IsHeld t top gone key
     key_held = a.waiting_held key key_waits
 
-    -- what is in the entry was not met yet
+    -- the contents of the entry were not visited yet
     unmet : (x : ℕ) → Contains (entries t key) x → IsHeld t top gone x → ⊥
     unmet x c h =
         let same : h.0 ≡ key = cc (h.1, entry_parent key x c) in
@@ -75,7 +75,7 @@ module _ (t : Tree) (proper : Proper t) (top : ℕ) where
     pub key_there : IsSome (t.nodes key)
     key_there = let n = parent_in (t.nodes key) key_held.0 key_held.1 in ap is_some n.1
 
-    -- fewer were gone through than there are blocks
+    -- fewer keys were visited than there are blocks
     pub gone_few : length gone < t.blocks
     gone_few =
         let more = Once-append gone (key ∷ []) a.gone_once (Once-one key) (λ x m n. a.apart x m (subst (Contains (others ++ key ∷ [])) (Contains-one key x n) key_waits)) in
@@ -107,7 +107,7 @@ module _ (t : Tree) (proper : Proper t) (top : ℕ) where
     other_waits : (x : ℕ) → Contains others x → Contains (others ++ key ∷ []) x
     other_waits x m = Contains-append_left others (key ∷ []) x m
 
-    -- the entry was gone through, and what is in it waits
+    -- the entry is visited, and its contents wait
     pub apart_goes_on : AreApart t top (gone ++ key ∷ []) (others ++ reverse (entries t key))
     apart_goes_on = record {
       gone_once = Once-append gone (key ∷ []) a.gone_once (Once-one key) (λ x m n. a.apart x m (subst (Contains (others ++ key ∷ [])) (Contains-one key x n) key_waits));
@@ -133,7 +133,7 @@ module _ (t : Tree) (proper : Proper t) (top : ℕ) where
       ];
     }
 
--- these were gone through, and those wait, the next one last
+-- these were visited, and those wait, the next one last
 pub record IsGoing (t : Tree) (top : ℕ) (gone waiting : List Located) : Type 0 where
   pub follows : (more : List Located) → Following t (reverse waiting) more → AreBelow t [] (entries t top) (gone ++ more)
   pub keys : AreApart t top (keys_of gone) (keys_of waiting)
@@ -193,7 +193,7 @@ module _ (t : Tree) (proper : Proper t) (top : ℕ) where
             ap keys_of is ∙ map-append (λ e. e.key) others (reverse (inside t e))
             ∙ ap (λ (xs : List ℕ). keys_of others ++ xs) (keys_reverse (inside t e) ∙ ap reverse (keys_inside t (e.path ++ slash) (entries t e.key)))
 
-  -- once nothing waits, all was gone through
+  -- when nothing waits, everything was visited
   pub going_ends : (gone waiting : List Located) → waiting ≡ [] → IsGoing t top gone waiting → AreBelow t [] (entries t top) gone
   going_ends gone waiting is g =
       subst (AreBelow t [] (entries t top)) (append-nil gone) (g.follows [] (subst (λ (es : List Located). Following t (reverse es) []) (sym is) done))

@@ -1,4 +1,4 @@
--- The last name of a path stands behind its last separator.
+-- The last name of a path follows its last separator.
 use Rattle.std.proofs.Common.{◌≡◌, ℕ, ◌+◌, ◌-◌, ◌<◌, ◌≤◌, zero-le, ◌==◌, false, ◌||◌, not, List, [], ◌∷◌, length, take, drop, get_or, Option, None, Some, sym, ap, arith}
 use Rattle.std.specs.List.{list_any, suffix_len}
 use Rattle.std.proofs.Math.Bool.{or-false}
@@ -9,10 +9,9 @@ use Rattle.std.proofs.lemmas.List.Folds.{list_any_none}
 use Rattle.std.proofs.lemmas.List.Sums.{suffix_len_is}
 use Rattle.bstr.specs.Find.{IsLastByte}
 use Rattle.bstr.specs.Bytes.{is_in}
-use Rattle.ados_name.specs.Name.{is_separator}
-use Rattle.ados_name.specs.Path.{last_name, front}
+use Rattle.ados_name.specs.Name.{is_separator, last_name, front}
 
--- the place behind the separator that was found, or the start
+-- the position after the found separator, or 0
 abbrev pub behind : Option ℕ → ℕ
 behind None = 0
 behind (Some k) = k + 1

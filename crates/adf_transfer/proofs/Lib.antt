@@ -1,4 +1,4 @@
--- Why going through a directory, and through all that lies below one, comes to its end with each entry once.
+-- Walks over a directory, and over everything below one, end and visit each entry once.
 pub mod Turns
 pub mod Loops
 pub mod Listing

@@ -1,20 +1,19 @@
--- How far a directory is listed.
+-- The progress of a walk over one directory.
 use Rattle.std.proofs.Common.{◌≡◌, ◌≢◌, ℕ, ◌<◌, ◌≤◌, inl, inr, List, [], ◌∷◌, ◌++◌, length, Contains, Some, refl, sym, ap, ◌∙◌, subst, arith, append_assoc, length-append, eq-eqb}
 use Rattle.std.proofs.lemmas.Option.{same_Some}
 use Rattle.std.proofs.lemmas.List.{append-nil}
 use Rattle.std.proofs.lemmas.List.Elements.{Contains-append_right}
-use Rattle.ados_chain.specs.Behind.{behind}
+use Rattle.ados_model.specs.Tree.{behind, Tree, Proper, entries, parent_of}
 use Rattle.ados_chain.specs.Look.{first_left}
 use Rattle.ados_chain.specs.declared.read.Next.TheVariants.{Entry}
-use Rattle.ados_chain.proofs.Lists.{Once, Once-before, Contains-cases, Contains-here, length-once}
+use Rattle.ados_model.proofs.KeyLists.{Once, Once-before, Contains-cases, Contains-here, length-once}
 use Rattle.ados_chain.proofs.Order.{behind-found, first-entry}
-use Rattle.ados_tree.specs.Tree.{Tree, Proper, entries, parent_of}
-use Rattle.ados_tree.specs.Change.{entries_after}
-use Rattle.ados_tree.proofs.Nodes.{entry_node}
+use Rattle.ados_model.specs.Change.{entries_after}
+use Rattle.ados_model.proofs.Nodes.{entry_node}
 use Rattle.ados_change.specs.Conditions.IsUnder.{itself}
 use Rattle.adf_transfer.proofs.Loops.{no_loop}
 
--- these keys of a directory were listed, and those behind the last of them are left
+-- these keys of a directory were listed, and those after the last of them are left
 pub record IsListed (t : Tree) (dir last : ℕ) (keys : List ℕ) : Type 0 where
   pub left : List ℕ
   pub all : entries t dir ≡ keys ++ left
@@ -23,7 +22,7 @@ pub record IsListed (t : Tree) (dir last : ℕ) (keys : List ℕ) : Type 0 where
 pub listing_starts : (t : Tree) (dir : ℕ) → IsListed t dir dir []
 listing_starts t dir = record { left = entries t dir; all = refl; behind_last = rw (eq-eqb dir dir refl) refl }
 
--- a listing that has come to its end has all entries
+-- at the end of a directory, all its entries were listed
 pub listing_ends : (t : Tree) (dir last : ℕ) (keys : List ℕ) → ((key : ℕ) → first_left (entries_after t dir last) ≢ Entry key) → IsListed t dir last keys → keys ≡ entries t dir
 listing_ends t dir last keys none l = go l.left l.all l.behind_last
   where
@@ -39,7 +38,7 @@ module _ (t : Tree) (proper : Proper t) (dir : ℕ) where
       let up : parent_of t key ≡ Some dir = rw n.1 n.2 in
       no_loop t proper key dir (proper.rooted key n.0 n.1) up (itself same)
 
-  -- no directory has more entries than the volume has blocks
+  -- a directory has at most as many entries as the volume has blocks
   pub entries_few : length (entries t dir) ≤ t.blocks
   entries_few = length-once (entries t dir) t.blocks (proper.once dir) (λ x c. let n = entry_node t proper dir x c in (proper.inside x n.0 n.1).1)
 

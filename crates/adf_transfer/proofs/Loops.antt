@@ -1,8 +1,8 @@
--- No object lies under one that it holds.
+-- No object is below an object that it holds.
 use Rattle.std.proofs.Common.{◌≡◌, ℕ, Some, None, refl, sym, ap, ◌∙◌, subst}
 use Rattle.std.specs.Prelude.{option_and_then}
-use Rattle.ados_tree.specs.Tree.{Tree, Proper, LeadsToRoot, parent_of, root}
-use Rattle.ados_tree.specs.Tree.LeadsToRoot.{at_root, by_parent}
+use Rattle.ados_model.specs.Tree.{Tree, Proper, LeadsToRoot, parent_of, root}
+use Rattle.ados_model.specs.Tree.LeadsToRoot.{at_root, by_parent}
 use Rattle.ados_change.specs.Conditions.{IsUnder}
 use Rattle.ados_change.specs.Conditions.IsUnder.{itself, by_parent as under_parent}
 

@@ -1,16 +1,16 @@
--- An entry that nothing stands against may move.
+-- An entry that no refusal excludes can move.
 use Rattle.std.proofs.Common.{◌≡◌, ◌≢◌, ℕ, false, not, nat_eq, ◌==◌, List, Some, sym, ap, ◌∙◌, eqb-true}
 use Rattle.std.proofs.lemmas.Bool.{true≢false}
 use Rattle.ados_name.specs.Name.{IsName}
-use Rattle.ados_tree.specs.Tree.{Tree, root}
-use Rattle.ados_tree.specs.Walk.{child_of}
-use Rattle.ados_tree.specs.Keys.{HasDirectory, HasKey}
-use Rattle.ados_tree.specs.Stands.{Stands}
-use Rattle.ados_tree.proofs.Nodes.{some_in}
+use Rattle.ados_model.specs.Tree.{Tree, root}
+use Rattle.ados_model.specs.Change.{child_of}
+use Rattle.ados_model.specs.Keys.{HasDirectory, HasKey}
+use Rattle.ados_model.specs.Stands.{Stands}
+use Rattle.ados_model.proofs.Nodes.{some_in}
 use Rattle.ados_change.specs.Conditions.{CanRename}
 use Rattle.ados_volume.proofs.Looking.{is_child}
-use Rattle.ados_handler.specs.Objects.{is_under}
-use Rattle.ados_handler.specs.Refusals.{is_some_and}
+use Rattle.ados_model.specs.Objects.{is_under}
+use Rattle.ados_model.specs.Refusals.{is_some_and}
 use Rattle.ados_handler.proofs.Climbing.{directory_is_key}
 use Rattle.ados_handler.proofs.Reading.{from_not}
 use Rattle.ados_handler.proofs.Under.{under_is_told}

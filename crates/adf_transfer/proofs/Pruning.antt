@@ -1,4 +1,4 @@
--- How far what lies under an entry is taken away.
+-- The progress of removing everything below an entry.
 use Rattle.std.proofs.Common.{◌≡◌, ◌≢◌, ℕ, ◌⊎◌, inl, inr, Bool, true, false, not, ◌==◌, if◌then◌else◌, List, [], ◌∷◌, ◌++◌, filter, Contains, Option, Some, None, IsSome, is_some, option_map, refl, sym, ap, ap₂, ◌∙◌, subst, append_assoc}
 use Rattle.std.specs.Prelude.{option_and_then}
 use Rattle.std.specs.Option.{option_map_or}
@@ -6,16 +6,16 @@ use Rattle.std.proofs.lemmas.Bool.{cases_eq}
 use Rattle.std.proofs.lemmas.List.{append-nil, map-append}
 use Rattle.std.proofs.lemmas.List.Elements.{Contains-append_cases, Contains-append_left, Contains-append_right}
 use Rattle.ados_name.specs.declared.Date3.{Date3}
-use Rattle.ados_chain.proofs.Lists.{Once, Once-before, Once-apart, Contains-split, Contains-cases, Contains-here, Contains-later, Contains-nil}
-use Rattle.ados_tree.specs.Tree.{Node, Tree, Proper, entries, entries_in, parent_of}
-use Rattle.ados_tree.proofs.Nodes.{directory_node, parent_in}
-use Rattle.ados_tree.proofs.OneTree.{one_tree}
-use Rattle.ados_tree.specs.Stands.{Stands}
-use Rattle.ados_tree.specs.Change.{left, listed, removed}
+use Rattle.ados_model.proofs.KeyLists.{Once, Once-before, Once-apart, Contains-split, Contains-cases, Contains-here, Contains-later, Contains-nil}
+use Rattle.ados_model.specs.Tree.{Node, Tree, Proper, entries, entries_in, parent_of}
+use Rattle.ados_model.proofs.Nodes.{directory_node, parent_in}
+use Rattle.ados_model.proofs.OneTree.{one_tree}
+use Rattle.ados_model.specs.Stands.{Stands}
+use Rattle.ados_model.specs.Change.{left, listed, removed}
 use Rattle.ados_change.specs.Conditions.{CanRemove, IsUnder}
 use Rattle.ados_change.specs.Conditions.IsUnder.{itself, by_parent as under_parent}
 use Rattle.ados_change.proofs.Changed.{nodes_here, nodes_other, relisted, listed_parents}
-use Rattle.ados_handler.specs.Objects.{is_under}
+use Rattle.ados_model.specs.Objects.{is_under}
 use Rattle.ados_handler.proofs.Under.{under_is_told}
 use Rattle.adf_transfer.specs.Located.{Located}
 use Rattle.adf_transfer.specs.Below.{AreBelow}
@@ -25,7 +25,7 @@ use Rattle.adf_transfer.specs.Pruned.{pruned}
 use Rattle.adf_transfer.proofs.Distinct.{Contains-one}
 use Rattle.adf_transfer.proofs.Under.{StandsUnder, among_held, among_other, among_under, behind_own, closed, under_among}
 
--- of the keys under an entry the last ones are gone, these are left, and all else is as it was
+-- of the keys below an entry, the last ones are removed and these are left; everything else is unchanged
 pub record IsShrunk (t u : Tree) (key : ℕ) (rest gone : List ℕ) : Type 0 where
   pub blocks : u.blocks ≡ t.blocks
   pub format : u.format ≡ t.format
@@ -46,7 +46,7 @@ shrunk_at_first t key rest = record {
   parents = λ k c. refl;
 }
 
--- a number stands in a list, or does not
+-- a number is in a list, or is not
 contains_or_not : (xs : List ℕ) (x : ℕ) → Contains xs x ⊎ (¬ Contains xs x)
 contains_or_not [] x = inr (Contains-nil x)
 contains_or_not (y ∷ ys) x = elim (cases_eq y x) [
@@ -57,12 +57,12 @@ contains_or_not (y ∷ ys) x = elim (cases_eq y x) [
   ]
 ]
 
--- a list that has nothing
+-- a list without elements is empty
 no_entries : (xs : List ℕ) → ((x : ℕ) → Contains xs x → ⊥) → xs ≡ []
 no_entries [] h = refl
 no_entries (x ∷ xs) h = absurd (h x (Contains-here x xs))
 
--- the nodes of a tree from which an entry was removed
+-- the nodes of a tree without one entry
 module _ (u : Tree) (moment : Date3) (key dir : ℕ) (up : parent_of u key ≡ Some dir) where
   others : List ℕ
   others = filter (λ k. not (k == key)) (entries u dir)
@@ -85,7 +85,7 @@ module _ (u : Tree) (moment : Date3) (key dir : ℕ) (up : parent_of u key ≡ S
       ap (option_and_then (λ node. node.parent)) (nodes_other key None (left moment key u) k a ∙ ap (λ (v : Tree). v.nodes k) left_is) ∙ listed_parents moment dir others u k
 
 module _ (t : Tree) (moment : Date3) (key : ℕ) (proper : Proper t) (es : List Located) (below : AreBelow t [] (entries t key) es) (once : Once (keys_of es)) where
-  -- the entry whose turn it is: the last of those that are left
+  -- the next entry to remove: the last of those left
   module _ (u : Tree) (proper_now : Proper u) (rest gone : List ℕ) (e : ℕ) (split : keys_of es ≡ (rest ++ e ∷ []) ++ gone) (shrunk : IsShrunk t u key (rest ++ e ∷ []) gone) where
     split_here : keys_of es ≡ rest ++ e ∷ gone
     split_here = split ∙ append_assoc rest (e ∷ []) gone
@@ -105,7 +105,7 @@ module _ (t : Tree) (moment : Date3) (key : ℕ) (proper : Proper t) (es : List 
     e_other : e ≢ key
     e_other = among_other t proper key es e below is_among
 
-    -- nothing that is left stands in it
+    -- no remaining entry is in it
     none_in : (x : ℕ) → Contains (entries u e) x → ⊥
     none_in x c = elim (contains_or_not (key ∷ ((rest ++ e ∷ []) ++ gone)) x) [
       | inl m ↦ elim (Contains-cases key ((rest ++ e ∷ []) ++ gone) x m) [
@@ -123,13 +123,13 @@ module _ (t : Tree) (moment : Date3) (key : ℕ) (proper : Proper t) (es : List 
         up_of_x : parent_of u x ≡ Some e
         up_of_x = (proper_now.listed e x).0 c
 
-        -- what is in the entry is among them
+        -- the contents of the entry are among them
         is_left : (x : ℕ) → Contains (key ∷ (rest ++ e ∷ [])) x → parent_of u x ≡ Some e → ¬ Contains (keys_of es) x → ⊥
         is_left x l up out =
             let was : parent_of t x ≡ Some e = sym (shrunk.parents x l) ∙ up in
             out (closed t proper [] (entries t key) es e x below is_among ((proper.listed e x).1 was))
 
-        -- and none of it stands in front of the entry
+        -- no contents of the entry come before it
         before : (x : ℕ) → Contains (rest ++ e ∷ []) x → parent_of u x ≡ Some e → ⊥
         before x l up =
             let was : parent_of t x ≡ Some e = sym (shrunk.parents x (Contains-later key (rest ++ e ∷ []) x l)) ∙ up in
@@ -193,7 +193,7 @@ module _ (t : Tree) (moment : Date3) (key : ℕ) (proper : Proper t) (es : List 
           ]
         ]
 
-  -- once nothing is left below the entry, it is taken away too
+  -- when nothing is left below the entry, it is removed too
   module _ (u : Tree) (proper_now : Proper u) (shrunk : IsShrunk t u key [] (keys_of es)) (dir : ℕ) (up : parent_of t key ≡ Some dir) where
     up_still : parent_of u key ≡ Some dir
     up_still = shrunk.parents key (Contains-here key []) ∙ up
@@ -227,7 +227,7 @@ module _ (t : Tree) (moment : Date3) (key : ℕ) (proper : Proper t) (es : List 
     unfolding others
     same_others = ap (filter (λ k. not (k == key))) same_entries
 
-    -- the nodes under the entry are gone on both sides
+    -- the nodes at or below the entry are gone in both trees
     node_under : (k : ℕ) → Contains (key ∷ keys_of es) k → (removed moment key u).nodes k ≡ (pruned moment key t).nodes k
     node_under k m = gone_now (Contains-cases key (keys_of es) k m) ∙ sym (ap (λ (b : Bool). if b then None else (removed moment key t).nodes k) told)
       where
@@ -244,7 +244,7 @@ module _ (t : Tree) (moment : Date3) (key : ℕ) (proper : Proper t) (es : List 
         told : is_under t key k ≡ true
         told = let w = there (Contains-cases key (keys_of es) k m) in (under_is_told t proper key k w.0).1 w.1
 
-    -- and the other nodes are the same
+    -- the other nodes are the same
     node_outside : (k : ℕ) → ¬ Contains (key ∷ keys_of es) k → (removed moment key u).nodes k ≡ (removed moment key t).nodes k
     node_outside k out = elim (cases_eq k dir) [
       | inl at ↦
@@ -284,7 +284,7 @@ module _ (t : Tree) (moment : Date3) (key : ℕ) (proper : Proper t) (es : List 
         let lost : (removed moment key u).lost ≡ (pruned moment key t).lost = ap (λ (v : Tree). v.lost) now ∙ shrunk.lost ∙ sym (ap (λ (v : Tree). v.lost) before) in
         λ i. record { blocks = blocks i; format = format i; disk_date = moment; creation_date = creation i; nodes = λ k. pruned_node k i; lost = lost i }
 
--- an image of which all that was under an entry is taken away from the last to the first: these keys are left
+-- an image with entries below an entry removed from the last to the first: these keys are left
 pub record IsPruning (t : Tree) (key : ℕ) (all image rest : List ℕ) : Type 0 where
   pub now : Tree
   pub gone : List ℕ

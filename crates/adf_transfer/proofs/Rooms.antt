@@ -1,4 +1,4 @@
--- Whether there is room for a file's bytes.
+-- Whether enough blocks are free for a file's bytes.
 use Rattle.std.proofs.Common.{◌≡◌, ◌≢◌, ℕ, ◌+◌, ◌-◌, ◌<◌, ◌≤◌, inl, inr, Bool, false, nat_lt, if◌then◌else◌, List, [], length, Option, Some, None, option_map, refl, sym, ap, ◌∙◌, arith, le-ltb, lt-ltb}
 use Rattle.std.specs.Prelude.{max}
 use Rattle.std.proofs.lemmas.Bool.{cases_eq, cases_lt, true≢false}
@@ -7,15 +7,13 @@ use Rattle.adf_block.specs.declared.Format.TheVariants.{Ofs, Ffs}
 use Rattle.adf_block.proofs.Totals.{total-one}
 use Rattle.ados_name.specs.declared.Date3.{Date3}
 use Rattle.ados_name.specs.Name.{slot}
-use Rattle.ados_data.specs.Cost.{block_cost}
-use Rattle.ados_tree.specs.Tree.{Node, Tree, content_at, cost_in, cost_of, entries, free, name_of, size_in, size_of, used}
-use Rattle.ados_tree.specs.Tree.Content.{Directory, File}
-use Rattle.ados_tree.specs.Change.{enter, made, new_node, with_node}
-use Rattle.ados_tree.proofs.Nodes.{content_in}
-use Rattle.ados_tree.specs.Tree.{IsUnused}
+use Rattle.ados_model.specs.Tree.{block_cost, Node, Tree, content_at, cost_in, cost_of, entries, free, name_of, size_in, size_of, used, IsUnused}
+use Rattle.ados_model.specs.Tree.Content.{Directory, File}
+use Rattle.ados_model.specs.Change.{enter, made, new_node, with_node}
+use Rattle.ados_model.proofs.Nodes.{content_in}
 use Rattle.ados_change.specs.Conditions.{IsDirectoryKey}
-use Rattle.ados_packet.specs.declared.info.FileInfo.{FileInfo}
-use Rattle.ados_volume.specs.Examined.{file_info}
+use Rattle.ados_model.specs.declared.answer.FileInfo.{FileInfo}
+use Rattle.ados_model.specs.Objects.{file_info}
 use Rattle.ados_change.specs.Renewed.{NeedsMore, written_size}
 use Rattle.ados_change.proofs.Changed.{nodes_here, nodes_other, relisted}
 use Rattle.adf_transfer.specs.declared.put.NotPut.{NotPut}
@@ -64,7 +62,7 @@ module _ (t : Tree) (moment : Date3) (dir key : ℕ) (name : List ℕ) (director
   key_cost : cost_of (made moment dir key name (File []) t) key ≡ 1
   key_cost = ap cost (made_nodes key (λ e. not_itself (sym e)) ∙ nodes_here key (Some node) t) ∙ file_cost t.format
 
-  -- a new file takes one block
+  -- a new file uses one block
   pub used_more : used (made moment dir key name (File []) t) ≡ used t + 1
   used_more =
       let more = total-one (cost_of t) (cost_of (made moment dir key name (File []) t)) key t.blocks unused.inside.1 (λ k l other. other_cost k other) in
@@ -74,11 +72,11 @@ module _ (t : Tree) (moment : Date3) (dir key : ℕ) (name : List ℕ) (director
   pub free_less : 1 ≤ free t → free (made moment dir key name (File []) t) + 1 ≡ free t
   free_less some = omega (arith, some, used_more)
 
-  -- and it is empty
+  -- a new file is empty
   pub new_is_empty : content_at (made moment dir key name (File []) t) key ≡ Some (File [])
   new_is_empty = ap (option_map (λ (node : Node). node.content)) (made_nodes key (λ e. not_itself (sym e)) ∙ nodes_here key (Some node) t)
 
-  -- so there is room for its bytes, if there was for these and one block more
+  -- so its bytes fit if blocks for them and one more were free
   pub room_in_new : (size : ℕ) → 1 + block_cost t.format size ≤ free t → more_blocks (made moment dir key name (File []) t) key size ≤ free (made moment dir key name (File []) t)
   room_in_new size enough = left (block_cost t.format size) (block_cost t.format (size_of (made moment dir key name (File []) t) key)) (free t) (free (made moment dir key name (File []) t)) enough
       (free_less (some (block_cost t.format size) (free t) enough))
@@ -89,7 +87,7 @@ module _ (t : Tree) (moment : Date3) (dir key : ℕ) (name : List ℕ) (director
       left : (cost own before after : ℕ) → 1 + cost ≤ before → after + 1 ≡ before → cost - own ≤ after
       left cost own before after enough less = omega (arith, enough, less)
 
--- where so many blocks more are free as a file needs, it can be written over
+-- a file can be overwritten if as many blocks are free as it needs in addition
 pub fits_in : (t : Tree) (key : ℕ) (bytes : List ℕ) → more_blocks t key (length bytes) ≤ free t → ¬ NeedsMore t key (written_size t key 0 bytes)
 fits_in t key bytes enough more = true≢false (sym more ∙ fits (block_cost t.format) (size_of t key) (length bytes) (free t) enough)
   where
@@ -99,11 +97,11 @@ fits_in t key bytes enough more = true≢false (sym more ∙ fits (block_cost t.
       | inr shorter ↦ let size : max old (0 + new) ≡ old = omega (arith, shorter) in le-ltb (room + cost old) (cost (max old (0 + new))) (omega (arith, ap cost size))
     ]
 
--- the size that is told of a file
+-- the size in a file's description
 pub size_told : (t : Tree) (key : ℕ) (node : Node) (info : FileInfo) → t.nodes key ≡ Some node → info ≡ file_info t.format key node → info.size ≡ size_of t key
 size_told t key node info at told = ap (λ (i : FileInfo). i.size) told ∙ sym (ap (λ (o : Option Node). size_in (option_map (λ node. node.content) o)) at)
 
--- a file that needs more blocks than are free is refused so, and one that needs no more is not
+-- a file that needs more blocks than are free is refused, any other is not
 pub no_room : (needed room told : ℕ) (refused : NotPut) → told ≡ needed → room < told → refused ≡ NoRoom told room → or_no_room None needed room ≡ Some refused
 no_room needed room told refused same few is =
     ap (λ (b : Bool). if b then Some (NoRoom needed room) else None) (lt-ltb room needed (omega (arith, same, few)))

@@ -1,7 +1,7 @@
--- Lists of refusals, gone through by what is known of their conditions.
+-- Lists of refusals, evaluated by facts about their conditions.
 use Rattle.std.proofs.Common.{◌≡◌, Bool, true, List, ◌∷◌, Option, Some, ap}
-use Rattle.ados_packet.specs.declared.dos_error.DosError.{DosError}
-use Rattle.ados_handler.specs.Refusals.{first_refusal, refuse}
+use Rattle.ados_model.specs.declared.dos_error.DosError.{DosError}
+use Rattle.ados_model.specs.Refusals.{first_refusal, refuse}
 
 -- a condition that holds refuses
 pub stops : (code : DosError) (test : Bool) (more : List (Option DosError)) → test ≡ true → first_refusal (refuse code test ∷ more) ≡ Some code

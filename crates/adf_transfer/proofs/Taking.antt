@@ -1,8 +1,8 @@
--- Keys that are taken off a list, the last first, and put on a stack.
+-- Keys popped from a list, the last first, and pushed on a stack.
 use Rattle.std.proofs.Common.{◌≡◌, ℕ, List, [], ◌∷◌, ◌++◌, map, reverse, Contains, sym, ap, ◌∙◌, subst, append_assoc}
 use Rattle.std.proofs.lemmas.List.{reverse-append}
 use Rattle.std.proofs.lemmas.List.Elements.{Contains-append_left, Contains-append_right}
-use Rattle.ados_chain.proofs.Lists.{Contains-here}
+use Rattle.ados_model.proofs.KeyLists.{Contains-here}
 
 -- the last of a list is in it
 pub last_is_in : (all keys rest taken : List ℕ) (key : ℕ) → all ≡ keys ++ taken → keys ≡ rest ++ key ∷ [] → Contains all key

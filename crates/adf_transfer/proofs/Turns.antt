@@ -1,18 +1,18 @@
--- What is kept by a volume that is looked at before it is changed, and by changes in turn.
+-- What is untouched by a read before a change, and by sequences of changes.
 use Rattle.std.proofs.Common.{◌≡◌, ◌/◌, ℕ, List, sym, ap, ◌∙◌, subst}
-use Rattle.ados_tree.specs.Keys.{HasTree}
-use Rattle.ados_tree.specs.NewBlocks.{KeepsRest}
-use Rattle.ados_tree.proofs.FilesStay.{past_end_trans}
-use Rattle.ados_tree.proofs.Keeping.{same_keeps}
+use Rattle.ados_model.specs.Keys.{HasTree}
+use Rattle.ados_change.specs.NewBlocks.{KeepsRest}
+use Rattle.ados_change.proofs.FilesStay.{past_end_trans}
+use Rattle.ados_change.proofs.Keeping.{same_keeps}
 use Rattle.ados_volume.specs.Shown.{Shown}
 use Rattle.adf_transfer.specs.InTurn.{KeepsInTurn, KeepsOutside}
 use Rattle.adf_transfer.specs.InTurn.KeepsInTurn.{none, one_more}
 
--- a volume that is as it was
+-- an unchanged volume
 pub kept_as_it_was : (old new : Shown) → new ≡ old → KeepsRest old.image new.image
 kept_as_it_was old new same = subst (λ (v : Shown). KeepsRest old.image v.image) (sym same) (same_keeps old.image)
 
--- a change of one that is as it was
+-- a change of an unchanged volume
 pub kept_looked : (old looked new : Shown) → looked ≡ old → KeepsRest looked.image new.image → KeepsRest old.image new.image
 kept_looked old looked new same keeps = subst (λ (v : Shown). KeepsRest v.image new.image) same keeps
 
@@ -23,12 +23,12 @@ in_turn_as_it_was old new same = subst (λ (v : Shown). KeepsInTurn old.image v.
 pub in_turn_one : (old new : List ℕ) → KeepsRest old new → HasTree new → KeepsInTurn old new
 in_turn_one old new keeps has = one_more none keeps has
 
--- changes behind others
+-- one sequence of changes after another
 pub in_turn_both : (old between new : List ℕ) → KeepsInTurn old between → KeepsInTurn between new → KeepsInTurn old new
 in_turn_both old between new first none = first
 in_turn_both old between new first (one_more {between = next} then keeps has) = one_more (in_turn_both old between next first then) keeps has
 
--- what lies outside the tree
+-- the parts outside the tree
 outside_same : (image : List ℕ) → KeepsOutside image image
 outside_same image = let k = same_keeps image in record { size = k.kept.size; boot = k.kept.boot; past_end = k.untold.past_end }
 

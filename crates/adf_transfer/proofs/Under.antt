@@ -1,10 +1,10 @@
--- What lies below a directory: all that its parents lead up to it, each behind its own directory.
+-- Everything below a directory: all keys whose parents lead up to it, each after its own directory.
 use Rattle.std.proofs.Common.{◌≡◌, ◌≢◌, ℕ, ◌⊎◌, inl, inr, List, [], ◌∷◌, ◌++◌, Contains, Some, refl, sym, ap, ◌∙◌, subst}
 use Rattle.std.proofs.lemmas.List.{map-append}
 use Rattle.std.proofs.lemmas.List.Elements.{Contains-append_cases, Contains-append_left, Contains-append_right}
-use Rattle.ados_chain.proofs.Lists.{Contains-cases, Contains-here, Contains-later, Contains-nil}
-use Rattle.ados_tree.specs.Tree.{Tree, Proper, entries, name_of, parent_of}
-use Rattle.ados_tree.proofs.Nodes.{parent_in}
+use Rattle.ados_model.proofs.KeyLists.{Contains-cases, Contains-here, Contains-later, Contains-nil}
+use Rattle.ados_model.specs.Tree.{Tree, Proper, entries, name_of, parent_of}
+use Rattle.ados_model.proofs.Nodes.{parent_in}
 use Rattle.ados_change.specs.Conditions.{IsUnder}
 use Rattle.ados_change.specs.Conditions.IsUnder.{itself, by_parent as under_parent}
 use Rattle.adf_transfer.specs.Located.{Located}
@@ -13,7 +13,7 @@ use Rattle.adf_transfer.specs.Below.AreBelow.{none, entry}
 use Rattle.adf_transfer.proofs.Loops.{no_loop}
 use Rattle.adf_transfer.proofs.Going.{keys_of}
 
--- an element of two lists in a row stands in the first, or behind it in the second
+-- an element of a concatenation is in the first list, or in the second
 split_append : (xs ys front : List ℕ) (x : ℕ) (back : List ℕ) → xs ++ ys ≡ front ++ x ∷ back
     → ((rest : List ℕ) × (xs ≡ front ++ x ∷ rest)) ⊎ ((more : List ℕ) × (front ≡ xs ++ more) × (ys ≡ more ++ x ∷ back))
 split_append [] ys front x back e = inr (front, refl, e)
@@ -25,7 +25,7 @@ split_append (z ∷ zs) ys (y ∷ front) x back e =
       | inr i ↦ inr (i.0, (λ k. sym first k ∷ i.1 k), i.2)
     ]
 
--- it stands in a directory that lies under the top
+-- it is an entry of a directory that is the top or below it
 abbrev pub StandsUnder : Tree → ℕ → ℕ → Type 0
 StandsUnder t top key = (dir : ℕ) × (parent_of t key ≡ Some dir) × IsUnder t top dir
 
@@ -42,7 +42,7 @@ module _ (t : Tree) (proper : Proper t) where
         | inr later ↦ Contains-later key (keys_of inner ++ keys_of rest) x (Contains-append_right (keys_of inner) (keys_of rest) x (has_entries front others rest x o later))
       ])
 
-  -- and so are the entries of each of them
+  -- the entries of each of them are among them
   pub closed : (front keys : List ℕ) (es : List Located) (dir x : ℕ) → AreBelow t front keys es → Contains (keys_of es) dir → Contains (entries t dir) x → Contains (keys_of es) x
   closed front keys es dir x none c d = absurd (Contains-nil dir c)
   closed front keys es dir x (entry {key = key} {keys = others} {inner = inner} {others = rest} i o) c d =
@@ -55,7 +55,7 @@ module _ (t : Tree) (proper : Proper t) where
         ]
       ]))
 
-  -- each of them stands in a directory that lies under the top, if the first ones do
+  -- each of them is an entry of a directory at or below the top, if the first ones are
   all_held : (top : ℕ) (front keys : List ℕ) (es : List Located) (x : ℕ) → AreBelow t front keys es → ((k : ℕ) → Contains keys k → StandsUnder t top k) → Contains (keys_of es) x → StandsUnder t top x
   all_held top front keys es x none h c = absurd (Contains-nil x c)
   all_held top front keys es x (entry {key = key} {keys = others} {inner = inner} {others = rest} i o) h c =
@@ -68,7 +68,7 @@ module _ (t : Tree) (proper : Proper t) where
         ]
       ]
 
-  -- each stands behind its own directory, but for the first ones
+  -- each comes after its own directory, except the first ones
   pub behind_own : (dir : ℕ) (front keys : List ℕ) (es : List Located) (before : List ℕ) (x : ℕ) (after : List ℕ) → AreBelow t front keys es → ((k : ℕ) → Contains keys k → parent_of t k ≡ Some dir) → keys_of es ≡ before ++ x ∷ after
       → (d : ℕ) → parent_of t x ≡ Some d → Contains (dir ∷ before) d
   behind_own dir front keys es before x after none h e d p = absurd (nothing before e)
@@ -105,7 +105,7 @@ module _ (t : Tree) (proper : Proper t) where
                 ]
           ]
 
-  -- what the parents lead up to the top is the top, or among them
+  -- a key whose parents lead up to the top is the top or among them
   pub under_among : (top : ℕ) (es : List Located) (k : ℕ) → AreBelow t [] (entries t top) es → IsUnder t top k → Contains (top ∷ keys_of es) k
   under_among top es k b (itself same) = subst (Contains (top ∷ keys_of es)) (sym same) (Contains-here top (keys_of es))
   under_among top es k b (under_parent {dir = dir} p u) =
@@ -121,7 +121,7 @@ module _ (t : Tree) (proper : Proper t) where
   pub among_under : (top : ℕ) (es : List Located) (k : ℕ) → AreBelow t [] (entries t top) es → Contains (keys_of es) k → IsUnder t top k
   among_under top es k b c = let h = among_held top es k b c in under_parent h.1 h.2
 
-  -- none of them is the top
+  -- the top is not among them
   pub among_other : (top : ℕ) (es : List Located) (k : ℕ) → AreBelow t [] (entries t top) es → Contains (keys_of es) k → k ≢ top
   among_other top es k b c same =
       let h = among_held top es k b c in

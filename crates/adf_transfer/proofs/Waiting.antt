@@ -1,6 +1,6 @@
--- What is gone through while entries wait, and that it is what lies below.
+-- The walk over waiting entries visits exactly everything below.
 use Rattle.std.proofs.Common.{◌≡◌, ℕ, zero, suc, ◌≤◌, List, [], ◌∷◌, ◌++◌, map, length, refl, sym, ap, ◌∙◌, arith, append_assoc, length-append}
-use Rattle.ados_tree.specs.Tree.{Tree, entries, name_of}
+use Rattle.ados_model.specs.Tree.{Tree, entries, name_of}
 use Rattle.adf_transfer.specs.Located.{Located}
 use Rattle.adf_transfer.specs.Below.{AreBelow, located, slash}
 use Rattle.adf_transfer.specs.Below.AreBelow.{none, entry}
@@ -9,16 +9,16 @@ use Rattle.adf_transfer.specs.Below.AreBelow.{none, entry}
 abbrev pub inside : Tree → Located → List Located
 inside t e = map (located t (e.path ++ slash)) (entries t e.key)
 
--- what is gone through from these that wait: the first, and then from what is in it and the others
+-- the entries visited from these waiting ones: the first, then those from its contents and the others
 pub data Following (t : Tree) : List Located → List Located → Type 0 where
   done : Following t [] []
   next : {first : Located} {rest more : List Located} → Following t (inside t first ++ rest) more → Following t (first ∷ rest) (first ∷ more)
 
--- the first that waits comes first
+-- the first waiting entry is visited first
 first_follows : (t : Tree) (first : Located) (rest more : List Located) → Following t (first ∷ rest) more → (left : List Located) × (more ≡ first ∷ left) × Following t (inside t first ++ rest) left
 first_follows t first rest more (next {more = left} f) = (left, refl, f)
 
--- what is gone through from the entries of a directory in front of others
+-- the entries visited from those of a directory, before the others
 pub record Parted (t : Tree) (front : List ℕ) (keys : List ℕ) (rest more : List Located) : Type 0 where
   pub below : List Located
   pub others : List Located

@@ -1,16 +1,17 @@
--- How far a path is walked.
+-- The progress of a walk along a path.
 use Rattle.std.proofs.Common.{◌≡◌, ℕ, Bool, true, false, if◌then◌else◌, List, [], ◌∷◌, ◌++◌, Option, Some, None, Result, Ok, Err, refl, sym, ap, ◌∙◌, append_assoc}
 use Rattle.std.specs.Prelude.{ok_or}
-use Rattle.ados_name.specs.Path.{Step, is_from_root, steps, front, last_name}
-use Rattle.ados_name.specs.Path.Step.{ToParent, ToChild}
-use Rattle.ados_tree.specs.Tree.{Tree, root}
-use Rattle.ados_tree.specs.Walk.{and_then, child_of, fault_of_walk, is_file, missing_before, place, place_in, start_of, step_from, walk_steps}
-use Rattle.ados_packet.specs.declared.dos_error.DosError.{DosError}
-use Rattle.ados_handler.specs.Objects.{place_error, place_result, walk_error}
-use Rattle.ados_tree.specs.declared.path_fault.WalkFault.{WalkFault}
-use Rattle.ados_tree.specs.declared.path_fault.WalkFault.TheVariants.{DirectoryNotFound, ObjectNotFound, WrongType}
+use Rattle.ados_name.specs.Name.{Step, is_from_root, steps, front, last_name}
+use Rattle.ados_name.specs.Name.Step.{ToParent, ToChild}
+use Rattle.ados_model.specs.Tree.{Tree, root}
+use Rattle.ados_model.specs.Change.{and_then, child_of, fault_of_walk, is_file, missing_before, place, place_in, start_of, step_from, walk_steps}
+use Rattle.ados_model.specs.declared.dos_error.DosError.{DosError}
+use Rattle.ados_model.specs.Objects.{place_error, walk_error}
+use Rattle.ados_model.specs.Resolved.{place_result}
+use Rattle.ados_model.specs.declared.dos_error.WalkFault.{WalkFault}
+use Rattle.ados_model.specs.declared.dos_error.WalkFault.TheVariants.{DirectoryNotFound, ObjectNotFound, WrongType}
 
--- a step that leads somewhere does so whatever a missing child would be
+-- a step that succeeds does not depend on the fault for a missing child
 step_same : (t : Tree) (key : ℕ) (step : Step) (a b : WalkFault) (next : ℕ) → step_from t key step a ≡ Ok next → step_from t key step b ≡ Ok next
 step_same t key ToParent a b next e = e
 step_same t key (ToChild name) a b next e = go (is_file t key) (child_of t key name) e
@@ -20,7 +21,7 @@ step_same t key (ToChild name) a b next e = go (is_file t key) (child_of t key n
     go false None e = absurd (cc e)
     go false (Some k) e = e
 
--- one step more
+-- one more step
 walk_more : (t : Tree) (key : ℕ) (done : List Step) (step : Step) (last missing : WalkFault) (at next : ℕ) → walk_steps t key done last ≡ Ok at → step_from t at step missing ≡ Ok next
     → walk_steps t key (done ++ step ∷ []) last ≡ Ok next
 walk_more t key [] step last missing at next e f =
@@ -37,7 +38,7 @@ walk_more t key (first ∷ done) step last missing at next e f =
         ap (λ (r : Result ℕ WalkFault). and_then r (λ n. walk_steps t n (done ++ step ∷ []) last)) (step_same t key first (missing_before done last) (missing_before (done ++ step ∷ []) last) k is)
         ∙ again k e f
 
--- the walk has come to an object, and these steps are left
+-- the walk has reached an object, and these steps are left
 pub record HasCome (t : Tree) (all : List Step) (last : WalkFault) (key : ℕ) (left : List Step) : Type 0 where
   pub done : List Step
   pub spelled : all ≡ done ++ left
@@ -56,7 +57,7 @@ comes_on t all last key step left next h e = record {
   whole = h.whole ∙ ap (λ (r : Result ℕ WalkFault). and_then r (λ k. walk_steps t k left last)) e;
 }
 
--- a path starts at the root, whatever stands in front of it
+-- a path starts at the root, whatever comes before its `:`
 pub starts_at_root : (t : Tree) (path : List ℕ) → start_of t (root t) path ≡ root t
 starts_at_root t path = go (is_from_root path)
   where
@@ -64,13 +65,13 @@ starts_at_root t path = go (is_from_root path)
     go true = refl
     go false = refl
 
--- a fault of a walk has one DOS error, also as one of a place
+-- a fault of a walk has one DOS error, as a fault of a place too
 one_error : (fault : WalkFault) → place_error (fault_of_walk fault) ≡ walk_error fault
 one_error DirectoryNotFound = refl
 one_error ObjectNotFound = refl
 one_error WrongType = refl
 
--- where the front of a path leads nowhere, there is no place
+-- if the prefix of a path leads nowhere, there is no place
 pub no_place : (t : Tree) (path : List ℕ) (fault : WalkFault) → walk_steps t (root t) (steps (front path)) DirectoryNotFound ≡ Err fault → place_result (place t (root t) path) ≡ Err (walk_error fault)
 no_place t path fault e =
     ap (λ (k : ℕ). place_result (place_in t (walk_steps t k (steps (front path)) DirectoryNotFound) (last_name path))) (starts_at_root t path)

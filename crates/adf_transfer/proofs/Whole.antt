@@ -1,4 +1,4 @@
--- A read into a buffer of a file's size gives all of it.
+-- A read of a file into a buffer of its size returns all of it.
 use Rattle.std.proofs.Common.{◌≡◌, ℕ, ◌-◌, List, [], ◌++◌, length, take, drop, min, ap, ap₂, ◌∙◌, arith}
 use Rattle.std.proofs.Math.ListN.{drop_of_length-le}
 use Rattle.std.proofs.Math.Seq.{take-length}
@@ -10,7 +10,7 @@ read_whole file old new n size room whole count is =
     let none : drop n old ≡ [] = drop_of_length-le old (omega (arith, room, whole, all)) in
     is ∙ ap₂ (λ (xs ys : List ℕ). xs ++ ys) (ap (λ (m : ℕ). take m file) all ∙ take-length file) none ∙ append-nil file
 
--- and that is what the buffer holds
+-- the buffer then has these bytes
 pub written_back : (file new old : List ℕ) (len : ℕ) → new ≡ file → length old ≡ length file → len ≡ length file → take len (new ++ drop (length new) old) ≡ file
 written_back file new old len is room count =
     let none : drop (length file) old ≡ [] = drop_of_length-le old (omega (arith, room)) in

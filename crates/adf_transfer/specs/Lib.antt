@@ -1,4 +1,4 @@
--- What is found in a volume, and what changes of it come to. What only the calls inside speak of stands in steps.
+-- Reads of a volume, and the effects of its changes. Definitions for steps are in `steps`.
 pub mod Located
 pub mod Below
 pub mod Paths

@@ -1,4 +1,4 @@
--- What contracts see of an entry below a directory.
+-- How contracts see an entry below a directory.
 use Rattle.std.specs.Prelude.{ℕ, List}
 
 -- its key, and its path from there

@@ -1,13 +1,14 @@
--- Where a path leads from the root, and where its walk stops.
+-- Where a path from the root leads, and where its walk stops.
 use Rattle.std.specs.Prelude.{◌≡◌, ◌++◌, ◌∷◌, List, ℕ, Result, Ok, Err}
-use Rattle.ados_name.specs.Path.{Step, steps}
-use Rattle.ados_tree.specs.Tree.{Tree, root}
-use Rattle.ados_tree.specs.Walk.{missing_before, step_from, walk_steps}
-use Rattle.ados_tree.specs.declared.path_fault.WalkFault.{WalkFault}
-use Rattle.ados_handler.specs.Objects.{walk_error}
+use Rattle.ados_name.specs.Name.{Step, steps}
+use Rattle.ados_model.specs.Tree.{Tree, root}
+use Rattle.ados_model.specs.Change.{missing_before, step_from, walk_steps}
+use Rattle.ados_model.specs.declared.dos_error.WalkFault.{WalkFault}
+use Rattle.ados_model.specs.Objects.{walk_error}
 use Rattle.adf_transfer.specs.declared.paths.Stopped.{Stopped}
 
--- the first steps of the path lead from the root to this object, the next one fails there, and so does the whole walk, with this error
+-- the first steps of the path lead from the root to this object; the next step fails there, and so does the whole
+-- walk, with this error
 pub record StopsAt (t : Tree) (path : List ℕ) (last : WalkFault) (stopped : Stopped) : Type 0 where
   pub done : List Step
   pub step : Step

@@ -1,3 +1,4 @@
--- What only the calls inside speak of: the entries that wait while all below a directory is gone through, and a file that is cut where it is too long.
+-- Definitions for steps: the stack of a walk over everything below a directory, and the cut of a file that is too
+-- long.
 pub mod Stack
 pub mod CutBack

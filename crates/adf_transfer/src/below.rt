@@ -1,9 +1,9 @@
-//! All that lies below a directory.
+//! Everything below a directory.
 
 ghost use Rattle.std.specs.Prelude.{◌≡◌, ◌≢◌, ◌++◌, [], ◌∷◌, IfOk, OnOk, AllPairs, map};
-ghost use Rattle.ados_tree.specs.Tree.{Tree, entries};
-ghost use Rattle.ados_tree.specs.Stands.{Stands};
-ghost use Rattle.ados_tree.specs.Keys.{HasKey};
+ghost use Rattle.ados_model.specs.Tree.{Tree, entries};
+ghost use Rattle.ados_model.specs.Stands.{Stands};
+ghost use Rattle.ados_model.specs.Keys.{HasKey};
 ghost use Rattle.adf_transfer.specs.Below.{AreBelow, located, slash};
 ghost use Rattle.adf_transfer.specs.steps.Stack.{stacked};
 
@@ -12,7 +12,7 @@ use ados_volume::Volume;
 use std::alloc::{AllocError, Global};
 use std::marker::Model;
 
-/// An entry below a directory: its key, and its path from there, the names on the way with a `/` between them.
+/// An entry below a directory: its key, and its path from there, with a `/` between names.
 #[derive(Drop)]
 pub struct Below {
     key: u32,
@@ -28,21 +28,21 @@ impl Model for Below {
 }
 
 impl Below {
-    /// The key.
+    /// The entry's key.
     pub fn key(&self) -> u32
         ensures { result ≡ self.now.key }
     {
         self.key
     }
 
-    /// The path.
+    /// The entry's path.
     pub fn path(&self) -> &[u8]
         ensures { result.now ≡ self.now.path }
     {
         self.path.as_slice()
     }
 
-    /// An entry whose path is its name behind a front.
+    /// An entry whose path is a prefix and its name.
     fn behind(alloc: Global, volume: &Volume, front: &[u8], key: u32) -> Result<Below, AllocError>
         requires { HasKey volume.now.image key }
         ensures { IfOk result (λ below. (t : Tree) → Stands volume.now.image t → below ≡ located t front.now key) }
@@ -71,7 +71,7 @@ pub fn entries_below(alloc: Global, volume: &Volume, top: u32) -> Result<Vec<Bel
     Ok(found)
 }
 
-/// Puts what is in an entry on the stack, the first on top.
+/// Pushes the contents of an entry on the stack, the first on top.
 fn push_inside(
     alloc: Global,
     volume: &Volume,
@@ -88,7 +88,7 @@ fn push_inside(
     push_entries(alloc, volume, front.as_slice(), entry.key(), waiting)
 }
 
-/// Puts the entries of a directory on the stack, the first on top, with their names behind a front.
+/// Pushes the entries of a directory on the stack, the first on top. Their paths are a prefix and their names.
 fn push_entries(
     alloc: Global,
     volume: &Volume,

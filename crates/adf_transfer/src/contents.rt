@@ -1,9 +1,9 @@
 //! The bytes of a file.
 
 ghost use Rattle.std.specs.Prelude.{◌≡◌, IfOk};
-ghost use Rattle.ados_tree.specs.Tree.{Tree, bytes_of};
-ghost use Rattle.ados_tree.specs.Stands.{Stands};
-ghost use Rattle.ados_tree.specs.Keys.{HasFileKey};
+ghost use Rattle.ados_model.specs.Tree.{Tree, bytes_of};
+ghost use Rattle.ados_model.specs.Stands.{Stands};
+ghost use Rattle.ados_model.specs.Keys.{HasFileKey};
 
 use ados_volume::Volume;
 use std::alloc::{AllocError, Global};

@@ -1,29 +1,28 @@
 //! Changes of a directory's entries.
 
 ghost use Rattle.std.specs.Prelude.{◌≡◌, ◌==◌, ◌&&◌, not, [], IfOk};
-ghost use Rattle.ados_tree.specs.Tree.{Tree, entries};
-ghost use Rattle.ados_tree.specs.Tree.Content.{Directory};
-ghost use Rattle.ados_tree.specs.Stands.{Stands};
-ghost use Rattle.ados_tree.specs.Change.{made, removed, renamed};
-ghost use Rattle.ados_tree.specs.Keys.{HasDirectory, HasKey};
-ghost use Rattle.ados_tree.specs.NewBlocks.{KeepsRest};
-ghost use Rattle.ados_name.specs.Protection.{denies_delete};
-ghost use Rattle.ados_tree.specs.Tree.{IsUnused};
-ghost use Rattle.ados_handler.specs.Objects.{is_under, protection_of};
-ghost use Rattle.ados_handler.specs.Refusals.{is_empty, is_some_and};
-ghost use Rattle.ados_tree.specs.Walk.{child_of};
+ghost use Rattle.ados_model.specs.Tree.{Tree, entries, IsUnused};
+ghost use Rattle.ados_model.specs.Tree.Content.{Directory};
+ghost use Rattle.ados_model.specs.Stands.{Stands};
+ghost use Rattle.ados_model.specs.Change.{made, removed, renamed, child_of};
+ghost use Rattle.ados_model.specs.Keys.{HasDirectory, HasKey};
+ghost use Rattle.ados_change.specs.NewBlocks.{KeepsRest};
+ghost use Rattle.ados_name.specs.Name.{denies_delete};
+ghost use Rattle.ados_model.specs.Objects.{is_under, protection_of};
+ghost use Rattle.ados_model.specs.Refusals.{is_empty, is_some_and};
 ghost use Rattle.adf_transfer.specs.Changes.{Changes};
 ghost use Rattle.adf_transfer.specs.Refusals.{delete_refusal, make_refusal, move_refusal};
 
 use crate::fields::protection_in;
 use crate::room::free_blocks;
+use ados_model::DosError;
 use ados_name::{Date3, Name};
-use ados_packet::DosError;
 use ados_volume::{Next, NodeKind, Volume};
 
-/// Makes an empty directory, and answers its key. The moment becomes its date, that of the directory and the disk date.
+/// Makes an empty directory and returns its key. The dates of the new directory, of the one above it and of the disk
+/// become `moment`.
 ///
-/// Errors: 203 where an entry has the name, 221 where no block is free.
+/// Errors: 203 if an entry has the name, 221 if no block is free.
 pub fn make_directory(
     volume: &mut Volume,
     dir: u32,
@@ -50,11 +49,11 @@ pub fn make_directory(
     Ok(key)
 }
 
-/// Deletes a file, or a directory with no entries; by force also where its bits deny it. The moment becomes the date of its
-/// directory and the disk date.
+/// Deletes a file, or a directory without entries. With `force` a protected one too. The date of its directory and the
+/// disk date become `moment`.
 ///
-/// Errors: 212 of the root, 216 where it has entries, 222 where its bits deny it.
-#[tactic(auto, using(ados_tree::proofs::Keeping::same_keeps))]
+/// Errors: 212 for the root, 216 if it has entries, 222 if a protection bit denies it.
+#[tactic(auto, using(ados_change::proofs::Keeping::same_keeps))]
 pub fn delete(volume: &mut Volume, key: u32, force: bool, moment: Date3) -> Result<(), DosError>
     requires { HasKey volume.old.image key }
     ensures done { Changes (delete_refusal key force) (λ _ t. removed moment key t) volume.old volume.new result }
@@ -74,10 +73,10 @@ pub fn delete(volume: &mut Volume, key: u32, force: bool, moment: Date3) -> Resu
     Ok(())
 }
 
-/// Moves an entry into a directory, also its own, under a name. The moment becomes the date of both directories and the disk
-/// date. Protection isn't looked at, as by RENAME_OBJECT.
+/// Moves an entry into a directory, possibly its own, under a name. The dates of both directories and the disk date
+/// become `moment`. Protection bits do not refuse it, as with RENAME_OBJECT.
 ///
-/// Errors: 212 of the root, 203 where another entry has the name, 202 where the directory is the entry or lies under it.
+/// Errors: 212 for the root, 203 if another entry has the name, 202 if the directory is the entry or below it.
 pub fn move_entry(
     volume: &mut Volume,
     key: u32,
@@ -104,7 +103,7 @@ pub fn move_entry(
     Ok(())
 }
 
-/// Whether another entry of a directory than this has the name.
+/// Whether another entry of a directory has the name.
 fn is_taken(volume: &mut Volume, dir: u32, name: &Name, key: u32) -> bool
     requires { HasDirectory volume.old.image dir }
     ensures taken { (t : Tree) → Stands volume.old.image t → result ≡ is_some_and (λ other. not (other == key)) (child_of t dir name.now) }
@@ -124,7 +123,7 @@ fn has_entries(volume: &Volume, key: u32) -> bool
     !volume.is_file(key) && volume.next(key, key) != Next::End
 }
 
-/// Whether the bits of an entry deny that it is deleted without force.
+/// Whether a protection bit denies deletion, without `force`.
 pub(crate) fn is_denied(volume: &Volume, key: u32, force: bool) -> bool
     requires { HasKey volume.now.image key }
     ensures { (t : Tree) → Stands volume.now.image t → result ≡ not force && denies_delete (protection_of t key) }
@@ -133,7 +132,8 @@ pub(crate) fn is_denied(volume: &Volume, key: u32, force: bool) -> bool
     !force && denied
 }
 
-/// Whether an object is the other, or lies under it. No object has more directories above it than the volume has blocks.
+/// Whether an object is the other one, or is below it. The search ends, because no object has more directories above
+/// it than the volume has blocks.
 fn is_under(volume: &Volume, above: u32, key: u32) -> bool
     requires { HasKey volume.now.image key }
     ensures { (t : Tree) → Stands volume.now.image t → result ≡ is_under t above key }

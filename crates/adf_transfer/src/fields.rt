@@ -1,23 +1,23 @@
-//! Changes of what is told of an object, and of the volume's name.
+//! Changes of an object's metadata, and of the volume's name.
 
 ghost use Rattle.std.specs.Prelude.{◌≡◌};
-ghost use Rattle.ados_tree.specs.Change.{disk_renamed, with_comment};
-ghost use Rattle.ados_tree.specs.Keys.{HasKey};
-ghost use Rattle.ados_tree.specs.NewBlocks.{KeepsRest};
-ghost use Rattle.ados_tree.specs.Stands.{Stands};
-ghost use Rattle.ados_tree.specs.Tree.{Tree};
-ghost use Rattle.ados_handler.specs.Objects.{protection_of};
+ghost use Rattle.ados_model.specs.Change.{disk_renamed, with_comment};
+ghost use Rattle.ados_model.specs.Keys.{HasKey};
+ghost use Rattle.ados_change.specs.NewBlocks.{KeepsRest};
+ghost use Rattle.ados_model.specs.Stands.{Stands};
+ghost use Rattle.ados_model.specs.Tree.{Tree};
+ghost use Rattle.ados_model.specs.Objects.{protection_of};
 ghost use Rattle.adf_transfer.specs.Changes.{Changes, protected};
 ghost use Rattle.adf_transfer.specs.Refusals.{root_refusal};
 
+use ados_model::DosError;
 use ados_name::{Comment, Date3, Name, Protect};
-use ados_packet::DosError;
 use ados_volume::Volume;
 
-/// Sets the low eight protection bits of an entry; the others stay. The disk date becomes the moment.
+/// Sets the low eight protection bits of an entry. The others stay. The disk date becomes `moment`.
 ///
-/// Error: 212 of the root.
-#[tactic(auto, using(ados_tree::proofs::Keeping::same_keeps))]
+/// Error: 212 for the root.
+#[tactic(auto, using(ados_change::proofs::Keeping::same_keeps))]
 pub fn protect(volume: &mut Volume, key: u32, bits: Protect, moment: Date3) -> Result<(), DosError>
     requires { HasKey volume.old.image key }
     ensures done { Changes (root_refusal key) (λ _ t. protected moment key bits.0 t) volume.old volume.new result }
@@ -41,10 +41,10 @@ pub(crate) fn protection_in(volume: &Volume, key: u32) -> Protect
     volume.examine(key).protection
 }
 
-/// Sets the comment of an entry. The disk date becomes the moment.
+/// Sets the comment of an entry. The disk date becomes `moment`.
 ///
-/// Error: 212 of the root.
-#[tactic(auto, using(ados_tree::proofs::Keeping::same_keeps))]
+/// Error: 212 for the root.
+#[tactic(auto, using(ados_change::proofs::Keeping::same_keeps))]
 pub fn comment(volume: &mut Volume, key: u32, text: &Comment, moment: Date3) -> Result<(), DosError>
     requires { HasKey volume.old.image key }
     ensures done { Changes (root_refusal key) (λ _ t. with_comment moment key text.now t) volume.old volume.new result }
@@ -58,7 +58,7 @@ pub fn comment(volume: &mut Volume, key: u32, text: &Comment, moment: Date3) -> 
     Ok(())
 }
 
-/// Gives the volume another name. The disk date becomes the moment.
+/// Renames the volume. The disk date becomes `moment`.
 pub fn relabel(volume: &mut Volume, name: Name, moment: Date3)
     ensures stands { (t : Tree) → Stands volume.old.image t → Stands volume.new.image (disk_renamed moment name t) }
     ensures keeps { KeepsRest volume.old.image volume.new.image }

@@ -1,8 +1,8 @@
-//! What changes that are made in turn leave alone.
+//! What a sequence of changes leaves untouched.
 
 ghost use Rattle.adf_transfer.specs.InTurn.{OutsideStays};
 
-/// However many changes are made in turn, the size, the boot blocks and the bitmap's bits past the volume's end stay.
+/// Any sequence of changes leaves the size, the boot blocks and the bitmap's bits past the volume's end untouched.
 pub fn outside_stays()
     ensures { OutsideStays }
 {}

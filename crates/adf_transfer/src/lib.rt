@@ -1,5 +1,5 @@
-//! The work on a volume that moves files, over values: going through it, paths of any length, and changes that are
-//! made whole or not at all.
+//! The work of commands that move files, on a volume in memory: walks, paths of any length, and changes that are made
+//! whole or not at all.
 #![tactic(auto)]
 
 mod below;

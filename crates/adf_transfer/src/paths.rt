@@ -2,36 +2,35 @@
 
 ghost use Rattle.std.specs.Prelude.{◌≡◌, IfOk, IfSome, false};
 ghost use Rattle.std.specs.List.{list_any};
-ghost use Rattle.ados_name.specs.Name.{is_separator};
-ghost use Rattle.ados_name.specs.Path.{front, last_name};
+ghost use Rattle.ados_name.specs.Name.{is_separator, front, last_name};
 ghost use Rattle.ados_name.specs.StepView.{step_of};
-ghost use Rattle.ados_tree.specs.Tree.{Tree, root};
-ghost use Rattle.ados_tree.specs.Stands.{Stands};
-ghost use Rattle.ados_tree.specs.Keys.{HasDirectory, HasKey};
-ghost use Rattle.ados_tree.specs.Walk.{child_of, missing_before, place, step_from};
-ghost use Rattle.ados_tree.specs.declared.path_fault.WalkFault.{WalkFault};
-ghost use Rattle.ados_tree.specs.declared.path_fault.WalkFault.TheVariants.{ObjectNotFound};
-ghost use Rattle.ados_handler.specs.Objects.{place_result, walk_error};
+ghost use Rattle.ados_model.specs.Tree.{Tree, root};
+ghost use Rattle.ados_model.specs.Stands.{Stands};
+ghost use Rattle.ados_model.specs.Keys.{HasDirectory, HasKey};
+ghost use Rattle.ados_model.specs.Change.{child_of, missing_before, place, step_from};
+ghost use Rattle.ados_model.specs.declared.dos_error.WalkFault.{WalkFault};
+ghost use Rattle.ados_model.specs.declared.dos_error.WalkFault.TheVariants.{ObjectNotFound};
+ghost use Rattle.ados_model.specs.Resolved.{place_result};
+ghost use Rattle.ados_model.specs.Objects.{walk_error};
 ghost use Rattle.ados_volume.specs.steps.PathStep.{found_or};
 ghost use Rattle.adf_transfer.specs.Paths.{Leads};
 
+use ados_model::{DosError, WalkFault};
 use ados_name::{Name, PathSteps, Step};
-use ados_packet::DosError;
-use ados_tree::WalkFault;
 use ados_volume::Volume;
 use bstr::ByteSlice;
 
-/// Where the walk of a path stops: the object from which the next step fails, and the DOS error of that step.
+/// Where the walk along a path stops: the object where the next step fails, and the DOS error of that step.
 #[derive(Clone, Copy, Debug, PartialEq, Eq)]
 pub struct Stopped {
     pub at: u32,
     pub error: DosError,
 }
 
-/// The object to which a path leads from the root, by the rules of packets but for their limit of 255 bytes.
+/// The object of a path from the root, by the rules of packets, but for a path of any length.
 ///
-/// Errors: 204 where a directory of the path is not there, 205 where the object is not, or a parent of the root is asked for,
-/// 212 where a file stands in place of a directory.
+/// Errors: 204 if a directory of the path does not exist; 205 if the object does not, or for the parent of the root;
+/// 212 for a file in place of a directory.
 pub fn locate(volume: &mut Volume, path: &[u8]) -> Result<u32, Stopped>
     ensures leads { (t : Tree) → Stands volume.old.image t → Leads t path.now ObjectNotFound result }
     ensures key { IfOk result (λ key. HasKey volume.old.image key) }
@@ -40,10 +39,10 @@ pub fn locate(volume: &mut Volume, path: &[u8]) -> Result<u32, Stopped>
     walk_from_root(volume, path, WalkFault::ObjectNotFound)
 }
 
-/// The place that a path names: the directory to which its front leads from the root, and its last name.
+/// The place that a path from the root names: the directory at the end of its prefix, and its last name.
 ///
-/// Errors: those of [`locate`] but with 204 for each missing directory, 212 where the front leads to a file, 210 where the last
-/// name is empty or has more than 30 bytes.
+/// Errors: as in [`locate`], but 204 for each missing directory; 212 if the prefix leads to a file; 210 if the last
+/// name is empty or longer than 30 bytes.
 pub fn place(volume: &mut Volume, path: &[u8]) -> Result<(u32, Name), DosError>
     ensures place { (t : Tree) → Stands volume.old.image t → result ≡ place_result (place t (root t) path.now) }
     ensures directory { IfOk result (λ found. HasDirectory volume.old.image found.0) }
@@ -63,7 +62,7 @@ pub fn place(volume: &mut Volume, path: &[u8]) -> Result<(u32, Name), DosError>
     }
 }
 
-/// The steps of a path from the root, one after another. A missing child is the fault `last` at the last step.
+/// Walks the steps of a path from the root. At the last step, a missing child is the fault `last`.
 fn walk_from_root(volume: &mut Volume, path: &[u8], last: WalkFault) -> Result<u32, Stopped>
     ensures leads { (t : Tree) → Stands volume.old.image t → Leads t path.now last result }
     ensures key { IfOk result (λ key. HasKey volume.old.image key) }
@@ -87,7 +86,7 @@ fn walk_from_root(volume: &mut Volume, path: &[u8], last: WalkFault) -> Result<u
     Ok(key)
 }
 
-/// One step from an object; `None` where there is no such child.
+/// Makes one step from an object. `None` means that there is no such child.
 fn step_from(volume: &mut Volume, key: u32, step: Step<'_>) -> Result<Option<u32>, WalkFault>
     requires { HasKey volume.old.image key }
     ensures step { (t : Tree) (missing : WalkFault) → Stands volume.old.image t → found_or result missing ≡ step_from t key (step_of step.entry) missing }
@@ -108,7 +107,7 @@ fn step_from(volume: &mut Volume, key: u32, step: Step<'_>) -> Result<Option<u32
     }
 }
 
-/// The child of a name that need not be a valid one.
+/// The child with this name, which need not be a valid name.
 fn child_named(volume: &mut Volume, dir: u32, name: &[u8]) -> Option<u32>
     requires { HasDirectory volume.old.image dir }
     ensures child { (t : Tree) → Stands volume.old.image t → result ≡ child_of t dir name.now }
@@ -120,7 +119,7 @@ fn child_named(volume: &mut Volume, dir: u32, name: &[u8]) -> Option<u32>
     }
 }
 
-/// The fault of a step to a child that is missing, by the steps behind it.
+/// The fault of a missing child, by the steps after it.
 fn missing_before(mut steps: PathSteps<'_>, last: WalkFault) -> WalkFault
     ensures { result ≡ missing_before steps.entry last }
 {
@@ -130,7 +129,7 @@ fn missing_before(mut steps: PathSteps<'_>, last: WalkFault) -> WalkFault
     }
 }
 
-/// The DOS error of a walk that ends at no object.
+/// The DOS error of a walk that finds no object.
 fn walk_error(fault: WalkFault) -> DosError
     ensures { result ≡ walk_error fault }
 {
@@ -141,7 +140,7 @@ fn walk_error(fault: WalkFault) -> DosError
     }
 }
 
-/// The front and the last name of a path. The last name may be empty or longer than a name.
+/// The prefix of a path, and its last name. The last name may be empty or too long for a name.
 fn split_last(path: &[u8]) -> (&[u8], &[u8])
     ensures front { result.0.now ≡ front path.now }
     ensures last { result.1.now ≡ last_name path.now }

@@ -1,26 +1,26 @@
-//! Deleting an entry with all that lies below it.
+//! Deletion of an entry with everything below it.
 
 ghost use Rattle.std.specs.Prelude.{◌≡◌, ◌≢◌, [], AllPairs, IsTrue, map};
 ghost use Rattle.std.specs.Bool.{IsFalse};
-ghost use Rattle.ados_tree.specs.Tree.{Tree, entries};
-ghost use Rattle.ados_tree.specs.Stands.{Stands};
-ghost use Rattle.ados_tree.specs.Keys.{HasEntryKey, HasKey};
+ghost use Rattle.ados_model.specs.Tree.{Tree, entries};
+ghost use Rattle.ados_model.specs.Stands.{Stands};
+ghost use Rattle.ados_model.specs.Keys.{HasEntryKey, HasKey};
 ghost use Rattle.adf_transfer.specs.Below.{AreBelow};
 ghost use Rattle.adf_transfer.specs.InTurn.{KeepsInTurn};
 ghost use Rattle.adf_transfer.specs.Pruned.{IsDenied, Prunes, pruned};
 
 use crate::below::{Below, entries_below};
 use crate::entries::is_denied;
+use ados_model::DosError;
 use ados_name::Date3;
-use ados_packet::DosError;
 use ados_volume::Volume;
 use std::alloc::Global;
 
-/// Deletes an entry with all that lies below it, and nothing else; by force also what bits deny. The moment becomes the date of
-/// its directory and the disk date.
+/// Deletes an entry with everything below it, and nothing else. With `force` protected entries too. The date of its
+/// directory and the disk date become `moment`.
 ///
-/// Errors: 212 of the root, 103 where there is no memory for the list of what lies below it, 222 where its bits or those of
-/// an entry below it deny it.
+/// Errors: 212 for the root; 103 if there is no memory for the list of entries below it; 222 if a protection bit of
+/// one of these entries denies it.
 pub fn delete_all(
     alloc: Global,
     volume: &mut Volume,
@@ -47,7 +47,7 @@ pub fn delete_all(
     Ok(())
 }
 
-/// Whether the bits of an entry, or of one of these, which lie below it, deny that it is deleted without force.
+/// Whether a protection bit of the entry, or of one below it, denies deletion, without `force`.
 fn is_any_denied(volume: &Volume, key: u32, below: &[Below], force: bool) -> bool
     requires key { HasKey volume.now.image key }
     requires below { (t : Tree) → Stands volume.now.image t → AreBelow t [] (entries t key) below.now }
@@ -62,7 +62,7 @@ fn is_any_denied(volume: &Volume, key: u32, below: &[Below], force: bool) -> boo
     is_denied(volume, key, force)
 }
 
-/// Removes entries from the last to the first, and then the one below which they lie.
+/// Removes entries from the last to the first, then the entry above them.
 fn remove_all(volume: &mut Volume, key: u32, mut below: Vec<Below>, moment: Date3)
     requires entry { HasEntryKey volume.old.image key }
     requires below { (t : Tree) → Stands volume.old.image t → AreBelow t [] (entries t key) below.items }

@@ -1,13 +1,12 @@
-//! Putting files: new ones, and others in place of what is there.
+//! Files put into a volume: new ones, or in place of existing ones.
 
 ghost use Rattle.std.specs.Prelude.{◌≡◌, ◌<◌, ◌≤◌, ◌&&◌, not, length, IfOk, MatchResult};
-ghost use Rattle.ados_name.specs.Protection.{denies_write};
-ghost use Rattle.ados_tree.specs.Tree.{Tree, free};
-ghost use Rattle.ados_tree.specs.Stands.{Stands};
-ghost use Rattle.ados_tree.specs.Keys.{HasDirectory, HasEntryKey, HasFileKey, HasKey};
-ghost use Rattle.ados_tree.specs.NewBlocks.{KeepsRest};
-ghost use Rattle.ados_tree.specs.Tree.{IsUnused};
-ghost use Rattle.ados_handler.specs.Objects.{protection_of};
+ghost use Rattle.ados_name.specs.Name.{denies_write};
+ghost use Rattle.ados_model.specs.Tree.{Tree, free, IsUnused};
+ghost use Rattle.ados_model.specs.Stands.{Stands};
+ghost use Rattle.ados_model.specs.Keys.{HasDirectory, HasEntryKey, HasFileKey, HasKey};
+ghost use Rattle.ados_change.specs.NewBlocks.{KeepsRest};
+ghost use Rattle.ados_model.specs.Objects.{protection_of};
 ghost use Rattle.adf_transfer.specs.Changes.{Changes, added, described, filled};
 ghost use Rattle.adf_transfer.specs.InTurn.{KeepsInTurn};
 ghost use Rattle.adf_transfer.specs.Refusals.{add_refusal, more_blocks, replace_refusal};
@@ -17,11 +16,11 @@ ghost use Rattle.adf_transfer.specs.declared.put.NotPut.TheVariants.{NoRoom};
 use crate::entries::is_denied;
 use crate::fields::protection_in;
 use crate::room::{free_blocks, more_blocks, new_file_blocks};
+use ados_model::DosError;
 use ados_name::{Comment, Date3, Name, Protect};
-use ados_packet::DosError;
 use ados_volume::{NodeKind, Volume};
 
-/// What a file is to hold, and what is to be told of it: all 32 protection bits, and its own date.
+/// The contents and metadata of a file: its bytes, all 32 protection bits, its comment and its own date.
 #[derive(Clone, Copy)]
 pub struct NewFile<'a> {
     pub bytes: &'a [u8],
@@ -30,12 +29,12 @@ pub struct NewFile<'a> {
     pub comment: Comment,
 }
 
-/// Why a file was not put into a volume, which is as it was.
+/// Why a file was not put into a volume. The volume is unchanged.
 #[derive(Clone, Copy, Debug, PartialEq, Eq)]
 pub enum NotPut {
     /// An error other than 221.
     Refused(DosError),
-    /// 221: so many blocks would have to be free, and so many are.
+    /// Error 221: the number of free blocks needed, and the number of free blocks.
     NoRoom { needed: u64, free: u32 },
 }
 
@@ -53,10 +52,10 @@ impl NotPut {
     }
 }
 
-/// Puts a new file into a directory, and answers its key. The moment becomes the date of the directory and the disk date.
+/// Puts a new file into a directory and returns its key. The date of the directory and the disk date become `moment`.
 ///
-/// Errors: 203 where an entry has the name, 221 where the file needs more blocks than are free. No memory is asked for.
-/// [`place`](crate::place) has the errors of a path that names no directory and name: 204, 205, 210 and 212.
+/// Errors: 203 if an entry has the name, 221 if the file needs more blocks than are free. It allocates no memory.
+/// [`place`](crate::place) has the errors of a path that names no place: 204, 205, 210 and 212.
 pub fn add_file(
     volume: &mut Volume,
     dir: u32,
@@ -85,11 +84,11 @@ pub fn add_file(
     Ok(key)
 }
 
-/// Puts other bytes, bits, comment and date in place of a file's; by force also where its bits deny it. The moment becomes the
-/// disk date.
+/// Replaces the bytes, protection bits, comment and date of a file. With `force` a protected one too. The disk date
+/// becomes `moment`.
 ///
-/// Errors: 212 of a directory, 222 and 223 where its bits deny that it is deleted or written, 221 where it needs more blocks
-/// beyond its own than are free. No memory is asked for.
+/// Errors: 212 for a directory; 222 and 223 if a protection bit denies deletion or writing; 221 if it needs more
+/// additional blocks than are free. It allocates no memory.
 pub fn replace_file(
     volume: &mut Volume,
     key: u32,
@@ -119,7 +118,7 @@ pub fn replace_file(
     Ok(())
 }
 
-/// Whether the bits of a file deny that it is written without force.
+/// Whether a protection bit of a file denies writing, without `force`.
 fn is_write_denied(volume: &Volume, key: u32, force: bool) -> bool
     requires { HasKey volume.now.image key }
     ensures { (t : Tree) → Stands volume.now.image t → result ≡ not force && denies_write (protection_of t key) }
@@ -128,7 +127,7 @@ fn is_write_denied(volume: &Volume, key: u32, force: bool) -> bool
     !force && denied
 }
 
-/// That so many blocks are free.
+/// Checks that at least this many blocks are free.
 fn need_free(volume: &Volume, needed: u64) -> Result<(), NotPut>
     ensures { (t : Tree) → Stands volume.now.image t
         → MatchResult result (λ _. needed ≤ free t) (λ refused. (free t < needed) × (refused ≡ NoRoom needed (free t))) }
@@ -140,7 +139,7 @@ fn need_free(volume: &Volume, needed: u64) -> Result<(), NotPut>
     Ok(())
 }
 
-/// Puts bytes, bits, comment and date in place of those of a file for which there is room.
+/// Replaces the bytes, protection bits, comment and date of a file. Enough blocks are free.
 fn fill(volume: &mut Volume, key: u32, file: &NewFile<'_>, moment: Date3)
     requires key { HasFileKey volume.old.image key }
     requires room { (t : Tree) → Stands volume.old.image t → more_blocks t key (length file.now.bytes.now) ≤ free t }
@@ -156,8 +155,8 @@ fn fill(volume: &mut Volume, key: u32, file: &NewFile<'_>, moment: Date3)
     describe(volume, key, file, moment);
 }
 
-/// Cuts a file that is longer than this.
-#[tactic(auto, using(ados_tree::proofs::Keeping::same_keeps))]
+/// Cuts a file if it is longer than `size` bytes.
+#[tactic(auto, using(ados_change::proofs::Keeping::same_keeps))]
 fn cut_behind(volume: &mut Volume, key: u32, size: usize, moment: Date3)
     requires { HasFileKey volume.old.image key }
     ensures stands { (t : Tree) → Stands volume.old.image t → Stands volume.new.image (cut_back moment key size t) }
@@ -170,7 +169,7 @@ fn cut_behind(volume: &mut Volume, key: u32, size: usize, moment: Date3)
     volume.cut(key, size as u32, moment);
 }
 
-/// Sets what is told of a file.
+/// Sets the metadata of a file.
 fn describe(volume: &mut Volume, key: u32, file: &NewFile<'_>, moment: Date3)
     requires { HasEntryKey volume.old.image key }
     ensures stands { (t : Tree) → Stands volume.old.image t → Stands volume.new.image (described moment key file.now t) }

@@ -1,10 +1,10 @@
-//! Refusals as a command tells them.
+//! Refusals as a command prints them.
 
-use ados_packet::DosError;
+use ados_model::DosError;
 use std::error::Error;
 use std::fmt;
 
-/// What a command is refused with, and the path that it is told of. As text it is the words of AmigaDOS for the error.
+/// The error of a refused command, and the path that it is about. As text it is AmigaDOS's text for the error.
 #[derive(Debug, Drop)]
 pub struct Refused {
     pub error: DosError,
@@ -19,7 +19,7 @@ impl fmt::Display for Refused {
 
 impl Error for Refused {}
 
-/// The words of AmigaDOS for an error.
+/// The text of AmigaDOS for an error.
 pub fn error_words(error: DosError) -> &'static str {
     match error {
         DosError::NoFreeStore => "not enough memory available",

@@ -1,10 +1,10 @@
--- Words that are no text.
+-- Arguments that are not UTF-8.
 use Rattle.std.specs.Prelude.{ℕ, List, ⊤}
 use Rattle.std.specs.Str.{IsUtf8}
 use Rattle.adf_words.specs.declared.fault.WordsFault.{WordsFault}
 use Rattle.adf_words.specs.declared.fault.WordsFault.TheVariants.{Usage, Memory}
 
--- a wrong command line is told of only where the word is not UTF-8
+-- a wrong command line is reported only if the argument is not UTF-8
 abbrev pub TellsForeign : List ℕ → WordsFault → Type 0
 TellsForeign bytes (Usage text) = ¬ (IsUtf8 bytes)
 TellsForeign bytes Memory = ⊤

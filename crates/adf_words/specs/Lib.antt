@@ -1,2 +1,2 @@
--- What a word that is no text is told as. What the command line means is said by its types.
+-- The fault of an argument that is not UTF-8. The meaning of the command line is in its types.
 pub mod Given

@@ -7,7 +7,7 @@ use adf_jobs::{Change, ChangeJob, ImageJob};
 use clap::ArgMatches;
 use std::alloc::Global;
 
-/// The job of a command that changes a volume, if it is one.
+/// The job of a command that changes a volume; `None` for any other command.
 pub(crate) fn change_job<'a>(
     alloc: Global,
     name: &str,
@@ -25,7 +25,7 @@ pub(crate) fn change_job<'a>(
     })))
 }
 
-/// The change that a command asks for, if it asks for one.
+/// The change of a command; `None` for a command without one.
 fn change_of<'a>(
     alloc: Global,
     name: &str,
@@ -101,7 +101,7 @@ fn relabel<'a>(alloc: Global, words: &ArgMatches<'a>) -> Result<Change<'a>, Word
     })
 }
 
-/// The job of `boot`. Nothing there has a date, so its moment is read and not kept.
+/// The job of `boot`. Nothing there has a time stamp, so its value is checked and dropped.
 pub(crate) fn boot_job<'a>(
     alloc: Global,
     words: &ArgMatches<'a>,

@@ -1,15 +1,15 @@
-//! The commands of the table, as `clap` reads and explains them.
+//! The commands of the table, for `clap` to parse and explain.
 use crate::table::{ArgumentRow, CHANGING, COMMANDS, CommandRow, Kind};
 use clap::{Arg, ArgAction, Command};
 use std::alloc::{AllocError, Global};
 
-/// The program with all its commands, or with the one that the first argument names: its arguments meet no other, and no
-/// `help`.
+/// The program with all its commands. If the first argument names a command, it has only that one, and no `help`.
 pub(crate) fn program<'a>(alloc: Global, first: &str) -> Result<Command<'a>, AllocError> {
     program_of(alloc, first, &COMMANDS)
 }
 
-/// The program with the commands of these rows. They are passed in, since a function that names the table takes long to prove.
+/// The program with the commands of these rows. They are an argument, because a function that names the table is slow
+/// to prove.
 fn program_of<'a>(
     alloc: Global,
     first: &str,
@@ -25,7 +25,7 @@ fn program_of<'a>(
     Ok(program)
 }
 
-/// The program without its commands, and without `help` where a command is named.
+/// The program without its commands, and without `help` if a command is named.
 fn empty_program<'a>(alloc: Global, is_named: bool) -> Result<Command<'a>, AllocError> {
     Ok(
         Command::new(alloc, "adf_serve")
@@ -60,7 +60,7 @@ fn command_of<'a>(alloc: Global, row: &CommandRow) -> Result<Command<'a>, AllocE
     with_arguments(alloc, command, row.arguments)
 }
 
-/// The command with these arguments behind its own.
+/// The command with these arguments after its own.
 fn with_arguments<'a>(
     alloc: Global,
     command: Command<'a>,
@@ -99,7 +99,7 @@ fn argument_of<'a>(alloc: Global, row: &ArgumentRow) -> Result<Arg<'a>, AllocErr
     })
 }
 
-/// The argument, which may not be given with any of these.
+/// The argument, which excludes each of these.
 fn excluding<'a>(argument: Arg<'a>, names: &[&'static str]) -> Result<Arg<'a>, AllocError> {
     let mut argument = argument;
     for name in names {
@@ -108,7 +108,7 @@ fn excluding<'a>(argument: Arg<'a>, names: &[&'static str]) -> Result<Arg<'a>, A
     Ok(argument)
 }
 
-/// The option with this value where it is left out.
+/// The option with this default value.
 fn with_default<'a>(option: Arg<'a>, default: Option<&'static str>) -> Arg<'a> {
     match default {
         Some(value) => option.default_value(value),

@@ -1,17 +1,17 @@
-//! Why words ask for no job.
+//! Why a command line has no job.
 use std::alloc::{AllocError, AllocFailed};
 
-/// Why words ask for no job.
+/// Why a command line has no job.
 #[derive(Drop)]
 pub enum WordsFault {
-    /// They are no command line of this program, or ask for help: the text to show.
+    /// A wrong command line, or a request for help: the text to print.
     Usage(String),
-    /// There is no memory to read them.
+    /// Out of memory.
     Memory,
 }
 
 impl WordsFault {
-    /// A wrong command line with this text, or no memory where there was none for the text.
+    /// A wrong command line with this text; out of memory if there was none for the text.
     pub(crate) fn usage(text: Result<String, AllocError>) -> WordsFault {
         match text {
             Ok(text) => WordsFault::Usage(text),

@@ -1,4 +1,4 @@
-//! The words that the program was given.
+//! The program's command line arguments.
 ghost use Rattle.std.specs.Prelude.{◌≡◌, IfOk, IfErr};
 ghost use Rattle.std.specs.Str.{IsUtf8};
 ghost use Rattle.std.specs.String.{string_bytes};
@@ -9,13 +9,14 @@ use std::alloc::Global;
 use std::env::FillError;
 use std::rt::Env;
 
-/// The bytes of the longest word that Linux gives a program.
+/// Bytes in the longest argument that Linux passes to a program.
 const LONGEST: usize = 131_072;
 
-/// Room for most words: memory for the longest is made and filled where one needs it.
+/// Bytes for most arguments. A larger buffer is allocated only for an argument that needs it.
 const USUAL: usize = 1_024;
 
-/// The words behind the program's own name. One that is not UTF-8 is a wrong command line, whose text says which it is.
+/// The arguments after the program's name. If one is not UTF-8, the command line is wrong, and the text says which one
+/// it is.
 pub fn given_words<E: Env>(rt: &E, alloc: Global) -> Result<Vec<String>, WordsFault> {
     let mut words = Vec::new(alloc);
     let mut buffer = vec![in alloc; 0u8; USUAL]?;
@@ -28,7 +29,7 @@ pub fn given_words<E: Env>(rt: &E, alloc: Global) -> Result<Vec<String>, WordsFa
     Ok(words)
 }
 
-/// The word at a place, and none behind the last. The buffer grows where it has no room for the word.
+/// The argument at a position; `None` after the last. The buffer grows if the argument does not fit.
 fn given_word<E: Env>(
     rt: &E,
     alloc: Global,
@@ -47,7 +48,7 @@ fn given_word<E: Env>(
     }
 }
 
-/// The word of these bytes, which stands at this place, the first behind the program's own name at 1.
+/// The argument with these bytes. `place` is its position; the first after the program's name is 1.
 pub fn word_of(alloc: Global, place: usize, bytes: &[u8]) -> Result<String, WordsFault>
     ensures word { IfOk result (λ word. string_bytes word ≡ bytes.now) }
     ensures foreign { IfErr result (TellsForeign bytes.now) }

@@ -1,4 +1,4 @@
-//! Words whose letters stand for an Amiga's bytes.
+//! Arguments whose letters are an Amiga's bytes.
 ghost use Rattle.std.specs.Prelude.{◌≡◌, IfOk, OnOk, All};
 ghost use Rattle.std.specs.Str.{chars};
 ghost use Rattle.adf_text.specs.Letters.{IsByte};
@@ -8,7 +8,7 @@ use crate::fault::WordsFault;
 use adf_text::{LettersFault, letter_bytes, protection_of_letters};
 use std::alloc::Global;
 
-/// This word, if each of its letters stands for a byte. One with a letter past U+00FF is a wrong command line.
+/// This argument, if each of its letters is a byte. A letter past U+00FF makes the command line wrong.
 pub(crate) fn letters_of<'a>(alloc: Global, word: &'a str) -> Result<&'a str, WordsFault>
     ensures same { IfOk result (λ text. text.now ≡ word.now) }
     ensures letters { OnOk result (All IsByte (chars word.now)) }
@@ -22,7 +22,7 @@ pub(crate) fn letters_of<'a>(alloc: Global, word: &'a str) -> Result<&'a str, Wo
     }
 }
 
-/// This word, if it spells protection bits. Any other is a wrong command line.
+/// This argument, if it has the letters of protection bits. Any other makes the command line wrong.
 pub(crate) fn protection_word<'a>(alloc: Global, word: &'a str) -> Result<&'a str, WordsFault>
     ensures same { IfOk result (λ text. text.now ≡ word.now) }
     ensures letters { OnOk result (AreLetters word.now) }

@@ -1,4 +1,4 @@
-//! The command line: from the words after the program's name to the job that they ask for.
+//! The command line: from the arguments to a job.
 #![tactic(auto)]
 
 mod changing;

@@ -1,4 +1,4 @@
-//! The numbers of options.
+//! Options with numbers.
 ghost use Rattle.std.specs.Prelude.{◌≤◌, IfOk, IfSome};
 
 use crate::fault::WordsFault;
@@ -7,7 +7,7 @@ use ados_name::Date3;
 use clap::ArgMatches;
 use std::alloc::Global;
 
-/// The moment of a command, 0 for each number of it that is left out.
+/// The time stamp of a command. A missing number is 0.
 pub(crate) fn moment_of(alloc: Global, words: &ArgMatches<'_>) -> Result<Date3, WordsFault> {
     Ok(Date3 {
         days: number_of(alloc, words, "days", &TIME_STAMP)? as u32,
@@ -16,7 +16,7 @@ pub(crate) fn moment_of(alloc: Global, words: &ArgMatches<'_>) -> Result<Date3, 
     })
 }
 
-/// The moment of a command, if a number of it is given.
+/// The time stamp of a command, if one of its numbers is given.
 pub(crate) fn given_moment(
     alloc: Global,
     words: &ArgMatches<'_>,
@@ -30,7 +30,7 @@ pub(crate) fn given_moment(
     Ok(None)
 }
 
-/// How many images are checked at a time, at least one, where that is given.
+/// The number of images to check in parallel, at least 1; `None` if it is missing.
 pub(crate) fn jobs_of(alloc: Global, words: &ArgMatches<'_>) -> Result<Option<u32>, WordsFault>
     ensures { IfOk result (λ count. IfSome count (λ n. 1 ≤ n)) }
 {
@@ -40,7 +40,8 @@ pub(crate) fn jobs_of(alloc: Global, words: &ArgMatches<'_>) -> Result<Option<u3
     }
 }
 
-/// The value of a number's option, 0 where it is left out. It is digits alone: a parse would accept a `+` before them too.
+/// The value of an option with a number; 0 if it is missing. Only digits are allowed: a parse alone would accept a `+`
+/// before them.
 pub(crate) fn number_of(
     alloc: Global,
     words: &ArgMatches<'_>,
@@ -58,7 +59,7 @@ pub(crate) fn number_of(
     }
 }
 
-/// That an option's value is no number of its range.
+/// The fault of a value that is no number in the option's range.
 fn wrong_number(alloc: Global, id: &str, range: &NumberRange, text: &str) -> WordsFault {
     WordsFault::usage(format!(in alloc;
         "error: invalid value '{text}' for '--{id} <N>': a decimal number from {} to {} is expected\n\nFor more information, try '--help'.\n",

@@ -1,4 +1,4 @@
-//! From words to a job.
+//! From arguments to a job.
 ghost use Rattle.std.specs.Prelude.{◌≡◌, []};
 
 use crate::changing::{boot_job, change_job};
@@ -14,12 +14,12 @@ use adf_jobs::{ImageJob, Job, ServeJob};
 use clap::{ArgMatches, Command};
 use std::alloc::Global;
 
-/// The blocks of a double-density and of a high-density floppy.
+/// The blocks of a double-density floppy and of a high-density floppy.
 const DOUBLE_DENSITY: u32 = 1_760;
 
 const HIGH_DENSITY: u32 = 3_520;
 
-/// The job that these words ask for, which stand behind the program's own name.
+/// The job of these arguments, which follow the program's name.
 pub fn read_words<'a>(alloc: Global, words: &'a [String]) -> Result<Job<'a>, WordsFault>
     ensures none { words.now ≡ [] → result ≡ Ok Job.Script }
     ensures some { result ≡ Ok Job.Script → words.now ≡ [] }
@@ -31,7 +31,7 @@ pub fn read_words<'a>(alloc: Global, words: &'a [String]) -> Result<Job<'a>, Wor
     Ok(Job::OnImage(asked_job(alloc, &mut command, words)?))
 }
 
-/// The job that these words ask for. Where they name no command, the help is shown.
+/// The job of these arguments. Without a command, the help is printed.
 fn asked_job<'a>(
     alloc: Global,
     program: &mut Command<'a>,
@@ -43,7 +43,7 @@ fn asked_job<'a>(
     }
 }
 
-/// The job of the command that these words name, if they name one.
+/// The job of the command in these arguments, if there is one.
 fn named_job<'a>(
     alloc: Global,
     program: &mut Command<'a>,
@@ -58,7 +58,7 @@ fn named_job<'a>(
     }
 }
 
-/// The job of a command with its words.
+/// The job of a command with its arguments.
 fn job_of<'a>(
     alloc: Global,
     name: &str,
@@ -95,7 +95,7 @@ fn blank_job<'a>(alloc: Global, words: &ArgMatches<'a>) -> Result<ImageJob<'a>, 
     })
 }
 
-/// How many blocks a blank image is to have.
+/// The number of blocks of a blank image.
 fn blocks_of(alloc: Global, words: &ArgMatches<'_>) -> Result<u32, WordsFault> {
     if words.get_str("blocks").is_some() {
         return Ok(number_of(alloc, words, "blocks", &BLOCKS)? as u32);

@@ -1,4 +1,4 @@
-//! The commands and their arguments, with the texts of their help.
+//! The commands and their arguments, with the texts of the help.
 use adf_block::layout::{FEWEST_BLOCKS, MOST_BLOCKS};
 
 /// A command.
@@ -7,7 +7,7 @@ pub(crate) struct CommandRow {
     pub(crate) name: &'static str,
     pub(crate) about: &'static str,
     pub(crate) examples: &'static str,
-    /// Whether it changes an image. Then it has the arguments `CHANGING`, before its own.
+    /// Whether it changes an image. If so, it has the arguments `CHANGING` before its own.
     pub(crate) changes: bool,
     /// Its own arguments, in the order of the help.
     pub(crate) arguments: &'static [ArgumentRow],
@@ -16,62 +16,62 @@ pub(crate) struct CommandRow {
 /// An argument of a command.
 #[derive(Clone, Copy)]
 pub(crate) struct ArgumentRow {
-    /// Its name. An option is given by two dashes and its name.
+    /// Its name. On the command line an option is two dashes and this name.
     pub(crate) name: &'static str,
     pub(crate) kind: Kind,
     pub(crate) help: &'static str,
 }
 
-/// What an argument is.
+/// The kind of an argument.
 #[derive(Clone, Copy)]
 pub(crate) enum Kind {
-    /// An option without a value, and the names of the arguments that may not be given with it.
+    /// An option without a value; and the arguments that it excludes.
     Flag {
         excludes: &'static [&'static str],
     },
-    /// An option with a value, what the help calls the value, and the value of an option that is left out.
+    /// An option with a value; the value's name in the help, and its default.
     Option {
         value: &'static str,
         default: Option<&'static str>,
     },
-    /// One value that is required.
+    /// A required value.
     One,
-    /// One value that is required and may begin with a dash.
+    /// A required value that may start with a dash.
     Dashed,
-    /// One value that may be left out.
+    /// An optional value.
     Optional,
-    /// One value or more.
+    /// One or more values.
     OneOrMore,
     /// Any number of values.
     Any,
 }
 
-/// The numbers that an option accepts, the least and the greatest among them.
+/// The range of numbers for an option, both ends included.
 #[derive(Clone, Copy)]
 pub(crate) struct NumberRange {
     pub(crate) least: u64,
     pub(crate) most: u64,
 }
 
-/// The numbers of `blocks`.
+/// The range of `blocks`.
 pub(crate) const BLOCKS: NumberRange = NumberRange {
     least: FEWEST_BLOCKS as u64,
     most: MOST_BLOCKS as u64,
 };
 
-/// The numbers of `jobs`.
+/// The range of `jobs`.
 pub(crate) const JOBS: NumberRange = NumberRange {
     least: 1,
     most: 4_294_967_295,
 };
 
-/// The numbers of `turns`.
+/// The range of `turns`.
 pub(crate) const TURNS: NumberRange = NumberRange {
     least: 0,
     most: 18_446_744_073_709_551_615,
 };
 
-/// The numbers of `days`, `minutes` and `ticks`.
+/// The range of `days`, `minutes` and `ticks`.
 pub(crate) const TIME_STAMP: NumberRange = NumberRange {
     least: 0,
     most: 4_294_967_295,
@@ -85,7 +85,7 @@ const NUMBER: Kind = Kind::Option {
     default: None,
 };
 
-/// An option with a number, 0 where it is left out.
+/// An option with a number; the default is 0.
 const NUMBER_OR_ZERO: Kind = Kind::Option {
     value: "N",
     default: Some("0"),

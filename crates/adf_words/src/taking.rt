@@ -1,4 +1,4 @@
-//! The jobs of the commands that take things out of an image and leave it as it is.
+//! The jobs of the commands that read an image and do not change it.
 use crate::fault::WordsFault;
 use crate::letters::letters_of;
 use crate::numbers::jobs_of;

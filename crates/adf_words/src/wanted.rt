@@ -1,10 +1,10 @@
-//! The words of a command, as `clap` found them.
+//! The arguments of a command, as `clap` parsed them.
 use crate::fault::WordsFault;
 use crate::letters::letters_of;
 use clap::ArgMatches;
 use std::alloc::Global;
 
-/// The word of a command that has to be there.
+/// A required argument.
 pub(crate) fn word_for<'a>(
     alloc: Global,
     words: &ArgMatches<'a>,
@@ -16,14 +16,14 @@ pub(crate) fn word_for<'a>(
     }
 }
 
-/// That a word is missing.
+/// The fault of a missing argument.
 pub(crate) fn missing(alloc: Global, id: &str) -> WordsFault {
     WordsFault::usage(format!(in alloc;
         "error: <{id}> is missing\n\nFor more information, try '--help'.\n"
     ))
 }
 
-/// The words of a command that may be many.
+/// The values of an argument that can have many.
 pub(crate) fn words_for<'a>(
     alloc: Global,
     words: &ArgMatches<'a>,
@@ -32,7 +32,7 @@ pub(crate) fn words_for<'a>(
     Ok(Vec::from_slice(alloc, words.get_strs(id).unwrap_or(&[]))?)
 }
 
-/// A word that has to be there, whose letters stand for bytes.
+/// A required argument whose letters are bytes.
 pub(crate) fn letters_for<'a>(
     alloc: Global,
     words: &ArgMatches<'a>,

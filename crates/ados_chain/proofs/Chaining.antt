@@ -1,15 +1,14 @@
--- The lawful chains of a directory, and what a change of one link makes of them.
+-- The lawful chains of a directory, and the chains after one link changed.
 use Rattle.std.proofs.Common.{◌≡◌, ◌≢◌, ℕ, ◌+◌, ◌<◌, ◌≤◌, ◌⊎◌, inl, inr, List, [], ◌∷◌, ◌++◌, length, Contains, refl, sym, ap, ◌∙◌, subst, arith}
 use Rattle.std.proofs.lemmas.Bool.{cases_eq}
 use Rattle.std.proofs.lemmas.List.Elements.{Contains-append_left}
-use Rattle.adf_block.specs.Image.{block_count, root_key}
-use Rattle.adf_block.specs.Chained.{Chained}
-use Rattle.adf_block.specs.Fields.{table_entry, next_in_chain, first_slot}
+use Rattle.adf_block.specs.Image.{block_count, root_key, Chained, table_entry}
+use Rattle.adf_block.specs.Layout.{next_in_chain, first_slot}
 use Rattle.ados_name.specs.Name.{IsName, slot}
 use Rattle.ados_chain.specs.Chains.{name_at, slot_at, IsEntryBlock, LawfulChains}
 use Rattle.ados_chain.specs.Relinks.{link_block, link_long, AtLinks, Relinks}
 use Rattle.ados_chain.specs.Links.{IsLink}
-use Rattle.ados_chain.proofs.Lists.{Once, Once-front, length-once}
+use Rattle.ados_model.proofs.KeyLists.{Once, Once-front, length-once}
 use Rattle.ados_chain.proofs.Spelling.{NoneZero, Chained-unique, Chained-kept, Chained-relinked, KeepsLongs, link_block-in, link_long-entry}
 use Rattle.ados_chain.proofs.Framing.{link_long-is, name-kept, longs-kept}
 use Rattle.adf_block.proofs.Frames.{same_count}
@@ -24,26 +23,26 @@ module _ (image : List ℕ) (dir : ℕ) (chains : ℕ → List ℕ) (h : LawfulC
   pub chain-short : (s : ℕ) → s < 72 → length (chains s) ≤ block_count image
   chain-short s l = length-once (chains s) (block_count image) (h.once s l) (λ key m. (h.entry s key l m).inside.1)
 
-  -- no key stands in two chains
+  -- a key is in one chain only
   pub one_chain : (s t key : ℕ) → s < 72 → t < 72 → Contains (chains s) key → Contains (chains t) key → s ≡ t
   one_chain s t key l m c d = sym (h.slotted s key l c) ∙ h.slotted t key m d
 
--- a directory has one list of chains
+-- a directory has only one list of chains
 pub chains_same : (image : List ℕ) (dir : ℕ) (chains other : ℕ → List ℕ) → LawfulChains image dir chains → LawfulChains image dir other → (s : ℕ) → s < 72 → chains s ≡ other s
 chains_same image dir chains other h g s l =
     Chained-unique image next_in_chain (table_entry image dir s) (chains s) (other s) (none_zero image dir chains h s l) (none_zero image dir other g s l) (h.spelled s l) (g.spelled s l)
 
--- the link behind some entries of a slot is no link of another slot's table
+-- the link after some entries of a slot is not in the hash table at another slot
 link_long-other : (s t : ℕ) (keys : List ℕ) → t < 72 → t ≢ s → first_slot + t ≢ link_long (first_slot + s) keys
 link_long-other s t [] l n e = n (omega arith)
 link_long-other s t (key ∷ keys) l n e = omega (arith, link_long-entry keys, e)
 
--- an entry that is not the last of these keeps its next in chain, as long as the link behind them alone changes
+-- an entry that is not the last of these keeps its next-in-chain long, if only the link after them changes
 pub entry_apart : (dir s : ℕ) (keys : List ℕ) (b : ℕ) → s < 72 → ¬ Contains keys b → (b ≢ link_block dir keys) ⊎ (next_in_chain ≢ link_long (first_slot + s) keys)
 entry_apart dir s [] b l n = inr (λ e. omega (arith, e))
 entry_apart dir s (key ∷ keys) b l n = inl (λ e. n (subst (Contains (key ∷ keys)) (sym e) (link_block-in key keys)))
 
--- an entry stays one where its name stays
+-- a block that may be an entry still may, if its name is unchanged
 pub entry-kept : (old new : List ℕ) (dir key : ℕ) → block_count new ≡ block_count old → name_at new key ≡ name_at old key → IsEntryBlock old dir key → IsEntryBlock new dir key
 entry-kept old new dir key count name e = record {
   inside = (e.inside.0, omega (arith, e.inside.1, count));
@@ -52,7 +51,7 @@ entry-kept old new dir key count name e = record {
   name = subst IsName (sym name) e.name;
 }
 
--- the chains of the new image, where the chain of a slot has a new rest behind its front
+-- the chains of the new image: the chain of one slot has a new rest after `front`
 pub record NewRest (dir s key next : ℕ) (chains chains' : ℕ → List ℕ) (front rest rest' : List ℕ) (old new : List ℕ) : Type 0 where
   pub small : s < 72
   pub split : chains s ≡ front ++ rest

@@ -1,16 +1,15 @@
--- Putting an entry last into its chain and taking one out, by the links that change.
+-- Insertion at the end of a chain and removal from it, by the links that change.
 use Rattle.std.proofs.Common.{◌≡◌, ◌≢◌, ℕ, ◌+◌, ◌<◌, inl, inr, List, [], ◌∷◌, ◌++◌, filter, Contains, refl, sym, ap, ◌∙◌, subst, arith, append-nil, eq-eqb}
 use Rattle.std.proofs.lemmas.Bool.{ne_eqb}
 use Rattle.std.proofs.lemmas.List.Elements.{Contains-append_left, Contains-append_right, Contains-append_cases, Contains-push_cases, Contains-get_or}
 use Rattle.std.proofs.lemmas.List.Quantifiers.{all_pairs_push}
 use Rattle.std.proofs.lemmas.List.Kept.{AllPairs-filter}
-use Rattle.adf_block.specs.Image.{long}
-use Rattle.adf_block.specs.Chained.{Chained}
-use Rattle.adf_block.specs.Fields.{table_entry, next_in_chain, first_slot}
+use Rattle.adf_block.specs.Image.{long, Chained, table_entry}
+use Rattle.adf_block.specs.Layout.{next_in_chain, first_slot}
 use Rattle.ados_name.specs.Name.{slot}
 use Rattle.ados_chain.specs.Chains.{slot_at, IsEntryBlock, LawfulChains, InChains, with_last, without}
 use Rattle.ados_chain.specs.Relinks.{link_block, link_long, Relinks, InsertsLast, Unlinks}
-use Rattle.ados_chain.proofs.Lists.{Once, Once-before, Once-behind, Once-apart, Contains-here, Contains-later, is_not, filter-absent, filter-once}
+use Rattle.ados_model.proofs.KeyLists.{Once, Once-before, Once-behind, Once-apart, Contains-here, Contains-later, is_not, filter-absent, filter-once}
 use Rattle.ados_chain.proofs.Spelling.{Chained-behind, Chained-kept}
 use Rattle.ados_chain.proofs.Framing.{link_long-is, longs-kept}
 use Rattle.ados_chain.proofs.Chaining.{one_chain, entry_apart, lawful_after}
@@ -24,11 +23,11 @@ slot_at-small image key = omega arith
 pub with_last-here : (chains : ℕ → List ℕ) (s key : ℕ) → with_last chains s key s ≡ chains s ++ key ∷ []
 with_last-here chains s key = rw (eq-eqb s s refl) refl
 
--- the other chains stay
+-- the other chains stay the same
 pub with_last-other : (chains : ℕ → List ℕ) (s key t : ℕ) → t ≢ s → with_last chains s key t ≡ chains t
 with_last-other chains s key t n = rw (ne_eqb t s n) refl
 
--- an entry is put last
+-- an entry is appended
 pub inserted : (old new : List ℕ) (dir key : ℕ) (chains : ℕ → List ℕ) → LawfulChains old dir chains → IsEntryBlock old dir key → ¬ InChains chains key
     → Relinks (link_block dir (chains (slot_at old key))) (link_long (first_slot + slot_at old key) (chains (slot_at old key))) key key old new
     → InsertsLast dir key chains old new
@@ -76,7 +75,7 @@ module _ (old new : List ℕ) (dir key : ℕ) (chains : ℕ → List ℕ) (front
   listed : Contains (chains (slot_at old key)) key
   listed = in_chain key (Contains-append_right front (key ∷ back) key (Contains-here key back))
 
-  -- the rest behind the entry is spelled as before
+  -- the links after the removed entry are the same
   rest_spelled : Chained new next_in_chain (long old key next_in_chain) back
   rest_spelled =
       let spelled = subst (λ (xs : List ℕ). Chained old next_in_chain (table_entry old dir (slot_at old key)) xs) split (h.spelled (slot_at old key) small) in
@@ -92,7 +91,7 @@ module _ (old new : List ℕ) (dir key : ℕ) (chains : ℕ → List ℕ) (front
   elsewhere : (t : ℕ) → t < 72 → t ≢ slot_at old key → ¬ Contains (chains t) key
   elsewhere t l n m = n (one_chain old dir chains h t (slot_at old key) key l small m listed)
 
-  -- an entry is taken out
+  -- an entry is removed
   pub unlinked : Unlinks dir key chains old new
   unlinked = record {
     front = front;

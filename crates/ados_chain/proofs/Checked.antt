@@ -1,16 +1,15 @@
--- Lawful chains from walks that end, as a test finds them.
+-- Lawful chains, from walks along links that end.
 use Rattle.std.proofs.Common.{◌≡◌, ◌≢◌, ℕ, ◌+◌, ◌<◌, ◌≤◌, ◌⊎◌, inl, inr, List, [], ◌∷◌, ◌++◌, length, Contains, refl, sym, ap, subst, arith, length-append}
 use Rattle.std.proofs.lemmas.Bool.{cases_lt}
 use Rattle.std.proofs.lemmas.List.Kept.{AllPairs-cons}
 use Rattle.std.proofs.lemmas.List.Elements.{Contains-append_right, Contains-get_or}
-use Rattle.adf_block.specs.Image.{block_count, long, IsInside}
-use Rattle.adf_block.specs.Chained.{Chained}
-use Rattle.adf_block.specs.Fields.{next_in_chain, first_slot}
+use Rattle.adf_block.specs.Image.{block_count, long, IsInside, Chained}
+use Rattle.adf_block.specs.Layout.{next_in_chain, first_slot}
 use Rattle.ados_chain.specs.Chains.{IsEntryBlock, HasChains, slot_at}
-use Rattle.ados_chain.proofs.Lists.{Once, Contains-later, Contains-cases, Contains-nil, Contains-split}
+use Rattle.ados_model.proofs.KeyLists.{Once, Contains-later, Contains-cases, Contains-nil, Contains-split}
 use Rattle.ados_chain.proofs.Spelling.{NoneZero, NoneZero-tail, Chained-unique, Chained-behind}
 
--- the links from a key on lead along entries of the slot
+-- the links from a key lead to entries of the slot, and end
 abbrev pub LeadsAlong : List ℕ → ℕ → ℕ → ℕ → Type 0
 LeadsAlong image dir s key = (keys : List ℕ) × Chained image next_in_chain key keys × ((k : ℕ) → Contains keys k → IsEntryBlock image dir k × (slot_at image k ≡ s))
 
@@ -21,7 +20,7 @@ pub leads_more : (image : List ℕ) (dir s key : ℕ) → IsEntryBlock image dir
 leads_more image dir s key e slotted (keys, spelled, entries) =
     (key ∷ keys, (refl, spelled), λ k m. elim (Contains-cases key keys k m) [ inl same ↦ subst (λ (x : ℕ). IsEntryBlock image dir x × (slot_at image x ≡ s)) same (e, slotted) | inr later ↦ entries k later ])
 
--- links that end lead to no block twice
+-- links that end lead to each block once
 pub Chained-once : (image : List ℕ) (first : ℕ) (xs : List ℕ) → NoneZero xs → Chained image next_in_chain first xs → Once xs
 Chained-once image first [] n c = λ i j d l m. absurd (omega arith)
 Chained-once image first (x ∷ xs) n c =
@@ -35,7 +34,7 @@ Chained-once image first (x ∷ xs) n c =
         omega (arith, ap length same, ap length split, length-append front (x ∷ back))
 
 module _ (image : List ℕ) (dir : ℕ) (inside : IsInside (block_count image) dir) (leads : (s : ℕ) → s < 72 → LeadsAlong image dir s (long image dir (first_slot + s))) where
-  -- the chain of a slot, empty past the table
+  -- the chain of a slot, empty for a number past the table
   abbrev chain : (s : ℕ) → (s < 72) ⊎ (72 ≤ s) → List ℕ
   chain s (inl l) = (leads s l).0
   chain s (inr m) = []

@@ -1,16 +1,15 @@
--- What a link that was found says of its chain, and what comes after an entry.
+-- A link that was found, in terms of its chain; and what follows an entry.
 use Rattle.std.proofs.Common.{◌≡◌, ◌≢◌, ℕ, ◌+◌, ◌-◌, ◌<◌, ◌⊎◌, inl, inr, List, [], ◌∷◌, ◌++◌, length, get_or, Contains, Some, refl, sym, ap, ◌∙◌, subst, arith, append_assoc, append-nil}
 use Rattle.std.proofs.lemmas.List.Elements.{Contains-append_left, Contains-append_right, Contains-append_cases}
-use Rattle.adf_block.specs.Image.{block_count, long}
-use Rattle.adf_block.specs.Chained.{Chained}
-use Rattle.adf_block.specs.Fields.{table_entry, next_in_chain, first_slot}
+use Rattle.adf_block.specs.Image.{block_count, long, Chained, table_entry}
+use Rattle.adf_block.specs.Layout.{next_in_chain, first_slot}
 use Rattle.ados_chain.specs.Chains.{LawfulChains, slot_at, InChains, chains_from, entries_of}
-use Rattle.ados_chain.specs.Behind.{behind}
+use Rattle.ados_model.specs.Tree.{behind}
 use Rattle.ados_chain.specs.Look.{first_left}
 use Rattle.ados_chain.specs.declared.read.Next.TheVariants.{Entry}
 use Rattle.ados_chain.specs.Relinks.{link_block}
 use Rattle.ados_chain.specs.Links.{IsLink, LeadsTo, BeginsWith}
-use Rattle.ados_chain.proofs.Lists.{Once-before, Contains-here, Contains-later, Contains-split}
+use Rattle.ados_model.proofs.KeyLists.{Once-before, Contains-here, Contains-later, Contains-split}
 use Rattle.ados_chain.proofs.Spelling.{link_block-in, Chained-behind}
 use Rattle.ados_chain.proofs.Framing.{link_long-is}
 use Rattle.ados_chain.proofs.Chaining.{none_zero, one_chain, chains_same}
@@ -21,11 +20,11 @@ pub IsLink-small : (i : ℕ) → IsLink i → i < 128
 IsLink-small i (inl h) = omega (arith, h.1)
 IsLink-small i (inr h) = omega (arith, h)
 
--- an entry that the directory has under one list of chains it has under each
+-- an entry by one list of lawful chains is an entry by any
 pub listed_same : (image : List ℕ) (dir key : ℕ) (chains other : ℕ → List ℕ) → LawfulChains image dir chains → LawfulChains image dir other → InChains chains key → InChains other key
 listed_same image dir key chains other h g m = (m.0, m.1, subst (λ (xs : List ℕ). Contains xs key) (chains_same image dir chains other h g m.0 m.1) m.2)
 
--- an entry stands in the chain of its slot
+-- an entry is in the chain of its slot
 pub in_own_slot : (image : List ℕ) (dir key : ℕ) (chains : ℕ → List ℕ) → LawfulChains image dir chains → InChains chains key → Contains (chains (slot_at image key)) key
 in_own_slot image dir key chains h m = subst (λ (s : ℕ). Contains (chains s) key) (sym (h.slotted m.0 key m.1 m.2)) m.2
 
@@ -33,7 +32,7 @@ module _ (image : List ℕ) (dir : ℕ) (chains : ℕ → List ℕ) (h : LawfulC
   front_in : (k : ℕ) → Contains to.front k → Contains (chains s) k
   front_in k m = subst (λ (xs : List ℕ). Contains xs k) (sym to.split) (Contains-append_left to.front to.rest k m)
 
-  -- the link is in the directory or in an entry of the front
+  -- the link is in the directory or in an entry before it
   pub block_cases : (block ≡ dir) ⊎ Contains to.front block
   block_cases = go to.front to.at_block
     where
@@ -47,17 +46,17 @@ module _ (image : List ℕ) (dir : ℕ) (chains : ℕ → List ℕ) (h : LawfulC
   pub long_is : IsLink i
   long_is = subst IsLink (sym to.at_long) (link_long-is s to.front small)
 
-  -- the link is in no block that is neither the directory nor in the front
+  -- the link is not in a block other than these
   pub block_apart : (key : ℕ) → key ≢ dir → ¬ Contains to.front key → block ≢ key
   block_apart key n m e = elim block_cases [ inl d ↦ n (sym e ∙ d) | inr f ↦ m (subst (Contains to.front) e f) ]
 
-  -- what the link holds
+  -- the key in the link
   pub held : Chained image next_in_chain (long image block i) to.rest
   held =
       let behind = Chained-behind image dir (first_slot + s) to.front to.rest (subst (λ (xs : List ℕ). Chained image next_in_chain (table_entry image dir s) xs) to.split (h.spelled s small)) in
       subst (λ (b : ℕ). Chained image next_in_chain (long image b i) to.rest) (sym to.at_block) (subst (λ (j : ℕ). Chained image next_in_chain (long image (link_block dir to.front) j) to.rest) (sym to.at_long) behind)
 
-  -- an entry of the chain is the first of the rest
+  -- an entry of the chain is the first after the link
   pub entry_follows : Contains (chains s) entry → (back : List ℕ) × (chains s ≡ to.front ++ entry ∷ back)
   entry_follows m = go to.rest to.split to.begins
     where
@@ -65,7 +64,7 @@ module _ (image : List ℕ) (dir : ℕ) (chains : ℕ → List ℕ) (h : LawfulC
       go [] e b = absurd (to.absent (subst (λ (xs : List ℕ). Contains xs entry) (e ∙ append-nil to.front) m))
       go (key ∷ back) e b = (back, e ∙ ap (λ (k : ℕ). to.front ++ k ∷ back) b)
 
-  -- the link holds the entry exactly where the chain has it
+  -- the link holds the entry exactly if the chain has the entry
   pub held_listed : long image block i ≡ entry → entry ≢ 0 → Contains (chains s) entry
   held_listed e n = go to.rest to.split held
     where
@@ -80,7 +79,7 @@ module _ (image : List ℕ) (dir : ℕ) (chains : ℕ → List ℕ) (h : LawfulC
       go [] e b c = absurd (to.absent (subst (λ (xs : List ℕ). Contains xs entry) (e ∙ append-nil to.front) m))
       go (key ∷ back) e b c = c.0 ∙ b
 
--- the link that leads to 0 ends the chain
+-- a link that holds 0 ends the chain
 pub leads_to_end : (image : List ℕ) (dir : ℕ) (chains : ℕ → List ℕ) → LawfulChains image dir chains → (s : ℕ) → s < 72 → (block i : ℕ) → (to : LeadsTo dir s (chains s) 0 block i) → chains s ≡ to.front
 leads_to_end image dir chains h s small block i to = go to.rest to.split to.begins
   where
@@ -89,7 +88,7 @@ leads_to_end image dir chains h s small block i to = go to.rest to.split to.begi
     go (key ∷ back) e b = absurd (none_zero image dir chains h s small key (subst (λ (xs : List ℕ). Contains xs key) (sym e) (Contains-append_right to.front (key ∷ back) key (Contains-here key back))) b)
 
 module _ (image : List ℕ) (dir : ℕ) (chains : ℕ → List ℕ) (h : LawfulChains image dir chains) (s key : ℕ) (small : s < 72) (m : Contains (chains s) key) where
-  -- behind an entry stand the entries behind it in its chain and then those of the next slots
+  -- an entry is followed by the later entries of its chain, then by those of the next slots
   behind-entry : (back : List ℕ) × (Chained image next_in_chain (long image key next_in_chain) back) × ((k : ℕ) → Contains back k → Contains (chains s) k)
       × (behind key (entries_of chains) ≡ Some (back ++ chains_from chains (s + 1) (72 - (s + 1))))
   behind-entry =

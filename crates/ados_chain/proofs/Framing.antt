@@ -1,7 +1,7 @@
--- What stays where a link of a chain changes: other longs, and the names of entries.
+-- What a change of a link leaves the same: other longs, and the names of entries.
 use Rattle.std.proofs.Common.{◌≡◌, ℕ, ◌+◌, ◌-◌, ◌*◌, ◌/◌, ◌<◌, ◌≤◌, inl, inr, List, [], ◌∷◌, length, take, drop, min, slice_index, sym, ap, ap₂, ◌∙◌, arith}
 use Rattle.std.proofs.lemmas.List.{drop-take, take-take, drop-drop, length-take, length-drop}
-use Rattle.adf_block.specs.Fields.{first_slot, name_byte}
+use Rattle.adf_block.specs.Layout.{first_slot, name_byte}
 use Rattle.adf_block.specs.Image.{byte_at, bytes_at, block_count}
 use Rattle.adf_block.specs.Frame.{SameBut}
 use Rattle.adf_block.proofs.Frames.{same_long, same_bytes_at}
@@ -12,21 +12,21 @@ use Rattle.ados_chain.specs.Relinks.{AtLinks, link_long}
 use Rattle.ados_chain.specs.Links.{IsLink}
 use Rattle.ados_chain.proofs.Spelling.{KeepsLongs, link_long-entry}
 
--- a block of the image has its 512 bytes
+-- the 512 bytes of a block are inside the image
 pub block-within : (image : List ℕ) (b : ℕ) → b < block_count image → 512 * b + 512 ≤ length image
 block-within image b l = omega arith
 
--- how long the text is that a block gives as its name
+-- the length of the text in a block's name field
 pub length-name_at : (image : List ℕ) (key : ℕ) → key < block_count image → min (byte_at image key name_byte) 79 ≤ length (name_at image key)
 unfolding bytes_at
 length-name_at image key l =
     omega (arith, length-take (byte_at image key name_byte) (drop (512 * key + 433) image), length-drop (512 * key + 433) image, block-within image key l)
 
--- a valid name lies within its block
+-- a valid name is inside its block
 pub name-short : (image : List ℕ) (key : ℕ) → key < block_count image → IsName (name_at image key) → byte_at image key name_byte ≤ 30
 name-short image key l h = omega (arith, length-name_at image key l, h.short)
 
--- the byte of a name's length, read from the bytes of its block
+-- the length byte of a name, read from the bytes of its block
 pub name_byte-read : (image block : List ℕ) (key : ℕ) → block ≡ bytes_at image key 0 512 → slice_index block name_byte ≡ byte_at image key name_byte
 name_byte-read image block key e = ap (λ (xs : List ℕ). slice_index xs name_byte) e ∙ byte-bytes_at image key 0 512 name_byte (omega arith)
 
@@ -42,13 +42,13 @@ name-read image block key n e counted l =
     ∙ ap (take n) (drop-drop 433 (512 * key + 0) image ∙ ap (λ (k : ℕ). drop k image) (omega arith))
     ∙ ap (λ (k : ℕ). take k (drop (512 * key + 433) image)) counted
 
--- the link behind some entries of a slot is a link
+-- the link after some entries of a slot is a link
 pub link_long-is : (s : ℕ) (keys : List ℕ) → s < 72 → IsLink (link_long (first_slot + s) keys)
 link_long-is s [] l = inl (omega arith, omega arith)
 link_long-is s (key ∷ keys) l = inr (link_long-entry keys)
 
 module _ (block i key : ℕ) (old new : List ℕ) (at : IsLink i) (h : SameBut (AtLinks block i key) old new) where
-  -- bytes outside of links and sum fields
+  -- bytes outside all links and checksums
   pub bytes_apart : (b j : ℕ) → 312 ≤ j → j < 496 → ¬ AtLinks block i key b j
   bytes_apart b j l m (inl (inl e)) = elim at [ inl t ↦ absurd (omega (arith, e.1, t.0, t.1)) | inr t ↦ absurd (omega (arith, e.1, t)) ]
   bytes_apart b j l m (inl (inr e)) = absurd (omega (arith, e.1))

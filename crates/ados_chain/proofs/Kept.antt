@@ -1,21 +1,20 @@
--- What a change of one directory's chains keeps elsewhere, for the crates above.
+-- What a change of one directory's chains leaves the same elsewhere, for the crates above.
 use Rattle.std.proofs.Common.{◌≡◌, ◌≢◌, ℕ, ◌+◌, ◌<◌, ◌⊎◌, inl, inr, List, [], ◌∷◌, ◌++◌, Contains, sym, ap, ◌∙◌, subst, arith}
 use Rattle.std.proofs.lemmas.List.Elements.{Contains-append_left, Contains-append_right}
-use Rattle.adf_block.specs.Image.{block_count, long}
-use Rattle.adf_block.specs.Chained.{Chained}
-use Rattle.adf_block.specs.Fields.{table_entry, next_in_chain, sum_long, first_slot}
+use Rattle.adf_block.specs.Image.{block_count, long, Chained, table_entry}
+use Rattle.adf_block.specs.Layout.{next_in_chain, sum_long, first_slot}
 use Rattle.adf_block.proofs.Frames.{same_count}
 use Rattle.ados_name.specs.Name.{slot}
 use Rattle.ados_chain.specs.Chains.{name_at, slot_at, IsEntryBlock, LawfulChains, InChains}
 use Rattle.ados_chain.specs.Relinks.{link_block, link_long, AtLinks, Relinks, InsertsLast, Unlinks}
 use Rattle.ados_chain.specs.Links.{IsLink}
-use Rattle.ados_chain.proofs.Lists.{Contains-here}
+use Rattle.ados_model.proofs.KeyLists.{Contains-here}
 use Rattle.ados_chain.proofs.Spelling.{Chained-kept, link_long-entry}
 use Rattle.ados_chain.proofs.Framing.{link_long-is, name-kept, longs-kept}
 use Rattle.ados_chain.proofs.Chaining.{entry_apart, entry-kept}
 use Rattle.ados_chain.proofs.Changes.{slot_at-small}
 
--- lists along another long stay, as those of data blocks and of extension blocks
+-- lists linked by another long stay the same, such as data blocks and extension blocks
 pub list-kept : (block i next key : ℕ) (old new : List ℕ) → IsLink i → Relinks block i next key old new → (link first : ℕ) (keys : List ℕ) → link < 128 → link ≢ sum_long → ¬ IsLink link → Chained old link first keys → Chained new link first keys
 list-kept block i next key old new at r link first keys l n other c =
     Chained-kept old new link first keys
@@ -23,7 +22,7 @@ list-kept block i next key old new at r link first keys l n other c =
     c
 
 module _ (dir s key next : ℕ) (front : List ℕ) (old new : List ℕ) (small : s < 72) (r : Relinks (link_block dir front) (link_long (first_slot + s) front) next key old new) where
-  -- the chains of another directory stay, if none of their entries is the key or one of those before the link
+  -- the chains of another directory stay the same if they have neither the key nor an entry before the link
   pub others_kept : (other : ℕ) (chains : ℕ → List ℕ) → LawfulChains old other chains → other ≢ dir → ((k : ℕ) → InChains chains k → (k ≢ key) × ¬ Contains front k) → LawfulChains new other chains
   others_kept other chains h n apart = record {
     inside = (h.inside.0, omega (arith, h.inside.1, count));
@@ -52,13 +51,13 @@ module _ (dir s key next : ℕ) (front : List ℕ) (old new : List ℕ) (small :
       table_apart [] t l = inl n
       table_apart (k ∷ keys) t l = inr (λ e. omega (arith, link_long-entry keys, e))
 
--- another directory keeps its chains when an entry is put into this one
+-- an insertion into this directory keeps the chains of another
 pub inserted-others_kept : (old new : List ℕ) (dir key : ℕ) (chains : ℕ → List ℕ) → InsertsLast dir key chains old new → (other : ℕ) (kept : ℕ → List ℕ) → LawfulChains old other kept → other ≢ dir → ¬ InChains kept key → ((k : ℕ) → InChains kept k → ¬ InChains chains k) → LawfulChains new other kept
 inserted-others_kept old new dir key chains i other kept h n absent apart =
     others_kept dir (slot_at old key) key key (chains (slot_at old key)) old new (slot_at-small old key) i.relinks other kept h n
     (λ k m. (λ e. absent (subst (InChains kept) e m), λ f. apart k m (slot_at old key, slot_at-small old key, f)))
 
--- another directory keeps its chains when an entry is taken out of this one
+-- a removal from this directory keeps the chains of another
 pub unlinked-others_kept : (old new : List ℕ) (dir key : ℕ) (chains : ℕ → List ℕ) → Unlinks dir key chains old new → (other : ℕ) (kept : ℕ → List ℕ) → LawfulChains old other kept → other ≢ dir → ((k : ℕ) → InChains kept k → ¬ InChains chains k) → LawfulChains new other kept
 unlinked-others_kept old new dir key chains u other kept h n apart =
     others_kept dir (slot_at old key) key (long old key next_in_chain) u.front old new (slot_at-small old key) u.relinks other kept h n

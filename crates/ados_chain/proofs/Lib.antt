@@ -1,5 +1,5 @@
--- Lists of keys, the links that spell them, a change of one link, and then the order, the walks and what they find. `Kept` and `Rising` are for the crates above, `Checked` for the tests.
-pub mod Lists
+-- Links, a change of one link, the order of a directory, walks and their results. `Kept`, `Rising` and `Checked` are
+-- for the crates above.
 pub mod Spelling
 pub mod Framing
 pub mod Chaining

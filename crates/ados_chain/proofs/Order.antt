@@ -1,15 +1,15 @@
--- The order of a directory: what comes after a key, by the chains.
+-- The order of a directory: what follows a key, by its chains.
 use Rattle.std.proofs.Common.{◌≡◌, ℕ, zero, suc, ◌+◌, ◌-◌, ◌<◌, ◌≤◌, inl, inr, Bool, true, false, cond, ◌==◌, List, [], ◌∷◌, ◌++◌, Contains, Option, Some, None, refl, sym, ap, ◌∙◌, subst, arith, append_assoc, eq-eqb}
 use Rattle.std.proofs.lemmas.Bool.{ne_eqb}
 use Rattle.std.proofs.lemmas.Option.{none-some, same_Some}
 use Rattle.std.proofs.lemmas.List.Elements.{Contains-append_cases}
 use Rattle.ados_chain.specs.Chains.{chains_from, entries_of, InChains}
-use Rattle.ados_chain.specs.Behind.{behind}
+use Rattle.ados_model.specs.Tree.{behind}
 use Rattle.ados_chain.specs.Look.{first_left}
 use Rattle.ados_chain.specs.declared.read.Next.TheVariants.{Entry, End}
-use Rattle.ados_chain.proofs.Lists.{Contains-here, Contains-later, Contains-nil}
+use Rattle.ados_model.proofs.KeyLists.{Contains-here, Contains-later, Contains-nil}
 
--- what stands behind a key whose first place in the list is known, and behind one that is not in it
+-- what follows a key at its first occurrence; and none for a key that the list does not have
 pub behind-found : (xs : List ℕ) (key : ℕ) (ys : List ℕ) → ¬ Contains xs key → behind key (xs ++ key ∷ ys) ≡ Some ys
 behind-found [] key ys n = rw (eq-eqb key key refl) refl
 behind-found (x ∷ xs) key ys n =
@@ -20,7 +20,7 @@ behind-absent [] key n = refl
 behind-absent (x ∷ xs) key n =
     rw (ne_eqb x key (λ e. n (subst (λ (z : ℕ). Contains (x ∷ xs) z) e (Contains-here x xs)))) (behind-absent xs key (λ m. n (Contains-later x xs key m)))
 
--- what stands behind a key of a list stands in it, and not in its first place
+-- a key that follows another is in the list, but not first
 behind-in : (xs : List ℕ) (key next : ℕ) (rest : List ℕ) → behind key xs ≡ Some (next ∷ rest) → Contains xs next
 behind-in [] key next rest e = absurd (none-some (next ∷ rest) e)
 behind-in (x ∷ xs) key next rest e = Contains-later x xs next (go (x == key) e (behind-in xs key next rest))
@@ -36,7 +36,7 @@ behind-later x xs key next rest = go (x == key)
     go true e = subst (λ (ys : List ℕ). Contains ys next) (sym (same_Some xs (next ∷ rest) e)) (Contains-here next rest)
     go false e = behind-in xs key next rest e
 
--- the chains from s on are those of m slots and then those of the others
+-- the chains of m slots from s, then those of the next n slots
 pub chains_from-split : (chains : ℕ → List ℕ) (s m n : ℕ) → chains_from chains s (m + n) ≡ chains_from chains s m ++ chains_from chains (s + m) n
 unfolding chains_from
 chains_from-split chains s zero n =
@@ -59,7 +59,7 @@ Contains-chains_from chains s (suc n) key m =
       | inr b ↦ let r = Contains-chains_from chains (suc s) n key b in (r.0, omega (arith, r.1), omega (arith, r.2), r.3)
     ]
 
--- the chains that are left from a slot on, one after another
+-- the chains from a slot: its own, then those of the next slots
 pub chains_from-next : (chains : ℕ → List ℕ) (s : ℕ) → s < 72 → chains_from chains s (72 - s) ≡ chains s ++ chains_from chains (s + 1) (72 - (s + 1))
 unfolding chains_from
 chains_from-next chains s l =
@@ -67,7 +67,7 @@ chains_from-next chains s l =
     let more : suc s ≡ s + 1 = omega arith in
     ap (chains_from chains s) count ∙ ap (λ (a : ℕ). chains s ++ chains_from chains a (72 - (s + 1))) more
 
--- the entries before a slot, and from it on
+-- the entries before a slot, and those from it
 pub entries-split : (chains : ℕ → List ℕ) (s : ℕ) → s < 72 → entries_of chains ≡ chains_from chains 0 s ++ (chains s ++ chains_from chains (s + 1) (72 - (s + 1)))
 entries-split chains s l =
     let count : 72 ≡ s + (72 - s) = omega arith in
@@ -76,11 +76,11 @@ entries-split chains s l =
     ∙ chains_from-split chains 0 s (72 - s)
     ∙ ap (λ (xs : List ℕ). chains_from chains 0 s ++ xs) (ap (λ (a : ℕ). chains_from chains a (72 - s)) start ∙ chains_from-next chains s l)
 
--- an entry of the directory is one of a chain
+-- an entry of the directory is in one of its chains
 pub entry-in_chains : (chains : ℕ → List ℕ) (key : ℕ) → Contains (entries_of chains) key → InChains chains key
 entry-in_chains chains key m = let r = Contains-chains_from chains 0 72 key m in (r.0, omega (arith, r.2), r.3)
 
--- the first entry is in the first slot whose chain is not empty
+-- the first entry is in the first slot with a chain that is not empty
 pub first-here : (chains : ℕ → List ℕ) (s key : ℕ) (later : List ℕ) → s < 72 → chains s ≡ key ∷ later → first_left (Some (chains_from chains s (72 - s))) ≡ Entry key
 first-here chains s key later l e =
     ap (λ (xs : List ℕ). first_left (Some xs)) (chains_from-next chains s l)
@@ -96,12 +96,12 @@ pub first-all : (chains : ℕ → List ℕ) → first_left (Some (chains_from ch
 unfolding chains_from
 first-all chains = refl
 
--- there is no first entry only where there is none
+-- there is no first entry only in an empty list
 pub first-end : (xs : List ℕ) → first_left (Some xs) ≡ End → xs ≡ []
 first-end [] e = refl
 first-end (x ∷ xs) e = absurd (cc e)
 
--- where there is a first to be listed, there is such a list
+-- a first remaining key comes from a list
 pub first-entry : (left : Option (List ℕ)) (next : ℕ) → first_left left ≡ Entry next → (rest : List ℕ) × (left ≡ Some (next ∷ rest))
 first-entry None next e = absurd (cc e)
 first-entry (Some []) next e = absurd (cc e)

@@ -1,12 +1,13 @@
--- A list of entries that rises by slot is the order of the directory whose chains are its parts by slot, for the crates above.
+-- A list of entries whose slots rise is the order of a directory whose chains are its parts by slot. For the crates
+-- above.
 use Rattle.std.proofs.Common.{◌≡◌, ◌≢◌, ℕ, zero, suc, ◌+◌, ◌<◌, ◌≤◌, inl, inr, cond, ◌==◌, not, List, [], ◌∷◌, ◌++◌, filter, AllPairs, Contains, refl, sym, ap, ap₂, ◌∙◌, subst, arith, eq-eqb}
 use Rattle.std.proofs.lemmas.Bool.{ne_eqb, cases_eq}
 use Rattle.std.proofs.lemmas.List.Kept.{AllPairs-filter}
 use Rattle.ados_chain.specs.Chains.{chains_from, entries_of}
-use Rattle.ados_chain.proofs.Lists.{Contains-here, Contains-later, Contains-cases, Contains-nil}
+use Rattle.ados_model.proofs.KeyLists.{Contains-here, Contains-later, Contains-cases, Contains-nil}
 
 module _ (f : ℕ → ℕ) where
-  -- the entries of a slot, and the others
+  -- the entries of a slot, and all others
   abbrev pub part : List ℕ → ℕ → List ℕ
   part keys s = filter (λ key. f key == s) keys
 
@@ -33,7 +34,7 @@ module _ (f : ℕ → ℕ) where
   rest-all s [] h = refl
   rest-all s (x ∷ xs) h = rw (ne_eqb (f x) s (h x (Contains-here x xs))) (ap (λ (ys : List ℕ). x ∷ ys) (rest-all s xs (λ k m. h k (Contains-later x xs k m))))
 
-  -- the lowest slot stands first
+  -- the entries of the lowest slot come first
   part-first : (s : ℕ) (keys : List ℕ) → Rises keys → From s keys → part keys s ++ rest keys s ≡ keys
   part-first s [] h l = refl
   part-first s (x ∷ xs) h l =
@@ -44,7 +45,7 @@ module _ (f : ℕ → ℕ) where
             rw (ne_eqb (f x) s n) (ap₂ (λ (ys zs : List ℕ). ys ++ x ∷ zs) (part-none s xs above) (rest-all s xs above))
       ]
 
-  -- another slot has the same entries among the rest
+  -- the others have the same entries of another slot
   part-rest : (s t : ℕ) (keys : List ℕ) → t ≢ s → part (rest keys s) t ≡ part keys t
   part-rest s t [] n = refl
   part-rest s t (x ∷ xs) n =

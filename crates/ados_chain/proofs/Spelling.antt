@@ -1,20 +1,19 @@
--- Lists of blocks that links lead along: what a list, its front and its rest say of the links, and what a new link makes of it.
+-- Linked lists of blocks: the links of a list, of a prefix and of its rest, and the list after one link changed.
 use Rattle.std.proofs.Common.{◌≡◌, ◌≢◌, ℕ, zero, suc, ◌<◌, ◌≤◌, ◌⊎◌, inl, cond, ◌==◌, List, [], ◌∷◌, ◌++◌, length, Contains, refl, sym, ap, ap₂, ◌∙◌, subst, arith}
 use Rattle.std.proofs.lemmas.Bool.{ne_eqb}
-use Rattle.adf_block.specs.Image.{long}
-use Rattle.adf_block.specs.Chained.{Chained}
-use Rattle.adf_block.specs.Fields.{next_in_chain, sum_long}
+use Rattle.adf_block.specs.Image.{long, Chained}
+use Rattle.adf_block.specs.Layout.{next_in_chain, sum_long}
 use Rattle.ados_chain.specs.Relinks.{link_block, link_long}
-use Rattle.ados_chain.proofs.Lists.{Once, Once-tail, Once-head, Contains-here, Contains-later}
+use Rattle.ados_model.proofs.KeyLists.{Once, Once-tail, Once-head, Contains-here, Contains-later}
 
--- no block of the list is block 0, which ends it
+-- block 0 is not in the list; it ends it
 abbrev pub NoneZero : List ℕ → Type 0
 NoneZero keys = (key : ℕ) → Contains keys key → key ≢ 0
 
 pub NoneZero-tail : (key : ℕ) (keys : List ℕ) → NoneZero (key ∷ keys) → NoneZero keys
 NoneZero-tail key keys h k m = h k (Contains-later key keys k m)
 
--- links spell one list
+-- links have one list
 pub Chained-unique : (image : List ℕ) (link first : ℕ) (xs ys : List ℕ) → NoneZero xs → NoneZero ys → Chained image link first xs → Chained image link first ys → xs ≡ ys
 Chained-unique image link first [] [] m n c d = refl
 Chained-unique image link first [] (y ∷ ys) m n c d = absurd (n y (Contains-here y ys) (sym d.0 ∙ c))
@@ -24,18 +23,18 @@ Chained-unique image link first (x ∷ xs) (y ∷ ys) m n c d =
     let rest : Chained image link (long image x link) ys = subst (λ (z : ℕ). Chained image link (long image z link) ys) same d.1 in
     ap₂ (λ (z : ℕ) (zs : List ℕ). z ∷ zs) (sym same) (Chained-unique image link (long image x link) xs ys (NoneZero-tail x xs m) (NoneZero-tail y ys n) c.1 rest)
 
--- a list stays where its links stay
+-- a list stays the same if its links do
 pub Chained-kept : (old new : List ℕ) (link first : ℕ) (xs : List ℕ) → ((b : ℕ) → Contains xs b → long new b link ≡ long old b link) → Chained old link first xs → Chained new link first xs
 Chained-kept old new link first [] same c = c
 Chained-kept old new link first (x ∷ xs) same c =
     (c.0, Chained-kept old new link (long new x link) xs (λ b m. same b (Contains-later x xs b m)) (subst (λ (n : ℕ). Chained old link n xs) (sym (same x (Contains-here x xs))) c.1))
 
--- the link behind the first entries of a list leads along the rest
+-- the link after the first entries of a list starts the rest
 pub Chained-behind : (image : List ℕ) (block i : ℕ) (front rest : List ℕ) → Chained image next_in_chain (long image block i) (front ++ rest) → Chained image next_in_chain (long image (link_block block front) (link_long i front)) rest
 Chained-behind image block i [] rest c = c
 Chained-behind image block i (key ∷ keys) rest c = Chained-behind image key next_in_chain keys rest c.1
 
--- the link behind some entries is in the last of them
+-- the link after some entries is in the last of them
 pub link_block-in : (key : ℕ) (keys : List ℕ) → Contains (key ∷ keys) (link_block key keys)
 link_block-in key [] = Contains-here key []
 link_block-in key (next ∷ keys) = Contains-later key (next ∷ keys) (link_block next keys) (link_block-in next keys)
@@ -52,11 +51,11 @@ pub link_long-push : (i : ℕ) (keys : List ℕ) (key : ℕ) → link_long i (ke
 link_long-push i [] key = refl
 link_long-push i (next ∷ keys) key = link_long-push next_in_chain keys key
 
--- every long stays but long i of a block, the next in chain of a key, and sums
+-- every long is unchanged, except long i of a block, the next-in-chain long of a key, and checksums
 abbrev pub KeepsLongs : ℕ → ℕ → ℕ → List ℕ → List ℕ → Type 0
 KeepsLongs block i key old new = (b j : ℕ) → j < 128 → j ≢ sum_long → (b ≢ block) ⊎ (j ≢ i) → (b ≢ key) ⊎ (j ≢ next_in_chain) → long new b j ≡ long old b j
 
--- a new list behind the link, and the same front before it
+-- a new rest after the link, and the same entries before it
 pub Chained-relinked : (old new : List ℕ) (block i key : ℕ) (front rest rest' : List ℕ) → i < 128 → i ≢ sum_long → ¬ Contains front block → Once front → key ≢ block → ¬ Contains front key
     → KeepsLongs (link_block block front) (link_long i front) key old new
     → Chained old next_in_chain (long old block i) (front ++ rest)
@@ -68,7 +67,7 @@ Chained-relinked old new block i key (k ∷ ks) rest rest' l n h o m a kept c d 
     let same : long new block i ≡ long old block i = kept block i l n (inl apart) (inl (λ e. m (sym e))) in
     (same ∙ c.0, Chained-relinked old new k next_in_chain key ks rest rest' (omega arith) (omega arith) (Once-head k ks o) (Once-tail k ks o) (λ e. a (subst (Contains (k ∷ ks)) (sym e) (Contains-here k ks))) (λ r. a (Contains-later k ks key r)) kept c.1 d)
 
--- how many entries the links from a first block lead along before block 0, counted up to n: the measure of a walk
+-- the number of links from a first block to block 0, at most n: the measure of a walk
 abbrev pub steps : List ℕ → ℕ → ℕ → ℕ
 steps image zero first = 0
 steps image (suc n) first = cond (first == 0) 0 (suc (steps image n (long image first next_in_chain)))

@@ -1,24 +1,23 @@
--- Walks along a chain: what is known between two steps, at the start, after a step and at the end.
+-- Walks along a chain: the facts at the start, between two steps, after a step and at the end.
 use Rattle.std.proofs.Common.{◌≡◌, ◌≢◌, ℕ, ◌+◌, ◌<◌, ◌⊎◌, inl, inr, List, [], ◌∷◌, ◌++◌, length, Contains, refl, sym, ap, ◌∙◌, subst, arith, append_assoc, append-nil, length-append}
 use Rattle.std.proofs.lemmas.List.Elements.{Contains-append_right, Contains-push_cases}
-use Rattle.adf_block.specs.Image.{block_count, long}
-use Rattle.adf_block.specs.Chained.{Chained}
-use Rattle.adf_block.specs.Fields.{next_in_chain, first_slot}
+use Rattle.adf_block.specs.Image.{block_count, long, Chained}
+use Rattle.adf_block.specs.Layout.{next_in_chain, first_slot}
 use Rattle.ados_name.specs.Name.{Same}
 use Rattle.ados_chain.specs.Chains.{LawfulChains, name_at}
 use Rattle.ados_chain.specs.Look.{NoneNamed, IsFirstNamed}
 use Rattle.ados_chain.specs.Relinks.{link_block, link_long}
 use Rattle.ados_chain.specs.Links.{LeadsTo, BeginsWith}
-use Rattle.ados_chain.proofs.Lists.{Contains-here, Contains-nil}
+use Rattle.ados_model.proofs.KeyLists.{Contains-here, Contains-nil}
 use Rattle.ados_chain.proofs.Spelling.{steps, steps-length, NoneZero, link_block-push, link_long-push}
 use Rattle.ados_chain.proofs.Chaining.{none_zero, chain-short}
 
--- the chain is a front and a rest that the key begins
+-- the chain is a prefix and a rest; the rest starts with the key
 pub record StandsAt (image : List ℕ) (keys : List ℕ) (key : ℕ) (front rest : List ℕ) : Type 0 where
   pub split : keys ≡ front ++ rest
   pub spelled : Chained image next_in_chain key rest
 
--- a walk to the link of an entry, which the front does not have
+-- a walk to the link of an entry that is not in the prefix
 pub record LinksOn (image : List ℕ) (dir s : ℕ) (keys : List ℕ) (entry block i key : ℕ) : Type 0 where
   pub front : List ℕ
   pub rest : List ℕ
@@ -27,24 +26,24 @@ pub record LinksOn (image : List ℕ) (dir s : ℕ) (keys : List ℕ) (entry blo
   pub at_block : block ≡ link_block dir front
   pub at_long : i ≡ link_long (first_slot + s) front
 
--- a walk to the first entry of a name, which none of the front has
+-- a walk to the first entry with a name that is not in the prefix
 pub record SearchedOn (image name keys : List ℕ) (key : ℕ) : Type 0 where
   pub front : List ℕ
   pub rest : List ℕ
   pub stands : StandsAt image keys key front rest
   pub earlier : NoneNamed image name front
 
--- a key that is not 0 begins the rest
+-- a key other than 0 is the first of the rest
 pub begun : (image : List ℕ) (key : ℕ) (rest : List ℕ) → Chained image next_in_chain key rest → key ≢ 0 → (later : List ℕ) × (rest ≡ key ∷ later) × Chained image next_in_chain (long image key next_in_chain) later
 begun image key [] c n = absurd (n c)
 begun image key (k ∷ later) c n = (later, ap (λ (z : ℕ). z ∷ later) (sym c.0), subst (λ (z : ℕ). Chained image next_in_chain (long image z next_in_chain) later) (sym c.0) c.1)
 
--- the key 0 ends the chain, where no entry is 0
+-- the key 0 ends the chain
 pub ended : (image : List ℕ) (rest : List ℕ) → NoneZero rest → Chained image next_in_chain 0 rest → rest ≡ []
 ended image [] n c = refl
 ended image (k ∷ later) n c = absurd (n k (Contains-here k later) (sym c.0))
 
--- one step further: the key joins the front
+-- one step: the key joins the prefix
 pub stands_more : (image keys : List ℕ) (key : ℕ) (front rest : List ℕ) → StandsAt image keys key front rest → key ≢ 0 → (later : List ℕ) × (rest ≡ key ∷ later) × StandsAt image keys (long image key next_in_chain) (front ++ key ∷ []) later
 stands_more image keys key front rest h n =
     let b = begun image key rest h.spelled n in
@@ -54,7 +53,7 @@ module _ (image : List ℕ) (dir : ℕ) (chains : ℕ → List ℕ) (h : LawfulC
   rest_in : (key : ℕ) (front rest : List ℕ) → StandsAt image (chains s) key front rest → (k : ℕ) → Contains rest k → Contains (chains s) k
   rest_in key front rest st k m = subst (λ (xs : List ℕ). Contains xs k) (sym st.split) (Contains-append_right front rest k m)
 
-  -- the key of a walk is an entry
+  -- the key of a walk is in the chain
   pub key_in : (key : ℕ) (front rest : List ℕ) → StandsAt image (chains s) key front rest → key ≢ 0 → Contains (chains s) key
   key_in key front rest st n =
       let b = begun image key rest st.spelled n in
@@ -63,7 +62,7 @@ module _ (image : List ℕ) (dir : ℕ) (chains : ℕ → List ℕ) (h : LawfulC
   rest_none_zero : (key : ℕ) (front rest : List ℕ) → StandsAt image (chains s) key front rest → NoneZero rest
   rest_none_zero key front rest st k m = none_zero image dir chains h s small k (rest_in key front rest st k m)
 
-  -- at 0 the whole chain is behind
+  -- at the key 0 the rest is empty
   pub all_behind : (front rest : List ℕ) → StandsAt image (chains s) 0 front rest → rest ≡ []
   all_behind front rest st = ended image rest (rest_none_zero 0 front rest st) st.spelled
 
@@ -72,7 +71,7 @@ module _ (image : List ℕ) (dir : ℕ) (chains : ℕ → List ℕ) (h : LawfulC
       steps-length image (block_count image) key rest (rest_none_zero key front rest st)
       (omega (arith, chain-short image dir chains h s small, ap length st.split, length-append front rest)) st.spelled
 
-  -- each step leaves fewer
+  -- the rest gets shorter with each step
   pub steps_fall : (key : ℕ) (front rest : List ℕ) → StandsAt image (chains s) key front rest → key ≢ 0 → steps image (block_count image) (long image key next_in_chain) < steps image (block_count image) key
   steps_fall key front rest st n =
       let m = stands_more image (chains s) key front rest st n in

@@ -1,6 +1,7 @@
--- The chains of a directory: what they are, what stands behind a key, what looking into them answers, how one is changed, and the links that lead along them.
+-- The hash chains of a directory, the results of reads, changes of a chain, and the links in it. What follows a key is
+-- in `ados_model`.
 pub mod Chains
-pub mod Behind
+pub use Rattle.ados_model.specs.Tree
 pub mod Look
 pub mod Relinks
 pub mod Links

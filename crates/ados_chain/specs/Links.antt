@@ -1,18 +1,18 @@
--- The link to an entry of a chain.
+-- The link to an entry of a hash chain.
 use Rattle.std.specs.Prelude.{◌≡◌, ℕ, ◌+◌, ◌<◌, ◌≤◌, ◌⊎◌, List, [], ◌∷◌, ◌++◌, Contains}
-use Rattle.adf_block.specs.Fields.{first_slot, table_longs, next_in_chain}
+use Rattle.adf_block.specs.Layout.{first_slot, table_longs, next_in_chain}
 use Rattle.ados_chain.specs.Relinks.{link_block, link_long}
 
--- the long is one of a directory's table or the next in chain
+-- the long is in the hash table of a directory, or is the next-in-chain long
 abbrev pub IsLink : ℕ → Type 0
 IsLink i = ((first_slot ≤ i) × (i < first_slot + table_longs)) ⊎ (i ≡ next_in_chain)
 
--- the rest of a chain begins with the entry, or has ended
+-- the rest of a chain starts with the entry, or is empty
 abbrev pub BeginsWith : ℕ → List ℕ → Type 0
 BeginsWith entry [] = Unit {0}
 BeginsWith entry (key ∷ keys) = key ≡ entry
 
--- the long of the block is the link of the chain that leads to the entry, or that ends the chain, which does not have the entry
+-- the long of the block is the link of the chain to the entry; or it ends the chain, which does not have the entry
 pub record LeadsTo (dir s : ℕ) (keys : List ℕ) (entry block i : ℕ) : Type 0 where
   pub front : List ℕ
   pub rest : List ℕ

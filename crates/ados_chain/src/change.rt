@@ -1,7 +1,7 @@
-//! Putting an entry into a directory and taking it out.
+//! Insertion of an entry into a directory, and its removal.
 
 ghost use Rattle.std.specs.Prelude.{ℕ, List};
-ghost use Rattle.adf_block.specs.Image.{IsImage};
+ghost use Rattle.adf_block.specs.Whole.{IsImage};
 ghost use Rattle.ados_chain.specs.Chains.{LawfulChains};
 ghost use Rattle.ados_chain.specs.Relinks.{CanInsert, CanUnlink, InsertsLast, Unlinks};
 
@@ -10,10 +10,10 @@ use crate::link::{link_to, relink};
 use adf_block::Image;
 use adf_block::layout::NEXT_IN_CHAIN;
 
-/// Puts the block `key` last into the chain of its name's slot (last is this project's own choice).
+/// Inserts the block `key` at the end of its name's hash chain (the end is this project's own choice).
 ///
-/// Two longs are set: the link that ended the chain, in the directory or in its last entry, and the next in chain of `key`,
-/// which becomes 0. The sums of these two blocks are settled, and no other byte changes.
+/// It writes two longs: the link that ended the chain, in the directory or in its last entry, and the next-in-chain
+/// long of `key`, which becomes 0. It sets the checksums of these two blocks. No other byte changes.
 pub fn insert_last(image: &mut Image, dir: u32, key: u32)
     requires { CanInsert image.old dir key }
     ensures inserts { (chains : ℕ → List ℕ) → LawfulChains image.old dir chains → InsertsLast dir key chains image.old image.new }
@@ -24,11 +24,11 @@ pub fn insert_last(image: &mut Image, dir: u32, key: u32)
     relink(image, end, key, key);
 }
 
-/// Takes the entry `key` out of its chain; the entries behind it stay.
+/// Removes the entry `key` from its hash chain. The order of the others stays the same.
 ///
-/// Two longs are set: the link to `key`, in the directory or in the entry before it, and the next in chain of `key`, which
-/// becomes 0, so that a block in no chain names no other (this project's own choice). The sums of these two blocks are
-/// settled, and no other byte changes.
+/// It writes two longs: the link to `key`, in the directory or in the entry before it, and the next-in-chain long of
+/// `key`. That long becomes 0, so a block outside all chains names no other (this project's own choice). It sets the
+/// checksums of these two blocks. No other byte changes.
 pub fn unlink(image: &mut Image, dir: u32, key: u32)
     requires { CanUnlink image.old dir key }
     ensures unlinks { (chains : ℕ → List ℕ) → LawfulChains image.old dir chains → Unlinks dir key chains image.old image.new }

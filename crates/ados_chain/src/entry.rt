@@ -1,4 +1,4 @@
-//! The block of an entry: its name, and the slot of that name.
+//! An entry's block: its name, and the slot of that name.
 
 ghost use Rattle.std.specs.Prelude.{◌≡◌, ◌<◌, ◌↔◌, IsTrue, MatchOption};
 ghost use Rattle.adf_block.specs.Image.{block_count};
@@ -9,7 +9,7 @@ use adf_block::Image;
 use adf_block::layout::NAME_BYTE;
 use ados_name::Name;
 
-/// The name in a block, if it is valid.
+/// The name in block `key`, or `None` if it is not a valid name.
 pub fn name_of(image: &Image, key: u32) -> Option<Name>
     requires { key < block_count image.now }
     ensures { MatchOption result (¬ IsName (name_at image.now key)) (λ name. (name ≡ name_at image.now key) × IsName (name_at image.now key)) }
@@ -23,7 +23,7 @@ pub fn name_of(image: &Image, key: u32) -> Option<Name>
     Name::new(&block[at + 1..at + 1 + length]).ok()
 }
 
-/// The slot of a valid name.
+/// The hash slot, 0 to 71, of the valid name in block `key`.
 pub fn slot_of(image: &Image, key: u32) -> u32
     requires inside { key < block_count image.now }
     requires name { IsName (name_at image.now key) }
@@ -35,7 +35,7 @@ pub fn slot_of(image: &Image, key: u32) -> u32
     }
 }
 
-/// Whether the block has a name that is the same as this one.
+/// Whether the valid name in block `key` is the same as this one, with a to z in upper case.
 pub fn has_name(image: &Image, key: u32, name: &Name) -> bool
     requires inside { key < block_count image.now }
     requires name { IsName (name_at image.now key) }

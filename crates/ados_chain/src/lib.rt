@@ -1,8 +1,8 @@
-//! The hash chains of a directory, which is a root or user directory block (AmigaDOS Technical Reference): a table of 72
-//! longs holds the first entry of each slot's chain, and a long of each entry the next one. An entry stands in the chain
-//! of its name's slot.
+//! The hash chains of a directory, which is a root or a directory block (AmigaDOS Technical Reference). A hash table
+//! of 72 longs has the first entry of each slot's hash chain, and a long of each entry has the next one. The hash of
+//! an entry's name selects its chain.
 //!
-//! Keys are block numbers. The calls take a directory whose chains are lawful, and allocate nothing.
+//! A key is a block number. The calls require a directory with lawful chains, and allocate nothing.
 #![tactic(auto)]
 
 mod change;

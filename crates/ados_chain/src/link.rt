@@ -1,8 +1,9 @@
-//! Links: the longs that lead along a chain.
+//! Links of hash chains.
 
 ghost use Rattle.std.specs.Prelude.{◌≡◌, ◌≢◌, ◌<◌, ◌+◌, ◌^◌, ℕ, List};
-ghost use Rattle.adf_block.specs.Fields.{table_longs, first_slot, next_in_chain};
-ghost use Rattle.adf_block.specs.Image.{block_count, IsImage, long};
+ghost use Rattle.adf_block.specs.Layout.{table_longs, first_slot, next_in_chain};
+ghost use Rattle.adf_block.specs.Image.{block_count, long};
+ghost use Rattle.adf_block.specs.Whole.{IsImage};
 ghost use Rattle.ados_chain.specs.Chains.{HasChains, LawfulChains};
 ghost use Rattle.ados_chain.specs.Relinks.{Relinks};
 ghost use Rattle.ados_chain.specs.Links.{LeadsTo, IsLink};
@@ -10,8 +11,8 @@ ghost use Rattle.ados_chain.specs.Links.{LeadsTo, IsLink};
 use adf_block::Image;
 use adf_block::layout::{FIRST_SLOT, NEXT_IN_CHAIN, SUM};
 
-/// A long that names an entry of a chain or ends the chain with 0: one of a directory's table, or an entry's next in
-/// chain.
+/// A long that holds the next key of a hash chain, or 0 at its end. It is in the hash table of a directory, or it is
+/// an entry's next-in-chain long.
 #[derive(Clone, Copy)]
 pub struct Link {
     pub block: u32,
@@ -19,7 +20,7 @@ pub struct Link {
 }
 
 impl Link {
-    /// The link that starts the chain of a slot.
+    /// The link that starts the hash chain of a slot, 0 to 71.
     pub fn first(dir: u32, slot: u32) -> Link
         requires { slot < table_longs }
         ensures block { result.block ≡ dir }
@@ -31,7 +32,7 @@ impl Link {
         }
     }
 
-    /// The link behind an entry.
+    /// The link after an entry.
     pub fn behind(key: u32) -> Link
         ensures block { result.block ≡ key }
         ensures long { result.long ≡ next_in_chain }
@@ -43,7 +44,8 @@ impl Link {
     }
 }
 
-/// The link to an entry in the chain of a slot, or the link that ends the chain, which has no such entry.
+/// The link to an entry in the hash chain of a slot. If the chain has no such entry, it is the link that ends the
+/// chain.
 pub fn link_to(image: &Image, dir: u32, slot: u32, entry: u32) -> Link
     requires chains { HasChains image.now dir }
     requires slot { slot < table_longs }
@@ -58,7 +60,7 @@ pub fn link_to(image: &Image, dir: u32, slot: u32, entry: u32) -> Link
     link
 }
 
-/// Sets the link to the next key and the key's own link to 0, and settles the sums of both blocks.
+/// Sets the link to `next` and the next-in-chain long of `key` to 0. Then it sets the checksums of both blocks.
 pub fn relink(image: &mut Image, link: Link, next: u32, key: u32)
     requires block { link.block < block_count image.old }
     requires long { IsLink link.long }

@@ -1,10 +1,10 @@
-//! Looking into a directory: an entry by its name, and the entries in order.
+//! Reads of a directory: an entry by its name, and the entries in order.
 
 ghost use Rattle.std.specs.Prelude.{◌≡◌, ◌<◌, ◌≤◌, ◌-◌, ◌↔◌, ◌∷◌, [], ℕ, List, Some, IsTrue, Contains};
-ghost use Rattle.adf_block.specs.Fields.{table_longs};
+ghost use Rattle.adf_block.specs.Layout.{table_longs};
 ghost use Rattle.ados_name.specs.Name.{slot};
 ghost use Rattle.ados_chain.specs.Chains.{HasChains, InChains, LawfulChains, chains_from, entries_of};
-ghost use Rattle.ados_chain.specs.Behind.{behind};
+ghost use Rattle.ados_model.specs.Tree.{behind};
 ghost use Rattle.ados_chain.specs.Look.{FindsNamed, FindsSlot, first_left};
 
 use crate::entry::{has_name, name_of, slot_of};
@@ -13,18 +13,19 @@ use adf_block::Image;
 use adf_block::layout::{BOOT_BLOCKS, FIRST_SLOT, NEXT_IN_CHAIN, TABLE_LONGS};
 use ados_name::Name;
 
-/// What comes after a key in the order of a directory.
+/// What follows a key in the order of a directory.
 #[derive(Clone, Copy, Debug, PartialEq, Eq)]
 pub enum Next {
     /// The next entry.
     Entry(u32),
-    /// The key was the last one.
+    /// Nothing: the key was the last entry.
     End,
     /// The key is neither the directory nor one of its entries.
     NotAnEntry,
 }
 
-/// The first entry whose name is the same, in upper case. Only the chain of the name's slot is searched.
+/// The first entry with the same name, a to z in upper case; or `None`. Only the hash chain of the name's slot is
+/// searched.
 pub fn find(image: &Image, dir: u32, name: &Name) -> Option<u32>
     requires { HasChains image.now dir }
     ensures { (chains : ℕ → List ℕ) → LawfulChains image.now dir chains → FindsNamed image.now name.now (chains (slot name.now)) result }
@@ -39,10 +40,10 @@ pub fn find(image: &Image, dir: u32, name: &Name) -> Option<u32>
     None
 }
 
-/// What comes after a key in the order of the directory: slot 0 to 71, and in a slot by chain.
+/// What follows `key` in the order of the directory: by slot from 0 to 71, then along each hash chain.
 ///
-/// The directory's own key asks for the first entry. Any number may be asked: one that is no block, or a block with no
-/// valid name, is `NotAnEntry`.
+/// The directory's own key asks for the first entry. `key` may be any number. A number that is not a block, or a block
+/// without a valid name, is `NotAnEntry`.
 pub fn after(image: &Image, dir: u32, key: u32) -> Next
     requires { HasChains image.now dir }
     ensures { (chains : ℕ → List ℕ) → LawfulChains image.now dir chains → result ≡ first_left (behind key (dir ∷ entries_of chains)) }
@@ -56,7 +57,7 @@ pub fn after(image: &Image, dir: u32, key: u32) -> Next
     behind_entry(image, dir, slot, key)
 }
 
-/// What comes after an entry of the directory in its order. The chain in front of the entry is not gone through.
+/// What follows an entry in the order of the directory. It does not read the hash chain before the entry.
 pub fn after_entry(image: &Image, dir: u32, key: u32) -> Next
     requires chains { HasChains image.now dir }
     requires entry { (chains : ℕ → List ℕ) → LawfulChains image.now dir chains → InChains chains key }
@@ -66,7 +67,7 @@ pub fn after_entry(image: &Image, dir: u32, key: u32) -> Next
     behind_entry(image, dir, slot, key)
 }
 
-/// What comes after an entry of this slot in the order of the directory.
+/// What follows an entry of this slot in the order of the directory.
 fn behind_entry(image: &Image, dir: u32, slot: u32, key: u32) -> Next
     requires chains { HasChains image.now dir }
     requires entry { (chains : ℕ → List ℕ) → LawfulChains image.now dir chains → (slot < table_longs) × Contains (chains slot) key }
@@ -80,7 +81,7 @@ fn behind_entry(image: &Image, dir: u32, slot: u32, key: u32) -> Next
     }
 }
 
-/// Whether the directory has no entry.
+/// Whether the directory has no entries.
 pub fn is_empty(image: &Image, dir: u32) -> bool
     requires { HasChains image.now dir }
     ensures { (chains : ℕ → List ℕ) → LawfulChains image.now dir chains → (IsTrue result ↔ (entries_of chains ≡ [])) }
@@ -88,7 +89,7 @@ pub fn is_empty(image: &Image, dir: u32) -> bool
     matches!(first_from(image, dir, 0), Next::End)
 }
 
-/// The first entry of the slots from one on.
+/// The first entry in the slots from `slot` to 71.
 fn first_from(image: &Image, dir: u32, slot: u32) -> Next
     requires chains { HasChains image.now dir }
     requires slot { slot ≤ table_longs }
@@ -103,7 +104,7 @@ fn first_from(image: &Image, dir: u32, slot: u32) -> Next
     Next::End
 }
 
-/// The slot whose chain has the key, if there is one.
+/// The slot whose hash chain has the key, or `None`.
 pub fn slot_with(image: &Image, dir: u32, key: u32) -> Option<u32>
     requires { HasChains image.now dir }
     ensures { (chains : ℕ → List ℕ) → LawfulChains image.now dir chains → FindsSlot chains key result }

@@ -1,25 +1,23 @@
--- A file that is rewritten keeps all that is no field.
+-- A rewritten file leaves all bytes outside fields untouched.
 use Rattle.std.proofs.Common.{◌≡◌, ℕ, ◌+◌, ◌-◌, ◌*◌, ◌/◌, ◌%◌, ◌<◌, ◌≤◌, inl, inr, min, List, length, take, drop, slice_index, Some, refl, sym, ap, ◌∙◌, subst, arith, length-take, length-drop, eq-eqb}
 use Rattle.std.proofs.lemmas.Bool.{ne_eqb, cases_eq, cases_lt, false≢true}
 use Rattle.std.proofs.lemmas.List.{ext_get_or, get_or-take, get_or-drop}
 use Rattle.adf_block.specs.declared.Format.{Format}
 use Rattle.adf_block.specs.declared.Format.TheVariants.{Ofs, Ffs}
-use Rattle.adf_block.specs.Image.{byte_at, bytes_at, has_free_bit}
-use Rattle.adf_block.specs.Fields.{pointer_count, held_count, file_size, secondary_type, file_type}
-use Rattle.ados_data.specs.File.{HasFile, format_of}
+use Rattle.adf_block.specs.Image.{byte_at, bytes_at, has_free_bit, pointer_count, held_count, file_size, secondary_type, format_of}
+use Rattle.adf_block.specs.Layout.{file_type}
+use Rattle.ados_model.specs.Stands.{HasFile, Layout, Stands, type_of}
 use Rattle.ados_data.specs.Unnamed.{KeepsUnnamed, IsPointerField, IsHeaderField, data_end}
-use Rattle.ados_tree.specs.Tree.{Node, Tree}
-use Rattle.ados_tree.specs.Tree.Content.{File}
-use Rattle.ados_tree.specs.Layout.{Layout}
-use Rattle.ados_tree.specs.Stands.{Stands, type_of}
-use Rattle.ados_tree.specs.declared.role.Role.{Role}
-use Rattle.ados_tree.specs.declared.role.Role.TheVariants as roles
-use Rattle.ados_tree.specs.Faults.{IsFile, IsOfs}
-use Rattle.ados_tree.specs.Kept.{Kept, IsField, Alike, KeepsFirstData}
-use Rattle.ados_tree.specs.Kept.IsField.{page_longs, file_longs, extension_longs, ofs_data_longs, ofs_data, ffs_data}
-use Rattle.ados_tree.proofs.Keeping.{header_stays}
-use Rattle.ados_tree.proofs.Standing.{StandsAt, reached_stands, serves_at, duty_of, root_at, entry_at}
-use Rattle.ados_tree.proofs.Writable.{named_used}
+use Rattle.ados_model.specs.Tree.{Node, Tree}
+use Rattle.ados_model.specs.Tree.Content.{File}
+use Rattle.ados_model.specs.declared.role.Role.{Role}
+use Rattle.ados_model.specs.declared.role.Role.TheVariants as roles
+use Rattle.ados_model.specs.Faults.{IsFile, IsOfs}
+use Rattle.ados_model.specs.Kept.{Kept, IsField, Alike, KeepsFirstData}
+use Rattle.ados_model.specs.Kept.IsField.{page_longs, file_longs, extension_longs, ofs_data_longs, ofs_data, ffs_data}
+use Rattle.ados_change.proofs.Keeping.{header_stays}
+use Rattle.ados_model.proofs.Standing.{StandsAt, reached_stands, serves_at, duty_of, root_at, entry_at}
+use Rattle.ados_change.proofs.Writable.{named_used}
 use Rattle.ados_change.proofs.Contents.{refilled, holding, here}
 use Rattle.ados_change.proofs.Relaid.{IsRewritten, relaid, data_here, data_there, extensions_here, extensions_there}
 use Rattle.ados_change.proofs.FirstData.{keeps_first}
@@ -38,14 +36,14 @@ module _ (image : List ℕ) (b : ℕ) where
   header_field e dir r i (inr (inl z)) = file_longs e (1, (4, 5), omega arith, refl, (omega (arith, z), omega (arith, z)))
   header_field e dir r i (inr (inr z)) = file_longs e (3, (80, 81), omega arith, refl, (omega (arith, z), omega (arith, z)))
 
-  -- so is one of an extension block
+  -- a long that a change of an extension block may write is a field
   extension_field : (f i : ℕ) → IsPointerField (pointer_count image b) (i / 4) → IsField image b (roles.Extension f) i
   extension_field f i (inl z) = extension_longs (0, (0, 2), omega arith, refl, (omega (arith, z), omega (arith, z)))
   extension_field f i (inr (inl z)) = extension_longs (1, (5, 5), omega arith, refl, (omega (arith, z), omega (arith, z)))
   extension_field f i (inr (inr (inl z))) = extension_longs (2, (78 - pointer_count image b, 77), omega arith, refl, (omega (arith, z.0), omega (arith, z.1)))
   extension_field f i (inr (inr (inr z))) = extension_longs (3, (125, 127), omega arith, refl, (omega (arith, z), omega (arith, z)))
 
--- what is no field of an OFS data block stands behind the bytes that it holds
+-- a byte outside the fields of an OFS data block is after its data
 pub data_field : (image : List ℕ) (b f i : ℕ) → IsOfs image → ¬ IsField image b (roles.Data f) i → 24 + held_count image b ≤ i
 data_field image b f i ofs n = elim (cases_lt i 24) [
   | inl l ↦ absurd (n (ofs_data_longs ofs (0, (0, 5), omega arith, refl, (omega arith, omega (arith, l)))))
@@ -55,7 +53,7 @@ data_field image b f i ofs n = elim (cases_lt i 24) [
   ]
 ]
 
--- a format by the byte in which it stands
+-- OFS by the byte after `DOS`
 pub is_ofs : (image : List ℕ) → format_of image ≡ Ofs → IsOfs image
 is_ofs image e = go (byte_at image 0 3) refl e
   where
@@ -85,7 +83,7 @@ module _ (old new : List ℕ) (t : Tree) (s : Stands old t) (file : ℕ) (node :
 
   -- ---- the header
 
-  -- an entry that is the file is one of its type
+  -- an entry that is the file has its type
   new_type : (k dir r : ℕ) → StandsAt new v after (roles.Entry dir r) k file → secondary_type new file ≡ file_type
   new_type k dir r m =
       let n = entry_at new v after dir r k file m in
@@ -103,7 +101,7 @@ module _ (old new : List ℕ) (t : Tree) (s : Stands old t) (file : ℕ) (node :
 
   -- ---- data blocks
 
-  -- what is no field of a block stands behind the file's bytes in it
+  -- a byte of a block outside all fields is after the file's bytes in it
   behind_bytes : (j f block i : ℕ) → j < length blocks' → slice_index blocks' j ≡ block → ¬ IsField new block (roles.Data f) i → data_end (format_of old) (file_size new file) j ≤ i
   behind_bytes j f block i l e n = go (format_of old) refl
     where

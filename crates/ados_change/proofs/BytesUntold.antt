@@ -1,40 +1,38 @@
--- A file that is rewritten keeps what no tree tells of.
+-- A rewritten file leaves untouched what no tree determines.
 use Rattle.std.proofs.Common.{◌≡◌, ◌≢◌, ℕ, zero, suc, ◌+◌, ◌-◌, ◌*◌, ◌/◌, ◌%◌, ◌<◌, ◌≤◌, inl, inr, min, List, ◌∷◌, length, slice_index, Some, option_map, refl, sym, ap, ap₂, ◌∙◌, subst, arith}
 use Rattle.std.proofs.lemmas.Bool.{cases_eq, cases_lt}
 use Rattle.std.proofs.lemmas.List.{ext_get_or}
 use Rattle.adf_block.specs.declared.Format.{Format}
 use Rattle.adf_block.specs.declared.Format.TheVariants.{Ofs, Ffs}
-use Rattle.adf_block.specs.Fields.{file_size}
-use Rattle.adf_block.specs.Image.{IsImage, byte_at, long}
+use Rattle.adf_block.specs.Image.{file_size, byte_at, long, format_of}
+use Rattle.adf_block.specs.Whole.{IsImage}
 use Rattle.adf_block.proofs.Longs.{long-same}
-use Rattle.ados_data.specs.Cost.{data_size, data_start, data_count, extension_count}
-use Rattle.ados_data.specs.File.{HasFile, HasOfsData, IsLawful, data_blocks, extension_blocks, file_byte, format_of}
+use Rattle.ados_model.specs.Tree.{data_size, data_start, data_count, extension_count, Node, Tree, content_at}
+use Rattle.ados_model.specs.Stands.{HasFile, HasOfsData, file_byte, Layout, Stands}
+use Rattle.ados_model.specs.File.{IsLawful, data_blocks, extension_blocks}
 use Rattle.ados_data.specs.Unnamed.{KeepsUnnamed, data_end}
 use Rattle.ados_data.proofs.Chains.{next_of}
 use Rattle.ados_data.proofs.Spelled.{data_blocks_are, extension_blocks_are}
-use Rattle.ados_tree.specs.Tree.{Node, Tree, content_at}
-use Rattle.ados_tree.specs.Tree.Content.{File}
-use Rattle.ados_tree.specs.Layout.{Layout}
-use Rattle.ados_tree.specs.Stands.{Stands}
-use Rattle.ados_tree.specs.Keys.{HasFileKey}
-use Rattle.ados_tree.specs.Untold.{AgreeInFront, HasData, HasFileBytes, IsBehindEnd, KeepsData, KeepsFileEnd, KeepsUntold, data_at}
-use Rattle.ados_tree.proofs.FilesStay.{end_of_data, file_of_key, has_bytes}
-use Rattle.ados_tree.proofs.Writable.{data_is, extensions_is, format_is, is_lawful}
+use Rattle.ados_model.specs.Tree.Content.{File}
+use Rattle.ados_model.specs.Keys.{HasFileKey}
+use Rattle.ados_change.specs.Untold.{AgreeInFront, HasData, HasFileBytes, IsBehindEnd, KeepsData, KeepsFileEnd, KeepsUntold, data_at}
+use Rattle.ados_change.proofs.FilesStay.{end_of_data, file_of_key, has_bytes}
+use Rattle.ados_change.proofs.Writable.{data_is, extensions_is, format_is, is_lawful}
 use Rattle.ados_change.proofs.Contents.{refilled, here, there}
 use Rattle.ados_change.proofs.Relaid.{ComesFrom, IsRewritten, relaid, data_there, extensions_there}
 use Rattle.ados_change.proofs.Refilled.{data_stays, layout_after, stands_after}
 use Rattle.ados_change.proofs.SameBlock.{bytes_same}
 
--- a byte of a block that a file has, behind the file's bytes, stands behind their end there
+-- a byte of the file's block that is after the file's bytes is after their end in that block
 end_here : (f : Format) (a q i : ℕ) → q < data_count f a → a + data_start f ≤ data_size f * q + i → data_end f a q ≤ i
 end_here Ofs a q i l x = omega (arith, l, x)
 end_here Ffs a q i l x = omega (arith, l, x)
 
--- lists that agree as far as both go, and go as far, are one
+-- lists of equal length that agree at each common position are equal
 agreed : (xs ys : List ℕ) → AgreeInFront xs ys → length ys ≡ length xs → ys ≡ xs
 agreed xs ys h e = ext_get_or 0 ys xs e (λ q l. h q (omega (arith, l, e)) l)
 
--- where lists come from others, they agree with them
+-- a list that comes from another agrees with it
 front_agrees : (old xs ys : List ℕ) → ((q : ℕ) → q < length ys → ComesFrom old xs ys q) → AgreeInFront xs ys
 front_agrees old xs ys h q l m = elim (h q m) [ inl was ↦ was.1 | inr free ↦ absurd (omega (arith, l, free.0)) ]
 
@@ -56,7 +54,7 @@ module _ (old new : List ℕ) (t : Tree) (s : Stands old t) (file : ℕ) (node :
   before : IsLawful old file blocks extensions bytes
   before = is_lawful old t s file node bytes found is_file
 
-  -- ---- the lists of the file, as the images spell them
+  -- ---- the lists of the file in the images
 
   old_blocks : data_blocks old file ≡ blocks
   old_blocks = data_is old t s file node bytes found is_file
@@ -80,7 +78,7 @@ module _ (old new : List ℕ) (t : Tree) (s : Stands old t) (file : ℕ) (node :
       subst (λ (xs : List ℕ). AgreeInFront xs (extension_blocks new file)) (sym old_extensions)
       (subst (λ (xs : List ℕ). AgreeInFront extensions xs) (sym new_extensions) (front_agrees old extensions extensions' h.extensions_from))
 
-  -- ---- behind the file's end
+  -- ---- after the file's end
 
   of_old : (n q i : ℕ) → n + data_start (format_of new) ≤ data_size (format_of new) * q + i → n + data_start (format_of old) ≤ data_size (format_of old) * q + i
   of_old n q i l = subst (λ (f : Format). n + data_start f ≤ data_size f * q + i) h.format l
@@ -128,7 +126,7 @@ module _ (old new : List ℕ) (t : Tree) (s : Stands old t) (file : ℕ) (node :
             ∙ ap (λ (c : ℕ). byte_at old c i) (sym place);
       }
 
-  -- ---- the file, where it got the bytes that it had
+  -- ---- the file, if it has the same bytes as before
 
   module _ (same : bytes' ≡ bytes) (was : IsImage old) (is : IsImage new) where
     same_blocks : blocks' ≡ blocks
@@ -155,7 +153,7 @@ module _ (old new : List ℕ) (t : Tree) (s : Stands old t) (file : ℕ) (node :
         let within : q < length blocks' = subst (λ (xs : List ℕ). q < length xs) (sym same_blocks) l in
         subst (λ (xs : List ℕ). byte_at new (slice_index xs q) i ≡ byte_at old (slice_index xs q) i) same_blocks (keeps.slack q i l within m behind)
 
-    -- a byte behind the fields of a data block
+    -- a byte after the fields of a data block
     data_same : (f : Format) → format_of old ≡ f → (q i : ℕ) → q < length blocks → i < 512 → data_start f ≤ i → byte_at new (slice_index blocks q) i ≡ byte_at old (slice_index blocks q) i
     data_same Ffs e q i l m n = elim (cases_lt (512 * q + i) (length bytes)) [
       | inl k ↦
@@ -176,7 +174,7 @@ module _ (old new : List ℕ) (t : Tree) (s : Stands old t) (file : ℕ) (node :
       | inr k ↦ slack_same Ofs e q i l m (omega (arith, k, n))
     ]
 
-    -- the fields of an OFS data block in front of its sum
+    -- the fields of an OFS data block before its checksum
     front_same : format_of old ≡ Ofs → (q : ℕ) → q < length blocks → (j : ℕ) → j < 5 → long new (slice_index blocks q) j ≡ long old (slice_index blocks q) j
     front_same e q l j m = go j m
       where
@@ -217,7 +215,7 @@ module _ (old new : List ℕ) (t : Tree) (s : Stands old t) (file : ℕ) (node :
 
   -- ---- all files
 
-  -- what the file holds in two images that have it with the same bytes
+  -- two images that have the file with the same bytes
   same_content : (f : ℕ) (bs : List ℕ) → f ≡ file → HasFileBytes old f bs → HasFileBytes new f bs → bytes' ≡ bytes
   same_content f bs e was is =
       let before : content_at t file ≡ Some (File bytes) = ap (option_map (λ (a : Node). a.content)) found ∙ ap Some is_file in

@@ -1,17 +1,18 @@
--- What the calls on a file's data have done is a rewriting of the file.
+-- The calls on a file's data rewrite the file.
 use Rattle.std.proofs.Common.{◌≡◌, ℕ, suc, ◌+◌, ◌/◌, ◌<◌, ◌≤◌, ◌⊎◌, inl, inr, true, List, length, take, slice_index, sym, ap, ap₂, ◌∙◌, arith}
 use Rattle.std.proofs.lemmas.Bool.{false≢true, cases_lt}
 use Rattle.std.proofs.lemmas.List.{get_or-take, length-take}
 use Rattle.adf_block.specs.declared.Format.{Format}
-use Rattle.adf_block.specs.Image.{IsInside, block_count, has_free_bit, free_bit_count}
-use Rattle.ados_data.specs.Cost.{block_cost, extension_count}
-use Rattle.ados_data.specs.File.{format_of, data_blocks, extension_blocks, contents}
+use Rattle.adf_block.specs.Image.{IsInside, block_count, has_free_bit, format_of}
+use Rattle.adf_block.specs.Whole.{free_bit_count}
+use Rattle.ados_model.specs.Tree.{block_cost, extension_count}
+use Rattle.ados_model.specs.File.{data_blocks, extension_blocks, contents}
 use Rattle.ados_data.specs.Changing.{WritableFile}
 use Rattle.ados_data.specs.Others.{Gains, LeavesOthers}
 use Rattle.ados_change.proofs.Relaid.{ComesFrom, GoesTo, IsRewritten}
 use Rattle.ados_change.proofs.Taken.{taken_is_got}
 
--- ---- lists that lose their back
+-- ---- lists that get shorter
 
 front_from : (old : List ℕ) (n : ℕ) (xs ys : List ℕ) → ys ≡ take n xs → (i : ℕ) → i < length ys → ComesFrom old xs ys i
 front_from old n xs ys e i l =

@@ -1,26 +1,25 @@
--- Each change of a field: how it tells of the node anew, and so what the image stands for.
+-- Each change of a field: how it changes the node's block, and the tree that the image then represents.
 use Rattle.std.proofs.Common.{◌≡◌, ◌≢◌, ℕ, ◌+◌, ◌<◌, ◌≤◌, ◌⊎◌, inl, inr, ◌==◌, List, length, Some, option_map, refl, sym, ap, ◌∙◌, subst, arith, eq-eqb, if◌then◌else◌}
 use Rattle.std.proofs.lemmas.Bool.{cases_eq, ne_eqb}
-use Rattle.adf_block.specs.Image.{block_sum}
-use Rattle.adf_block.specs.Fields.{HasText, protection, name_byte, comment_byte}
+use Rattle.adf_block.specs.Image.{block_sum, HasText, protection}
+use Rattle.adf_block.specs.Layout.{name_byte, comment_byte}
 use Rattle.adf_block.specs.Frame.{SameBut}
 use Rattle.adf_block.proofs.Frames.{same_weaken}
 use Rattle.ados_name.specs.declared.Date3.{Date3}
 use Rattle.ados_name.specs.Name.{IsName, IsComment}
-use Rattle.ados_tree.specs.Tree.{Node, Tree, Proper, IsRoot, root}
-use Rattle.ados_tree.specs.Stands.{HasEntry, Stands}
-use Rattle.ados_tree.specs.Dates.{date_at}
-use Rattle.ados_tree.specs.Change.{changed, stamped, with_node}
-use Rattle.ados_tree.specs.Kept.{Kept}
-use Rattle.ados_tree.specs.NewBlocks.{KeepsRest}
-use Rattle.ados_tree.proofs.Nodes.{root_or_parent}
+use Rattle.ados_model.specs.Tree.{Node, Tree, Proper, IsRoot, root}
+use Rattle.ados_model.specs.Stands.{HasEntry, Stands, date_at}
+use Rattle.ados_model.specs.Change.{changed, stamped, with_node}
+use Rattle.ados_model.specs.Kept.{Kept}
+use Rattle.ados_change.specs.NewBlocks.{KeepsRest}
+use Rattle.ados_model.proofs.Nodes.{root_or_parent}
 use Rattle.ados_change.specs.Places.{Summed, Restamped}
 use Rattle.ados_change.proofs.Retells.{retold, Retells}
 use Rattle.ados_change.proofs.Retold.{Telling, Tells, stands_retold}
 use Rattle.ados_change.proofs.FieldsKept.{IsKeyField, IsTold, kept_fields, keeps_fields, telling_field, telling_told, disk_date_field}
 use Rattle.ados_change.proofs.Summing.{text_beside, long_beside, date_beside}
 
--- bytes low to high - 1 of the key's block may be those that tell of the node after
+-- bytes low to high - 1 of the key's block may differ between the two nodes
 pub record Case (t : Tree) (key : ℕ) (node after : Node) (d : Date3) (low high : ℕ) : Type 0 where
   pub retells : Retells t key node after d
   pub within : (i : ℕ) → low ≤ i → i < high → Telling t key after i
@@ -111,7 +110,7 @@ module _ (t : Tree) (p : Proper t) (key : ℕ) (node : Node) (at : t.nodes key �
     within = λ i l m. Telling.disk_date e l m;
   }
 
--- a node that stays leaves the tree but for its disk date
+-- an unchanged node: only the disk date of the tree changes
 same_node : (t : Tree) (key : ℕ) (node : Node) → t.nodes key ≡ Some node → (moment : Date3) → retold key node moment t ≡ stamped moment t
 same_node t key node at moment = λ i. record t { disk_date = moment; nodes = λ k. as_it_was k i }
   where
@@ -125,10 +124,10 @@ same_node t key node at moment = λ i. record t { disk_date = moment; nodes = λ
 pub changed_node : (t : Tree) (key : ℕ) (node : Node) → t.nodes key ≡ Some node → (f : Node → Node) → (changed key f t).nodes key ≡ Some (f node)
 changed_node t key node at f = rw (eq-eqb key key refl) (ap (option_map f) at)
 
--- ---- what the image stands for then
+-- ---- the tree that the image then represents
 
 module _ (old new : List ℕ) (t : Tree) (s : Stands old t) (key : ℕ) (node : Node) (at : t.nodes key ≡ Some node) (sum : block_sum new key ≡ 0) where
-  -- the fields that stay
+  -- the unchanged fields
   module _ (low high : ℕ) (rest : SameBut (Summed key low high) old new) where
     name_stays : (463 ≤ low) ⊎ (high ≤ 432) → HasText new key name_byte node.name
     name_stays side =
@@ -157,7 +156,7 @@ module _ (old new : List ℕ) (t : Tree) (s : Stands old t) (key : ℕ) (node : 
         let short = s.proper.comment key node at in
         text_beside key low high old new rest key comment_byte node.comment (omega arith) (omega (arith, short.short)) (elim side [ inl l ↦ inl (omega (arith, l, short.short)) | inr l ↦ inr l ]) (s.entries key dir.0 node at dir.1).comment
 
-  -- an image that tells so stands for the tree with the node after
+  -- the image with these fields represents the tree with the node `after`
   told : (after : Node) (d : Date3) (low high : ℕ) → Case t key node after d low high → SameBut (Summed key low high) old new
       → HasText new key name_byte after.name → date_at new key 105 ≡ after.date → (key ≢ root t → protection new key ≡ after.protection)
       → (key ≢ root t → HasText new key comment_byte after.comment) → (key ≡ root t → date_at new key 118 ≡ d)
@@ -173,7 +172,7 @@ module _ (old new : List ℕ) (t : Tree) (s : Stands old t) (key : ℕ) (node : 
         disk = disk;
       })
 
-  -- the node with one field changed is that of the changed tree
+  -- the node with one changed field is that of the changed tree
   from_changed : (f : Node → Node) (d : Date3) → Stands new (retold key (f node) d t) → Stands new (stamped d (changed key f t))
   from_changed f d h = subst (λ o. Stands new (stamped d (with_node key o t))) (sym (ap (option_map f) at)) h
 
@@ -211,10 +210,10 @@ module _ (old new : List ℕ) (t : Tree) (s : Stands old t) (key : ℕ) (node : 
       (name_stays 472 484 rest (inl (omega arith))) (date_stays 472 484 rest (inl (omega arith))) (bits_stay 472 484 rest (inl (omega arith)))
       (comment_stays 472 484 rest (inl (omega arith))) (λ _. put))
 
--- ---- what is kept
+-- ---- what is unchanged
 
 module _ (old new : List ℕ) (t : Tree) (s : Stands old t) (key : ℕ) (node : Node) (at : t.nodes key ≡ Some node) (low high : ℕ) where
-  -- the bytes that tell of the node are fields
+  -- the bytes for the node are in fields
   module _ (after : Node) (d moment : Date3) (c : Case t key node after d low high) (u : Stands new (retold key after moment t)) where
     here : (retold key after moment t).nodes key ≡ Some after
     here = rw (eq-eqb key key refl) refl

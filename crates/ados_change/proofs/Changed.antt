@@ -1,13 +1,13 @@
--- What the nodes of a changed tree are.
+-- The nodes of a changed tree.
 use Rattle.std.proofs.Common.{◌≡◌, ◌≢◌, ℕ, ◌⊎◌, inl, inr, ◌==◌, not, List, Option, Some, None, is_some, IsSome, option_map, option_and_then, refl, sym, ap, ◌∙◌, subst, eq-eqb}
 use Rattle.std.specs.Prelude.{filter}
 use Rattle.std.specs.Option.{option_map_or}
 use Rattle.std.proofs.lemmas.Bool.{ne_eqb, cases_eq}
 use Rattle.ados_name.specs.Name.{slot}
 use Rattle.ados_name.specs.declared.Date3.{Date3}
-use Rattle.ados_tree.specs.Tree.{Content, Node, Tree, entries, entries_in, name_in, name_of, parent_of}
-use Rattle.ados_tree.specs.Tree.Content.{Directory}
-use Rattle.ados_tree.specs.Change.{with_node, changed, enter, left, listed, made, new_node, removed, renamed}
+use Rattle.ados_model.specs.Tree.{Content, Node, Tree, entries, entries_in, name_in, name_of, parent_of}
+use Rattle.ados_model.specs.Tree.Content.{Directory}
+use Rattle.ados_model.specs.Change.{with_node, changed, enter, left, listed, made, new_node, removed, renamed}
 
 pub nodes_here : (key : ℕ) (o : Option Node) (t : Tree) → (with_node key o t).nodes key ≡ o
 nodes_here key o t = rw (eq-eqb key key refl) refl
@@ -15,14 +15,14 @@ nodes_here key o t = rw (eq-eqb key key refl) refl
 pub nodes_other : (key : ℕ) (o : Option Node) (t : Tree) (k : ℕ) → k ≢ key → (with_node key o t).nodes k ≡ t.nodes k
 nodes_other key o t k n = rw (ne_eqb k key n) refl
 
--- what a change of a node does not touch stays
+-- what a change of a node leaves untouched
 pub changed_keeps : {X : Type 0} (p : Option Node → X) (f : Node → Node) (key : ℕ) (t : Tree) → ((o : Option Node) → p (option_map f o) ≡ p o) → (k : ℕ) → p ((changed key f t).nodes k) ≡ p (t.nodes k)
 changed_keeps p f key t same k = elim (cases_eq k key) [
   | inl e ↦ ap (λ (i : ℕ). p ((changed key f t).nodes i)) e ∙ ap p (nodes_here key (option_map f (t.nodes key)) t) ∙ same (t.nodes key) ∙ ap (λ (i : ℕ). p (t.nodes i)) (sym e)
   | inr n ↦ ap p (nodes_other key (option_map f (t.nodes key)) t k n)
 ]
 
--- the node that a node of a changed tree was
+-- the node that a node of the changed tree comes from
 pub record Was (f : Node → Node) (key : ℕ) (t : Tree) (k : ℕ) (node : Node) : Type 0 where
   pub old : Node
   pub at : t.nodes k ≡ Some old
@@ -38,7 +38,7 @@ was f key t k node e = elim (cases_eq k key) [
     here d None at h = absurd (cc h)
     here d (Some a) at h = record { old = a; at = ap t.nodes d ∙ at; how = inr (d, sym (cc h)) }
 
--- what a property of all nodes of a tree is after a change that keeps it
+-- a property of all nodes that the change preserves
 pub was_with : (P : Node → Type 0) (f : Node → Node) (key : ℕ) (t : Tree) (k : ℕ) (node : Node) → ((a : Node) → P a → P (f a)) → (w : Was f key t k node) → P w.old → P node
 was_with P f key t k node keeps w h = elim (w.how) [
   | inl e ↦ subst P (sym e.1) h
@@ -77,7 +77,7 @@ module _ (moment : Date3) (dir : ℕ) (keys : List ℕ) (t : Tree) where
   pub listed_other : (d : ℕ) → d ≢ dir → entries (listed moment dir keys t) d ≡ entries t d
   listed_other d n = ap (λ (o : Option Node). entries_in (option_map (λ node. node.content) o)) (nodes_other dir (option_map (relisted moment keys) (t.nodes dir)) t d n)
 
--- ---- what stays of a tree whose entries change: its size, its lost blocks, and its keys but for those that come and go
+-- ---- what is unchanged when entries change: the size, the lost blocks, and all other keys
 
 module _ (moment : Date3) (key : ℕ) (t : Tree) where
   abbrev left_by : Option ℕ → Tree
@@ -107,7 +107,7 @@ module _ (moment : Date3) (key : ℕ) (t : Tree) where
   pub removed_some : (k : ℕ) → k ≢ key → is_some ((removed moment key t).nodes k) ≡ is_some (t.nodes k)
   removed_some k n = ap is_some (nodes_other key None (left moment key t) k n) ∙ left_some k
 
--- the keys of a directory that a key enters
+-- the keys of a directory after an insertion
 abbrev with_key : ℕ → ℕ → Tree → List ℕ
 with_key dir key t = enter (λ k. slot (name_of t k)) key (entries t dir)
 

@@ -1,12 +1,11 @@
--- A file with other bytes changes no directory.
+-- A file with other bytes leaves all directories untouched.
 use Rattle.std.proofs.Common.{◌≡◌, ℕ, List, Option, Some, map, inl, inr, find, bytes_eq, option_map, refl, sym, ap, ap₂, ◌∙◌, eq-eqb}
 use Rattle.std.proofs.lemmas.Bool.{ne_eqb, cases_eq}
 use Rattle.ados_name.specs.declared.Date3.{Date3}
-use Rattle.ados_name.specs.Name.{upper}
-use Rattle.ados_tree.specs.Tree.{Content, Node, Tree, entries, entries_in, name_in, name_of}
-use Rattle.ados_tree.specs.Tree.Content.{File}
-use Rattle.ados_tree.specs.Walk.{child_of}
-use Rattle.ados_tree.specs.Change.{rewritten, without_archive}
+use Rattle.ados_name.specs.Name.{upper, without_archive}
+use Rattle.ados_model.specs.Tree.{Content, Node, Tree, entries, entries_in, name_in, name_of}
+use Rattle.ados_model.specs.Tree.Content.{File}
+use Rattle.ados_model.specs.Change.{child_of, rewritten}
 
 module _ (moment : Date3) (t : Tree) (file : ℕ) (node : Node) (bytes bytes' : List ℕ) (found : t.nodes file ≡ Some node) (is_file : node.content ≡ File bytes) where
   abbrev u : Tree

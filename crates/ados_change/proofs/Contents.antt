@@ -1,12 +1,12 @@
--- The tree in which a file has other bytes.
+-- The tree with other bytes in a file.
 use Rattle.std.proofs.Common.{◌≡◌, ◌≢◌, ℕ, ◌≤◌, ◌⊎◌, inl, inr, ◌==◌, List, length, map, filter, AllPairs, Contains, Option, Some, option_map, option_and_then, refl, sym, ap, ap₂, ◌∙◌, subst, eq-eqb}
 use Rattle.std.proofs.lemmas.Bool.{ne_eqb, cases_eq}
 use Rattle.ados_name.specs.Name.{upper, slot, IsName, IsComment}
-use Rattle.ados_tree.specs.Tree.{Content, Node, Tree, Proper, LeadsToRoot, root, entries_in, entries, size_in, size_of, name_in, name_of, parent_of}
-use Rattle.ados_tree.specs.Tree.Content.{Directory, File}
-use Rattle.ados_tree.specs.Tree.LeadsToRoot.{at_root, by_parent}
-use Rattle.ados_tree.specs.Stands.{in_slot}
-use Rattle.ados_tree.specs.Change.{changed}
+use Rattle.ados_model.specs.Tree.{Content, Node, Tree, Proper, LeadsToRoot, root, entries_in, entries, size_in, size_of, name_in, name_of, parent_of}
+use Rattle.ados_model.specs.Tree.Content.{Directory, File}
+use Rattle.ados_model.specs.Tree.LeadsToRoot.{at_root, by_parent}
+use Rattle.ados_model.specs.Stands.{in_slot}
+use Rattle.ados_model.specs.Change.{changed}
 
 -- the node with these bytes
 abbrev pub holding : List ℕ → Node → Node
@@ -26,7 +26,7 @@ module _ (t : Tree) (file : ℕ) (node : Node) (bytes bytes' : List ℕ) (found 
   pub there : (k : ℕ) → k ≢ file → u.nodes k ≡ t.nodes k
   there k n = rw (ne_eqb k file n) refl
 
-  -- the node that a node was
+  -- the node that a node comes from
   pub record Was (k : ℕ) (a : Node) : Type 0 where
     pub old : Node
     pub at : t.nodes k ≡ Some old
@@ -54,7 +54,7 @@ module _ (t : Tree) (file : ℕ) (node : Node) (bytes bytes' : List ℕ) (found 
     | inr other ↦ record { old = a; at = sym (there k other) ∙ e; name = refl; parent = refl; date = refl; comment = refl; protection = refl; content = inr (other, refl) }
   ]
 
-  -- a node is one still
+  -- a node is still a node
   pub stays : (k : ℕ) (a : Node) → t.nodes k ≡ Some a → (b : Node) × (u.nodes k ≡ Some b)
   stays k a e = elim (cases_eq k file) [
     | inl same ↦ (holding bytes' node, ap u.nodes same ∙ here)

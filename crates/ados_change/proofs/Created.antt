@@ -1,4 +1,4 @@
--- The steps by which an entry is made.
+-- The steps that make an entry.
 use Rattle.std.proofs.Common.{◌≡◌, ◌≢◌, ℕ, ◌+◌, ◌/◌, ◌<◌, inl, inr, Bool, List, true, false, Some, is_some, IsSome, refl, sym, ap, ◌∙◌, subst, arith}
 use Rattle.std.proofs.lemmas.Bool.{cases_eq, false≢true}
 use Rattle.adf_block.specs.Frame.{OnlyBlock, SameBut}
@@ -10,16 +10,14 @@ use Rattle.ados_name.specs.declared.Date3.{Date3}
 use Rattle.ados_chain.proofs.Changes.{slot_at-small}
 use Rattle.ados_chain.specs.Chains.{LawfulChains, slot_at}
 use Rattle.ados_chain.specs.Relinks.{CanInsert, InsertsLast, link_block, link_long}
-use Rattle.ados_tree.specs.Change.{made, new_node, with_node}
-use Rattle.ados_tree.specs.Stands.{Stands, in_slot}
-use Rattle.ados_tree.specs.Tree.{Node, Tree, root, size_in}
-use Rattle.ados_tree.specs.Layout.{Duty, HasDuty}
-use Rattle.ados_tree.specs.NewBlocks.{KeepsRest, TakesLowest}
-use Rattle.ados_tree.specs.Untold.{KeepsPastEnd}
-use Rattle.ados_tree.proofs.FilesStay.{past_end_trans}
+use Rattle.ados_model.specs.Change.{made, new_node, with_node}
+use Rattle.ados_model.specs.Stands.{Stands, in_slot, Duty, HasDuty}
+use Rattle.ados_model.specs.Tree.{Node, Tree, root, size_in, IsUnused}
+use Rattle.ados_change.specs.NewBlocks.{KeepsRest, TakesLowest}
+use Rattle.ados_change.specs.Untold.{KeepsPastEnd}
+use Rattle.ados_change.proofs.FilesStay.{past_end_trans}
 use Rattle.ados_change.specs.declared.node_kind.NodeKind.{NodeKind}
 use Rattle.ados_change.specs.declared.node_kind.NodeKind.TheVariants as kinds
-use Rattle.ados_tree.specs.Tree.{IsUnused}
 use Rattle.ados_change.specs.Conditions.{CanMake, IsEmpty}
 use Rattle.ados_change.specs.Kinds.{content_of}
 use Rattle.ados_change.specs.steps.Making.{IsNewEntry}
@@ -38,11 +36,11 @@ use Rattle.ados_change.proofs.Spared.{keeps_freed, was_free}
 use Rattle.ados_change.proofs.Spells.{Spells, spells}
 use Rattle.ados_change.proofs.EntriesUntold.{IsOffMap, bit_past_end, dated_off, filled_off, linked_off, off_past_end, old_pages, pages_after, stamped_off, untold_kept}
 
--- the pages of an image that stands for a tree are lawful
+-- the bitmap blocks of an image that represents a tree are lawful
 pub pages_of_standing : (image : List ℕ) (t : Tree) → Stands image t → LawfulPages image
 pages_of_standing image t st = lawful_pages image t st.layout 0 (spells image t st) (proper_is_loose t st.proper)
 
--- the disk date is put into the root
+-- the disk date is written into the root
 pub at_root : (old new : List ℕ) (t : Tree) (moment : Date3) → block_count old ≡ t.blocks → Dated (root_key (block_count old)) 118 moment old new → Dated (root t) 118 moment old new
 at_root old new t moment count h = subst (λ (n : ℕ). Dated (root_key n) 118 moment old new) count h
 
@@ -174,7 +172,7 @@ module _ (old m1 m2 : List ℕ) (t : Tree) (st : Stands old t) (moment : Date3) 
           (stamped_there key dir t apart no_root moment m4 m5 restamped))
           old t st low no_root after created
 
-      -- ---- the map past its end
+      -- ---- the bitmap past the volume's end
 
       of_key : IsKnown old t st m5 key
       of_key = inr (fresh.inside.0, in_use, no_duties)

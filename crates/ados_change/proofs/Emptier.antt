@@ -1,23 +1,24 @@
--- A file is emptied before it is taken away; a directory has nothing in it.
+-- A file is emptied before its removal; a directory has nothing to empty.
 use Rattle.std.proofs.Common.{◌≡◌, ◌≢◌, ℕ, ◌/◌, ◌<◌, inl, inr, List, take, Option, Some, None, IsSome, option_map, option_and_then, refl, sym, ap, ◌∙◌, subst, arith}
-use Rattle.adf_block.specs.Fields.{secondary_type, file_type, pointer_count_long, next_data, sum_long, protection_long, size_long, date_long, next_in_chain, next_extension}
-use Rattle.adf_block.specs.Image.{block_count, byte_at}
+use Rattle.adf_block.specs.Image.{secondary_type, block_count, byte_at}
+use Rattle.adf_block.specs.Layout.{file_type, pointer_count_long, next_data, sum_long, protection_long, size_long, date_long, next_in_chain, next_extension}
 use Rattle.std.proofs.lemmas.Bool.{cases_eq}
 use Rattle.ados_data.specs.Cut.{IsCutField}
 use Rattle.ados_name.specs.declared.Date3.{Date3}
-use Rattle.ados_tree.specs.Change.{changed, left, removed, shortened, without_archive}
-use Rattle.ados_tree.specs.Stands.{Stands, type_of}
-use Rattle.ados_tree.specs.Tree.{Content, Node, Tree, root, bytes_of, content_at, entries_in, size_in, size_of}
-use Rattle.ados_tree.specs.Tree.Content.{Directory, File}
-use Rattle.ados_tree.specs.Faults.{InImage}
-use Rattle.ados_tree.specs.Keys.{HasEntryKey, HasFileKey}
-use Rattle.ados_tree.specs.Untold.{HasFileBytes, KeepsUntold}
-use Rattle.ados_tree.proofs.FilesStay.{has_bytes, untold_trans}
-use Rattle.ados_tree.specs.Kept.{Kept, date_longs, one_long}
-use Rattle.ados_tree.specs.NewBlocks.{KeepsRest, TakesNone}
-use Rattle.ados_tree.proofs.Keeping.{none_taken}
-use Rattle.ados_tree.proofs.Nodes.{parent_in}
-use Rattle.ados_tree.proofs.OneTree.{one_tree}
+use Rattle.ados_model.specs.Change.{changed, left, removed, shortened}
+use Rattle.ados_name.specs.Name.{without_archive}
+use Rattle.ados_model.specs.Stands.{Stands, type_of}
+use Rattle.ados_model.specs.Tree.{Content, Node, Tree, root, bytes_of, content_at, entries_in, size_in, size_of}
+use Rattle.ados_model.specs.Tree.Content.{Directory, File}
+use Rattle.ados_model.specs.Faults.{InImage}
+use Rattle.ados_model.specs.Keys.{HasEntryKey, HasFileKey}
+use Rattle.ados_change.specs.Untold.{HasFileBytes, KeepsUntold}
+use Rattle.ados_change.proofs.FilesStay.{has_bytes, untold_trans}
+use Rattle.ados_model.specs.Kept.{Kept, date_longs, one_long}
+use Rattle.ados_change.specs.NewBlocks.{KeepsRest, TakesNone}
+use Rattle.ados_change.proofs.Keeping.{none_taken}
+use Rattle.ados_model.proofs.Nodes.{parent_in}
+use Rattle.ados_model.proofs.OneTree.{one_tree}
 use Rattle.ados_change.specs.Cuts.{KeepsHeader}
 use Rattle.ados_change.specs.Stamps.{IsFileStamp}
 use Rattle.ados_change.specs.Conditions.{CanRemove}
@@ -49,7 +50,7 @@ module _ (old : List ℕ) (t : Tree) (st : Stands old t) (key : ℕ) (can : CanR
   pub entry_key : HasEntryKey old key
   entry_key = λ u su. subst (λ (x : Tree). IsSome (x.nodes key) × (key ≢ root x)) (one_tree old t u st su) (has_node, not_root)
 
-  -- what is no file has no bytes
+  -- an entry that is not a file has no bytes
   pub not_file : secondary_type old key ≢ file_type → size_of t key ≡ 0
   not_file n = let at = entry.1 in rw at (go entry.0.content typed)
     where
@@ -64,7 +65,7 @@ module _ (old : List ℕ) (t : Tree) (st : Stands old t) (key : ℕ) (can : CanR
       go (Directory keys) d at = absurd (omega (arith, d))
       go (File bytes) d at = (bytes, at)
 
-  -- a file that is cut keeps the rest of its header
+  -- a cut leaves the rest of the file's header untouched
   pub entry_cut : (new : List ℕ) → KeepsHeader key old new → KeepsEntry key old new
   entry_cut new h i l beside = h i l cut stamp
     where
@@ -102,7 +103,7 @@ module _ (old : List ℕ) (t : Tree) (st : Stands old t) (key : ℕ) (can : CanR
       same = removed_same t key can.dir moment shorter (λ a. refl) can.listed (not_own_parent t st.proper key can.dir can.listed moment);
     }
 
--- the image stands for no other tree, so that what is known of one is known of each
+-- the image represents only this tree, so a fact about one of its trees is a fact about each
 module _ (moment : Date3) (key : ℕ) (old mid : List ℕ) (t : Tree) (st : Stands old t) (empties : Empties moment key old mid) where
   abbrev emptied : (u : Tree) × Stands mid u × IsEmptied moment key t u
   emptied = empties t st
@@ -116,7 +117,7 @@ module _ (moment : Date3) (key : ℕ) (old mid : List ℕ) (t : Tree) (st : Stan
   pub taken_away : (new : List ℕ) → ((v : Tree) → Stands mid v → Stands new (removed moment key v)) → Stands new (removed moment key t)
   taken_away new gone = subst (Stands new) emptied.2.same (gone emptied.0 emptied.1)
 
--- what emptying the entry and then taking it away keeps
+-- what the two steps, emptying the entry and removing it, leave untouched
 module _ (key : ℕ) (old mid new : List ℕ) (t : Tree) (st : Stands old t) (can : CanRemove t key) (empties : KeepsRest old mid) (none : TakesNone old mid) (kept : Kept old new) (gives : GivesBack key mid new) (own : KeepsEntry key old mid) where
   in_mid : (b : ℕ) → InImage old b → InImage mid b
   in_mid b i = (i.0, omega (arith, i.1, ap (λ (n : ℕ). n / 512) empties.kept.size))
@@ -124,7 +125,7 @@ module _ (key : ℕ) (old mid new : List ℕ) (t : Tree) (st : Stands old t) (ca
   pub takes_none : TakesNone old new
   takes_none b i free = gives.none b (in_mid b i) (none b i free)
 
-  -- in between all files but the entry hold what they held
+  -- between the two steps all other files have the same bytes
   module _ (moment : Date3) (emptied : Empties moment key old mid) (untold : KeepsUntold mid new) (away : Stands new (removed moment key t)) where
     untold_away : KeepsUntold old new
     untold_away =

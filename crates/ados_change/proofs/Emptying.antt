@@ -1,10 +1,10 @@
--- What an entry holds does not matter once it is taken away.
+-- After its removal, the contents of an entry make no difference.
 use Rattle.std.proofs.Common.{◌≡◌, ◌≢◌, ℕ, inl, inr, ◌==◌, not, List, filter, Option, Some, None, option_map, option_and_then, refl, sym, ap, ap₂, ◌∙◌}
 use Rattle.std.specs.Option.{option_map_or}
 use Rattle.std.proofs.lemmas.Bool.{cases_eq}
 use Rattle.ados_name.specs.declared.Date3.{Date3}
-use Rattle.ados_tree.specs.Change.{changed, left, listed, removed, stamped, with_node}
-use Rattle.ados_tree.specs.Tree.{Node, Tree, entries, entries_in, parent_of}
+use Rattle.ados_model.specs.Change.{changed, left, listed, removed, stamped, with_node}
+use Rattle.ados_model.specs.Tree.{Node, Tree, entries, entries_in, parent_of}
 use Rattle.ados_change.proofs.Changed.{nodes_here, nodes_other, changed_keeps, relisted}
 
 module _ (t : Tree) (key dir : ℕ) (moment : Date3) (f : Node → Node) (keeps : (a : Node) → (f a).parent ≡ a.parent) (below : parent_of t key ≡ Some dir) (apart : dir ≢ key) where
@@ -30,7 +30,7 @@ module _ (t : Tree) (key dir : ℕ) (moment : Date3) (f : Node → Node) (keeps 
   left_as : (tree : Tree) → parent_of tree key ≡ Some dir → left moment key tree ≡ listed moment dir (list tree) tree
   left_as tree e = ap (λ (o : Option ℕ). option_map_or (λ d. listed moment d (filter (λ k. not (k == key)) (entries tree d)) tree) o tree) e
 
-  -- a node of the tree in which the key left
+  -- a node of the tree without the key in its list
   left_node : (k : ℕ) → k ≢ key → (left moment key u).nodes k ≡ (left moment key t).nodes k
   left_node k n =
       ap (λ (tree : Tree). tree.nodes k) (left_as u (parent_same ∙ below))
@@ -52,7 +52,7 @@ module _ (t : Tree) (key dir : ℕ) (moment : Date3) (f : Node → Node) (keeps 
     | inr n ↦ nodes_other key None (left moment key u) k n ∙ left_node k n ∙ sym (nodes_other key None (left moment key t) k n)
   ]
 
-  -- a part of the tree that no list is
+  -- a part of the tree that no list of entries affects
   left_keeps : {A : Type 0} (p : Tree → A) → ((keys : List ℕ) (tree : Tree) → p (listed moment dir keys tree) ≡ p tree) → (tree : Tree) → parent_of tree key ≡ Some dir → p (left moment key tree) ≡ p tree
   left_keeps p same tree e = ap p (left_as tree e) ∙ same (list tree) tree
 

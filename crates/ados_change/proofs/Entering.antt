@@ -1,14 +1,14 @@
--- A key that enters a list, and one that leaves it.
+-- A key inserted into a list, and one removed from it.
 use Rattle.std.proofs.Common.{◌≡◌, ◌≢◌, ℕ, suc, ◌<◌, ◌≤◌, ◌⊎◌, inl, inr, Bool, true, false, cond, nat_le, ◌==◌, not, List, [], ◌∷◌, ◌++◌, filter, AllPairs, Contains, refl, sym, ap, ap₂, ◌∙◌, subst, arith, eq-eqb}
 use Rattle.std.specs.List.{list_any}
 use Rattle.std.proofs.lemmas.Bool.{ne_eqb, cases_eq, cases_lt, le-leb, lt-leb}
 use Rattle.std.proofs.lemmas.List.Elements.{Contains-get_or}
 use Rattle.std.proofs.lemmas.List.Kept.{AllPairs-cons}
-use Rattle.ados_chain.proofs.Lists.{Contains-here, Contains-later, Contains-cases, Contains-nil, Once, Once-head, Once-tail, is_not}
-use Rattle.ados_tree.proofs.Lists.{AllPairs-tail}
-use Rattle.ados_tree.specs.Change.{enter}
+use Rattle.ados_model.proofs.KeyLists.{Contains-here, Contains-later, Contains-cases, Contains-nil, Once, Once-head, Once-tail, is_not}
+use Rattle.ados_model.proofs.Lists.{AllPairs-tail}
+use Rattle.ados_model.specs.Change.{enter}
 
--- pairs with a further element in front, which is related to each of the others
+-- one more element in front, related to each of the others
 pub AllPairs-more : (R : ℕ → ℕ → Type 0) (x : ℕ) (xs : List ℕ) → ((y : ℕ) → Contains xs y → R x y) → AllPairs R xs → AllPairs R (x ∷ xs)
 AllPairs-more R x xs first rest = AllPairs-cons R x xs (λ k d l. first _ (Contains-get_or xs k d l)) rest
 
@@ -19,7 +19,7 @@ module _ (f : ℕ → ℕ) (key : ℕ) where
   abbrev goes_on : ℕ → List ℕ → Bool
   goes_on k ks = list_any (λ j. nat_le (f j) (f key)) (k ∷ ks)
 
-  -- what stands in the list with the key
+  -- the elements of the list with the key
   pub Contains-enter : (xs : List ℕ) (x : ℕ) → Contains (enter f key xs) x → (key ≡ x) ⊎ Contains xs x
   Contains-enter [] x m = Contains-cases key [] x m
   Contains-enter (k ∷ ks) x m = go (goes_on k ks) (Contains-enter ks x) m
@@ -68,7 +68,7 @@ module _ (f : ℕ → ℕ) (key : ℕ) where
   none_low [] h = refl
   none_low (x ∷ xs) h = rw (lt-leb (f x) (f key) (h x (Contains-here x xs)), none_low xs (λ y m. h y (Contains-later x xs y m))) refl
 
-  -- in a list that rises, the key goes behind the first one where that is not above it
+  -- in a rising list, the key goes after the first element if that is not above it
   goes_by_first : (k : ℕ) (ks : List ℕ) → Rises (k ∷ ks) → goes_on k ks ≡ nat_le (f k) (f key)
   goes_by_first k ks h = go (cases_lt (f key) (f k))
     where
@@ -103,7 +103,7 @@ module _ (f : ℕ → ℕ) (key : ℕ) where
   part-none s [] h = refl
   part-none s (x ∷ xs) h = rw (ne_eqb (f x) s (h x (Contains-here x xs))) (part-none s xs (λ y m. h y (Contains-later x xs y m)))
 
-  -- the key is the last one of its slot
+  -- the key is the last of its slot
   pub part-enter : (xs : List ℕ) → Rises xs → filter (λ k. f k == f key) (enter f key xs) ≡ filter (λ k. f k == f key) xs ++ key ∷ []
   part-enter [] h = rw (eq-eqb (f key) (f key) refl) refl
   part-enter (k ∷ ks) h = subst (λ (b : Bool). part (f key) (cond b (k ∷ enter f key ks) (key ∷ k ∷ ks)) ≡ part (f key) (k ∷ ks) ++ key ∷ []) (sym (goes_by_first k ks h)) (go (part-enter ks (AllPairs-tail (λ a b. f a ≤ f b) k ks h)) (cases_lt (f key) (f k)))
@@ -121,7 +121,7 @@ module _ (f : ℕ → ℕ) (key : ℕ) where
         | inr n ↦ rw (ne_eqb (f k) (f key) n) below
       ])
 
-  -- the other slots stay
+  -- the other slots are unchanged
   pub part-enter_other : (s : ℕ) (xs : List ℕ) → f key ≢ s → filter (λ k. f k == s) (enter f key xs) ≡ filter (λ k. f k == s) xs
   part-enter_other s [] n = rw (ne_eqb (f key) s n) refl
   part-enter_other s (k ∷ ks) n = go (goes_on k ks) (part-enter_other s ks n)
@@ -130,7 +130,7 @@ module _ (f : ℕ → ℕ) (key : ℕ) where
       go true below = ap (λ (ys : List ℕ). cond (f k == s) (k ∷ ys) ys) below
       go false below = rw (ne_eqb (f key) s n) refl
 
--- tests that agree at each element keep the same elements
+-- two tests that agree for each element keep the same elements
 pub filter_same : (p q : ℕ → Bool) (xs : List ℕ) → ((x : ℕ) → Contains xs x → p x ≡ q x) → filter p xs ≡ filter q xs
 filter_same p q [] h = refl
 filter_same p q (x ∷ xs) h =

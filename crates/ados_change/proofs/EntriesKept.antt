@@ -1,24 +1,24 @@
--- A change of entries keeps all that is no field.
+-- A change of entries leaves all bytes outside fields untouched.
 use Rattle.std.proofs.Common.{◌≡◌, ◌≢◌, ℕ, ◌+◌, ◌-◌, ◌*◌, ◌/◌, ◌%◌, ◌<◌, ◌≤◌, List, take, drop, length, slice_index, Some, None, refl, sym, ap, ◌∙◌, subst, arith, length-take, length-drop}
 use Rattle.std.proofs.lemmas.List.{ext_get_or, get_or-take, get_or-drop}
-use Rattle.adf_block.specs.Image.{HasFreeBit, byte_at, bytes_at, long}
-use Rattle.adf_block.specs.Fields.{secondary_type, name_byte}
+use Rattle.adf_block.specs.Image.{HasFreeBit, byte_at, bytes_at, long, secondary_type}
+use Rattle.adf_block.specs.Layout.{name_byte}
 use Rattle.adf_block.specs.Frame.{SameBut}
 use Rattle.adf_block.proofs.Frames.{same_long}
 use Rattle.ados_change.specs.Behind.{KeepsBehindName}
-use Rattle.ados_tree.specs.Tree.{Content, Node, Tree, root}
-use Rattle.ados_tree.specs.Tree.Content.{Directory, File}
-use Rattle.ados_tree.specs.Layout.{Duty, HasDuty}
-use Rattle.ados_tree.specs.Stands.{Stands, type_of}
-use Rattle.ados_tree.specs.declared.role.Role.{Role}
-use Rattle.ados_tree.specs.declared.role.Role.TheVariants as roles
-use Rattle.ados_tree.specs.Faults.{IsFile}
-use Rattle.ados_tree.specs.Kept.{Kept, KeepsFirstData, IsField, Alike, InText}
-use Rattle.ados_tree.specs.Kept.IsField.{root_longs, page_longs, directory_longs, file_longs, entry_name, entry_comment, extension_longs, ofs_data_longs, ofs_data, ffs_data}
-use Rattle.ados_tree.proofs.Keeping.{header_stays}
-use Rattle.ados_tree.proofs.Standing.{StandsAt, IsFileNode, file_at, reached_stands, serves_at, duty_of, root_at, entry_at, slice_get-index}
+use Rattle.ados_model.specs.Tree.{Content, Node, Tree, root}
+use Rattle.ados_model.specs.Tree.Content.{Directory, File}
+use Rattle.ados_model.specs.Stands.{Duty, HasDuty, Stands, type_of}
+use Rattle.ados_model.specs.declared.role.Role.{Role}
+use Rattle.ados_model.specs.declared.role.Role.TheVariants as roles
+use Rattle.ados_model.specs.Faults.{IsFile}
+use Rattle.ados_model.specs.Kept.{Kept, KeepsFirstData, IsField, Alike, InText}
+use Rattle.ados_model.specs.Kept.IsField.{root_longs, page_longs, directory_longs, file_longs, entry_name, entry_comment, extension_longs, ofs_data_longs, ofs_data, ffs_data}
+use Rattle.ados_change.proofs.Keeping.{header_stays}
+use Rattle.ados_model.proofs.Standing.{StandsAt, IsFileNode, file_at, reached_stands, serves_at, duty_of, root_at, entry_at, slice_get-index}
 
--- a long of the block of a node that is a field in each role: the sum, a directory's table, the date, in the root the disk date, and in an entry the link and the directory
+-- a long in the block of a node that is a field in each role: the checksum, a directory's hash table, the date, the
+-- root's disk date, an entry's next-in-chain and parent
 pub data IsPlain (t : Tree) (b : ℕ) (node : Node) (j : ℕ) : Type 0 where
   sum : j ≡ 5 → IsPlain t b node j
   table : (keys : List ℕ) → node.content ≡ Directory keys → 6 ≤ j → j < 78 → IsPlain t b node j
@@ -26,14 +26,15 @@ pub data IsPlain (t : Tree) (b : ℕ) (node : Node) (j : ℕ) : Type 0 where
   disk : b ≡ root t → 118 ≤ j → j < 121 → IsPlain t b node j
   link : b ≢ root t → 124 ≤ j → j < 126 → IsPlain t b node j
 
--- byte i of block b may be written: it is of a page, of a block with no duty that is in use afterwards, of such a long, or of the name that an entry gets
+-- byte i of block b may be written: it is in a bitmap block, in a block newly in use, in such a long, or in the new
+-- name of an entry
 pub data IsWritten (old : List ℕ) (t : Tree) (st : Stands old t) (new : List ℕ) (b i : ℕ) : Type 0 where
   of_page : (p : ℕ) → p < length st.layout.pages → slice_index st.layout.pages p ≡ b → IsWritten old t st new b i
   of_none : 2 ≤ b → ¬ HasFreeBit new b → ((duty : Duty) → ¬ HasDuty t st.layout b duty) → IsWritten old t st new b i
   of_node : (node : Node) → t.nodes b ≡ Some node → IsPlain t b node (i / 4) → IsWritten old t st new b i
   of_name : (node : Node) → t.nodes b ≡ Some node → b ≢ root t → InText new b name_byte i → i ≤ name_byte + 30 → IsWritten old t st new b i
 
--- a part of a field is one in each role that is the same
+-- a byte of a field is a byte of a field in each role of the same kind
 alike_field : {image : List ℕ} {b i : ℕ} (role role' : Role) → Alike role role' → IsField image b role i → IsField image b role' i
 alike_field roles.Root roles.Root alike f = f
 alike_field roles.Page roles.Page alike f = f
@@ -96,14 +97,14 @@ module _ (old new : List ℕ) (t : Tree) (st : Stands old t) (h : SameBut (IsWri
       go (File bytes) d e (disk f m o) = absurd (n f)
       go (File bytes) d e (link f m o) = file_longs e (5, (124, 127), omega arith, refl, (omega (arith, m), omega (arith, o)))
 
-  -- a byte of a node's block that is no such long, and no byte of a name, is not written
+  -- a byte of a node's block outside such longs and its name is not written
   node_unwritten : (b i : ℕ) (a : Node) → t.nodes b ≡ Some a → ((x : Node) → ¬ IsPlain t b x (i / 4)) → (InText new b name_byte i → i ≤ name_byte + 30 → ⊥) → ¬ IsWritten old t st new b i
   node_unwritten b i a at plain name (of_page p l e) = let duty : Duty.Page p ≡ Duty.Key = st.fits.one_duty b (Duty.Page p) Duty.Key (page_serves b p l e) (rw at refl) in cc duty
   node_unwritten b i a at plain name (of_none two used none) = none Duty.Key (rw at refl)
   node_unwritten b i a at plain name (of_node x e p) = plain x p
   node_unwritten b i a at plain name (of_name x e n text short) = name text short
 
-  -- behind the name of a node nothing is written
+  -- nothing after a node's name is written
   pub behind_name : (key : ℕ) (a : Node) → t.nodes key ≡ Some a → (name : List ℕ) → byte_at new key name_byte ≡ length name → KeepsBehindName key name old new
   behind_name key a at name counted i above within = h.same_byte key i (omega (arith, within)) (node_unwritten key i a at plain (λ text short. omega (arith, text.1, counted, above)))
     where
@@ -114,7 +115,7 @@ module _ (old new : List ℕ) (t : Tree) (st : Stands old t) (h : SameBut (IsWri
       plain x (disk e m n) = omega (arith, m, within)
       plain x (link n m o) = omega (arith, m, within)
 
-  -- nor is its type
+  -- its type is not written
   type_stays : (b : ℕ) (a : Node) → t.nodes b ≡ Some a → secondary_type new b ≡ secondary_type old b
   type_stays b a at = same_long (IsWritten old t st new) old new h b 127 (omega arith) (λ k e. node_unwritten b k a at (plain k e) (λ text short. omega (arith, e, short)))
     where
@@ -125,7 +126,7 @@ module _ (old new : List ℕ) (t : Tree) (st : Stands old t) (h : SameBut (IsWri
       plain k f x (disk e m n) = omega (arith, n, f)
       plain k f x (link n m o) = omega (arith, o, f)
 
-  -- a reached block that is a node's is the root, or an entry
+  -- a reached block of a node is the root or an entry
   node_field : (b i k : ℕ) (role : Role) (a : Node) → t.nodes b ≡ Some a → IsPlain t b a (i / 4) → StandsAt old t st role k b → duty_of old t st role k ≡ Duty.Key → IsField new b role i
   node_field b i k roles.Root a e p at d = let here = root_at old t st k b at in by_root here
     where
@@ -164,7 +165,7 @@ module _ (old new : List ℕ) (t : Tree) (st : Stands old t) (h : SameBut (IsWri
   written_field b i k role m at (of_node a e p) = node_field b i k role a e p at (st.fits.one_duty b (duty_of old t st role k) Duty.Key (serves_at old t st role k b at) (rw e refl))
   written_field b i k role m at (of_name a e n text short) = name_field b i k role n text at (st.fits.one_duty b (duty_of old t st role k) Duty.Key (serves_at old t st role k b at) (rw e refl))
 
-  -- what tells of a file's data in its header is not written
+  -- the fields of a file's data in its header are not written
   front_unwritten : (b i : ℕ) → IsFileNode old t st b → i / 4 < 78 → i / 4 ≢ 5 → ¬ IsWritten old t st new b i
   front_unwritten b i f l n (of_page p m e) = let duty = st.fits.one_duty b (Duty.Page p) Duty.Key (page_serves b p m e) (rw f.at refl) in cc duty
   front_unwritten b i f l n (of_none m used none) = none Duty.Key (rw f.at refl)

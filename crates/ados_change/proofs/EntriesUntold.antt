@@ -1,4 +1,5 @@
--- A change of entries keeps what no tree tells of: step by step the map past the volume's end, and in all the files.
+-- A change of entries leaves untouched what no tree determines, step by step: the bitmap past the volume's end, and
+-- the data blocks of files.
 use Rattle.std.proofs.Common.{◌≡◌, ◌≢◌, ℕ, ◌+◌, ◌/◌, ◌<◌, ◌≤◌, ◌⊎◌, inl, inr, Bool, List, length, slice_index, Some, refl, sym, ap, ◌∙◌, subst, arith}
 use Rattle.adf_block.specs.Frame.{InBlock, OnlyBlock, SameBut}
 use Rattle.adf_block.specs.Image.{IsInside, block_count, page_count, byte_at, long, root_key}
@@ -9,14 +10,13 @@ use Rattle.ados_map.proofs.MarkLemmas.{mark_kept}
 use Rattle.ados_data.proofs.Marks.{page_kept}
 use Rattle.ados_name.specs.declared.Date3.{Date3}
 use Rattle.ados_chain.specs.Relinks.{AtLinks, Relinks}
-use Rattle.ados_tree.specs.Tree.{Node, Tree, Proper, root}
-use Rattle.ados_tree.specs.Layout.{Duty, HasDuty, Layout}
-use Rattle.ados_tree.specs.Stands.{Stands}
-use Rattle.ados_tree.specs.Keys.{HasFileKey}
-use Rattle.ados_tree.specs.Untold.{KeepsData, KeepsPastEnd, KeepsUntold, data_at}
-use Rattle.ados_tree.proofs.FilesStay.{data_serves, file_of_key, files_stay}
-use Rattle.ados_tree.proofs.Standing.{count_same, root_is, slice_get-index}
-use Rattle.ados_tree.proofs.Writable.{data_is, extensions_is, page_serves}
+use Rattle.ados_model.specs.Tree.{Node, Tree, Proper, root}
+use Rattle.ados_model.specs.Stands.{Duty, HasDuty, Layout, Stands}
+use Rattle.ados_model.specs.Keys.{HasFileKey}
+use Rattle.ados_change.specs.Untold.{KeepsData, KeepsPastEnd, KeepsUntold, data_at}
+use Rattle.ados_change.proofs.FilesStay.{data_serves, file_of_key, files_stay}
+use Rattle.ados_model.proofs.Standing.{count_same, root_is, slice_get-index}
+use Rattle.ados_change.proofs.Writable.{data_is, extensions_is, page_serves}
 use Rattle.ados_change.specs.steps.Writes.{AtDate, AtLongs, AtTitle, Dated, Titled}
 use Rattle.ados_change.proofs.EntriesKept.{IsWritten}
 use Rattle.ados_change.proofs.EntriesKept.IsWritten.{of_page, of_none, of_node, of_name}
@@ -26,10 +26,10 @@ use Rattle.ados_change.proofs.Relisted.{IsLinkPlace}
 use Rattle.ados_change.proofs.Relisted.IsLinkPlace.{in_table, in_entry}
 use Rattle.ados_change.proofs.Spells.{Spells, layout_is, stands}
 
--- ---- the map
+-- ---- the bitmap
 
 module _ (old : List ℕ) (t : Tree) (st : Stands old t) where
-  -- a byte of no page, and of no long by which the root names one
+  -- a byte outside all bitmap blocks and outside the root's longs for them
   pub record IsOffMap (b i : ℕ) : Type 0 where
     pub no_page : ¬ IsPage old t st b
     pub no_name : b ≡ root t → (i / 4 < 79) ⊎ (105 ≤ i / 4)
@@ -41,7 +41,7 @@ module _ (old : List ℕ) (t : Tree) (st : Stands old t) where
   known_no_page new k (inl n) p = node_no_page k n.0 n.1 p
   known_no_page new k (inr n) p = n.2 (Duty.Page p.0) p.1
 
-  -- ---- the steps that leave it
+  -- ---- the steps that leave them untouched
 
   off_at : (b c i : ℕ) → c ≡ b → ¬ IsPage old t st b → (i / 4 < 79) ⊎ (105 ≤ i / 4) → IsOffMap c i
   off_at b c i e n place = record { no_page = λ p. n (subst (IsPage old t st) e p); no_name = λ _. place }
@@ -77,9 +77,9 @@ module _ (old : List ℕ) (t : Tree) (st : Stands old t) where
   pub titled_off : (new : List ℕ) (key dir : ℕ) (name : List ℕ) → IsKnown old t st new key → key ≢ root t → (m m' : List ℕ) → Titled key dir name m m' → SameBut IsOffMap m m'
   titled_off new key dir name of_key n m m' r = filled_off new key of_key n m m' (same_weaken (AtTitle key (length name)) (InBlock key) m m' (λ c i w. w.0) r.rest)
 
-  -- ---- what is past its end
+  -- ---- the bits past the volume's end
 
-  -- an image of this size in which the root names these pages
+  -- an image of this size with these bitmap blocks in its root
   pub record HasPages (m : List ℕ) : Type 0 where
     pub count : block_count m ≡ t.blocks
     pub serves : (p : ℕ) → p < pages_of m → IsPage old t st (page_block m p)

@@ -1,36 +1,35 @@
--- A change of fields in the blocks of keys keeps all that is no field, and leaves the map as it is.
+-- A change of fields in blocks of keys leaves all bytes outside fields and the bitmap untouched.
 use Rattle.std.proofs.Common.{◌≡◌, ◌≢◌, ℕ, ◌+◌, ◌-◌, ◌*◌, ◌/◌, ◌%◌, ◌^◌, ◌<◌, ◌≤◌, ◌⊎◌, inl, inr, ◌==◌, not, bit_and, List, length, take, drop, slice_index, Some, IsSome, refl, sym, ap, ◌∙◌, arith, length-take, length-drop}
 use Rattle.std.proofs.lemmas.Bool.{cases_eq}
 use Rattle.std.proofs.lemmas.List.{ext_get_or, get_or-take, get_or-drop}
-use Rattle.adf_block.specs.Image.{block_count, root_key, page_count, byte_at, bytes_at, long, has_free_bit}
-use Rattle.adf_block.specs.Fields.{HasText, secondary_type, name_byte, comment_byte}
+use Rattle.adf_block.specs.Image.{block_count, root_key, page_count, byte_at, bytes_at, long, has_free_bit, HasText, secondary_type, format_of}
+use Rattle.adf_block.specs.Layout.{name_byte, comment_byte}
 use Rattle.adf_block.specs.Frame.{SameBut}
 use Rattle.adf_block.proofs.Frames.{same_long, same_count}
 use Rattle.ados_map.specs.Pages.{page_block, pages_of}
 use Rattle.ados_name.specs.Name.{IsName, IsComment}
-use Rattle.ados_data.specs.File.{format_of}
-use Rattle.ados_tree.specs.Tree.{Content, Node, Tree, root}
-use Rattle.ados_tree.specs.Tree.Content.{Directory, File}
-use Rattle.ados_tree.specs.Layout.{Duty}
-use Rattle.ados_tree.specs.Stands.{Stands, type_of}
-use Rattle.ados_tree.specs.declared.role.Role.{Role}
-use Rattle.ados_tree.specs.declared.role.Role.TheVariants as roles
-use Rattle.ados_tree.specs.Kept.{Kept, IsField, Alike}
-use Rattle.ados_tree.specs.Kept.IsField.{root_longs, root_name, directory_longs, file_longs, entry_comment}
-use Rattle.ados_tree.specs.NewBlocks.{KeepsRest, TakesNone}
-use Rattle.ados_tree.specs.Keys.{HasFileKey}
-use Rattle.ados_tree.specs.Untold.{KeepsData, KeepsUntold, data_at}
-use Rattle.ados_tree.proofs.FilesStay.{data_blocks_stay, data_serves, extension_blocks_stay, file_of_key, files_stay}
-use Rattle.ados_tree.proofs.Keeping.{header_stays, none_taken}
-use Rattle.ados_tree.proofs.Standing.{StandsAt, count_same, reached_stands, same_place, serves_at, duty_of, root_at, slice_get-index}
+use Rattle.ados_model.specs.Tree.{Content, Node, Tree, root}
+use Rattle.ados_model.specs.Tree.Content.{Directory, File}
+use Rattle.ados_model.specs.Stands.{Duty, Stands, type_of}
+use Rattle.ados_model.specs.declared.role.Role.{Role}
+use Rattle.ados_model.specs.declared.role.Role.TheVariants as roles
+use Rattle.ados_model.specs.Kept.{Kept, IsField, Alike}
+use Rattle.ados_model.specs.Kept.IsField.{root_longs, root_name, directory_longs, file_longs, entry_comment}
+use Rattle.ados_change.specs.NewBlocks.{KeepsRest, TakesNone}
+use Rattle.ados_model.specs.Keys.{HasFileKey}
+use Rattle.ados_change.specs.Untold.{KeepsData, KeepsUntold, data_at}
+use Rattle.ados_change.proofs.FilesStay.{data_blocks_stay, data_serves, extension_blocks_stay, file_of_key, files_stay}
+use Rattle.ados_change.proofs.Keeping.{header_stays, none_taken}
+use Rattle.ados_model.proofs.Standing.{StandsAt, count_same, reached_stands, same_place, serves_at, duty_of, root_at, slice_get-index}
 use Rattle.ados_change.proofs.Retold.{Telling}
 
--- byte i of a key's block is part of a field in its role
+-- byte i of a key's block is in a field of its role
 pub data IsKeyField (image : List ℕ) (t : Tree) (b i : ℕ) : Type 0 where
   root_field : b ≡ root t → IsField image b roles.Root i → IsKeyField image t b i
   entry_field : b ≢ root t → IsSome (t.nodes b) → ((dir s : ℕ) → IsField image b (roles.Entry dir s) i) → IsKeyField image t b i
 
--- byte i of a block is of its sum, or behind the pointers of a file, and then neither of its size nor of its extension; in the root it is behind the pages, too
+-- byte i is in the checksum, or after a file's pointers but not in its size or extension; in the root it is also after
+-- the pointers to bitmap blocks
 abbrev pub IsTold : Tree → ℕ → ℕ → Type 0
 IsTold t b i = (i / 4 ≡ 5) ⊎ ((320 ≤ i) × (i < 504) × (i / 4 ≢ 81) × (b ≡ root t → 420 ≤ i))
 
@@ -83,11 +82,11 @@ module _ (old new : List ℕ) (t : Tree) (s : Stands old t) where
         ∙ boot_byte (512 * 0 + 0 + k) (omega (arith, below))
         ∙ sym (get_or-take 1024 (drop (512 * 0 + 0) old) k 0 below ∙ get_or-drop (512 * 0 + 0) old k 0))
 
-    -- what tells of a file's data stays
+    -- the fields of a file's data are unchanged
     front_stays : (b j : ℕ) → j < 78 → j ≢ 5 → long new b j ≡ long old b j
     front_stays b j l n = same_long changed old new h b j (omega (arith, l)) (λ k e w. elim (told b k w) [ inl f ↦ n (sym e ∙ f) | inr f ↦ omega (arith, e, l, f.0) ])
 
-    -- all else is kept
+    -- everything else is unchanged
     pub kept_fields : Kept old new
     kept_fields = record {
       size = h.same_length;
@@ -96,7 +95,7 @@ module _ (old new : List ℕ) (t : Tree) (s : Stands old t) where
       first = λ b f g. header_stays old new b (front_stays b 2 (omega arith) (omega arith)) (λ i l. front_stays b (77 - i) (omega arith) (omega (arith, l))) (front_stays b 4 (omega arith) (omega arith));
     }
 
-    -- ---- the map
+    -- ---- the bitmap
 
     count : block_count new ≡ block_count old
     count = same_count changed old new h
@@ -112,7 +111,7 @@ module _ (old new : List ℕ) (t : Tree) (s : Stands old t) where
         let duty = s.fits.one_duty (slice_index s.layout.pages p) (Duty.Page p) Duty.Key (slice_get-index s.layout.pages p l) (is_key (slice_index s.layout.pages p) k (fields (slice_index s.layout.pages p) k m w)) in
         cc duty
 
-    -- each bit is as it was, those past the end too
+    -- each bit is unchanged, past the volume's end too
     pub marks_stay : (b : ℕ) → (b - 2) / 4064 < page_count (block_count old) → has_free_bit new b ≡ has_free_bit old b
     unfolding has_free_bit
     marks_stay b l =
@@ -127,11 +126,11 @@ module _ (old new : List ℕ) (t : Tree) (s : Stands old t) where
         let value = ap (λ (x : ℕ). long new x (1 + (b - 2) % 4064 / 32)) at_new ∙ here ∙ ap (λ (x : ℕ). long old x (1 + (b - 2) % 4064 / 32)) (sym at_old) in
         ap (λ (x : ℕ). not (bit_and x (2 ^ ((b - 2) % 32)) == 0)) value
 
-    -- no block is taken, and none that is free was written
+    -- no block is allocated, and no free block is written
     takes_none : TakesNone old new
     takes_none b inside free = marks_stay b (omega (arith, inside.0, inside.1)) ∙ free
 
-    -- ---- what no tree tells of
+    -- ---- what no tree determines
 
     page_names_stay : (p : ℕ) → p < pages_of old → page_block new p ≡ page_block old p
     page_names_stay p l =
@@ -149,7 +148,7 @@ module _ (old new : List ℕ) (t : Tree) (s : Stands old t) where
         let kind : byte_at new 0 3 ≡ byte_at old 0 3 = h.same_byte 0 3 (omega arith) (λ w. let inside = s.fits.inside 0 Duty.Key (is_key 0 3 (fields 0 3 (omega arith) w)) in omega (arith, inside.0)) in
         rw kind refl
 
-    -- no data block is that of a key
+    -- no data block is the block of a key
     data_stays : (file : ℕ) → HasFileKey old file → KeepsData old new file
     data_stays file key =
         let pointers : (b i : ℕ) → i < 72 → long new b (77 - i) ≡ long old b (77 - i) = λ b i l. front_stays b (77 - i) (omega arith) (omega (arith, l)) in
@@ -176,9 +175,9 @@ module _ (old new : List ℕ) (t : Tree) (s : Stands old t) where
       untold = untold_stays;
     }
 
-  -- ---- what tells of a node is part of a field
+  -- ---- the bytes for a node are in fields
 
-  -- what tells of a node stands beside what tells of a file's data
+  -- the bytes for a node are none of the fields of a file's data
   pub telling_told : (key : ℕ) (after : Node) → IsName after.name → IsComment after.comment → (i : ℕ) → Telling t key after i → IsTold t key i
   telling_told key after name short i (Telling.sum e) = inl e
   telling_told key after name short i (Telling.date l m) = inr (omega (arith, l), omega (arith, m), λ z. omega (arith, l, z), λ _. l)
@@ -187,13 +186,13 @@ module _ (old new : List ℕ) (t : Tree) (s : Stands old t) where
   telling_told key after name short i (Telling.bits n l m) = inr (l, omega (arith, m), λ z. omega (arith, m, z), λ e. absurd (n e))
   telling_told key after name short i (Telling.comment n l m) = inr (omega (arith, l), omega (arith, m, short.short), λ z. omega (arith, l, z), λ e. absurd (n e))
 
-  -- the sum or the disk date of the root
+  -- the checksum or the disk date of the root
   pub disk_date_field : (b : ℕ) → b ≡ root t → (i : ℕ) → (i / 4 ≡ 5) ⊎ ((472 ≤ i) × (i < 484)) → IsKeyField new t b i
   disk_date_field b e i (inl f) = root_field e (root_longs (2, (5, 78), omega arith, refl, (omega (arith, f), omega (arith, f))))
   disk_date_field b e i (inr f) = root_field e (root_longs (5, (118, 123), omega arith, refl, (omega (arith, f.0), omega (arith, f.1))))
 
   module _ (key : ℕ) (node after : Node) (at : t.nodes key ≡ Some node) (typed : key ≢ root t → secondary_type new key ≡ type_of after.content) where
-    -- the sum, the protection and the date of an entry
+    -- the checksum, the protection and the date of an entry
     entry_longs : key ≢ root t → (i : ℕ) → (i / 4 ≡ 5) ⊎ ((i / 4 ≡ 80) ⊎ ((420 ≤ i) × (i < 432))) → (dir q : ℕ) → IsField new key (roles.Entry dir q) i
     entry_longs n i place dir q = by_content after.content (typed n) place
       where
@@ -208,7 +207,7 @@ module _ (old new : List ℕ) (t : Tree) (s : Stands old t) where
     key_serves : IsSome (t.nodes key)
     key_serves = rw at refl
 
-    -- the sum or the date, of the root or of an entry
+    -- the checksum or the date of the root or of an entry
     summed_or_dated : (i : ℕ) → (i / 4 ≡ 5) ⊎ ((420 ≤ i) × (i < 432)) → IsKeyField new t key i
     summed_or_dated i place = elim (cases_eq key (root t)) [
       | inl e ↦ root_field e (elim place [

@@ -1,25 +1,23 @@
--- What stands in the block of an entry once its fields are written.
+-- The block of an entry after its fields were written.
 use Rattle.std.proofs.Common.{◌≡◌, ℕ, ◌+◌, ◌/◌, ◌<◌, ◌≤◌, ◌⊎◌, inl, inr, List, length, refl, ◌∙◌, arith}
-use Rattle.adf_block.specs.Image.{byte_at, block_sum, long}
-use Rattle.adf_block.specs.Fields.{HasText}
+use Rattle.adf_block.specs.Image.{byte_at, block_sum, long, HasText}
 use Rattle.adf_block.specs.Frame.{AtLong, OnlyLong, SameBut, Within}
 use Rattle.adf_block.proofs.Frames.{other_long, same_bytes_at, same_long, same_trans, same_weaken}
 use Rattle.ados_name.specs.declared.Date3.{Date3}
 use Rattle.ados_name.specs.Name.{IsName}
-use Rattle.ados_tree.specs.Dates.{date_at}
-use Rattle.ados_tree.specs.Stands.{type_of}
-use Rattle.ados_tree.specs.Tree.{Content}
+use Rattle.ados_model.specs.Stands.{date_at, type_of}
+use Rattle.ados_model.specs.Tree.{Content}
 use Rattle.ados_change.specs.steps.Making.{IsHead, IsNewEntry}
 use Rattle.ados_change.specs.steps.Writes.{AtTitle, Titled}
 
--- a text stays where none of its bytes changes
+-- a text is unchanged if none of its bytes changes
 text_kept : (At : ℕ → ℕ → Type 0) (old new : List ℕ) → SameBut At old new → (b i : ℕ) (text : List ℕ) → i + length text < 512 → ((k : ℕ) → i ≤ k → k < i + 1 + length text → ¬ At b k) → HasText old b i text → HasText new b i text
 text_kept At old new h b i text room n g = record {
   counted = h.same_byte b i (omega arith) (n i (omega arith) (omega arith)) ∙ g.counted;
   follows = same_bytes_at At old new h b (i + 1) (length text) (omega arith) (λ k l m. n k (omega arith) (omega arith)) ∙ g.follows;
 }
 
--- a date stays where none of its longs changes
+-- a date is unchanged if none of its longs changes
 date_kept : (At : ℕ → ℕ → Type 0) (old new : List ℕ) → SameBut At old new → (b i : ℕ) → i + 2 < 128 → ((k : ℕ) → i ≤ k / 4 → k / 4 < i + 3 → ¬ At b k) → date_at new b i ≡ date_at old b i
 date_kept At old new h b i room n = λ k. record { days = one i (omega arith) (omega arith) k; minutes = one (i + 1) (omega arith) (omega arith) k; ticks = one (i + 2) (omega arith) (omega arith) k }
   where

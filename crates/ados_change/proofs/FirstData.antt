@@ -1,16 +1,15 @@
--- What a header says of its first data block, where its file is rewritten.
+-- The first data block in the header of a rewritten file.
 use Rattle.std.proofs.Common.{◌≡◌, ℕ, ◌*◌, ◌<◌, ◌⊎◌, inl, inr, List, length, take, drop, slice_index, Some, refl, sym, ap, ◌∙◌, arith}
 use Rattle.std.proofs.lemmas.Bool.{cases_eq}
 use Rattle.std.proofs.lemmas.List.{get_or-take, get_or_past}
 use Rattle.ados_data.specs.Unnamed.{KeepsUnnamed}
-use Rattle.ados_tree.specs.Tree.{Node, Tree}
-use Rattle.ados_tree.specs.Tree.Content.{File}
-use Rattle.ados_tree.specs.Layout.{Layout, Duty}
-use Rattle.ados_tree.specs.Stands.{Stands}
-use Rattle.ados_tree.specs.Faults.{pointers_of}
-use Rattle.ados_tree.specs.Kept.{KeepsFirstData}
-use Rattle.ados_tree.proofs.Standing.{IsFileNode, slice_get-index}
-use Rattle.ados_tree.proofs.FileBlocks.{pointers_are}
+use Rattle.ados_model.specs.Tree.{Node, Tree}
+use Rattle.ados_model.specs.Tree.Content.{File}
+use Rattle.ados_model.specs.Stands.{Layout, Duty, Stands}
+use Rattle.ados_model.specs.Faults.{pointers_of}
+use Rattle.ados_model.specs.Kept.{KeepsFirstData}
+use Rattle.ados_model.proofs.Standing.{IsFileNode, slice_get-index}
+use Rattle.ados_model.proofs.FileBlocks.{pointers_are}
 use Rattle.ados_change.proofs.Contents.{refilled, holding, here}
 use Rattle.ados_change.proofs.Relaid.{IsRewritten, data_here}
 use Rattle.ados_change.proofs.Refilled.{stands_after, layout_after}
@@ -36,7 +35,7 @@ module _ (old new : List ℕ) (t : Tree) (s : Stands old t) (file : ℕ) (node :
       ∙ ap (λ (l : Layout). slice_index (l.file_data file) 0) (layout_after old new t s file node bytes found is_file blocks' extensions' bytes' h)
       ∙ ap (λ (xs : List ℕ). slice_index xs 0) (data_here s.layout file blocks' extensions')
 
-  -- the long stays where the first data block does; where one comes or goes, it is written
+  -- the long is unchanged if the first data block is; a new first block, or none, is written
   pub keeps_first : KeepsFirstData old new file
   keeps_first = elim (cases_eq (length (s.layout.file_data file)) 0) [
     | inl none ↦

@@ -1,27 +1,26 @@
--- A new entry takes the lowest free block, in which each byte of no field is 0.
+-- A new entry gets the lowest free block, and its bytes outside fields are 0.
 use Rattle.std.proofs.Common.{◌≡◌, ◌≢◌, ℕ, ◌+◌, ◌*◌, ◌/◌, ◌<◌, ◌≤◌, ◌⊎◌, inl, inr, nat_le, cond, List, [], length, slice_index, Option, Some, None, is_some, option_map, refl, sym, ap, ◌∙◌, subst, arith}
 use Rattle.std.proofs.lemmas.Bool.{cases_eq, cases_lt, cases_order, false≢true}
-use Rattle.adf_block.specs.Fields.{next_in_chain, name_byte, secondary_type, file_type}
+use Rattle.adf_block.specs.Layout.{next_in_chain, name_byte, file_type}
+use Rattle.adf_block.specs.Image.{secondary_type, IsInside, HasFreeBit, byte_at, long}
 use Rattle.adf_block.specs.Frame.{SameBut}
-use Rattle.adf_block.specs.Image.{IsInside, HasFreeBit, byte_at, long}
 use Rattle.adf_block.proofs.Frames.{same_long, same_weaken}
 use Rattle.ados_chain.specs.Relinks.{AtLinks, Relinks}
 use Rattle.ados_map.specs.Pages.{IsLowestFree}
 use Rattle.ados_name.specs.Name.{slot}
 use Rattle.ados_name.specs.declared.Date3.{Date3}
-use Rattle.ados_tree.specs.Change.{enter, made, new_node, with_node}
-use Rattle.ados_tree.specs.Faults.{InImage, Reached, first_pointers}
-use Rattle.ados_tree.specs.Kept.{IsField, NamesFirstData}
-use Rattle.ados_tree.specs.Kept.IsField.{directory_longs, file_longs, entry_name}
-use Rattle.ados_tree.specs.Layout.{Duty, Named, HasDuty}
-use Rattle.ados_tree.specs.NewBlocks.{IsTaken, TakesLowest}
-use Rattle.ados_tree.specs.Stands.{Stands, type_of}
-use Rattle.ados_tree.specs.Tree.{Content, Node, Tree, entries, name_of, root}
-use Rattle.ados_tree.specs.Tree.Content.{Directory, File}
-use Rattle.ados_tree.specs.declared.role.Role.{Role}
-use Rattle.ados_tree.specs.declared.role.Role.TheVariants as roles
-use Rattle.ados_tree.proofs.Serving.{data_duty, extension_duty}
-use Rattle.ados_tree.proofs.Standing.{StandsAt, count_same, duty_of, reached_stands, root_at, serves_at}
+use Rattle.ados_model.specs.Change.{enter, made, new_node, with_node}
+use Rattle.ados_model.specs.Faults.{InImage, Reached, first_pointers}
+use Rattle.ados_model.specs.Kept.{IsField, NamesFirstData}
+use Rattle.ados_model.specs.Kept.IsField.{directory_longs, file_longs, entry_name}
+use Rattle.ados_model.specs.Stands.{Duty, Named, HasDuty, Stands, type_of}
+use Rattle.ados_change.specs.NewBlocks.{IsTaken, TakesLowest}
+use Rattle.ados_model.specs.Tree.{Content, Node, Tree, entries, name_of, root}
+use Rattle.ados_model.specs.Tree.Content.{Directory, File}
+use Rattle.ados_model.specs.declared.role.Role.{Role}
+use Rattle.ados_model.specs.declared.role.Role.TheVariants as roles
+use Rattle.ados_change.proofs.Serving.{data_duty, extension_duty}
+use Rattle.ados_model.proofs.Standing.{StandsAt, count_same, duty_of, reached_stands, root_at, serves_at}
 use Rattle.ados_change.specs.steps.Making.{IsNewEntry, IsNewField}
 use Rattle.ados_change.specs.steps.Writes.{AtDate, AtLongs, Dated}
 use Rattle.ados_change.proofs.Changed.{changed_keeps, nodes_here, nodes_other, relisted}
@@ -30,9 +29,9 @@ use Rattle.ados_change.proofs.Relisted.{IsLinkPlace}
 use Rattle.ados_change.proofs.Relisted.IsLinkPlace.{in_table, in_entry}
 use Rattle.ados_change.proofs.Spells.{Spells}
 
--- ---- what stands in the block
+-- ---- the bytes of the block
 
--- the bytes of all other blocks, and of a key its sum and link
+-- the bytes of all other blocks, and the checksum and next-in-chain long of a key
 abbrev pub AtLink : ℕ → ℕ → ℕ → Type 0
 AtLink key b i = (b ≢ key) ⊎ ((i / 4 ≡ 5) ⊎ (i / 4 ≡ next_in_chain))
 
@@ -71,7 +70,7 @@ module _ (filled new : List ℕ) (key dir : ℕ) (name : List ℕ) (content : Co
       other (inl n) = n refl
       other (inr w) = omega (arith, w)
 
-  -- the bytes that a new entry fills are fields, and so are its sum and link
+  -- the bytes that a new entry fills are in fields, as are its checksum and next-in-chain long
   new_field : (d s i : ℕ) → IsNewField (length name) i ⊎ ((i / 4 ≡ 5) ⊎ (i / 4 ≡ next_in_chain)) → IsField new key (roles.Entry d s) i
   new_field d s i f = go content type_is
     where
@@ -113,7 +112,7 @@ module _ (filled new : List ℕ) (key dir : ℕ) (name : List ℕ) (content : Co
       other (inl m) = m refl
       other (inr w) = n (new_field d s i (inr w))
 
-  -- it names its first data block: there is none
+  -- it has no first data block
   zero_at : (j : ℕ) → (j ≡ 2) ⊎ (j ≡ 4) → long new key j ≡ 0
   zero_at j o = zero_long new key j (λ k p q. h.same_byte key k (omega (arith, o, q)) (other k p q) ∙ entry.zeros k (omega (arith, o, q)) (no_field k p q))
     where

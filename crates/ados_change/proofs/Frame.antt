@@ -1,4 +1,4 @@
--- What stays where an image changes in some longs alone.
+-- What is unchanged when only some longs of an image change.
 use Rattle.std.proofs.Common.{◌≡◌, ℕ, ◌+◌, ◌/◌, ◌<◌, ◌≤◌, List, subst, arith}
 use Rattle.adf_block.specs.Image.{bytes_at, long, block_sum}
 use Rattle.adf_block.specs.Frame.{SameBut}

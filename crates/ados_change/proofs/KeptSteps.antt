@@ -1,6 +1,6 @@
--- Each step of a change of entries writes fields alone.
+-- Each step of a change of entries writes only fields.
 use Rattle.std.proofs.Common.{◌≡◌, ◌≢◌, ℕ, ◌/◌, ◌<◌, ◌≤◌, ◌⊎◌, inl, inr, Bool, List, length, slice_index, Some, sym, ap, ◌∙◌, subst, arith}
-use Rattle.adf_block.specs.Fields.{next_in_chain, name_byte}
+use Rattle.adf_block.specs.Layout.{next_in_chain, name_byte}
 use Rattle.adf_block.specs.Frame.{InBlock, OnlyBlock, SameBut}
 use Rattle.adf_block.specs.Image.{HasFreeBit, byte_at}
 use Rattle.adf_block.proofs.Frames.{same_weaken}
@@ -8,10 +8,9 @@ use Rattle.ados_map.specs.Changes.{MapPlace, BitChanged}
 use Rattle.ados_map.specs.Pages.{page_block, page_of}
 use Rattle.ados_name.specs.declared.Date3.{Date3}
 use Rattle.ados_chain.specs.Relinks.{AtLinks, Relinks}
-use Rattle.ados_tree.specs.Layout.{Duty, HasDuty}
-use Rattle.ados_tree.specs.Stands.{Stands}
-use Rattle.ados_tree.specs.Tree.{Node, Tree, root}
-use Rattle.ados_tree.specs.Tree.Content.{Directory}
+use Rattle.ados_model.specs.Stands.{Duty, HasDuty, Stands}
+use Rattle.ados_model.specs.Tree.{Node, Tree, root}
+use Rattle.ados_model.specs.Tree.Content.{Directory}
 use Rattle.ados_change.specs.steps.Writes.{AtDate, AtLongs, AtTitle, Dated, Titled}
 use Rattle.ados_change.proofs.EntriesKept.{IsWritten}
 use Rattle.ados_change.proofs.EntriesKept.IsWritten.{of_page, of_none, of_node, of_name}
@@ -23,17 +22,17 @@ module _ (old : List ℕ) (t : Tree) (st : Stands old t) (new : List ℕ) where
   abbrev pub At : ℕ → ℕ → Type 0
   At = IsWritten old t st new
 
-  -- a block of a node that is no root, or one of none that is in use afterwards
+  -- the block of a node other than the root, or a block newly in use
   abbrev pub IsKnown : ℕ → Type 0
   IsKnown b = ((node : Node) × (t.nodes b ≡ Some node) × (b ≢ root t)) ⊎ ((2 ≤ b) × (¬ HasFreeBit new b) × ((duty : Duty) → ¬ HasDuty t st.layout b duty))
 
-  -- the link or the sum of a known block
+  -- the next-in-chain long or the checksum of such a block
   known_link : (b i : ℕ) → IsKnown b → (i / 4 ≡ next_in_chain) ⊎ (i / 4 ≡ 5) → At b i
   known_link b i (inl n) (inl e) = of_node n.0 n.1 (link n.2 (omega (arith, e)) (omega (arith, e)))
   known_link b i (inl n) (inr e) = of_node n.0 n.1 (sum e)
   known_link b i (inr n) e = of_none n.0 n.1 n.2
 
-  -- a link of a directory's chains, or the sum of its block, where the places are those of a tree whose nodes are known
+  -- a link of a directory's hash chains, or the checksum of its block, in a tree with known nodes
   place_written : (u : Tree) (dir b i0 : ℕ) (d : Node) (keys : List ℕ) → t.nodes dir ≡ Some d → d.content ≡ Directory keys → ((k : ℕ) (x : Node) → u.nodes k ≡ Some x → k ≢ root u → IsKnown k) → IsLinkPlace u dir b i0 → (i : ℕ) → (i / 4 ≡ i0) ⊎ (i / 4 ≡ 5) → At b i
   place_written u dir b i0 d keys at holds known (in_table e m n) i (inl f) = of_node d (ap t.nodes e ∙ at) (table keys holds (omega (arith, f, m)) (omega (arith, f, n)))
   place_written u dir b i0 d keys at holds known (in_table e m n) i (inr f) = of_node d (ap t.nodes e ∙ at) (sum f)

@@ -1,18 +1,18 @@
--- In an image that spells a tree, pages and chains are lawful, also while a key is loose.
+-- An image of a tree has lawful bitmap blocks and hash chains, even while one key is in no list.
 use Rattle.std.proofs.Common.{◌≡◌, ◌≢◌, ℕ, ◌+◌, ◌<◌, ◌==◌, List, length, slice_index, true, Contains, Some, None, refl, sym, ap, ◌∙◌, subst, arith, eqb-true}
 use Rattle.std.proofs.lemmas.List.Elements.{All-contains, filter_passes}
 use Rattle.std.proofs.lemmas.List.Kept.{AllPairs-filter}
-use Rattle.adf_block.specs.Image.{IsInside, block_count, bytes_at, long, root_key}
-use Rattle.adf_block.specs.Fields.{name_byte, text_at, HasText}
+use Rattle.adf_block.specs.Image.{IsInside, block_count, bytes_at, long, root_key, HasText}
+use Rattle.adf_block.specs.Layout.{name_byte}
+use Rattle.adf_block.specs.Whole.{text_at}
 use Rattle.ados_name.specs.Name.{slot, IsName}
 use Rattle.ados_map.specs.Pages.{LawfulPages, page_block, pages_of}
 use Rattle.ados_chain.specs.Chains.{LawfulChains, IsEntryBlock, InChains, name_at, slot_at}
-use Rattle.ados_tree.specs.Tree.{Node, Tree, entries, name_of, parent_of, root}
-use Rattle.ados_tree.specs.Tree.Content.{Directory}
-use Rattle.ados_tree.specs.Layout.{Duty, Layout, HasDuty}
-use Rattle.ados_tree.specs.Stands.{in_slot}
-use Rattle.ados_tree.proofs.Nodes.{parent_in}
-use Rattle.ados_tree.proofs.Standing.{slice_get-index}
+use Rattle.ados_model.specs.Tree.{Node, Tree, entries, name_of, parent_of, root}
+use Rattle.ados_model.specs.Tree.Content.{Directory}
+use Rattle.ados_model.specs.Stands.{Duty, Layout, HasDuty, in_slot}
+use Rattle.ados_model.proofs.Nodes.{parent_in}
+use Rattle.ados_model.proofs.Standing.{slice_get-index}
 use Rattle.ados_change.proofs.Entering.{Contains-part}
 use Rattle.ados_change.proofs.Loose.{Loose, LeadsLoosely}
 use Rattle.ados_change.proofs.Loose.LeadsLoosely.{to_root, to_loose, to_parent}
@@ -82,7 +82,7 @@ module _ (image : List ℕ) (t : Tree) (l : Layout) (key : ℕ) (s : Spells imag
       let same : d ≡ k = cc (q, p) in
       not_own_parent d rest (λ e. n (sym same ∙ e)) (subst (λ (i : ℕ). parent_of t i ≡ Some i) (sym same) p)
 
-  -- the block of a node may be an entry's
+  -- the block of a node may be an entry's block
   pub node_block : (dir k : ℕ) (node : Node) → t.nodes k ≡ Some node → k ≢ root t → k ≢ dir → IsEntryBlock image dir k
   node_block dir k node e n m = record { inside = inside k Duty.Key (key_serves k node e); not_root = λ r. n (r ∙ root_is); not_dir = m; name = name_valid k node e }
 
@@ -114,7 +114,7 @@ module _ (image : List ℕ) (t : Tree) (l : Layout) (key : ℕ) (s : Spells imag
   pub absent : (dir : ℕ) → ¬ InChains (in_slot t dir) key
   absent dir c = ((loose.listed dir key).0 (in_part dir c.0 key c.2)).0 refl
 
-  -- an entry is in the chains of one directory
+  -- an entry is in the hash chains of one directory only
   pub one_directory : (d dir k : ℕ) → InChains (in_slot t d) k → InChains (in_slot t dir) k → d ≡ dir
   one_directory d dir k c e =
       let p = (loose.listed d k).0 (in_part d c.0 k c.2) in

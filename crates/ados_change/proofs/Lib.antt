@@ -1,4 +1,5 @@
--- Why an image in which one node is told of anew, a file was rewritten, or chains changed stands for the changed tree: fields first, then the bytes of files, then lists, each change by its steps.
+-- An image with changed fields, a rewritten file or changed hash chains represents the changed tree. First the fields,
+-- then the bytes of files, then lists of entries, each change by its steps.
 pub mod Texts
 pub mod Retells
 pub mod Retold
@@ -48,3 +49,7 @@ pub mod Reaching
 pub mod EntriesUntold
 pub mod Emptying
 pub mod Emptier
+pub mod Writable
+pub mod Serving
+pub mod FilesStay
+pub mod Keeping

@@ -1,25 +1,23 @@
--- An entry that is put into a directory's chain or taken out of it: what the image spells then.
+-- An entry inserted into a directory's hash chain or removed from it, and the tree of the image then.
 use Rattle.std.proofs.Common.{◌≡◌, ◌≢◌, ℕ, ◌+◌, ◌<◌, ◌≤◌, ◌⊎◌, inl, inr, List, ◌∷◌, filter, ◌==◌, Contains, Some, is_some, IsSome, refl, sym, ap, ◌∙◌, subst, arith, eq-eqb}
 use Rattle.std.proofs.lemmas.Bool.{cases_eq}
 use Rattle.std.proofs.lemmas.List.Elements.{Contains-append_left}
-use Rattle.adf_block.specs.Image.{block_sum, long}
-use Rattle.adf_block.specs.Chained.{Chained}
-use Rattle.adf_block.specs.Fields.{table_entry, next_in_chain}
+use Rattle.adf_block.specs.Image.{block_sum, long, Chained, table_entry}
+use Rattle.adf_block.specs.Layout.{next_in_chain}
 use Rattle.ados_name.specs.declared.Date3.{Date3}
 use Rattle.ados_name.specs.Name.{slot}
 use Rattle.ados_chain.specs.Chains.{slot_at, with_last}
 use Rattle.ados_chain.specs.Relinks.{CanInsert, CanUnlink, InsertsLast, Unlinks, link_block, link_long}
 use Rattle.ados_chain.proofs.Changes.{slot_at-small}
 use Rattle.ados_chain.proofs.Kept.{inserted-others_kept, unlinked-others_kept}
-use Rattle.ados_chain.proofs.Lists.{is_not}
-use Rattle.ados_tree.specs.Tree.{Node, Tree, root, entries, name_of, parent_of}
-use Rattle.ados_tree.specs.Tree.Content.{Directory}
-use Rattle.ados_tree.specs.Change.{listed, entered, enter, stamped}
-use Rattle.ados_tree.specs.Layout.{Layout}
-use Rattle.ados_tree.specs.Stands.{in_slot}
+use Rattle.ados_model.proofs.KeyLists.{is_not}
+use Rattle.ados_model.specs.Tree.{Node, Tree, root, entries, name_of, parent_of}
+use Rattle.ados_model.specs.Tree.Content.{Directory}
+use Rattle.ados_model.specs.Change.{listed, entered, enter, stamped}
+use Rattle.ados_model.specs.Stands.{Layout, in_slot}
 use Rattle.ados_change.specs.steps.Writes.{AtDate, Dated}
 use Rattle.ados_change.proofs.Frame.{sum-kept, long-kept}
-use Rattle.ados_tree.proofs.Nodes.{parent_in}
+use Rattle.ados_model.proofs.Nodes.{parent_in}
 use Rattle.ados_change.proofs.Entering.{Contains-passes}
 use Rattle.ados_change.proofs.Loose.{Loose}
 use Rattle.ados_change.proofs.Spells.{Spells}
@@ -31,7 +29,7 @@ use Rattle.ados_change.proofs.Reframed.{TellsOnly, Chained-stays, node_stays, en
 use Rattle.ados_change.proofs.Reframed.Telling.{sum, heading}
 
 module _ (image : List ℕ) (t : Tree) (l : Layout) (loose_key : ℕ) (s : Spells image t l) (loose : Loose t loose_key) (dir : ℕ) (a : Node) (keys : List ℕ) (at : t.nodes dir ≡ Some a) (holds : a.content ≡ Directory keys) where
-  -- the link behind entries of a chain of the directory
+  -- the link after entries of a hash chain of the directory
   pub place_behind : (q : ℕ) → q < 72 → (front : List ℕ) → ((k : ℕ) → Contains front k → Contains (in_slot t dir q) k) → IsLinkPlace t dir (link_block dir front) (link_long (6 + q) front)
   place_behind q m front within =
       link_place t dir dir (6 + q) front (in_table refl (omega arith) (omega arith))
@@ -40,7 +38,7 @@ module _ (image : List ℕ) (t : Tree) (l : Layout) (loose_key : ℕ) (s : Spell
       let b = parent_in (t.nodes k) dir p.1 in
       (b.0, b.1, not_root image t l loose_key s loose k dir p.1))
 
-  -- an entry of the directory can be taken out
+  -- an entry of the directory can be removed from its chain
   pub can_unlink : (key : ℕ) → Contains (entries t dir) key → CanUnlink image dir key
   can_unlink key m = record {
     chains = in_slot t dir;
@@ -51,7 +49,7 @@ module _ (image : List ℕ) (t : Tree) (l : Layout) (loose_key : ℕ) (s : Spell
       in_own_slot : (xs : List ℕ) (k : ℕ) → Contains xs k → Contains (filter (λ j. slot (name_of t j) == slot (name_of t k)) xs) k
       in_own_slot xs k n = Contains-passes (λ j. slot (name_of t j) == slot (name_of t k)) xs k n (eq-eqb (slot (name_of t k)) (slot (name_of t k)) refl)
 
--- ---- the loose key is put in
+-- ---- the loose key is inserted
 
 module _ (old mid new : List ℕ) (t : Tree) (l : Layout) (key : ℕ) (s : Spells old t l) (loose : Loose t key) (dir : ℕ) (a : Node) (keys : List ℕ) (at : t.nodes dir ≡ Some a) (holds : a.content ≡ Directory keys)
     (node : Node) (at_key : t.nodes key ≡ Some node) (not_dir : key ≢ dir) where
@@ -85,7 +83,7 @@ module _ (old mid new : List ℕ) (t : Tree) (l : Layout) (key : ℕ) (s : Spell
         (place_behind old t l key s loose dir a keys at holds (slot_at old key) (slot_at-small old key) (in_slot t dir (slot_at old key)) (λ k m. m)) inserts.relinks moment redated
         (enter (λ k. slot (name_of t k)) key (entries t dir)) chains
 
--- ---- an entry is taken out
+-- ---- an entry is removed
 
 module _ (old mid new : List ℕ) (t : Tree) (l : Layout) (loose_key : ℕ) (s : Spells old t l) (loose : Loose t loose_key) (from : ℕ) (a : Node) (keys : List ℕ) (at : t.nodes from ≡ Some a) (holds : a.content ≡ Directory keys)
     (key : ℕ) (node : Node) (at_key : t.nodes key ≡ Some node) (below : node.parent ≡ Some from)

@@ -1,4 +1,4 @@
--- A tree in which one key stands in no list: between the steps of a change.
+-- A tree with one key in no list: the state between the steps of a change.
 use Rattle.std.proofs.Common.{◌≡◌, ◌≢◌, ℕ, ◌≤◌, ◌⊎◌, inl, inr, ◌↔◌, ◌==◌, not, List, [], filter, map, slice_index_or, AllPairs, Contains, Option, Some, None, option_map, option_and_then, refl, sym, ap, ◌∙◌, subst, arith}
 use Rattle.std.specs.Option.{option_map_or}
 use Rattle.std.proofs.lemmas.Bool.{cases_eq}
@@ -7,21 +7,21 @@ use Rattle.std.proofs.lemmas.List.Kept.{AllPairs-filter}
 use Rattle.adf_block.specs.Image.{IsSize, IsInside}
 use Rattle.ados_name.specs.declared.Date3.{Date3}
 use Rattle.ados_name.specs.Name.{Same, slot, upper, IsName, IsComment}
-use Rattle.ados_chain.proofs.Lists.{Contains-nil, Contains-filter, Once, is_not}
-use Rattle.ados_tree.specs.Tree.{Node, Tree, Proper, LeadsToRoot, IsRoot, root, entries, entries_in, name_in, name_of, parent_of}
-use Rattle.ados_tree.specs.Tree.LeadsToRoot.{at_root, by_parent}
-use Rattle.ados_tree.specs.Change.{with_node, listed, enter, entered, left, stamped}
-use Rattle.ados_tree.proofs.Nodes.{entry_node, directory_node, parent_in}
+use Rattle.ados_model.proofs.KeyLists.{Contains-nil, Contains-filter, Once, is_not}
+use Rattle.ados_model.specs.Tree.{Node, Tree, Proper, LeadsToRoot, IsRoot, root, entries, entries_in, name_in, name_of, parent_of}
+use Rattle.ados_model.specs.Tree.LeadsToRoot.{at_root, by_parent}
+use Rattle.ados_model.specs.Change.{with_node, listed, enter, entered, left, stamped}
+use Rattle.ados_model.proofs.Nodes.{entry_node, directory_node, parent_in}
 use Rattle.ados_change.proofs.Entering.{Contains-enter, Contains-entered, Contains-enter_kept, Once-enter, Rises-enter, Contains-stays, Contains-left}
 use Rattle.ados_change.proofs.Changed.{nodes_here, nodes_other, was, was_with, relisted, listed_names, listed_parents, listed_here, listed_other}
 
--- repeated parents lead from the key to the root, or to the loose key
+-- the chain of parents leads from the key to the root, or to the loose key
 pub data LeadsLoosely (t : Tree) (loose : ℕ) : ℕ → Type 0 where
   to_root : {key : ℕ} → key ≡ root t → LeadsLoosely t loose key
   to_loose : {key : ℕ} → key ≡ loose → LeadsLoosely t loose key
   to_parent : {key dir : ℕ} → key ≢ loose → parent_of t key ≡ Some dir → LeadsLoosely t loose dir → LeadsLoosely t loose key
 
--- one tree with its lists in order, but for a key that stands in no list; it may be a node or not
+-- one tree with its lists in order, except that the loose key is in no list; it may be a node or not
 pub record Loose (t : Tree) (loose : ℕ) : Type 0 where
   pub size : IsSize t.blocks
   pub inside : (key : ℕ) (node : Node) → t.nodes key ≡ Some node → IsInside t.blocks key
@@ -35,7 +35,7 @@ pub record Loose (t : Tree) (loose : ℕ) : Type 0 where
   pub name : (key : ℕ) (node : Node) → t.nodes key ≡ Some node → IsName node.name
   pub comment : (key : ℕ) (node : Node) → t.nodes key ≡ Some node → IsComment node.comment
 
--- the root stays one where it gets another list
+-- the root is still a root with another list of entries
 root_relisted : (moment : Date3) (dir : ℕ) (keys : List ℕ) (t : Tree) → (node : Node) × (t.nodes (root t) ≡ Some node) × IsRoot node → (node : Node) × ((listed moment dir keys t).nodes (root t) ≡ Some node) × IsRoot node
 root_relisted moment dir keys t (node, at, is) = elim (cases_eq (root t) dir) [
   | inl e ↦ (
@@ -46,11 +46,11 @@ root_relisted moment dir keys t (node, at, is) = elim (cases_eq (root t) dir) [
   | inr n ↦ (node, nodes_other dir (option_map (relisted moment keys) (t.nodes dir)) t (root t) n ∙ at, is)
 ]
 
--- the order of the slots of names that stay
+-- the order of slots, for unchanged names
 rising_kept : (names names' : ℕ → List ℕ) (keys : List ℕ) → ((k : ℕ) → names' k ≡ names k) → AllPairs (λ j k. slot (names j) ≤ slot (names k)) keys → AllPairs (λ j k. slot (names' j) ≤ slot (names' k)) keys
 rising_kept names names' keys same h = subst (λ (nm : ℕ → List ℕ). AllPairs (λ j k. slot (nm j) ≤ slot (nm k)) keys) (λ i k. sym (same k) i) h
 
--- ---- a key that leaves its list
+-- ---- a key leaves its list
 
 module _ (t : Tree) (proper : Proper t) (key from : ℕ) (below : parent_of t key ≡ Some from) (moment : Date3) where
   abbrev pub kept : List ℕ
@@ -82,7 +82,7 @@ module _ (t : Tree) (proper : Proper t) (key from : ℕ) (below : parent_of t ke
   pub parents_same : (k : ℕ) → parent_of l k ≡ parent_of t k
   parents_same = listed_parents moment from kept t
 
-  -- what stands in a list stood in it
+  -- an element of a new list was in the old one
   pub was_listed : (d k : ℕ) → Contains (entries l d) k → Contains (entries t d) k × (k ≢ key)
   was_listed d k m = elim (cases_eq d from) [
     | inl e ↦
@@ -103,7 +103,7 @@ module _ (t : Tree) (proper : Proper t) (key from : ℕ) (below : parent_of t ke
     | inr o ↦ subst (λ (keys : List ℕ). Contains keys k) (sym (entries_other d o)) m
   ]
 
-  -- pairs of entries that stay
+  -- pairs of entries that are still there
   pairs_kept : (R : ℕ → ℕ → Type 0) (d : ℕ) → ((e : ℕ) → AllPairs R (entries t e)) → AllPairs R (entries l d)
   pairs_kept R d h = elim (cases_eq d from) [
     | inl e ↦ subst (AllPairs R) (sym (ap (entries l) e ∙ entries_from)) (AllPairs-filter R (is_not key) (entries t from) (h from))
@@ -157,11 +157,11 @@ module _ (t : Tree) (proper : Proper t) (key from : ℕ) (below : parent_of t ke
           let same : d ≡ k = cc (q, p) in
           go d rest (subst (λ (i : ℕ). parent_of t i ≡ Some i) (sym same) p)
 
-  -- its own node stays
+  -- the key's own node is unchanged
   pub node_kept : l.nodes key ≡ t.nodes key
   node_kept = nodes_other from (option_map (relisted moment kept) (t.nodes from)) t key (λ e. not_own_parent (sym e))
 
-  -- what is a node stays one
+  -- a node is still a node
   pub still_node : (k : ℕ) (a : Node) → t.nodes k ≡ Some a → (b : Node) × (l.nodes k ≡ Some b)
   still_node k a e = elim (cases_eq k from) [
     | inl d ↦ (relisted moment kept a, ap l.nodes d ∙ nodes_here from (option_map (relisted moment kept) (t.nodes from)) t ∙ ap (option_map (relisted moment kept)) (ap t.nodes (sym d) ∙ e))
@@ -206,7 +206,7 @@ proper_is_loose t proper = unused_is_loose t 0 proper (none (t.nodes 0) refl)
     none None e = refl
     none (Some a) e = absurd (let inside = proper.inside 0 a e in omega (arith, inside.0))
 
--- ---- the node of the loose key is changed, made or taken away
+-- ---- the node of the loose key is changed, made or removed
 
 module _ (t : Tree) (key : ℕ) (loose : Loose t key) (o : Option Node) (same_list : entries_in (option_map (λ node. node.content) o) ≡ entries t key) where
   abbrev w : Tree
@@ -261,14 +261,14 @@ module _ (t : Tree) (key : ℕ) (loose : Loose t key) (o : Option Node) (same_li
   leads_with k (to_loose e) = to_loose e
   leads_with k (to_parent {dir = d} n p rest) = to_parent n (parent_other k n ∙ p) (leads_with d rest)
 
-  -- a fact of all nodes but that of the key
+  -- a fact about all nodes except that of the key
   each_with : (P : ℕ → Node → Type 0) → ((k : ℕ) (a : Node) → t.nodes k ≡ Some a → P k a) → ((a : Node) → o ≡ Some a → P key a) → (k : ℕ) (a : Node) → w.nodes k ≡ Some a → P k a
   each_with P h here k a e = elim (cases_eq k key) [
     | inl d ↦ subst (λ (i : ℕ). P i a) (sym d) (here a (sym (nodes_here key o t) ∙ ap w.nodes (sym d) ∙ e))
     | inr n ↦ h k a (sym (node_other k n) ∙ e)
   ]
 
-  -- a node in its place leaves the key loose
+  -- the key is still loose with another node in its place
   pub changed_is_loose : ((a : Node) → o ≡ Some a → IsInside t.blocks key × IsName a.name × IsComment a.comment) → Loose w key
   changed_is_loose here = record {
     size = loose.size;
@@ -284,7 +284,7 @@ module _ (t : Tree) (key : ℕ) (loose : Loose t key) (o : Option Node) (same_li
     comment = each_with (λ k a. IsComment a.comment) loose.comment (λ a e. (here a e).2);
   }
 
-  -- with no node in its place, and none below it, the tree is proper
+  -- the tree is proper if the key has no node and nothing is below it
   pub without_is_proper : o ≡ None → entries t key ≡ [] → Proper w
   without_is_proper none empty = record {
     size = loose.size;
@@ -309,7 +309,7 @@ module _ (t : Tree) (key : ℕ) (loose : Loose t key) (o : Option Node) (same_li
       no_node : (a : Node) → o ≡ Some a → ⊥
       no_node a e = cc (none, e)
 
-      -- nothing leads to the key but itself
+      -- only the key itself leads to the key
       leads_on : (k : ℕ) → k ≢ key → LeadsLoosely t key k → LeadsToRoot w k
       leads_on k n (to_root e) = at_root e
       leads_on k n (to_loose e) = absurd (n e)
@@ -317,7 +317,7 @@ module _ (t : Tree) (key : ℕ) (loose : Loose t key) (o : Option Node) (same_li
           let not_below : d ≢ key = λ e. Contains-nil k (subst (λ (keys : List ℕ). Contains keys k) (ap (entries t) e ∙ empty) ((loose.listed d k).1 (m, p))) in
           by_parent (parent_other k n ∙ p) (leads_on d not_below rest)
 
--- ---- the loose key enters a list
+-- ---- the loose key joins a list
 
 module _ (t : Tree) (key dir : ℕ) (loose : Loose t key) (directory : Node) (at : t.nodes dir ≡ Some directory) (below : parent_of t key ≡ Some dir) (to_dir : LeadsToRoot t dir) (new_name : (k : ℕ) → Contains (entries t dir) k → ¬ Same (name_of t k) (name_of t key)) (moment : Date3) where
   abbrev slot_of : ℕ → ℕ

@@ -1,12 +1,11 @@
--- A new entry: an image in which a free block was taken for it stands for the tree with the entry.
+-- A new entry: after a free block was allocated for it, the image represents the tree with the entry.
 use Rattle.std.proofs.Common.{◌≡◌, ◌≢◌, ℕ, zero, suc, ◌+◌, ◌-◌, ◌*◌, ◌<◌, ◌≤◌, ◌⊎◌, inl, inr, true, false, min, List, [], ◌∷◌, length, slice_index, Contains, Option, Some, None, refl, sym, ap, ◌∙◌, subst, arith}
 use Rattle.std.proofs.lemmas.Bool.{cases_eq}
 use Rattle.std.proofs.lemmas.List.{get_or_default}
 use Rattle.adf_block.specs.declared.Format.{Format}
 use Rattle.adf_block.specs.declared.Format.TheVariants.{Ofs, Ffs}
-use Rattle.adf_block.specs.Chained.{Chained}
-use Rattle.adf_block.specs.Image.{IsInside, block_count, block_sum, byte_at, bytes_at, has_free_bit, long, root_key}
-use Rattle.adf_block.specs.Fields.{next_in_chain, table_entry}
+use Rattle.adf_block.specs.Image.{Chained, IsInside, block_count, block_sum, byte_at, bytes_at, has_free_bit, long, root_key, table_entry}
+use Rattle.adf_block.specs.Layout.{next_in_chain}
 use Rattle.adf_block.specs.Frame.{InBlock, OnlyBlock}
 use Rattle.adf_block.proofs.Frames.{other_block_sum, same_count, same_sum}
 use Rattle.adf_block.proofs.Longs.{long-bytes}
@@ -15,16 +14,12 @@ use Rattle.ados_map.specs.Changes.{MapPlace, BitChanged}
 use Rattle.ados_map.proofs.MarkLemmas.{bit_of_inside}
 use Rattle.ados_name.specs.declared.Date3.{Date3}
 use Rattle.ados_chain.specs.Relinks.{InsertsLast}
-use Rattle.ados_data.specs.Cost.{data_count, extension_count}
-use Rattle.ados_data.specs.File.{HasFile}
+use Rattle.ados_model.specs.Tree.{data_count, extension_count, Content, Node, Tree, root, size_in, size_of, IsUnused}
+use Rattle.ados_model.specs.Stands.{HasFile, Duty, Layout, HasDuty, Stands, HasNode, HasEntry, in_slot}
 use Rattle.ados_data.proofs.Marks.{page_kept, mark_kept}
-use Rattle.ados_tree.specs.Tree.{Content, Node, Tree, root, size_in, size_of}
-use Rattle.ados_tree.specs.Tree.Content.{Directory, File}
-use Rattle.ados_tree.specs.Change.{with_node, new_node, made, entered}
-use Rattle.ados_tree.specs.Layout.{Duty, Layout, HasDuty}
-use Rattle.ados_tree.specs.Stands.{Stands, HasNode, HasEntry, in_slot}
-use Rattle.ados_tree.proofs.Standing.{slice_get-index}
-use Rattle.ados_tree.specs.Tree.{IsUnused}
+use Rattle.ados_model.specs.Tree.Content.{Directory, File}
+use Rattle.ados_model.specs.Change.{with_node, new_node, made, entered}
+use Rattle.ados_model.proofs.Standing.{slice_get-index}
 use Rattle.ados_change.specs.Conditions.{CanMake, IsEmpty}
 use Rattle.ados_change.specs.steps.Making.{IsNewEntry, IsNewField}
 use Rattle.ados_change.specs.steps.Writes.{Dated}
@@ -49,7 +44,7 @@ pub zero_long : (image : List ℕ) (b i : ℕ) → ((k : ℕ) → 4 * i ≤ k �
 zero_long image b i h =
     long-bytes image b i ∙ rw (h (4 * i + 0) (omega arith) (omega arith), h (4 * i + 1) (omega arith) (omega arith), h (4 * i + 2) (omega arith) (omega arith), h (4 * i + 3) (omega arith) (omega arith)) refl
 
--- a block that is marked free has no duty
+-- a block that is marked free has no use
 pub no_duty : (image : List ℕ) (t : Tree) (l : Layout) (s : Spells image t l) (key : ℕ) → IsInside t.blocks key → has_free_bit image key ≡ true → (duty : Duty) → ¬ HasDuty t l key duty
 no_duty image t l s key i free duty m = s.marked_free key i free (duty, m)
 
@@ -57,13 +52,13 @@ no_node : (t : Tree) (l : Layout) (key : ℕ) → ((duty : Duty) → ¬ HasDuty 
 no_node t l key none None e = refl
 no_node t l key none (Some a) e = absurd (none Duty.Key (rw e refl))
 
--- the lowest free block is the key of no node
+-- the lowest free block is no node's key
 pub unused : (image : List ℕ) (t : Tree) (s : Stands image t) (key : ℕ) → IsLowestFree image key → IsUnused t key
 unused image t s key low =
     let i : IsInside t.blocks key = (low.inside.0, omega (arith, low.inside.1, s.whole)) in
     record { inside = i; no_node = no_node t s.layout key (no_duty image t s.layout (spells image t s) key i low.free) (t.nodes key) refl }
 
--- ---- the block is taken and filled
+-- ---- the block is allocated and filled
 
 module _ (old m1 m2 : List ℕ) (t : Tree) (st : Stands old t) (moment : Date3) (dir key : ℕ) (name : List ℕ) (content : Content) (can : CanMake t dir name) (fresh : IsUnused t key) (empty : IsEmpty content) (no_bytes : size_in (Some content) ≡ 0)
     (low : IsLowestFree old key) (taken : BitChanged old key false m1) (filled : OnlyBlock key m1 m2) (entry : IsNewEntry m2 key dir name content moment) where
@@ -142,9 +137,9 @@ module _ (old m1 m2 : List ℕ) (t : Tree) (st : Stands old t) (moment : Date3) 
             | inr n ↦ same_sum (MapPlace old key) old m1 taken.rest page (λ k o w. n (sym w.0)) ∙ st.pages page m
           ]
 
-  -- ---- what stands in the block
+  -- ---- the bytes of the block
 
-  -- bytes of no field of a new entry
+  -- bytes outside the fields of a new entry
   zero_at : (i : ℕ) → ((2 ≤ i) × (i < 5)) ⊎ (((6 ≤ i) × (i < 105)) ⊎ ((i ≡ 124) ⊎ (i ≡ 126))) → long m2 key i ≡ 0
   zero_at i o = zero_long m2 key i (λ k p q. entry.zeros k (elim o [
     | inl x ↦ omega (arith, x.1, q)

@@ -1,29 +1,27 @@
--- How a file that is rewritten takes new blocks, and what stays in those that it gives back.
+-- The new blocks of a rewritten file, and the bytes of its freed blocks.
 use Rattle.std.proofs.Common.{◌≡◌, ◌≢◌, ℕ, zero, suc, ◌-◌, ◌*◌, ◌/◌, ◌<◌, ◌≤◌, ◌⊎◌, inl, inr, min, Bool, true, false, List, ◌∷◌, length, slice_index, Some, refl, sym, ap, ◌∙◌, subst, arith}
 use Rattle.std.proofs.lemmas.Bool.{cases_order, false≢true}
 use Rattle.adf_block.specs.declared.Format.{Format}
 use Rattle.adf_block.specs.declared.Format.TheVariants.{Ofs, Ffs}
-use Rattle.adf_block.specs.Image.{IsInside, block_count, byte_at, has_free_bit, HasFreeBit}
-use Rattle.adf_block.specs.Fields.{pointer_count, held_count, file_size}
+use Rattle.adf_block.specs.Image.{IsInside, block_count, byte_at, has_free_bit, HasFreeBit, pointer_count, held_count, file_size, format_of}
 use Rattle.ados_map.specs.Pages.{page_block}
-use Rattle.ados_data.specs.File.{data_blocks, extension_blocks, format_of}
+use Rattle.ados_model.specs.File.{data_blocks, extension_blocks}
 use Rattle.ados_data.specs.Others.{RisesBehind}
 use Rattle.ados_data.proofs.Spelled.{data_blocks_are, extension_blocks_are}
 use Rattle.ados_data.specs.Unnamed.{KeepsUnnamed, IsExtensionField, data_end}
-use Rattle.ados_tree.specs.Tree.{Node, Tree}
-use Rattle.ados_tree.specs.Tree.Content.{File}
-use Rattle.ados_tree.specs.Layout.{Layout, Duty, HasDuty}
-use Rattle.ados_tree.specs.Stands.{Stands}
-use Rattle.ados_tree.specs.declared.role.Role.{Role}
-use Rattle.ados_tree.specs.declared.role.Role.TheVariants as roles
-use Rattle.ados_tree.specs.Faults.{InImage}
-use Rattle.ados_tree.specs.Kept.{IsField}
-use Rattle.ados_tree.specs.Kept.IsField.{extension_longs, ffs_data}
-use Rattle.ados_tree.specs.Keys.{HasFileKey}
-use Rattle.ados_tree.specs.NewBlocks.{IsTaken, TakenRise, TakesLowest}
-use Rattle.ados_tree.proofs.Standing.{StandsAt, slice_get-index, reached_stands, serves_at, duty_of}
-use Rattle.ados_tree.proofs.Serving.{data_duty, extension_duty}
-use Rattle.ados_tree.proofs.Writable.{key_serves, named_used, page_serves}
+use Rattle.ados_model.specs.Tree.{Node, Tree}
+use Rattle.ados_model.specs.Tree.Content.{File}
+use Rattle.ados_model.specs.Stands.{Layout, Duty, HasDuty, Stands}
+use Rattle.ados_model.specs.declared.role.Role.{Role}
+use Rattle.ados_model.specs.declared.role.Role.TheVariants as roles
+use Rattle.ados_model.specs.Faults.{InImage}
+use Rattle.ados_model.specs.Kept.{IsField}
+use Rattle.ados_model.specs.Kept.IsField.{extension_longs, ffs_data}
+use Rattle.ados_model.specs.Keys.{HasFileKey}
+use Rattle.ados_change.specs.NewBlocks.{IsTaken, TakenRise, TakesLowest}
+use Rattle.ados_model.proofs.Standing.{StandsAt, slice_get-index, reached_stands, serves_at, duty_of}
+use Rattle.ados_change.proofs.Serving.{data_duty, extension_duty}
+use Rattle.ados_change.proofs.Writable.{key_serves, named_used, page_serves}
 use Rattle.ados_change.proofs.Contents.{refilled, stays}
 use Rattle.ados_change.proofs.Relaid.{IsIn, IsRewritten, relaid, serves_data, serves_extension}
 use Rattle.ados_change.proofs.Refilled.{stands_after, layout_after}
@@ -55,9 +53,9 @@ module _ (old new : List ℕ) (t : Tree) (s : Stands old t) (file : ℕ) (node :
     | inr (inr above) ↦ absurd (false≢true (sym (lowest other block m.inside i.0 above m.was_free (unmarked new block m.in_use)) ∙ is))
   ]
 
-  -- ---- what stands in new blocks
+  -- ---- the bytes of new blocks
 
-  -- a block that was taken is one of those that the file got
+  -- an allocated block is one of the file's new blocks
   is_new : (b : ℕ) → IsTaken old new b → IsIn blocks' b ⊎ IsIn extensions' b
   is_new b m = h.taken b m.inside m.was_free (unmarked new b m.in_use)
 
@@ -77,7 +75,7 @@ module _ (old new : List ℕ) (t : Tree) (s : Stands old t) (file : ℕ) (node :
         absurd (false≢true (sym (named_used old t s b (Duty.Extension file q) serves) ∙ m.was_free))
   ]
 
-  -- a block's role is that of its duty
+  -- a block's role is the role of its use
   same_duty : (role : Role) (k b : ℕ) (duty : Duty) → StandsAt new v after role k b → HasDuty v (relaid s.layout file blocks' extensions') b duty → duty_of new v after role k ≡ duty
   same_duty role k b duty m n =
       let also : HasDuty v after.layout b duty = subst (λ (l : Layout). HasDuty v l b duty) (sym (layout_after old new t s file node bytes found is_file blocks' extensions' bytes' h)) n in
@@ -104,7 +102,7 @@ module _ (old new : List ℕ) (t : Tree) (s : Stands old t) (file : ℕ) (node :
       go (roles.Entry dir r) m n d = absurd (cc d)
       go (roles.Extension f) m n d = absurd (cc d)
 
-  -- the longs of an extension block that have a meaning are fields
+  -- the meaningful longs of an extension block are fields
   extension_field : (b f i : ℕ) → IsExtensionField (pointer_count new b) (i / 4) → IsField new b (roles.Extension f) i
   extension_field b f i (inl (inl z)) = extension_longs (0, (0, 2), omega arith, refl, (omega (arith, z), omega (arith, z)))
   extension_field b f i (inl (inr (inl z))) = extension_longs (1, (5, 5), omega arith, refl, (omega (arith, z), omega (arith, z)))
@@ -127,13 +125,13 @@ module _ (old new : List ℕ) (t : Tree) (s : Stands old t) (file : ℕ) (node :
       go (roles.Entry dir r) m n d = absurd (cc d)
       go (roles.Data f) m n d = absurd (cc d)
 
-  -- ---- in which order
+  -- ---- their order
 
-  -- what serves by the new lists serves in the new layout
+  -- a use by the new lists is a use in the new layout
   in_after : (b : ℕ) (duty : Duty) → HasDuty v (relaid s.layout file blocks' extensions') b duty → HasDuty v after.layout b duty
   in_after b duty n = subst (λ (l : Layout). HasDuty v l b duty) (sym (layout_after old new t s file node bytes found is_file blocks' extensions' bytes' h)) n
 
-  -- a block that was taken is in no other list
+  -- an allocated block is in no other list
   of_data : (b f i : ℕ) → IsTaken old new b → HasDuty v after.layout b (Duty.Data f i) → f ≡ file
   of_data b f i m serves = elim (is_new b m) [
     | inl at ↦
@@ -197,7 +195,7 @@ module _ (old new : List ℕ) (t : Tree) (s : Stands old t) (file : ℕ) (node :
         ];
   }
 
-  -- ---- what stays in free blocks
+  -- ---- the bytes of free blocks
 
   -- the block of a node is in use
   pub key_used : (k : ℕ) (a : Node) → t.nodes k ≡ Some a → has_free_bit new k ≡ false

@@ -1,13 +1,13 @@
--- A file whose blocks stay is the same file.
+-- A file with unchanged blocks is the same file.
 use Rattle.std.proofs.Common.{◌≡◌, ℕ, zero, suc, ◌+◌, ◌-◌, ◌*◌, ◌/◌, ◌%◌, ◌<◌, ◌≤◌, List, ◌∷◌, length, slice_index, sym, ◌∙◌, arith}
 use Rattle.adf_block.specs.declared.Format.{Format}
 use Rattle.adf_block.specs.declared.Format.TheVariants.{Ofs, Ffs}
-use Rattle.ados_data.specs.Cost.{data_size, data_start, data_count}
-use Rattle.ados_data.specs.File.{HasFile, HasExtension, HasOfsData, file_byte}
+use Rattle.ados_model.specs.Tree.{data_size, data_start, data_count}
+use Rattle.ados_model.specs.Stands.{HasFile, HasExtension, HasOfsData, file_byte}
 use Rattle.ados_data.proofs.Chains.{first_of, next_of, chained}
 use Rattle.ados_change.proofs.Unchanged.{Stays, long_as, sum_stays}
 
--- a byte of a file stands in one of its data blocks
+-- a byte of a file is in one of its data blocks
 byte_within : (format : Format) (k size : ℕ) → k < size → (k / data_size format < data_count format size) × (data_start format + k % data_size format < 512)
 byte_within Ofs k size l = (omega arith, omega arith)
 byte_within Ffs k size l = (omega arith, omega arith)

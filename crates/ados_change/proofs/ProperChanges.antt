@@ -1,15 +1,15 @@
--- Each change of entries leads from a proper tree to a proper one.
+-- Each change of entries turns a proper tree into a proper one.
 use Rattle.std.proofs.Common.{◌≡◌, ◌≢◌, ℕ, ◌<◌, inl, inr, List, [], map, Contains, Some, None, option_map, option_and_then, refl, sym, ap, ◌∙◌, subst, arith}
 use Rattle.std.proofs.lemmas.List.Elements.{All-nil}
 use Rattle.ados_name.specs.declared.Date3.{Date3}
 use Rattle.ados_name.specs.Name.{upper, IsName, IsComment}
-use Rattle.ados_chain.proofs.Lists.{Contains-nil}
-use Rattle.ados_tree.specs.Tree.{Content, Node, Tree, Proper, LeadsToRoot, entries, entries_in, name_in, name_of, parent_of}
-use Rattle.ados_tree.specs.Tree.Content.{Directory}
-use Rattle.ados_tree.specs.Tree.LeadsToRoot.{at_root, by_parent}
-use Rattle.ados_tree.specs.Change.{with_node, changed, entered, stamped, new_node}
-use Rattle.ados_tree.proofs.Nodes.{content_in, parent_in}
-use Rattle.ados_tree.specs.Tree.{IsUnused}
+use Rattle.ados_model.proofs.KeyLists.{Contains-nil}
+use Rattle.ados_model.specs.Tree.{Content, Node, Tree, Proper, LeadsToRoot, entries, entries_in, name_in, name_of, parent_of}
+use Rattle.ados_model.specs.Tree.Content.{Directory}
+use Rattle.ados_model.specs.Tree.LeadsToRoot.{at_root, by_parent}
+use Rattle.ados_model.specs.Change.{with_node, changed, entered, stamped, new_node}
+use Rattle.ados_model.proofs.Nodes.{content_in, parent_in}
+use Rattle.ados_model.specs.Tree.{IsUnused}
 use Rattle.ados_change.specs.Conditions.{CanMake, CanRename, IsDirectoryKey, IsEmpty, IsUnder}
 use Rattle.ados_change.specs.Conditions.IsUnder.{itself, by_parent as under_parent}
 use Rattle.ados_change.specs.Laws.{MadeIsProper, RemovedIsProper, RenamedIsProper}
@@ -46,7 +46,7 @@ module _ (t : Tree) (moment : Date3) (dir key : ℕ) (name : List ℕ) (content 
   pub dir_not_key : dir ≢ key
   dir_not_key e = let d = directory_at t dir can.directory in let at = ap t.nodes (sym e) ∙ d.at in cc (at, fresh.no_node)
 
-  -- nothing leads over the new node
+  -- no path to the root goes through the new node
   leads_beside : (k : ℕ) → k ≢ key → LeadsToRoot t k → LeadsToRoot begun k
   leads_beside k n (at_root e) = at_root e
   leads_beside k n (by_parent {dir = d} p rest) =
@@ -70,7 +70,7 @@ module _ (t : Tree) (moment : Date3) (dir key : ℕ) (name : List ℕ) (content 
 pub made_is_proper : MadeIsProper
 made_is_proper t moment dir key name content proper can fresh empty = stamped_is_proper moment (entered moment dir key (begun t moment dir key name content proper can fresh empty)) (entered_proper t moment dir key name content proper can fresh empty)
 
--- ---- an entry is taken away
+-- ---- an entry is removed
 
 pub removed_is_proper : RemovedIsProper
 removed_is_proper t moment key proper can =
@@ -99,7 +99,7 @@ module _ (t : Tree) (moment : Date3) (key dir : ℕ) (name : List ℕ) (proper :
   pub entry_out : out.nodes key ≡ Some entry.0
   entry_out = node_kept t proper key can.from can.listed moment ∙ entry.1
 
-  -- then with the new name and parent
+  -- the same with the new name and parent
   abbrev pub moved : Tree
   moved = changed key named out
 
@@ -136,7 +136,7 @@ module _ (t : Tree) (moment : Date3) (key dir : ℕ) (name : List ℕ) (proper :
       let b = still_node t proper key can.from can.listed moment dir d.node d.at in
       (b.0, moved_other dir dir_is_other ∙ b.1)
 
-  -- the directory that it moves into, still one
+  -- the target directory is still a directory
   pub into_directory : (b : Node) × (keys : List ℕ) × (moved.nodes dir ≡ Some b) × (b.content ≡ Directory keys)
   into_directory = go (was (relisted moment kept_list) can.from t dir into.0 (sym (moved_other dir dir_is_other) ∙ into.1))
     where

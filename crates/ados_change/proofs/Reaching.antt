@@ -1,36 +1,35 @@
--- What is reached after an entry was taken away was reached before, in the same role and with the same fields.
+-- A block that is reached after a removal was reached before, in the same role and with the same fields.
 use Rattle.std.proofs.Common.{◌≡◌, ◌≢◌, ℕ, ◌+◌, ◌-◌, ◌/◌, ◌<◌, ◌≤◌, ◌⊎◌, inl, inr, true, List, [], ◌∷◌, length, slice_index, Some, refl, sym, ap, ap₂, ◌∙◌, subst, arith}
 use Rattle.std.proofs.lemmas.Bool.{cases_eq}
-use Rattle.adf_block.specs.Fields.{next_in_chain, pointer_count, secondary_type}
+use Rattle.adf_block.specs.Layout.{next_in_chain}
+use Rattle.adf_block.specs.Image.{pointer_count, secondary_type, block_count, byte_at, long, page_count}
 use Rattle.adf_block.specs.Frame.{SameBut}
-use Rattle.adf_block.specs.Image.{block_count, byte_at, long, page_count}
 use Rattle.adf_block.proofs.Frames.{same_count, same_long, same_trans, same_weaken}
 use Rattle.ados_chain.specs.Relinks.{AtLinks, Relinks}
 use Rattle.ados_map.specs.Changes.{MapPlace, BitChanged}
 use Rattle.ados_map.specs.Pages.{page_block, page_of}
 use Rattle.ados_name.specs.declared.Date3.{Date3}
-use Rattle.ados_tree.specs.Tree.{Node, Tree, root}
-use Rattle.ados_tree.specs.Tree.Content.{Directory, File}
-use Rattle.ados_tree.specs.Faults.{InImage, IsFile, IsPlace, Reached}
-use Rattle.ados_tree.specs.Faults.IsPlace.{root_page, root_slot, directory_slot, next_entry, header_pointer, first_extension, extension_pointer, further_extension}
-use Rattle.ados_tree.specs.Faults.Reached.{start, named}
-use Rattle.ados_tree.specs.Kept.{Kept, IsField, Alike, InLongs, InText}
-use Rattle.ados_tree.specs.Kept.IsField.{root_longs, root_name, page_longs, directory_longs, file_longs, entry_name, entry_comment, extension_longs, ofs_data_longs, ofs_data, ffs_data}
-use Rattle.ados_tree.specs.Layout.{Duty, HasDuty}
-use Rattle.ados_tree.specs.Stands.{Stands}
-use Rattle.ados_tree.specs.declared.role.Role.{Role}
-use Rattle.ados_tree.specs.declared.role.Role.TheVariants as roles
-use Rattle.ados_tree.proofs.Keeping.{first_stays, keeps_first_until}
-use Rattle.ados_tree.proofs.Standing.{count_same, duty_of, file_at, reached_stands, serves_at, slice_get-index}
+use Rattle.ados_model.specs.Tree.{Node, Tree, root}
+use Rattle.ados_model.specs.Tree.Content.{Directory, File}
+use Rattle.ados_model.specs.Faults.{InImage, IsFile, IsPlace, Reached}
+use Rattle.ados_model.specs.Faults.IsPlace.{root_page, root_slot, directory_slot, next_entry, header_pointer, first_extension, extension_pointer, further_extension}
+use Rattle.ados_model.specs.Faults.Reached.{start, named}
+use Rattle.ados_model.specs.Kept.{Kept, IsField, Alike, InLongs, InText}
+use Rattle.ados_model.specs.Kept.IsField.{root_longs, root_name, page_longs, directory_longs, file_longs, entry_name, entry_comment, extension_longs, ofs_data_longs, ofs_data, ffs_data}
+use Rattle.ados_model.specs.Stands.{Duty, HasDuty, Stands}
+use Rattle.ados_model.specs.declared.role.Role.{Role}
+use Rattle.ados_model.specs.declared.role.Role.TheVariants as roles
+use Rattle.ados_change.proofs.Keeping.{first_stays, keeps_first_until}
+use Rattle.ados_model.proofs.Standing.{count_same, duty_of, file_at, reached_stands, serves_at, slice_get-index}
 use Rattle.ados_change.specs.steps.Writes.{AtDate, AtLongs, Dated}
 use Rattle.ados_change.proofs.Relisted.{IsLinkPlace}
 use Rattle.ados_change.proofs.Relisted.IsLinkPlace.{in_table, in_entry}
 
--- a long that names no block, and on which the extent of no field depends: the sum, a date, the disk date
+-- a long that names no block and affects the extent of no field: the checksum, a date, the disk date
 abbrev pub IsAside : ℕ → Type 0
 IsAside j = (j ≡ 5) ⊎ (((105 ≤ j) × (j < 108)) ⊎ ((118 ≤ j) × (j < 121)))
 
--- a long that is neither such a one nor a link of a chain
+-- a long that is neither such a long nor a link of a hash chain
 abbrev IsFixed : ℕ → Type 0
 IsFixed j = (j < 5) ⊎ (((78 ≤ j) × (j < 105)) ⊎ (((108 ≤ j) × (j < 118)) ⊎ (125 < j)))
 
@@ -52,11 +51,11 @@ is_at b i c j = elim (cases_eq b c) [
 ]
 
 module _ (old : List ℕ) (t : Tree) (st : Stands old t) where
-  -- the block of a bitmap page
+  -- a bitmap block
   abbrev pub IsPage : ℕ → Type 0
   IsPage b = (p : ℕ) × HasDuty t st.layout b (Duty.Page p)
 
-  -- the bytes of the pages, and of the sums and dates
+  -- the bytes of the bitmap blocks, and of checksums and dates
   abbrev pub AtAside : ℕ → ℕ → Type 0
   AtAside b i = IsPage b ⊎ IsAside (i / 4)
 
@@ -113,7 +112,7 @@ module _ (old : List ℕ) (t : Tree) (st : Stands old t) where
         go (in_table e m n) = node_no_page b0 a (ap t.nodes e ∙ at)
         go (in_entry n f m e) = node_no_page b0 n f
 
-    -- ---- the links as they are now
+    -- ---- the links after the removal
 
     now : long new b0 i0 ≡ long old key next_in_chain
     now =
@@ -125,7 +124,7 @@ module _ (old : List ℕ) (t : Tree) (st : Stands old t) where
         same_long AtAside m1 new later key next_in_chain (omega arith) (λ k e w. elim w [ inl p ↦ node_no_page key node at_key p | inr x ↦ omega (arith, e, x) ])
         ∙ relinks.key_link
 
-    -- ---- what stays
+    -- ---- what is unchanged
 
     stays : (b i : ℕ) → ¬ IsPage b → ¬ IsAside (i / 4) → ¬ ((b ≡ b0) × (i / 4 ≡ i0)) → ¬ ((b ≡ key) × (i / 4 ≡ next_in_chain)) → ¬ W b i
     stays b i p x l k (inl (inl (inl w))) = l w
@@ -165,7 +164,7 @@ module _ (old : List ℕ) (t : Tree) (st : Stands old t) where
     place_long (extension_pointer p) = (λ z. cc z, inl (omega (arith, p.0, p.1), omega arith))
     place_long (further_extension n) = (λ z. cc z, inr (inr refl))
 
-    -- a place whose long is the same was a place
+    -- a place with an unchanged long was a place before
     place_was : {block i : ℕ} {role next : Role} → ¬ IsPage block → long new block i ≡ long old block i → IsPlace new block role i next → IsPlace old block role i next
     place_was q same (root_page {i = i} l) = root_page (subst (λ (n : ℕ). i < page_count n) count l)
     place_was q same (root_slot l n) = root_slot l (λ z. n (same ∙ z))
@@ -176,7 +175,7 @@ module _ (old : List ℕ) (t : Tree) (st : Stands old t) where
     place_was {block = block} q same (extension_pointer {i = i} p) = extension_pointer (subst (λ (n : ℕ). (i < n) × (n ≤ 72)) (pointers_stay block q) p)
     place_was q same (further_extension n) = further_extension (λ z. n (same ∙ z))
 
-    -- ---- the link that goes past the entry
+    -- ---- the link past the removed entry
 
     in_old : (b : ℕ) → InImage new b → InImage old b
     in_old b inside = (inside.0, omega (arith, inside.1, count))
@@ -195,7 +194,7 @@ module _ (old : List ℕ) (t : Tree) (st : Stands old t) where
         subst (λ (b : ℕ). Reached old b (roles.Entry dir' s)) (sym e)
         (named r (next_entry (λ z. omega (arith, z, e, inside.0))) (subst (InImage old) e (in_old next inside)))
 
-    -- a long of the table is one of the directory's
+    -- a long of the hash table is one of the directory's
     of_directory : (i : ℕ) → i < 78 → i ≡ i0 → b0 ≡ dir
     of_directory i l e = go place
       where
@@ -293,7 +292,7 @@ module _ (old : List ℕ) (t : Tree) (st : Stands old t) where
             let both : Directory keys ≡ File file.bytes = sym holds ∙ ap (λ (x : Node). x.content) (sym same) ∙ file.content in
             cc both
 
-    -- what an earlier change kept is kept
+    -- what an earlier change left untouched is still untouched
     pub kept_since : Kept old new → (first : List ℕ) → Kept first old → Kept first new
     kept_since after first before = record {
       size = after.size ∙ before.size;

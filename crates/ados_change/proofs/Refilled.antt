@@ -1,28 +1,24 @@
--- An image in which a file was rewritten stands for the tree in which the file has its new bytes.
+-- An image with a rewritten file represents the tree in which the file has its new bytes.
 use Rattle.std.proofs.Common.{◌≡◌, ◌≢◌, ℕ, ◌+◌, ◌<◌, ◌⊎◌, inl, inr, List, length, slice_index, Contains, Some, refl, sym, ap, ◌∙◌, subst, arith}
 use Rattle.std.proofs.lemmas.Bool.{cases_eq}
 use Rattle.std.proofs.lemmas.List.{get_or_default}
 use Rattle.adf_block.specs.declared.Format.{Format}
-use Rattle.adf_block.specs.Image.{page_count, long, block_sum}
-use Rattle.adf_block.specs.Chained.{Chained}
-use Rattle.adf_block.specs.Fields.{HasText, name_byte, comment_byte, next_in_chain, table_entry}
+use Rattle.adf_block.specs.Image.{page_count, long, block_sum, Chained, HasText, table_entry}
+use Rattle.adf_block.specs.Layout.{name_byte, comment_byte, next_in_chain}
 use Rattle.ados_map.specs.Pages.{page_block, pages_of}
-use Rattle.ados_data.specs.Cost.{data_count}
-use Rattle.ados_data.specs.File.{HasFile}
+use Rattle.ados_model.specs.Tree.{data_count, Content, Node, Tree, root}
+use Rattle.ados_model.specs.Stands.{HasFile, Duty, HasDuty, Stands, HasNode, HasEntry, HasRoot, in_slot, type_of}
 use Rattle.ados_data.specs.Others.{IsOther, IsDataField}
 use Rattle.ados_data.proofs.Chains.{first_of, next_of, chained}
-use Rattle.ados_tree.specs.Tree.{Content, Node, Tree, root}
-use Rattle.ados_tree.specs.Tree.Content.{Directory, File}
-use Rattle.ados_tree.specs.Layout.{Duty, HasDuty}
-use Rattle.ados_tree.specs.Stands.{Stands, HasNode, HasEntry, HasRoot, in_slot, type_of}
-use Rattle.ados_tree.proofs.Standing.{count_same, slice_get-index, entry_at}
-use Rattle.ados_tree.proofs.Writable.{key_serves, page_serves, lawful_pages, is_lawful, format_is}
+use Rattle.ados_model.specs.Tree.Content.{Directory, File}
+use Rattle.ados_model.proofs.Standing.{count_same, slice_get-index, entry_at}
+use Rattle.ados_change.proofs.Writable.{key_serves, page_serves, lawful_pages, is_lawful, format_is}
 use Rattle.ados_change.proofs.Contents.{refilled, Was, was, file_not_root, proper_after, slots_same}
 use Rattle.ados_change.proofs.Unchanged.{StaysBut, Stays, long_stays, text_stays, date_stays, long_as, bytes_as, sum_stays, text_as, date_as}
 use Rattle.ados_change.proofs.Relaid.{IsRewritten, relaid, data_there, data_here, extensions_there, extensions_here, other, fits_after, marked_free_after, marked_used_after}
 use Rattle.ados_change.proofs.OtherFiles.{file_stays}
 
--- a long of a header that is no field of its data
+-- a long of a header outside the fields of its data
 beside_fields : (j : ℕ) → (j < 2) ⊎ ((77 < j) × (j ≢ 81) × (j ≢ 126)) → ¬ IsDataField j
 beside_fields j (inl l) (inl e) = omega (arith, l, e)
 beside_fields j (inl l) (inr (inl e)) = omega (arith, l, e)
@@ -42,7 +38,7 @@ module _ (old new : List ℕ) (t : Tree) (s : Stands old t) (file : ℕ) (node :
   abbrev v : Tree
   v = refilled file bytes' t
 
-  -- ---- what stays
+  -- ---- what is unchanged
 
   stays_other : (b : ℕ) → IsOther old file (s.layout.file_data file) (s.layout.extensions file) b → Stays old new b
   stays_other b o = record { size = h.leaves.same_length; bytes = λ k l n. h.leaves.others b k l o }
@@ -62,7 +58,7 @@ module _ (old new : List ℕ) (t : Tree) (s : Stands old t) (file : ℕ) (node :
   key_stays k a e n =
       stays_other k (other old new t s file node bytes found is_file blocks' extensions' bytes' h k Duty.Key (key_serves old t s k a e) (record { no_data = λ i z. cc z; no_extension = λ q z. cc z }) n (λ p z. cc z))
 
-  -- no block with another duty is the header
+  -- a block with another use is not the header
   not_header : (b : ℕ) (duty : Duty) → HasDuty t s.layout b duty → duty ≢ Duty.Key → b ≢ file
   not_header b duty m n e = n (s.fits.one_duty b duty Duty.Key m (key_serves old t s b node (ap t.nodes e ∙ found)))
 
@@ -86,7 +82,7 @@ module _ (old new : List ℕ) (t : Tree) (s : Stands old t) (file : ℕ) (node :
   pub root_stays : Stays old new (root t)
   root_stays = key_stays (root t) s.proper.root_node.0 s.proper.root_node.1 (λ e. file_not_root t file node bytes bytes' found is_file s.proper (sym e))
 
-  -- a long of a header that is no field of its data
+  -- a long of a header outside the fields of its data
   header_long : (j : ℕ) → j < 128 → (j < 2) ⊎ ((77 < j) × (j ≢ 81) × (j ≢ 126)) → long new file j ≡ long old file j
   header_long j l o = long_stays IsDataField old new file header_stays j l (beside_fields j o)
 
@@ -160,7 +156,7 @@ module _ (old new : List ℕ) (t : Tree) (s : Stands old t) (file : ℕ) (node :
     | inr m ↦ other_entry k a d m e p
   ]
 
-  -- what was a file is one
+  -- a file is still a file
   same_type : (k : ℕ) (a : Node) (w : Was t file node bytes bytes' found is_file k a) → type_of w.old.content ≡ type_of a.content
   same_type k a w = elim (w.content) [
     | inr c ↦ ap type_of (sym c.1)
@@ -197,7 +193,7 @@ module _ (old new : List ℕ) (t : Tree) (s : Stands old t) (file : ℕ) (node :
         secondary = stays 127 (omega arith) ∙ r.secondary;
       }
 
-  -- ---- chains
+  -- ---- hash chains
 
   link_stays : (k : ℕ) (a : Node) → t.nodes k ≡ Some a → long new k next_in_chain ≡ long old k next_in_chain
   link_stays k a e = elim (cases_eq k file) [
@@ -251,7 +247,7 @@ module _ (old new : List ℕ) (t : Tree) (s : Stands old t) (file : ℕ) (node :
             (other_file f w.old bs w.at (sym z.1 ∙ c) z.0))
       ]
 
-  -- ---- pages
+  -- ---- bitmap blocks
 
   page_after : (page : ℕ) → Contains s.layout.pages page → block_sum new page ≡ 0
   page_after page m =

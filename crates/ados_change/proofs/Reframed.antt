@@ -1,32 +1,29 @@
--- A change of longs in the blocks of keys leads from an image that spells a tree to one that spells another, if it does so for each node.
+-- A change of longs in the blocks of keys turns an image of one tree into an image of another, if it does so for each
+-- node.
 use Rattle.std.proofs.Common.{◌≡◌, ◌≢◌, ℕ, zero, suc, ◌+◌, ◌-◌, ◌/◌, ◌%◌, ◌^◌, ◌<◌, ◌≤◌, ◌⊎◌, inl, inr, ◌==◌, List, [], ◌∷◌, length, slice_index, Contains, bit_and, not, Option, Some, is_some, IsSome, refl, sym, ap, ◌∙◌, subst, arith}
 use Rattle.std.proofs.lemmas.Bool.{cases_lt}
 use Rattle.std.proofs.lemmas.List.{get_or_default, get_or_past}
 use Rattle.adf_block.specs.declared.Format.{Format}
 use Rattle.adf_block.specs.declared.Format.TheVariants.{Ofs, Ffs}
-use Rattle.adf_block.specs.Image.{IsInside, has_free_bit, block_count, root_key, long, block_sum}
-use Rattle.adf_block.specs.Chained.{Chained}
-use Rattle.adf_block.specs.Fields.{HasText, table_entry, next_in_chain, next_extension, next_data, name_byte, comment_byte}
+use Rattle.adf_block.specs.Image.{IsInside, has_free_bit, block_count, root_key, long, block_sum, Chained, HasText, table_entry}
+use Rattle.adf_block.specs.Layout.{next_in_chain, next_extension, next_data, name_byte, comment_byte}
 use Rattle.ados_name.specs.declared.Date3.{Date3}
 use Rattle.ados_name.specs.Name.{IsName, IsComment}
-use Rattle.ados_data.specs.Cost.{data_count}
-use Rattle.ados_data.specs.File.{HasFile, file_byte}
-use Rattle.ados_tree.specs.Tree.{Node, Tree, root, size_of}
-use Rattle.ados_tree.specs.Tree.Content.{Directory, File}
-use Rattle.ados_tree.specs.Layout.{Layout, Duty, HasDuty}
-use Rattle.ados_tree.specs.Dates.{date_at}
-use Rattle.ados_tree.specs.Stands.{HasNode, HasEntry, HasRoot, in_slot}
+use Rattle.ados_model.specs.Tree.{data_count, Node, Tree, root, size_of}
+use Rattle.ados_model.specs.Stands.{HasFile, file_byte, Layout, Duty, HasDuty, date_at, HasNode, HasEntry, HasRoot, in_slot}
+use Rattle.ados_model.specs.Tree.Content.{Directory, File}
 use Rattle.adf_block.specs.Frame.{SameBut}
 use Rattle.ados_change.specs.steps.Writes.{AtLongs}
 use Rattle.ados_change.proofs.Frame.{long-kept, bytes-kept, sum-kept}
-use Rattle.ados_tree.proofs.Standing.{slice_get-index}
+use Rattle.ados_model.proofs.Standing.{slice_get-index}
 use Rattle.ados_change.proofs.Spells.{Spells}
 
 -- the tree with these nodes and this disk date
 abbrev pub renewed : Tree → (ℕ → Option Node) → Date3 → Tree
 renewed t nodes d = record t { nodes = nodes; disk_date = d }
 
--- the longs that say nothing of a file's data, of the root's pages or of the kind of a block: the sum, a directory's table, protection and comment, date and name, the next in chain and the parent, the disk date
+-- the longs without effect on a file's data, on the bitmap blocks or on the kind of a block: the checksum, a
+-- directory's hash table, protection and comment, date and name, next-in-chain and parent, the disk date
 pub data Telling (t : Tree) (b : ℕ) : ℕ → Type 0 where
   sum : {j : ℕ} → j ≡ 5 → Telling t b j
   table : {j : ℕ} → ((a : Node) (bytes : List ℕ) → t.nodes b ≡ Some a → a.content ≡ File bytes → ⊥) → 6 ≤ j → j < 78 → Telling t b j
@@ -34,18 +31,18 @@ pub data Telling (t : Tree) (b : ℕ) : ℕ → Type 0 where
   heading : {j : ℕ} → 105 ≤ j → j < 121 → Telling t b j
   linking : {j : ℕ} → b ≢ root t → 124 ≤ j → j < 126 → Telling t b j
 
--- only such longs of the blocks of keys are written
+-- only such longs in the blocks of keys are written
 pub record TellsOnly (t : Tree) (W : ℕ → ℕ → Type 0) : Type 0 where
   pub of_key : (b j : ℕ) → W b j → IsSome (t.nodes b)
   pub telling : (b j : ℕ) → W b j → Telling t b j
 
--- the new nodes are those of the same keys, and files keep their bytes
+-- the new nodes have the same keys, and files have the same bytes
 pub record SameFiles (t : Tree) (nodes : ℕ → Option Node) : Type 0 where
   pub same_keys : (k : ℕ) → is_some (nodes k) ≡ is_some (t.nodes k)
   pub was_file : (k : ℕ) (a : Node) (bytes : List ℕ) → nodes k ≡ Some a → a.content ≡ File bytes → (b : Node) × (t.nodes k ≡ Some b) × (b.content ≡ File bytes)
   pub same_size : (d : Date3) (k : ℕ) → size_of (renewed t nodes d) k ≡ size_of t k
 
--- a chain stays where its links stay
+-- a linked list is unchanged if its links are
 pub Chained-stays : (old new : List ℕ) (link first : ℕ) (xs : List ℕ) → ((b : ℕ) → Contains xs b → long new b link ≡ long old b link) → Chained old link first xs → Chained new link first xs
 Chained-stays old new link first [] same c = c
 Chained-stays old new link first (x ∷ xs) same c =
@@ -55,7 +52,7 @@ module _ (old new : List ℕ) (t : Tree) (l : Layout) (s : Spells old t l) (root
   kept : (b j : ℕ) → j < 128 → ¬ W b j → long new b j ≡ long old b j
   kept = long-kept W old new change
 
-  -- the type, number and secondary type of a block
+  -- the primary type, own number and secondary type of a block
   unwritten : (b j : ℕ) → (j < 5) ⊎ ((j ≡ 81) ⊎ ((j ≡ 78) ⊎ (((121 ≤ j) × (j < 124)) ⊎ (126 ≤ j)))) → ¬ W b j
   unwritten b j o w = go o (tells.telling b j w)
     where
@@ -72,7 +69,7 @@ module _ (old new : List ℕ) (t : Tree) (l : Layout) (s : Spells old t l) (root
   pub last_kept : (b j : ℕ) → 126 ≤ j → j < 128 → long new b j ≡ long old b j
   last_kept b j m n = kept b j n (unwritten b j (inr (inr (inr (inr m)))))
 
-  -- the pages and the parent of the root
+  -- the bitmap pointers and the parent of the root
   root_unwritten : (j : ℕ) → ((79 ≤ j) × (j < 104)) ⊎ ((j ≡ 124) ⊎ (j ≡ 125)) → ¬ W (root t) j
   root_unwritten j o w = go o (tells.telling (root t) j w)
     where
@@ -94,7 +91,7 @@ module _ (old new : List ℕ) (t : Tree) (l : Layout) (s : Spells old t l) (root
       go (heading p q) = omega (arith, n, p)
       go (linking f p q) = omega (arith, n, p)
 
-  -- a block with another duty than that of a key
+  -- a block that is used otherwise than as a key
   by_duty : (b : ℕ) (duty : Duty) → HasDuty t l b duty → duty ≢ Duty.Key → (j : ℕ) → ¬ W b j
   by_duty b duty m n j w = n (s.fits.one_duty b duty Duty.Key m (tells.of_key b j w))
 
@@ -148,7 +145,7 @@ module _ (old new : List ℕ) (t : Tree) (l : Layout) (s : Spells old t l) (root
   page_long : (i : ℕ) → i < length l.pages → long new (root t) (79 + i) ≡ slice_index l.pages i
   page_long i m = kept (root t) (79 + i) (omega (arith, m, s.fits.pages, size.0)) (root_unwritten (79 + i) (inl (omega arith, omega (arith, m, s.fits.pages, size.0)))) ∙ s.root_fields.pages i m
 
-  -- the bits of the map
+  -- the bits of the bitmap
   marks_kept : (b : ℕ) → IsInside t.blocks b → has_free_bit new b ≡ has_free_bit old b
   unfolding has_free_bit
   marks_kept b i =
@@ -161,7 +158,7 @@ module _ (old new : List ℕ) (t : Tree) (l : Layout) (s : Spells old t l) (root
       let value = ap (λ (x : ℕ). long new x (1 + (b - 2) % 4064 / 32)) page_new ∙ kept (slice_index l.pages ((b - 2) / 4064)) (1 + (b - 2) % 4064 / 32) (omega arith) of_page ∙ ap (λ (x : ℕ). long old x (1 + (b - 2) % 4064 / 32)) (sym page_old) in
       ap (λ (x : ℕ). not (bit_and x (2 ^ ((b - 2) % 32)) == 0)) value
 
-  -- ---- what stays of a node whose fields are not written
+  -- ---- what is unchanged in a node whose fields are not written
 
   pub text_stays : (b i : ℕ) (text : List ℕ) → i + length text < 512 → ((j : ℕ) → i ≤ j → j < i + 1 + length text → ¬ W b (j / 4)) → HasText old b i text → HasText new b i text
   text_stays b i text m n g = record {

@@ -1,35 +1,33 @@
--- The blocks of a tree in which a file has other bytes, in other blocks.
+-- The blocks of a tree after a file got other bytes in other blocks.
 use Rattle.std.proofs.Common.{◌≡◌, ◌≢◌, ℕ, zero, suc, ◌/◌, ◌<◌, ◌≤◌, ◌==◌, ◌⊎◌, inl, inr, Bool, true, false, cond, List, ◌∷◌, length, slice_index, slice_get, Option, Some, None, IsSome, refl, sym, ap, ◌∙◌, subst, arith, eq-eqb}
 use Rattle.std.proofs.lemmas.Bool.{ne_eqb, cases_eq, cases_order, false≢true}
 use Rattle.adf_block.specs.declared.Format.{Format}
-use Rattle.adf_block.specs.Image.{IsInside, block_count, page_count, has_free_bit, HasFreeBit}
+use Rattle.adf_block.specs.Image.{IsInside, block_count, page_count, has_free_bit, HasFreeBit, format_of}
 use Rattle.ados_map.specs.Pages.{page_block, pages_of}
-use Rattle.ados_data.specs.Cost.{data_count, extension_count}
-use Rattle.ados_data.specs.File.{format_of}
+use Rattle.ados_model.specs.Tree.{data_count, extension_count, Node, Tree, size_of}
 use Rattle.ados_data.specs.Changing.{IsWritable}
 use Rattle.ados_data.specs.Others.{IsOther, Leaves}
-use Rattle.ados_tree.specs.Tree.{Node, Tree, size_of}
-use Rattle.ados_tree.specs.Tree.Content.{File}
-use Rattle.ados_tree.specs.Layout.{Layout, Fits, Duty, HasDuty, Named}
-use Rattle.ados_tree.specs.Stands.{Stands}
-use Rattle.ados_tree.proofs.Standing.{count_same, slice_get-index}
-use Rattle.ados_tree.proofs.Counting.{slice_get-back}
-use Rattle.ados_tree.proofs.Writable.{inside, key_serves, named_used, page_serves, beside_pages, format_is}
+use Rattle.ados_model.specs.Tree.Content.{File}
+use Rattle.ados_model.specs.Stands.{Layout, Fits, Duty, HasDuty, Named, Stands}
+use Rattle.ados_model.proofs.Standing.{count_same, slice_get-index}
+use Rattle.ados_model.proofs.Counting.{slice_get-back}
+use Rattle.ados_change.proofs.Writable.{inside, key_serves, named_used, page_serves, beside_pages, format_is}
 use Rattle.ados_change.proofs.Contents.{refilled, was, stays, size_here, size_there}
 
--- a block of a list stands at its old place, or is a further one that was marked free
+-- a block of the new list is at its old position, or was marked free before
 abbrev pub ComesFrom : List ℕ → List ℕ → List ℕ → ℕ → Type 0
 ComesFrom old xs ys i = ((i < length xs) × (slice_index ys i ≡ slice_index xs i)) ⊎ ((length xs ≤ i) × (has_free_bit old (slice_index ys i) ≡ true))
 
--- a block of a list stands at its place in the new one, or is marked free
+-- a block of the old list is at its position in the new one, or is marked free afterwards
 abbrev pub GoesTo : List ℕ → List ℕ → List ℕ → ℕ → Type 0
 GoesTo new xs ys i = ((i < length ys) × (slice_index ys i ≡ slice_index xs i)) ⊎ (has_free_bit new (slice_index xs i) ≡ true)
 
--- the block stands in the list
+-- the block is in the list
 abbrev pub IsIn : List ℕ → ℕ → Type 0
 IsIn xs b = (i : ℕ) × (i < length xs) × (slice_index xs i ≡ b)
 
--- a file got other bytes, in blocks that it had or that were marked free; what it gave up is marked free, and nothing else of the map has changed
+-- a file got other bytes, in its old blocks or in blocks that were free; blocks that it gave up are free, and the rest
+-- of the bitmap is unchanged
 pub record IsRewritten (old : List ℕ) (file : ℕ) (blocks extensions : List ℕ) (new : List ℕ) (blocks' extensions' bytes' : List ℕ) : Type 0 where
   pub writable : IsWritable new file blocks' extensions' bytes'
   pub format : format_of new ≡ format_of old
@@ -72,14 +70,14 @@ module _ (old new : List ℕ) (t : Tree) (s : Stands old t) (file : ℕ) (node :
   pub count_new : block_count new ≡ t.blocks
   count_new = ap (λ (n : ℕ). n / 512) h.leaves.same_length ∙ count_same old t s
 
-  -- ---- blocks with a duty beside the file's lists
+  -- ---- blocks with a use outside the file's lists
 
-  -- the duty is not in a list of the file
+  -- the use is not in a list of the file
   pub record IsBesideLists (duty : Duty) : Type 0 where
     pub no_data : (i : ℕ) → duty ≢ Duty.Data file i
     pub no_extension : (q : ℕ) → duty ≢ Duty.Extension file q
 
-  -- such a block, but for the header and the pages, is one that the change leaves
+  -- such a block, if it is neither the header nor a bitmap block, is unchanged
   pub other : (b : ℕ) (duty : Duty) → HasDuty t s.layout b duty → IsBesideLists duty → b ≢ file → ((p : ℕ) → duty ≢ Duty.Page p) → IsOther old file (s.layout.file_data file) (s.layout.extensions file) b
   other b duty m beside not_file no_page = record {
     inside = (inside old t s b duty m).1;
@@ -93,9 +91,9 @@ module _ (old new : List ℕ) (t : Tree) (s : Stands old t) (file : ℕ) (node :
       headers zero l e = not_file e
       headers (suc q) l e = beside.no_extension q (s.fits.one_duty b duty (Duty.Extension file q) m (slice_get-index (s.layout.extensions file) q (omega (arith, l)) ∙ ap Some (sym e)))
 
-  -- ---- duties in the new tree
+  -- ---- uses in the new tree
 
-  -- a duty that the block had before, or one in the file's new lists
+  -- a use that the block had before, or one by the file's new lists
   pub data Holds (b : ℕ) : Duty → Type 0 where
     as_before : {duty : Duty} → HasDuty t s.layout b duty → IsBesideLists duty → Holds b duty
     as_data : {i : ℕ} → i < length blocks' → slice_index blocks' i ≡ b → Holds b (Duty.Data file i)
@@ -138,7 +136,7 @@ module _ (old new : List ℕ) (t : Tree) (s : Stands old t) (file : ℕ) (node :
   pub serves_extension : (q : ℕ) → q < length extensions' → HasDuty u lay (slice_index extensions' q) (Duty.Extension file q)
   serves_extension q l = ap (λ (xs : List ℕ). slice_get xs q) (extensions_here s.layout file blocks' extensions') ∙ slice_get-index extensions' q l
 
-  -- a block of the new lists has no other duty that it had before
+  -- a block of the new lists has no other use from before
   new_data : (b i : ℕ) (duty : Duty) → i < length blocks' → slice_index blocks' i ≡ b → HasDuty t s.layout b duty → IsBesideLists duty → ⊥
   new_data b i duty l e m beside = elim (h.data_from i l) [
     | inl was_there ↦ beside.no_data i (s.fits.one_duty b duty (Duty.Data file i) m (slice_get-index (s.layout.file_data file) i was_there.0 ∙ ap Some (sym was_there.1 ∙ e)))
@@ -215,7 +213,7 @@ module _ (old new : List ℕ) (t : Tree) (s : Stands old t) (file : ℕ) (node :
   pages_new : pages_of new ≡ pages_of old
   pages_new = ap (λ (n : ℕ). page_count (n / 512)) h.leaves.same_length
 
-  -- a block that has a duty is marked used
+  -- a block with a use is marked used
   used_before : (b : ℕ) (duty : Duty) → HasDuty t s.layout b duty → IsBesideLists duty → has_free_bit new b ≡ false
   used_before b duty m beside = go duty m beside
     where
@@ -255,7 +253,7 @@ module _ (old new : List ℕ) (t : Tree) (s : Stands old t) (file : ℕ) (node :
   pub marked_free_after : (b : ℕ) → IsInside t.blocks b → HasFreeBit new b → ¬ Named u lay b
   marked_free_after b i free named = false≢true (sym (used_after b named.0 (holds b named.0 named.1)) ∙ free)
 
-  -- a block that is marked used has a duty
+  -- a block that is marked used has a use
   named_before : (b : ℕ) (duty : Duty) → HasDuty t s.layout b duty → has_free_bit new b ≡ false → Named u lay b
   named_before b (Duty.Page p) m used = (Duty.Page p, m)
   named_before b Duty.Key m used = (Duty.Key, key_on b m)

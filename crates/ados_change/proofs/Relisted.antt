@@ -1,20 +1,18 @@
--- A link of a chain changes, and the date of its directory: the image spells the tree with the directory's new list.
+-- A link of a hash chain and the date of its directory change: the image represents the tree with the directory's new
+-- list.
 use Rattle.std.proofs.Common.{◌≡◌, ◌≢◌, ℕ, ◌+◌, ◌/◌, ◌<◌, ◌≤◌, ◌⊎◌, inl, inr, List, [], ◌∷◌, Contains, Option, Some, None, is_some, IsSome, option_map, refl, sym, ap, ◌∙◌, subst, arith}
 use Rattle.std.proofs.lemmas.Bool.{cases_eq}
-use Rattle.adf_block.specs.Image.{block_sum, long}
-use Rattle.adf_block.specs.Chained.{Chained}
-use Rattle.adf_block.specs.Fields.{table_entry, next_in_chain, name_byte}
+use Rattle.adf_block.specs.Image.{block_sum, long, Chained, table_entry}
+use Rattle.adf_block.specs.Layout.{next_in_chain, name_byte}
 use Rattle.adf_block.specs.Frame.{SameBut}
 use Rattle.adf_block.proofs.Frames.{same_sum}
 use Rattle.ados_name.specs.declared.Date3.{Date3}
 use Rattle.ados_chain.specs.Relinks.{AtLinks, Relinks, link_block, link_long}
-use Rattle.ados_chain.proofs.Lists.{Contains-here, Contains-later}
-use Rattle.ados_tree.specs.Tree.{Content, Node, Tree, root, size_in}
-use Rattle.ados_tree.specs.Tree.Content.{Directory, File}
-use Rattle.ados_tree.specs.Change.{listed}
-use Rattle.ados_tree.specs.Dates.{date_at}
-use Rattle.ados_tree.specs.Layout.{Layout}
-use Rattle.ados_tree.specs.Stands.{HasNode, HasEntry, in_slot, type_of}
+use Rattle.ados_model.proofs.KeyLists.{Contains-here, Contains-later}
+use Rattle.ados_model.specs.Tree.{Content, Node, Tree, root, size_in}
+use Rattle.ados_model.specs.Tree.Content.{Directory, File}
+use Rattle.ados_model.specs.Change.{listed}
+use Rattle.ados_model.specs.Stands.{date_at, Layout, HasNode, HasEntry, in_slot, type_of}
 use Rattle.ados_change.specs.steps.Writes.{AtLongs, AtDate, Dated}
 use Rattle.ados_change.proofs.Frame.{long-kept, sum-kept}
 use Rattle.ados_change.proofs.Changed.{nodes_here, nodes_other, changed_keeps, was, relisted}
@@ -23,12 +21,12 @@ use Rattle.ados_change.proofs.Spells.{Spells}
 use Rattle.ados_change.proofs.Reframed.{TellsOnly, Telling, SameFiles, Chained-stays, first_kept, text_stays, date_stays, entry_stays, reframed}
 use Rattle.ados_change.proofs.Reframed.Telling.{sum, table, heading, linking}
 
--- where a link of a directory's chains may stand: in its table, or in an entry
+-- where a link of a directory's hash chains may be: in its hash table, or in an entry
 pub data IsLinkPlace (t : Tree) (dir b i : ℕ) : Type 0 where
   in_table : b ≡ dir → 6 ≤ i → i < 78 → IsLinkPlace t dir b i
   in_entry : (node : Node) → t.nodes b ≡ Some node → b ≢ root t → i ≡ next_in_chain → IsLinkPlace t dir b i
 
--- the link behind entries of a chain stands in such a place
+-- the link after entries of a hash chain is in such a place
 pub link_place : (t : Tree) (dir b i : ℕ) (front : List ℕ) → IsLinkPlace t dir b i → ((k : ℕ) → Contains front k → (node : Node) × (t.nodes k ≡ Some node) × (k ≢ root t)) → IsLinkPlace t dir (link_block b front) (link_long i front)
 link_place t dir b i [] at entry = at
 link_place t dir b i (k ∷ ks) at entry =
@@ -101,7 +99,7 @@ module _ (old mid new : List ℕ) (t : Tree) (l : Layout) (loose_key : ℕ) (s :
   size : (t.blocks ≤ 101602) × (16 ≤ t.blocks)
   size = (loose.size.1, loose.size.0)
 
-  -- a long that is neither of a table nor a link, date or sum
+  -- a long outside hash tables, links, dates and checksums
   free : (b j : ℕ) → ((78 ≤ j) × (j < 105)) ⊎ (((108 ≤ j) × (j < 124)) ⊎ (j ≡ 125)) → ¬ W b j
   free b j o w = go place w
     where
@@ -118,7 +116,7 @@ module _ (old mid new : List ℕ) (t : Tree) (l : Layout) (loose_key : ℕ) (s :
       go p (dated e f g) = elim o [ inl x ↦ omega (arith, x.1, f) | inr (inl x) ↦ omega (arith, x.0, g) | inr (inr x) ↦ omega (arith, x, g) ]
       go p (dated_sum e f) = apart 5 (inl (omega arith)) f
 
-  -- of other blocks than the directory's no date is written
+  -- only the directory's date is written
   undated : (b j : ℕ) → b ≢ dir → 105 ≤ j → j < 108 → ¬ W b j
   undated b j n p q w = go place w
     where

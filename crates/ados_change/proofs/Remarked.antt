@@ -1,26 +1,21 @@
--- A block that is taken for a new node, or given back by one: the rest of the image stays.
+-- A block allocated for a new node, or freed by one: the rest of the image is unchanged.
 use Rattle.std.proofs.Common.{◌≡◌, ◌≢◌, ℕ, zero, suc, ◌+◌, ◌-◌, ◌/◌, ◌%◌, ◌<◌, ◌≤◌, ◌⊎◌, inl, inr, Bool, true, false, ◌==◌, List, ◌∷◌, length, slice_index, Contains, not, Option, Some, is_some, option_map, refl, sym, ap, ◌∙◌, subst, arith}
 use Rattle.std.proofs.lemmas.Bool.{cases_lt, cases_eq}
 use Rattle.std.proofs.lemmas.List.{get_or_default, get_or_past}
 use Rattle.adf_block.specs.declared.Format.{Format}
 use Rattle.adf_block.specs.declared.Format.TheVariants.{Ofs, Ffs}
-use Rattle.adf_block.specs.Image.{IsInside, has_free_bit, HasFreeBit, bytes_at, long, block_sum}
-use Rattle.adf_block.specs.Chained.{Chained}
-use Rattle.adf_block.specs.Fields.{HasText, table_entry, next_in_chain, next_extension, next_data, name_byte, comment_byte}
+use Rattle.adf_block.specs.Image.{IsInside, has_free_bit, HasFreeBit, bytes_at, long, block_sum, Chained, HasText, table_entry}
+use Rattle.adf_block.specs.Layout.{next_in_chain, next_extension, next_data, name_byte, comment_byte}
 use Rattle.ados_name.specs.Name.{slot}
-use Rattle.ados_data.specs.Cost.{data_count}
-use Rattle.ados_data.specs.File.{HasFile, file_byte}
-use Rattle.ados_tree.specs.Tree.{Node, Tree, root, entries, entries_in, size_in, size_of, name_of}
-use Rattle.ados_tree.specs.Tree.Content.{Directory, File}
-use Rattle.ados_tree.specs.Change.{with_node}
-use Rattle.ados_tree.specs.Layout.{Layout, Fits, Duty, HasDuty, Named}
-use Rattle.ados_tree.specs.Dates.{date_at}
-use Rattle.ados_tree.specs.Stands.{HasNode, HasEntry, HasRoot, in_slot}
+use Rattle.ados_model.specs.Tree.{data_count, Node, Tree, root, entries, entries_in, size_in, size_of, name_of}
+use Rattle.ados_model.specs.Stands.{HasFile, file_byte, Layout, Fits, Duty, HasDuty, Named, date_at, HasNode, HasEntry, HasRoot, in_slot}
+use Rattle.ados_model.specs.Tree.Content.{Directory, File}
+use Rattle.ados_model.specs.Change.{with_node}
 use Rattle.adf_block.specs.Frame.{SameBut}
 use Rattle.ados_change.specs.steps.Writes.{AtLongs}
 use Rattle.ados_change.proofs.Frame.{long-kept, bytes-kept, sum-kept}
-use Rattle.ados_tree.proofs.Standing.{slice_get-index}
-use Rattle.ados_tree.proofs.Nodes.{parent_in}
+use Rattle.ados_model.proofs.Standing.{slice_get-index}
+use Rattle.ados_model.proofs.Nodes.{parent_in}
 use Rattle.ados_change.proofs.Entering.{Contains-part}
 use Rattle.ados_change.proofs.Changed.{nodes_here, nodes_other}
 use Rattle.ados_change.proofs.Loose.{Loose}
@@ -28,22 +23,22 @@ use Rattle.ados_change.proofs.Slots.{slots_beside}
 use Rattle.ados_change.proofs.Spells.{Spells}
 use Rattle.ados_change.proofs.Reframed.{Chained-stays}
 
--- the block of a page
+-- a bitmap block
 abbrev pub IsPage : Layout → ℕ → Type 0
 IsPage l b = (p : ℕ) × (p < length l.pages) × (slice_index l.pages p ≡ b)
 
--- the pages and one block
+-- the bitmap blocks and one other block
 abbrev pub InPageOr : Layout → ℕ → ℕ → ℕ → Type 0
 InPageOr l key b j = IsPage l b ⊎ (b ≡ key)
 
--- the block of a key got this node, or is free
+-- the block of a key has this node now, or is free
 pub record Remarks (old : List ℕ) (t : Tree) (l : Layout) (key : ℕ) (o : Option Node) (new : List ℕ) : Type 0 where
   pub change : SameBut (AtLongs (InPageOr l key)) old new
   pub bit : has_free_bit new key ≡ not (is_some o)
   pub others : (b : ℕ) → IsInside t.blocks b → b ≢ key → has_free_bit new b ≡ has_free_bit old b
   pub sums : (page : ℕ) → Contains l.pages page → block_sum new page ≡ 0
 
--- the node of a key that has its block alone
+-- a node whose only block is that of its key
 pub record IsAlone (t : Tree) (l : Layout) (key : ℕ) (o : Option Node) : Type 0 where
   pub inside : IsInside t.blocks key
   pub only : (duty : Duty) → HasDuty t l key duty → duty ≡ Duty.Key
@@ -55,7 +50,7 @@ module _ (old new : List ℕ) (t : Tree) (l : Layout) (key : ℕ) (o : Option No
   abbrev w : Tree
   w = with_node key o t
 
-  -- a block beside the pages that is not the key
+  -- a block that is neither a bitmap block nor the key
   abbrev pub IsBeside : ℕ → Type 0
   IsBeside b = (b ≢ key) × ((p : ℕ) → p < length l.pages → slice_index l.pages p ≢ b)
 
@@ -81,7 +76,7 @@ module _ (old new : List ℕ) (t : Tree) (l : Layout) (key : ℕ) (o : Option No
   date_stays : (b i : ℕ) → IsBeside b → i + 2 < 128 → date_at new b i ≡ date_at old b i
   date_stays b i n m = λ k. record { days = long_stays b i n (omega arith) k; minutes = long_stays b (i + 1) n (omega arith) k; ticks = long_stays b (i + 2) n m k }
 
-  -- a block with another duty than that of a page, and not the key
+  -- a block used otherwise than as a bitmap block, and not the key
   by_duty : (b : ℕ) (duty : Duty) → HasDuty t l b duty → ((p : ℕ) → duty ≢ Duty.Page p) → b ≢ key → IsBeside b
   by_duty b duty m n o = (o, λ p h e. n p (s.fits.one_duty b duty (Duty.Page p) m (slice_get-index l.pages p h ∙ ap Some e)))
 
@@ -121,7 +116,7 @@ module _ (old new : List ℕ) (t : Tree) (l : Layout) (key : ℕ) (o : Option No
   file_byte_stays Ofs file k = r.change.same_byte (slice_index (l.file_data file) (k / 488)) (24 + k % 488) (omega arith) (untouched (slice_index (l.file_data file) (k / 488)) ((24 + k % 488) / 4) (data_beside file (k / 488)))
   file_byte_stays Ffs file k = r.change.same_byte (slice_index (l.file_data file) (k / 512)) (0 + k % 512) (omega arith) (untouched (slice_index (l.file_data file) (k / 512)) ((0 + k % 512) / 4) (data_beside file (k / 512)))
 
-  -- each block of a list that is beside has its link still
+  -- each such block of a list has its old link
   links_stay : (link : ℕ) (xs : List ℕ) → link < 128 → ((i : ℕ) → i < length xs → IsBeside (slice_index xs i)) → (b : ℕ) → Contains xs b → long new b link ≡ long old b link
   links_stay link xs m n b c = long_stays b link (subst IsBeside (get_or_default xs c.0 0 b c.1 ∙ c.2) (n c.0 c.1)) m
 
@@ -171,7 +166,7 @@ module _ (old new : List ℕ) (t : Tree) (l : Layout) (key : ℕ) (o : Option No
   slots_same : (dir q : ℕ) → in_slot w dir q ≡ in_slot t dir q
   slots_same dir q = slots_beside t key loose o alone.same_list dir q
 
-  -- ---- the duties
+  -- ---- the uses
 
   serves_old : (b : ℕ) (duty : Duty) → b ≢ key → HasDuty w l b duty → HasDuty t l b duty
   serves_old b (Duty.Page i) n m = m
@@ -272,7 +267,7 @@ module _ (old new : List ℕ) (t : Tree) (l : Layout) (key : ℕ) (o : Option No
           }
     ]
 
-    -- an entry of a list is a node beside
+    -- an entry of a list is such a node
     listed_beside : (dir k : ℕ) → Contains (entries t dir) k → IsBeside k
     listed_beside dir k m =
         let p = (loose.listed dir k).0 m in

@@ -1,11 +1,10 @@
--- The steps by which an entry without contents is taken away.
+-- The steps that remove an entry without contents.
 use Rattle.std.proofs.Common.{◌≡◌, ◌≢◌, ℕ, ◌+◌, ◌/◌, ◌<◌, inl, inr, List, ◌∷◌, length, slice_index, Contains, Some, IsSome, true, refl, sym, ap, ◌∙◌, subst, arith}
 use Rattle.std.proofs.lemmas.Bool.{cases_eq}
 use Rattle.std.proofs.lemmas.List.Elements.{Contains-append_left}
-use Rattle.adf_block.specs.Chained.{Chained}
+use Rattle.adf_block.specs.Image.{Chained, parent_key, table_entry, block_count, byte_at, long, root_key, IsInside}
 use Rattle.adf_block.specs.Frame.{SameBut}
-use Rattle.adf_block.specs.Fields.{next_in_chain, parent_key, table_entry}
-use Rattle.adf_block.specs.Image.{block_count, byte_at, long, root_key, IsInside}
+use Rattle.adf_block.specs.Layout.{next_in_chain}
 use Rattle.adf_block.proofs.Frames.{same_count, same_trans}
 use Rattle.ados_map.specs.Changes.{MapPlace, BitChanged}
 use Rattle.ados_map.specs.Pages.{LawfulPages, page_block, page_of, pages_of}
@@ -14,15 +13,14 @@ use Rattle.ados_chain.proofs.Changes.{slot_at-small}
 use Rattle.ados_chain.proofs.Spelling.{Chained-behind}
 use Rattle.ados_chain.specs.Chains.{LawfulChains, slot_at}
 use Rattle.ados_chain.specs.Relinks.{AtLinks, CanUnlink, Unlinks, link_block, link_long}
-use Rattle.ados_tree.specs.Change.{removed}
-use Rattle.ados_tree.specs.Kept.{Kept}
-use Rattle.ados_tree.specs.Layout.{Duty}
-use Rattle.ados_tree.specs.Untold.{KeepsUntold}
-use Rattle.ados_tree.proofs.FilesStay.{past_end_trans}
-use Rattle.ados_tree.specs.Stands.{Stands, in_slot}
-use Rattle.ados_tree.specs.Tree.{Node, Tree, root, size_of}
-use Rattle.ados_tree.proofs.Nodes.{parent_in}
-use Rattle.ados_tree.proofs.Standing.{slice_get-index}
+use Rattle.ados_model.specs.Change.{removed}
+use Rattle.ados_model.specs.Kept.{Kept}
+use Rattle.ados_model.specs.Stands.{Duty, Stands, in_slot}
+use Rattle.ados_change.specs.Untold.{KeepsUntold}
+use Rattle.ados_change.proofs.FilesStay.{past_end_trans}
+use Rattle.ados_model.specs.Tree.{Node, Tree, root, size_of}
+use Rattle.ados_model.proofs.Nodes.{parent_in}
+use Rattle.ados_model.proofs.Standing.{slice_get-index}
 use Rattle.ados_change.specs.Conditions.{CanRemove}
 use Rattle.ados_change.specs.steps.Emptied.{GivesBack}
 use Rattle.ados_change.specs.steps.Writes.{Dated}
@@ -94,7 +92,7 @@ module _ (old : List ℕ) (t : Tree) (st : Stands old t) (moment : Date3) (key :
           place_behind old t st.layout 0 (s old t st moment key can no_bytes) (whole_loose old t st moment key can no_bytes) can.dir d.0 d.1 d.2 d.3 slot_key (slot_at-small old key) unlinked.front
           (λ k m. subst (λ (xs : List ℕ). Contains xs k) (sym unlinked.split) (Contains-append_left unlinked.front (key ∷ unlinked.back) k m))
 
-      -- the link that named the key
+      -- the link to the key
       link_was : long old (link_block can.dir unlinked.front) (link_long (6 + slot_key) unlinked.front) ≡ key
       link_was =
           let spelled = subst (Chained old next_in_chain (table_entry old can.dir slot_key)) unlinked.split (old_chains.spelled slot_key (slot_at-small old key)) in
@@ -126,7 +124,7 @@ module _ (old : List ℕ) (t : Tree) (st : Stands old t) (moment : Date3) (key :
           (marked_kept old t st m4 key (page_of key) true m2 m3 page.0 page.1 given))
           (stamped_kept old t st m4 moment m3 m4 (stamp_at_root m3 m4 given stamp))
 
-      -- what an earlier change kept is kept
+      -- what an earlier change left untouched is still untouched
       pub gone_kept_since : (m3 m4 : List ℕ) → BitChanged m2 key true m3 → Dated (root_key (block_count m3)) 118 moment m3 m4 → (first : List ℕ) → Kept first old → Kept first m4
       gone_kept_since m3 m4 given stamp =
           let d = directory old t st moment key can no_bytes in
@@ -140,7 +138,7 @@ module _ (old : List ℕ) (t : Tree) (st : Stands old t) (moment : Date3) (key :
       gone m3 m4 given stamp =
           removed_stands old t st moment key can no_bytes m1 m2 m3 m4 unlinked dated_from given (stamp_at_root m3 m4 given stamp)
 
-      -- ---- what no tree tells of
+      -- ---- what no tree determines
 
       off_map : SameBut (IsOffMap old t st) old m2
       off_map =
@@ -162,7 +160,7 @@ module _ (old : List ℕ) (t : Tree) (st : Stands old t) (moment : Date3) (key :
           untold_kept old m4 t (removed moment key t) st after (gone m3 m4 given stamp).proper (gone_written m3 m4 given stamp)
           (past_end_trans old m3 m4 (same ∙ count) (past_end_trans old m2 m3 count first bit) last)
 
-      -- of the entry's own block only the link and the sum are written
+      -- in the entry's own block only the next-in-chain long and the checksum are written
       own_stays : (m3 m4 : List ℕ) → BitChanged m2 key true m3 → Dated (root_key (block_count m3)) 118 moment m3 m4 → (i : ℕ) → i < 512 → i / 4 ≢ next_in_chain → i / 4 ≢ 5 → byte_at m4 key i ≡ byte_at old key i
       own_stays m3 m4 given stamp i l no_link no_sum =
           (stamp_at_root m3 m4 given stamp).rest.same_byte key i l (λ w. not_root_key w.0)
@@ -183,7 +181,7 @@ module _ (old : List ℕ) (t : Tree) (st : Stands old t) (moment : Date3) (key :
           unlinked_beside front (in_table e m n) (inl (inl w)) = no_parent (sym (w.0 ∙ e))
           unlinked_beside front (in_entry x f n e) (inl (inl w)) = no_link (w.1 ∙ e)
 
-      -- no block is taken, and none but the entry's own is given back or, being free, written
+      -- no block is allocated; only the entry's own block is freed, and no other free block is written
       pub gone_gives : (m3 m4 : List ℕ) → BitChanged m2 key true m3 → Dated (root_key (block_count m3)) 118 moment m3 m4 → GivesBack key old m4
       gone_gives m3 m4 given stamp =
           let u = removed moment key t in

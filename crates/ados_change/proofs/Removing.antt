@@ -1,4 +1,4 @@
--- An entry without contents is taken away: the image stands for the tree without it.
+-- An entry without contents is removed: the image represents the tree without it.
 use Rattle.std.proofs.Common.{◌≡◌, ℕ, ◌<◌, inl, inr, true, not, List, [], Contains, Option, Some, None, is_some, option_map, refl, sym, ap, ◌∙◌, subst, arith}
 use Rattle.std.proofs.lemmas.Bool.{cases_eq}
 use Rattle.adf_block.specs.Image.{IsInside, block_sum}
@@ -8,12 +8,11 @@ use Rattle.ados_map.specs.Changes.{MapPlace, BitChanged}
 use Rattle.ados_map.proofs.MarkLemmas.{bit_of_inside}
 use Rattle.ados_name.specs.declared.Date3.{Date3}
 use Rattle.ados_chain.specs.Relinks.{CanUnlink, Unlinks}
-use Rattle.ados_tree.specs.Tree.{Node, Tree, Proper, root, entries, size_in, size_of}
-use Rattle.ados_tree.specs.Tree.Content.{Directory}
-use Rattle.ados_tree.specs.Change.{with_node, removed, stamped}
-use Rattle.ados_tree.specs.Layout.{Duty, Layout}
-use Rattle.ados_tree.specs.Stands.{Stands, in_slot}
-use Rattle.ados_tree.proofs.Nodes.{directory_node, parent_in}
+use Rattle.ados_model.specs.Tree.{Node, Tree, Proper, root, entries, size_in, size_of}
+use Rattle.ados_model.specs.Tree.Content.{Directory}
+use Rattle.ados_model.specs.Change.{with_node, removed, stamped}
+use Rattle.ados_model.specs.Stands.{Duty, Layout, Stands, in_slot}
+use Rattle.ados_model.proofs.Nodes.{directory_node, parent_in}
 use Rattle.ados_change.specs.Conditions.{CanRemove}
 use Rattle.ados_change.specs.steps.Writes.{Dated}
 use Rattle.ados_change.proofs.Loose.{Loose, l, left_is, in_list, unlisted_is_loose, not_own_parent, node_kept, entries_other, without_is_proper, proper_is_loose, stamped_is_proper}
@@ -22,7 +21,7 @@ use Rattle.ados_change.proofs.Lawful.{page_is, page_within, count, lawful_pages}
 use Rattle.ados_change.proofs.Listing.{can_unlink, left_spells, stamped_spells}
 use Rattle.ados_change.proofs.Remarked.{IsAlone, Remarks, remarked}
 
--- one bit was put: the block's key may be remarked
+-- one bit was changed: the key's block may have another node
 module _ (old new : List ℕ) (t : Tree) (lay : Layout) (key : ℕ) (s : Spells old t lay) (loose : Loose t key) (inside : IsInside t.blocks key) (o : Option Node) (marked : BitChanged old key (not (is_some o)) new) where
   own_page : page_of key < pages_of old
   own_page = omega (arith, inside.0, inside.1, count old t lay key s loose)

@@ -1,21 +1,21 @@
--- The steps by which an entry moves.
+-- The steps that move an entry.
 use Rattle.std.proofs.Common.{◌≡◌, ◌≢◌, ℕ, ◌+◌, ◌<◌, inl, List, ◌∷◌, length, Contains, Some, sym, ◌∙◌, subst, arith}
 use Rattle.std.proofs.lemmas.List.Elements.{Contains-append_left}
-use Rattle.adf_block.specs.Fields.{name_byte, next_in_chain, parent_key}
+use Rattle.adf_block.specs.Layout.{name_byte, next_in_chain}
+use Rattle.adf_block.specs.Image.{parent_key, HasFreeBit, block_count, byte_at, long, root_key}
 use Rattle.adf_block.specs.Frame.{SameBut}
-use Rattle.adf_block.specs.Image.{HasFreeBit, block_count, byte_at, long, root_key}
 use Rattle.adf_block.proofs.Frames.{same_count, same_trans}
 use Rattle.ados_name.specs.declared.Date3.{Date3}
 use Rattle.ados_chain.proofs.Changes.{slot_at-small}
 use Rattle.ados_chain.specs.Chains.{LawfulChains, slot_at}
 use Rattle.ados_chain.specs.Relinks.{CanInsert, CanUnlink, InsertsLast, Unlinks, link_block, link_long}
-use Rattle.ados_tree.specs.Faults.{InImage}
-use Rattle.ados_tree.specs.Change.{changed, entered, renamed}
-use Rattle.ados_tree.specs.NewBlocks.{KeepsRest, TakesNone}
-use Rattle.ados_tree.specs.Stands.{Stands, in_slot}
-use Rattle.ados_tree.specs.Tree.{Node, Tree, root}
-use Rattle.ados_tree.proofs.Keeping.{none_taken}
-use Rattle.ados_tree.proofs.Nodes.{parent_in}
+use Rattle.ados_model.specs.Faults.{InImage}
+use Rattle.ados_model.specs.Change.{changed, entered, renamed}
+use Rattle.ados_change.specs.NewBlocks.{KeepsRest, TakesNone}
+use Rattle.ados_model.specs.Stands.{Stands, in_slot}
+use Rattle.ados_model.specs.Tree.{Node, Tree, root}
+use Rattle.ados_change.proofs.Keeping.{none_taken}
+use Rattle.ados_model.proofs.Nodes.{parent_in}
 use Rattle.ados_change.specs.Conditions.{CanRename}
 use Rattle.ados_change.specs.steps.Writes.{AtTitle, Dated, Titled}
 use Rattle.ados_change.proofs.Created.{at_root, dated_count}
@@ -97,7 +97,7 @@ module _ (old : List ℕ) (t : Tree) (st : Stands old t) (moment : Date3) (key d
               renamed_stands old t st moment key dir name can m1 m2 m3 unlinked dated_from titled m4 m5 m6 inserted dated
               (at_root m5 m6 t moment (dated_count dir 105 moment m4 m5 dated ∙ count_m4) stamp)
 
-          -- ---- what is no field
+          -- ---- bytes outside fields
 
           no_root : key ≢ root t
           no_root = not_root old t st.layout 0 (s old t st moment key dir name can) (whole_loose old t st moment key dir name can) key can.from can.listed
@@ -108,14 +108,14 @@ module _ (old : List ℕ) (t : Tree) (st : Stands old t) (moment : Date3) (key d
               let before = was (relisted moment (kept t st.proper key can.from can.listed moment)) can.from t k out.old out.at in
               inl (before.old, before.at, n)
 
-          -- the name that it got stands in its block
+          -- the new name is in its block
           counted : (m6 : List ℕ) → Stands m6 (renamed moment key dir name t) → byte_at m6 key name_byte ≡ length name
           counted m6 after =
               let at = subst (λ (u : Tree). (entered moment dir key (changed key (titling dir name) u)).nodes key ≡ Some (titling dir name (the_entry old t st moment key dir name can).0)) (sym (left_is t st.proper key can.from can.listed moment))
               (nodes_other dir _ (there old t st moment key dir name can) key (λ e. dir_is_other t moment key dir name st.proper can (sym e)) ∙ moved_here t moment key dir name st.proper can) in
               (after.nodes key (titling dir name (the_entry old t st moment key dir name can).0) at).name.counted
 
-          -- where the link stood that named it, and where the one stands that does now
+          -- the positions of the old and of the new link to the entry
           left_place : IsLinkPlace t can.from (link_block can.from unlinked.front) (link_long (6 + slot_at old key) unlinked.front)
           left_place =
               let d = directory old t st moment key dir name can in
@@ -149,7 +149,7 @@ module _ (old : List ℕ) (t : Tree) (st : Stands old t) (moment : Date3) (key d
               (dated_kept old t st m6 dir into.node into.at moment m4 m5 dated))
               (stamped_kept old t st m6 moment m5 m6 (at_root m5 m6 t moment (dated_count dir 105 moment m4 m5 dated ∙ count_m4) stamp))
 
-          -- ---- what stays
+          -- ---- what is unchanged
 
           after : (m5 m6 : List ℕ) → Dated dir 105 moment m4 m5 → Dated (root_key (block_count m5)) 118 moment m5 m6 → Spells m6 (renamed moment key dir name t) st.layout
           after m5 m6 dated stamp =
@@ -164,7 +164,7 @@ module _ (old : List ℕ) (t : Tree) (st : Stands old t) (moment : Date3) (key d
           moved_gives_none m5 m6 dated stamp =
               λ b inside free. was_free old m6 t (renamed moment key dir name t) st (after m5 m6 dated stamp) (left_blocks moment key t) (left_lost moment key t) b inside (λ some. renamed_some moment key dir name t b ∙ some) free
 
-          -- none of the map is written
+          -- no byte of the bitmap is written
           moved_off : (m5 m6 : List ℕ) → Dated dir 105 moment m4 m5 → Dated (root_key (block_count m5)) 118 moment m5 m6 → SameBut (IsOffMap old t st) old m6
           moved_off m5 m6 dated stamp =
               let d = directory old t st moment key dir name can in

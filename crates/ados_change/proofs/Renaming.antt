@@ -1,18 +1,16 @@
--- An entry that moves, also under a new name: the image stands for the tree in which it moved.
+-- An entry moved, possibly under a new name: the image represents the tree with the entry moved.
 use Rattle.std.proofs.Common.{◌≡◌, ◌≢◌, ℕ, ◌+◌, ◌/◌, ◌<◌, ◌≤◌, ◌⊎◌, inl, inr, List, length, Contains, Option, Some, None, is_some, IsSome, option_map, refl, sym, ap, ◌∙◌, subst, arith}
-use Rattle.adf_block.specs.Image.{block_sum, long}
-use Rattle.adf_block.specs.Chained.{Chained}
-use Rattle.adf_block.specs.Fields.{HasText, name_byte, comment_byte, next_in_chain, table_entry, parent_key}
+use Rattle.adf_block.specs.Image.{block_sum, long, Chained, HasText, table_entry, parent_key}
+use Rattle.adf_block.specs.Layout.{name_byte, comment_byte, next_in_chain}
 use Rattle.adf_block.proofs.Frames.{same_weaken}
 use Rattle.ados_name.specs.declared.Date3.{Date3}
 use Rattle.ados_name.specs.Name.{IsName}
 use Rattle.ados_chain.specs.Relinks.{CanInsert, CanUnlink, InsertsLast, Unlinks}
-use Rattle.ados_tree.specs.Tree.{Node, Tree, root, entries, size_in}
-use Rattle.ados_tree.specs.Tree.Content.{Directory}
-use Rattle.ados_tree.specs.Change.{changed, entered, renamed, stamped}
-use Rattle.ados_tree.specs.Layout.{Layout}
-use Rattle.ados_tree.specs.Stands.{Stands, HasNode, HasEntry, in_slot}
-use Rattle.ados_tree.proofs.Nodes.{directory_node}
+use Rattle.ados_model.specs.Tree.{Node, Tree, root, entries, size_in}
+use Rattle.ados_model.specs.Tree.Content.{Directory}
+use Rattle.ados_model.specs.Change.{changed, entered, renamed, stamped}
+use Rattle.ados_model.specs.Stands.{Layout, Stands, HasNode, HasEntry, in_slot}
+use Rattle.ados_model.proofs.Nodes.{directory_node}
 use Rattle.ados_change.specs.Conditions.{CanRename}
 use Rattle.adf_block.specs.Frame.{SameBut}
 use Rattle.ados_change.specs.steps.Writes.{AtLongs, AtTitle, Dated, Titled}
@@ -26,7 +24,7 @@ use Rattle.ados_change.proofs.Reframed.{TellsOnly, Chained-stays, first_kept, la
 use Rattle.ados_change.proofs.Reframed.Telling.{sum, heading, linking}
 use Rattle.ados_change.proofs.Listing.{can_unlink, can_insert, left_spells, entered_spells, stamped_spells}
 
--- the longs of an entry's name, directory and sum
+-- the longs of an entry's name, directory and checksum
 abbrev pub AtTitleLongs : ℕ → ℕ → ℕ → Type 0
 AtTitleLongs key b j = (b ≡ key) × ((j ≡ 5) ⊎ (((108 ≤ j) × (j < 116)) ⊎ (j ≡ 125)))
 

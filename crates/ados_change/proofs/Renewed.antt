@@ -1,36 +1,36 @@
--- A file that is stamped and then rewritten: what follows for the tree and the image.
+-- A file that gets its time stamp and is then rewritten: consequences for the tree and the image.
 use Rattle.std.proofs.Common.{◌≡◌, ◌≢◌, ℕ, ◌+◌, ◌/◌, ◌<◌, ◌≤◌, inl, inr, true, false, List, [], length, Option, Some, None, option_map, refl, sym, ap, ap₂, ◌∙◌, subst, arith, eq-eqb}
 use Rattle.std.proofs.lemmas.Bool.{ne_eqb, cases_eq, lt-ltb, ltb-true, false≢true}
-use Rattle.adf_block.specs.Image.{IsImage, IsInside, block_count, byte_at, long, has_free_bit, free_bit_count}
+use Rattle.adf_block.specs.Whole.{IsImage, free_bit_count}
+use Rattle.adf_block.specs.Image.{IsInside, block_count, byte_at, long, has_free_bit, secondary_type, format_of}
 use Rattle.adf_block.specs.Frame.{SameBut}
-use Rattle.adf_block.specs.Fields.{secondary_type, file_type}
+use Rattle.adf_block.specs.Layout.{file_type}
 use Rattle.adf_block.proofs.Frames.{same_count}
 use Rattle.adf_block.proofs.Longs.{long-same}
 use Rattle.ados_name.specs.declared.Date3.{Date3}
 use Rattle.ados_map.specs.Pages.{NoneFreeBelow}
 use Rattle.ados_data.proofs.Bounds.{below_stays}
-use Rattle.ados_data.specs.Cost.{block_cost}
-use Rattle.ados_data.specs.File.{format_of, data_blocks, extension_blocks, contents}
+use Rattle.ados_model.specs.Tree.{block_cost, Content, Node, Tree, root, free, content_at, size_of, bytes_of, bytes_in as bytes_held}
+use Rattle.ados_model.specs.File.{data_blocks, extension_blocks, contents}
 use Rattle.ados_data.specs.Changing.{HasFree, WritableFile}
 use Rattle.ados_data.specs.Others.{IsDataField, RisesBehind}
 use Rattle.ados_data.specs.declared.place.Place.{Place}
 use Rattle.ados_data.specs.Place.{IsAmong, IsPlace}
 use Rattle.ados_data.specs.Unnamed.{KeepsUnnamed}
-use Rattle.ados_tree.specs.Tree.{Content, Node, Tree, root, free, content_at, size_of, bytes_of, bytes_in as bytes_held}
-use Rattle.ados_tree.specs.Tree.Content.{File}
-use Rattle.ados_tree.specs.Layout.{Duty}
-use Rattle.ados_tree.specs.Keys.{HasFileKey, HasTree}
-use Rattle.ados_tree.specs.Stands.{Stands}
-use Rattle.ados_tree.specs.Change.{rewritten, without_archive}
-use Rattle.ados_tree.specs.NewBlocks.{KeepsRest}
-use Rattle.ados_tree.proofs.Nodes.{content_in}
-use Rattle.ados_tree.proofs.FilesStay.{has_bytes, untold_trans}
-use Rattle.ados_tree.proofs.Standing.{root_is, IsFileNode}
-use Rattle.ados_tree.proofs.Counting.{free_bits_count}
-use Rattle.ados_tree.proofs.OneTree.{one_tree}
+use Rattle.ados_model.specs.Tree.Content.{File}
+use Rattle.ados_model.specs.Stands.{Duty, Stands}
+use Rattle.ados_model.specs.Keys.{HasFileKey, HasTree}
+use Rattle.ados_model.specs.Change.{rewritten}
+use Rattle.ados_name.specs.Name.{without_archive}
+use Rattle.ados_change.specs.NewBlocks.{KeepsRest}
+use Rattle.ados_model.proofs.Nodes.{content_in}
+use Rattle.ados_change.proofs.FilesStay.{has_bytes, untold_trans}
+use Rattle.ados_model.proofs.Standing.{root_is, IsFileNode}
+use Rattle.ados_model.proofs.Counting.{free_bits_count}
+use Rattle.ados_model.proofs.OneTree.{one_tree}
 use Rattle.ados_change.specs.Stamps.{AtStamps, IsFileStamp, touched}
 use Rattle.ados_change.specs.Renewed.{IsStamped, NeedsMore}
-use Rattle.ados_tree.proofs.Writable.{inside, key_serves, writable, data_is, extensions_is, bytes_is, format_is}
+use Rattle.ados_change.proofs.Writable.{inside, key_serves, writable, data_is, extensions_is, bytes_is, format_is}
 use Rattle.ados_change.proofs.Contents.{refilled, holding, file_not_root}
 use Rattle.ados_change.proofs.Relaid.{IsRewritten}
 use Rattle.ados_change.proofs.Refilled.{stands_after}
@@ -73,7 +73,7 @@ size_field image t s file key =
 
 -- ---- room
 
--- an image has room for a file exactly where its tree has
+-- the image has enough free blocks for a file exactly if its tree has
 pub free_in : (image : List ℕ) (t : Tree) (s : Stands image t) (file size : ℕ) → HasFileKey image file → (free_bit_count image + block_cost (format_of image) (length (contents image file)) ≡ free t + block_cost t.format (size_of t file)) × (block_cost (format_of image) size ≡ block_cost t.format size)
 free_in image t s file size key = (
   ap₂ (λ (a b : ℕ). a + b) (free_bits_count image t s) (ap₂ block_cost (format_is image t s) (size_in image t s file key)),
@@ -94,7 +94,7 @@ touch moment node = record node { date = moment; protection = without_archive no
 abbrev rewrite : Date3 → List ℕ → Node → Node
 rewrite moment bytes node = record node { content = File bytes; date = moment; protection = without_archive node.protection }
 
--- a file that is touched and refilled is rewritten
+-- a file that is stamped and refilled is rewritten
 same_node : (moment : Date3) (bytes : List ℕ) (file k : ℕ) (t : Tree) → (refilled file bytes (touched moment file t)).nodes k ≡ (rewritten moment file bytes t).nodes k
 same_node moment bytes file k t = elim (cases_eq k file) [
   | inl e ↦ rw (eq-eqb k file e, eq-eqb file file refl) (go (t.nodes file))
@@ -115,7 +115,7 @@ is_rewritten moment bytes file t = λ i. record {
   lost = t.lost;
 }
 
--- ---- after the stamp
+-- ---- after the time stamp
 
 module _ (moment : Date3) (old mid : List ℕ) (file : ℕ) (tree : HasTree old) (key : HasFileKey old file) (h : IsStamped moment old file mid) where
   touched_content : (t : Tree) → content_at (touched moment file t) file ≡ content_at t file
@@ -125,14 +125,14 @@ module _ (moment : Date3) (old mid : List ℕ) (file : ℕ) (tree : HasTree old)
       go None = refl
       go (Some a) = refl
 
-  -- so is what any node holds
+  -- the content of every node is the same
   touched_contents : (t : Tree) (k : ℕ) → content_at (touched moment file t) k ≡ content_at t k
   touched_contents t k = elim (cases_eq k file) [
     | inl e ↦ ap (content_at (touched moment file t)) e ∙ touched_content t ∙ ap (content_at t) (sym e)
     | inr n ↦ rw (ne_eqb k file n) refl
   ]
 
-  -- the image after it stands for a tree in which the file is one still
+  -- the image after it represents a tree in which the file is still a file
   abbrev pub mid_tree : HasTree mid
   mid_tree = (touched moment file tree.0, h.stands tree.0 tree.1)
 
@@ -154,7 +154,7 @@ module _ (moment : Date3) (old mid : List ℕ) (file : ℕ) (tree : HasTree old)
   rest : SameBut (AtStamps (root tree.0) file) old mid
   rest = subst (λ (r : ℕ). SameBut (AtStamps r file) old mid) (root_is old tree.0 tree.1) h.rest
 
-  -- of the header only the stamps change
+  -- in the header only the time stamps change
   pub header_stamped : (k : ℕ) → k < 512 → ¬ IsFileStamp (k / 4) → byte_at mid file k ≡ byte_at old file k
   header_stamped k l n = rest.same_byte file k l (λ w. elim w [ inl z ↦ n z.1 | inr z ↦ file_is_no_root z.0 ])
 
@@ -168,14 +168,14 @@ module _ (moment : Date3) (old mid : List ℕ) (file : ℕ) (tree : HasTree old)
   pub below_mid : (from : ℕ) → NoneFreeBelow old from → NoneFreeBelow mid from
   below_mid from = below_stays old mid from (same_count (AtStamps (root tree.0) file) old mid rest) (λ b i used. marks_mid b i ∙ used)
 
-  -- the file's bytes are the same, and there is as much room
+  -- the file's bytes are the same, and equally many blocks are free
   pub same_contents : contents mid file ≡ contents old file
   same_contents =
       bytes_in mid mid_tree.0 mid_tree.1 file mid_key
       ∙ ap (λ (c : Option Content). bytes_held c) (touched_content tree.0)
       ∙ sym (bytes_in old tree.0 tree.1 file key)
 
-  -- it is in the same blocks, so a place in it is one still
+  -- its blocks are the same, so a place in it is still a place
   pub same_place : (place : Place) → IsPlace old file place → IsPlace mid file place
   same_place place =
       let c = key tree.0 tree.1 in
@@ -192,7 +192,7 @@ module _ (moment : Date3) (old mid : List ℕ) (file : ℕ) (tree : HasTree old)
       omega (arith, free, marked, need, held)
 
   module _ (new : List ℕ) (r : IsRewritten mid file (data_blocks mid file) (extension_blocks mid file) new (data_blocks new file) (extension_blocks new file) (contents new file)) where
-    -- for each tree of the old image the new one stands for the tree with the file rewritten
+    -- for each tree of the old image, the new one represents the tree with the file rewritten
     pub stands_rewritten : (u : Tree) → Stands old u → Stands new (rewritten moment file (contents new file) u)
     stands_rewritten u s =
         let after = h.stands u s in
@@ -205,7 +205,7 @@ module _ (moment : Date3) (old mid : List ℕ) (file : ℕ) (tree : HasTree old)
         subst (Stands new) (is_rewritten moment (contents new file) file u)
         (stands_after mid new (touched moment file u) after file f.node f.bytes f.at f.content (data_blocks new file) (extension_blocks new file) (contents new file) laid)
 
-    -- the file is one still
+    -- the file is still a file
     still_file : secondary_type new file ≡ file_type
     still_file =
         long-same mid new file 127 (λ k e. r.leaves.header k (omega (arith, e)) (beside_data (k / 4) e))

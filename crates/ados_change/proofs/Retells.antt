@@ -1,22 +1,21 @@
--- A tree in which one node is told of anew: what its list and its directory rest on stays.
+-- A tree with one node replaced: the parts that the lists of entries depend on are unchanged.
 use Rattle.std.proofs.Common.{◌≡◌, ◌≢◌, ℕ, suc, ◌≤◌, inl, inr, Bool, cond, ◌==◌, List, [], ◌∷◌, map, filter, slice_index_or, AllPairs, Contains, Option, Some, None, is_some, option_map, option_and_then, refl, sym, ap, ap₂, ◌∙◌, subst, arith, eq-eqb}
 use Rattle.std.proofs.lemmas.Bool.{ne_eqb, cases_eq}
 use Rattle.std.proofs.lemmas.List.Elements.{Contains-get_or}
 use Rattle.ados_name.specs.declared.Date3.{Date3}
 use Rattle.ados_name.specs.Name.{upper, slot, IsName, IsComment}
-use Rattle.ados_data.specs.Cost.{data_count}
-use Rattle.ados_tree.specs.Tree.{Node, Tree, Proper, IsRoot, LeadsToRoot, root, content_at, entries_in, entries, size_in, name_in, name_of, parent_of}
-use Rattle.ados_tree.specs.Tree.LeadsToRoot.{at_root, by_parent}
-use Rattle.ados_tree.specs.Layout.{Layout, Fits, Duty, HasDuty}
-use Rattle.ados_tree.specs.Stands.{in_slot}
-use Rattle.ados_tree.specs.Change.{stamped, with_node}
-use Rattle.ados_tree.proofs.Nodes.{entry_node}
+use Rattle.ados_model.specs.Tree.{data_count, Node, Tree, Proper, IsRoot, LeadsToRoot, root, content_at, entries_in, entries, size_in, name_in, name_of, parent_of}
+use Rattle.ados_model.specs.Tree.LeadsToRoot.{at_root, by_parent}
+use Rattle.ados_model.specs.Stands.{Layout, Fits, Duty, HasDuty, in_slot}
+use Rattle.ados_model.specs.Change.{stamped, with_node}
+use Rattle.ados_model.proofs.Nodes.{entry_node}
 
 -- the tree with this node at a key, and this disk date
 abbrev pub retold : ℕ → Node → Date3 → Tree → Tree
 retold key after d t = stamped d (with_node key (Some after) t)
 
--- the node of the key may give way to another one, and the disk date to this one: parent and content stay, the name too but the root's, and only with the root the disk date may change
+-- the node of the key can be replaced, and the disk date too: parent and content stay the same, the name except for
+-- the root, and the disk date unless the key is the root
 pub record Retells (t : Tree) (key : ℕ) (node after : Node) (d : Date3) : Type 0 where
   pub at : t.nodes key ≡ Some node
   pub parent : after.parent ≡ node.parent
@@ -28,14 +27,14 @@ pub record Retells (t : Tree) (key : ℕ) (node after : Node) (d : Date3) : Type
   pub no_protection : key ≡ root t → after.protection ≡ 0
   pub no_comment : key ≡ root t → after.comment ≡ []
 
--- tests that agree on a list keep the same of it
+-- two tests that agree on a list keep the same elements
 filter_same : (p q : ℕ → Bool) (xs : List ℕ) → ((x : ℕ) → Contains xs x → p x ≡ q x) → filter p xs ≡ filter q xs
 filter_same p q [] same = refl
 filter_same p q (x ∷ xs) same =
     ap₂ (λ (b : Bool) (ys : List ℕ). cond b (x ∷ ys) ys) (same x (0, omega arith, refl))
     (filter_same p q xs (λ y m. same y (suc m.0, omega (arith, m.1), m.2)))
 
--- the root is no entry
+-- the root is not an entry
 pub entry_not_root : (t : Tree) → Proper t → (dir k : ℕ) → Contains (entries t dir) k → k ≢ root t
 entry_not_root t p dir k c e =
     let n = entry_node t p dir k c in
@@ -56,7 +55,7 @@ module _ (t : Tree) (key : ℕ) (node after : Node) (d : Date3) (r : Retells t k
   was_key : (k : ℕ) → k ≡ key → t.nodes k ≡ Some node
   was_key k e = ap t.nodes e ∙ r.at
 
-  -- what is the same of the node before and after is the same at each key
+  -- what is the same for the two nodes is the same at each key
   same_of : {A : Type 0} (f : Option Node → A) (k : ℕ) → (k ≡ key → f (Some after) ≡ f (Some node)) → f (u.nodes k) ≡ f (t.nodes k)
   same_of f k same = elim (cases_eq k key) [
     | inl e ↦ ap f (at_key k e) ∙ same e ∙ sym (ap f (was_key k e))
@@ -78,7 +77,7 @@ module _ (t : Tree) (key : ℕ) (node after : Node) (d : Date3) (r : Retells t k
   entries_same : (dir : ℕ) → entries u dir ≡ entries t dir
   entries_same dir = ap entries_in (contents dir)
 
-  -- the node of a key before
+  -- the node that a node comes from
   pub record Was (k : ℕ) (a : Node) : Type 0 where
     pub old : Node
     pub at : t.nodes k ≡ Some old
@@ -127,7 +126,7 @@ module _ (t : Tree) (key : ℕ) (node after : Node) (d : Date3) (r : Retells t k
       | inr n ↦ (p.root_node.0, at_other (root t) n ∙ p.root_node.1, p.root_node.2)
     ]
 
-    -- a fact of the nodes' names or comments
+    -- a fact about the nodes' names or comments
     of_each : (P : Node → Type 0) → P after → ((k : ℕ) (a : Node) → t.nodes k ≡ Some a → P a) → (k : ℕ) (a : Node) → u.nodes k ≡ Some a → P a
     of_each P here there k a e = elim (cases_eq k key) [
       | inl q ↦ let same : after ≡ a = cc (at_key k q, e) in subst P same here
@@ -160,7 +159,7 @@ module _ (t : Tree) (key : ℕ) (node after : Node) (d : Date3) (r : Retells t k
             let second = ap slot (listed_names dir (slice_index_or (entries t dir) j e) (Contains-get_or (entries t dir) j e m)) in
             omega (arith, first, second, p.rising dir i j e l m)
 
-  -- the blocks have the duties that they had
+  -- the blocks have the same uses as before
   pub serves_back : (l : Layout) (b : ℕ) (duty : Duty) → HasDuty u l b duty → HasDuty t l b duty
   serves_back l b (Duty.Page i) m = m
   serves_back l b Duty.Key m = sym (some_same b) ∙ m

@@ -1,27 +1,24 @@
--- An image in which the block of one key tells of its node anew stands for the tree with that node.
+-- An image with a changed block of one key represents the tree with that key's new node.
 use Rattle.std.proofs.Common.{◌≡◌, ◌≢◌, ℕ, ◌+◌, ◌-◌, ◌/◌, ◌%◌, ◌^◌, ◌<◌, ◌≤◌, ◌⊎◌, inl, inr, ◌==◌, List, length, slice_index, bit_and, not, Some, refl, sym, ap, ◌∙◌, subst, arith}
 use Rattle.std.proofs.lemmas.Bool.{cases_eq, cases_lt}
 use Rattle.std.proofs.lemmas.List.{get_or_default, get_or_past}
 use Rattle.adf_block.specs.declared.Format.{Format}
 use Rattle.adf_block.specs.declared.Format.TheVariants.{Ofs, Ffs}
-use Rattle.adf_block.specs.Image.{IsInside, has_free_bit, block_count, root_key, long, bytes_at, block_sum}
-use Rattle.adf_block.specs.Fields.{HasText, protection, table_entry, next_in_chain, next_extension, next_data, name_byte, comment_byte}
-use Rattle.adf_block.specs.Chained.{Chained}
+use Rattle.adf_block.specs.Image.{IsInside, has_free_bit, block_count, root_key, long, bytes_at, block_sum, HasText, protection, table_entry, Chained}
+use Rattle.adf_block.specs.Layout.{next_in_chain, next_extension, next_data, name_byte, comment_byte}
 use Rattle.adf_block.specs.Frame.{SameBut}
 use Rattle.adf_block.proofs.Frames.{same_long, same_bytes_at}
 use Rattle.ados_name.specs.declared.Date3.{Date3}
 use Rattle.ados_name.specs.Name.{IsName, IsComment}
-use Rattle.ados_data.specs.File.{HasOfsData, HasFile, file_byte}
+use Rattle.ados_model.specs.Stands.{HasOfsData, HasFile, file_byte, Duty, HasDuty, Stands, HasNode, HasEntry, HasRoot, in_slot, type_of, date_at}
 use Rattle.ados_data.proofs.Chains.{chained, first_of, next_of}
 use Rattle.ados_data.proofs.Untouched.{Untouched, untouched_long, untouched_sum, extension_kept}
-use Rattle.ados_tree.specs.Tree.{Node, Tree, root}
-use Rattle.ados_tree.specs.Layout.{Duty, HasDuty}
-use Rattle.ados_tree.specs.Stands.{Stands, HasNode, HasEntry, HasRoot, in_slot, type_of}
-use Rattle.ados_tree.specs.Dates.{date_at}
-use Rattle.ados_tree.proofs.Standing.{slice_get-index}
+use Rattle.ados_model.specs.Tree.{Node, Tree, root}
+use Rattle.ados_model.proofs.Standing.{slice_get-index}
 use Rattle.ados_change.proofs.Retells.{retold, Retells, at_key, at_other, was, slots_same, proper_after, fits_after, serves_back, serves_on}
 
--- byte i of a key's block tells of the node after and of nothing else: it is of the sum, the date, of the root's name or disk date, of another node's protection or comment
+-- byte i of a key's block depends only on the new node: it is in the checksum, the date, the root's name or disk date,
+-- or another node's protection or comment
 pub data Telling (t : Tree) (key : ℕ) (after : Node) (i : ℕ) : Type 0 where
   sum : i / 4 ≡ 5 → Telling t key after i
   date : 420 ≤ i → i < 432 → Telling t key after i
@@ -34,14 +31,15 @@ pub data Telling (t : Tree) (key : ℕ) (after : Node) (i : ℕ) : Type 0 where
 abbrev pub Tells : Tree → ℕ → Node → ℕ → ℕ → Type 0
 Tells t key after b i = (b ≡ key) × Telling t key after i
 
--- a long that in no key's block tells of the node alone
+-- a long that in no key's block depends on the node alone
 data Skeleton (j : ℕ) : Type 0 where
   head : j < 5 → Skeleton j
   table : 6 ≤ j → j < 79 → Skeleton j
   size : j ≡ 81 → Skeleton j
   tail : 121 ≤ j → Skeleton j
 
--- nothing changed but these bytes, and the block of the key tells of this node, as the root also of the disk date
+-- only these bytes changed, and the block of the key has the fields of this node, that of the root the disk date as
+-- well
 pub record Retold (t : Tree) (key : ℕ) (after : Node) (d : Date3) (old new : List ℕ) : Type 0 where
   pub rest : SameBut (Tells t key after) old new
   pub sum : block_sum new key ≡ 0
@@ -73,7 +71,7 @@ module _ (t : Tree) (key i : ℕ) (after : Node) (name : IsName after.name) (sho
       go (tail l) (inl f) = omega (arith, e, l, f)
       go (tail l) (inr f) = omega (arith, e, l, f.1)
 
-  -- the root's page longs tell of no node
+  -- no pointer to a bitmap block depends on a node
   no_page : key ≡ root t → 316 ≤ i → i < 420 → ¬ Telling t key after i
   no_page r l m (sum e) = omega (arith, l, e)
   no_page r l m (date n o) = omega (arith, m, n)
@@ -86,12 +84,12 @@ module _ (old new : List ℕ) (t : Tree) (key : ℕ) (node after : Node) (d : Da
   abbrev v : Tree
   v = retold key after d t
 
-  -- ---- what stays
+  -- ---- what is unchanged
 
   kept : (b j : ℕ) → j < 128 → Skeleton j → long new b j ≡ long old b j
   kept b j l k = same_long (Tells t key after) old new h.rest b j l (λ i e w. safe t key i after r.name r.comment j e k w.1)
 
-  -- another block is as it was
+  -- any other block is unchanged
   other : (b : ℕ) → b ≢ key → Untouched old new b
   other b n i l = h.rest.same_byte b i l (λ w. n w.0)
 
@@ -110,14 +108,14 @@ module _ (old new : List ℕ) (t : Tree) (key : ℕ) (node after : Node) (d : Da
       one : (j : ℕ) → j < 128 → long new b j ≡ long old b j
       one j m = untouched_long old new b (other b n) j m
 
-  -- a block with another duty than a key's
+  -- a block that is used otherwise than as a key
   by_duty : (b : ℕ) (duty : Duty) → HasDuty t s.layout b duty → duty ≢ Duty.Key → b ≢ key
   by_duty b duty m n e = n (s.fits.one_duty b duty Duty.Key m (rw (ap t.nodes e ∙ r.at) refl))
 
   extension_other : (file i : ℕ) → i < length (s.layout.extensions file) → slice_index (s.layout.extensions file) i ≢ key
   extension_other file i l = by_duty _ (Duty.Extension file i) (slice_get-index (s.layout.extensions file) i l) (λ z. cc z)
 
-  -- block 0 is no key, so no place of a file's data is the key
+  -- block 0 is not a key, so no position of a file's data is the key
   data_other : (file i : ℕ) → slice_index (s.layout.file_data file) i ≢ key
   data_other file i = elim (cases_lt i (length (s.layout.file_data file))) [
     | inl l ↦ by_duty _ (Duty.Data file i) (slice_get-index (s.layout.file_data file) i l) (λ z. cc z)
@@ -227,7 +225,7 @@ module _ (old new : List ℕ) (t : Tree) (key : ℕ) (node after : Node) (d : Da
         }
   ]
 
-  -- the fields of an entry that tell of its place are as they were
+  -- the fields of an entry that depend on its directory are unchanged
   entry_after : (k dir : ℕ) (a : Node) → v.nodes k ≡ Some a → a.parent ≡ Some dir → HasEntry new k a dir
   entry_after k dir a e p = elim (cases_eq k key) [
     | inl q ↦
@@ -261,7 +259,7 @@ module _ (old new : List ℕ) (t : Tree) (key : ℕ) (node after : Node) (d : Da
           let none = ap (λ (a : Node). a.parent) same ∙ s.proper.root_node.2.no_parent in
           cc (none, p)
 
-  -- ---- the map
+  -- ---- the bitmap
 
   marks_kept : (b : ℕ) → IsInside t.blocks b → has_free_bit new b ≡ has_free_bit old b
   unfolding has_free_bit

@@ -1,15 +1,16 @@
--- A block whose sum is settled before and after keeps the long of its sum, if it keeps all other bytes.
+-- A block with a right checksum before and after has the same checksum if all its other bytes are unchanged.
 use Rattle.std.proofs.Common.{◌≡◌, ◌≢◌, ℕ, ◌+◌, ◌*◌, ◌/◌, ◌%◌, ◌^◌, ◌<◌, ◌≤◌, inl, inr, List, refl, sym, ap, ◌∙◌, arith}
 use Rattle.std.proofs.lemmas.Bool.{cases_eq, cases_lt}
-use Rattle.adf_block.specs.Image.{IsImage, byte_at, long, block_sum, total}
+use Rattle.adf_block.specs.Whole.{IsImage}
+use Rattle.adf_block.specs.Image.{byte_at, long, block_sum, total}
 use Rattle.adf_block.proofs.Longs.{byte_at-below, long-below, long-bytes, long-same}
 use Rattle.adf_block.proofs.Totals.{total-one}
 
--- two settled totals that differ in one long alone do not differ
+-- two right sums that differ in one long only do not differ
 same_rest : (t u x y : ℕ) → u + x ≡ t + y → t % 2 ^ 32 ≡ 0 → u % 2 ^ 32 ≡ 0 → x < 2 ^ 32 → y < 2 ^ 32 → y ≡ x
 same_rest t u x y e f g l m = omega (arith, e, f, g, l, m)
 
--- four bytes by the long that they make
+-- the long of four bytes
 abbrev four : ℕ → ℕ → ℕ → ℕ → ℕ
 four a b c d = a * 256 ^ 3 + (b * 256 ^ 2 + (c * 256 ^ 1 + (d * 256 ^ 0 + 0)))
 

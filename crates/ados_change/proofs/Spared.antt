@@ -1,14 +1,13 @@
--- Which blocks a change of entries takes and gives back, and what stays in those that are free afterwards.
+-- The blocks that a change of entries allocates and frees, and the bytes of blocks that are free afterwards.
 use Rattle.std.proofs.Common.{◌≡◌, ℕ, ◌<◌, Bool, true, false, List, Option, Some, is_some, IsSome, refl, sym, ap, ◌∙◌, arith}
 use Rattle.std.proofs.lemmas.Bool.{false≢true}
 use Rattle.adf_block.specs.Frame.{SameBut}
 use Rattle.adf_block.specs.Image.{HasFreeBit, IsInside, byte_at, has_free_bit}
-use Rattle.ados_tree.specs.Faults.{InImage}
-use Rattle.ados_tree.specs.Layout.{Duty, HasDuty, Named}
-use Rattle.ados_tree.specs.NewBlocks.{KeepsFreed}
-use Rattle.ados_tree.specs.Stands.{Stands}
-use Rattle.ados_tree.specs.Tree.{Tree}
-use Rattle.ados_tree.proofs.Standing.{count_same, slice_get-index}
+use Rattle.ados_model.specs.Faults.{InImage}
+use Rattle.ados_model.specs.Stands.{Duty, HasDuty, Named, Stands}
+use Rattle.ados_change.specs.NewBlocks.{KeepsFreed}
+use Rattle.ados_model.specs.Tree.{Tree}
+use Rattle.ados_model.proofs.Standing.{count_same, slice_get-index}
 use Rattle.ados_change.proofs.EntriesKept.{IsWritten}
 use Rattle.ados_change.proofs.EntriesKept.IsWritten.{of_page, of_none, of_node, of_name}
 use Rattle.ados_change.proofs.Spells.{Spells}
@@ -35,7 +34,7 @@ module _ (old new : List ℕ) (t u : Tree) (st : Stands old t) (after : Spells n
     is_named key (Duty.Extension file i, m) = (Duty.Extension file i, m)
     is_named key (Duty.Lost, m) = (Duty.Lost, ap (λ (f : ℕ → Option (List ℕ)). is_some (f b)) lost ∙ m)
 
-    -- a free block that gets no node is free still
+    -- a free block that gets no node is still free
     pub still_free : (IsSome (u.nodes b) → IsSome (t.nodes b)) → HasFreeBit old b → HasFreeBit new b
     still_free key free = go (has_free_bit new b) refl
       where
@@ -43,7 +42,7 @@ module _ (old new : List ℕ) (t u : Tree) (st : Stands old t) (after : Spells n
         go true e = e
         go false e = absurd (st.marked_free b (inside_old b inside) free (was_named key (after.marked_used b (inside_new b inside) (λ is. false≢true (sym e ∙ is)))))
 
-    -- a block that is free and keeps its node, where it had one, was free
+    -- a free block that kept its node, if it had one, was free before
     pub was_free : (IsSome (t.nodes b) → IsSome (u.nodes b)) → HasFreeBit new b → HasFreeBit old b
     was_free key free = go (has_free_bit old b) refl
       where
@@ -55,7 +54,7 @@ module _ (old new : List ℕ) (t u : Tree) (st : Stands old t) (after : Spells n
     unnamed : (duty : Duty) → HasDuty u st.layout b duty → ⊥
     unnamed duty m = after.marked_free b (inside_new b inside) free (duty, m)
 
-    -- of a free block that keeps its node, where it had one, nothing was written
+    -- nothing is written into such a block
     unwritten : (i : ℕ) → ¬ IsWritten old t st new b i
     unwritten i (of_page p l e) = unnamed (Duty.Page p) (slice_get-index st.layout.pages p l ∙ ap Some e)
     unwritten i (of_none l used none) = used free
@@ -65,6 +64,6 @@ module _ (old new : List ℕ) (t u : Tree) (st : Stands old t) (after : Spells n
     pub bytes_stay : (i : ℕ) → i < 512 → byte_at new b i ≡ byte_at old b i
     bytes_stay i l = h.same_byte b i l (unwritten i)
 
-  -- where no node goes
+  -- no node is removed
   pub keeps_freed : SameBut (IsWritten old t st new) old new → ((k : ℕ) → IsSome (t.nodes k) → IsSome (u.nodes k)) → KeepsFreed old new
   keeps_freed h stays b i inside free no_entry l = bytes_stay h b inside free (stays b) i l

@@ -1,15 +1,12 @@
--- An image that spells a tree: it stands for it, if the tree is proper.
+-- An image that has the blocks of a tree. It represents the tree if that is proper.
 use Rattle.std.proofs.Common.{◌≡◌, ℕ, ◌*◌, ◌<◌, List, [], ◌∷◌, length, Some, Contains, refl}
-use Rattle.adf_block.specs.Image.{bytes_at, block_sum, IsInside, HasFreeBit}
-use Rattle.adf_block.specs.Chained.{Chained}
-use Rattle.adf_block.specs.Fields.{table_entry, next_in_chain}
-use Rattle.ados_data.specs.File.{HasFile}
-use Rattle.ados_tree.specs.Tree.{Node, Tree, Proper}
-use Rattle.ados_tree.specs.Tree.Content.{Directory, File}
-use Rattle.ados_tree.specs.Layout.{Layout, Fits, Named}
-use Rattle.ados_tree.specs.Stands.{Stands, HasNode, HasEntry, HasRoot, format_byte, in_slot}
+use Rattle.adf_block.specs.Image.{bytes_at, block_sum, IsInside, HasFreeBit, Chained, table_entry}
+use Rattle.adf_block.specs.Layout.{next_in_chain}
+use Rattle.ados_model.specs.Stands.{HasFile, Layout, Fits, Named, Stands, HasNode, HasEntry, HasRoot, format_byte, in_slot}
+use Rattle.ados_model.specs.Tree.{Node, Tree, Proper}
+use Rattle.ados_model.specs.Tree.Content.{Directory, File}
 
--- all that an image which stands for a tree has, but that the tree is proper
+-- everything that an image which represents a tree has, except that the tree is proper
 pub record Spells (image : List ℕ) (t : Tree) (l : Layout) : Type 0 where
   pub fits : Fits t l
   pub whole : length image ≡ 512 * t.blocks

@@ -1,33 +1,32 @@
--- An image in which the moment of a change was put: all but that is as before.
+-- An image with the time stamp of a change written into it: everything else is unchanged.
 use Rattle.std.proofs.Common.{◌≡◌, ◌≢◌, ℕ, ◌+◌, ◌-◌, ◌/◌, ◌%◌, ◌^◌, ◌<◌, ◌≤◌, inl, inr, ◌==◌, not, bit_and, Bool, cond, List, Some, None, refl, sym, ap, ◌∙◌, subst, arith}
-use Rattle.adf_block.specs.Image.{block_count, root_key, page_count, IsInside, byte_at, long, has_free_bit, free_bit_count, total}
-use Rattle.adf_block.specs.Fields.{secondary_type, file_type}
+use Rattle.adf_block.specs.Image.{block_count, root_key, page_count, IsInside, byte_at, long, has_free_bit, total, secondary_type, format_of}
+use Rattle.adf_block.specs.Whole.{free_bit_count}
+use Rattle.adf_block.specs.Layout.{file_type}
 use Rattle.adf_block.specs.Frame.{SameBut}
 use Rattle.adf_block.proofs.Frames.{same_long, same_count}
 use Rattle.adf_block.proofs.Totals.{total-same}
 use Rattle.ados_map.specs.Pages.{page_block, pages_of}
-use Rattle.ados_data.specs.File.{format_of}
-use Rattle.ados_tree.specs.Tree.{Node, Tree, root}
-use Rattle.ados_tree.specs.Tree.Content.{File}
-use Rattle.ados_tree.specs.Layout.{Duty, HasDuty}
-use Rattle.ados_tree.specs.Stands.{Stands, type_of}
-use Rattle.ados_tree.specs.declared.role.Role.{Role}
-use Rattle.ados_tree.specs.declared.role.Role.TheVariants as roles
-use Rattle.ados_tree.specs.Faults.{IsPlace, IsPointer, IsFile, Reached}
-use Rattle.ados_tree.specs.Faults.IsPlace.{root_page, root_slot, directory_slot, next_entry, header_pointer, first_extension, extension_pointer, further_extension}
-use Rattle.ados_tree.specs.Faults.Reached.{start, named}
-use Rattle.ados_tree.specs.Kept.{Kept, IsField, Alike}
-use Rattle.ados_tree.specs.Kept.IsField.{root_longs, file_longs}
-use Rattle.ados_tree.specs.NewBlocks.{IsTaken, TakesLowest}
-use Rattle.ados_tree.specs.Untold.{KeepsUntold, data_at}
-use Rattle.ados_tree.proofs.FilesStay.{data_blocks_stay, data_serves, extension_blocks_stay, file_of_key, files_stay}
-use Rattle.ados_tree.proofs.Keeping.{first_stays, keeps_first_since}
-use Rattle.ados_tree.proofs.Nodes.{root_or_parent}
-use Rattle.ados_tree.proofs.Standing.{StandsAt, count_same, entry_at, root_is, reached_stands, root_at, serves_at}
+use Rattle.ados_model.specs.Tree.{Node, Tree, root}
+use Rattle.ados_model.specs.Tree.Content.{File}
+use Rattle.ados_model.specs.Stands.{Duty, HasDuty, Stands, type_of}
+use Rattle.ados_model.specs.declared.role.Role.{Role}
+use Rattle.ados_model.specs.declared.role.Role.TheVariants as roles
+use Rattle.ados_model.specs.Faults.{IsPlace, IsPointer, IsFile, Reached}
+use Rattle.ados_model.specs.Faults.IsPlace.{root_page, root_slot, directory_slot, next_entry, header_pointer, first_extension, extension_pointer, further_extension}
+use Rattle.ados_model.specs.Faults.Reached.{start, named}
+use Rattle.ados_model.specs.Kept.{Kept, IsField, Alike}
+use Rattle.ados_model.specs.Kept.IsField.{root_longs, file_longs}
+use Rattle.ados_change.specs.NewBlocks.{IsTaken, TakesLowest}
+use Rattle.ados_change.specs.Untold.{KeepsUntold, data_at}
+use Rattle.ados_change.proofs.FilesStay.{data_blocks_stay, data_serves, extension_blocks_stay, file_of_key, files_stay}
+use Rattle.ados_change.proofs.Keeping.{first_stays, keeps_first_since}
+use Rattle.ados_model.proofs.Nodes.{root_or_parent}
+use Rattle.ados_model.proofs.Standing.{StandsAt, count_same, entry_at, root_is, reached_stands, root_at, serves_at}
 use Rattle.ados_change.specs.Stamps.{IsFileStamp, IsDiskStamp, AtStamps}
-use Rattle.ados_tree.proofs.Writable.{key_serves, page_serves}
+use Rattle.ados_change.proofs.Writable.{key_serves, page_serves}
 
--- a long that is no stamp, neither of a file nor of the root
+-- a long that is no time stamp, neither of a file nor of the root
 data IsPlain (j : ℕ) : Type 0 where
   front : j < 5 → IsPlain j
   table : 6 ≤ j → j < 80 → IsPlain j
@@ -72,7 +71,7 @@ module _ (old new : List ℕ) (t : Tree) (s : Stands old t) (file : ℕ) (node :
   plain_byte : (b k : ℕ) → k < 512 → IsPlain (k / 4) → byte_at new b k ≡ byte_at old b k
   plain_byte b k l p = h.same_byte b k l (unchanged b (k / 4) k p refl)
 
-  -- the page longs of the root stay
+  -- the bitmap pointers of the root are unchanged
   page_long : (i : ℕ) → i < page_count (block_count old) → long new (root t) (79 + i) ≡ long old (root t) (79 + i)
   page_long i l =
       let few : 79 + i < 105 = omega (arith, l, count_same old t s, s.proper.size.1) in
@@ -82,7 +81,7 @@ module _ (old new : List ℕ) (t : Tree) (s : Stands old t) (file : ℕ) (node :
         | inr z ↦ elim (z.1) [ inl f ↦ omega (arith, e, f) | inr f ↦ omega (arith, e, f.0, few) ]
       ])
 
-  -- a block with another duty than that of a key stays
+  -- a block that is used otherwise than as a key is unchanged
   block_stays : (b : ℕ) (duty : Duty) → HasDuty t s.layout b duty → duty ≢ Duty.Key → (k : ℕ) → ¬ AtStamps (root t) file b k
   block_stays b duty m n k (inl w) = n (s.fits.one_duty b duty Duty.Key m (key_serves old t s b node (ap t.nodes w.0 ∙ found)))
   block_stays b duty m n k (inr w) = n (s.fits.one_duty b duty Duty.Key m (key_serves old t s b s.proper.root_node.0 (ap t.nodes w.0 ∙ s.proper.root_node.1)))
@@ -131,14 +130,14 @@ module _ (old new : List ℕ) (t : Tree) (s : Stands old t) (file : ℕ) (node :
   ofs_back : byte_at new 0 3 ≡ byte_at old 0 3
   ofs_back = plain_byte 0 3 (omega arith) (front (omega arith))
 
-  -- the file is one still
+  -- the file is still a file
   pub type_stamped : (bytes : List ℕ) → node.content ≡ File bytes → secondary_type new file ≡ file_type
   type_stamped bytes is = elim (root_or_parent t s.proper file node found) [
     | inl e ↦ absurd (not_root e)
     | inr p ↦ plain_long file 127 (omega arith) (back (omega arith)) ∙ (s.entries file p.0 node found p.1).secondary ∙ ap type_of is
   ]
 
-  -- what is stamped is part of a field, also where the file is then rewritten
+  -- a time stamp is in a field, even if the file is rewritten afterwards
   stamp_field : (last : List ℕ) → secondary_type last file ≡ file_type → (b i : ℕ) (role role' : Role) → Reached old b role → Alike role role' → AtStamps (root t) file b i → IsField last b role' i
   stamp_field last typed b i role role' r alike w = let at = reached_stands old t s r in go at.0 role role' at.1 alike w
     where
@@ -169,7 +168,7 @@ module _ (old new : List ℕ) (t : Tree) (s : Stands old t) (file : ℕ) (node :
       go k (roles.Extension f) (roles.Extension f') at alike w = absurd (block_stays b (Duty.Extension f k) (serves_at old t s (roles.Extension f) k b at) (λ z. cc z) i w)
       go k _ _ at alike w = absurd alike
 
-  -- what is kept then is kept from before
+  -- what is untouched since the time stamp is untouched since before it
   pub kept_before : (last : List ℕ) → secondary_type last file ≡ file_type → Kept old new → Kept new last → Kept old last
   kept_before last typed k g = record {
     size = g.size ∙ k.size;
@@ -189,7 +188,7 @@ module _ (old new : List ℕ) (t : Tree) (s : Stands old t) (file : ℕ) (node :
       let root_new : root_key (block_count new) ≡ root t = ap root_key count ∙ root_is old t s in
       ap (λ (r : ℕ). long new r (79 + p)) root_new ∙ page_long p l ∙ ap (λ (r : ℕ). long old r (79 + p)) (sym (root_is old t s))
 
-  -- each bit, those past the end too
+  -- each bit, past the volume's end too
   bit_same : (b : ℕ) → (b - 2) / 4064 < pages_of old → has_free_bit new b ≡ has_free_bit old b
   unfolding has_free_bit
   bit_same b within =
@@ -208,7 +207,7 @@ module _ (old new : List ℕ) (t : Tree) (s : Stands old t) (file : ℕ) (node :
       ∙ total-same (λ k. cond (has_free_bit old (k + 2)) 1 0) (λ k. cond (has_free_bit new (k + 2)) 1 0) (block_count old - 2)
       (λ k l. ap (λ (v : Bool). cond v 1 0) (marks_same (k + 2) (omega arith, omega (arith, l))))
 
-  -- ---- new blocks taken afterwards
+  -- ---- new blocks allocated afterwards
 
   pub lowest_before : (last : List ℕ) → TakesLowest new last → TakesLowest old last
   lowest_before last g = record {
@@ -225,7 +224,7 @@ module _ (old new : List ℕ) (t : Tree) (s : Stands old t) (file : ℕ) (node :
   pub format_same : format_of new ≡ format_of old
   format_same = rw ofs_back refl
 
-  -- ---- what no tree tells of
+  -- ---- what no tree determines
 
   pub untold_stays : KeepsUntold old new
   untold_stays =

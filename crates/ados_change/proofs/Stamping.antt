@@ -1,19 +1,20 @@
--- The moment of a change, put in three steps.
+-- The time stamp of a change, in three steps.
 use Rattle.std.proofs.Common.{◌≡◌, ◌≢◌, ℕ, inl, inr, List, [], Option, Some, None, IsSome, option_map, refl, sym, ap, ◌∙◌, subst, arith, eq-eqb}
 use Rattle.std.proofs.lemmas.Bool.{ne_eqb, cases_eq}
 use Rattle.adf_block.specs.Image.{root_key, long}
 use Rattle.adf_block.specs.Frame.{SameBut}
 use Rattle.adf_block.proofs.Frames.{same_trans, same_weaken, same_count}
 use Rattle.ados_name.specs.declared.Date3.{Date3}
-use Rattle.ados_tree.specs.Tree.{Node, Tree, root}
-use Rattle.ados_tree.specs.Keys.{HasFileKey, HasEntryKey, HasKey, HasTree}
-use Rattle.ados_tree.specs.Stands.{Stands}
-use Rattle.ados_tree.specs.Faults.{root_of}
-use Rattle.ados_tree.specs.Kept.{Kept}
-use Rattle.ados_tree.specs.Change.{stamped, without_archive}
-use Rattle.ados_tree.proofs.Nodes.{root_or_parent}
-use Rattle.ados_tree.proofs.Standing.{root_is, IsFileNode}
-use Rattle.ados_tree.proofs.OneTree.{one_tree}
+use Rattle.ados_model.specs.Tree.{Node, Tree, root}
+use Rattle.ados_model.specs.Keys.{HasFileKey, HasEntryKey, HasKey, HasTree}
+use Rattle.ados_model.specs.Stands.{Stands}
+use Rattle.ados_model.specs.Faults.{root_of}
+use Rattle.ados_model.specs.Kept.{Kept}
+use Rattle.ados_model.specs.Change.{stamped}
+use Rattle.ados_name.specs.Name.{without_archive}
+use Rattle.ados_model.proofs.Nodes.{root_or_parent}
+use Rattle.ados_model.proofs.Standing.{root_is, IsFileNode}
+use Rattle.ados_model.proofs.OneTree.{one_tree}
 use Rattle.ados_change.specs.Places.{Summed}
 use Rattle.ados_change.specs.FieldTold.{dated, protected}
 use Rattle.ados_change.specs.Stamps.{AtStamps, touched}
@@ -31,13 +32,13 @@ with_date moment node = record node { date = moment }
 abbrev touch : Date3 → Node → Node
 touch moment node = record node { date = moment; protection = without_archive node.protection }
 
--- a file's key is not the root's
+-- a file's key is not the root
 pub entry_key : (image : List ℕ) (file : ℕ) → HasFileKey image file → HasEntryKey image file
 entry_key image file key t s =
     let f = file_node image t s file key in
     (rw f.at refl, file_not_root t file f.node f.bytes [] f.at f.content s.proper)
 
--- the bits that a file's header has are those of its node
+-- the protection bits in a file's header are those of its node
 bits_field : (image : List ℕ) (t : Tree) (s : Stands image t) (file : ℕ) (f : IsFileNode image t s file) → long image file 80 ≡ f.node.protection
 bits_field image t s file f = elim (root_or_parent t s.proper file f.node f.at) [
   | inl e ↦ absurd (file_not_root t file f.node f.bytes [] f.at f.content s.proper e)

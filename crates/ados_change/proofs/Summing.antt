@@ -1,11 +1,10 @@
--- What stays where bytes of a block behind its sum change, and the sum.
+-- What is unchanged when bytes after a block's checksum change, and the checksum with them.
 use Rattle.std.proofs.Common.{◌≡◌, ℕ, ◌+◌, ◌*◌, ◌<◌, ◌≤◌, ◌⊎◌, inl, inr, List, length, ap, ◌∙◌, subst, arith}
-use Rattle.adf_block.specs.Image.{root_key, long}
-use Rattle.adf_block.specs.Fields.{HasText}
+use Rattle.adf_block.specs.Image.{root_key, long, HasText}
 use Rattle.adf_block.specs.Frame.{SameBut, AtLong}
 use Rattle.adf_block.proofs.Frames.{same_trans, same_weaken, same_count, same_long, same_bytes_at}
-use Rattle.ados_tree.specs.Dates.{date_at}
-use Rattle.ados_tree.specs.Faults.{root_of}
+use Rattle.ados_model.specs.Stands.{date_at}
+use Rattle.ados_model.specs.Faults.{root_of}
 use Rattle.ados_change.specs.Places.{Summed, Restamped}
 
 module _ (key low high : ℕ) (old new : List ℕ) (h : SameBut (Summed key low high) old new) where
@@ -29,12 +28,12 @@ module _ (key low high : ℕ) (old new : List ℕ) (h : SameBut (Summed key low 
       one : (j : ℕ) → i ≤ j → j ≤ i + 2 → long new b j ≡ long old b j
       one j m n = same_long (Summed key low high) old new h b j (omega (arith, l, n)) (λ k e. beside b (4 * i) 12 k (omega (arith, behind)) side (omega (arith, e, m)) (omega (arith, e, n)))
 
--- a settled sum leaves a text behind it
+-- a change of the checksum keeps a text after it
 pub text_settled : (b i : ℕ) (text old new : List ℕ) → 24 ≤ i → i + 1 + length text ≤ 512 → SameBut (AtLong b 5) old new → HasText old b i text → HasText new b i text
 text_settled b i text old new behind room h g =
     text_beside b 20 24 old new (same_weaken (AtLong b 5) (Summed b 20 24) old new (λ c k w. inr w) h) b i text behind room (inr behind) g
 
--- first bytes of a block, and then the disk date
+-- first some bytes of a block, then the disk date
 pub restamped : (key low high : ℕ) (old mid new : List ℕ) → SameBut (Summed key low high) old mid → SameBut (Summed (root_of mid) 472 484) mid new → SameBut (Restamped (root_of old) key low high) old new
 restamped key low high old mid new first second =
     let root : root_of mid ≡ root_of old = ap root_key (same_count (Summed key low high) old mid first) in

@@ -1,14 +1,15 @@
--- Where a file has as many blocks more as fewer are marked free, no other block was taken.
+-- If exactly as many blocks are no longer free as the file has more, no other block was allocated.
 use Rattle.std.proofs.Common.{◌≡◌, ℕ, zero, suc, ◌+◌, ◌-◌, ◌<◌, ◌≤◌, ◌⊎◌, inl, inr, Bool, true, false, cond, List, [], ◌∷◌, length, drop, slice_index, refl, sym, ap, ◌∙◌, subst, arith}
 use Rattle.std.proofs.lemmas.Bool.{ne_eqb, cases_eq, cases_lt, cases_order}
 use Rattle.std.proofs.lemmas.List.{get_or-drop, length-drop}
-use Rattle.adf_block.specs.Image.{IsInside, block_count, has_free_bit, free_bit_count, total}
+use Rattle.adf_block.specs.Image.{IsInside, block_count, has_free_bit, total}
+use Rattle.adf_block.specs.Whole.{free_bit_count}
 use Rattle.ados_data.specs.Others.{Gains}
 use Rattle.ados_data.specs.Changing.{IsWritable}
-use Rattle.ados_tree.proofs.Totals.{total-add, total-from_two, occurrences, occurrences-none, occurrences-one, total-occurrences}
+use Rattle.ados_model.proofs.Totals.{total-add, total-from_two, occurrences, occurrences-none, occurrences-one, total-occurrences}
 use Rattle.ados_change.proofs.Relaid.{IsIn}
 
--- no total of smaller numbers is larger
+-- a sum of smaller numbers is not larger
 total-below : (f g : ℕ → ℕ) (n : ℕ) → ((k : ℕ) → k < n → g k ≤ f k) → total g n ≤ total f n
 total-below f g zero h = omega arith
 total-below f g (suc n) h = omega (arith, total-below f g n (λ k l. h k (omega arith)), h n (omega arith))
@@ -25,7 +26,7 @@ total-each f g (suc n) h e k l =
       | inr m ↦ let here : k ≡ n = omega (arith, l, m) in ap f here ∙ omega (arith, e, below, last) ∙ ap g (sym here)
     ]
 
--- a number stands in a list, or occurs never
+-- a number is in a list, or occurs never
 occurs_or_not : (b : ℕ) (xs : List ℕ) → IsIn xs b ⊎ (occurrences b xs ≡ 0)
 occurs_or_not b [] = inr refl
 occurs_or_not b (x ∷ xs) = elim (cases_eq x b) [
@@ -36,7 +37,7 @@ occurs_or_not b (x ∷ xs) = elim (cases_eq x b) [
   ]
 ]
 
--- what stands in the back of a list stands in it
+-- an element of the rest of a list is in the list
 in_back : (n : ℕ) (xs : List ℕ) (b : ℕ) → IsIn (drop n xs) b → (i : ℕ) × (n ≤ i) × (i < length xs) × (slice_index xs i ≡ b)
 in_back n xs b m = (n + m.0, omega arith, omega (arith, m.1, length-drop n xs), sym (get_or-drop n xs m.0 0) ∙ m.2)
 
@@ -70,7 +71,7 @@ module _ (old new : List ℕ) (file : ℕ) (blocks extensions blocks' extensions
   extension_within : (q : ℕ) → q < length more_extensions → length extensions + q < length extensions'
   extension_within q l = omega (arith, l, length-drop (length extensions) extensions')
 
-  -- no block stands in both, or twice in one
+  -- no block is in both lists, or twice in one
   data_once : (i j : ℕ) → i < length more_data → j < length more_data → slice_index more_data i ≡ slice_index more_data j → i ≡ j
   data_once i j l m e =
       let at = sym (data_at i) ∙ e ∙ data_at j in
@@ -100,7 +101,7 @@ module _ (old new : List ℕ) (file : ℕ) (blocks extensions blocks' extensions
   extension_one : (b : ℕ) → IsIn more_extensions b → occurrences b more_extensions ≡ 1
   extension_one b m = occurrences-one b more_extensions m.0 m.1 m.2 (λ j l e. extension_once j m.0 l m.1 (e ∙ sym m.2))
 
-  -- a block that the file got was free, and is in use
+  -- a new block of the file was free, and is in use
   data_taken : (b : ℕ) → IsIn more_data b → (has_free_bit old b ≡ true) × (has_free_bit new b ≡ false)
   data_taken b m =
       let at = sym (data_at m.0) ∙ m.2 in
@@ -113,7 +114,7 @@ module _ (old new : List ℕ) (file : ℕ) (blocks extensions blocks' extensions
       let within = extension_within m.0 m.1 in
       (ap (has_free_bit old) (sym at) ∙ extensions_new (length extensions + m.0) (omega arith) within, ap (has_free_bit new) (sym at) ∙ (w.headers_used (suc (length extensions + m.0)) (omega (arith, within))).marked)
 
-  -- a block that is marked free was so
+  -- a block that is marked free was free before
   bit_below : (b : ℕ) → IsInside (block_count old) b → bit new b ≤ bit old b
   bit_below b i = go (has_free_bit old b) refl
     where

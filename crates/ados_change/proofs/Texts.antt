@@ -1,14 +1,13 @@
--- A text behind its length.
+-- A text after its length.
 use Rattle.std.proofs.Common.{◌≡◌, ℕ, ◌+◌, ◌<◌, ◌≤◌, List, length, slice_index, sym, ap, ◌∙◌, arith}
 use Rattle.std.proofs.lemmas.List.{ext_get_or}
-use Rattle.adf_block.specs.Image.{block_count, byte_at, bytes_at}
-use Rattle.adf_block.specs.Fields.{HasText}
+use Rattle.adf_block.specs.Image.{block_count, byte_at, bytes_at, HasText}
 use Rattle.adf_block.specs.Frame.{SameBut, Within}
 use Rattle.adf_block.proofs.Blocks.{byte-bytes_at}
 use Rattle.adf_block.proofs.Frames.{same_count}
 use Rattle.ados_data.proofs.Reading.{length-bytes_at}
 
--- bytes of a block that were put one by one
+-- bytes of a block, written one by one
 pub bytes_put : (image : List ℕ) (b at : ℕ) (bytes : List ℕ) → b < block_count image → at + length bytes ≤ 512 → ((k : ℕ) → k < length bytes → byte_at image b (at + k) ≡ slice_index bytes k) → bytes_at image b at (length bytes) ≡ bytes
 bytes_put image b at bytes inside room put =
     let count = length-bytes_at image b at (length bytes) inside room in
@@ -16,7 +15,7 @@ bytes_put image b at bytes inside room put =
     let m : k < length bytes = omega (arith, count) in
     byte-bytes_at image b at (length bytes) k m ∙ put k m)
 
--- the length is put, and then the text behind it
+-- the length is written, then the text after it
 pub text_put : (old mid new : List ℕ) (b at : ℕ) (text : List ℕ) → b < block_count old → at + 1 + length text ≤ 512
     → byte_at mid b (at + 0) ≡ length text → SameBut (Within b at (at + 1)) old mid
     → ((k : ℕ) → k < length text → byte_at new b (at + 1 + k) ≡ slice_index text k) → SameBut (Within b (at + 1) (at + 1 + length text)) mid new

@@ -1,18 +1,17 @@
--- What stays of a block where some of its bytes stay.
+-- What is unchanged in a block some of whose bytes are.
 use Rattle.std.proofs.Common.{◌≡◌, ◌≢◌, ℕ, ◌+◌, ◌/◌, ◌<◌, ◌≤◌, ◌⊎◌, inl, inr, List, length, refl, ap, ◌∙◌, subst, sym, arith}
 use Rattle.std.proofs.lemmas.Bool.{cases_eq}
-use Rattle.adf_block.specs.Image.{byte_at, bytes_at, long, block_sum}
-use Rattle.adf_block.specs.Fields.{HasText}
+use Rattle.adf_block.specs.Image.{byte_at, bytes_at, long, block_sum, HasText}
 use Rattle.adf_block.proofs.Longs.{long-same}
 use Rattle.adf_block.proofs.Frames.{same_bytes_at, same_sum}
-use Rattle.ados_tree.specs.Dates.{date_at}
+use Rattle.ados_model.specs.Stands.{date_at}
 
--- the bytes of a block stay, but for those of some longs
+-- the bytes of a block are unchanged, except in some longs
 pub record StaysBut (changed : ℕ → Type 0) (old new : List ℕ) (block : ℕ) : Type 0 where
   pub size : length new ≡ length old
   pub bytes : (k : ℕ) → k < 512 → ¬ changed (k / 4) → byte_at new block k ≡ byte_at old block k
 
--- all of them stay
+-- all bytes of a block are unchanged
 abbrev pub Stays : List ℕ → List ℕ → ℕ → Type 0
 Stays old new block = StaysBut (λ j. ⊥) old new block
 

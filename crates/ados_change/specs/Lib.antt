@@ -1,4 +1,5 @@
--- What each change makes of the tree, when it can be made, and what it leaves of the image: the fields of a node, the bytes of a file, the entries of a directory. What only the steps of a change speak of stands in steps.
+-- The effect of each change on the tree, when it is possible, what it leaves untouched in the image and which blocks it
+-- takes: fields of a node, bytes of a file, entries of a directory. Definitions for steps are in `steps`.
 pub mod Places
 pub mod FieldTold
 pub mod Renewed
@@ -8,4 +9,6 @@ pub mod Conditions
 pub mod Kinds
 pub mod Behind
 pub mod Laws
+pub mod Untold
+pub mod NewBlocks
 pub mod steps

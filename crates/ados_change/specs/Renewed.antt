@@ -1,48 +1,49 @@
--- What a change of a file's content does.
+-- Changes of a file's bytes.
 use Rattle.std.specs.Prelude.{◌≡◌, ℕ, ◌+◌, max, IsTrue, List, length}
 use Rattle.adf_block.specs.Frame.{SameBut}
 use Rattle.ados_name.specs.declared.Date3.{Date3}
-use Rattle.ados_tree.specs.Tree.{Tree, needs_more, size_of}
-use Rattle.ados_tree.specs.Stands.{Stands}
-use Rattle.ados_tree.specs.Change.{grown, written}
-use Rattle.ados_tree.specs.Faults.{root_of}
-use Rattle.ados_tree.specs.Kept.{Kept}
+use Rattle.ados_model.specs.Tree.{Tree, needs_more, size_of}
+use Rattle.ados_model.specs.Stands.{Stands}
+use Rattle.ados_model.specs.Change.{grown, written}
+use Rattle.ados_model.specs.Faults.{root_of}
+use Rattle.ados_model.specs.Kept.{Kept}
 use Rattle.ados_change.specs.Stamps.{AtStamps, touched}
 
--- with this size the file needs more blocks than it has and are free
+-- for this size the file needs more new blocks than are free
 abbrev pub NeedsMore : Tree → ℕ → ℕ → Type 0
 NeedsMore t file size = IsTrue (needs_more t file size)
 
--- how many bytes a file has once others are written into it from a position on
+-- the size of a file after bytes are written into it from a position
 abbrev pub written_size : Tree → ℕ → ℕ → List ℕ → ℕ
 written_size t file pos bytes = max (size_of t file) (pos + length bytes)
 
--- there was room to write the bytes into the file, and the new image stands for the tree with them
+-- enough blocks were free to write the bytes into the file, and the new image represents the tree with them
 abbrev pub Writes : Date3 → ℕ → ℕ → List ℕ → List ℕ → List ℕ → Type 0
 Writes moment file pos bytes old new =
     (t : Tree) → Stands old t → (¬ NeedsMore t file (written_size t file pos bytes)) × Stands new (written moment file pos bytes t)
 
--- there is no room to write them
+-- too few blocks are free to write them
 abbrev pub CannotWrite : ℕ → ℕ → List ℕ → List ℕ → Type 0
 CannotWrite file pos bytes image = (t : Tree) → Stands image t → NeedsMore t file (written_size t file pos bytes)
 
--- the image is as it was, and there is no room to write them
+-- the image is unchanged, because too few blocks are free to write them
 abbrev pub StaysUnwritten : ℕ → ℕ → List ℕ → List ℕ → List ℕ → Type 0
 StaysUnwritten file pos bytes old new = (new ≡ old) × CannotWrite file pos bytes old
 
--- there was room for zeros behind the file up to this size, and the new image stands for the tree with them
+-- enough blocks were free for the file to grow to this size with zeros, and the new image represents the tree with
+-- them
 abbrev pub Grows : Date3 → ℕ → ℕ → List ℕ → List ℕ → Type 0
 Grows moment file size old new = (t : Tree) → Stands old t → (¬ NeedsMore t file size) × Stands new (grown moment file size t)
 
--- there is no room for them
+-- too few blocks are free for this size
 abbrev pub CannotGrow : ℕ → ℕ → List ℕ → Type 0
 CannotGrow file size image = (t : Tree) → Stands image t → NeedsMore t file size
 
--- the image is as it was, and there is no room for them
+-- the image is unchanged, because too few blocks are free for this size
 abbrev pub StaysUngrown : ℕ → ℕ → List ℕ → List ℕ → Type 0
 StaysUngrown file size old new = (new ≡ old) × CannotGrow file size old
 
--- the moment of a change was put into the file and the root, and nothing else was changed
+-- the time stamp was written into the file and the root, and nothing else changed
 pub record IsStamped (moment : Date3) (old : List ℕ) (file : ℕ) (new : List ℕ) : Type 0 where
   pub stands : (t : Tree) → Stands old t → Stands new (touched moment file t)
   pub kept : Kept old new

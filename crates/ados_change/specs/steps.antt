@@ -1,4 +1,5 @@
--- The steps of a change of entries: the block of a new entry, what each step writes, and an entry that is emptied before it goes.
+-- Definitions for steps of a change of entries: the block of a new entry, the bytes that each step writes, and an
+-- entry emptied before its removal.
 pub mod Making
 pub mod Writes
 pub mod Emptied

@@ -1,8 +1,9 @@
-//! Fields put into the block of one node, with its sum settled.
+//! Fields written into the block of one node, with the right checksum.
 
 ghost use Rattle.std.specs.Prelude.{◌<◌, ◌+◌};
-ghost use Rattle.adf_block.specs.Image.{IsImage, block_count, root_key};
-ghost use Rattle.adf_block.specs.Fields.{sum_long, date_long, disk_date_long};
+ghost use Rattle.adf_block.specs.Whole.{IsImage};
+ghost use Rattle.adf_block.specs.Image.{block_count, root_key};
+ghost use Rattle.adf_block.specs.Layout.{sum_long, date_long, disk_date_long, block_longs};
 ghost use Rattle.adf_block.specs.Frame.{OnlyBlock};
 ghost use Rattle.ados_name.specs.Name.{IsName};
 ghost use Rattle.ados_change.specs.Kinds.{content_of};
@@ -37,11 +38,11 @@ pub fn stamp(image: &mut Image, moment: Date3)
     settle_date(image, root, DISK_DATE, moment);
 }
 
-/// Puts a date into three longs of a block, the days into long `i`.
+/// Writes a date into three longs of a block, from long `i`: days, minutes, ticks.
 fn settle_date(image: &mut Image, b: u32, i: u32, moment: Date3)
     requires block { b < block_count image.old }
     requires behind { sum_long < i }
-    requires place { i + 2 < 128 }
+    requires place { i + 2 < block_longs }
     ensures dated { Dated b i moment image.old image.new }
     ensures image { IsImage image.new }
 {
@@ -49,7 +50,8 @@ fn settle_date(image: &mut Image, b: u32, i: u32, moment: Date3)
     image.settle(b, SUM);
 }
 
-/// Gives an entry a name and a directory. Bytes of a longer name behind the new one's end stay (this project's own choice).
+/// Sets the name and the directory of an entry. Bytes of a longer old name after the new one are unchanged (this
+/// project's own choice).
 pub fn put_title(image: &mut Image, key: u32, dir: u32, name: &Name)
     requires { key < block_count image.old }
     ensures titled { Titled key dir name.now image.old image.new }
@@ -61,7 +63,7 @@ pub fn put_title(image: &mut Image, key: u32, dir: u32, name: &Name)
     image.settle(key, SUM);
 }
 
-/// Makes a block that of a new entry; the bytes of no field become 0.
+/// Makes a block the block of a new entry. All bytes outside its fields become 0.
 pub fn make_entry(image: &mut Image, key: u32, dir: u32, name: &Name, kind: NodeKind, moment: Date3)
     requires { key < block_count image.old }
     ensures entry { IsNewEntry image.new key dir name.now (content_of kind) moment }
@@ -72,7 +74,7 @@ pub fn make_entry(image: &mut Image, key: u32, dir: u32, name: &Name, kind: Node
     put_title(image, key, dir, name);
 }
 
-/// Fills a block with zeros but for its types, its own number and its date.
+/// Fills a block with zeros, and sets its types, its own number and its date.
 fn make_head(image: &mut Image, key: u32, kind: NodeKind, moment: Date3)
     requires { key < block_count image.old }
     ensures head { IsHead image.new key (content_of kind) moment }

@@ -1,13 +1,13 @@
-//! The changes.
+//! Changes of a file's bytes.
 
 ghost use Rattle.std.specs.Prelude.{◌≡◌, ◌<◌, ◌≤◌, IfOk, MatchResult};
 ghost use Rattle.ados_data.specs.Place.{IsPlace};
 ghost use Rattle.ados_map.specs.Pages.{NoneFreeBelow};
-ghost use Rattle.ados_tree.specs.Tree.{Tree, size_of};
-ghost use Rattle.ados_tree.specs.Stands.{Stands};
-ghost use Rattle.ados_tree.specs.Keys.{HasFileKey, HasTree};
-ghost use Rattle.ados_tree.specs.Change.{shortened};
-ghost use Rattle.ados_tree.specs.NewBlocks.{KeepsRest, TakesNone};
+ghost use Rattle.ados_model.specs.Tree.{Tree, size_of};
+ghost use Rattle.ados_model.specs.Stands.{Stands};
+ghost use Rattle.ados_model.specs.Keys.{HasFileKey, HasTree};
+ghost use Rattle.ados_model.specs.Change.{shortened};
+ghost use Rattle.ados_change.specs.NewBlocks.{KeepsRest, TakesNone};
 ghost use Rattle.ados_change.specs.Cuts.{KeepsHeader};
 ghost use Rattle.ados_change.specs.Renewed.{Grows, StaysUngrown, StaysUnwritten, Writes};
 
@@ -15,12 +15,14 @@ use crate::space::{has_room, size_of};
 use crate::stamp::stamp;
 use adf_block::Image;
 use ados_data::{Place, extend_near, write_near};
+use ados_model::Full;
 use ados_name::Date3;
-use ados_tree::Full;
 
-/// Writes bytes over those of a file from byte `pos` on, which may reach past its end. With no bytes nothing changes.
-/// The image stays as it was where the blocks do not suffice. No block below `from` is free; the answer is such a bound
-/// for the next search.
+/// Writes bytes into a file from byte `pos`, at most its size. The file grows if they reach past its end. No bytes
+/// change nothing.
+///
+/// `Full` (DOS error 221) means that too few blocks are free; then the image is unchanged. No block below `from` may
+/// be free. The result is such a bound for the next search.
 pub fn write(
     image: &mut Image,
     file: u32,
@@ -53,7 +55,7 @@ pub fn write(
     Ok(bound)
 }
 
-/// Keeps the front of a file, of this size. What stands in the blocks that are given back stays there.
+/// Cuts a file to `size` bytes. The bytes of freed blocks are unchanged.
 pub fn cut(image: &mut Image, file: u32, size: u32, moment: Date3)
     requires tree { HasTree image.old }
     requires file { HasFileKey image.old file }
@@ -69,8 +71,10 @@ pub fn cut(image: &mut Image, file: u32, size: u32, moment: Date3)
     prove!(image.blocks() >= 16);
 }
 
-/// Puts zeros behind the bytes of a file, up to this size. The image stays as it was where the blocks do not suffice. No
-/// block below `from` is free; the answer is such a bound for the next search.
+/// Appends zeros to a file, up to `size` bytes.
+///
+/// `Full` (DOS error 221) means that too few blocks are free; then the image is unchanged. No block below `from` may
+/// be free. The result is such a bound for the next search.
 pub fn grow(
     image: &mut Image,
     file: u32,

@@ -2,10 +2,10 @@
 
 ghost use Rattle.std.specs.Prelude.{◌≡◌, IfErr, IfOk};
 ghost use Rattle.ados_map.specs.Pages.{IsLowestFree, NoneFree, NoneFreeBelow};
-ghost use Rattle.ados_tree.specs.Change.{made};
-ghost use Rattle.ados_tree.specs.NewBlocks.{KeepsRest};
-ghost use Rattle.ados_tree.specs.Stands.{Stands};
-ghost use Rattle.ados_tree.specs.Tree.{Tree};
+ghost use Rattle.ados_model.specs.Change.{made};
+ghost use Rattle.ados_change.specs.NewBlocks.{KeepsRest};
+ghost use Rattle.ados_model.specs.Stands.{Stands};
+ghost use Rattle.ados_model.specs.Tree.{Tree};
 ghost use Rattle.ados_change.specs.Conditions.{CanMake};
 ghost use Rattle.ados_change.specs.Kinds.{content_of};
 
@@ -14,11 +14,11 @@ use crate::node_kind::NodeKind;
 use adf_block::Image;
 use ados_chain::insert_last;
 use ados_map::take_first_from;
+use ados_model::Full;
 use ados_name::{Date3, Name};
-use ados_tree::Full;
 
-/// Makes an entry with nothing in it, last in the chain of its name's slot, and answers its key: the lowest free block, which is
-/// not below `from`.
+/// Makes an entry without contents, at the end of its name's hash chain, and returns its key. The key is the lowest
+/// free block. No block below `from` may be free.
 pub fn create(
     image: &mut Image,
     dir: u32,

@@ -1,12 +1,12 @@
-//! An entry that is taken away.
+//! An entry is removed.
 
 ghost use Rattle.std.specs.Prelude.{◌≡◌, ℕ, List};
-ghost use Rattle.ados_tree.specs.Change.{removed};
-ghost use Rattle.ados_tree.specs.Kept.{Kept};
-ghost use Rattle.ados_tree.specs.NewBlocks.{KeepsRest, TakesNone};
-ghost use Rattle.ados_tree.specs.Stands.{Stands};
-ghost use Rattle.ados_tree.specs.Tree.{Tree, size_of};
-ghost use Rattle.ados_tree.specs.Untold.{KeepsUntold};
+ghost use Rattle.ados_model.specs.Change.{removed};
+ghost use Rattle.ados_model.specs.Kept.{Kept};
+ghost use Rattle.ados_change.specs.NewBlocks.{KeepsRest, TakesNone};
+ghost use Rattle.ados_model.specs.Stands.{Stands};
+ghost use Rattle.ados_model.specs.Tree.{Tree, size_of};
+ghost use Rattle.ados_change.specs.Untold.{KeepsUntold};
 ghost use Rattle.ados_change.specs.Conditions.{CanRemove};
 ghost use Rattle.ados_change.specs.steps.Emptied.{Empties, GivesBack, KeepsEntry};
 
@@ -18,8 +18,8 @@ use ados_chain::unlink;
 use ados_map::give_back;
 use ados_name::Date3;
 
-/// Takes away an entry: a directory without entries, or a file, whose blocks are given back. What stands in these stays,
-/// but for some fields of the entry's own block.
+/// Removes an entry: a directory without entries, or a file. The file's blocks are freed. Their bytes are unchanged,
+/// except for some fields of the entry's own block.
 pub fn remove(image: &mut Image, key: u32, moment: Date3)
     requires tree { (t : Tree) × Stands image.old t }
     requires can { (t : Tree) → Stands image.old t → CanRemove t key }
@@ -31,7 +31,7 @@ pub fn remove(image: &mut Image, key: u32, moment: Date3)
     remove_empty(image, key, moment);
 }
 
-/// Gives back what a file holds; a directory that can be removed holds nothing.
+/// Frees the blocks of a file's data. A directory that can be removed has none.
 fn empty(image: &mut Image, key: u32, moment: Date3)
     requires tree { (t : Tree) × Stands image.old t }
     requires can { (t : Tree) → Stands image.old t → CanRemove t key }
@@ -46,8 +46,8 @@ fn empty(image: &mut Image, key: u32, moment: Date3)
     cut(image, key, 0, moment);
 }
 
-/// Takes away an entry with nothing in it: a directory without entries, or a file of no bytes. What an earlier change of
-/// the image kept is still kept.
+/// Removes an entry without contents: a directory without entries, or a file without bytes. It leaves untouched what
+/// an earlier change left untouched.
 fn remove_empty(image: &mut Image, key: u32, moment: Date3)
     requires tree { (t : Tree) × Stands image.old t }
     requires can { (t : Tree) → Stands image.old t → CanRemove t key }

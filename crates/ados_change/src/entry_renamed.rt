@@ -2,11 +2,11 @@
 
 ghost use Rattle.std.specs.Prelude.{ℕ};
 ghost use Rattle.adf_block.specs.Image.{HasFreeBit};
-ghost use Rattle.ados_tree.specs.Change.{renamed};
-ghost use Rattle.ados_tree.specs.Faults.{InImage};
-ghost use Rattle.ados_tree.specs.NewBlocks.{KeepsRest, TakesNone};
-ghost use Rattle.ados_tree.specs.Stands.{Stands};
-ghost use Rattle.ados_tree.specs.Tree.{Tree};
+ghost use Rattle.ados_model.specs.Change.{renamed};
+ghost use Rattle.ados_model.specs.Faults.{InImage};
+ghost use Rattle.ados_change.specs.NewBlocks.{KeepsRest, TakesNone};
+ghost use Rattle.ados_model.specs.Stands.{Stands};
+ghost use Rattle.ados_model.specs.Tree.{Tree};
 ghost use Rattle.ados_change.specs.Behind.{KeepsBehindName};
 ghost use Rattle.ados_change.specs.Conditions.{CanRename};
 
@@ -16,8 +16,10 @@ use adf_block::layout::PARENT;
 use ados_chain::{insert_last, unlink};
 use ados_name::{Date3, Name};
 
-/// Moves an entry into a directory, also its own, under a name; it becomes the last one in the chain of the name's slot. What
-/// stood behind a shorter name stays, and no block is given back.
+/// Moves an entry into a directory, possibly its own, under a name. It becomes the last entry in the hash chain of
+/// that name.
+///
+/// Bytes of a longer old name after the new one are unchanged. No block is freed.
 pub fn rename(image: &mut Image, key: u32, dir: u32, name: &Name, moment: Date3)
     requires tree { (t : Tree) × Stands image.old t }
     requires can { (t : Tree) → Stands image.old t → CanRename t key dir name.now }

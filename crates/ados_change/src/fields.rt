@@ -1,13 +1,13 @@
-//! The changes that packets make of one node's fields: each sets the disk date too.
+//! The changes of one node's fields by packets. Each sets the disk date as well.
 
 ghost use Rattle.std.specs.Prelude.{◌+◌, length};
-ghost use Rattle.adf_block.specs.Fields.{long_byte, protection_long, comment_byte, date_long, name_byte};
-ghost use Rattle.ados_tree.specs.Tree.{Tree};
-ghost use Rattle.ados_tree.specs.Stands.{Stands};
-ghost use Rattle.ados_tree.specs.Keys.{HasEntryKey, HasTree};
-ghost use Rattle.ados_tree.specs.Faults.{root_of};
-ghost use Rattle.ados_tree.specs.NewBlocks.{KeepsRest};
-ghost use Rattle.ados_tree.specs.Change.{disk_renamed, with_comment, with_date, with_protection};
+ghost use Rattle.adf_block.specs.Layout.{long_byte, protection_long, comment_byte, date_long, name_byte};
+ghost use Rattle.ados_model.specs.Tree.{Tree};
+ghost use Rattle.ados_model.specs.Stands.{Stands};
+ghost use Rattle.ados_model.specs.Keys.{HasEntryKey, HasTree};
+ghost use Rattle.ados_model.specs.Faults.{root_of};
+ghost use Rattle.ados_change.specs.NewBlocks.{KeepsRest};
+ghost use Rattle.ados_model.specs.Change.{disk_renamed, with_comment, with_date, with_protection};
 ghost use Rattle.ados_change.specs.Places.{OnlyRestamped};
 
 use crate::node::{put_comment, put_disk_name, put_protection, stamp_disk, touch};
@@ -38,7 +38,7 @@ pub fn set_comment(image: &mut Image, key: u32, comment: &Comment, moment: Date3
     stamp_disk(image, moment);
 }
 
-/// Sets the date of a directory or file, which need not be the moment.
+/// Sets the date of a directory or file. It may differ from `moment`, which is the new disk date.
 pub fn set_date(image: &mut Image, key: u32, date: Date3, moment: Date3)
     requires tree { HasTree image.old }
     requires key { HasEntryKey image.old key }
@@ -50,7 +50,7 @@ pub fn set_date(image: &mut Image, key: u32, date: Date3, moment: Date3)
     stamp_disk(image, moment);
 }
 
-/// Gives the volume a name.
+/// Sets the volume's name.
 pub fn rename_disk(image: &mut Image, name: &Name, moment: Date3)
     requires { HasTree image.old }
     ensures stands { (t : Tree) → Stands image.old t → Stands image.new (disk_renamed moment name.now t) }

@@ -1,23 +1,24 @@
-//! Changes of an image that stands for a tree: the fields of one node ([`set_comment`] and its like), the bytes of a file
-//! ([`write`], [`cut`], [`grow`]), and the entries of a directory ([`create`], [`remove`], [`rename`]). The tree that the
-//! image stands for changes with each. No call takes memory.
+//! Changes of an image that represents a tree: the fields of one node ([`set_comment`] and similar calls), the bytes
+//! of a file ([`write`], [`cut`], [`grow`]), and the entries of a directory ([`create`], [`remove`], [`rename`]). Each
+//! also changes the tree that the image represents. No call allocates memory.
 //!
-//! Keys are block numbers. Each change sets the disk date; a change of bytes or entries makes the moment the date of the
-//! file or the directories too, and one of bytes clears the file's archive bit.
+//! Keys are block numbers, and sizes and positions are in bytes. Each change sets the disk date to `moment`. A change
+//! of bytes or entries also sets the date of the file or the directories, and one of bytes clears the file's archive
+//! bit.
 #![tactic(auto)]
 
-// One node's fields.
+// The fields of a node.
 mod edit;
 mod fields;
 mod node;
 mod settled;
 
-// A file's bytes.
+// The bytes of a file.
 mod content;
 mod space;
 mod stamp;
 
-// A directory's entries.
+// The entries of a directory.
 mod block;
 mod entry_made;
 mod entry_removed;
@@ -25,7 +26,7 @@ mod entry_renamed;
 mod laws;
 mod node_kind;
 
-pub use ados_tree::Full;
+pub use ados_model::Full;
 pub use content::{cut, grow, write};
 pub use edit::{put_date, put_text};
 pub use entry_made::create;

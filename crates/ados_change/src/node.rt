@@ -1,14 +1,14 @@
 //! One field of one node, and the disk date.
 
 ghost use Rattle.std.specs.Prelude.{◌+◌, length};
-ghost use Rattle.adf_block.specs.Fields.{long_byte, protection_long, comment_byte, date_long, name_byte, disk_date_long};
+ghost use Rattle.adf_block.specs.Layout.{long_byte, protection_long, comment_byte, date_long, name_byte, disk_date_long};
 ghost use Rattle.adf_block.specs.Frame.{SameBut};
-ghost use Rattle.ados_tree.specs.Tree.{Tree};
-ghost use Rattle.ados_tree.specs.Stands.{Stands};
-ghost use Rattle.ados_tree.specs.Keys.{HasEntryKey, HasKey, HasTree};
-ghost use Rattle.ados_tree.specs.Faults.{root_of};
-ghost use Rattle.ados_tree.specs.Kept.{Kept};
-ghost use Rattle.ados_tree.specs.Change.{stamped};
+ghost use Rattle.ados_model.specs.Tree.{Tree};
+ghost use Rattle.ados_model.specs.Stands.{Stands};
+ghost use Rattle.ados_model.specs.Keys.{HasEntryKey, HasKey, HasTree};
+ghost use Rattle.ados_model.specs.Faults.{root_of};
+ghost use Rattle.ados_model.specs.Kept.{Kept};
+ghost use Rattle.ados_model.specs.Change.{stamped};
 ghost use Rattle.ados_change.specs.Places.{Summed};
 ghost use Rattle.ados_change.specs.FieldTold.{commented, dated, named, protected};
 
@@ -28,8 +28,8 @@ pub fn put_protection(image: &mut Image, key: u32, bits: Protect)
     settle_long(image, key, PROTECTION, bits.bits());
 }
 
-/// Sets the comment of a directory or file. Bytes of a longer comment behind the new one's end stay (this project's own
-/// choice).
+/// Sets the comment of a directory or file. Bytes of a longer old comment after the new one are unchanged (this
+/// project's own choice).
 pub fn put_comment(image: &mut Image, key: u32, comment: &Comment)
     requires tree { HasTree image.old }
     requires key { HasEntryKey image.old key }
@@ -40,7 +40,7 @@ pub fn put_comment(image: &mut Image, key: u32, comment: &Comment)
     settle_text(image, key, COMMENT_BYTE as usize, comment.bytes());
 }
 
-/// Sets the date of a node: of a directory, of a file, or of the root.
+/// Sets the date of a directory, a file or the root.
 pub fn touch(image: &mut Image, key: u32, date: Date3)
     requires tree { HasTree image.old }
     requires key { HasKey image.old key }
@@ -51,7 +51,7 @@ pub fn touch(image: &mut Image, key: u32, date: Date3)
     settle_date(image, key, DATE, date);
 }
 
-/// Sets the volume's name. Bytes of a longer name behind the new one's end stay (this project's own choice).
+/// Sets the volume's name. Bytes of a longer old name after the new one are unchanged (this project's own choice).
 pub fn put_disk_name(image: &mut Image, name: &Name)
     requires { HasTree image.old }
     ensures stands { (t : Tree) → Stands image.old t → Stands image.new (named name.now t) }

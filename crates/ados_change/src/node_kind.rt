@@ -1,7 +1,7 @@
-//! What an entry can be.
+//! The kinds of entries.
 
 ghost use Rattle.std.specs.Prelude.{◌≡◌};
-ghost use Rattle.ados_tree.specs.Stands.{type_of};
+ghost use Rattle.ados_model.specs.Stands.{type_of};
 ghost use Rattle.ados_change.specs.Kinds.{content_of};
 
 use adf_block::layout::{DIRECTORY_TYPE, FILE_TYPE};
@@ -14,7 +14,7 @@ pub enum NodeKind {
 }
 
 impl NodeKind {
-    /// The secondary type of its block, -3 of a file.
+    /// The secondary type of its block: 2 for a directory, -3 for a file.
     pub(crate) fn secondary_type(self) -> u32
         ensures { result ≡ type_of (content_of self) }
     {

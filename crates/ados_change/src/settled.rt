@@ -1,10 +1,10 @@
-//! Fields put into a block whose sum stands in long 5, with the sum settled.
+//! Fields written into a block whose checksum is long 5. A right checksum stays right.
 
 ghost use Rattle.std.specs.Prelude.{◌≡◌, ◌≢◌, ◌<◌, ◌≤◌, ◌+◌, ◌*◌, ◌⊎◌, ℕ, length};
-ghost use Rattle.adf_block.specs.Image.{block_count, block_sum, long};
-ghost use Rattle.adf_block.specs.Fields.{HasText, sum_long, long_byte};
+ghost use Rattle.adf_block.specs.Image.{block_count, block_sum, long, HasText};
+ghost use Rattle.adf_block.specs.Layout.{sum_long, long_byte, block_longs, block_bytes};
 ghost use Rattle.adf_block.specs.Frame.{SameBut};
-ghost use Rattle.ados_tree.specs.Dates.{date_at};
+ghost use Rattle.ados_model.specs.Stands.{date_at};
 ghost use Rattle.ados_change.specs.Places.{Summed};
 
 use crate::edit::put_text;
@@ -12,14 +12,14 @@ use adf_block::Image;
 use adf_block::layout::SUM;
 use ados_name::Date3;
 
-/// Sets long `i` of block `b`, and moves the long of the sum by as much: so the sum stays 0 where it was 0.
+/// Sets long `i` of block `b`, and changes the checksum by the opposite amount.
 pub fn settle_long(image: &mut Image, b: u32, i: u32, v: u32)
     requires inside { b < block_count image.old }
-    requires place { i < 128 }
+    requires place { i < block_longs }
     requires not_sum { i ≢ sum_long }
     ensures long { long image.new b i ≡ v }
     ensures sum { block_sum image.old b ≡ 0 → block_sum image.new b ≡ 0 }
-    ensures others { (c j : ℕ) → j < 128 → (c ≢ b) ⊎ ((j ≢ i) × (j ≢ sum_long)) → long image.new c j ≡ long image.old c j }
+    ensures others { (c j : ℕ) → j < block_longs → (c ≢ b) ⊎ ((j ≢ i) × (j ≢ sum_long)) → long image.new c j ≡ long image.old c j }
     ensures rest { SameBut (Summed b (4 * i) (4 * i + 4)) image.old image.new }
 {
     let moved = image.long(b, i).wrapping_sub(v);
@@ -28,11 +28,11 @@ pub fn settle_long(image: &mut Image, b: u32, i: u32, v: u32)
     image.set_long(b, SUM, sum);
 }
 
-/// Puts a text and in front of it, at byte `at` of block `b`, its length. Bytes behind the text stay.
+/// Writes a text into block `b`: its length at byte `at`, then its bytes. Bytes after the text are unchanged.
 pub fn settle_text(image: &mut Image, b: u32, at: usize, text: &[u8])
     requires inside { b < block_count image.old }
     requires place { long_byte (sum_long + 1) ≤ at }
-    requires room { at + 1 + length text.now ≤ 512 }
+    requires room { at + 1 + length text.now ≤ block_bytes }
     requires short { length text.now < 256 }
     ensures text { HasText image.new b at text.now }
     ensures sum { block_sum image.new b ≡ 0 }
@@ -42,11 +42,11 @@ pub fn settle_text(image: &mut Image, b: u32, at: usize, text: &[u8])
     image.settle(b, SUM);
 }
 
-/// Puts a date into three longs of block `b`, the days into long `i`.
+/// Writes a date into three longs of block `b`, from long `i`: days, minutes, ticks.
 pub fn settle_date(image: &mut Image, b: u32, i: u32, date: Date3)
     requires inside { b < block_count image.old }
     requires behind { sum_long + 1 ≤ i }
-    requires place { i + 2 < 128 }
+    requires place { i + 2 < block_longs }
     ensures date { date_at image.new b i ≡ date }
     ensures sum { block_sum image.old b ≡ 0 → block_sum image.new b ≡ 0 }
     ensures rest { SameBut (Summed b (4 * i) (4 * i + 12)) image.old image.new }

@@ -3,16 +3,16 @@
 ghost use Rattle.std.specs.Prelude.{◌≡◌, MatchBool};
 ghost use Rattle.ados_map.specs.Pages.{NoneFreeBelow};
 ghost use Rattle.ados_data.specs.Changing.{HasFree};
-ghost use Rattle.ados_tree.specs.Keys.{HasFileKey, HasTree};
-ghost use Rattle.ados_tree.specs.Stands.{Stands};
-ghost use Rattle.ados_tree.specs.Tree.{Tree, size_of};
+ghost use Rattle.ados_model.specs.Keys.{HasFileKey, HasTree};
+ghost use Rattle.ados_model.specs.Stands.{Stands};
+ghost use Rattle.ados_model.specs.Tree.{Tree, size_of};
 
 use adf_block::Image;
 use adf_block::layout::SIZE;
 use ados_data::blocks_of;
 use ados_map::has_free;
 
-/// The size of a file in bytes.
+/// The size of a file, in bytes.
 pub fn size_of(image: &Image, file: u32) -> u32
     requires tree { HasTree image.now }
     requires file { HasFileKey image.now file }
@@ -21,7 +21,7 @@ pub fn size_of(image: &Image, file: u32) -> u32
     image.long(file, SIZE)
 }
 
-/// Whether there are as many free blocks as a file of this size needs more than it has; none is below `from`.
+/// Whether enough blocks are free for the file to have `size` bytes. No block below `from` may be free.
 pub fn has_room(image: &Image, file: u32, size: u64, from: u32) -> bool
     requires tree { HasTree image.now }
     requires file { HasFileKey image.now file }

@@ -1,6 +1,6 @@
-//! The moment of a change.
+//! The time stamp of a change.
 
-ghost use Rattle.ados_tree.specs.Keys.{HasFileKey, HasTree};
+ghost use Rattle.ados_model.specs.Keys.{HasFileKey, HasTree};
 ghost use Rattle.ados_change.specs.Renewed.{IsStamped};
 
 use crate::node::{put_protection, stamp_disk, touch};
@@ -8,7 +8,7 @@ use adf_block::Image;
 use adf_block::layout::PROTECTION;
 use ados_name::{Date3, Protect};
 
-/// Makes the moment the date of a file and the disk date, and clears the file's archive bit.
+/// Sets the date of a file and the disk date to `moment`, and clears the file's archive bit.
 pub fn stamp(image: &mut Image, file: u32, moment: Date3)
     requires tree { HasTree image.old }
     requires file { HasFileKey image.old file }

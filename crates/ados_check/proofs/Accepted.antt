@@ -1,20 +1,21 @@
--- Why a checked image is accepted, as it is or with its bitmap mended.
+-- A checked image is accepted, as it is or with a rebuilt bitmap.
 use Rattle.std.proofs.Common.{◌≡◌, ℕ, zero, suc, ◌+◌, ◌-◌, ◌*◌, ◌/◌, ◌%◌, ◌<◌, ◌≤◌, inl, inr, true, false, not, List, [], ◌∷◌, length, map, slice_index_or, Option, Some, None, is_some, refl, sym, ap, ◌∙◌, subst, arith}
 use Rattle.std.proofs.lemmas.Bool.{false≢true}
-use Rattle.adf_block.specs.Image.{IsImage, HasFreeBit, has_free_bit, block_count, page_count, root_key, long, block_sum}
+use Rattle.adf_block.specs.Whole.{IsImage}
+use Rattle.adf_block.specs.Image.{HasFreeBit, has_free_bit, block_count, page_count, root_key, long, block_sum}
 use Rattle.adf_block.specs.Frame.{SameBut, AtLong, InBlock, OnlyBlock}
 use Rattle.adf_block.proofs.Frames.{same_trans, same_weaken, same_count, other_long, other_block_long, other_block_sum}
 use Rattle.ados_map.specs.Bits.{is_unnamed}
 use Rattle.ados_map.specs.Pages.{LawfulPages, HasBit, page_block, pages_of}
 use Rattle.ados_map.specs.Changes.{InPages}
-use Rattle.ados_tree.specs.declared.role.Role.{Role}
-use Rattle.ados_tree.specs.declared.role.Role.TheVariants.{Root, Page}
-use Rattle.ados_tree.specs.Faults.{InImage, Reached, root_of}
-use Rattle.ados_tree.specs.Faults.IsPlace.{root_page}
-use Rattle.ados_tree.specs.Faults.Reached.{start, named}
-use Rattle.ados_tree.specs.Rebuilt.{HasValidBitmap, IsOfBitmap, Rebuilt}
-use Rattle.ados_tree.specs.Accepted.{HasNoLost}
-use Rattle.ados_tree.proofs.NoFaults.{faults_have_no_tree}
+use Rattle.ados_model.specs.declared.role.Role.{Role}
+use Rattle.ados_model.specs.declared.role.Role.TheVariants.{Root, Page}
+use Rattle.ados_model.specs.Faults.{InImage, Reached, root_of}
+use Rattle.ados_model.specs.Faults.IsPlace.{root_page}
+use Rattle.ados_model.specs.Faults.Reached.{start, named}
+use Rattle.ados_model.specs.Rebuilt.{HasValidBitmap, IsOfBitmap, Rebuilt}
+use Rattle.ados_model.specs.Accepted.{HasNoLost}
+use Rattle.ados_model.proofs.NoFaults.{faults_have_no_tree}
 use Rattle.ados_check.specs.declared.mark.Mark.{Mark}
 use Rattle.ados_check.specs.Marks.{mark_at, IsChecked}
 use Rattle.ados_check.specs.Laws.{AreInUse, IsMended, CheckedHasPages, CheckedIsAccepted, MendedIsAccepted}
@@ -28,7 +29,7 @@ use Rattle.ados_check.proofs.Carried.{is_checked}
 use Rattle.ados_check.proofs.NoFaults.{shows_no_fault}
 
 module _ (image : List ℕ) (marks : List (Option Mark)) (c : IsChecked image marks) where
-  -- page p is marked for its long of the root
+  -- bitmap block p is marked with its long of the root
   page_marked : (p : ℕ) → p < pages_of image → mark_at marks (page_block image p) ≡ Some (mark_of Page (root_of image) (79 + p))
   page_marked p l = c.reached.marked (root_of image) (79 + p) (mark_of Root 0 0) Page c.reached.root (root_page l)
 
@@ -56,7 +57,7 @@ module _ (image : List ℕ) (marks : List (Option Mark)) (c : IsChecked image ma
   page_reached : (p : ℕ) → p < pages_of image → Reached image (page_block image p) Page
   page_reached p l = named start (root_page l) (page_inside p l)
 
-  -- and a page that is reached is one of them
+  -- a reached bitmap block is one of them
   reached_page : IsImage image → (page : ℕ) → Reached image page Page → (p : ℕ) × (p < pages_of image) × (page ≡ page_block image p)
   reached_page im page h =
       let at = reached_stands image marks im c h in
@@ -72,7 +73,7 @@ checked_is_accepted image marks im c valid used =
     let s = stands image marks im c valid used in
     (λ kind block shows. faults_have_no_tree image t kind block shows s, valid, refl, (t, s))
 
--- ---- which blocks are named
+-- ---- which blocks are in use
 
 named_is : (marks : List (Option Mark)) (k : ℕ) → k < length marks → slice_index_or (map is_some marks) k true ≡ is_some (mark_at marks k)
 named_is [] k l = absurd (omega arith)
@@ -84,7 +85,7 @@ named_past [] k l = refl
 named_past (m ∷ ms) zero l = absurd (omega arith)
 named_past (m ∷ ms) (suc k) l = named_past ms k (omega arith)
 
--- a block of the volume is unnamed where it is not marked
+-- a block of the volume is out of use if it is not marked
 unnamed_is : (marks : List (Option Mark)) (k : ℕ) → k < length marks → is_unnamed (map is_some marks) k ≡ not (is_some (mark_at marks k))
 unfolding is_unnamed
 unnamed_is marks k l = ap not (named_is marks k l)
@@ -93,14 +94,14 @@ unnamed_past : (marks : List (Option Mark)) (k : ℕ) → length marks ≤ k →
 unfolding is_unnamed
 unnamed_past marks k l = ap not (named_past marks k l)
 
--- the bit of a block, in two images that have its page in one place and its map long alike
+-- the bit of a block in two images with the same bitmap block and the same long in it
 free_agrees : (old new : List ℕ) (b page : ℕ) → long old (root_of old) (79 + (b - 2) / 4064) ≡ page → long new (root_of new) (79 + (b - 2) / 4064) ≡ page
     → long new page (1 + (b - 2) % 4064 / 32) ≡ long old page (1 + (b - 2) % 4064 / 32) → has_free_bit new b ≡ has_free_bit old b
 unfolding has_free_bit
 free_agrees old new b page e f same = rw (e, f, same) refl
 
 module _ (old new : List ℕ) (marks : List (Option Mark)) (im : IsImage old) (c : IsChecked old marks) (mended : IsMended old marks new) where
-  -- ---- what was changed
+  -- ---- what changed
 
   of_pages : (b i : ℕ) → InPages old b i → IsOfBitmap old b i
   of_pages b i h = inl (subst (λ (x : ℕ). Reached old x Page) (sym h.2) (page_reached old marks c h.0 h.1))
@@ -115,7 +116,7 @@ module _ (old new : List ℕ) (marks : List (Option Mark)) (im : IsImage old) (c
       (same_weaken (AtLong (root_of old) 78) (IsOfBitmap old) mended.paged mended.flagged (λ b i at. inr (at.0, inr at.1)) mended.flag)
       (same_weaken (AtLong (root_of old) 5) (IsOfBitmap old) mended.flagged new (λ b i at. inr (at.0, inl at.1)) mended.settled))
 
-  -- the root alone, after the pages
+  -- only the root, after the bitmap blocks
   last : OnlyBlock (root_of old) mended.paged new
   last =
       same_trans (InBlock (root_of old)) mended.paged mended.flagged new

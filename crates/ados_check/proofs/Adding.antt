@@ -1,4 +1,4 @@
--- A block more at the end of an image: what it leaves, and what it brings.
+-- One more block at the end of an image.
 use Rattle.std.proofs.Common.{◌≡◌, ◌≢◌, ℕ, ◌+◌, ◌-◌, append-nil, ◌*◌, ◌%◌, ◌^◌, ◌<◌, ◌≤◌, ◌++◌, ◌∷◌, [], ◌==◌, inl, inr, List, length, take, get_or, slice_index, Option, None, Some, MatchOption, if◌then◌else◌, arith, ap, sym, ◌∙◌, refl, subst, length-append, length-take}
 use Rattle.std.proofs.lemmas.Bool.{cases_lt}
 use Rattle.std.proofs.lemmas.List.{get_or-take, get_or_append_left, get_or-append_right}
@@ -8,7 +8,7 @@ use Rattle.adf_block.proofs.Totals.{total-same}
 use Rattle.ados_check.specs.Keeping.{AreKept, StandsAt, kept_length, start_of}
 use Rattle.ados_check.proofs.KeptLengths.{at_most}
 
--- a byte of the blocks that were there
+-- a byte of the old blocks
 old_byte : (image block : List ℕ) (b k : ℕ) → 512 * b + k < length image → byte_at (image ++ block) b k ≡ byte_at image b k
 unfolding byte_at
 old_byte image block b k lt = get_or_append_left image block 0 (512 * b + k) lt
@@ -35,11 +35,11 @@ new_sum : (image block : List ℕ) (n : ℕ) → length image ≡ 512 * n → bl
 unfolding block_sum
 new_sum image block n whole = ap (λ (t : ℕ). t % 2 ^ 32) (total-same (long block 0) (long (image ++ block) n) 128 (λ j small. new_long image block n j whole))
 
--- blocks of one type are kept alike
+-- blocks with the same type keep equally many bytes
 same_length : (image other : List ℕ) (b c : ℕ) → long image b 0 ≡ long other c 0 → kept_length image b ≡ kept_length other c
 same_length image other b c same = ap (λ (type : ℕ). if type == 8 then 24 else 512) same
 
--- a block that was there stands where it stood
+-- an old block is at the same position
 stands_still : (kept more image block : List ℕ) (n b start : ℕ) → length image ≡ 512 * n → b < n → StandsAt kept image b start → StandsAt (kept ++ more) (image ++ block) b start
 stands_still kept more image block n b start whole lt stands =
     let same = same_length (image ++ block) image b b (old_long image block n b 0 whole lt (omega arith)) in
@@ -54,7 +54,7 @@ stands_still kept more image block n b start whole lt stands =
           ∙ sym (old_byte image block b k (omega (arith, whole, lt, inside, few)));
     }
 
--- the last of some starts, and those in front of it
+-- the last of some positions, and those before it
 start_before : (starts : List (Option ℕ)) (start : Option ℕ) (b : ℕ) → b < length starts → start_of (starts ++ start ∷ []) b ≡ start_of starts b
 start_before starts start b lt = get_or_append_left starts (start ∷ []) None b lt
 
@@ -63,7 +63,7 @@ start_last starts start n at =
     let first : n - n ≡ 0 = omega arith in
     get_or-append_right starts (start ∷ []) n n None (sym at) (omega arith) ∙ ap (λ (k : ℕ). get_or (start ∷ []) k None) first
 
--- one block more is noted
+-- one more block is added
 added : (starts : List (Option ℕ)) (kept more image block : List ℕ) (start : Option ℕ) → length block ≡ 512 → ((i : ℕ) → slice_index block i < 256) → length more ≤ 512
     → AreKept starts kept image
     → MatchOption start (block_sum (image ++ block) (length starts) ≢ 0) (StandsAt (kept ++ more) (image ++ block) (length starts))
@@ -92,7 +92,7 @@ added starts kept more image block start size small few are new =
     still None b lt not = λ z. not (sym (old_sum image block (length starts) b are.whole lt) ∙ z)
     still (Some s) b lt stands = stands_still kept more image block (length starts) b s are.whole lt stands
 
--- a block that does not add up to 0
+-- a block with a wrong checksum
 pub added_none : (starts : List (Option ℕ)) (kept image block : List ℕ) → length block ≡ 512 → ((i : ℕ) → slice_index block i < 256) → block_sum block 0 ≢ 0
     → AreKept starts kept image → AreKept (starts ++ None ∷ []) kept (image ++ block)
 added_none starts kept image block size small not are =
@@ -103,7 +103,7 @@ first_byte : (block : List ℕ) (k : ℕ) → byte_at block 0 k ≡ slice_index 
 unfolding byte_at
 first_byte block k = ap (slice_index block) (omega arith)
 
--- a block that adds up to 0, of which so many bytes are kept
+-- a block with a right checksum, some of whose bytes are kept
 pub added_some : (starts : List (Option ℕ)) (kept image block : List ℕ) → length block ≡ 512 → ((i : ℕ) → slice_index block i < 256) → block_sum block 0 ≡ 0
     → AreKept starts kept image → AreKept (starts ++ Some (length kept) ∷ []) (kept ++ take (kept_length block 0) block) (image ++ block)
 added_some starts kept image block size small zero are =

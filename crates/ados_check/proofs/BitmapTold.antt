@@ -1,18 +1,18 @@
--- What a source tells of the root and the bitmap pages.
+-- What a source has of the root and the bitmap blocks.
 use Rattle.std.proofs.Common.{◌≡◌, ◌≢◌, ℕ, ◌+◌, ◌<◌, List, Option, IsTrue, inl, inr, arith}
-use Rattle.adf_block.specs.Image.{block_sum}
-use Rattle.adf_block.specs.Fields.{primary_type, data_type}
+use Rattle.adf_block.specs.Image.{block_sum, primary_type}
+use Rattle.adf_block.specs.Layout.{data_type}
 use Rattle.ados_map.specs.Pages.{page_block, pages_of}
-use Rattle.ados_tree.specs.declared.role.Role.TheVariants.{Root, Page}
-use Rattle.ados_tree.specs.Faults.{InImage, root_of}
-use Rattle.ados_tree.specs.Faults.IsPlace.{root_page}
+use Rattle.ados_model.specs.declared.role.Role.TheVariants.{Root, Page}
+use Rattle.ados_model.specs.Faults.{InImage, root_of}
+use Rattle.ados_model.specs.Faults.IsPlace.{root_page}
 use Rattle.ados_check.specs.declared.mark.Mark.{Mark}
 use Rattle.ados_check.specs.Marks.{IsChecked}
 use Rattle.ados_check.proofs.Paths.{mark_of}
 use Rattle.ados_check.specs.Source.{SourceView, Tells}
 use Rattle.ados_check.specs.BitmapTold.{TellsBitmap}
 
--- a whole image tells everything
+-- a whole image has everything
 pub whole_tells : (source : SourceView) → IsTrue source.whole → TellsBitmap source
 whole_tells source whole = record { root = λ i. inl whole; page = λ p i l. inl whole }
 
@@ -30,7 +30,7 @@ module _ (source : SourceView) (marks : List (Option Mark)) (c : IsChecked sourc
       let marked = c.reached.marked (root_of source.bytes) (79 + p) (mark_of Root 0 0) Page c.reached.root (root_page l) in
       c.reached.sound (page_block source.bytes p) (mark_of Page (root_of source.bytes) (79 + p)) marked
 
-  -- the sum of a page, which stands where other blocks have their type, is always there
+  -- the checksum of a bitmap block is always available; it is at the position of the primary type in other blocks
   pub page_first : (p : ℕ) → p < pages_of source.bytes → Tells source (page_block source.bytes p) 0
   page_first p l = inr (page_sum p l, inl (omega arith))
 

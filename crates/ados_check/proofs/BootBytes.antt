@@ -1,11 +1,10 @@
--- What the first four bytes of a disk say.
+-- The DOS type of a disk from its first four bytes.
 use Rattle.std.proofs.Common.{◌≡◌, ℕ, ◌<◌, ◌==◌, if◌then◌else◌, List, [], ◌∷◌, slice_index, sym, ap, ◌∙◌, arith}
-use Rattle.adf_block.specs.Image.{byte_at, bytes_at}
+use Rattle.adf_block.specs.Image.{byte_at, bytes_at, format_of}
 use Rattle.adf_block.specs.Boot.{IsDos}
 use Rattle.adf_block.specs.declared.Format.TheVariants.{Ofs, Ffs}
 use Rattle.adf_block.proofs.Blocks.{byte-bytes_at}
-use Rattle.ados_data.specs.File.{format_of}
-use Rattle.ados_tree.specs.Stands.{format_byte, kind_bytes}
+use Rattle.ados_model.specs.Stands.{format_byte, kind_bytes}
 
 module _ (image : List ℕ) (kind : ℕ) (is : bytes_at image 0 0 4 ≡ 68 ∷ 79 ∷ 83 ∷ kind ∷ []) where
   byte : (k : ℕ) → k < 4 → byte_at image 0 k ≡ slice_index (68 ∷ 79 ∷ 83 ∷ kind ∷ []) k

@@ -1,17 +1,17 @@
--- The marks of an image are those of one whose bitmap alone differs.
+-- Two images that differ only in their bitmaps have the same marks.
 use Rattle.std.proofs.Common.{◌≡◌, ◌≢◌, ℕ, ◌<◌, ◌≤◌, inl, inr, List, [], ◌∷◌, Option, Some, refl, sym, ap, ◌∙◌, subst, arith}
 use Rattle.adf_block.specs.declared.Format.{Format}
-use Rattle.adf_block.specs.Image.{IsImage, block_count, long, block_sum}
-use Rattle.adf_block.specs.Fields.{text_at, comment_byte, name_byte}
+use Rattle.adf_block.specs.Whole.{IsImage, text_at}
+use Rattle.adf_block.specs.Image.{block_count, long, block_sum}
+use Rattle.adf_block.specs.Layout.{comment_byte, name_byte}
 use Rattle.adf_block.specs.Frame.{SameBut}
 use Rattle.ados_name.specs.Name.{Same, slot}
-use Rattle.ados_data.specs.File.{HasExtension}
-use Rattle.ados_tree.specs.declared.role.Role.{Role}
-use Rattle.ados_tree.specs.declared.role.Role.TheVariants.{Root, Page, Entry, Data, Extension}
-use Rattle.ados_tree.specs.Stands.{format_byte}
-use Rattle.ados_tree.specs.Faults.{InImage, IsPlace, Reached, root_of}
-use Rattle.ados_tree.specs.Faults.Reached.{start, named}
-use Rattle.ados_tree.specs.Rebuilt.{IsOfBitmap}
+use Rattle.ados_model.specs.Stands.{HasExtension, format_byte}
+use Rattle.ados_model.specs.declared.role.Role.{Role}
+use Rattle.ados_model.specs.declared.role.Role.TheVariants.{Root, Page, Entry, Data, Extension}
+use Rattle.ados_model.specs.Faults.{InImage, IsPlace, Reached, root_of}
+use Rattle.ados_model.specs.Faults.Reached.{start, named}
+use Rattle.ados_model.specs.Rebuilt.{IsOfBitmap}
 use Rattle.ados_check.specs.declared.mark.Mark.{Mark}
 use Rattle.ados_check.specs.Marks.{mark_at, AreReached, IsChecked, IsMarkedEntry, IsSound, IsSoundRoot, IsSoundEntry, IsSoundData}
 use Rattle.ados_check.proofs.Roles.{reached_marked, root_role}
@@ -48,7 +48,7 @@ module _ (old new : List ℕ) (marks : List (Option Mark)) (im : IsImage old) (c
       let at : IsPlaceLong m.role i = place_long (omega (arith, few, count)) p in
       place_moves new old (sym count) (λ j l n g. sym (longs_kept old new marks im c.reached same block m e at.no_page j l n g)) p
 
-  -- what was reached is reached
+  -- a reached block is reached in the other image
   reached_new : {block : ℕ} {role : Role} → Reached old block role → Reached new block role
   reached_new start = subst (λ (b : ℕ). Reached new b Root) (root_same old new marks im c.reached same) start
   reached_new (named {block = b} {i = i} {role = role} {next = next} h p inside) =
@@ -59,7 +59,7 @@ module _ (old new : List ℕ) (marks : List (Option Mark)) (im : IsImage old) (c
       let inside' = subst (InImage new) (sym kept) (inside_new _ inside) in
       subst (λ (x : ℕ). Reached new x next) kept (named (reached_new h) place' inside')
 
-  -- ---- what each block holds
+  -- ---- the fields of each block
 
   kept : (block j : ℕ) → Free block → j < 128 → long new block j ≡ long old block j
   kept = long_kept old new marks im c.reached same

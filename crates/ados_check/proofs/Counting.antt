@@ -1,10 +1,10 @@
--- How long a list of different numbers below a bound can be.
+-- The length of a list of distinct numbers below a bound.
 use Rattle.std.proofs.Common.{◌≡◌, ℕ, zero, suc, ◌<◌, ◌≤◌, ◌⊎◌, inl, inr, List, [], ◌∷◌, length, slice_index, sym, ◌∙◌, arith, ne_eqb}
 use Rattle.std.proofs.lemmas.Bool.{cases_eq}
 use Rattle.adf_block.specs.Image.{total}
-use Rattle.ados_tree.proofs.Totals.{occurrences, occurrences-one, total-occurrences}
+use Rattle.ados_model.proofs.Totals.{occurrences, occurrences-one, total-occurrences}
 
--- a list whose places hold different numbers
+-- a list of distinct numbers
 abbrev pub AreDifferent : List ℕ → Type 0
 AreDifferent xs = (i j : ℕ) → i < length xs → j < length xs → slice_index xs i ≡ slice_index xs j → i ≡ j
 
@@ -25,7 +25,7 @@ total-few : (f : ℕ → ℕ) (n : ℕ) → ((b : ℕ) → f b ≤ 1) → total 
 total-few f zero h = omega arith
 total-few f (suc n) h = omega (arith, total-few f n h, h n)
 
--- different numbers below n are at most n
+-- there are at most n distinct numbers below n
 pub different_few : (n : ℕ) (xs : List ℕ) → ((i : ℕ) → i < length xs → slice_index xs i < n) → AreDifferent xs → length xs ≤ n
 different_few n xs below different =
     let all = total-occurrences n xs below in

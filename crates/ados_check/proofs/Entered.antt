@@ -8,7 +8,7 @@ use Rattle.std.specs.Cmp.Lexicographic.{slice_cmp}
 use Rattle.std.specs.FinMap.{nat_cmp-IsAntisymmetric, slice_cmp-IsAntisymmetric}
 use Rattle.std.specs.BTreeMap.{is_at}
 use Rattle.std.specs.BTreeSet.{BTreeSet, contains}
-use Rattle.ados_tree.specs.Faults.{HasDuplicateName}
+use Rattle.ados_model.specs.Faults.{HasDuplicateName}
 use Rattle.ados_check.specs.declared.mark.Mark.{Mark}
 use Rattle.ados_check.specs.Marks.{AreReached, AreUnlike, IsMarkedEntry}
 use Rattle.ados_check.specs.declared.names.EntryName.{EntryName}
@@ -16,7 +16,7 @@ use Rattle.ados_check.specs.Entries.{upper_name}
 use Rattle.ados_check.proofs.Marked.{one_directory, entry_below}
 use Rattle.ados_check.proofs.UpperNames.{upper_names_equal, entry_sound, duplicate_shown}
 
--- the order of names: by the directory, and then by the bytes
+-- the order of names: by directory, then by bytes
 abbrev pub entry_cmp : EntryName → EntryName → Ordering
 entry_cmp x y = ordering_then (nat_cmp x.dir y.dir) (slice_cmp nat_cmp x.name y.name)
 
@@ -33,18 +33,18 @@ is_equal Less e = absurd (cc e)
 is_equal Equal e = refl
 is_equal Greater e = absurd (cc e)
 
--- names that the order does not tell apart are equal
+-- names that are equal in this order are equal
 same_keys : (x y : EntryName) → is_at (entry_cmp x) y ≡ true → (x.dir ≡ y.dir) × (x.name ≡ y.name)
 same_keys x y e = equal_parts x y (nat_cmp x.dir y.dir) refl (is_equal (entry_cmp x y) e)
 
--- the names of the entries among the first n blocks have been entered, and no two are the same
+-- the names of the entries among the first n blocks are in the set, and no two are the same
 pub record AreEntered (image : List ℕ) (marks : List (Option Mark)) (n : ℕ) (names : BTreeSet EntryName) : Type 0 where
   pub found : (q : EntryName) → contains entry_cmp names q ≡ true → (other : ℕ) × (other < n) × IsMarkedEntry marks other q.dir × (upper_name image other ≡ q.name)
   pub held : (k dir : ℕ) → k < n → IsMarkedEntry marks k dir → contains entry_cmp names (key_of image k dir) ≡ true
   pub unlike : (k j dir : ℕ) → k < n → j < n → IsMarkedEntry marks k dir → IsMarkedEntry marks j dir → upper_name image k ≡ upper_name image j → k ≡ j
 
 module _ (image : List ℕ) (marks : List (Option Mark)) (n : ℕ) (names : BTreeSet EntryName) (e : AreEntered image marks n names) where
-  -- a block that is no entry has no name
+  -- a block that is not an entry adds no name
   pub entered_none : ((dir : ℕ) → ¬ IsMarkedEntry marks n dir) → AreEntered image marks (n + 1) names
   entered_none none = record {
     found = λ q h. let f = e.found q h in (f.0, omega (arith, f.1), f.2, f.3);
@@ -59,7 +59,7 @@ module _ (image : List ℕ) (marks : List (Option Mark)) (n : ℕ) (names : BTre
       ]
 
   module _ (dir : ℕ) (name : List ℕ) (m : IsMarkedEntry marks n dir) (is : name ≡ upper_name image n) where
-    -- a name that is in the set already
+    -- a name that is already in the set
     pub entered_twice : AreReached image marks → contains entry_cmp names (record { dir = dir; name = name }) ≡ true → HasDuplicateName image n
     entered_twice c h =
         let f = e.found (record { dir = dir; name = name }) h in
@@ -83,7 +83,7 @@ module _ (image : List ℕ) (marks : List (Option Mark)) (n : ℕ) (names : BTre
                 let f = e.found q old in
                 (f.0, omega (arith, f.1), f.2, f.3)
 
-        -- the name is none of those before
+        -- the new name equals none before it
         apart : (k : ℕ) → k < n → IsMarkedEntry marks k dir → upper_name image k ≢ upper_name image n
         apart k l a z =
             let same : key_of image k dir ≡ record { dir = dir; name = name } = ap (λ (xs : List ℕ). let key : EntryName = record { dir = dir; name = xs } in key) (z ∙ sym is) in
@@ -121,7 +121,7 @@ module _ (image : List ℕ) (marks : List (Option Mark)) (n : ℕ) (names : BTre
                 absurd (apart j y (subst (IsMarkedEntry marks j) (to_here k here a) b) (sym h ∙ ap (upper_name image) (sym here)))
             go (inr x) (inr y) = omega (arith, l, r, x, y)
 
--- once all names are entered, no two entries of a directory have the same
+-- once all names are in the set, no two entries of a directory have the same name
 pub all_unlike : (image : List ℕ) (marks : List (Option Mark)) (n : ℕ) (names : BTreeSet EntryName) → AreReached image marks → length marks ≡ n → AreEntered image marks n names → AreUnlike image marks
 all_unlike image marks n names c size e block other dir m k same =
     let v = (entry_sound image marks c block dir m).name in

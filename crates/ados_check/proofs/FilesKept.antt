@@ -1,16 +1,17 @@
--- A sound file of an image whose bitmap alone changes.
+-- A sound file stays sound when only the bitmap changes.
 use Rattle.std.proofs.Common.{◌≡◌, ◌≢◌, ℕ, zero, suc, ◌+◌, ◌-◌, ◌/◌, ◌%◌, ◌<◌, ◌≤◌, List, [], ◌∷◌, length, slice_index, Option, Some, refl, sym, ap, ap₂, ◌∙◌, subst, arith}
 use Rattle.adf_block.specs.declared.Format.{Format}
 use Rattle.adf_block.specs.declared.Format.TheVariants.{Ofs, Ffs}
-use Rattle.adf_block.specs.Image.{IsImage, block_count, long}
-use Rattle.adf_block.specs.Chained.{Chained}
-use Rattle.adf_block.specs.Fields.{next_data, next_extension, file_size}
+use Rattle.adf_block.specs.Whole.{IsImage}
+use Rattle.adf_block.specs.Image.{block_count, long, Chained, file_size, format_of}
+use Rattle.adf_block.specs.Layout.{next_data, next_extension}
 use Rattle.adf_block.specs.Frame.{SameBut}
-use Rattle.ados_data.specs.Cost.{data_size, data_start, data_count}
-use Rattle.ados_data.specs.File.{format_of, HasExtension, HasOfsData, HasFile, AreApart, IsLawful, data_blocks, extension_blocks, contents, file_byte}
+use Rattle.ados_model.specs.Tree.{data_size, data_start, data_count}
+use Rattle.ados_model.specs.Stands.{HasExtension, HasOfsData, HasFile, file_byte}
+use Rattle.ados_model.specs.File.{AreApart, IsLawful, data_blocks, extension_blocks, contents}
 use Rattle.ados_data.proofs.Spelled.{lawful_file}
-use Rattle.ados_tree.specs.declared.role.Role.TheVariants as roles
-use Rattle.ados_tree.specs.Rebuilt.{IsOfBitmap}
+use Rattle.ados_model.specs.declared.role.Role.TheVariants as roles
+use Rattle.ados_model.specs.Rebuilt.{IsOfBitmap}
 use Rattle.ados_check.specs.declared.mark.Mark.{Mark}
 use Rattle.ados_check.specs.Marks.{mark_at, IsChecked, IsSoundFile}
 use Rattle.ados_check.proofs.Paths.{mark_of}
@@ -18,13 +19,13 @@ use Rattle.ados_check.proofs.Roles.{IsMarkedFile, marked_inside}
 use Rattle.ados_check.proofs.RolePlaces.{length-data_blocks, length-extension_blocks, length-contents, sound_file, StandsAt, marked_at, one_place, holder_of, long_of, holder_within, different_headers}
 use Rattle.ados_check.proofs.Untouched.{count_same, IsUntouched, untouched, long_kept, byte_kept, sum_kept, format_same}
 
--- a chain whose links stay
+-- a linked list with unchanged links
 chained_moves : (old new : List ℕ) (link first : ℕ) (xs : List ℕ) → ((i : ℕ) → i < length xs → long new (slice_index xs i) link ≡ long old (slice_index xs i) link) → Chained old link first xs → Chained new link first xs
 chained_moves old new link first [] kept c = c
 chained_moves old new link first (x ∷ xs) kept c =
     (c.0, subst (λ (f : ℕ). Chained new link f xs) (sym (kept 0 (omega arith))) (chained_moves old new link (long old x link) xs (λ i l. kept (suc i) (omega arith)) c.1))
 
--- a byte of a file stands in one of its data blocks
+-- a byte of a file is in one of its data blocks
 byte_within : (format : Format) (k size : ℕ) → k < size → (k / data_size format < data_count format size) × (data_start format + k % data_size format < 512)
 byte_within Ofs k size l = (omega arith, omega arith)
 byte_within Ffs k size l = (omega arith, omega arith)
@@ -59,7 +60,7 @@ module _ (old new : List ℕ) (marks : List (Option Mark)) (im : IsImage old) (c
   data_free : (i : ℕ) → i < length (data_blocks old file) → Free (slice_index (data_blocks old file) i)
   data_free i l = untouched old new marks im c.reached same _ _ (marked_at old marks im c (roles.Data file) i _ (data_stands i l)) (λ z. cc z) (λ z. cc z)
 
-  -- ---- so they hold the file still
+  -- ---- so they hold the same file
 
   h : IsSoundFile old file
   h = sound_file old marks im c file f
@@ -101,7 +102,7 @@ module _ (old new : List ℕ) (marks : List (Option Mark)) (im : IsImage old) (c
     ofs_data = λ ofs i l. ofs_data_kept _ i _ (data_free i l) (h.ofs_data ofs i l);
   }
 
-  -- ---- the blocks stand apart
+  -- ---- the blocks are distinct
 
   header_role : (q : ℕ) → q ≤ length (extension_blocks old file) → (m : Mark) × (mark_at marks (slice_index (file ∷ extension_blocks old file) q) ≡ Some m) × (m.role ≢ roles.Data file)
   header_role zero l = let role = f.role in (f.mark, f.marked, λ z. cc (role, z))

@@ -1,12 +1,12 @@
--- The header and extension blocks of a file whose blocks are reached.
+-- The header and the extension blocks of a file whose blocks are reached.
 use Rattle.std.proofs.Common.{◌≡◌, ◌≢◌, ℕ, zero, suc, ◌<◌, ◌≤◌, ◌==◌, IsTrue, ◌⊎◌, inl, inr, List, length, map, slice_index, refl, sym, ap, ◌∙◌, arith}
 use Rattle.std.specs.List.{range_with_len}
 use Rattle.std.proofs.lemmas.Bool.{cases_lt, cases_order}
 use Rattle.std.proofs.lemmas.List.FromFn.{length-map-range_with_len, get_or-map-range_with_len}
 use Rattle.adf_block.specs.Image.{block_count}
-use Rattle.ados_data.specs.File.{pointer_block}
-use Rattle.ados_tree.specs.Faults.{HasPointers, IsExtension}
-use Rattle.ados_tree.specs.Faults.HasPointers.{file_pointers, extension_pointers}
+use Rattle.ados_model.specs.File.{pointer_block}
+use Rattle.ados_model.specs.Faults.{HasPointers, IsExtension}
+use Rattle.ados_model.specs.Faults.HasPointers.{file_pointers, extension_pointers}
 use Rattle.ados_check.proofs.Counting.{AreDifferent, different_few}
 use Rattle.ados_check.specs.steps.Files.{IsReachedFile}
 
@@ -17,7 +17,7 @@ module _ (image : List ℕ) (file : ℕ) (r : IsReachedFile image file) where
   pub not_zero : (q : ℕ) → q ≤ r.extensions → pointer_block image file q ≢ 0
   not_zero q l z = omega (arith, (r.inside q l).0, z)
 
-  -- the links go on only within the file
+  -- the links stay within the file
   pub within : (q : ℕ) → ((p : ℕ) → p < q → pointer_block image file (suc p) ≢ 0) → q ≤ r.extensions
   within zero h = omega arith
   within (suc q) h = go (within q (λ p l. h p (omega arith))) (cases_lt q r.extensions)
@@ -63,7 +63,7 @@ module _ (image : List ℕ) (file : ℕ) (r : IsReachedFile image file) where
       let few = different_few (block_count image) headers below different in
       omega (arith, few, length-headers)
 
-  -- the first is the header, and each further one an extension block
+  -- the first pointer block is the header, each other an extension block
   pub first_or_extension : (q : ℕ) → q ≤ r.extensions → IsTrue (q == 0) ⊎ IsExtension image (pointer_block image file q)
   first_or_extension zero l = inl refl
   first_or_extension (suc q) l = inr (file, r.reached q (omega arith))

@@ -1,17 +1,17 @@
--- Lists joined end to end.
+-- Concatenated lists.
 use Rattle.std.proofs.Common.{◌≡◌, ◌≢◌, ℕ, zero, suc, ◌<◌, ◌≤◌, ◌⊎◌, inl, inr, ◌==◌, List, [], ◌∷◌, ◌++◌, length, filter, slice_index, AllPairs, Contains, refl, ap, ap₂, ◌∙◌, subst, arith, eq-eqb, ne_eqb}
 use Rattle.std.specs.List.{AllByRecursion}
 use Rattle.std.proofs.lemmas.Bool.{cases_lt}
 use Rattle.std.proofs.lemmas.List.{append-nil, get_or_default}
 use Rattle.std.proofs.lemmas.List.Elements.{recursion_from_All, All-append, All-weaker, All-contains_itself, Contains-get_or, Contains-append_left, Contains-append_right, Contains-append_cases, filter-append}
 use Rattle.std.proofs.lemmas.List.Kept.{AllPairs-cons}
-use Rattle.ados_tree.proofs.Lists.{joined}
+use Rattle.ados_model.proofs.Lists.{joined}
 
--- a place of an element
+-- a position of an element
 pub place_of : (xs : List ℕ) (x : ℕ) → Contains xs x → (k : ℕ) × (k < length xs) × (slice_index xs k ≡ x)
 place_of xs x h = (h.0, h.1, get_or_default xs h.0 0 _ h.1 ∙ h.2)
 
--- the pairs of two lists, one behind the other
+-- the pairs of two concatenated lists
 AllPairs-append : (R : ℕ → ℕ → Type 0) (xs ys : List ℕ) → AllPairs R xs → AllPairs R ys → ((x y : ℕ) → Contains xs x → Contains ys y → R x y) → AllPairs R (xs ++ ys)
 AllPairs-append R [] ys h g across = g
 AllPairs-append R (x ∷ xs) ys h g across =
@@ -62,7 +62,7 @@ module _ (g : ℕ → List ℕ) where
       (within n (omega arith))
       (λ x y c e. let p = part_of_joined n x c in across p.0 n x y p.1 (omega arith) p.2 e)
 
-  -- the part s of lists, each of whose elements tells its part
+  -- part s of lists whose elements determine their part
   pub filter-joined : (f : ℕ → ℕ) (n : ℕ) → ((r x : ℕ) → r < n → Contains (g r) x → f x ≡ r) → (s : ℕ) → s < n → filter (λ x. f x == s) (joined g n) ≡ g s
   unfolding joined
   filter-joined f zero told s l = absurd (omega arith)

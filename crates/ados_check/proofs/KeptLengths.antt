@@ -1,6 +1,7 @@
--- How many bytes are kept of a block.
+-- The number of bytes kept of a block.
 use Rattle.std.proofs.Common.{◌≡◌, ◌≢◌, ◌≤◌, ◌==◌, ℕ, List, Bool, true, false, if◌then◌else◌, refl, ne_eqb, arith}
-use Rattle.adf_block.specs.Fields.{primary_type, data_type}
+use Rattle.adf_block.specs.Image.{primary_type}
+use Rattle.adf_block.specs.Layout.{data_type}
 use Rattle.ados_check.specs.Keeping.{kept_length}
 
 pub of_data : (image : List ℕ) (block : ℕ) → primary_type image block ≡ data_type → kept_length image block ≡ 24
@@ -9,7 +10,7 @@ of_data image block is = rw is refl
 pub of_other : (image : List ℕ) (block : ℕ) → primary_type image block ≢ data_type → kept_length image block ≡ 512
 of_other image block other = rw (ne_eqb (primary_type image block) data_type other) refl
 
--- no more than a block has
+-- at most a whole block
 pub at_most : (image : List ℕ) (block : ℕ) → kept_length image block ≤ 512
 at_most image block = by_type (primary_type image block == data_type)
   where
@@ -17,7 +18,7 @@ at_most image block = by_type (primary_type image block == data_type)
     by_type true = omega arith
     by_type false = omega arith
 
--- no less than a header
+-- at least a header
 pub at_least : (image : List ℕ) (block : ℕ) → 24 ≤ kept_length image block
 at_least image block = by_type (primary_type image block == data_type)
   where

@@ -1,4 +1,5 @@
--- Why an image with sound marks stands for a tree, as it is or with its bitmap mended, and shows no fault; what a sketch keeps; the walk over the places of each role; and what follows from the marks for files, names and the bitmap.
+-- An image with sound marks represents a tree, as it is or with a rebuilt bitmap, and shows no fault. What a sketch
+-- keeps. The walk over the places of each role, and consequences for the parts of the check.
 pub mod Counting
 pub mod Paths
 pub mod Roles

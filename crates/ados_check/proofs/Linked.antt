@@ -1,30 +1,30 @@
--- The data blocks of an OFS file, link by link and place by place.
+-- The data blocks of an OFS file, by their links and positions.
 use Rattle.std.proofs.Common.{◌≡◌, ◌≢◌, ℕ, zero, suc, ◌+◌, ◌-◌, ◌*◌, ◌/◌, ◌%◌, ◌<◌, ◌≤◌, ◌⊎◌, inl, inr, min, List, ◌∷◌, length, take, drop, slice_index, All, refl, sym, ap, ap₂, ◌∙◌, subst, arith}
 use Rattle.std.specs.List.{sum_by}
 use Rattle.std.proofs.lemmas.Bool.{cases_lt}
 use Rattle.std.proofs.lemmas.List.{get_or_past, get_or-take, get_or-drop, take_all}
 use Rattle.std.proofs.lemmas.List.Elements.{All-from_get_or}
 use Rattle.std.proofs.lemmas.List.Sums.{sum_by_more}
-use Rattle.adf_block.specs.Image.{block_count, long}
-use Rattle.adf_block.specs.Chained.{Chained}
-use Rattle.adf_block.specs.Fields.{pointer, held_count, next_data, file_size}
-use Rattle.ados_data.specs.Cost.{data_count}
-use Rattle.ados_data.specs.File.{HasOfsData, format_of, pointer_block}
+use Rattle.adf_block.specs.Image.{block_count, long, Chained, pointer, held_count, file_size, format_of}
+use Rattle.adf_block.specs.Layout.{next_data}
+use Rattle.ados_model.specs.Tree.{data_count}
+use Rattle.ados_model.specs.Stands.{HasOfsData}
+use Rattle.ados_model.specs.File.{pointer_block}
 use Rattle.ados_data.proofs.Chains.{chained}
-use Rattle.ados_tree.specs.Faults.{InImage, IsOfs, IsDataAt, HasBadPointer, HasBadCount, pointers_of}
-use Rattle.ados_tree.specs.Faults.HasBadPointer.{first_data, further_data}
-use Rattle.ados_tree.specs.Faults.HasBadCount.{wrong_sum}
+use Rattle.ados_model.specs.Faults.{InImage, IsOfs, IsDataAt, HasBadPointer, HasBadCount, pointers_of}
+use Rattle.ados_model.specs.Faults.HasBadPointer.{first_data, further_data}
+use Rattle.ados_model.specs.Faults.HasBadCount.{wrong_sum}
 use Rattle.ados_check.specs.Marks.{IsSoundData}
 use Rattle.ados_check.specs.steps.Files.{IsReachedFile, HasCounts, IsDataOf, HasPlace, IsLinked}
 use Rattle.ados_check.proofs.Headers.{header_inside}
 use Rattle.ados_check.proofs.Pointed.{blocks_upto, length-blocks_upto, block-at, part, are_data_blocks, holder_within, is_pointer, data_inside}
 use Rattle.ados_check.proofs.SoundFile.{blocks_are}
 
--- the block in front of data block k, which is the header or a data block, names it
+-- the block before data block k, the header or a data block, links to it
 pub record IsLinkedAt (image : List ℕ) (file count k : ℕ) : Type 0 where
   pub named : long image (slice_index (file ∷ blocks_upto image file count) k) next_data ≡ slice_index (blocks_upto image file count) k
 
--- data block k has its place
+-- data block k has the fields of its position
 abbrev pub IsPlacedAt : List ℕ → ℕ → ℕ → ℕ → Type 0
 IsPlacedAt image file count k = HasPlace image (slice_index (blocks_upto image file count) k) k count (held_count image (slice_index (blocks_upto image file count) k))
 
@@ -35,7 +35,7 @@ placed image file count k block held e h =
 pub past_blocks : (image : List ℕ) (file count place : ℕ) → count ≤ place → slice_index (blocks_upto image file count) place ≡ 0
 past_blocks image file count place l = get_or_past (blocks_upto image file count) place 0 (omega (arith, l, length-blocks_upto image file count))
 
--- ---- the pointer block of the next place
+-- ---- the pointer block of the next position
 
 pub next_holder : (image : List ℕ) (file holder next place : ℕ) → holder ≡ pointer_block image file (place / 72) → place % 72 ≡ 71 → next ≡ long image holder 126 → next ≡ pointer_block image file ((place + 1) / 72)
 next_holder image file holder next place e m is =
@@ -54,7 +54,7 @@ module _ (image : List ℕ) (file count : ℕ) (r : IsReachedFile image file) (h
   block_inside : (place : ℕ) → place < count → InImage image (slice_index (blocks_upto image file count) place)
   block_inside place l = subst (InImage image) (sym (block-at image file count place l)) (data_inside image file count r h place l)
 
-  -- each data block of an OFS file has its fields
+  -- each data block of an OFS file has the right fields
   pub block_sound : IsOfs image → (place : ℕ) → place < count → IsSoundData image (slice_index (blocks_upto image file count) place) file
   block_sound ofs place l =
       subst (λ (b : ℕ). IsSoundData image b file) (sym (block-at image file count place l))
@@ -64,7 +64,7 @@ module _ (image : List ℕ) (file count : ℕ) (r : IsReachedFile image file) (h
   before_inside zero l = header_inside image file r 0 (omega arith)
   before_inside (suc k) l = (block_inside k (omega arith)).1
 
-  -- the block that the pointer of a place names
+  -- the block in the pointer at a position
   pub named_block : (place holder block : ℕ) → place < count → holder ≡ pointer_block image file (place / 72) → block ≡ long image holder (77 - place % 72) → block ≡ slice_index (blocks_upto image file count) place
   named_block place holder block l e is = is ∙ ap (λ (b : ℕ). pointer image b (place % 72)) e ∙ sym (block-at image file count place l)
 
@@ -94,7 +94,7 @@ module _ (image : List ℕ) (file count : ℕ) (r : IsReachedFile image file) (h
       ∙ get_or-take 72 (drop (72 * 0) (blocks_upto image file count)) 0 0 (omega arith)
       ∙ get_or-drop (72 * 0) (blocks_upto image file count) 0 0
 
-  -- a wrong link shows at the block that has it
+  -- a wrong link is a fault of its block
   pub link_shown : IsOfs image → (place : ℕ) → place ≤ count → long image (slice_index (file ∷ blocks_upto image file count) place) next_data ≢ slice_index (blocks_upto image file count) place → HasBadPointer image (slice_index (file ∷ blocks_upto image file count) place)
   link_shown ofs zero l n = first_data ofs r.is_file (λ z. n (z ∙ first-is))
   link_shown ofs (suc k) l n =
@@ -104,7 +104,7 @@ module _ (image : List ℕ) (file count : ℕ) (r : IsReachedFile image file) (h
   all_inside : All (InImage image) (blocks_upto image file count)
   all_inside = All-from_get_or (InImage image) (blocks_upto image file count) 0 (λ i l. block_inside i (omega (arith, l, length-blocks_upto image file count)))
 
-  -- a wrong sum shows at the header
+  -- a wrong sum of bytes is a fault of the header
   pub sum_shown : IsOfs image → (sum : ℕ) → sum ≡ sum_by (held_count image) (take count (blocks_upto image file count)) → sum ≢ file_size image file → HasBadCount image file
   sum_shown ofs sum e n =
       let whole : take count (blocks_upto image file count) ≡ blocks_upto image file count = take_all count (blocks_upto image file count) (omega (arith, length-blocks_upto image file count)) in
@@ -115,13 +115,13 @@ module _ (image : List ℕ) (file count : ℕ) (r : IsReachedFile image file) (h
         wrong = λ z. n (e ∙ ap (sum_by (held_count image)) whole ∙ z);
       })
 
-  -- ---- the sum
+  -- ---- the sum of bytes
 
   pub sum_more : (place sum held : ℕ) → place < count → sum ≡ sum_by (held_count image) (take place (blocks_upto image file count)) → held_count image (slice_index (blocks_upto image file count) place) ≡ held → sum + held ≡ sum_by (held_count image) (take (place + 1) (blocks_upto image file count))
   sum_more place sum held l e is =
       ap₂ (λ (a b : ℕ). a + b) e (sym is) ∙ sym (sum_by_more (held_count image) (blocks_upto image file count) place 0 (omega (arith, l, length-blocks_upto image file count)))
 
-  -- the blocks in front of the last one are full
+  -- the data blocks before the last one are full
   full_before : ((k : ℕ) → k < count → IsPlacedAt image file count k) → (n : ℕ) → n < count → sum_by (held_count image) (take n (blocks_upto image file count)) ≡ 488 * n
   full_before places zero l = refl
   full_before places (suc n) l =
@@ -131,7 +131,7 @@ module _ (image : List ℕ) (file count : ℕ) (r : IsReachedFile image file) (h
       let more = sum_more n (488 * n) 488 (omega arith) (sym before) full in
       ap (λ (k : ℕ). sum_by (held_count image) (take k (blocks_upto image file count))) (sym next) ∙ sym more ∙ omega arith
 
-  -- with the sum, each block holds what it is to hold
+  -- by this sum, each block holds the right number of bytes
   held_is : ((k : ℕ) → k < count → IsPlacedAt image file count k) → (size : ℕ) → sum_by (held_count image) (take count (blocks_upto image file count)) ≡ size → (i : ℕ) → i < count → held_count image (slice_index (blocks_upto image file count) i) ≡ min 488 (size - 488 * i)
   held_is places size e i l =
       let last : count - 1 + 1 ≡ count = omega (arith, l) in

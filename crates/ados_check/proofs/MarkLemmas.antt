@@ -1,4 +1,4 @@
--- The list of marks and the list of pending blocks, at a change of one cell.
+-- The marks and the pending blocks when one cell changes.
 use Rattle.std.proofs.Common.{◌≡◌, ◌≢◌, ℕ, ◌+◌, ◌-◌, ◌<◌, ◌≤◌, ◌⊎◌, inl, inr, List, [], ◌∷◌, ◌++◌, length, get_or, AllPairs, Contains, replicate, Option, None, Some, is_some, true, false, cond, refl, sym, ap, ◌∙◌, subst, arith}
 use Rattle.std.specs.List.{slice_get}
 use Rattle.std.specs.Option.{option_and_then}
@@ -25,7 +25,7 @@ pub record IsMarkedMore (marks new : List (Option Mark)) (block : ℕ) (mark : M
 joined : (o : Option (Option Mark)) (x : Option Mark) → o ≡ Some x → option_and_then (λ mark. mark) o ≡ x
 joined o x e = ap (option_and_then (λ (mark : Option Mark). mark)) e
 
--- the mark of a block is the element of its place
+-- the mark of a block is the element at its number
 pub mark_read : (marks : List (Option Mark)) (block : ℕ) (x : Option Mark) → block < length marks → x ≡ get_or marks block x → mark_at marks block ≡ x
 mark_read marks block x l e = joined (slice_get marks block) x (slice_get-get_or marks block x l ∙ ap (λ (y : Option Mark). Some y) (sym e))
 
@@ -60,7 +60,7 @@ marked_more marks block mark l none =
           omega (arith, count, one);
     }
 
--- a list of blocks and one more
+-- a list of blocks with one more
 only_one : (block other : ℕ) → Contains (block ∷ []) other → other ≡ block
 only_one block other (k, l, e) = let z : k ≡ 0 = omega arith in sym (subst (λ (n : ℕ). get_or (block ∷ []) n other ≡ other) z e)
 
@@ -94,7 +94,7 @@ last_not_in_rest rest block once (k, l, e) =
     once k (length rest) block l (omega (arith, length-append rest (block ∷ [])))
     (get_or_append_left rest (block ∷ []) block k l ∙ e ∙ sym (get_or-append_right rest (block ∷ []) (length rest) (length rest) block refl (omega arith) ∙ ap (λ (n : ℕ). get_or (block ∷ []) n block) zero_left))
 
--- no mark at all
+-- no marks
 pub none_marked : (n block : ℕ) → mark_at (replicate n None) block ≡ None
 none_marked n block = elim (cases_lt block n) [
   | inl l ↦ mark_get_or (replicate n None) block None (omega (arith, length-replicate {A = Option Mark} n None)) ∙ get_or-replicate n block None None l

@@ -1,8 +1,9 @@
--- What follows of a block that is marked as an entry.
+-- Consequences for a block that is marked as an entry.
 use Rattle.std.proofs.Common.{◌≡◌, ℕ, ◌<◌, List, length, slice_get, Option, Some, None, option_and_then, refl, sym, ap, ◌∙◌}
 use Rattle.std.proofs.lemmas.Option.{slice_get_within}
-use Rattle.adf_block.specs.Fields.{secondary_type, file_type}
-use Rattle.ados_tree.specs.declared.role.Role.TheVariants as roles
+use Rattle.adf_block.specs.Image.{secondary_type}
+use Rattle.adf_block.specs.Layout.{file_type}
+use Rattle.ados_model.specs.declared.role.Role.TheVariants as roles
 use Rattle.ados_check.specs.declared.mark.Mark.{Mark}
 use Rattle.ados_check.specs.Marks.{mark_at, IsMarkedEntry}
 use Rattle.ados_check.proofs.Roles.{IsMarkedFile}
@@ -22,7 +23,7 @@ module _ (marks : List (Option Mark)) where
       go None is h = absurd (cc h)
       go (Some x) is h = slice_get_within marks block x is
 
-  -- it is one of the marks
+  -- its number is below that of the marks
   pub entry_below : (block dir : ℕ) → IsMarkedEntry marks block dir → block < length marks
   entry_below block dir m = marked_below block m.0 m.2
 

@@ -1,16 +1,16 @@
--- The walk's moves: a block is taken in hand, its longs are gone through one by one, and it is put away.
+-- The steps of the walk: a block is taken, its longs are visited one by one, and it is done.
 use Rattle.std.proofs.Common.{◌≡◌, ◌≢◌, ◌↔◌, ℕ, ◌+◌, ◌<◌, ◌≤◌, inl, inr, List, [], ◌∷◌, ◌++◌, length, replicate, Contains, Option, None, Some, refl, sym, ap, ◌∙◌, subst, arith}
 use Rattle.std.proofs.lemmas.List.{length-append, length-replicate}
 use Rattle.std.proofs.Math.ListN.{set}
 use Rattle.std.proofs.lemmas.Bool.{cases_eq, cases_lt}
 use Rattle.adf_block.specs.Image.{block_count, page_count, long}
-use Rattle.ados_tree.specs.declared.role.Role.{Role}
-use Rattle.ados_tree.specs.declared.role.Role.TheVariants.{Root}
-use Rattle.ados_tree.specs.Faults.{InImage, IsPlace, PlaceNames, IsUsedTwice, HasBadPointer, root_of}
-use Rattle.ados_tree.specs.Faults.Reached.{start, named}
-use Rattle.ados_tree.specs.Faults.IsUsedTwice.{two_holders, two_longs, root_named}
-use Rattle.ados_tree.specs.Faults.HasBadPointer.{outside}
-use Rattle.ados_tree.specs.Faults.{Reached}
+use Rattle.ados_model.specs.declared.role.Role.{Role}
+use Rattle.ados_model.specs.declared.role.Role.TheVariants.{Root}
+use Rattle.ados_model.specs.Faults.{InImage, IsPlace, PlaceNames, IsUsedTwice, HasBadPointer, root_of}
+use Rattle.ados_model.specs.Faults.Reached.{start, named}
+use Rattle.ados_model.specs.Faults.IsUsedTwice.{two_holders, two_longs, root_named}
+use Rattle.ados_model.specs.Faults.HasBadPointer.{outside}
+use Rattle.ados_model.specs.Faults.{Reached}
 use Rattle.ados_check.specs.declared.mark.Mark.{Mark}
 use Rattle.ados_check.specs.Marks.{mark_at, IsSound, AreReached}
 use Rattle.ados_check.specs.steps.Reaching.{root_mark, ArePending, IsBetween, IsInHand, IsLeft}
@@ -18,11 +18,11 @@ use Rattle.ados_check.proofs.MarkLemmas.{IsMarkedMore, marked_more, in_pushed, p
 use Rattle.ados_check.proofs.PlaceLemmas.{place_within}
 use Rattle.ados_check.proofs.ReachMoves.{mark_of, in_hand, with_left, all_reached, gone_through}
 
--- a marked block is not the one that had no mark
+-- a marked block is not the one without a mark
 fresh : (marks : List (Option Mark)) (block other : ℕ) (mark : Mark) → mark_at marks block ≡ None → mark_at marks other ≡ Some mark → other ≢ block
 fresh marks block other mark none e z = let h : None ≡ Some mark = sym none ∙ sym (ap (mark_at marks) z) ∙ e in cc h
 
--- the pending blocks but the last
+-- the pending blocks without the last
 without_last : (image : List ℕ) (marks : List (Option Mark)) (rest : List ℕ) (block : ℕ) → ArePending image marks (rest ++ block ∷ []) → ArePending image marks rest
 without_last image marks rest block waiting = record {
   marked = λ other q. waiting.marked other (pushed_has_old rest block other q);
@@ -57,7 +57,7 @@ skipped image marks pending hand i role h none =
     skipped_all image marks pending hand i (i + 1) role (omega arith)
     (λ j from to next p. let z : j ≡ i = omega (arith, from, to) in none next (subst (λ (k : ℕ). IsPlace image hand role k next) z p)) h
 
--- a place whose block had no mark, and now has one and is pending
+-- a place whose block had no mark, and is now marked and pending
 module _ (image : List ℕ) (marks new : List (Option Mark)) (pending : List ℕ) (hand i : ℕ) (role next : Role)
     (h : IsInHand image marks pending hand role i) (place : IsPlace image hand role i next)
     (only : (other : Role) → IsPlace image hand role i other → other ≡ next)
@@ -114,7 +114,7 @@ module _ (image : List ℕ) (marks new : List (Option Mark)) (pending : List ℕ
     waiting = waiting_more;
   }
 
--- the same, of the block under a name of its own
+-- the same, with a name for the block
 pub took_at : (image : List ℕ) (marks : List (Option Mark)) (pending pushed : List ℕ) (hand i : ℕ) (role next : Role) (block : ℕ) → block ≡ long image hand i
     → IsInHand image marks pending hand role i → IsPlace image hand role i next → ((other : Role) → IsPlace image hand role i other → other ≡ next)
     → InImage image block → IsSound image block next → mark_at marks block ≡ None → pushed ≡ pending ++ block ∷ []
@@ -146,7 +146,7 @@ not_waiting image marks pending block hand from role mark at none h = record {
 }
 
 module _ (image : List ℕ) (marks : List (Option Mark)) where
-  -- a place whose block is marked, and has no places itself
+  -- a place whose block is now marked and has no places itself
   pub took_unplaced : (pending : List ℕ) (hand i : ℕ) (role next : Role) (block : ℕ) → block ≡ long image hand i
       → IsInHand image marks pending hand role i → IsPlace image hand role i next → ((other : Role) → IsPlace image hand role i other → other ≡ next)
       → InImage image block → IsSound image block next → mark_at marks block ≡ None → ((j : ℕ) (other : Role) → ¬ IsPlace image block next j other)
@@ -157,7 +157,7 @@ module _ (image : List ℕ) (marks : List (Option Mark)) where
       (marked_more marks block (mark_of next hand i) there none).is unplaced
       (took_at image marks pending (pending ++ block ∷ []) hand i role next block e h place only within sound none refl)
 
-  -- the last of the pending blocks is taken in hand
+  -- the last pending block is taken
   pub taken_up : (rest : List ℕ) (block : ℕ) (mark : Mark) → page_count (block_count image) ≤ 25 → IsBetween image marks (rest ++ block ∷ []) → mark_at marks block ≡ Some mark → IsInHand image marks rest block mark.role 6
   taken_up rest block mark pages b e = record {
     mark = mark;
@@ -174,7 +174,7 @@ module _ (image : List ℕ) (marks : List (Option Mark)) where
     waiting = without_last image marks rest block b.waiting;
   }
 
-  -- a block that was gone through is put away
+  -- a visited block is done
   pub put_away : (pending : List ℕ) (hand : ℕ) (role : Role) → page_count (block_count image) ≤ 25 → IsInHand image marks pending hand role 127 → IsBetween image marks pending
   put_away pending hand role pages h = record {
     but = with_left image marks (IsLeft pending hand 127) (λ block i. Contains pending block) (λ block i m next at p. (
@@ -194,7 +194,7 @@ module _ (image : List ℕ) (marks : List (Option Mark)) where
   pub points_outside : (pending : List ℕ) (hand i : ℕ) (role next : Role) → IsInHand image marks pending hand role i → IsPlace image hand role i next → ¬ InImage image (long image hand i) → HasBadPointer image hand
   points_outside pending hand i role next h place not_in = outside (subst (λ (r : Role). Reached image hand r) h.of_role (h.but.reached hand h.mark h.held)) place not_in
 
-  -- the place names a block that has a mark: that of another place, or of the root
+  -- the place names a block that is already marked, with another place or as the root
   pub used_twice : (pending : List ℕ) (hand i : ℕ) (role next : Role) (mark : Mark) → IsInHand image marks pending hand role i → IsPlace image hand role i next → InImage image (long image hand i) → mark_at marks (long image hand i) ≡ Some mark → IsUsedTwice image (long image hand i)
   used_twice pending hand i role next mark h place within e =
       let here : PlaceNames image hand i (long image hand i) = record {
@@ -220,7 +220,7 @@ module _ (image : List ℕ) (marks : List (Option Mark)) where
             ]
       ]
 
--- the root alone is marked
+-- only the root is marked
 module _ (image : List ℕ) (n : ℕ) (new : List (Option Mark)) (size : n ≡ block_count image) (more : IsMarkedMore (replicate n None) new (root_of image) root_mark) (sound : IsSound image (root_of image) Root) where
   only_root : (block : ℕ) (mark : Mark) → mark_at new block ≡ Some mark → (block ≡ root_of image) × (mark ≡ root_mark)
   only_root block mark e = elim (cases_eq block (root_of image)) [
@@ -254,7 +254,7 @@ module _ (image : List ℕ) (n : ℕ) (new : List (Option Mark)) (size : n ≡ b
     };
   }
 
--- the same, of the root under a name of its own
+-- the same, with a name for the root
 pub begun_at : (image : List ℕ) (n root : ℕ) (marks : List (Option Mark)) (pushed : List ℕ) → n ≡ block_count image → root ≡ root_of image → root < n → IsSound image root Root → marks ≡ replicate n None → pushed ≡ root ∷ []
     → IsBetween image (set marks root (Some root_mark)) pushed
 begun_at image n root marks pushed size e l sound none added =

@@ -1,18 +1,19 @@
--- The text of a block's name, and why a text is no name.
+-- The text of a block's name, and why a text is not a name.
 use Rattle.std.proofs.Common.{◌≡◌, ℕ, ◌+◌, ◌-◌, ◌*◌, ◌<◌, ◌≤◌, ◌⊎◌, inl, inr, ◌==◌, ◌||◌, Bool, true, List, length, take, drop, Some, Contains, sym, ap, ap₂, ◌∙◌, subst, arith}
 use Rattle.std.specs.List.{list_any}
 use Rattle.std.proofs.lemmas.Bool.{cases_Bool, eqb-true}
 use Rattle.std.proofs.lemmas.List.{length-take, length-drop, drop-drop, drop-take, take-take}
 use Rattle.std.proofs.lemmas.List.Folds.{Any-from_list_any}
 use Rattle.adf_block.specs.Image.{byte_at, bytes_at, block_count}
-use Rattle.adf_block.specs.Fields.{text_at, name_byte}
-use Rattle.ados_name.specs.declared.name.NameFault.{NameFault}
+use Rattle.adf_block.specs.Whole.{text_at}
+use Rattle.adf_block.specs.Layout.{name_byte}
+use Rattle.ados_name.specs.declared.NameFault.{NameFault}
 use Rattle.ados_name.specs.Name.{IsName, is_separator, first_fault}
-use Rattle.ados_tree.specs.Faults.{HasName, HasBadName}
-use Rattle.ados_tree.specs.Faults.HasBadName.{empty, slash, colon}
+use Rattle.ados_model.specs.Faults.{HasName, HasBadName}
+use Rattle.ados_model.specs.Faults.HasBadName.{empty, slash, colon}
 use Rattle.ados_check.specs.Marks.{HasValidName}
 
--- the bytes behind the length byte, of a whole block
+-- the bytes after the length byte, read from a whole block
 pub text_is : (image : List ℕ) (block len : ℕ) (bytes : List ℕ) → bytes ≡ bytes_at image block 0 512 → len ≡ byte_at image block 432 → len ≤ 30 → take (433 + len - 433) (drop 433 bytes) ≡ text_at image block name_byte
 unfolding bytes_at
 text_is image block len bytes e counted short =
@@ -36,7 +37,7 @@ valid_name image block inside short name =
       valid = name;
     }
 
--- an element at which a test of two numbers answers yes is one of them
+-- an element that equals one of two numbers
 one_of : (x a b : ℕ) → ((x == a) || (x == b)) ≡ true → (x ≡ a) ⊎ (x ≡ b)
 one_of x a b h = elim (cases_Bool (x == a)) [
   | inl h1 ↦ inl (eqb-true x a h1)
@@ -51,7 +52,7 @@ has_separator text h =
       | inr e ↦ inr (subst (λ (x : ℕ). Contains text x) e (found.0, found.2, found.3))
     ]
 
--- a text of at most 30 bytes that has a fault is empty or has a separator
+-- a text of at most 30 bytes with a fault is empty or has a separator
 faulty : (text : List ℕ) (fault : NameFault) → length text ≤ 30 → first_fault text ≡ Some fault → (length text ≡ 0) ⊎ (list_any is_separator text ≡ true)
 faulty text fault short h = elim (cases_Bool (length text == 0)) [
   | inl none ↦ inl (eqb-true (length text) 0 none)

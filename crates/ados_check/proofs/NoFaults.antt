@@ -1,22 +1,23 @@
--- A checked image shows no fault but perhaps in a bitmap that says it is valid.
+-- A checked image shows no fault, except possibly in a valid bitmap.
 use Rattle.std.proofs.Common.{◌≡◌, ℕ, ◌⊎◌, inl, inr, List, length, Contains, Option, Some, refl, sym, ap, ◌∙◌, subst, arith}
 use Rattle.std.proofs.lemmas.List.Elements.{All-contains}
-use Rattle.adf_block.specs.Fields.{secondary_type, file_type, text_at, name_byte}
-use Rattle.adf_block.specs.Image.{IsImage}
-use Rattle.ados_data.specs.Cost.{data_count}
-use Rattle.ados_data.specs.File.{format_of, data_blocks, extension_blocks, contents}
+use Rattle.adf_block.specs.Image.{secondary_type, format_of}
+use Rattle.adf_block.specs.Layout.{file_type, name_byte}
+use Rattle.adf_block.specs.Whole.{text_at, IsImage}
+use Rattle.ados_model.specs.Tree.{data_count}
+use Rattle.ados_model.specs.File.{data_blocks, extension_blocks, contents}
 use Rattle.ados_name.specs.Name.{IsNameByte}
-use Rattle.ados_tree.specs.declared.fault.FaultKind.TheVariants.{NotADosDisk, UnsupportedKind, BadSum, BadType, BadOwnKey, BadParent, BadPointer, BlockUsedTwice, WrongChain, BadName, DuplicateName, BadComment, BadCount, BadSequence, LinkEntry, MarkedFree, NoMemory}
-use Rattle.ados_tree.specs.declared.role.Role.{Role}
-use Rattle.ados_tree.specs.declared.role.Role.TheVariants as roles
-use Rattle.ados_tree.specs.Accepted.{ShowsNoFault}
-use Rattle.ados_tree.specs.Faults
-use Rattle.ados_tree.specs.Faults.{IsEntry, IsLinkType, IsPlace, PlaceNames, Reached, HasName, root_of}
-use Rattle.ados_tree.specs.Faults.Reached.{start}
-use Rattle.ados_tree.specs.Rebuilt.{HasValidBitmap}
-use Rattle.ados_tree.proofs.FileBlocks.{IsWhole}
-use Rattle.ados_tree.proofs.FileFaults.{WholeFile, AreWhole, first_link, next_link, no_bad_sequence, no_bad_count}
-use Rattle.ados_tree.proofs.NoFaults.{is_dos, is_known}
+use Rattle.ados_model.specs.declared.fault.FaultKind.TheVariants.{NotADosDisk, UnsupportedKind, BadSum, BadType, BadOwnKey, BadParent, BadPointer, BlockUsedTwice, WrongChain, BadName, DuplicateName, BadComment, BadCount, BadSequence, LinkEntry, MarkedFree, NoMemory}
+use Rattle.ados_model.specs.declared.role.Role.{Role}
+use Rattle.ados_model.specs.declared.role.Role.TheVariants as roles
+use Rattle.ados_model.specs.Accepted.{ShowsNoFault}
+use Rattle.ados_model.specs.Faults
+use Rattle.ados_model.specs.Faults.{IsEntry, IsLinkType, IsPlace, PlaceNames, Reached, HasName, root_of}
+use Rattle.ados_model.specs.Faults.Reached.{start}
+use Rattle.ados_model.specs.Rebuilt.{HasValidBitmap}
+use Rattle.ados_model.proofs.FileBlocks.{IsWhole}
+use Rattle.ados_model.proofs.FileFaults.{WholeFile, AreWhole, first_link, next_link, no_bad_sequence, no_bad_count}
+use Rattle.ados_model.proofs.NoFaults.{is_dos, is_known}
 use Rattle.ados_check.specs.declared.mark.Mark.{Mark}
 use Rattle.ados_check.specs.Marks.{mark_at, HasValidName, IsSound, IsSoundRoot, IsMarkedEntry, IsChecked}
 use Rattle.ados_check.proofs.Paths.{mark_of}
@@ -100,7 +101,7 @@ module _ (image : List ℕ) (marks : List (Option Mark)) (im : IsImage image) (c
 
   -- ---- the blocks that places name
 
-  -- the block is marked for the place that names it
+  -- the block is marked with the place that names it
   noted : {holder i block : ℕ} (n : PlaceNames image holder i block) → mark_at marks block ≡ Some (mark_of n.next holder i)
   noted {holder} {i} {block} n =
       let from = reached_marked image marks c.reached n.reached in

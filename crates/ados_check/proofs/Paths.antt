@@ -1,9 +1,8 @@
--- Lists that a link leads along, and what the marks say of them.
+-- Linked lists of blocks, and their marks.
 use Rattle.std.proofs.Common.{◌≡◌, ◌≢◌, ℕ, zero, suc, ◌<◌, ◌⊎◌, inl, inr, ◌==◌, if◌then◌else◌, List, [], ◌∷◌, length, slice_index, Option, Some, refl, sym, ap, ◌∙◌, subst, arith, eq-eqb, ne_eqb}
 use Rattle.std.proofs.lemmas.Bool.{cases_eq}
-use Rattle.adf_block.specs.Image.{long}
-use Rattle.adf_block.specs.Chained.{Chained}
-use Rattle.ados_tree.specs.declared.role.Role.{Role}
+use Rattle.adf_block.specs.Image.{long, Chained}
+use Rattle.ados_model.specs.declared.role.Role.{Role}
 use Rattle.ados_check.specs.declared.mark.Mark.{Mark}
 use Rattle.ados_check.specs.Marks.{mark_at}
 use Rattle.ados_check.proofs.Counting.{AreDifferent, different_few}
@@ -11,13 +10,13 @@ use Rattle.ados_check.proofs.Counting.{AreDifferent, different_few}
 abbrev pub mark_of : Role → ℕ → ℕ → Mark
 mark_of role holder long = record { role = role; holder = holder; long = long }
 
--- the link leads from the first block along the list, and no block of it is 0
+-- the list starts at the first block and follows the link; no block of it is 0
 pub record IsPath (image : List ℕ) (link first : ℕ) (xs : List ℕ) : Type 0 where
   pub head : 0 < length xs → slice_index xs 0 ≡ first
   pub linked : (i : ℕ) → suc i < length xs → long image (slice_index xs i) link ≡ slice_index xs (suc i)
   pub not_zero : (i : ℕ) → i < length xs → slice_index xs i ≢ 0
 
--- the blocks that the link leads along, at most so many
+-- the blocks along the link, at most n
 unfoldable pub follow : ℕ → List ℕ → ℕ → ℕ → List ℕ
 follow zero image link first = []
 follow (suc n) image link first = if first == 0 then [] else first ∷ follow n image link (long image first link)
@@ -49,7 +48,7 @@ follow-path (suc n) image link first = go (cases_eq first 0) (follow-path n imag
     go (inl z) rest = rw (eq-eqb first 0 z) (path-nil image link first)
     go (inr m) rest = rw (ne_eqb first 0 m) (path-more image link first _ m rest)
 
--- the chain ends, or as many blocks as were allowed are followed
+-- the list ends, or n blocks were followed
 pub follow-ends : (n : ℕ) (image : List ℕ) (link first : ℕ) → Chained image link first (follow n image link first) ⊎ (length (follow n image link first) ≡ n)
 unfolding follow
 follow-ends zero image link first = inr refl
@@ -60,14 +59,14 @@ follow-ends (suc n) image link first = go (cases_eq first 0) (follow-ends n imag
     go (inr m) (inl c) = rw (ne_eqb first 0 m) (inl (refl, c))
     go (inr m) (inr e) = rw (ne_eqb first 0 m) (inr (omega (arith, e)))
 
--- a chain without 0 is a path
+-- a linked list without 0 is a path
 pub chained_path : (image : List ℕ) (link first : ℕ) (xs : List ℕ) → Chained image link first xs → ((i : ℕ) → i < length xs → slice_index xs i ≢ 0) → IsPath image link first xs
 chained_path image link first [] c n = path-nil image link first
 chained_path image link first (x ∷ xs) c n =
     let rest = chained_path image link (long image x link) xs c.1 (λ i l. n (suc i) (omega arith)) in
     subst (λ (f : ℕ). IsPath image link f (x ∷ xs)) (sym c.0) (path-more image link x xs (n 0 (omega arith)) rest)
 
--- what holds the long that names place k of a path, and which long that is
+-- the block with the long that names position k of a path, and the index of that long
 abbrev pub holder_along : ℕ → List ℕ → ℕ → ℕ
 holder_along holder xs zero = holder
 holder_along holder xs (suc k) = slice_index xs k
@@ -76,15 +75,15 @@ abbrev pub long_along : ℕ → ℕ → ℕ → ℕ
 long_along at link zero = at
 long_along at link (suc k) = link
 
--- the blocks that a link leads to are marked for it
+-- the blocks along a link are marked with it
 pub record AreMarkedAlong (image : List ℕ) (marks : List (Option Mark)) (role : Role) (link first holder at : ℕ) : Type 0 where
   pub begins : first ≢ 0 → mark_at marks first ≡ Some (mark_of role holder at)
   pub goes_on : (b h l : ℕ) → mark_at marks b ≡ Some (mark_of role h l) → long image b link ≢ 0 → mark_at marks (long image b link) ≡ Some (mark_of role b link)
-  -- the long that names the first is not a link of the path
+  -- the long that names the first block is not a link of the path
   pub apart : (h l : ℕ) → mark_at marks holder ≡ Some (mark_of role h l) → at ≢ link
 
 module _ (image : List ℕ) (marks : List (Option Mark)) (role : Role) (link first holder at : ℕ) (along : AreMarkedAlong image marks role link first holder at) (xs : List ℕ) (path : IsPath image link first xs) where
-  -- each block of the path is marked for the long that names it
+  -- each block of the path is marked with the long that names it
   pub marked_along : (k : ℕ) → k < length xs → mark_at marks (slice_index xs k) ≡ Some (mark_of role (holder_along holder xs k) (long_along at link k))
   marked_along zero l =
       let here = path.head l in
@@ -108,7 +107,7 @@ module _ (image : List ℕ) (marks : List (Option Mark)) (role : Role) (link fir
       let longs : at ≡ link = ap (λ (m : Mark). m.long) same in
       along.apart (holder_along holder xs j) (long_along at link j) (ap (mark_at marks) holders ∙ marked_along j (omega arith)) longs
 
-  -- no block stands twice on the path
+  -- no block occurs twice on the path
   pub once_along : AreDifferent xs
   once_along zero zero l m e = refl
   once_along zero (suc j) l m e = absurd (not_first j m l e)
@@ -118,7 +117,7 @@ module _ (image : List ℕ) (marks : List (Option Mark)) (role : Role) (link fir
       let holders : slice_index xs k ≡ slice_index xs j = ap (λ (m : Mark). m.holder) same in
       ap (λ (n : ℕ). suc n) (once_along k j (omega arith) (omega arith) holders)
 
--- where the marked blocks are below n, following the link so often and once more reaches the end
+-- if the marked blocks are below n, n + 1 links reach the end
 pub follow-chained : (image : List ℕ) (marks : List (Option Mark)) (role : Role) (link first holder at : ℕ) → AreMarkedAlong image marks role link first holder at
     → (n : ℕ) → ((b : ℕ) (m : Mark) → mark_at marks b ≡ Some m → b < n) → Chained image link first (follow (suc n) image link first)
 follow-chained image marks role link first holder at along n below = go (follow-ends (suc n) image link first)

@@ -1,12 +1,12 @@
--- The places of each role, by the number of the long.
+-- The places of each role, by the index of the long.
 use Rattle.std.proofs.Common.{◌≡◌, ◌≢◌, ◌↔◌, Some, ℕ, ◌+◌, ◌-◌, ◌<◌, ◌≤◌, List, refl, sym, ap, ◌∙◌, subst, arith}
 use Rattle.std.proofs.lemmas.Option.{same_Some}
-use Rattle.adf_block.specs.Image.{block_count, page_count, long}
-use Rattle.adf_block.specs.Fields.{pointer_count, secondary_type, file_type}
-use Rattle.ados_tree.specs.declared.role.Role.{Role}
-use Rattle.ados_tree.specs.declared.role.Role.TheVariants.{Root, Page, Entry, Data, Extension}
-use Rattle.ados_tree.specs.Faults.{IsPlace, IsPointer}
-use Rattle.ados_tree.specs.Faults.IsPlace.{root_page, root_slot, directory_slot, next_entry, header_pointer, first_extension, extension_pointer, further_extension}
+use Rattle.adf_block.specs.Image.{block_count, page_count, long, pointer_count, secondary_type}
+use Rattle.adf_block.specs.Layout.{file_type}
+use Rattle.ados_model.specs.declared.role.Role.{Role}
+use Rattle.ados_model.specs.declared.role.Role.TheVariants.{Root, Page, Entry, Data, Extension}
+use Rattle.ados_model.specs.Faults.{IsPlace, IsPointer}
+use Rattle.ados_model.specs.Faults.IsPlace.{root_page, root_slot, directory_slot, next_entry, header_pointer, first_extension, extension_pointer, further_extension}
 
 -- a place of a root
 pub data OfRoot (image : List ℕ) (block i : ℕ) (next : Role) : Type 0 where
@@ -39,7 +39,7 @@ pub of_extension_block : {image : List ℕ} {block file i : ℕ} {next : Role} �
 of_extension_block (extension_pointer p) = of_data (omega arith) refl
 of_extension_block (further_extension n) = of_further refl refl
 
--- no block has its names in its first six longs
+-- the first six longs of a block are no places
 pub place_from : {image : List ℕ} {block i : ℕ} {role next : Role} → IsPlace image block role i next → 6 ≤ i
 place_from (root_page l) = omega arith
 place_from (root_slot l n) = omega arith
@@ -50,7 +50,7 @@ place_from (first_extension e n) = omega arith
 place_from (extension_pointer p) = omega (arith, p.0, p.1)
 place_from (further_extension n) = omega arith
 
--- nor in its last one
+-- the last long of a block is no place
 pub place_within : {image : List ℕ} {block i : ℕ} {role next : Role} → IsPlace image block role i next → page_count (block_count image) ≤ 25 → (6 ≤ i) × (i < 127)
 place_within (root_page l) h = (omega arith, omega arith)
 place_within (root_slot l n) h = (omega arith, omega arith)
@@ -61,19 +61,19 @@ place_within (first_extension e n) h = (omega arith, omega arith)
 place_within (extension_pointer p) h = (omega arith, omega arith)
 place_within (further_extension n) h = (omega arith, omega arith)
 
--- a file has no names below the pointers that its count takes in
+-- in a file, no long between the first six and its pointers in use is a place
 pub file_from : {image : List ℕ} {block dir s i : ℕ} {next : Role} → secondary_type image block ≡ file_type → IsPlace image block (Entry dir s) i next → 78 ≤ i + pointer_count image block
 file_from file (directory_slot d l n) = absurd (omega (arith, d, file))
 file_from file (next_entry n) = omega arith
 file_from file (header_pointer e p) = omega (arith, p.0, p.1)
 file_from file (first_extension e n) = omega arith
 
--- nor has an extension block
+-- the same in an extension block
 pub extension_from : {image : List ℕ} {block file i : ℕ} {next : Role} → IsPlace image block (Extension file) i next → 78 ≤ i + pointer_count image block
 extension_from (extension_pointer p) = omega (arith, p.0, p.1)
 extension_from (further_extension n) = omega arith
 
--- an answer of the one role that a fact holds of
+-- a result for the only role with a property
 pub is_only : (P : Role → Type 0) (role : Role) → P role → ((next : Role) → P next → next ≡ role) → (next : Role) → (Some role ≡ Some next) ↔ P next
 is_only P role holds only next = (λ e. subst P (same_Some role next e) holds, λ p. ap (λ (r : Role). Some r) (sym (only next p)))
 

@@ -1,13 +1,13 @@
--- The data blocks that the pointers of a file name, where its counts are right.
+-- The data blocks in a file's pointers, if its counts are right.
 use Rattle.std.proofs.Common.{◌≡◌, ℕ, zero, suc, ◌+◌, ◌-◌, ◌*◌, ◌/◌, ◌%◌, ◌<◌, ◌≤◌, ◌⊎◌, inl, inr, min, List, [], ◌∷◌, ◌++◌, length, take, drop, map, flat_map, slice_index, slice_index_or, refl, sym, ap, ap₂, ◌∙◌, subst, arith, le-leb}
 use Rattle.std.specs.List.{range_with_len}
 use Rattle.std.proofs.lemmas.Bool.{cases_lt}
 use Rattle.std.proofs.lemmas.List.{ext_get_or, nil_from_length, length_push, get_or_push, get_or_append_left, length-take, length-drop, get_or-take, get_or-drop, drop-drop, take-append-drop}
 use Rattle.std.proofs.lemmas.List.FromFn.{length-map-range_with_len, get_or-map-range_with_len}
-use Rattle.adf_block.specs.Image.{long}
-use Rattle.adf_block.specs.Fields.{pointer, pointer_count, next_extension}
-use Rattle.ados_data.specs.File.{pointer_block, data_block}
-use Rattle.ados_tree.specs.Faults.{InImage, IsPointer, LinkedOnce, first_pointers, pointers_of, AreDataBlocks}
+use Rattle.adf_block.specs.Image.{long, pointer, pointer_count}
+use Rattle.adf_block.specs.Layout.{next_extension}
+use Rattle.ados_model.specs.File.{pointer_block, data_block}
+use Rattle.ados_model.specs.Faults.{InImage, IsPointer, LinkedOnce, first_pointers, pointers_of, AreDataBlocks}
 use Rattle.ados_check.specs.steps.Files.{IsReachedFile, HasCounts}
 use Rattle.ados_check.proofs.Headers.{within, not_zero}
 
@@ -27,7 +27,7 @@ first_pointers-at image block (suc n) i l = go (first_pointers-at image block n 
         let here : n ≡ i = omega arith in
         get_or_push (first_pointers image block n) (pointer image block n) 0 i (length-first_pointers image block n ∙ here) ∙ ap (pointer image block) here
 
--- lists that are the parts of 72 of one list are that list, one after another
+-- a list cut into parts of 72 is the concatenation of the parts
 parts : (f : ℕ → List ℕ) (hs blocks : List ℕ) → ((i : ℕ) → i < length hs → f (slice_index hs i) ≡ take 72 (drop (72 * i) blocks)) → length blocks ≤ 72 * length hs → flat_map f hs ≡ blocks
 parts f [] blocks h l = sym (nil_from_length blocks (omega (arith, l)))
 parts f (x ∷ hs) blocks h l =
@@ -38,7 +38,7 @@ parts f (x ∷ hs) blocks h l =
 
 -- ---- the blocks of a file
 
--- so many data blocks of a file
+-- the first data blocks of a file
 unfoldable pub blocks_upto : List ℕ → ℕ → ℕ → List ℕ
 blocks_upto image file count = map (data_block image file) (range_with_len 0 count)
 
@@ -50,7 +50,7 @@ pub block-at : (image : List ℕ) (file count i : ℕ) → i < count → slice_i
 unfolding blocks_upto
 block-at image file count i l = get_or-map-range_with_len (data_block image file) 0 count i i 0 l (omega arith)
 
--- the first so many pointer blocks of a file
+-- the first pointer blocks of a file
 unfoldable headers_upto : List ℕ → ℕ → ℕ → List ℕ
 headers_upto image file n = map (pointer_block image file) (range_with_len 0 n)
 

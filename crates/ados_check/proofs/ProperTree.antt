@@ -1,20 +1,21 @@
--- The tree that the marks tell is a proper one.
+-- The tree of the marks is a proper one.
 use Rattle.std.proofs.Common.{◌≡◌, ◌≢◌, ℕ, ◌<◌, ◌≤◌, List, [], length, slice_index, AllPairs, Contains, Option, Some, refl, sym, ap, ◌∙◌, subst, arith}
 use Rattle.std.specs.Bool.{⊤}
 use Rattle.std.proofs.lemmas.List.{get_or_default}
 use Rattle.std.proofs.lemmas.List.Elements.{Contains-get_or}
-use Rattle.adf_block.specs.Image.{IsImage, IsSize, block_count}
-use Rattle.adf_block.specs.Fields.{text_at, name_byte}
+use Rattle.adf_block.specs.Whole.{IsImage, text_at}
+use Rattle.adf_block.specs.Image.{IsSize, block_count}
+use Rattle.adf_block.specs.Layout.{name_byte}
 use Rattle.ados_name.specs.Name.{Same, slot, IsName, IsComment}
-use Rattle.ados_tree.specs.declared.role.Role.{Role}
-use Rattle.ados_tree.specs.declared.role.Role.TheVariants as roles
-use Rattle.ados_tree.specs.Tree.{Node, Tree, Proper, LeadsToRoot, entries, name_in, name_of, parent_of}
-use Rattle.ados_tree.specs.Tree.LeadsToRoot.{at_root, by_parent}
-use Rattle.ados_tree.specs.Stands.{in_slot}
-use Rattle.ados_tree.specs.Faults.{InImage, Reached, root_of}
-use Rattle.ados_tree.specs.Faults.IsPlace.{root_page, root_slot, directory_slot, next_entry, header_pointer, first_extension, extension_pointer, further_extension}
-use Rattle.ados_tree.specs.Faults.Reached.{start, named}
-use Rattle.ados_tree.proofs.Lists.{joined}
+use Rattle.ados_model.specs.declared.role.Role.{Role}
+use Rattle.ados_model.specs.declared.role.Role.TheVariants as roles
+use Rattle.ados_model.specs.Tree.{Node, Tree, Proper, LeadsToRoot, entries, name_in, name_of, parent_of}
+use Rattle.ados_model.specs.Tree.LeadsToRoot.{at_root, by_parent}
+use Rattle.ados_model.specs.Stands.{in_slot}
+use Rattle.ados_model.specs.Faults.{InImage, Reached, root_of}
+use Rattle.ados_model.specs.Faults.IsPlace.{root_page, root_slot, directory_slot, next_entry, header_pointer, first_extension, extension_pointer, further_extension}
+use Rattle.ados_model.specs.Faults.Reached.{start, named}
+use Rattle.ados_model.proofs.Lists.{joined}
 use Rattle.ados_check.specs.declared.mark.Mark.{Mark}
 use Rattle.ados_check.specs.Marks.{mark_at, IsChecked, IsSound, IsSoundEntry, IsSoundRoot}
 use Rattle.ados_check.proofs.Joined.{place_of, Contains-joined, part_of_joined, AllPairs-joined, filter-joined}
@@ -28,19 +29,19 @@ module _ (image : List ℕ) (marks : List (Option Mark)) (im : IsImage image) (c
   abbrev t : Tree
   t = tree_of image marks
 
-  -- ---- the chains
+  -- ---- the hash chains
 
-  -- an element of a chain stands in it
+  -- an element of a chain is at a position of it
   chain_stands : (dir s : ℕ) → IsMarkedDirectory image marks dir → s < 72 → (x : ℕ) → Contains (chain_of image dir s) x → (k : ℕ) × StandsAt image marks im c (roles.Entry dir s) k x
   chain_stands dir s d l x h = let p = place_of (chain_of image dir s) x h in (p.0, record { within = p.1; here = p.2; holder = (d, l) })
 
-  -- and is marked for its slot
+  -- an element of a chain is marked with the chain's slot
   pub chain_marked : (dir s : ℕ) → IsMarkedDirectory image marks dir → s < 72 → (x : ℕ) → Contains (chain_of image dir s) x → (m : Mark) × (mark_at marks x ≡ Some m) × (m.role ≡ roles.Entry dir s)
   chain_marked dir s d l x h =
       let p = chain_stands dir s d l x h in
       (mark_of (roles.Entry dir s) (holder_of image marks im c (roles.Entry dir s) p.0) (long_of image marks im c (roles.Entry dir s) p.0), marked_at image marks im c (roles.Entry dir s) p.0 x p.1, refl)
 
-  -- what is marked for a slot is an element of its chain
+  -- a block marked with a slot is in its chain
   pub marked_chain : (key : ℕ) (m : Mark) (dir s : ℕ) → mark_at marks key ≡ Some m → m.role ≡ roles.Entry dir s → IsMarkedDirectory image marks dir × (s < 72) × Contains (chain_of image dir s) key
   marked_chain key m dir s e is =
       let at = marked_stands image marks im c key m e in
@@ -53,13 +54,13 @@ module _ (image : List ℕ) (marks : List (Option Mark)) (im : IsImage image) (c
   name_is : (key : ℕ) (m : Mark) (dir s : ℕ) → mark_at marks key ≡ Some m → m.role ≡ roles.Entry dir s → name_of t key ≡ text_at image key name_byte
   name_is key m dir s e is = ap name_in (node_is image marks key m (roles.Entry dir s) e is)
 
-  -- the slot of a name tells the chain
+  -- the slot of a name determines the chain
   told : (dir : ℕ) → IsMarkedDirectory image marks dir → (s x : ℕ) → s < 72 → Contains (chain_of image dir s) x → slot (name_of t x) ≡ s
   told dir d s x l h =
       let at = chain_marked dir s d l x h in
       ap slot (name_is x at.0 dir s at.1 at.2) ∙ (sound_entry x at.0 dir s at.1 at.2).slotted
 
-  -- the entries of a slot are its chain
+  -- the entries of a slot are the slot's chain
   pub slot_is : (dir s : ℕ) → IsMarkedDirectory image marks dir → s < 72 → in_slot t dir s ≡ chain_of image dir s
   unfolding keys_of
   slot_is dir s d l =
@@ -84,7 +85,7 @@ module _ (image : List ℕ) (marks : List (Option Mark)) (im : IsImage image) (c
       let at = marked_chain key e.0 dir e.1 e.2 e.3 in
       subst (λ (keys : List ℕ). Contains keys key) (sym (entries_are image marks c dir at.0)) (Contains-joined (chain_of image dir) 72 e.1 key at.1 at.2)
 
-  -- a relation of the pairs of each chain and of two chains is one of the entries
+  -- a relation that holds within each chain and between any two holds for all entries
   pairs : (R : ℕ → ℕ → Type 0) (dir : ℕ)
       → (IsMarkedDirectory image marks dir → (s : ℕ) → s < 72 → AllPairs R (chain_of image dir s))
       → (IsMarkedDirectory image marks dir → (r s x y : ℕ) → r < s → s < 72 → Contains (chain_of image dir r) x → Contains (chain_of image dir s) y → R x y)
@@ -123,7 +124,7 @@ module _ (image : List ℕ) (marks : List (Option Mark)) (im : IsImage image) (c
       let other = told dir d s y l g in
       omega (arith, one, other, b)
 
-  -- two entries with the same name are one
+  -- two entries with the same name are the same
   entries-unlike : (dir j k : ℕ) → Contains (entries t dir) j → Contains (entries t dir) k → Same (name_of t j) (name_of t k) → j ≡ k
   entries-unlike dir j k h g same =
       let one = entry_of_parent image marks j dir (lists_entries dir j h) in

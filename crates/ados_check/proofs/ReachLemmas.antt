@@ -1,10 +1,10 @@
--- What a role says of a reached block.
+-- Consequences of the role of a reached block.
 use Rattle.std.proofs.Common.{◌≡◌, ◌≢◌, ℕ, List, refl}
-use Rattle.ados_tree.specs.declared.role.Role.{Role}
-use Rattle.ados_tree.specs.declared.role.Role.TheVariants.{Root}
-use Rattle.ados_tree.specs.Faults.{IsPlace, Reached, root_of}
-use Rattle.ados_tree.specs.Faults.IsPlace.{root_page, root_slot, directory_slot, next_entry, header_pointer, first_extension, extension_pointer, further_extension}
-use Rattle.ados_tree.specs.Faults.Reached.{start, named}
+use Rattle.ados_model.specs.declared.role.Role.{Role}
+use Rattle.ados_model.specs.declared.role.Role.TheVariants.{Root}
+use Rattle.ados_model.specs.Faults.{IsPlace, Reached, root_of}
+use Rattle.ados_model.specs.Faults.IsPlace.{root_page, root_slot, directory_slot, next_entry, header_pointer, first_extension, extension_pointer, further_extension}
+use Rattle.ados_model.specs.Faults.Reached.{start, named}
 
 -- no place gives the role of the root
 pub place_not_root : {image : List ℕ} {block i : ℕ} {role next : Role} → IsPlace image block role i next → next ≢ Root
@@ -21,6 +21,6 @@ only_root : {image : List ℕ} {block : ℕ} {role : Role} → Reached image blo
 only_root start e = refl
 only_root (named h p inside) e = absurd (place_not_root p e)
 
--- the root alone has the role of the root
+-- only the root has the role of the root
 pub reached_root : (image : List ℕ) (block : ℕ) → Reached image block Root → block ≡ root_of image
 reached_root image block h = only_root h refl

@@ -1,20 +1,20 @@
--- The moves of the walk, on marks and pending blocks.
+-- The steps of the walk on marks and pending blocks.
 use Rattle.std.proofs.Common.{◌≡◌, ◌≢◌, ◌↔◌, ℕ, ◌⊎◌, inl, inr, List, Option, None, Some, refl, sym, ap, ◌∙◌, subst}
 use Rattle.std.proofs.lemmas.Bool.{cases_eq}
 use Rattle.adf_block.specs.Image.{long}
-use Rattle.ados_tree.specs.declared.role.Role.{Role}
-use Rattle.ados_tree.specs.Faults.{InImage, IsPlace, Reached, root_of}
-use Rattle.ados_tree.specs.Faults.Reached.{named}
+use Rattle.ados_model.specs.declared.role.Role.{Role}
+use Rattle.ados_model.specs.Faults.{InImage, IsPlace, Reached, root_of}
+use Rattle.ados_model.specs.Faults.Reached.{named}
 use Rattle.ados_check.specs.declared.mark.Mark.{Mark}
 use Rattle.ados_check.specs.Marks.{mark_at, IsSound, AreReached}
 use Rattle.ados_check.specs.steps.Reaching.{root_mark, IsNoted, AreReachedBut}
 use Rattle.ados_check.proofs.MarkLemmas.{IsMarkedMore}
 
--- the mark that a place gives
+-- the mark by a place
 abbrev pub mark_of : Role → ℕ → ℕ → Mark
 mark_of next holder i = record { role = next; holder = holder; long = i }
 
--- a place of the block in hand, under its other names
+-- a place of the visited block, under its other names
 pub in_hand : (image : List ℕ) (marks : List (Option Mark)) (hand i block j : ℕ) (m mark : Mark) (next : Role) → mark_at marks hand ≡ Some m → mark_at marks block ≡ Some mark → block ≡ hand → j ≡ i → IsPlace image block mark.role j next → IsPlace image hand m.role i next
 in_hand image marks hand i block j m mark next held e z f p =
     let one : Some mark ≡ Some m = sym e ∙ ap (mark_at marks) z ∙ held in
@@ -22,7 +22,7 @@ in_hand image marks hand i block j m mark next held e z f p =
     subst (λ (x : Mark). IsPlace image hand x.role i next) mark_is (subst (λ (k : ℕ). IsPlace image hand mark.role k next) f (subst (λ (b : ℕ). IsPlace image b mark.role j next) z p))
 
 module _ (image : List ℕ) (marks : List (Option Mark)) where
-  -- two words for what is left, which agree at each place of a marked block
+  -- two sets of places left that agree for marked blocks
   abbrev pub AgreeOnPlaces : (ℕ → ℕ → Type 0) → (ℕ → ℕ → Type 0) → Type 0
   AgreeOnPlaces left other = (block i : ℕ) (mark : Mark) (next : Role) → mark_at marks block ≡ Some mark → IsPlace image block mark.role i next → left block i ↔ other block i
 
@@ -51,7 +51,7 @@ module _ (image : List ℕ) (marks : List (Option Mark)) where
     sound = r.sound;
   }
 
--- a place of a marked block is gone through: it names a block that had no mark, and now has one for this place
+-- a place of a marked block is visited: it names a block that had no mark, and now has one with this place
 module _ (image : List ℕ) (marks new : List (Option Mark)) (left other : ℕ → ℕ → Type 0) (hand i : ℕ) (m : Mark) (next : Role)
     (r : AreReachedBut image marks left) (held : mark_at marks hand ≡ Some m) (place : IsPlace image hand m.role i next)
     (only : (role : Role) → IsPlace image hand m.role i role → role ≡ next)
@@ -106,7 +106,7 @@ module _ (image : List ℕ) (marks new : List (Option Mark)) (left other : ℕ �
     | inr h ↦ elim (r.noted block mark h.1) [ inl root ↦ inl root | inr n ↦ inr (still_noted block mark n) ]
   ]
 
-  -- a place that is gone through now is the one in hand, or one that was gone through before
+  -- a visited place is the current one, or was visited before
   data Gone (block j : ℕ) (mark : Mark) (role : Role) : Type 0 where
     now : block ≡ hand → j ≡ i → role ≡ next → Gone block j mark role
     before : mark_at marks block ≡ Some mark → ¬ left block j → Gone block j mark role

@@ -1,15 +1,15 @@
--- The blocks of a marked file are reached, inside the image and right by themselves.
+-- The blocks of a marked file are reached, inside the image and sound.
 use Rattle.std.proofs.Common.{◌≡◌, ◌≢◌, ℕ, zero, suc, ◌-◌, ◌<◌, ◌≤◌, List, ◌∷◌, length, slice_index, Option, Some, refl, sym, ap, ◌∙◌, subst, arith}
 use Rattle.std.proofs.lemmas.List.{get_or_past}
-use Rattle.adf_block.specs.Image.{IsImage, block_count, long}
-use Rattle.adf_block.specs.Chained.{Chained}
-use Rattle.adf_block.specs.Fields.{pointer, next_extension}
-use Rattle.ados_data.specs.File.{pointer_block}
+use Rattle.adf_block.specs.Whole.{IsImage}
+use Rattle.adf_block.specs.Image.{block_count, long, Chained, pointer}
+use Rattle.adf_block.specs.Layout.{next_extension}
+use Rattle.ados_model.specs.File.{pointer_block}
 use Rattle.ados_data.proofs.Chains.{next_of}
-use Rattle.ados_tree.specs.declared.role.Role.{Role}
-use Rattle.ados_tree.specs.declared.role.Role.TheVariants as roles
-use Rattle.ados_tree.specs.Faults.{InImage, IsPlace, IsPointer, Reached}
-use Rattle.ados_tree.specs.Faults.IsPlace.{header_pointer, first_extension, extension_pointer, further_extension}
+use Rattle.ados_model.specs.declared.role.Role.{Role}
+use Rattle.ados_model.specs.declared.role.Role.TheVariants as roles
+use Rattle.ados_model.specs.Faults.{InImage, IsPlace, IsPointer, Reached}
+use Rattle.ados_model.specs.Faults.IsPlace.{header_pointer, first_extension, extension_pointer, further_extension}
 use Rattle.ados_check.specs.declared.mark.Mark.{Mark}
 use Rattle.ados_check.specs.Marks.{mark_at, AreReached, IsSound, IsSoundEntry}
 use Rattle.ados_check.proofs.Paths.{mark_of, IsPath, follow, follow-path, follow-chained, holder_along, long_along, AreMarkedAlong, marked_along, once_along}
@@ -17,7 +17,7 @@ use Rattle.ados_check.proofs.Counting.{AreDifferent}
 use Rattle.ados_check.proofs.Roles.{IsMarkedFile, marked_inside}
 use Rattle.ados_check.specs.steps.Files.{IsReachedFile}
 
--- the extension blocks that the links of a file lead along
+-- the extension blocks of a file, along their links
 unfoldable extensions_of : List ℕ → ℕ → List ℕ
 extensions_of image file = follow (suc (block_count image)) image next_extension (long image file next_extension)
 
@@ -59,7 +59,7 @@ module _ (image : List ℕ) (marks : List (Option Mark)) (im : IsImage image) (c
       ∙ next_of image next_extension file (file ∷ extensions_of image file) (refl, chain) (length (extensions_of image file)) (omega arith)
       ∙ get_or_past (extensions_of image file) (length (extensions_of image file)) 0 (omega arith)
 
-  -- the mark of an extension block, by its place
+  -- the mark of an extension block, by its position
   marked_at : (q : ℕ) → q < length (extensions_of image file) → (h : ℕ) × (l : ℕ) × (mark_at marks (pointer_block image file (suc q)) ≡ Some (mark_of (roles.Extension file) h l))
   marked_at q l = (holder_along file (extensions_of image file) q, long_along next_extension next_extension q, ap (mark_at marks) (header_is (suc q) (omega arith)) ∙ extension_marked q l)
 

@@ -1,4 +1,4 @@
--- What is read where a block stands.
+-- Reads at the position of a kept block.
 use Rattle.std.proofs.Common.{◌≡◌, ◌≢◌, ℕ, ◌+◌, ◌*◌, ◌/◌, ◌<◌, ◌≤◌, inl, inr, List, length, take, drop, get_or, slice_index, Option, None, Some, MatchOption, arith, ap, sym, ◌∙◌, subst, length-take, length-drop}
 use Rattle.std.proofs.lemmas.List.{get_or-take, get_or-drop, get_or_default, same_lists}
 use Rattle.byteorder.specs.Endian.{big_number}
@@ -14,14 +14,14 @@ pub first_long : (block : List ℕ) (i : ℕ) → big_number 4 (drop (4 * i) blo
 unfolding long
 first_long block i = ap (λ (n : ℕ). big_number 4 (drop n block)) (omega arith)
 
--- a block stands where it is noted
+-- a block is at its position
 pub stands_at : (starts : List (Option ℕ)) (kept image : List ℕ) (b start : ℕ) (x : Option ℕ) → AreKept starts kept image → b < block_count image → x ≡ get_or starts b x → x ≡ Some start → StandsAt kept image b start
 stands_at starts kept image b start x are inside read is =
     let within : b < length starts = omega (arith, are.whole, inside) in
     let noted : start_of starts b ≡ Some start = get_or_default starts b None x within ∙ sym read ∙ is in
     subst (λ (o : Option ℕ). MatchOption o (block_sum image b ≢ 0) (StandsAt kept image b)) noted (are.noted b within)
 
--- the long is among the kept ones
+-- the long is among the kept bytes
 room : (image : List ℕ) (b i : ℕ) → IsKept image b i → i < 128 → 4 * i + 4 ≤ kept_length image b
 room image b i is small = elim is.1 [
   | inl header ↦ omega (arith, header, at_least image b)
@@ -42,7 +42,7 @@ long_there kept image b start i stands is small =
     ∙ stands.same (4 * i + k) (omega (arith, fits, below)) in
     rw (byte 0 (omega arith), byte 1 (omega arith), byte 2 (omega arith), byte 3 (omega arith)) (sym (long-bytes image b i))
 
--- all of a block that is no data block
+-- all of a block that is not an OFS data block
 pub block_there : (kept image : List ℕ) (b start : ℕ) → StandsAt kept image b start → IsKept image b 127 → b < block_count image → take 512 (drop start kept) ≡ bytes_at image b 0 512
 unfolding bytes_at
 block_there kept image b start stands is inside =

@@ -1,32 +1,32 @@
--- The blocks of each role in order, and the marks of the places that name them.
+-- The blocks of each role in order, and the marks with the places that name them.
 use Rattle.std.proofs.Common.{◌≡◌, ◌≢◌, ℕ, zero, suc, ◌+◌, ◌-◌, ◌*◌, ◌/◌, ◌%◌, ◌<◌, ◌≤◌, inl, inr, List, [], ◌∷◌, length, map, slice_index, Option, Some, refl, sym, ap, ap₂, ◌∙◌, subst, arith}
 use Rattle.std.specs.Bool.{⊤}
 use Rattle.std.specs.List.{range_with_len}
 use Rattle.std.proofs.lemmas.List.{get_or-take}
 use Rattle.std.proofs.lemmas.List.FromFn.{length-map-range_with_len, get_or-map-range_with_len}
-use Rattle.adf_block.specs.Image.{IsImage, block_count, page_count, long, byte_at, bytes_at}
-use Rattle.adf_block.specs.Chained.{Chained}
-use Rattle.adf_block.specs.Fields.{table_entry, pointer, pointer_count, next_in_chain, next_extension, secondary_type, file_type, file_size}
+use Rattle.adf_block.specs.Whole.{IsImage}
+use Rattle.adf_block.specs.Image.{block_count, page_count, long, byte_at, bytes_at, Chained, table_entry, pointer, pointer_count, secondary_type, file_size, format_of}
+use Rattle.adf_block.specs.Layout.{next_in_chain, next_extension, file_type}
 use Rattle.adf_block.proofs.Longs.{long-bytes}
-use Rattle.ados_data.specs.Cost.{data_count, extension_count}
-use Rattle.ados_data.specs.File.{format_of, data_blocks, extension_blocks, contents}
-use Rattle.ados_tree.specs.declared.role.Role.{Role}
-use Rattle.ados_tree.specs.declared.role.Role.TheVariants as roles
-use Rattle.ados_tree.specs.Faults.{IsPlace, Reached, IsPointer, root_of}
-use Rattle.ados_tree.specs.Faults.IsPlace.{root_page, root_slot, directory_slot, next_entry, header_pointer, first_extension, extension_pointer, further_extension}
-use Rattle.ados_tree.specs.Faults.Reached.{start, named}
-use Rattle.ados_tree.proofs.Standing.{Chained-first, Chained-more}
+use Rattle.ados_model.specs.Tree.{data_count, extension_count}
+use Rattle.ados_model.specs.File.{data_blocks, extension_blocks, contents}
+use Rattle.ados_model.specs.declared.role.Role.{Role}
+use Rattle.ados_model.specs.declared.role.Role.TheVariants as roles
+use Rattle.ados_model.specs.Faults.{IsPlace, Reached, IsPointer, root_of}
+use Rattle.ados_model.specs.Faults.IsPlace.{root_page, root_slot, directory_slot, next_entry, header_pointer, first_extension, extension_pointer, further_extension}
+use Rattle.ados_model.specs.Faults.Reached.{start, named}
+use Rattle.ados_model.proofs.Standing.{Chained-first, Chained-more}
 use Rattle.ados_check.specs.declared.mark.Mark.{Mark}
 use Rattle.ados_check.specs.Marks.{mark_at, IsChecked, IsSoundFile}
 use Rattle.ados_check.proofs.Counting.{AreDifferent}
 use Rattle.ados_check.proofs.Paths.{mark_of, IsPath, follow, follow-path, follow-chained, chained_path, holder_along, long_along, AreMarkedAlong, marked_along, once_along}
 use Rattle.ados_check.proofs.Roles.{IsMarkedDirectory, as_root, as_entry, IsMarkedFile, marked_inside}
 
--- the blocks of the chain of a slot of a directory
+-- the blocks in the hash chain of a slot
 unfoldable pub chain_of : List ℕ → ℕ → ℕ → List ℕ
 chain_of image dir s = follow (suc (block_count image)) image next_in_chain (table_entry image dir s)
 
--- the bitmap pages that the root names
+-- the bitmap blocks in the root
 unfoldable pub pages_of : List ℕ → List ℕ
 pages_of image = map (λ i. long image (root_of image) (79 + i)) (range_with_len 0 (page_count (block_count image)))
 
@@ -50,7 +50,7 @@ pub length-contents : (image : List ℕ) (file : ℕ) → length (contents image
 unfolding contents
 length-contents image file = length-map-range_with_len _ 0 (file_size image file)
 
--- the boot block is no extension block
+-- the boot block is not an extension block
 boot_long : (image : List ℕ) (last : ℕ) → bytes_at image 0 0 4 ≡ 68 ∷ 79 ∷ 83 ∷ last ∷ [] → long image 0 0 ≢ 16
 unfolding bytes_at byte_at
 boot_long image last e z =
@@ -122,7 +122,7 @@ module _ (image : List ℕ) (marks : List (Option Mark)) (im : IsImage image) (c
   list_of (roles.Data file) = data_blocks image file
   list_of (roles.Extension file) = extension_blocks image file
 
-  -- what holds the blocks of a role
+  -- the premise for the blocks of a role
   abbrev pub Holder : Role → Type 0
   Holder roles.Root = ⊤
   Holder roles.Page = ⊤
@@ -130,13 +130,13 @@ module _ (image : List ℕ) (marks : List (Option Mark)) (im : IsImage image) (c
   Holder (roles.Data file) = IsMarkedFile image marks file
   Holder (roles.Extension file) = IsMarkedFile image marks file
 
-  -- the block stands at place k of the list of its role
+  -- the block is at position k of the list of its role
   pub record StandsAt (role : Role) (k block : ℕ) : Type 0 where
     pub within : k < length (list_of role)
     pub here : slice_index (list_of role) k ≡ block
     pub holder : Holder role
 
-  -- which block has the long that names place k of a role's list, and which long it is
+  -- the block with the long that names position k of a role's list, and the index of that long
   abbrev pub holder_of : Role → ℕ → ℕ
   holder_of roles.Root k = 0
   holder_of roles.Page k = root_of image
@@ -177,7 +177,7 @@ module _ (image : List ℕ) (marks : List (Option Mark)) (im : IsImage image) (c
       ap (mark_at marks) (sym ((sound_file file f).pointers k l))
       ∙ c.reached.marked (slice_index (file ∷ extension_blocks image file) (k / 72)) (77 - k % 72) from.0 (roles.Data file) from.1 (from.2 (k % 72) (pointer_within file f k l))
 
-  -- ---- the mark of a block at its place
+  -- ---- the mark of a block at its position
 
   pub marked_at : (role : Role) (k block : ℕ) → StandsAt role k block → mark_at marks block ≡ Some (mark_of role (holder_of role k) (long_of role k))
   marked_at roles.Root zero block h = root_marked block (sym h.here)
@@ -193,7 +193,7 @@ module _ (image : List ℕ) (marks : List (Option Mark)) (im : IsImage image) (c
       ap (mark_at marks) (sym h.here)
       ∙ extension_marked file h.holder k h.within
 
-  -- ---- a block stands at one place
+  -- ---- a block is at one position
 
   pub different_headers : (file : ℕ) → IsMarkedFile image marks file → AreDifferent (file ∷ extension_blocks image file)
   different_headers file f = go
@@ -231,7 +231,7 @@ module _ (image : List ℕ) (marks : List (Option Mark)) (im : IsImage image) (c
   one_place (roles.Extension file) k j block h g =
       extension_once file h.holder k j h.within g.within (h.here ∙ sym g.here)
 
-  -- ---- each reached block stands at a place
+  -- ---- each reached block is at a position
 
   root_at : (k block : ℕ) → StandsAt roles.Root k block → block ≡ root_of image
   root_at zero block h = sym h.here
@@ -300,6 +300,6 @@ module _ (image : List ℕ) (marks : List (Option Mark)) (im : IsImage image) (c
   reached_stands start = (0, record { within = omega arith; here = refl; holder = tt })
   reached_stands (named h p inside) = let n = reached_stands h in next_stands n.0 n.1 p
 
-  -- each marked block stands at a place of its role
+  -- each marked block is at a position of its role's list
   pub marked_stands : (block : ℕ) (m : Mark) → mark_at marks block ≡ Some m → (k : ℕ) × StandsAt m.role k block
   marked_stands block m e = reached_stands (c.reached.reached block m e)

@@ -1,12 +1,13 @@
--- What the marks say of the blocks that are reached.
+-- The marks of the reached blocks.
 use Rattle.std.proofs.Common.{◌≡◌, ◌≢◌, ℕ, List, Option, Some, refl, sym, ap, ◌∙◌, subst, arith}
-use Rattle.adf_block.specs.Image.{IsImage, block_count}
-use Rattle.ados_tree.specs.declared.role.Role.{Role}
-use Rattle.ados_tree.specs.declared.role.Role.TheVariants.{Root, Entry}
-use Rattle.adf_block.specs.Fields.{secondary_type, file_type}
-use Rattle.ados_tree.specs.Faults.{InImage, IsPlace, Reached, root_of}
-use Rattle.ados_tree.specs.Faults.IsPlace.{root_page, root_slot, directory_slot, next_entry, header_pointer, first_extension, extension_pointer, further_extension}
-use Rattle.ados_tree.specs.Faults.Reached.{start, named}
+use Rattle.adf_block.specs.Whole.{IsImage}
+use Rattle.adf_block.specs.Image.{block_count, secondary_type}
+use Rattle.ados_model.specs.declared.role.Role.{Role}
+use Rattle.ados_model.specs.declared.role.Role.TheVariants.{Root, Entry}
+use Rattle.adf_block.specs.Layout.{file_type}
+use Rattle.ados_model.specs.Faults.{InImage, IsPlace, Reached, root_of}
+use Rattle.ados_model.specs.Faults.IsPlace.{root_page, root_slot, directory_slot, next_entry, header_pointer, first_extension, extension_pointer, further_extension}
+use Rattle.ados_model.specs.Faults.Reached.{start, named}
 use Rattle.ados_check.specs.declared.mark.Mark.{Mark}
 use Rattle.ados_check.specs.Marks.{mark_at, AreReached}
 use Rattle.ados_check.proofs.Paths.{mark_of}
@@ -22,12 +23,12 @@ place_not_root (first_extension e n) z = cc z
 place_not_root (extension_pointer p) z = cc z
 place_not_root (further_extension n) z = cc z
 
--- a block that is marked as a directory
+-- a block marked as an entry that is a directory
 pub data IsMarkedDirectory (image : List ℕ) (marks : List (Option Mark)) (dir : ℕ) : Type 0 where
   as_root : dir ≡ root_of image → IsMarkedDirectory image marks dir
   as_entry : (m : Mark) (up r : ℕ) → mark_at marks dir ≡ Some m → m.role ≡ Entry up r → secondary_type image dir ≡ 2 → IsMarkedDirectory image marks dir
 
--- a block that is marked as a file
+-- a block marked as an entry that is a file
 pub record IsMarkedFile (image : List ℕ) (marks : List (Option Mark)) (file : ℕ) : Type 0 where
   pub mark : Mark
   pub dir : ℕ

@@ -1,14 +1,15 @@
--- A file whose counts and size are right, and in OFS its chain of data blocks, is sound.
+-- A file is sound if its counts and size are right and, in OFS, the links of its data blocks.
 use Rattle.std.proofs.Common.{◌≡◌, ◌≢◌, ne_eqb, ℕ, zero, suc, ◌+◌, ◌-◌, ◌*◌, ◌/◌, ◌%◌, ◌<◌, ◌≤◌, ◌⊎◌, inl, inr, min, List, ◌∷◌, length, map, slice_index, refl, sym, ap, ◌∙◌, subst, arith}
 use Rattle.std.specs.List.{range_with_len}
 use Rattle.std.proofs.lemmas.Bool.{cases_lt}
 use Rattle.std.proofs.lemmas.List.{get_or_past}
 use Rattle.std.proofs.lemmas.List.FromFn.{length-map-range_with_len, get_or-map-range_with_len}
 use Rattle.adf_block.specs.declared.Format.TheVariants.{Ofs, Ffs}
-use Rattle.adf_block.specs.Image.{byte_at, long}
-use Rattle.adf_block.specs.Fields.{pointer, pointer_count, file_size, next_extension}
-use Rattle.ados_data.specs.Cost.{data_count, extension_count}
-use Rattle.ados_data.specs.File.{HasExtension, HasOfsData, format_of, file_byte, pointer_block, data_block, data_blocks, extension_blocks, contents}
+use Rattle.adf_block.specs.Image.{byte_at, long, pointer, pointer_count, file_size, format_of}
+use Rattle.adf_block.specs.Layout.{next_extension}
+use Rattle.ados_model.specs.Tree.{data_count, extension_count}
+use Rattle.ados_model.specs.Stands.{HasExtension, HasOfsData, file_byte}
+use Rattle.ados_model.specs.File.{pointer_block, data_block, data_blocks, extension_blocks, contents}
 use Rattle.ados_data.proofs.Chains.{chained}
 use Rattle.ados_check.specs.Marks.{IsSoundFile}
 use Rattle.ados_check.specs.steps.Files.{IsReachedFile, HasCounts, IsLinked}
@@ -51,7 +52,7 @@ module _ (image : List ℕ) (file count : ℕ) (r : IsReachedFile image file) (h
   header-is zero l = refl
   header-is (suc q) l = extension-at q (omega arith)
 
-  -- behind each pointer block stands the next one, or 0
+  -- each pointer block is followed by the next one, or by 0
   next-is : (q : ℕ) → q ≤ h.extensions → pointer_block image file (suc q) ≡ slice_index (extension_blocks image file) q
   next-is q l = go (cases_lt q h.extensions)
     where

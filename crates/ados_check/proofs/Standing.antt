@@ -1,22 +1,20 @@
--- An image whose marks are sound and whose bitmap is valid stands for the tree that they tell.
+-- An image with sound marks and a valid bitmap represents the tree of the marks.
 use Rattle.std.proofs.Common.{◌≡◌, ◌≢◌, ℕ, ◌<◌, ◌⊎◌, inl, inr, List, [], length, slice_get, Contains, Option, Some, None, IsSome, refl, sym, ap, ap₂, ◌∙◌, subst, arith, eq-eqb, ne_eqb}
 use Rattle.std.proofs.lemmas.Bool.{false≢true, false_from_ne_true}
-use Rattle.adf_block.specs.Image.{IsImage, HasFreeBit, block_sum, has_free_bit}
-use Rattle.adf_block.specs.Chained.{Chained}
-use Rattle.adf_block.specs.Fields.{table_entry, next_in_chain, secondary_type, file_type}
-use Rattle.ados_data.specs.Cost.{data_count, extension_count}
-use Rattle.ados_data.specs.File.{format_of, HasFile, data_blocks, extension_blocks}
-use Rattle.ados_tree.specs.declared.role.Role.{Role}
-use Rattle.ados_tree.specs.declared.role.Role.TheVariants as roles
-use Rattle.ados_tree.specs.Tree.{Content, Node, Tree, content_at, size_in}
-use Rattle.ados_tree.specs.Tree.Content.{Directory, File}
-use Rattle.ados_tree.specs.Layout.{Layout, Duty, HasDuty, Named, Fits}
-use Rattle.ados_tree.specs.Stands.{Stands, HasNode, HasEntry, HasRoot, type_of, in_slot}
-use Rattle.ados_tree.specs.Faults.{InImage, root_of}
-use Rattle.ados_tree.specs.Rebuilt.{HasValidBitmap}
-use Rattle.ados_tree.proofs.Nodes.{content_in}
-use Rattle.ados_tree.proofs.Counting.{no_data, slice_get-back}
-use Rattle.ados_tree.proofs.Standing.{slice_get-index}
+use Rattle.adf_block.specs.Whole.{IsImage}
+use Rattle.adf_block.specs.Image.{HasFreeBit, block_sum, has_free_bit, Chained, table_entry, secondary_type, format_of}
+use Rattle.adf_block.specs.Layout.{next_in_chain, file_type}
+use Rattle.ados_model.specs.Tree.{data_count, extension_count, Content, Node, Tree, content_at, size_in}
+use Rattle.ados_model.specs.Stands.{HasFile, Layout, Duty, HasDuty, Named, Fits, Stands, HasNode, HasEntry, HasRoot, type_of, in_slot}
+use Rattle.ados_model.specs.File.{data_blocks, extension_blocks}
+use Rattle.ados_model.specs.declared.role.Role.{Role}
+use Rattle.ados_model.specs.declared.role.Role.TheVariants as roles
+use Rattle.ados_model.specs.Tree.Content.{Directory, File}
+use Rattle.ados_model.specs.Faults.{InImage, root_of}
+use Rattle.ados_model.specs.Rebuilt.{HasValidBitmap}
+use Rattle.ados_model.proofs.Nodes.{content_in}
+use Rattle.ados_model.proofs.Counting.{no_data, slice_get-back}
+use Rattle.ados_model.proofs.Standing.{slice_get-index}
 use Rattle.ados_check.specs.declared.mark.Mark.{Mark}
 use Rattle.ados_check.specs.Marks.{mark_at, IsChecked, IsSound, IsSoundEntry, IsSoundRoot}
 use Rattle.ados_check.proofs.Joined.{place_of}
@@ -27,7 +25,7 @@ use Rattle.ados_check.proofs.Texts.{length-bytes_at, comment_text}
 use Rattle.ados_check.proofs.TreeOf.{content_of, tree_of, IsLost, lost_view, lost_is, NodeView, the_root, an_entry, node_view, node_is, directory_content, file_content, file_bytes}
 use Rattle.ados_check.proofs.ProperTree.{proper, slot_is}
 
--- the data blocks and the extension blocks of what holds bytes
+-- the data blocks and the extension blocks for a node's content
 abbrev pub data_in : List ℕ → ℕ → Option Content → List ℕ
 data_in image file (Some (File bytes)) = data_blocks image file
 data_in image file (Some (Directory keys)) = []
@@ -59,7 +57,7 @@ module _ (image : List ℕ) (marks : List (Option Mark)) (im : IsImage image) (c
   abbrev l : Layout
   l = layout_of image marks
 
-  -- ---- the duties of a block
+  -- ---- the uses of a block
 
   serves_at : (role : Role) (k block : ℕ) → StandsAt image marks im c role k block → HasDuty t l block (duty_of role k)
   serves_at roles.Root k block h = let n = node_is image marks block (mark_of roles.Root 0 0) roles.Root (marked_at image marks im c roles.Root k block h) refl in rw n refl
@@ -72,7 +70,7 @@ module _ (image : List ℕ) (marks : List (Option Mark)) (im : IsImage image) (c
       ap (λ (o : Option Content). slice_get (extensions_in image file o) k) (file_bytes image marks c file h.holder)
       ∙ slice_get-index (extension_blocks image file) k h.within ∙ ap Some h.here
 
-  -- the block stands at a place, or is lost
+  -- the block is at a position, or is lost
   data DutyView (block : ℕ) (duty : Duty) : Type 0 where
     at_place : (role : Role) (k : ℕ) → StandsAt image marks im c role k block → duty ≡ duty_of role k → DutyView block duty
     of_lost : IsLost image marks block → duty ≡ Duty.Lost → DutyView block duty
@@ -120,7 +118,7 @@ module _ (image : List ℕ) (marks : List (Option Mark)) (im : IsImage image) (c
   duty_view block (Duty.Extension file i) h = extension_view block file i (content_at t file) refl h
   duty_view block Duty.Lost h = let n = some_bytes (t.lost block) h in of_lost (lost_view image marks block n.0 n.1).0 refl
 
-  -- a block at a place is marked, and none that is lost is
+  -- a block at a position is marked, a lost one is not
   place_not_lost : (block : ℕ) (role : Role) (k : ℕ) → StandsAt image marks im c role k block → IsLost image marks block → ⊥
   place_not_lost block role k h lost =
       let marked = marked_at image marks im c role k block h in
@@ -246,7 +244,7 @@ module _ (image : List ℕ) (marks : List (Option Mark)) (im : IsImage image) (c
 
   -- ---- the bitmap
 
-  -- a block that is marked free has no duty
+  -- a block that is marked free has no use
   free_unnamed : ((block : ℕ) (m : Mark) → mark_at marks block ≡ Some m → ¬ HasFreeBit image block) → (block : ℕ) → HasFreeBit image block → ¬ Named t l block
   free_unnamed used block free named = go (duty_view block named.0 named.1)
     where
@@ -254,7 +252,7 @@ module _ (image : List ℕ) (marks : List (Option Mark)) (im : IsImage image) (c
       go (at_place role k h d) = used block _ (marked_at image marks im c role k block h) free
       go (of_lost lost d) = false≢true (sym lost.used ∙ free)
 
-  -- any other has one
+  -- any other block has one
   used_named : (block : ℕ) → InImage image block → ¬ HasFreeBit image block → Named t l block
   used_named block inside used = go (mark_at marks block) refl
     where

@@ -1,12 +1,13 @@
--- The texts and parts of the blocks of an image.
+-- The texts in the blocks of an image, and parts of blocks.
 use Rattle.std.proofs.Common.{◌≡◌, ℕ, ◌+◌, ◌*◌, ◌<◌, ◌≤◌, List, length, take, drop, slice_index, All, sym, ap, ◌∙◌, arith, length-take, length-drop}
 use Rattle.std.proofs.lemmas.List.{get_or-take, get_or-drop}
 use Rattle.std.proofs.lemmas.List.Elements.{All-from_get_or}
-use Rattle.adf_block.specs.Image.{IsImage, block_count, byte_at, bytes_at}
-use Rattle.adf_block.specs.Fields.{text_at, HasText, comment_byte}
+use Rattle.adf_block.specs.Whole.{IsImage, text_at}
+use Rattle.adf_block.specs.Image.{block_count, byte_at, bytes_at, HasText}
+use Rattle.adf_block.specs.Layout.{comment_byte}
 use Rattle.ados_name.specs.Name.{IsComment}
 
--- a part of a block has as many bytes as are asked for
+-- a part of a block has the requested number of bytes
 pub length-bytes_at : (image : List ℕ) (b i n : ℕ) → IsImage image → b < block_count image → i + n ≤ 512 → length (bytes_at image b i n) ≡ n
 unfolding bytes_at
 length-bytes_at image b i n im l fits = length-take n (drop (512 * b + i) image) ∙ omega (arith, length-drop (512 * b + i) image, im.whole, l)

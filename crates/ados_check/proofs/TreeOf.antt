@@ -1,24 +1,25 @@
--- The tree that an image with its marks tells, and its nodes.
+-- The tree of an image with marks, and its nodes.
 use Rattle.std.proofs.Common.{◌≡◌, ◌≢◌, ℕ, ◌⊎◌, inl, inr, Bool, true, false, not, ◌&&◌, nat_le, nat_lt, ◌==◌, if◌then◌else◌, List, [], Contains, Option, Some, None, is_some, refl, sym, ap, ◌∙◌, subst, arith, eq-eqb, ne_eqb}
 use Rattle.std.proofs.lemmas.Bool.{cases_eq, cases_Bool, and_parts, leb-true, ltb-true, le-leb, lt-ltb, not-true}
-use Rattle.adf_block.specs.Image.{block_count, bytes_at, has_free_bit}
-use Rattle.adf_block.specs.Fields.{protection, secondary_type, text_at, comment_byte, name_byte}
-use Rattle.ados_data.specs.File.{format_of, contents}
-use Rattle.ados_tree.specs.declared.role.Role.{Role}
-use Rattle.ados_tree.specs.declared.role.Role.TheVariants as roles
-use Rattle.ados_tree.specs.Tree.{Content, Node, Tree, content_at, entries_in, entries, parent_of}
-use Rattle.ados_tree.specs.Tree.Content.{Directory, File}
-use Rattle.ados_tree.specs.Dates.{date_at}
-use Rattle.ados_tree.specs.Faults.{InImage, root_of}
-use Rattle.ados_tree.proofs.Lists.{joined}
-use Rattle.ados_tree.proofs.Nodes.{parent_in, content_in, directory_in}
+use Rattle.adf_block.specs.Image.{block_count, bytes_at, has_free_bit, protection, secondary_type, format_of}
+use Rattle.adf_block.specs.Whole.{text_at}
+use Rattle.adf_block.specs.Layout.{comment_byte, name_byte}
+use Rattle.ados_model.specs.File.{contents}
+use Rattle.ados_model.specs.declared.role.Role.{Role}
+use Rattle.ados_model.specs.declared.role.Role.TheVariants as roles
+use Rattle.ados_model.specs.Tree.{Content, Node, Tree, content_at, entries_in, entries, parent_of}
+use Rattle.ados_model.specs.Tree.Content.{Directory, File}
+use Rattle.ados_model.specs.Stands.{date_at}
+use Rattle.ados_model.specs.Faults.{InImage, root_of}
+use Rattle.ados_model.proofs.Lists.{joined}
+use Rattle.ados_model.proofs.Nodes.{parent_in, content_in, directory_in}
 use Rattle.ados_check.specs.declared.mark.Mark.{Mark}
 use Rattle.ados_check.specs.Marks.{mark_at, IsChecked, IsSound, IsSoundEntry}
 use Rattle.ados_check.proofs.Paths.{mark_of}
 use Rattle.ados_check.proofs.Roles.{IsMarkedDirectory, as_root, as_entry, IsMarkedFile, root_role}
 use Rattle.ados_check.proofs.RolePlaces.{chain_of}
 
--- the entries of a directory: its chains, one after another
+-- the entries of a directory: its hash chains, concatenated
 unfoldable pub keys_of : List ℕ → ℕ → List ℕ
 keys_of image dir = joined (chain_of image dir) 72
 
@@ -45,7 +46,7 @@ entry_node image block dir = record {
   content = content_of image block;
 }
 
--- the node of a block in a role
+-- the node for a block in a role
 abbrev pub node_of : List ℕ → ℕ → Role → Option Node
 node_of image block roles.Root = Some (root_node image block)
 node_of image block (roles.Entry dir s) = Some (entry_node image block dir)
@@ -74,7 +75,7 @@ tree_of image marks = record {
   lost = lost_of image marks;
 }
 
--- what a node of the tree is
+-- the cases of a node
 pub data NodeView (image : List ℕ) (marks : List (Option Mark)) (key : ℕ) (a : Node) : Type 0 where
   the_root : (m : Mark) → mark_at marks key ≡ Some m → m.role ≡ roles.Root → a ≡ root_node image key → NodeView image marks key a
   an_entry : (m : Mark) (dir s : ℕ) → mark_at marks key ≡ Some m → m.role ≡ roles.Entry dir s → a ≡ entry_node image key dir → NodeView image marks key a
@@ -123,7 +124,7 @@ module _ (image : List ℕ) (marks : List (Option Mark)) where
       ]
 
   module _ (c : IsChecked image marks) where
-    -- a node that holds keys is a directory, and they are those of its chains
+    -- a node with keys is a directory, and its keys are those of its hash chains
     pub directory_content : (dir : ℕ) (a : Node) (keys : List ℕ) → (tree_of image marks).nodes dir ≡ Some a → a.content ≡ Directory keys → IsMarkedDirectory image marks dir × (keys ≡ keys_of image dir)
     directory_content dir a keys h is = go (node_view dir a h)
       where
@@ -139,7 +140,7 @@ module _ (image : List ℕ) (marks : List (Option Mark)) where
               | inr (sec, d) ↦ absurd (cc (content, is, d))
             ]
 
-    -- a node that holds bytes is a file, and they are those of its blocks
+    -- a node with bytes is a file, and its bytes are those in its blocks
     pub file_content : (file : ℕ) (a : Node) (bytes : List ℕ) → (tree_of image marks).nodes file ≡ Some a → a.content ≡ File bytes → IsMarkedFile image marks file × (bytes ≡ contents image file)
     file_content file a bytes h is = go (node_view file a h)
       where
@@ -170,7 +171,7 @@ module _ (image : List ℕ) (marks : List (Option Mark)) where
     pub entries_are : (dir : ℕ) → IsMarkedDirectory image marks dir → entries (tree_of image marks) dir ≡ keys_of image dir
     entries_are dir d = ap entries_in (directory_keys dir d)
 
-    -- what has an entry is a directory
+    -- a node with an entry is a directory
     pub directory_of_entry : (dir key : ℕ) → Contains (entries (tree_of image marks) dir) key → IsMarkedDirectory image marks dir
     directory_of_entry dir key h =
         let d = directory_in (content_at (tree_of image marks) dir) key h in

@@ -1,21 +1,21 @@
--- What stays of a sound image whose bitmap alone changes.
+-- What is unchanged in a sound image when only its bitmap changes.
 use Rattle.std.proofs.Common.{◌≡◌, ◌≢◌, ℕ, ◌+◌, ◌/◌, ◌<◌, ◌≤◌, inl, inr, List, Option, Some, refl, sym, ap, ◌∙◌, subst, arith}
-use Rattle.adf_block.specs.Image.{IsImage, block_count, root_key, page_count, long, byte_at, bytes_at, block_sum}
-use Rattle.adf_block.specs.Fields.{text_at, HasText, name_byte}
+use Rattle.adf_block.specs.Whole.{IsImage, text_at}
+use Rattle.adf_block.specs.Image.{block_count, root_key, page_count, long, byte_at, bytes_at, block_sum, HasText, format_of}
+use Rattle.adf_block.specs.Layout.{name_byte}
 use Rattle.adf_block.specs.Frame.{SameBut}
 use Rattle.adf_block.proofs.Frames.{same_count, same_long, same_bytes_at, same_sum}
 use Rattle.ados_name.specs.Name.{IsName}
-use Rattle.ados_data.specs.File.{format_of}
-use Rattle.ados_tree.specs.declared.role.Role.{Role}
-use Rattle.ados_tree.specs.declared.role.Role.TheVariants.{Root, Page, Entry, Data, Extension}
-use Rattle.ados_tree.specs.Faults.{IsPlace, IsPointer, Reached, root_of}
-use Rattle.ados_tree.specs.Faults.IsPlace.{root_page, root_slot, directory_slot, next_entry, header_pointer, first_extension, extension_pointer, further_extension}
-use Rattle.ados_tree.specs.Rebuilt.{IsOfBitmap}
+use Rattle.ados_model.specs.declared.role.Role.{Role}
+use Rattle.ados_model.specs.declared.role.Role.TheVariants.{Root, Page, Entry, Data, Extension}
+use Rattle.ados_model.specs.Faults.{IsPlace, IsPointer, Reached, root_of}
+use Rattle.ados_model.specs.Faults.IsPlace.{root_page, root_slot, directory_slot, next_entry, header_pointer, first_extension, extension_pointer, further_extension}
+use Rattle.ados_model.specs.Rebuilt.{IsOfBitmap}
 use Rattle.ados_check.specs.declared.mark.Mark.{Mark}
 use Rattle.ados_check.specs.Marks.{mark_at, AreReached, HasValidName}
 use Rattle.ados_check.proofs.Roles.{one_role, reached_inside, root_role}
 
--- the longs of a block, but for the two of the root's that are the bitmap's
+-- the longs of a block without the two of the bitmap in the root
 abbrev pub HasSameLongs : List ℕ → List ℕ → ℕ → Type 0
 HasSameLongs old new block = (j : ℕ) → j < 128 → j ≢ 5 → j ≢ 78 → long new block j ≡ long old block j
 
@@ -24,7 +24,7 @@ pointer_moves old new block i same h =
     let count = same 2 (omega arith) (omega arith) (omega arith) in
     (omega (arith, h.0, count), omega (arith, h.1, count))
 
--- a place of a block is one in the other image
+-- a place of a block is a place in the other image
 pub place_moves : (old new : List ℕ) {block i : ℕ} {role next : Role} → block_count new ≡ block_count old → HasSameLongs old new block → IsPlace old block role i next → IsPlace new block role i next
 place_moves old new count same (root_page l) = root_page (omega (arith, l, ap page_count count))
 place_moves old new count same (root_slot {s = s} l n) = let entry = same (6 + s) (omega arith) (omega arith) (omega arith) in root_slot l (λ z. n (sym entry ∙ z))
@@ -39,7 +39,7 @@ place_moves old new count same (first_extension e n) =
 place_moves old new {block = block} count same (extension_pointer {i = i} p) = extension_pointer (pointer_moves old new block i same p)
 place_moves old new count same (further_extension n) = let link = same 126 (omega arith) (omega arith) (omega arith) in further_extension (λ z. n (sym link ∙ z))
 
--- no place is a long of the bitmap, and no page has one
+-- no place is a long of the bitmap or in a bitmap block
 pub record IsPlaceLong (role : Role) (i : ℕ) : Type 0 where
   pub small : i < 128
   pub no_sum : i ≢ 5
@@ -63,7 +63,7 @@ module _ (old new : List ℕ) (marks : List (Option Mark)) (im : IsImage old) (r
   pub root_same : root_of new ≡ root_of old
   root_same = ap root_key count_same
 
-  -- no byte of the block is the bitmap's
+  -- no byte of the block belongs to the bitmap
   abbrev pub IsUntouched : ℕ → Type 0
   IsUntouched block = (k : ℕ) → ¬ IsOfBitmap old block k
 
@@ -76,7 +76,7 @@ module _ (old new : List ℕ) (marks : List (Option Mark)) (im : IsImage old) (r
   untouched block m e no_root no_page k (inr h) =
       no_root (one_role old marks r block m Root e (subst (λ (b : ℕ). Reached old b Root) (sym h.0) Reached.start))
 
-  -- of the root only two longs are
+  -- in the root only two longs belong to the bitmap
   pub root_untouched : (k : ℕ) → k / 4 ≢ 5 → k / 4 ≢ 78 → ¬ IsOfBitmap old (root_of old) k
   root_untouched k n f (inl h) =
       let role : Root ≡ Page = one_role old marks r (root_of old) (record { role = Root; holder = 0; long = 0 }) Page r.root h in
@@ -102,7 +102,7 @@ module _ (old new : List ℕ) (marks : List (Option Mark)) (im : IsImage old) (r
   pub format_same : format_of new ≡ format_of old
   format_same = let kind = byte_kept 0 3 boot_untouched (omega arith) in rw kind refl
 
-  -- a marked block that is no page keeps its longs
+  -- a marked block that is not a bitmap block keeps its longs
   pub longs_kept : (block : ℕ) (m : Mark) → mark_at marks block ≡ Some m → m.role ≢ Page → HasSameLongs old new block
   longs_kept block m e no_page = go m.role refl
     where
@@ -118,7 +118,7 @@ module _ (old new : List ℕ) (marks : List (Option Mark)) (im : IsImage old) (r
 
   -- ---- names
 
-  -- a text whose bytes are kept
+  -- a text with unchanged bytes
   text_kept : (block i : ℕ) → byte_at new block i ≡ byte_at old block i → bytes_at new block (i + 1) (byte_at old block i) ≡ bytes_at old block (i + 1) (byte_at old block i) → text_at new block i ≡ text_at old block i
   text_kept block i count bytes = ap (bytes_at new block (i + 1)) count ∙ bytes
 

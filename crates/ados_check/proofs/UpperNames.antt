@@ -1,13 +1,14 @@
--- Names in upper case, and the marked entries that have them.
+-- Names in upper case, and the marked entries with these names.
 use Rattle.std.proofs.Common.{◌≡◌, ◌≢◌, ℕ, zero, suc, ◌+◌, ◌-◌, ◌<◌, ◌≤◌, ◌⊎◌, inl, inr, List, ◌∷◌, ◌++◌, length, take, drop, map, replicate, slice_index, Option, sym, ap, ap₂, ◌∙◌, subst, arith, length-append}
 use Rattle.std.proofs.lemmas.Bool.{cases_lt}
 use Rattle.std.proofs.lemmas.List.{ext_get_or, get_or_append_left, get_or-append_right, get_or-map, get_or-replicate, length-replicate, length-map, take_at}
-use Rattle.adf_block.specs.Image.{IsImage, block_count, byte_at}
-use Rattle.adf_block.specs.Fields.{text_at, name_byte}
+use Rattle.adf_block.specs.Whole.{IsImage, text_at}
+use Rattle.adf_block.specs.Image.{block_count, byte_at}
+use Rattle.adf_block.specs.Layout.{name_byte}
 use Rattle.adf_block.proofs.Blocks.{byte-bytes_at}
 use Rattle.ados_name.specs.Name.{Same, upper}
-use Rattle.ados_tree.specs.declared.role.Role.TheVariants as roles
-use Rattle.ados_tree.specs.Faults.{HasDuplicateName, Reached}
+use Rattle.ados_model.specs.declared.role.Role.TheVariants as roles
+use Rattle.ados_model.specs.Faults.{HasDuplicateName, Reached}
 use Rattle.ados_check.specs.declared.mark.Mark.{Mark}
 use Rattle.ados_check.specs.Marks.{AreReached, HasValidName, IsMarkedEntry, IsSound, IsSoundEntry}
 use Rattle.ados_check.proofs.Texts.{length-bytes_at}
@@ -22,7 +23,7 @@ length-upper_name image block im l short =
     let text = length-text image block im l short in
     omega (arith, text, short, length-append (map upper (text_at image block name_byte)) (replicate (30 - byte_at image block name_byte) 0), length-replicate {A = ℕ} (30 - byte_at image block name_byte) 0)
 
--- 31 bytes that are the length, the text and zeros
+-- 31 bytes: the length, the text and zeros
 pub name_is : (image : List ℕ) (block : ℕ) (name : List ℕ) → IsImage image → block < block_count image → byte_at image block name_byte ≤ 30 → length name ≡ 31
     → slice_index name 0 ≡ byte_at image block name_byte
     → ((k : ℕ) → k < byte_at image block name_byte → slice_index name (k + 1) ≡ upper (byte_at image block (433 + k)))

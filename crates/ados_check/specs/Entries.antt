@@ -1,19 +1,20 @@
--- What the check finds out of the marked entries.
+-- Facts about the marked entries.
 use Rattle.std.specs.Prelude.{◌≡◌, ℕ, ◌-◌, List, ◌∷◌, ◌++◌, map, replicate, Option}
-use Rattle.adf_block.specs.Image.{byte_at}
-use Rattle.adf_block.specs.Fields.{secondary_type, file_type, text_at, name_byte}
+use Rattle.adf_block.specs.Image.{byte_at, secondary_type}
+use Rattle.adf_block.specs.Layout.{file_type, name_byte}
+use Rattle.adf_block.specs.Whole.{text_at}
 use Rattle.ados_name.specs.Name.{upper}
 use Rattle.ados_check.specs.declared.mark.Mark.{Mark}
 use Rattle.ados_check.specs.Marks.{IsMarkedEntry, IsSoundFile}
 
--- if the block is a marked file, its blocks bear out its counts and its size
+-- if the block is a marked file, its counts and size match its blocks
 abbrev pub IsSoundIfFile : List ℕ → List (Option Mark) → ℕ → Type 0
 IsSoundIfFile image marks file = (dir : ℕ) → IsMarkedEntry marks file dir → secondary_type image file ≡ file_type → IsSoundFile image file
 
--- this holds of each block
+-- this holds for each block
 abbrev pub AreSoundFiles : List ℕ → List (Option Mark) → Type 0
 AreSoundFiles image marks = (file : ℕ) → IsSoundIfFile image marks file
 
--- the name of a block in 31 bytes: its length, its bytes in upper case, and zeros
+-- the name of a block in 31 bytes: its length, its bytes in upper case, then zeros
 unfoldable pub upper_name : List ℕ → ℕ → List ℕ
 upper_name image block = byte_at image block name_byte ∷ (map upper (text_at image block name_byte) ++ replicate (30 - byte_at image block name_byte) 0)

@@ -1,4 +1,5 @@
--- What the check reads (a source of blocks, and what a sketch keeps of an image), what it marks of the reached blocks, and what it answers. When an image is accepted is said by ados_tree; what only a step speaks of stands in steps.
+-- What a check reads (a source of blocks, and what a sketch keeps), its marks, and its result. `ados_model` defines
+-- when an image is accepted. Definitions for steps inside are in `steps`.
 pub mod Marks
 pub mod Laws
 pub mod Source

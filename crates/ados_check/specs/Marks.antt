@@ -1,24 +1,25 @@
--- What a check of an image finds out: which block is reached in which role, and that each is sound.
+-- What a check finds: the reached blocks with their roles, and that each is sound.
 use Rattle.std.specs.Prelude.{◌≡◌, ℕ, ◌≤◌, ◌⊎◌, List, length, Option, Some, slice_get, option_and_then}
-use Rattle.adf_block.specs.Image.{block_count, byte_at, bytes_at, long, block_sum}
-use Rattle.adf_block.specs.Fields.{primary_type, own_key, parent_key, secondary_type, file_type, text_at, HasText, comment_byte, name_byte, header_type, data_type, root_type, directory_type, table_size_long, table_longs}
+use Rattle.adf_block.specs.Image.{block_count, byte_at, bytes_at, long, block_sum, primary_type, own_key, parent_key, secondary_type, HasText, format_of}
+use Rattle.adf_block.specs.Layout.{file_type, comment_byte, name_byte, header_type, data_type, root_type, directory_type, table_size_long, table_longs}
+use Rattle.adf_block.specs.Whole.{text_at}
 use Rattle.ados_name.specs.Name.{Same, slot, IsName}
-use Rattle.ados_data.specs.File.{format_of, HasExtension, HasFile, data_blocks, extension_blocks, contents}
-use Rattle.ados_tree.specs.declared.role.Role.{Role}
-use Rattle.ados_tree.specs.declared.role.Role.TheVariants.{Root, Page, Entry, Data, Extension}
+use Rattle.ados_model.specs.Stands.{HasExtension, HasFile, kind_bytes}
+use Rattle.ados_model.specs.File.{data_blocks, extension_blocks, contents}
+use Rattle.ados_model.specs.declared.role.Role.{Role}
+use Rattle.ados_model.specs.declared.role.Role.TheVariants.{Root, Page, Entry, Data, Extension}
 use Rattle.ados_check.specs.declared.mark.Mark.{Mark}
-use Rattle.ados_tree.specs.Stands.{kind_bytes}
-use Rattle.ados_tree.specs.Faults.{HasDirectoryType, HasFileType, IsOfs, IsPlace, LeadsInside, Reached, root_of}
+use Rattle.ados_model.specs.Faults.{HasDirectoryType, HasFileType, IsOfs, IsPlace, LeadsInside, Reached, root_of}
 
--- the mark of a block, if it has one
+-- the mark of a block, or none
 abbrev pub mark_at : List (Option Mark) → ℕ → Option Mark
 mark_at marks block = option_and_then (λ mark. mark) (slice_get marks block)
 
--- the block is marked in a role, for a long of its holder
+-- the block is marked with a role, and with long i of a holder
 abbrev pub IsMarkedFor : List (Option Mark) → ℕ → Role → ℕ → ℕ → Type 0
 IsMarkedFor marks block role holder i = mark_at marks block ≡ Some (record { role = role; holder = holder; long = i })
 
--- the header is that of a directory or file
+-- the header is that of a directory or a file
 abbrev pub HasEntryType : List ℕ → ℕ → Type 0
 HasEntryType image block = HasDirectoryType image block ⊎ HasFileType image block
 
@@ -36,7 +37,7 @@ pub record IsSoundRoot (image : List ℕ) (block : ℕ) : Type 0 where
   pub sum : block_sum image block ≡ 0
   pub name : HasValidName image block
 
--- a directory or file with the right fields, in the chain of its slot
+-- a directory or file with the right fields, in the hash chain of its slot
 pub record IsSoundEntry (image : List ℕ) (block dir s : ℕ) : Type 0 where
   pub primary : primary_type image block ≡ header_type
   pub secondary : HasEntryType image block
@@ -47,13 +48,13 @@ pub record IsSoundEntry (image : List ℕ) (block dir s : ℕ) : Type 0 where
   pub slotted : slot (text_at image block name_byte) ≡ s
   pub comment : byte_at image block comment_byte ≤ 79
 
--- an OFS data block with the fields that do not hang on its place in the file
+-- an OFS data block with the right fields, as far as they do not depend on its position in the file
 pub record IsSoundData (image : List ℕ) (block file : ℕ) : Type 0 where
   pub primary : primary_type image block ≡ data_type
   pub header : own_key image block ≡ file
   pub sum : block_sum image block ≡ 0
 
--- the fields of a block of a role that can be told from the block alone
+-- a block has the right fields of its role, as far as they need no other block
 abbrev pub IsSound : List ℕ → ℕ → Role → Type 0
 IsSound image block Root = IsSoundRoot image block
 IsSound image block Page = block_sum image block ≡ 0
@@ -61,19 +62,19 @@ IsSound image block (Entry dir s) = IsSoundEntry image block dir s
 IsSound image block (Data file) = IsOfs image → IsSoundData image block file
 IsSound image block (Extension file) = HasExtension image file block
 
--- each place of a marked block names a block of the image
+-- each place of a marked block names a block inside the image
 abbrev pub PlacesAreInside : List ℕ → List (Option Mark) → Type 0
 PlacesAreInside image marks =
     (block i : ℕ) (mark : Mark) (next : Role) → mark_at marks block ≡ Some mark → IsPlace image block mark.role i next
     → LeadsInside image block i
 
--- each place of a marked block names a block that is marked for it
+-- each place of a marked block names a block that is marked with this place
 abbrev pub PlacesAreMarked : List ℕ → List (Option Mark) → Type 0
 PlacesAreMarked image marks =
     (block i : ℕ) (mark : Mark) (next : Role) → mark_at marks block ≡ Some mark → IsPlace image block mark.role i next
     → IsMarkedFor marks (long image block i) next block i
 
--- the marks are those of the blocks that are reached: each place of a marked block names a block that is marked for that place
+-- the marks are those of exactly the reached blocks
 pub record AreReached (image : List ℕ) (marks : List (Option Mark)) : Type 0 where
   pub size : length marks ≡ block_count image
   pub root : IsMarkedFor marks (root_of image) Root 0 0
@@ -90,16 +91,16 @@ IsMarkedEntry marks block dir = (mark : Mark) × (s : ℕ) × (mark_at marks blo
 abbrev pub HaveOneName : List ℕ → ℕ → ℕ → Type 0
 HaveOneName image block other = Same (text_at image block name_byte) (text_at image other name_byte)
 
--- two marked entries of a directory with the same name are one block
+-- two marked entries of a directory with the same name are the same block
 abbrev pub AreUnlike : List ℕ → List (Option Mark) → Type 0
 AreUnlike image marks =
     (block other dir : ℕ) → IsMarkedEntry marks block dir → IsMarkedEntry marks other dir → HaveOneName image block other → block ≡ other
 
--- a file whose blocks bear out its counts and its size
+-- the counts and the size of a file match its blocks
 abbrev pub IsSoundFile : List ℕ → ℕ → Type 0
 IsSoundFile image file = HasFile image (format_of image) file (data_blocks image file) (extension_blocks image file) (contents image file)
 
--- the image shows no fault but perhaps in its bitmap
+-- the image shows no fault, except possibly in its bitmap
 pub record IsChecked (image : List ℕ) (marks : List (Option Mark)) : Type 0 where
   pub boot : bytes_at image 0 0 4 ≡ kind_bytes (format_of image)
   pub reached : AreReached image marks

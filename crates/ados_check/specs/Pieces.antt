@@ -1,4 +1,4 @@
--- The bytes of some pieces, the first piece first.
+-- The bytes of some pieces, in their order.
 use Rattle.std.specs.Prelude.{ℕ, List, [], ◌++◌}
 use Rattle.ados_check.specs.declared.sketch.Pieces.{Pieces, Start, Then'}
 

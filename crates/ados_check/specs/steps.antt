@@ -1,3 +1,3 @@
--- The walk over the reached blocks, and what the check knows of one file, step by step.
+-- Steps of the walk over the reached blocks, and of the check of one file.
 pub mod Reaching
 pub mod Files

@@ -1,8 +1,8 @@
-//! What becomes of an image whose reached blocks and files are sound.
+//! The result for an image with sound blocks and files.
 ghost use Rattle.std.specs.Prelude.{IfOk};
-ghost use Rattle.ados_tree.specs.Tree.{Tree};
-ghost use Rattle.ados_tree.specs.Stands.{Stands};
-ghost use Rattle.ados_tree.specs.Rebuilt.{HasValidBitmap};
+ghost use Rattle.ados_model.specs.Tree.{Tree};
+ghost use Rattle.ados_model.specs.Stands.{Stands};
+ghost use Rattle.ados_model.specs.Rebuilt.{HasValidBitmap};
 ghost use Rattle.ados_check.specs.Marks.{IsChecked};
 ghost use Rattle.ados_check.specs.Answer.{AcceptsOrHandsBack};
 
@@ -11,25 +11,25 @@ use crate::laws::{checked_is_accepted, mended_is_accepted};
 use crate::mark::Mark;
 use crate::source::Source;
 use adf_block::Image;
-use ados_tree::{FaultKind, VolumeFault};
+use ados_model::{FaultKind, VolumeFault};
 use std::alloc::Global;
 
-/// An image that stands for a tree, and whether its bitmap had to be mended.
+/// An image that represents a tree, and whether its bitmap was rebuilt.
 #[derive(Drop)]
 pub struct Accepted {
     pub image: Image,
     pub was_validated: bool,
 }
 
-/// An image that shows a fault, or for which there was no memory; it is as it was handed in.
+/// An image with a fault, or one for which there was no memory. It is unchanged.
 #[derive(Drop)]
 pub struct Rejected {
     pub image: Image,
     pub fault: VolumeFault,
 }
 
-/// Accepts an image whose reached blocks and files are sound, unless a reached block is marked free. Where the root says
-/// that the bitmap is not valid, it is written anew from the marks, and all memory for that is got before the first change.
+/// Accepts an image with sound blocks and files, unless a reached block is marked free. If the root says that the
+/// bitmap is not valid, it is rebuilt from the marks. All memory for this is allocated before the first change.
 pub fn accept_checked(
     alloc: Global,
     image: Image,
@@ -69,7 +69,7 @@ fn accept_valid(image: Image, marks: &[Option<Mark>]) -> Result<Accepted, Reject
     }
 }
 
-/// Accepts an image whose bitmap is not valid with one that is written anew.
+/// Accepts an image without a valid bitmap, and rebuilds the bitmap.
 fn accept_mended(alloc: Global, image: Image, marks: &[Option<Mark>]) -> Result<Accepted, Rejected>
     requires checked { IsChecked image marks.now }
     requires not_valid { ¬ HasValidBitmap image }

@@ -1,8 +1,9 @@
-//! The bitmap of an image whose reached blocks are known.
+//! The bitmap of an image with known reached blocks.
 ghost use Rattle.std.specs.Prelude.{◌≡◌, ◌↔◌, ◌<◌, ◌≤◌, IsTrue, map, is_some, IfOk, IfErr, MatchOption};
-ghost use Rattle.adf_block.specs.Image.{IsImage, IsInside, block_count, has_free_bit};
-ghost use Rattle.ados_tree.specs.Rebuilt.{HasValidBitmap};
-ghost use Rattle.ados_tree.specs.Faults.{IsReachedAndFree};
+ghost use Rattle.adf_block.specs.Whole.{IsImage};
+ghost use Rattle.adf_block.specs.Image.{IsInside, block_count, has_free_bit};
+ghost use Rattle.ados_model.specs.Rebuilt.{HasValidBitmap};
+ghost use Rattle.ados_model.specs.Faults.{IsReachedAndFree};
 ghost use Rattle.ados_map.specs.Pages.{LawfulPages};
 ghost use Rattle.ados_check.specs.Laws.{AreInUse, IsMended};
 ghost use Rattle.ados_check.specs.Marks.{IsChecked};
@@ -19,7 +20,7 @@ use adf_block::layout::{
 use ados_map::rebuild;
 use std::alloc::{AllocError, Global};
 
-/// Whether the root says that the bitmap is valid.
+/// Whether the root's flag says that the bitmap is valid.
 pub(crate) fn has_valid_bitmap(source: &Source<'_>) -> bool
     requires { TellsBitmap source.now }
     ensures { IsTrue result ↔ HasValidBitmap source.now.bytes }
@@ -28,7 +29,7 @@ pub(crate) fn has_valid_bitmap(source: &Source<'_>) -> bool
     source.long(source.root(), BITMAP_FLAG) == BITMAP_VALID
 }
 
-/// The first reached block that is marked free.
+/// The first reached block that the bitmap marks free.
 pub(crate) fn reached_and_free(source: &Source<'_>, marks: &[Option<Mark>]) -> Option<u32>
     requires checked { IsChecked source.now.bytes marks.now }
     requires valid { HasValidBitmap source.now.bytes }
@@ -59,15 +60,15 @@ fn is_free(source: &Source<'_>, block: u32) -> bool
     bits & (1 << (bit % LONG_BITS)) != 0
 }
 
-/// For each block whether it is reached.
+/// Whether each block is reached.
 fn reached_blocks(alloc: Global, marks: &[Option<Mark>]) -> Result<Vec<bool>, AllocError>
     ensures { IfOk result (λ named. named.items ≡ map is_some marks.now) }
 {
     marks.iter().map(|mark| mark.is_some()).collect(alloc)
 }
 
-/// Writes the pages anew, so that exactly the reached blocks are in use, and says in the root that they are valid. All
-/// memory is got before the first change.
+/// Rebuilds the bitmap so that exactly the reached blocks are in use, and sets the root's flag. All memory is
+/// allocated before the first change.
 pub(crate) fn mend(
     alloc: Global,
     image: &mut Image,

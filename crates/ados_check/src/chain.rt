@@ -1,11 +1,9 @@
-//! The data blocks of an OFS file, which lead from one to the next and know their places.
+//! The data blocks of an OFS file: their links and sequence numbers.
 ghost use Rattle.std.specs.Prelude.{◌≡◌, ◌<◌, ℕ, MatchResult};
-ghost use Rattle.adf_block.specs.Image.{block_count};
-ghost use Rattle.adf_block.specs.Fields.{file_size};
-ghost use Rattle.ados_data.specs.Cost.{data_count};
-ghost use Rattle.ados_data.specs.File.{format_of};
-ghost use Rattle.ados_tree.specs.declared.fault.FaultKind.TheVariants.{BadPointer};
-ghost use Rattle.ados_tree.specs.Faults.{IsOfs, Shows};
+ghost use Rattle.adf_block.specs.Image.{block_count, file_size, format_of};
+ghost use Rattle.ados_model.specs.Tree.{data_count};
+ghost use Rattle.ados_model.specs.declared.fault.FaultKind.TheVariants.{BadPointer};
+ghost use Rattle.ados_model.specs.Faults.{IsOfs, Shows};
 ghost use Rattle.ados_check.specs.Source.{Tells, header_longs};
 ghost use Rattle.ados_check.specs.steps.Files.{HasCounts, HasPlace, IsDataOf, IsLinked, IsReachedFile};
 
@@ -14,10 +12,10 @@ use crate::source::Source;
 use adf_block::layout::{
     FIRST_POINTER, HELD, NEXT_DATA, NEXT_EXTENSION, OFS_ROOM, SEQUENCE, SIZE, TABLE_LONGS,
 };
-use ados_tree::{FaultKind, VolumeFault};
+use ados_model::{FaultKind, VolumeFault};
 
-/// Follows the data blocks of a file along its pointers: each names the next, has its place, and
-/// is full but for the last, and together they hold as many bytes as the file has.
+/// Checks the data blocks of a file along its pointers. Each has to link to the next, have its sequence number, and be
+/// full unless it is the last. Together they have to hold as many bytes as the file's size.
 pub(crate) fn check_chain(source: &Source<'_>, file: u32, count: u32) -> Result<(), VolumeFault>
     requires ofs { IsOfs source.now.bytes }
     requires reached { IsReachedFile source.now.bytes file }
@@ -48,7 +46,7 @@ pub(crate) fn check_chain(source: &Source<'_>, file: u32, count: u32) -> Result<
     Ok(())
 }
 
-/// How many bytes a data block holds, if it is the one at this place of the file's `count`.
+/// The number of data bytes in the data block at position `place` of `count`, if its fields are right.
 fn held_in(source: &Source<'_>, block: u32, place: u32, count: u32) -> Result<u32, VolumeFault>
     requires inside { block < block_count source.now.bytes }
     requires ofs { IsOfs source.now.bytes }
@@ -75,7 +73,7 @@ fn held_in(source: &Source<'_>, block: u32, place: u32, count: u32) -> Result<u3
     Ok(held)
 }
 
-/// A wrong link from a header or data block to a data block.
+/// The fault of a wrong link to a data block.
 fn bad_link(block: u32) -> VolumeFault
     ensures kind { result.kind ≡ BadPointer }
     ensures block { result.block ≡ block }

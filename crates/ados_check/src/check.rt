@@ -1,10 +1,9 @@
 //! The whole check.
 ghost use Rattle.std.specs.Prelude.{◌≡◌, IfOk, MatchResult};
-ghost use Rattle.adf_block.specs.Image.{bytes_at};
-ghost use Rattle.ados_data.specs.File.{format_of};
-ghost use Rattle.ados_tree.specs.Tree.{Tree};
-ghost use Rattle.ados_tree.specs.Stands.{Stands, kind_bytes};
-ghost use Rattle.ados_tree.specs.Accepted.{IsRefusal};
+ghost use Rattle.adf_block.specs.Image.{bytes_at, format_of};
+ghost use Rattle.ados_model.specs.Tree.{Tree};
+ghost use Rattle.ados_model.specs.Stands.{Stands, kind_bytes};
+ghost use Rattle.ados_model.specs.Accepted.{IsRefusal};
 ghost use Rattle.ados_check.specs.Marks.{IsChecked};
 ghost use Rattle.ados_check.specs.Answer.{AcceptsOrHandsBack};
 
@@ -15,13 +14,13 @@ use crate::reaching::reach;
 use crate::sound::check_sound;
 use crate::source::Source;
 use adf_block::Image;
-use ados_tree::VolumeFault;
+use ados_model::VolumeFault;
 use std::alloc::Global;
 
-/// Accepts an image that shows no fault, and hands every other one back with a fault that it shows.
+/// Accepts an image without faults. An error returns the unchanged image with one fault that it shows.
 ///
-/// An accepted image stands for a tree. Where its root says that the bitmap is valid it is the one that was handed in; else
-/// the bitmap was written anew. `NoMemory` says that a list of the check could not be made, before any change.
+/// An accepted image represents a tree. It is unchanged if its root says that the bitmap is valid; otherwise the
+/// bitmap is rebuilt. `NoMemory` means that a list of the check could not be allocated, before any change.
 pub fn check_image(alloc: Global, image: Image) -> Result<Accepted, Rejected>
     ensures answer { AcceptsOrHandsBack image result }
     ensures stands { IfOk result (λ accepted. (t : Tree) × Stands accepted.image t) }
@@ -32,7 +31,7 @@ pub fn check_image(alloc: Global, image: Image) -> Result<Accepted, Rejected>
     }
 }
 
-/// The marks of the blocks that are reached, where nothing but the bitmap may still show a fault.
+/// The marks of all reached blocks, if only the bitmap may still have a fault.
 fn checked_marks(alloc: Global, image: &Image) -> Result<Vec<Option<Mark>>, VolumeFault>
     ensures { MatchResult result (λ marks. IsChecked image.now marks.items) (λ fault. IsRefusal image.now fault) }
 {
@@ -40,7 +39,7 @@ fn checked_marks(alloc: Global, image: &Image) -> Result<Vec<Option<Mark>>, Volu
     sound_marks(alloc, &Source::whole(image))
 }
 
-/// The same of a source whose first bytes name the old or the fast file system.
+/// The same for a source whose first bytes name OFS or FFS.
 pub(crate) fn sound_marks(
     alloc: Global,
     source: &Source<'_>,

@@ -1,20 +1,19 @@
-//! The counts of a file's header and extension blocks, against its size.
+//! The counts in a file's header and extension blocks, against its size.
 ghost use Rattle.std.specs.Prelude.{◌≡◌, ◌<◌, ◌⊎◌, ℕ, IfErr, IfOk, IsTrue, MatchResult};
-ghost use Rattle.adf_block.specs.Image.{block_count};
-ghost use Rattle.adf_block.specs.Fields.{file_size, size_long};
-ghost use Rattle.ados_data.specs.Cost.{data_count};
-ghost use Rattle.ados_data.specs.File.{format_of};
-ghost use Rattle.ados_tree.specs.declared.fault.FaultKind.TheVariants.{BadCount};
-ghost use Rattle.ados_tree.specs.Faults.{HasPointers, IsExtension, Shows};
+ghost use Rattle.adf_block.specs.Image.{block_count, file_size, format_of};
+ghost use Rattle.adf_block.specs.Layout.{size_long};
+ghost use Rattle.ados_model.specs.Tree.{data_count};
+ghost use Rattle.ados_model.specs.declared.fault.FaultKind.TheVariants.{BadCount};
+ghost use Rattle.ados_model.specs.Faults.{HasPointers, IsExtension, Shows};
 ghost use Rattle.ados_check.specs.Source.{Tells};
 ghost use Rattle.ados_check.specs.steps.Files.{HasCount, HasCounts, IsReachedFile};
 
 use crate::source::Source;
 use adf_block::layout::{FFS_ROOM, NEXT_EXTENSION, OFS_ROOM, POINTER_COUNT, SIZE, TABLE_LONGS};
-use ados_tree::{FaultKind, VolumeFault};
+use ados_model::{FaultKind, VolumeFault};
 
-/// Counts the data blocks of a file by the counts of its header and extension blocks, if these are
-/// full but for the last, and no extension block is empty.
+/// Adds up the data blocks of a file. All its pointer blocks but the last have to be full, and no extension block may
+/// be empty.
 fn count_blocks(source: &Source<'_>, file: u32) -> Result<u32, VolumeFault>
     requires { IsReachedFile source.now.bytes file }
     ensures { MatchResult result (HasCounts source.now.bytes file) (λ fault. Shows source.now.bytes fault.kind fault.block) }
@@ -31,7 +30,7 @@ fn count_blocks(source: &Source<'_>, file: u32) -> Result<u32, VolumeFault>
     unreachable!()
 }
 
-/// How many data pointers a header or extension block has.
+/// The number of data pointers in a header or extension block.
 fn count_in(source: &Source<'_>, holder: u32, is_header: bool) -> Result<u32, VolumeFault>
     requires inside { holder < block_count source.now.bytes }
     requires held { HasPointers source.now.bytes holder }
@@ -52,7 +51,7 @@ fn count_in(source: &Source<'_>, holder: u32, is_header: bool) -> Result<u32, Vo
     Ok(count)
 }
 
-/// Counts the data blocks of a file, if they are as many as its size needs.
+/// The number of data blocks of a file, if its size needs exactly these.
 pub(crate) fn check_counts(source: &Source<'_>, file: u32) -> Result<u32, VolumeFault>
     requires { IsReachedFile source.now.bytes file }
     ensures counts { IfOk result (HasCounts source.now.bytes file) }
@@ -66,7 +65,7 @@ pub(crate) fn check_counts(source: &Source<'_>, file: u32) -> Result<u32, Volume
     Ok(count)
 }
 
-/// The data blocks that a file of its size has.
+/// The number of data blocks that the size of a file needs.
 pub(crate) fn blocks_of_size(source: &Source<'_>, file: u32) -> u32
     requires inside { file < block_count source.now.bytes }
     requires told { Tells source.now file size_long }
@@ -80,7 +79,7 @@ pub(crate) fn blocks_of_size(source: &Source<'_>, file: u32) -> u32
     source.long(file, SIZE).div_ceil(room)
 }
 
-/// A count or size that the blocks of the file do not bear out.
+/// The fault of a count or a size that does not match the blocks of the file.
 pub(crate) fn bad_count(block: u32) -> VolumeFault
     ensures kind { result.kind ≡ BadCount }
     ensures block { result.block ≡ block }

@@ -1,7 +1,8 @@
 //! The marked entries, block by block.
 ghost use Rattle.std.specs.Prelude.{◌≡◌, ◌<◌, ℕ, length, MatchOption, MatchResult};
-ghost use Rattle.adf_block.specs.Image.{IsImage, block_count};
-ghost use Rattle.ados_tree.specs.Faults.{Shows};
+ghost use Rattle.adf_block.specs.Whole.{IsImage};
+ghost use Rattle.adf_block.specs.Image.{block_count};
+ghost use Rattle.ados_model.specs.Faults.{Shows};
 ghost use Rattle.ados_check.specs.Marks.{AreReached, IsMarkedEntry};
 ghost use Rattle.ados_check.specs.Entries.{AreSoundFiles, IsSoundIfFile};
 
@@ -9,10 +10,10 @@ use crate::file::check_file;
 use crate::mark::Mark;
 use crate::source::Source;
 use adf_block::layout::{FILE_TYPE, SECONDARY_TYPE};
-use ados_tree::{Role, VolumeFault};
+use ados_model::{Role, VolumeFault};
 
-/// Tests that the blocks of each marked file bear out its counts and its size. The time is linear
-/// in the blocks of the image.
+/// Checks that the counts and the size of each marked file match its blocks. The time is linear in the blocks of the
+/// image.
 pub fn check_files(source: &Source<'_>, marks: &[Option<Mark>]) -> Result<(), VolumeFault>
     requires { AreReached source.now.bytes marks.now }
     ensures { MatchResult result (λ _. AreSoundFiles source.now.bytes marks.now) (λ fault. Shows source.now.bytes fault.kind fault.block) }
@@ -23,7 +24,7 @@ pub fn check_files(source: &Source<'_>, marks: &[Option<Mark>]) -> Result<(), Vo
     Ok(())
 }
 
-/// Tests a block if it is marked as an entry, and a file.
+/// Checks a block if it is marked as an entry and is a file.
 fn check_marked(source: &Source<'_>, marks: &[Option<Mark>], block: u32) -> Result<(), VolumeFault>
     requires image { IsImage source.now.bytes }
     requires reached { AreReached source.now.bytes marks.now }
@@ -39,7 +40,7 @@ fn check_marked(source: &Source<'_>, marks: &[Option<Mark>], block: u32) -> Resu
     Ok(())
 }
 
-/// The directory of a block that is marked as an entry.
+/// The directory of a block that is marked as an entry, or `None`.
 pub(crate) fn directory_of(marks: &[Option<Mark>], block: u32) -> Option<u32>
     requires { block < length marks.now }
     ensures { MatchOption result ((dir : ℕ) → ¬ IsMarkedEntry marks.now block dir) (IsMarkedEntry marks.now block) }

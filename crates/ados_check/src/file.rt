@@ -1,15 +1,15 @@
-//! One file: its counts, its size and, in OFS, the chain of its data blocks.
+//! The check of one file: its counts, its size and, in OFS, the links of its data blocks.
 ghost use Rattle.std.specs.Prelude.{◌≡◌, MatchResult};
 ghost use Rattle.ados_check.specs.Marks.{IsSoundFile};
-ghost use Rattle.ados_tree.specs.Faults.{Shows};
+ghost use Rattle.ados_model.specs.Faults.{Shows};
 ghost use Rattle.ados_check.specs.steps.Files.{IsReachedFile};
 
 use crate::chain::check_chain;
 use crate::counts::check_counts;
 use crate::source::Source;
-use ados_tree::VolumeFault;
+use ados_model::VolumeFault;
 
-/// Tests that the blocks of a file bear out its counts and its size.
+/// Checks that the counts and the size of a file match its blocks.
 pub(crate) fn check_file(source: &Source<'_>, file: u32) -> Result<(), VolumeFault>
     requires { IsReachedFile source.now.bytes file }
     ensures { MatchResult result (λ _. IsSoundFile source.now.bytes file) (λ fault. Shows source.now.bytes fault.kind fault.block) }

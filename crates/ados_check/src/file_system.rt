@@ -1,14 +1,13 @@
-//! What the boot block says of the file system.
+//! The file system of a disk, by its boot block.
 ghost use Rattle.std.specs.Prelude.{◌≡◌, MatchResult};
-ghost use Rattle.adf_block.specs.Image.{bytes_at};
-ghost use Rattle.ados_data.specs.File.{format_of};
-ghost use Rattle.ados_tree.specs.Stands.{kind_bytes};
-ghost use Rattle.ados_tree.specs.Faults.{Shows};
+ghost use Rattle.adf_block.specs.Image.{bytes_at, format_of};
+ghost use Rattle.ados_model.specs.Stands.{kind_bytes};
+ghost use Rattle.ados_model.specs.Faults.{Shows};
 
 use adf_block::{BootKind, Image};
-use ados_tree::{FaultKind, VolumeFault};
+use ados_model::{FaultKind, VolumeFault};
 
-/// Tests that the first four bytes name OFS or FFS, without further marks.
+/// Checks that the first four bytes are those of OFS or FFS: `DOS` and 0 or 1.
 pub fn check_kind(image: &Image) -> Result<(), VolumeFault>
     ensures { MatchResult result (λ _. bytes_at image.now 0 0 4 ≡ kind_bytes (format_of image.now)) (λ fault. Shows image.now fault.kind fault.block) }
 {

@@ -1,9 +1,9 @@
-//! The check of an image: accepted as it is, accepted with its bitmap mended, or handed back with a fault that it shows.
+//! The check of an image: accepted as it is, accepted with a rebuilt bitmap, or returned with a fault.
 //!
-//! It reads a [`Source`]: the image itself, or a [`Sketch`] of it, which has of each block what the check may ask for. It
-//! walks from the root and marks each reached block with its role ([`reach`]), then looks at files and names over the marks
-//! ([`check_sound`]), and last at the bitmap ([`check_image`], [`accepted_kind`]). Why an image whose marks are sound stands
-//! for a tree is a law of the marks.
+//! The check reads a [`Source`]: the image itself, or a [`Sketch`] with only the bytes that the check needs. It walks
+//! from the root and marks each reached block with its role ([`reach`]). Then it checks files and names by the marks
+//! ([`check_sound`]), and last the bitmap ([`check_image`], [`accepted_kind`]). A law of the marks says that an image
+//! with sound marks represents a tree.
 #![tactic(auto)]
 
 // What is read.
@@ -11,7 +11,7 @@ mod room;
 mod sketch;
 mod source;
 
-// What is marked, and what follows from the marks.
+// The marks, and their laws.
 mod laws;
 mod mark;
 
@@ -22,7 +22,7 @@ mod naming;
 mod places;
 mod reaching;
 
-// Files and names, over the marks.
+// The check of files and names, by the marks.
 mod chain;
 mod counts;
 mod entries;

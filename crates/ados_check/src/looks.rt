@@ -1,9 +1,9 @@
-//! A look at one reached block: the fields that can be told to be right from the block alone.
+//! The check of one reached block by itself: the fields that need no other block.
 ghost use Rattle.std.specs.Prelude.{◌≡◌, ◌<◌, MatchResult};
 ghost use Rattle.adf_block.specs.Image.{block_count, block_sum};
-ghost use Rattle.ados_data.specs.File.{HasExtension};
-ghost use Rattle.ados_tree.specs.declared.role.Role.TheVariants.{Page, Entry, Data, Extension};
-ghost use Rattle.ados_tree.specs.Faults.{IsEntry, IsOfs, Reached, Shows, root_of};
+ghost use Rattle.ados_model.specs.Stands.{HasExtension};
+ghost use Rattle.ados_model.specs.declared.role.Role.TheVariants.{Page, Entry, Data, Extension};
+ghost use Rattle.ados_model.specs.Faults.{IsEntry, IsOfs, Reached, Shows, root_of};
 ghost use Rattle.ados_check.specs.Marks.{HasEntryType, IsSound, IsSoundData, IsSoundEntry, IsSoundRoot};
 ghost use Rattle.ados_check.specs.PlacesTold.{TellsAll};
 
@@ -14,9 +14,9 @@ use adf_block::layout::{
     HEADER_TYPE, LIST_TYPE, OWN_KEY, PARENT, PRIMARY_TYPE, ROOT_TYPE, SECONDARY_TYPE,
     SOFT_LINK_TYPE, TABLE_LONGS, TABLE_SIZE,
 };
-use ados_tree::{FaultKind, Role};
+use ados_model::{FaultKind, Role};
 
-/// Looks at a block in the role in which it is reached. What is wrong shows at the block itself.
+/// Checks a reached block in its role. A fault is shown by the block itself.
 pub(crate) fn look(source: &Source<'_>, block: u32, role: Role) -> Result<(), FaultKind>
     requires inside { block < block_count source.now.bytes }
     requires reached { Reached source.now.bytes block role }
@@ -94,7 +94,7 @@ fn look_entry(source: &Source<'_>, block: u32, dir: u32, slot: u32) -> Result<()
     Ok(())
 }
 
-/// An entry is a directory or a file: links are refused by a kind of their own.
+/// Checks that an entry is a directory or a file. A link has a fault of its own.
 fn look_secondary(source: &Source<'_>, block: u32) -> Result<(), FaultKind>
     requires inside { block < block_count source.now.bytes }
     requires entry { IsEntry source.now.bytes block }
@@ -111,7 +111,7 @@ fn look_secondary(source: &Source<'_>, block: u32) -> Result<(), FaultKind>
     Err(FaultKind::BadType)
 }
 
-/// Only in OFS has a data block fields.
+/// Checks a data block. Only in OFS has it fields.
 fn look_data(source: &Source<'_>, block: u32, file: u32) -> Result<(), FaultKind>
     requires inside { block < block_count source.now.bytes }
     requires reached { Reached source.now.bytes block (Data file) }

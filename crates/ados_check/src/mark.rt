@@ -1,12 +1,12 @@
-//! What the check of an image notes of each block.
-use ados_tree::Role;
+//! The mark of a reached block.
+use ados_model::Role;
 
-/// A reached block: what it is for, and the long that names it.
+/// The role of a reached block, and the long that names it.
 #[derive(Clone, Copy, Debug, PartialEq, Eq)]
 pub struct Mark {
     pub role: Role,
-    /// The block that holds the long; of the root 0.
+    /// The block with this long; 0 for the root.
     pub holder: u32,
-    /// Which long of the holder it is; of the root 0.
+    /// The index of the long in that block; 0 for the root.
     pub long: u32,
 }

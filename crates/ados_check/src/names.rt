@@ -1,9 +1,10 @@
-//! The names of the entries, each once in its directory.
+//! The names of the entries: each once in its directory.
 ghost use Rattle.std.specs.Prelude.{◌≡◌, ◌<◌, ◌≤◌, ℕ, MatchResult};
-ghost use Rattle.adf_block.specs.Image.{IsImage, block_count, byte_at};
-ghost use Rattle.adf_block.specs.Fields.{name_byte};
-ghost use Rattle.ados_tree.specs.declared.fault.FaultKind.TheVariants.{DuplicateName, NoMemory};
-ghost use Rattle.ados_tree.specs.Accepted.{IsRefusal};
+ghost use Rattle.adf_block.specs.Whole.{IsImage};
+ghost use Rattle.adf_block.specs.Image.{block_count, byte_at};
+ghost use Rattle.adf_block.specs.Layout.{name_byte};
+ghost use Rattle.ados_model.specs.declared.fault.FaultKind.TheVariants.{DuplicateName, NoMemory};
+ghost use Rattle.ados_model.specs.Accepted.{IsRefusal};
 ghost use Rattle.ados_check.specs.Marks.{AreReached, AreUnlike};
 ghost use Rattle.ados_check.specs.Source.{Tells};
 ghost use Rattle.ados_check.specs.Entries.{upper_name};
@@ -12,21 +13,21 @@ use crate::entries::directory_of;
 use crate::mark::Mark;
 use crate::source::Source;
 use adf_block::layout::NAME_BYTE;
+use ados_model::{FaultKind, VolumeFault};
 use ados_name::upper;
-use ados_tree::{FaultKind, VolumeFault};
 use std::alloc::Global;
 use std::collections::BTreeSet;
 
-/// A name in a directory, as AmigaDOS compares it.
+/// A name in a directory, in the form for comparison.
 #[derive(Clone, Copy, PartialEq, Eq, PartialOrd, Ord)]
 struct EntryName {
     dir: u32,
-    /// The length, the bytes in upper case, and zeros.
+    /// The length, the bytes in upper case, then zeros.
     name: [u8; 31],
 }
 
-/// Tests that no two marked entries of a directory have the same name: it enters each name into a
-/// sorted set. A name that is there already shows at the later block; want of memory has block 0.
+/// Checks that no two marked entries of a directory have the same name. Each name goes into a sorted set. A duplicate
+/// is a fault of the later block; out of memory has block 0.
 pub fn check_names(
     alloc: Global,
     source: &Source<'_>,
@@ -49,7 +50,7 @@ pub fn check_names(
     Ok(())
 }
 
-/// The name of an entry, as an `EntryName` has it.
+/// The name of an entry, in the form for comparison.
 pub(crate) fn upper_name(source: &Source<'_>, block: u32) -> [u8; 31]
     requires image { IsImage source.now.bytes }
     requires inside { block < block_count source.now.bytes }

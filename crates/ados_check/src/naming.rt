@@ -1,17 +1,18 @@
 //! The name of a root or entry.
 ghost use Rattle.std.specs.Prelude.{◌≡◌, ◌<◌, MatchResult};
 ghost use Rattle.adf_block.specs.Image.{block_count};
-ghost use Rattle.adf_block.specs.Fields.{text_at, name_byte};
-ghost use Rattle.ados_tree.specs.Faults.{HasName, Shows};
+ghost use Rattle.adf_block.specs.Whole.{text_at};
+ghost use Rattle.adf_block.specs.Layout.{name_byte};
+ghost use Rattle.ados_model.specs.Faults.{HasName, Shows};
 ghost use Rattle.ados_check.specs.Marks.{HasValidName};
 ghost use Rattle.ados_check.specs.PlacesTold.{TellsAll};
 
 use crate::source::Source;
 use adf_block::layout::NAME_BYTE;
+use ados_model::FaultKind;
 use ados_name::Name;
-use ados_tree::FaultKind;
 
-/// The name of a root or entry, where it is one.
+/// The name of a root or entry, or `BadName`.
 pub(crate) fn name_of(source: &Source<'_>, block: u32) -> Result<Name, FaultKind>
     requires inside { block < block_count source.now.bytes }
     requires named { HasName source.now.bytes block }

@@ -1,10 +1,10 @@
-//! Which longs of a block name other blocks.
+//! The longs of a block that name other blocks.
 ghost use Rattle.std.specs.Prelude.{◌≡◌, ◌<◌, ◌+◌, ◌-◌, ◌≤◌, ◌↔◌, ℕ, List, IsTrue, Some, false};
 ghost use Rattle.adf_block.specs.Image.{block_count, page_count};
-ghost use Rattle.adf_block.specs.Fields.{first_slot, first_pointer, secondary_type_long, table_longs};
-ghost use Rattle.ados_tree.specs.declared.role.Role.{Role};
-ghost use Rattle.ados_tree.specs.declared.role.Role.TheVariants.{Root, Entry, Extension};
-ghost use Rattle.ados_tree.specs.Faults.{IsPlace, IsPointer};
+ghost use Rattle.adf_block.specs.Layout.{first_slot, first_pointer, secondary_type_long, table_longs, block_longs};
+ghost use Rattle.ados_model.specs.declared.role.Role.{Role};
+ghost use Rattle.ados_model.specs.declared.role.Role.TheVariants.{Root, Entry, Extension};
+ghost use Rattle.ados_model.specs.Faults.{IsPlace, IsPointer};
 ghost use Rattle.ados_check.specs.PlacesTold.{TellsAll, TellsOf};
 
 use crate::source::Source;
@@ -13,19 +13,19 @@ use adf_block::layout::{
     NEXT_IN_CHAIN, POINTER_COUNT, SECONDARY_TYPE, TABLE_LONGS,
 };
 use adf_block::page_count;
-use ados_tree::Role;
+use ados_model::Role;
 
-/// Whether a block in this role may name others: pages and data blocks name none.
+/// Whether a block in this role can name others. Bitmap blocks and data blocks cannot.
 pub(crate) fn has_places(role: Role) -> bool
     ensures { result ≡ false → (image : List ℕ) → (block i : ℕ) → (next : Role) → ¬ IsPlace image block role i next }
 {
     !matches!(role, Role::Page | Role::Data(_))
 }
 
-/// The long behind the table of a block.
+/// The long after the table of a block.
 pub(crate) const TABLE_END: u32 = FIRST_POINTER + 1;
 
-/// The first long up to the end of a block's table that may name another: the pointers of a file stand at the table's end.
+/// The first long of a block's table that may name another block. A file's pointers are at the end of its table.
 pub(crate) fn table_from(source: &Source<'_>, block: u32, role: Role) -> u32
     requires inside { block < block_count source.now.bytes }
     requires told { TellsOf source.now block role }
@@ -45,7 +45,7 @@ pub(crate) fn table_from(source: &Source<'_>, block: u32, role: Role) -> u32
     }
 }
 
-/// The first long behind a block's table that may name another.
+/// The first long after a block's table that may name another block.
 pub(crate) fn fields_from(role: Role) -> u32
     ensures from { first_slot + table_longs ≤ result }
     ensures within { result < secondary_type_long }
@@ -57,10 +57,10 @@ pub(crate) fn fields_from(role: Role) -> u32
     }
 }
 
-/// The role that long `i` of a block gives to the block that it names, if it is a place of names.
+/// The role of the block that long `i` names, or `None` if the long names no block.
 pub fn place_role(source: &Source<'_>, block: u32, role: Role, i: u32) -> Option<Role>
     requires inside { block < block_count source.now.bytes }
-    requires long { i < 128 }
+    requires long { i < block_longs }
     requires told { TellsOf source.now block role }
     ensures { (next : Role) → (result ≡ Some next) ↔ IsPlace source.now.bytes block role i next }
 {
@@ -72,10 +72,10 @@ pub fn place_role(source: &Source<'_>, block: u32, role: Role, i: u32) -> Option
     }
 }
 
-/// In a root: the pages of the bitmap and the slots of the table.
+/// In a root: the pointers to bitmap blocks, and the slots of the hash table.
 fn root_place(source: &Source<'_>, block: u32, i: u32) -> Option<Role>
     requires inside { block < block_count source.now.bytes }
-    requires long { i < 128 }
+    requires long { i < block_longs }
     requires told { TellsAll source.now block }
     ensures { (next : Role) → (result ≡ Some next) ↔ IsPlace source.now.bytes block Root i next }
 {
@@ -88,10 +88,11 @@ fn root_place(source: &Source<'_>, block: u32, i: u32) -> Option<Role>
     None
 }
 
-/// In an entry: the next one of its chain; of a directory the slots, of a file the data pointers and the extension.
+/// In an entry: the next entry of its hash chain; the slots of a directory; the data pointers and the extension block
+/// of a file.
 fn entry_place(source: &Source<'_>, block: u32, dir: u32, slot: u32, i: u32) -> Option<Role>
     requires inside { block < block_count source.now.bytes }
-    requires long { i < 128 }
+    requires long { i < block_longs }
     requires told { TellsAll source.now block }
     ensures { (next : Role) → (result ≡ Some next) ↔ IsPlace source.now.bytes block (Entry dir slot) i next }
 {
@@ -115,7 +116,7 @@ fn entry_place(source: &Source<'_>, block: u32, dir: u32, slot: u32, i: u32) -> 
 /// In an extension block: the data pointers and the next extension block.
 fn extension_place(source: &Source<'_>, block: u32, file: u32, i: u32) -> Option<Role>
     requires inside { block < block_count source.now.bytes }
-    requires long { i < 128 }
+    requires long { i < block_longs }
     requires told { TellsAll source.now block }
     ensures { (next : Role) → (result ≡ Some next) ↔ IsPlace source.now.bytes block (Extension file) i next }
 {
@@ -128,14 +129,14 @@ fn extension_place(source: &Source<'_>, block: u32, file: u32, i: u32) -> Option
     None
 }
 
-/// Whether long `i` is one of the 72 slots of a table.
+/// Whether long `i` is one of the 72 slots of a hash table.
 fn is_slot(i: u32) -> bool
     ensures { IsTrue result ↔ ((first_slot ≤ i) × (i < first_slot + table_longs)) }
 {
     FIRST_SLOT <= i && i <= FIRST_POINTER
 }
 
-/// Whether long `i` is a data pointer that the block's count takes in, where the count is one that a block can have.
+/// Whether long `i` is a data pointer in use. A count of more than 72 means that none is.
 fn is_pointer(source: &Source<'_>, block: u32, i: u32) -> bool
     requires inside { block < block_count source.now.bytes }
     requires told { TellsAll source.now block }
@@ -145,7 +146,7 @@ fn is_pointer(source: &Source<'_>, block: u32, i: u32) -> bool
     i <= FIRST_POINTER && FIRST_POINTER - i < count && count <= TABLE_LONGS
 }
 
-/// How many pages the bitmap has.
+/// The number of bitmap blocks.
 fn pages(source: &Source<'_>) -> u32
     ensures { result ≡ page_count (block_count source.now.bytes) }
 {

@@ -1,9 +1,9 @@
-//! From the root over each place of each block that is reached.
+//! The walk from the root over every place of every reached block.
 ghost use Rattle.std.specs.Prelude.{◌≡◌, ◌+◌, ◌<◌, ◌≤◌, IfNone, IfSome, IfOk, IfErr, MatchResult, vec_capacity, replicate, None};
 ghost use Rattle.adf_block.specs.Image.{block_count};
-ghost use Rattle.adf_block.specs.Fields.{first_slot, secondary_type_long};
-ghost use Rattle.ados_tree.specs.Accepted.{IsRefusal};
-ghost use Rattle.ados_tree.specs.Faults.{Shows};
+ghost use Rattle.adf_block.specs.Layout.{first_slot, secondary_type_long};
+ghost use Rattle.ados_model.specs.Accepted.{IsRefusal};
+ghost use Rattle.ados_model.specs.Faults.{Shows};
 ghost use Rattle.ados_check.specs.Marks.{AreReached};
 ghost use Rattle.ados_check.specs.steps.Reaching.{IsBetween, IsInHand, work};
 
@@ -12,25 +12,26 @@ use crate::mark::Mark;
 use crate::places::{TABLE_END, fields_from, has_places, place_role, table_from};
 use crate::source::Source;
 use adf_block::layout::{BOOT_BLOCKS, SECONDARY_TYPE};
-use ados_tree::{FaultKind, Role, VolumeFault};
+use ados_model::{FaultKind, Role, VolumeFault};
 use std::alloc::Global;
 
-/// The marks so far, and the marked blocks whose places are still to be gone through.
+/// The marks so far, and the marked blocks whose places are still to be visited.
 #[derive(Drop)]
 struct Progress {
     marks: Vec<Option<Mark>>,
     pending: Vec<u32>,
 }
 
-/// Want of memory has no block.
+/// Out of memory, which has block 0.
 const NO_MEMORY: VolumeFault = VolumeFault {
     kind: FaultKind::NoMemory,
     block: 0,
 };
 
-/// The marks of all blocks that are reached, a cell for each block of the image; or a fault that is met on the way.
+/// The marks of all reached blocks, one cell for each block of the image; or a fault found on the way.
 ///
-/// This takes time and memory in the size of the image. `NoMemory` says that one of its two lists could not be made.
+/// Time and memory are linear in the size of the image. `NoMemory` means that one of the two lists could not be
+/// allocated.
 pub fn reach(alloc: Global, source: &Source<'_>) -> Result<Vec<Option<Mark>>, VolumeFault>
     ensures { MatchResult result (λ marks. AreReached source.now.bytes marks.items) (λ fault. IsRefusal source.now.bytes fault) }
 {
@@ -42,7 +43,7 @@ pub fn reach(alloc: Global, source: &Source<'_>) -> Result<Vec<Option<Mark>>, Vo
 }
 
 impl Progress {
-    /// Marks the root, and nothing else.
+    /// Marks the root only.
     fn start(alloc: Global, source: &Source<'_>) -> Result<Progress, VolumeFault>
         ensures between { IfOk result (λ progress. IsBetween source.now.bytes progress.marks.items progress.pending.items) }
         ensures capacity { IfOk result (λ progress. block_count source.now.bytes ≤ vec_capacity progress.pending) }
@@ -66,7 +67,7 @@ impl Progress {
         Ok(Progress { marks, pending })
     }
 
-    /// Takes a pending block in hand.
+    /// Takes the next pending block.
     fn next(&mut self, source: &Source<'_>) -> Option<(u32, Role)>
         requires between { IsBetween source.now.bytes self.old.marks.items self.old.pending.items }
         ensures ended { IfNone result (AreReached source.now.bytes self.new.marks.items) }
@@ -82,7 +83,7 @@ impl Progress {
         }
     }
 
-    /// Goes through the places of the block in hand.
+    /// Visits the places of this block.
     fn go_through(&mut self, source: &Source<'_>, block: u32, role: Role) -> Result<(), VolumeFault>
         requires hand { IsInHand source.now.bytes self.old.marks.items self.old.pending.items block role first_slot }
         requires capacity { block_count source.now.bytes ≤ vec_capacity self.old.pending }
@@ -98,7 +99,7 @@ impl Progress {
         Ok(())
     }
 
-    /// Goes through the longs in a part of the block in hand.
+    /// Visits the longs in a part of this block.
     fn pass_all(
         &mut self,
         source: &Source<'_>,
@@ -122,8 +123,8 @@ impl Progress {
         Ok(())
     }
 
-    /// Goes through one long: what it names, if it is a place, is looked at, marked, and put to the
-    /// pending blocks where it may name others itself.
+    /// Visits one long. If it is a place, the block that it names is checked and marked. That block becomes pending if
+    /// it can name others itself.
     fn pass(
         &mut self,
         source: &Source<'_>,
@@ -170,7 +171,7 @@ impl Progress {
     }
 }
 
-/// A cell for each block, with no mark.
+/// One cell for each block, without marks.
 fn no_marks(alloc: Global, blocks: u32) -> Result<Vec<Option<Mark>>, VolumeFault>
     ensures none { IfOk result (λ marks. marks.items ≡ replicate blocks None) }
     ensures err { IfErr result (λ fault. fault ≡ NO_MEMORY) }

@@ -1,16 +1,17 @@
-//! Memory in whole pages of the system.
+//! Memory in whole pages of the operating system.
 
 ghost use Rattle.std.specs.Prelude.{◌≤◌};
 
-/// The bytes of a huge page of the system.
+/// Bytes in a huge page of the operating system.
 const HUGE_PAGE: usize = 2_097_152;
 
-/// The most bytes that the allocator takes of its own from the memory that it asks the system for.
+/// The most bytes that the allocator adds for itself to a request.
 const ALLOCATOR_BYTES: usize = 32;
 
-/// So much room, and from `least` bytes on as much as makes whole huge pages with what the allocator takes for itself: the
-/// system gives huge pages only to memory that is a whole number of them, and each is one fault of the processor in place of
-/// 512, but is cleared whole.
+/// At least `room` bytes. From `least` bytes on, the size and the allocator's own bytes make whole huge pages.
+///
+/// The system uses huge pages only for memory that is a whole number of them. One huge page is one page fault in place
+/// of 512, but all of it is cleared.
 pub fn whole_pages(room: usize, least: usize) -> usize
     ensures { room ≤ result }
 {

@@ -1,41 +1,45 @@
-//! A sketch of an image: what its check may ask for, and no more.
+//! A sketch of an image: only the bytes that its check needs.
 
 ghost use Rattle.std.specs.Prelude.{◌≡◌, ◌≢◌, ◌<◌, ◌≤◌, ◌+◌, ◌*◌, ◌/◌, ◌%◌, ◌^◌, ◌++◌, [], ℕ, List, length, slice_index, drop, IfOk, MatchBool};
 ghost use Rattle.byteorder.specs.Endian.{big_number};
-ghost use Rattle.adf_block.specs.Image.{IsImage, IsSize, block_count, block_sum, bytes_at, byte_at, long};
+ghost use Rattle.adf_block.specs.Layout.{block_bytes, block_longs};
+ghost use Rattle.adf_block.specs.Whole.{IsImage};
+ghost use Rattle.adf_block.specs.Image.{IsSize, block_count, block_sum, bytes_at, byte_at, long};
 ghost use Rattle.ados_check.specs.Source.{IsKept};
 ghost use Rattle.ados_check.specs.Keeping.{AreKept, kept_length};
 
 use crate::room::whole_pages;
-use adf_block::layout::{BLOCK_BYTES, BLOCK_LONGS, DATA_TYPE};
+use adf_block::layout::{BLOCK_BYTES, BLOCK_LONGS, DATA_TYPE, OFS_DATA_BYTE};
 use byteorder::{BigEndian, ByteOrder};
 use std::alloc::{AllocError, Global};
 use std::marker::Model;
 use std::snapshot::Snapshot;
 
-/// The bytes of a block.
+/// Bytes in a block.
 const BLOCK: usize = BLOCK_BYTES as usize;
 
-/// The bytes of an OFS data block in front of those of its file.
-const DATA_HEADER: usize = 24;
+/// Bytes of an OFS data block before its data.
+const DATA_HEADER: usize = OFS_DATA_BYTE as usize;
 
-/// The fewest bytes of an image whose sketch fills huge pages: that of a smaller one may touch less than one.
+/// The smallest image, in bytes, whose sketch fills huge pages. The sketch of a smaller image may use less than one.
 const LARGE: usize = 16_777_216;
 
-/// The pieces that a sketch was made of. No value of it is kept.
+/// The pieces that a sketch was made from. None of their bytes are kept.
 #[derive(Drop)]
 pub(crate) enum Pieces {
     Start,
     Then(Snapshot<Vec<u8>>, Snapshot<Pieces>),
 }
 
-/// The blocks of an image, taken down one after another: of an OFS data block the header, of every other block whose longs
-/// add up to 0 all of it, and of the rest only that they do not. Contracts see the list of the image's bytes.
+/// The blocks of an image, added one after the other.
+///
+/// Of an OFS data block it keeps the header, of any other block with a right checksum all 512 bytes. Of the rest it
+/// keeps only that the checksum is wrong. Contracts see the list of the image's bytes.
 #[derive(Drop)]
 pub struct Sketch {
-    /// The first four bytes.
+    /// The first four bytes of the image.
     boot: [u8; 4],
-    /// Of each block where its bytes begin in `kept`.
+    /// For each block, the start of its bytes in `kept`.
     starts: Vec<Option<u32>>,
     kept: Vec<u8>,
     pieces: Snapshot<Pieces>,
@@ -54,7 +58,8 @@ impl Model for Sketch {
 }
 
 impl Sketch {
-    /// That of no bytes, with room for so many blocks: all of it is taken at once, and touched only as it fills.
+    /// An empty sketch with room for `blocks` blocks. All room is allocated at once, but its memory is used only as it
+    /// fills.
     pub fn new(alloc: Global, blocks: u32) -> Result<Sketch, AllocError>
         ensures { IfOk result (λ sketch. sketch ≡ []) }
     {
@@ -67,10 +72,10 @@ impl Sketch {
         })
     }
 
-    /// The sketch with a piece more, of whole blocks.
+    /// Adds a piece of whole blocks.
     pub fn with(self, piece: &Vec<u8>) -> Result<Sketch, AllocError>
-        requires some { 512 ≤ length piece.now.items }
-        requires blocks { length piece.now.items % 512 ≡ 0 }
+        requires some { block_bytes ≤ length piece.now.items }
+        requires blocks { length piece.now.items % block_bytes ≡ 0 }
         requires room { length self + length piece.now.items ≤ 52020224 }
         ensures { IfOk result (λ sketch. sketch ≡ self ++ piece.now.items) }
     {
@@ -99,34 +104,34 @@ impl Sketch {
         })
     }
 
-    /// The first four bytes: what the disk says that it is.
+    /// The first four bytes: the DOS type of the disk.
     pub fn boot(&self) -> [u8; 4]
-        requires { 512 ≤ length self.now }
+        requires { block_bytes ≤ length self.now }
         ensures { result ≡ bytes_at self.now 0 0 4 }
     {
         self.boot
     }
 
-    /// How many blocks there are.
+    /// The number of blocks.
     pub fn blocks(&self) -> u32
         requires { IsSize (block_count self.now) }
         ensures count { result ≡ block_count self.now }
         ensures size { IsSize result }
-        ensures whole { length self.now ≡ 512 * result }
+        ensures whole { length self.now ≡ block_bytes * result }
         ensures image { IsImage self.now }
     {
         self.starts.len() as u32
     }
 
-    /// The byte behind `DOS`.
+    /// The byte after `DOS`.
     pub(crate) fn kind_byte(&self) -> u8
-        requires { 512 ≤ length self.now }
+        requires { block_bytes ≤ length self.now }
         ensures { result ≡ byte_at self.now 0 3 }
     {
         self.boot[3]
     }
 
-    /// Whether the longs of block `b` add up to 0.
+    /// Whether the longs of block `b` add up to 0 modulo 2^32.
     pub(crate) fn has_sum(&self, b: u32) -> bool
         requires { b < block_count self.now }
         ensures { MatchBool result (block_sum self.now b ≡ 0) (block_sum self.now b ≢ 0) }
@@ -134,10 +139,10 @@ impl Sketch {
         self.starts[b as usize].is_some()
     }
 
-    /// Long `i` of block `b`.
+    /// Long `i` of block `b`, big-endian.
     pub(crate) fn long(&self, b: u32, i: u32) -> u32
         requires block { b < block_count self.now }
-        requires place { i < 128 }
+        requires place { i < block_longs }
         requires kept { IsKept self.now b i }
         ensures { result ≡ long self.now b i }
     {
@@ -150,7 +155,7 @@ impl Sketch {
     /// Byte `i` of block `b`.
     pub(crate) fn byte(&self, b: u32, i: u32) -> u8
         requires block { b < block_count self.now }
-        requires place { i < 512 }
+        requires place { i < block_bytes }
         requires kept { IsKept self.now b (i / 4) }
         ensures { result ≡ byte_at self.now b i }
     {
@@ -164,8 +169,8 @@ impl Sketch {
     pub(crate) fn block(&self, b: u32) -> &[u8]
         requires inside { b < block_count self.now }
         requires kept { IsKept self.now b 127 }
-        ensures bytes { result.now ≡ bytes_at self.now b 0 512 }
-        ensures length { length result.now ≡ 512 }
+        ensures bytes { result.now ≡ bytes_at self.now b 0 block_bytes }
+        ensures length { length result.now ≡ block_bytes }
     {
         match self.starts[b as usize] {
             Some(start) => &self.kept[start as usize..start as usize + BLOCK],
@@ -174,11 +179,11 @@ impl Sketch {
     }
 }
 
-/// Notes a block, and keeps what a check may ask for of it.
+/// Adds a block, and keeps the bytes that the check needs.
 fn keep(starts: &mut Vec<Option<u32>>, kept: &mut Vec<u8>, block: &[u8]) -> Result<(), AllocError>
-    requires size { length block.now ≡ 512 }
+    requires size { length block.now ≡ block_bytes }
     requires few { length starts.old.items < 101602 }
-    requires room { length kept.old.items ≤ 512 * length starts.old.items }
+    requires room { length kept.old.items ≤ block_bytes * length starts.old.items }
     ensures { IfOk result (λ _. (image : List ℕ) → AreKept starts.old.items kept.old.items image → AreKept starts.new.items kept.new.items (image ++ block.now)) }
 {
     if sum(block) != 0 {
@@ -190,9 +195,9 @@ fn keep(starts: &mut Vec<Option<u32>>, kept: &mut Vec<u8>, block: &[u8]) -> Resu
     Ok(())
 }
 
-/// How many bytes are kept of a block that adds up to 0.
+/// The number of bytes kept of a block with a right checksum.
 fn kept_of(block: &[u8]) -> usize
-    requires { length block.now ≡ 512 }
+    requires { length block.now ≡ block_bytes }
     ensures { result ≡ kept_length block.now 0 }
 {
     if read_long(block, 0) == DATA_TYPE {
@@ -202,9 +207,9 @@ fn kept_of(block: &[u8]) -> usize
     }
 }
 
-/// The sum of the longs of a block, which wraps.
+/// The sum of the longs of a block, modulo 2^32.
 fn sum(block: &[u8]) -> u32
-    requires { length block.now ≡ 512 }
+    requires { length block.now ≡ block_bytes }
     ensures { result ≡ block_sum block.now 0 }
 {
     let mut sum = 0_u32;
@@ -214,7 +219,7 @@ fn sum(block: &[u8]) -> u32
     sum
 }
 
-/// The long whose first byte has this place.
+/// The long that starts at byte `at`.
 fn read_long(bytes: &[u8], at: usize) -> u32
     requires { at + 4 ≤ length bytes.now }
     ensures { result ≡ big_number 4 (drop at bytes.now) }

@@ -1,10 +1,9 @@
-//! The check of a sketch: whether the image behind it is accepted as it is.
+//! The check of a sketch: whether its image is accepted as it is.
 ghost use Rattle.std.specs.Prelude.{◌≡◌, IsTrue, IfSome, false};
 ghost use Rattle.adf_block.specs.Boot.{HasKind};
-ghost use Rattle.adf_block.specs.Image.{IsSize, block_count, bytes_at};
-ghost use Rattle.ados_data.specs.File.{format_of};
-ghost use Rattle.ados_tree.specs.Accepted.{Accepts};
-ghost use Rattle.ados_tree.specs.Stands.{kind_bytes};
+ghost use Rattle.adf_block.specs.Image.{IsSize, block_count, bytes_at, format_of};
+ghost use Rattle.ados_model.specs.Accepted.{Accepts};
+ghost use Rattle.ados_model.specs.Stands.{kind_bytes};
 ghost use Rattle.ados_check.specs.Marks.{IsChecked};
 ghost use Rattle.ados_check.specs.BitmapTold.{TellsBitmap};
 
@@ -18,8 +17,10 @@ use adf_block::layout::{DATA_TYPE, FIRST_PAGE, PRIMARY_TYPE};
 use adf_block::{BootKind, page_count};
 use std::alloc::Global;
 
-/// The kind of a disk whose image is accepted as it is, if a sketch of it shows that it is. Where there is none, the image
-/// may have a fault, its bitmap may have to be mended, or there was no memory: the image itself tells.
+/// The DOS type of the disk, if the sketch shows that its image is accepted as it is.
+///
+/// `None` decides nothing: the image may have a fault or need a new bitmap, or there was no memory. Only a check of
+/// the image itself distinguishes these cases.
 pub fn accepted_kind(alloc: Global, sketch: &Sketch) -> Option<BootKind>
     requires { IsSize (block_count sketch.now) }
     ensures { IfSome result (λ kind. HasKind sketch.now kind × Accepts sketch.now false sketch.now) }
@@ -32,7 +33,7 @@ pub fn accepted_kind(alloc: Global, sketch: &Sketch) -> Option<BootKind>
     }
 }
 
-/// The old or the fast file system, if the first four bytes name it.
+/// OFS or FFS, if the first four bytes name it.
 fn file_system_of(sketch: &Sketch) -> Option<BootKind>
     requires { IsSize (block_count sketch.now) }
     ensures { IfSome result (λ kind. HasKind sketch.now kind × (bytes_at sketch.now 0 0 4 ≡ kind_bytes (format_of sketch.now))) }
@@ -47,7 +48,7 @@ fn file_system_of(sketch: &Sketch) -> Option<BootKind>
     None
 }
 
-/// Whether the bitmap is valid, and no reached block is marked free in it.
+/// Whether the bitmap is valid and marks no reached block free.
 fn is_accepted(source: &Source<'_>, marks: &[Option<Mark>]) -> bool
     requires { IsChecked source.now.bytes marks.now }
     ensures { IsTrue result → Accepts source.now.bytes false source.now.bytes }
@@ -58,7 +59,7 @@ fn is_accepted(source: &Source<'_>, marks: &[Option<Mark>]) -> bool
         && reached_and_free(source, marks).is_none()
 }
 
-/// Whether no bitmap page looks like an OFS data block, of which a sketch has the header alone.
+/// Whether the sketch has all bitmap blocks. One that looks like an OFS data block is kept only in part.
 fn tells_bitmap(source: &Source<'_>, marks: &[Option<Mark>]) -> bool
     requires { IsChecked source.now.bytes marks.now }
     ensures { IsTrue result → TellsBitmap source.now }

@@ -1,20 +1,18 @@
-//! Both tests together.
+//! The checks of files and of names.
 ghost use Rattle.std.specs.Prelude.{◌≡◌, MatchResult};
-ghost use Rattle.adf_block.specs.Image.{bytes_at};
-ghost use Rattle.ados_data.specs.File.{format_of};
-ghost use Rattle.ados_tree.specs.Stands.{kind_bytes};
-ghost use Rattle.ados_tree.specs.Accepted.{IsRefusal};
+ghost use Rattle.adf_block.specs.Image.{bytes_at, format_of};
+ghost use Rattle.ados_model.specs.Stands.{kind_bytes};
+ghost use Rattle.ados_model.specs.Accepted.{IsRefusal};
 ghost use Rattle.ados_check.specs.Marks.{AreReached, IsChecked};
 
 use crate::entries::check_files;
 use crate::mark::Mark;
 use crate::names::check_names;
 use crate::source::Source;
-use ados_tree::VolumeFault;
+use ados_model::VolumeFault;
 use std::alloc::Global;
 
-/// Tests what the blocks of a walked image do not tell one by one. An image that passes shows no
-/// fault but perhaps in its bitmap.
+/// Checks files and names by the marks. An image that passes shows no fault, except possibly in its bitmap.
 pub fn check_sound(
     alloc: Global,
     source: &Source<'_>,

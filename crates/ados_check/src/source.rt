@@ -1,7 +1,9 @@
-//! The source of a check's blocks.
+//! The blocks that a check reads: those of an image, or of a sketch.
 
 ghost use Rattle.std.specs.Prelude.{◌≡◌, ◌≢◌, ◌<◌, ◌*◌, ◌/◌, ℕ, length, MatchBool, true, false};
-ghost use Rattle.adf_block.specs.Image.{IsImage, IsSize, block_count, block_sum, bytes_at, byte_at, long, root_key};
+ghost use Rattle.adf_block.specs.Layout.{block_bytes, block_longs};
+ghost use Rattle.adf_block.specs.Whole.{IsImage};
+ghost use Rattle.adf_block.specs.Image.{IsSize, block_count, block_sum, bytes_at, byte_at, long, root_key};
 ghost use Rattle.adf_block.specs.Layout.{kind_byte};
 ghost use Rattle.ados_check.specs.Source.{Tells};
 
@@ -10,14 +12,14 @@ use adf_block::Image;
 use adf_block::layout::KIND_BYTE;
 use std::marker::Model;
 
-/// Where the blocks are.
+/// What the blocks are read from.
 #[derive(Drop)]
 pub(crate) enum Kept<'a> {
     Whole(&'a Image),
     Sketch(&'a Sketch),
 }
 
-/// An image, or a sketch of it. Contracts see the image's bytes, and whether all of them are there.
+/// An image, or a sketch of it. Contracts see the image's bytes, and whether all of them are available.
 #[derive(Drop)]
 pub struct Source<'a> {
     kept: Kept<'a>,
@@ -26,7 +28,7 @@ pub struct Source<'a> {
 impl<'a> Model for Source<'a> {
     ghost use Rattle.ados_check.specs.Source.{SourceView};
     ghost use Rattle.ados_check.specs.Kept.{seen};
-    ghost use Rattle.adf_block.specs.Image.{IsImage};
+    ghost use Rattle.adf_block.specs.Whole.{IsImage};
 
     ghost Value = { SourceView };
 
@@ -57,11 +59,11 @@ impl<'a> Source<'a> {
         }
     }
 
-    /// How many blocks the image has.
+    /// The number of blocks.
     pub fn blocks(&self) -> u32
         ensures count { result ≡ block_count self.now.bytes }
         ensures size { IsSize result }
-        ensures whole { length self.now.bytes ≡ 512 * result }
+        ensures whole { length self.now.bytes ≡ block_bytes * result }
         ensures image { IsImage self.now.bytes }
     {
         match &self.kept {
@@ -70,14 +72,14 @@ impl<'a> Source<'a> {
         }
     }
 
-    /// The number of the root block, in the middle of the volume.
+    /// The block number of the root, in the middle of the volume.
     pub fn root(&self) -> u32
         ensures { result ≡ root_key (block_count self.now.bytes) }
     {
         (self.blocks() + 1) / 2
     }
 
-    /// The byte behind `DOS`: 0 of the old file system, 1 of the fast one.
+    /// The byte after `DOS`: 0 is the old file system, 1 the fast one.
     pub fn kind_byte(&self) -> u8
         ensures { result ≡ byte_at self.now.bytes 0 kind_byte }
     {
@@ -88,7 +90,7 @@ impl<'a> Source<'a> {
         }
     }
 
-    /// Whether the longs of block `b` add up to 0, as those of each block with a sum do.
+    /// Whether the longs of block `b` add up to 0 modulo 2^32: then its checksum is right.
     pub fn has_sum(&self, b: u32) -> bool
         requires { b < block_count self.now.bytes }
         ensures { MatchBool result (block_sum self.now.bytes b ≡ 0) (block_sum self.now.bytes b ≢ 0) }
@@ -99,10 +101,10 @@ impl<'a> Source<'a> {
         }
     }
 
-    /// Long `i` of block `b`, from 0 to 127.
+    /// Long `i` of block `b`, big-endian. `i` is 0 to 127.
     pub fn long(&self, b: u32, i: u32) -> u32
         requires block { b < block_count self.now.bytes }
-        requires place { i < 128 }
+        requires place { i < block_longs }
         requires told { Tells self.now b i }
         ensures { result ≡ long self.now.bytes b i }
     {
@@ -112,10 +114,10 @@ impl<'a> Source<'a> {
         }
     }
 
-    /// Byte `i` of block `b`, from 0 to 511.
+    /// Byte `i` of block `b`. `i` is 0 to 511.
     pub fn byte(&self, b: u32, i: u32) -> u8
         requires block { b < block_count self.now.bytes }
-        requires place { i < 512 }
+        requires place { i < block_bytes }
         requires told { Tells self.now b (i / 4) }
         ensures { result ≡ byte_at self.now.bytes b i }
     {
@@ -129,8 +131,8 @@ impl<'a> Source<'a> {
     pub fn block(&self, b: u32) -> &[u8]
         requires inside { b < block_count self.now.bytes }
         requires told { Tells self.now b 127 }
-        ensures bytes { result.now ≡ bytes_at self.now.bytes b 0 512 }
-        ensures length { length result.now ≡ 512 }
+        ensures bytes { result.now ≡ bytes_at self.now.bytes b 0 block_bytes }
+        ensures length { length result.now ≡ block_bytes }
     {
         match &self.kept {
             Kept::Whole(image) => image.block(b),

@@ -1,18 +1,18 @@
--- One data block more: with room for its pointer, empty, and then with the file's new size.
+-- One more data block: first with room for its pointer, then attached, then with the new size.
 use Rattle.std.proofs.Common.{◌≡◌, ◌≢◌, ℕ, suc, ◌+◌, ◌-◌, ◌*◌, ◌/◌, ◌%◌, ◌<◌, ◌≤◌, ◌⊎◌, inl, inr, List, [], ◌∷◌, ◌++◌, length, replicate, take, slice_index, refl, sym, ap, ◌∙◌, subst, arith}
 use Rattle.std.proofs.lemmas.Bool.{cases_lt, cases_eq}
 use Rattle.std.proofs.lemmas.List.{length_push}
 use Rattle.adf_block.specs.declared.Format.{Format}
 use Rattle.adf_block.specs.declared.Format.TheVariants.{Ofs}
-use Rattle.adf_block.specs.Image.{byte_at, block_count, free_bit_count, IsInside, IsSize}
-use Rattle.ados_data.specs.Cost.{data_count, extension_count}
-use Rattle.ados_data.specs.File.{format_of, file_byte}
+use Rattle.adf_block.specs.Image.{byte_at, block_count, IsInside, IsSize, format_of}
+use Rattle.adf_block.specs.Whole.{free_bit_count}
+use Rattle.ados_model.specs.Tree.{data_count, extension_count, data_size, data_start}
+use Rattle.ados_model.specs.Stands.{file_byte}
 use Rattle.ados_data.specs.Changing.{IsInUse, IsWritable}
 use Rattle.ados_data.specs.steps.Blocks.{IsNewBlock, IsExtended, IsLengthened, IsResized}
 use Rattle.std.proofs.lemmas.List.{length-append, length-replicate, get_or-replicate, get_or_append_left, get_or-append_right}
 use Rattle.ados_data.specs.declared.grow.End.{End}
-use Rattle.ados_data.specs.Cost.{data_size, data_start}
-use Rattle.ados_data.specs.File.{data_blocks, extension_blocks, contents}
+use Rattle.ados_model.specs.File.{data_blocks, extension_blocks, contents}
 use Rattle.ados_data.specs.Changing.{WritableFile}
 use Rattle.ados_data.specs.steps.FileEnd.{IsEnd}
 use Rattle.ados_data.proofs.Sizes.{one_more_block, below_count, at_count, in_block, behind_start}
@@ -30,7 +30,7 @@ use Rattle.ados_data.proofs.Grown.{Grown, grown_of, keeps_same, keeps_both}
 use Rattle.ados_data.proofs.Gained.{keeps_extended}
 use Rattle.ados_data.proofs.Longer.{keeps_longer}
 
--- a file with room for one pointer more
+-- a file with room for one more pointer
 pub record Roomy (old : List ℕ) (format : Format) (file : ℕ) (blocks was : List ℕ) (size holder : ℕ) (new : List ℕ) : Type 0 where
   pub extensions : List ℕ
   pub stands : Standing new format file blocks extensions size
@@ -108,7 +108,7 @@ module _ (old : List ℕ) (format : Format) (file : ℕ) (blocks extensions : Li
 
 -- ---- the data block itself, and the new size
 
--- a file one data block longer
+-- a file with one more data block
 pub record Appended (old : List ℕ) (format : Format) (file : ℕ) (blocks was : List ℕ) (b holder size : ℕ) (new : List ℕ) : Type 0 where
   pub extensions : List ℕ
   pub stands : Standing new format file (blocks ++ b ∷ []) extensions size
@@ -238,7 +238,7 @@ module _ (i0 i1 i2 i3 i4 : List ℕ) (format : Format) (file : ℕ) (blocks was 
         counts04 : block_count i4 ≡ block_count i0
         counts04 = ap (λ (m : ℕ). m / 512) y.rest.same_length ∙ counts13 ∙ counts01
 
--- ---- what the calls need
+-- ---- the premises of the calls
 
 module _ (i0 i1 i2 : List ℕ) (format : Format) (file : ℕ) (blocks was : List ℕ) (size holder b : ℕ) (r : Roomy i0 format file blocks was size holder i1) (n : IsNewBlock i1 b i2) where
   blocks_same : block_count i2 ≡ block_count i1
@@ -324,7 +324,7 @@ module _ (i0 : List ℕ) (format : Format) (file : ℕ) (end : End) (w : Writabl
           last_is = sym (ap (λ (xs : List ℕ). slice_index xs (length xs - 1)) bl ∙ pushed_last (data_blocks i0 file) b (length (data_blocks i0 file ++ b ∷ []) - 1) (omega (arith, length_push (data_blocks i0 file) b)));
         }
 
--- all that a call promises
+-- the whole contract of the call
 pub record IsAppended (old : List ℕ) (format : Format) (file : ℕ) (end : End) (size : ℕ) (holder b : ℕ) (new : List ℕ) : Type 0 where
   pub writable : WritableFile new file
   pub same_format : format_of new ≡ format

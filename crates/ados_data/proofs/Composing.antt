@@ -1,7 +1,8 @@
--- One call that lets a file grow behind another.
+-- One growth of a file after another.
 use Rattle.std.proofs.Common.{◌≡◌, ℕ, ◌≤◌, List, length, take, ap, ◌∙◌, arith}
 use Rattle.std.proofs.lemmas.List.{take_all}
-use Rattle.ados_data.specs.File.{LawfulFile, contents, data_blocks, extension_blocks, format_of}
+use Rattle.ados_model.specs.File.{LawfulFile, contents, data_blocks, extension_blocks}
+use Rattle.adf_block.specs.Image.{format_of}
 use Rattle.ados_data.specs.Others.{LeavesOthers}
 use Rattle.ados_data.specs.Unnamed.{KeepsUnnamed}
 use Rattle.ados_data.proofs.Skeleton.{skeleton_of}
@@ -11,7 +12,7 @@ use Rattle.ados_data.proofs.Grown.{Grown, grown_of, keeps_both}
 pub whole_front : (xs ys : List ℕ) → ys ≡ xs → take (length xs) ys ≡ xs
 whole_front xs ys e = ap (take (length xs)) e ∙ take_all (length xs) xs (omega arith)
 
--- what a call says of a file that grew
+-- the promises of a call about a file that grew
 pub record HasGrown (old : List ℕ) (file : ℕ) (new : List ℕ) : Type 0 where
   pub before : LawfulFile old file
   pub after : LawfulFile new file

@@ -1,6 +1,7 @@
--- How many blocks are marked free.
+-- The number of blocks marked free.
 use Rattle.std.proofs.Common.{◌≡◌, ◌≢◌, ℕ, zero, suc, ◌+◌, ◌-◌, List, Bool, true, false, cond, refl, sym, ap, ap₂, ◌∙◌, arith}
-use Rattle.adf_block.specs.Image.{block_count, has_free_bit, free_bit_count, total, IsInside}
+use Rattle.adf_block.specs.Image.{block_count, has_free_bit, total, IsInside}
+use Rattle.adf_block.specs.Whole.{free_bit_count}
 use Rattle.adf_block.proofs.Totals.{total-one, total-same}
 use Rattle.ados_map.specs.Pages.{NoneFree}
 
@@ -14,13 +15,13 @@ none_counted image none =
     total-same (λ k. 0) (λ k. cond (has_free_bit image (k + 2)) 1 0) (block_count image - 2) (λ k l. ap (λ (v : Bool). cond v 1 0) (none (k + 2) (omega arith, omega arith)))
     ∙ none_total (block_count image - 2)
 
--- the marks agree
+-- the marks are equal
 pub as_many : (old new : List ℕ) → block_count new ≡ block_count old → ((j : ℕ) → IsInside (block_count old) j → has_free_bit new j ≡ has_free_bit old j) → free_bit_count new ≡ free_bit_count old
 as_many old new same marks =
     ap (λ (n : ℕ). total (λ k. cond (has_free_bit new (k + 2)) 1 0) (n - 2)) same
     ∙ total-same (λ k. cond (has_free_bit old (k + 2)) 1 0) (λ k. cond (has_free_bit new (k + 2)) 1 0) (block_count old - 2) (λ k l. ap (λ (v : Bool). cond v 1 0) (marks (k + 2) (omega arith, omega arith)))
 
--- the marks agree but for one block
+-- the marks are equal except for one block
 module _ (old new : List ℕ) (b : ℕ) (inside : IsInside (block_count old) b) (same : block_count new ≡ block_count old) (others : (j : ℕ) → IsInside (block_count old) j → j ≢ b → has_free_bit new j ≡ has_free_bit old j) where
   one_mark : free_bit_count new + cond (has_free_bit old b) 1 0 ≡ free_bit_count old + cond (has_free_bit new b) 1 0
   one_mark =

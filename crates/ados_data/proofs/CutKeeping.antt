@@ -1,20 +1,21 @@
--- What a cut keeps of the bytes that no field names.
+-- The bytes outside all fields that a cut leaves untouched.
 use Rattle.std.proofs.Common.{◌≡◌, ◌≢◌, ℕ, suc, ◌-◌, ◌/◌, ◌<◌, ◌≤◌, ◌⊎◌, inl, inr, List, ◌∷◌, length, take, slice_index, refl, sym, ap, ◌∙◌, arith}
 use Rattle.std.proofs.lemmas.List.{length-take-le}
-use Rattle.adf_block.specs.Fields.{pointer_count, file_size, pointer_count_long, size_long, next_extension, next_data}
+use Rattle.adf_block.specs.Image.{pointer_count, file_size, byte_at, long, block_count, format_of}
+use Rattle.adf_block.specs.Layout.{pointer_count_long, size_long, next_extension, next_data}
 use Rattle.adf_block.specs.declared.Format.{Format}
 use Rattle.adf_block.specs.declared.Format.TheVariants.{Ofs, Ffs}
-use Rattle.adf_block.specs.Image.{byte_at, long, block_count}
 use Rattle.ados_map.specs.Pages.{pages_of, page_block}
-use Rattle.ados_data.specs.Cost.{extension_count}
+use Rattle.ados_model.specs.Tree.{extension_count}
 use Rattle.ados_data.specs.steps.Edits.{AtFields}
-use Rattle.ados_data.specs.File.{AreApart, format_of}
+use Rattle.ados_model.specs.File.{AreApart}
 use Rattle.ados_data.specs.Cut.{IsCutField}
 use Rattle.ados_data.specs.steps.Blocks.{AtEnd}
 use Rattle.ados_data.specs.Unnamed.{IsPointerField, IsHeaderField, data_end, KeepsUnnamed}
 use Rattle.ados_data.proofs.Lists.{head_taken, taken_before}
 
--- the bytes that a cut to d data blocks writes outside the pages: in the last data and pointer blocks that stay, and in the header
+-- the bytes that a cut to d data blocks writes outside the bitmap: in the last remaining data and pointer blocks, and
+-- in the header
 abbrev pub AtEnds : Format → ℕ → List ℕ → List ℕ → ℕ → ℕ → ℕ → Type 0
 AtEnds format file blocks extensions d c k = AtEnd format d (slice_index blocks (d - 1)) c k ⊎ (AtFields (slice_index (file ∷ extensions) (extension_count d)) pointer_count_long next_extension c k ⊎ AtFields file next_data size_long c k)
 
@@ -32,12 +33,12 @@ keeps_same image file blocks extensions = record {
   first_kept = λ s. refl;
 }
 
--- in OFS the data stand behind the fields
+-- in OFS the data follow the fields
 behind_fields : (format : Format) (size i k : ℕ) → format ≡ Ofs → data_end format size i ≤ k → 24 ≤ k
 behind_fields Ofs size i k e l = omega (arith, l)
 behind_fields Ffs size i k e l = cc
 
--- of the header a cut writes these longs alone
+-- a cut writes only these longs of the header
 pub header_uncut : (file : ℕ) (blocks extensions : List ℕ) (d : ℕ) (old : List ℕ) → AreApart (block_count old) file blocks extensions → 0 < length blocks → d ≤ length blocks → (k : ℕ) → ¬ IsCutField (k / 4)
     → ¬ AtEnds (format_of old) file blocks extensions d file k
 header_uncut file blocks extensions d old a some few k n (inl at) = a.apart 0 (d - 1) (omega arith) (omega (arith, at.1, few)) at.2.0
@@ -58,7 +59,7 @@ module _ (file : ℕ) (blocks extensions : List ℕ) (d : ℕ) (old new : List �
   el : length (take (extension_count d) extensions) ≡ extension_count d
   el = length-take-le (extension_count d) extensions fewer
 
-  -- a block that the file doesn't keep
+  -- a block that is no longer the file's
   no_end : (c k : ℕ) → ((q : ℕ) → q ≤ length (take (extension_count d) extensions) → c ≢ slice_index (file ∷ take (extension_count d) extensions) q) → ((i : ℕ) → i < length (take d blocks) → c ≢ slice_index (take d blocks) i) → ¬ AtEnds (format_of old) file blocks extensions d c k
   no_end c k h b (inl at) = b (d - 1) (omega (arith, dl, at.1)) (at.2.0 ∙ sym (taken_before blocks d (d - 1) (omega (arith, at.1))))
   no_end c k h b (inr (inl at)) = h (extension_count d) (omega (arith, el)) (at.0 ∙ sym (head_taken file extensions (extension_count d) (extension_count d) (omega arith)))

@@ -1,22 +1,20 @@
--- A file cut short, while the blocks behind its new end are given back.
+-- A file cut short, while the blocks after its new end are freed.
 use Rattle.std.proofs.Common.{◌≡◌, ◌≢◌, ℕ, suc, ◌+◌, ◌-◌, ◌/◌, ◌%◌, ◌<◌, ◌≤◌, ◌⊎◌, inl, inr, true, List, ◌∷◌, length, take, slice_index, refl, sym, ap, ◌∙◌, subst, arith}
 use Rattle.std.proofs.lemmas.Bool.{cases_lt, cases_eq}
 use Rattle.std.proofs.lemmas.List.{length-take-le}
-use Rattle.adf_block.specs.Fields.{first_pointer, next_extension}
+use Rattle.adf_block.specs.Layout.{first_pointer, next_extension}
 use Rattle.adf_block.specs.declared.Format.{Format}
 use Rattle.adf_block.specs.declared.Format.TheVariants.{Ofs}
-use Rattle.adf_block.specs.Image.{byte_at, long, block_count, has_free_bit, free_bit_count, IsInside, IsSize}
+use Rattle.adf_block.specs.Image.{byte_at, long, block_count, has_free_bit, IsInside, IsSize, format_of}
+use Rattle.adf_block.specs.Whole.{free_bit_count}
 use Rattle.ados_map.specs.Pages.{LawfulPages, pages_of, page_block}
 use Rattle.ados_map.specs.Changes.{BitChanged}
-use Rattle.ados_data.specs.Cost.{data_count, extension_count}
-use Rattle.ados_data.specs.File.{AreApart, format_of}
+use Rattle.ados_model.specs.Tree.{data_count, extension_count, block_cost, data_size, data_start}
+use Rattle.ados_model.specs.File.{AreApart, data_blocks, extension_blocks, contents, pointer_block}
 use Rattle.ados_data.specs.Changing.{IsInUse}
 use Rattle.ados_data.specs.steps.Blocks.{IsResized}
 use Rattle.ados_data.proofs.Lists.{head_taken, taken_before}
-use Rattle.ados_data.specs.File.{data_blocks, extension_blocks, contents}
 use Rattle.std.proofs.lemmas.List.{get_or-take}
-use Rattle.ados_data.specs.Cost.{block_cost, data_size, data_start}
-use Rattle.ados_data.specs.File.{pointer_block}
 use Rattle.ados_data.specs.Changing.{WritableFile}
 use Rattle.ados_data.specs.steps.Giving.{IsEntered}
 use Rattle.ados_data.specs.Others.{Leaves, LeavesOthers}
@@ -32,7 +30,8 @@ use Rattle.ados_data.proofs.Resizing.{stands_resized, resized_blocks, resized_pa
 use Rattle.ados_data.proofs.Standing.{Standing, standing_of, writable_of, writable_file}
 use Rattle.ados_data.proofs.Giving.{leaves_given, given_count, given_long, given_use, given_total, stands_given, given_page, untouched_given}
 
--- the blocks of a file that was cut to d data blocks: those from data block i on, and the extension blocks behind number r, are still to be given back. `holder` is pointer block r, and `next` the one behind it
+-- a file cut to d data blocks, with blocks still to be freed: data blocks from i, and extension blocks after number r;
+-- `holder` is pointer block r and `next` the one after it
 pub record Cutting (blocks extensions : List ℕ) (format : Format) (file d size i r holder next : ℕ) (old image : List ℕ) : Type 0 where
   pub stands : Standing image format file (take d blocks) (take (extension_count d) extensions) size
   pub same_blocks : block_count image ≡ block_count old
@@ -64,18 +63,18 @@ module _ (blocks extensions : List ℕ) (format : Format) (file d size i r holde
   inside_of : (b : ℕ) → IsInside (block_count old) b → IsInside (block_count image) b
   inside_of b h = subst (λ (n : ℕ). IsInside n b) (sym c.same_blocks) h
 
-  -- no page
+  -- not a bitmap block
   no_page : (b : ℕ) → ((p : ℕ) → p < pages_of old → b ≢ page_block old p) → (p : ℕ) → p < pages_of image → b ≢ page_block image p
   no_page b h p l e = let m : p < pages_of old = omega (arith, l, c.same_blocks) in h p m (e ∙ c.leaves.pages p m)
 
-  -- a data block that stays
+  -- a remaining data block
   kept_data : (j : ℕ) → j < d → (p : ℕ) → p < pages_of image → slice_index blocks j ≢ page_block image p
   kept_data j l p m e = (c.stands.data_used j (omega (arith, l, dl))).beside_pages p m (taken_before blocks d j l ∙ e)
 
   pub holder_in : r ≤ length extensions → holder < block_count image
   holder_in l = omega (arith, c.holder_is, c.same_blocks, a.headers_inside r l)
 
-  -- the extension block behind the one at hand is given back, and is at hand then
+  -- the next extension block is freed and becomes the current one
   pub next_header : next ≡ slice_index (file ∷ extensions) (suc r)
   next_header = c.next_is
 
@@ -122,7 +121,7 @@ module _ (blocks extensions : List ℕ) (format : Format) (file d size i r holde
       let is : b ≡ slice_index blocks i = b_is ∙ ap (λ (h : ℕ). long image h (first_pointer - i % 72)) (c.holder_is ∙ ap (slice_index (file ∷ extensions)) (sym row)) ∙ c.pointers i (omega arith) more in
       subst (IsInside (block_count image)) (sym is) (inside_of (slice_index blocks i) (a.data_inside i more))
 
-  -- the next data block is given back
+  -- the next data block is freed
   module _ (new : List ℕ) (b : ℕ) (more : i < length blocks) (row : i / 72 ≡ r) (rows : r ≤ length extensions) (b_is : b ≡ long image holder (first_pointer - i % 72)) (m : BitChanged image b true new) (pages : LawfulPages new) where
     block_is : b ≡ slice_index blocks i
     block_is = b_is ∙ ap (λ (h : ℕ). long image h (first_pointer - i % 72)) (c.holder_is ∙ ap (slice_index (file ∷ extensions)) (sym row)) ∙ c.pointers i (omega arith) more
@@ -164,7 +163,7 @@ module _ (blocks extensions : List ℕ) (format : Format) (file d size i r holde
       first = λ l. given_long image b new m pages c.stands.size_ok c.stands.map data_inside data_in_use file (λ p n. c.beside_pages 0 p (omega arith) n) 4 (omega arith) ∙ c.first l;
     }
 
--- the pointer block of the next pointer is at hand
+-- the pointer block of the next pointer is the current one
 pub entered_row : (blocks extensions : List ℕ) (format : Format) (file d size i holder next holder' next' : ℕ) (old image new : List ℕ) → Cutting blocks extensions format file d size i ((i - 1) / 72) holder next old image → AreApart (block_count old) file blocks extensions → d ≤ length blocks → ((j : ℕ) → j < length blocks → j / 72 ≤ length extensions) → extension_count d ≤ length extensions → d ≤ i → i < length blocks →
     IsEntered image holder next i holder' next' new → Cutting blocks extensions format file d size i (i / 72) holder' next' old new
 entered_row blocks extensions format file d size i holder next holder' next' old image new c a few rows fewer behind more e = elim (cases_eq i 0) [
@@ -191,7 +190,7 @@ entered_row blocks extensions format file d size i holder next holder' next' old
 
 -- ---- the start and the end
 
--- what a cut leaves
+-- the result of a cut
 pub record IsCut (old : List ℕ) (file size : ℕ) (new : List ℕ) : Type 0 where
   pub writable : WritableFile new file
   pub same_format : format_of new ≡ format_of old
@@ -227,14 +226,14 @@ module _ (old : List ℕ) (file size d : ℕ) (w : WritableFile old file) (ok : 
   fewer = omega (arith, few, w.lawful.extensions_fit)
 
   pub rows : (j : ℕ) → j < length blocks → j / 72 ≤ length extensions
-  rows = holder_of old file w.lawful
+  rows = holder_of old file
 
   s0 : Standing old format file blocks extensions (length (contents old file))
   s0 = standing_of old file blocks extensions (contents old file) ok w
 
   module _ (holder last next : ℕ) (holder_here : holder ≡ pointer_block old file (extension_count d)) (last_here : last ≡ long old holder (first_pointer - (d - 1) % 72)) (next_here : next ≡ long old holder next_extension) where
     pub holder_header : holder ≡ slice_index (file ∷ extensions) (extension_count d)
-    holder_header = holder_here ∙ header_is old file w.lawful (extension_count d) fewer
+    holder_header = holder_here ∙ header_is old file (extension_count d) fewer
 
     pub holder_is_inside : holder < block_count old
     holder_is_inside = omega (arith, holder_header, w.lawful.places.headers_inside (extension_count d) fewer)
@@ -242,7 +241,7 @@ module _ (old : List ℕ) (file size d : ℕ) (w : WritableFile old file) (ok : 
     pub last_data : last ≡ slice_index blocks (d - 1)
     last_data =
         let row : extension_count d ≡ (d - 1) / 72 = omega arith in
-        last_here ∙ ap (λ (b : ℕ). long old b (first_pointer - (d - 1) % 72)) (holder_here ∙ ap (pointer_block old file) row) ∙ data_is old file w.lawful (d - 1) (omega (arith, few, some))
+        last_here ∙ ap (λ (b : ℕ). long old b (first_pointer - (d - 1) % 72)) (holder_here ∙ ap (pointer_block old file) row) ∙ data_is old file (d - 1) (omega (arith, few, some))
 
     pub last_inside : last < block_count old
     last_inside = omega (arith, last_data, w.lawful.places.data_inside (d - 1) (omega (arith, few, some)))
@@ -294,7 +293,7 @@ module _ (old : List ℕ) (file size d : ℕ) (w : WritableFile old file) (ok : 
             | inr m ↦ header_long old new format file blocks extensions (length (contents old file)) d (extension_count d) size s0 y' few fewer (j / 72) (first_pointer - j % 72) (omega arith) m (λ z. (omega arith, omega arith)) (omega arith) (omega arith) (omega arith)
           ]
 
-  -- all is given back
+  -- all blocks are freed
   pub is_cut : (r holder next : ℕ) (new : List ℕ) → r ≡ (length blocks - 1) / 72 → Cutting blocks extensions (format_of old) file d size (length blocks) r holder next old new → IsCut old file size new
   is_cut r holder next new row c =
       let dl : length (take d blocks) ≡ d = length-take-le d blocks few in

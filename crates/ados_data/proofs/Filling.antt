@@ -1,23 +1,24 @@
--- A file of which some data bytes were written.
+-- A file with some of its data bytes overwritten.
 use Rattle.std.proofs.Common.{◌≡◌, ◌≢◌, ℕ, ◌+◌, ◌-◌, ◌/◌, ◌%◌, ◌<◌, ◌≤◌, ◌⊎◌, inl, inr, List, ◌∷◌, length, slice_index, sym, ap, ap₂, ◌∙◌, subst, arith}
 use Rattle.std.proofs.lemmas.Bool.{cases_lt, cases_eq}
-use Rattle.adf_block.specs.Fields.{size_long}
+use Rattle.adf_block.specs.Layout.{size_long}
 use Rattle.adf_block.specs.declared.Format.{Format}
 use Rattle.adf_block.specs.declared.Format.TheVariants.{Ofs}
-use Rattle.adf_block.specs.Image.{has_free_bit, byte_at, long, block_sum, block_count, free_bit_count, IsInside, IsSize}
+use Rattle.adf_block.specs.Image.{has_free_bit, byte_at, long, block_sum, block_count, IsInside, IsSize, format_of}
+use Rattle.adf_block.specs.Whole.{free_bit_count}
 use Rattle.adf_block.specs.Frame.{SameBut}
 use Rattle.adf_block.proofs.Frames.{same_long, same_sum, same_count}
-use Rattle.ados_data.specs.Cost.{data_count}
-use Rattle.ados_data.specs.File.{AreApart, format_of, file_byte}
+use Rattle.ados_model.specs.Tree.{data_count, data_size, data_start}
+use Rattle.ados_model.specs.File.{AreApart, data_blocks, extension_blocks, contents}
+use Rattle.ados_model.specs.Stands.{file_byte}
 use Rattle.ados_data.specs.Changing.{IsInUse}
 use Rattle.ados_data.proofs.GrowthSteps.{KeepsData, untouched_holder, untouched_data, skeleton_kept}
 use Rattle.ados_data.proofs.Standing.{marks_stay, Standing, standing_of, writable_of, writable_file, format_kept, map_stays, use_stays, count_stays}
-use Rattle.ados_data.specs.Cost.{data_size, data_start}
 use Rattle.ados_map.specs.Pages.{HasBit}
 use Rattle.ados_data.specs.Others.{Leaves, LeavesOthers}
 use Rattle.ados_data.proofs.Leaving.{leaves_owned}
 use Rattle.ados_data.specs.steps.Edits.{AtData}
-use Rattle.ados_data.specs.File.{overlaid, data_blocks, extension_blocks, contents}
+use Rattle.ados_model.specs.Change.{overlaid}
 use Rattle.ados_data.specs.Changing.{WritableFile}
 use Rattle.ados_data.proofs.Sizes.{same_block, in_front, behind_part, in_block, behind_start, in_count}
 use Rattle.ados_data.proofs.Overlaid.{overlaid_before, overlaid_within, overlaid_behind, length-overlaid}
@@ -80,7 +81,7 @@ module _ (old new : List ℕ) (format : Format) (file : ℕ) (blocks extensions 
   pub put_count : free_bit_count new ≡ free_bit_count old
   put_count = count_stays Put old new h s.size_ok put_owner
 
-  -- the other bytes
+  -- all other bytes
   pub put_other : (j k : ℕ) → j < length blocks → k < 512 → (format ≡ Ofs → 24 ≤ k) → (j ≡ i → (k < low) ⊎ (high ≤ k)) → byte_at new (slice_index blocks j) k ≡ byte_at old (slice_index blocks j) k
   put_other j k l m a side = elim (cases_eq j i) [
     | inr ne ↦ h.same_byte (slice_index blocks j) k m (data_beside j k l ne)
@@ -100,9 +101,9 @@ module _ (old new : List ℕ) (format : Format) (file : ℕ) (blocks extensions 
       (λ c k o at. o.beside_data i within at.0) (λ k at. absurd (s.places.apart 0 i (omega arith) within at.0))
       (λ z. same_sum (Put old new format file blocks extensions size i low high s within fields summed h) old new h file (λ k l at. s.places.apart 0 i (omega arith) within at.0) ∙ z)
 
--- ---- a part of a file written over
+-- ---- a part of a file overwritten
 
--- what one part does to a file
+-- the effect of one part on a file
 pub record IsPut (old : List ℕ) (file : ℕ) (at : ℕ) (ys : List ℕ) (new : List ℕ) : Type 0 where
   pub writable : WritableFile new file
   pub same_format : format_of new ≡ format_of old
@@ -148,7 +149,7 @@ module _ (old new : List ℕ) (format : Format) (file : ℕ) (w : WritableFile o
   length-bytes : length written_bytes ≡ length (contents old file)
   length-bytes = length-overlaid (contents old file) at ys long_enough within
 
-  -- a byte that was not written
+  -- a byte that is not written
   other : (k : ℕ) → k < length (contents old file) → (k / data_size format ≡ at / data_size format → (data_start format + k % data_size format < data_start format + at % data_size format) ⊎ (data_start format + at % data_size format + length ys ≤ data_start format + k % data_size format)) → slice_index (contents old file) k ≡ file_byte format new (data_blocks old file) k
   other k l side =
       w.lawful.holds.contents k l

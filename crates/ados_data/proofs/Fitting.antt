@@ -1,4 +1,4 @@
--- A file for which there are blocks has a size that fits its long.
+-- A file with enough blocks has a size below 2^32.
 use Rattle.std.proofs.Common.{◌≡◌, ◌≢◌, ℕ, ◌+◌, ◌-◌, ◌/◌, ◌^◌, ◌<◌, ◌≤◌, suc, inl, inr, List, [], ◌∷◌, Bool, true, false, cond, eqb, length, slice_index, ◌∙◌, subst, arith}
 use Rattle.std.proofs.lemmas.Bool.{ne_eqb, cases_eq}
 use Rattle.std.proofs.lemmas.Bool.Decides.{Decides-eqb}
@@ -8,13 +8,14 @@ use Rattle.std.proofs.lemmas.Map.Steps.{length-le_from_distinct_below}
 use Rattle.std.specs.List.{list_any}
 use Rattle.adf_block.specs.declared.Format.{Format}
 use Rattle.adf_block.specs.declared.Format.TheVariants.{Ofs, Ffs}
-use Rattle.adf_block.specs.Image.{block_count, has_free_bit, free_bit_count}
+use Rattle.adf_block.specs.Image.{block_count, has_free_bit, format_of}
+use Rattle.adf_block.specs.Whole.{free_bit_count}
 use Rattle.adf_block.proofs.Totals.{total-bound}
-use Rattle.ados_data.specs.Cost.{block_cost, data_count}
-use Rattle.ados_data.specs.File.{LawfulFile, contents, data_blocks, format_of}
+use Rattle.ados_model.specs.Tree.{block_cost, data_count}
+use Rattle.ados_model.specs.File.{LawfulFile, contents, data_blocks}
 use Rattle.ados_data.specs.Changing.{HasFree}
 
--- a number found in a list is below the bound of its elements
+-- an element of a list is below the bound of the list
 below_bound : (xs : List ℕ) (n q : ℕ) → ((i : ℕ) → i < length xs → slice_index xs i < n) → list_any (eqb q) xs ≡ true → q < n
 below_bound [] n q small any = cc
 below_bound (x ∷ xs) n q small any = elim (cases_eq q x) [
@@ -22,14 +23,14 @@ below_bound (x ∷ xs) n q small any = elim (cases_eq q x) [
   | inr ne ↦ below_bound xs n q (λ i l. small (suc i) (omega arith)) (rw (ne_eqb q x ne) at any)
 ]
 
--- numbers below n, none in two places, are at most n
+-- a list of numbers below n without duplicates has at most n elements
 few_once : (xs : List ℕ) (n : ℕ) → ((i : ℕ) → i < length xs → slice_index xs i < n) → ((i j : ℕ) → i < j → j < length xs → slice_index xs i ≢ slice_index xs j) → length xs ≤ n
 few_once xs n small once =
     length-le_from_distinct_below xs n
     (IsDistinct-from_AllPairs Decides-eqb xs (λ i j d l m e. once i j l m (get_or_default xs i 0 d (omega (arith, l, m)) ∙ e ∙ get_or_default xs j d 0 m)))
     (λ q any. below_bound xs n q small any)
 
--- no more blocks are marked free than there are
+-- at most all blocks after the boot blocks are marked free
 marked_bound : (image : List ℕ) → free_bit_count image ≤ block_count image - 2
 marked_bound image = omega (arith, total-bound (λ k. cond (has_free_bit image (k + 2)) 1 0) 1 (block_count image - 2) (λ k. at_most (has_free_bit image (k + 2))))
   where
@@ -37,12 +38,12 @@ marked_bound image = omega (arith, total-bound (λ k. cond (has_free_bit image (
     at_most true = omega arith
     at_most false = omega arith
 
--- so many blocks hold less than 4 GiB
+-- this many blocks hold less than 4 GiB
 size_bound : (format : Format) (size count m n : ℕ) → n ≤ 101602 → m ≤ n - 2 → count ≤ n → block_cost format size ≤ m + (count + ((count + 71) / 72 - 1)) → size < 2 ^ 32
 size_bound Ofs size count m n a b d l = omega arith
 size_bound Ffs size count m n a b d l = omega arith
 
--- the volume's blocks hold fewer bytes than a long can count
+-- the blocks of a volume hold fewer than 2^32 bytes
 pub size_fits : (image : List ℕ) (file size : ℕ) → block_count image ≤ 101602 → LawfulFile image file → HasFree image file size → size < 2 ^ 32
 size_fits image file size small lawful free =
     let count : length (data_blocks image file) ≡ data_count (format_of image) (length (contents image file)) = lawful.data_fits in

@@ -1,9 +1,9 @@
--- A file that takes an extension block keeps the rest to the byte.
+-- A file that gets an extension block leaves all other bytes untouched.
 use Rattle.std.proofs.Common.{◌≡◌, ℕ, suc, ◌/◌, ◌<◌, ◌≤◌, ◌⊎◌, inl, inr, List, [], ◌∷◌, ◌++◌, length, slice_index, refl, sym, ap, ◌∙◌, subst, arith}
 use Rattle.std.proofs.lemmas.List.{length_push}
 use Rattle.adf_block.specs.declared.Format.{Format}
-use Rattle.adf_block.specs.Image.{byte_at, long}
-use Rattle.adf_block.specs.Fields.{pointer_count, next_extension}
+use Rattle.adf_block.specs.Image.{byte_at, long, pointer_count}
+use Rattle.adf_block.specs.Layout.{next_extension}
 use Rattle.adf_block.specs.Frame.{SameBut}
 use Rattle.adf_block.proofs.Frames.{same_long, same_trans, same_weaken}
 use Rattle.ados_map.specs.Pages.{pages_of, page_of}
@@ -29,7 +29,7 @@ module _ (old mid new : List ℕ) (format : Format) (file : ℕ) (blocks extensi
   within : page_of e < pages_of old
   within = omega (arith, n.lowest.inside.0, n.lowest.inside.1)
 
-  -- what changes in a pointer block that was there
+  -- the changes in an old pointer block
   in_header : (q k : ℕ) → q ≤ length extensions → Changed (slice_index (file ∷ extensions) q) k → (k / 4 ≡ next_extension) ⊎ (k / 4 ≡ 5)
   in_header q k l (inl at) = absurd (untaken old e mid n s.size_ok s.map (slice_index (file ∷ extensions) q) k (s.headers_used q l) at)
   in_header q k l (inr (inl at)) = absurd (header_beside_new old e mid n s.size_ok s.map format file blocks extensions size s q l at.0)
@@ -50,7 +50,7 @@ module _ (old mid new : List ℕ) (format : Format) (file : ℕ) (blocks extensi
   pointer_field count j (inl z) = inr (inr (inr z))
   pointer_field count j (inr z) = inr (inl z)
 
-  -- what changes in the new one, once it is empty
+  -- the changes in the new one, which was empty
   in_new : (k : ℕ) → (AtExtensionFields e e k ⊎ AtField (slice_index (file ∷ extensions) (length extensions)) next_extension e k) → IsExtensionField (pointer_count new e) (k / 4)
   in_new k (inl (at, inl z)) = inr (inl z)
   in_new k (inl (at, inr (inl z))) = inr (inr (inl z))

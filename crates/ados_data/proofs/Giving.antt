@@ -1,20 +1,20 @@
--- A block of a file given back.
+-- A block of a file, freed.
 use Rattle.std.proofs.Common.{inl, inr, ◌≡◌, ◌≢◌, ℕ, ◌+◌, ◌<◌, ◌≤◌, true, cond, eqb, List, ◌∷◌, length, slice_index, sym, ap, ◌∙◌, subst, arith}
-use Rattle.adf_block.specs.Fields.{size_long}
+use Rattle.adf_block.specs.Layout.{size_long}
 use Rattle.adf_block.specs.declared.Format.{Format}
 use Rattle.adf_block.specs.declared.Format.TheVariants.{Ofs, Ffs}
-use Rattle.adf_block.specs.Image.{long, block_count, root_key, has_free_bit, free_bit_count, IsInside, IsSize}
+use Rattle.adf_block.specs.Image.{long, block_count, root_key, has_free_bit, IsInside, IsSize, format_of, block_sum}
+use Rattle.adf_block.specs.Whole.{free_bit_count}
 use Rattle.adf_block.proofs.Frames.{same_count}
 use Rattle.ados_map.specs.Pages.{LawfulPages, pages_of, page_block, page_of}
 use Rattle.ados_map.specs.Changes.{MapPlace, BitChanged}
-use Rattle.ados_data.specs.File.{AreApart, format_of}
+use Rattle.ados_model.specs.File.{AreApart}
 use Rattle.ados_data.specs.Changing.{IsInUse, LawfulMap}
 use Rattle.ados_data.proofs.Untouched.{Untouched, untouched_long}
 use Rattle.ados_data.proofs.GrowthSteps.{untouched_holder, untouched_data, skeleton_kept}
 use Rattle.ados_data.proofs.Marks.{has_bit, page_kept, in_use_kept}
 use Rattle.ados_data.proofs.Standing.{Standing}
 use Rattle.std.proofs.lemmas.Bool.{cases_eq}
-use Rattle.adf_block.specs.Image.{block_sum}
 use Rattle.ados_data.proofs.Untouched.{untouched_sum}
 use Rattle.ados_data.specs.Others.{IsOther, Leaves}
 use Rattle.ados_data.proofs.Counts.{one_more}
@@ -32,7 +32,7 @@ module _ (old : List ℕ) (b : ℕ) (new : List ℕ) (m : BitChanged old b true 
   pub given_page : (p : ℕ) → p < pages_of old → page_block new p ≡ page_block old p
   given_page = page_kept (MapPlace old b) old new m.rest ok.1 root_kept
 
-  -- a block that is no page
+  -- a block that is not a bitmap block
   pub untouched_given : (c : ℕ) → ((p : ℕ) → p < pages_of old → c ≢ page_block old p) → Untouched old new c
   untouched_given c beside k l = m.rest.same_byte c k l (λ at. beside (page_of b) page_within at.0)
 

@@ -1,15 +1,16 @@
--- A file with one block more.
+-- A file with one more block.
 use Rattle.std.proofs.Common.{◌≡◌, ◌≢◌, ℕ, zero, suc, ◌-◌, ◌*◌, ◌/◌, ◌%◌, ◌<◌, ◌≤◌, ◌⊎◌, inl, inr, List, [], ◌∷◌, ◌++◌, length, slice_index, sym, ap, ◌∙◌, subst, arith}
 use Rattle.std.proofs.lemmas.Bool.{cases_lt}
 use Rattle.std.proofs.lemmas.List.{length_push}
-use Rattle.adf_block.specs.Fields.{first_pointer, size_long, next_extension}
+use Rattle.adf_block.specs.Layout.{first_pointer, size_long, next_extension}
 use Rattle.adf_block.specs.declared.Format.{Format}
 use Rattle.adf_block.specs.declared.Format.TheVariants.{Ofs}
-use Rattle.adf_block.specs.Image.{byte_at, long, block_sum, block_count, has_free_bit, free_bit_count, IsInside, IsSize}
+use Rattle.adf_block.specs.Image.{byte_at, long, block_sum, block_count, has_free_bit, IsInside, IsSize}
+use Rattle.adf_block.specs.Whole.{free_bit_count}
 use Rattle.adf_block.proofs.Frames.{same_long, same_count}
 use Rattle.ados_map.specs.Pages.{HasBit}
 use Rattle.ados_data.specs.steps.Edits.{AtField, AtFields, AtExtensionFields, AtDataFields}
-use Rattle.ados_data.specs.File.{AreApart}
+use Rattle.ados_model.specs.File.{AreApart}
 use Rattle.ados_data.specs.Changing.{IsInUse}
 use Rattle.ados_data.specs.steps.Blocks.{IsExtended, IsLengthened, AtLink}
 use Rattle.ados_data.proofs.Lists.{head_pushed_before, head_pushed_last, pushed_before, pushed_last, apart_extended, apart_longer}
@@ -27,12 +28,12 @@ module _ (old new : List ℕ) (format : Format) (file : ℕ) (blocks extensions 
   extended_owner c k (inl at) = (subst (IsInUse old) (sym at.0) used, subst (IsInside (block_count old)) (sym at.0) inside)
   extended_owner c k (inr at) = (subst (IsInUse old) (sym at.0) (s.headers_used (length extensions) (omega arith)), subst (IsInside (block_count old)) (sym at.0) (s.places.headers_inside (length extensions) (omega arith)))
 
-  -- a block that is neither
+  -- a block other than these two
   extended_beside : (c k : ℕ) → c ≢ e → c ≢ slice_index (file ∷ extensions) (length extensions) → ¬ (AtExtensionFields e c k ⊎ AtField (slice_index (file ∷ extensions) (length extensions)) next_extension c k)
   extended_beside c k a b (inl at) = a at.0
   extended_beside c k a b (inr at) = b at.0
 
-  -- another long than the link
+  -- a long other than the link
   extended_other : (c k j : ℕ) → k / 4 ≡ j → c ≢ e → j ≢ next_extension → j ≢ 5 → ¬ (AtExtensionFields e c k ⊎ AtField (slice_index (file ∷ extensions) (length extensions)) next_extension c k)
   extended_other c k j m a b d (inl at) = a at.0
   extended_other c k j m a b d (inr (at, inl z)) = b (sym m ∙ z)
@@ -68,11 +69,11 @@ module _ (old new : List ℕ) (format : Format) (file : ℕ) (blocks extensions 
     data_used = λ i l. still_in_use (slice_index blocks i) (s.places.data_inside i l) (s.data_used i l);
   }
 
-  -- the bytes of data blocks stay
+  -- the bytes of data blocks are unchanged
   pub extended_byte : (i k : ℕ) → i < length blocks → k < 512 → byte_at new (slice_index blocks i) k ≡ byte_at old (slice_index blocks i) k
   extended_byte i k l m = x.rest.same_byte (slice_index blocks i) k m (extended_beside (slice_index blocks i) k (beside_data i l) (λ z. s.places.apart (length extensions) i (omega arith) l (sym z)))
 
-  -- and so do the marks
+  -- the marks are unchanged
   pub extended_marks : (c : ℕ) → HasBit old c → has_free_bit new c ≡ has_free_bit old c
   extended_marks = marks_stay (λ c k. AtExtensionFields e c k ⊎ AtField (slice_index (file ∷ extensions) (length extensions)) next_extension c k) old new x.rest s.size_ok extended_owner
 
@@ -92,14 +93,14 @@ module _ (old new : List ℕ) (format : Format) (file : ℕ) (blocks extensions 
   lengthened_owner c k (inr (inr (inl at))) = (subst (IsInUse old) (sym at.0) (s.headers_used (length extensions) (omega arith)), subst (IsInside (block_count old)) (sym at.0) (s.places.headers_inside (length extensions) (omega arith)))
   lengthened_owner c k (inr (inr (inr at))) = (subst (IsInUse old) (sym at.0) (s.headers_used 0 (omega arith)), subst (IsInside (block_count old)) (sym at.0) (s.places.headers_inside 0 (omega arith)))
 
-  -- an extension block that isn't the last one
+  -- an extension block other than the last one
   other_extension : (q k : ℕ) → 0 < q → q < length extensions → ¬ Lengthened (slice_index (file ∷ extensions) q) k
   other_extension q k l m (inl at) = beside_headers q (omega arith) at.1
   other_extension q k l m (inr (inl at)) = s.places.apart q (length blocks - 1) (omega arith) (omega (arith, at.1)) at.2.0
   other_extension q k l m (inr (inr (inl at))) = s.places.headers_once q (length extensions) m (omega arith) at.0
   other_extension q k l m (inr (inr (inr at))) = s.places.headers_once 0 q l (omega arith) (sym at.0)
 
-  -- a long of a pointer block that stays
+  -- an unchanged long of a pointer block
   kept_long : (q k j : ℕ) → k / 4 ≡ j → q ≤ length extensions → (q ≡ length extensions → (j ≢ 2) × (j ≢ first_pointer - length blocks % 72)) → j ≢ 4 → j ≢ 5 → ¬ Lengthened (slice_index (file ∷ extensions) q) k
   kept_long q k j m l a d e (inl at) = beside_headers q l at.1
   kept_long q k j m l a d e (inr (inl at)) = s.places.apart q (length blocks - 1) l (omega (arith, at.1)) at.2.0
@@ -116,14 +117,14 @@ module _ (old new : List ℕ) (format : Format) (file : ℕ) (blocks extensions 
   header_long : (q j : ℕ) → j < 128 → q ≤ length extensions → (q ≡ length extensions → (j ≢ 2) × (j ≢ first_pointer - length blocks % 72)) → j ≢ 4 → j ≢ 5 → long new (slice_index (file ∷ extensions) q) j ≡ long old (slice_index (file ∷ extensions) q) j
   header_long q j l m a d e = same_long Lengthened old new x.rest (slice_index (file ∷ extensions) q) j l (λ k r. kept_long q k j r m a d e)
 
-  -- a data block that isn't the last one
+  -- a data block other than the last one
   other_data : (i k : ℕ) → suc i < length blocks → ¬ Lengthened (slice_index blocks i) k
   other_data i k l (inl at) = beside_data i (omega arith) at.1
   other_data i k l (inr (inl at)) = s.places.data_once i (length blocks - 1) (omega arith) (omega arith) at.2.0
   other_data i k l (inr (inr (inl at))) = s.places.apart (length extensions) i (omega arith) (omega arith) (sym at.0)
   other_data i k l (inr (inr (inr at))) = s.places.apart 0 i (omega arith) (omega arith) (sym at.0)
 
-  -- a long of the last one that stays
+  -- an unchanged long of the last data block
   last_other : (i k j : ℕ) → k / 4 ≡ j → suc i ≡ length blocks → j < 4 → ¬ Lengthened (slice_index blocks i) k
   last_other i k j m l a (inl at) = beside_data i (omega arith) at.1
   last_other i k j m l a (inr (inl (f, c, (at, inl z)))) = omega (arith, m, z, a)
@@ -173,7 +174,7 @@ module _ (old new : List ℕ) (format : Format) (file : ℕ) (blocks extensions 
     ];
   }
 
-  -- the data bytes of the blocks that were there stay
+  -- the data bytes of the old blocks are unchanged
   pub longer_byte : (i k : ℕ) → i < length blocks → k < 512 → (format ≡ Ofs → 24 ≤ k) → byte_at new (slice_index blocks i) k ≡ byte_at old (slice_index blocks i) k
   longer_byte i k l m a = x.rest.same_byte (slice_index blocks i) k m no
     where
@@ -184,7 +185,7 @@ module _ (old new : List ℕ) (format : Format) (file : ℕ) (blocks extensions 
       no (inr (inr (inl at))) = s.places.apart (length extensions) i (omega arith) l (sym at.0)
       no (inr (inr (inr at))) = s.places.apart 0 i (omega arith) l (sym at.0)
 
-  -- and those of the new one
+  -- the data bytes of the new block are unchanged
   pub longer_new_byte : (k : ℕ) → k < 512 → (format ≡ Ofs → 24 ≤ k) → byte_at new b k ≡ byte_at old b k
   longer_new_byte k m a = x.rest.same_byte b k m no
     where
@@ -194,7 +195,7 @@ module _ (old new : List ℕ) (format : Format) (file : ℕ) (blocks extensions 
       no (inr (inr (inl at))) = beside_headers (length extensions) (omega arith) (sym at.0)
       no (inr (inr (inr at))) = beside_headers 0 (omega arith) (sym at.0)
 
-  -- the marks stay
+  -- the marks are unchanged
   pub longer_marks : (c : ℕ) → HasBit old c → has_free_bit new c ≡ has_free_bit old c
   longer_marks = marks_stay Lengthened old new x.rest s.size_ok lengthened_owner
 

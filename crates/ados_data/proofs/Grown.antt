@@ -1,14 +1,12 @@
--- A file that grew, and what that keeps to the byte.
+-- A file that grew, and the bytes that this leaves untouched.
 use Rattle.std.proofs.Common.{◌≡◌, ℕ, zero, suc, ◌/◌, ◌<◌, ◌≤◌, inl, inr, List, ◌∷◌, length, take, slice_index, refl, sym, ap, ◌∙◌, subst, arith}
 use Rattle.std.proofs.lemmas.Bool.{cases_lt}
 use Rattle.std.proofs.lemmas.List.{length-take, get_or-take, take-take}
 use Rattle.adf_block.specs.declared.Format.{Format}
 use Rattle.adf_block.specs.declared.Format.TheVariants.{Ofs, Ffs}
-use Rattle.adf_block.specs.Image.{byte_at, long, block_count}
-use Rattle.adf_block.specs.Fields.{pointer_count, file_size}
+use Rattle.adf_block.specs.Image.{byte_at, long, block_count, pointer_count, file_size, format_of}
 use Rattle.adf_block.specs.Frame.{SameBut}
 use Rattle.ados_map.specs.Pages.{pages_of, page_block}
-use Rattle.ados_data.specs.File.{format_of}
 use Rattle.ados_data.specs.Unnamed.{IsPointerField, IsHeaderField, IsExtensionField, data_end, IsBeside, KeepsUnnamed}
 use Rattle.ados_data.proofs.Skeleton.{Skeleton}
 
@@ -38,7 +36,8 @@ within_reach Ffs a b i k l m h = omega arith
 
 -- ---- growth
 
--- a file has its blocks in their places and others behind them, no smaller size, and no fewer pointers in a block; and the volume has its pages where they were
+-- a file has its old blocks at their positions, then others; its size and the number of pointers in a block did not
+-- shrink; and the volume has the same bitmap blocks
 pub record Grown (old : List ℕ) (file : ℕ) (blocks extensions : List ℕ) (new : List ℕ) (blocks' extensions' : List ℕ) : Type 0 where
   pub same_length : length new ≡ length old
   pub pages : (p : ℕ) → p < pages_of old → page_block new p ≡ page_block old p
@@ -50,7 +49,7 @@ pub record Grown (old : List ℕ) (file : ℕ) (blocks extensions : List ℕ) (n
   pub headers : (q : ℕ) → q ≤ length extensions → slice_index (file ∷ extensions') q ≡ slice_index (file ∷ extensions) q
   pub counts : (q : ℕ) → q ≤ length extensions → pointer_count old (slice_index (file ∷ extensions) q) ≤ pointer_count new (slice_index (file ∷ extensions) q)
 
--- a list in front of another
+-- a list that is a prefix of another
 pub front_length : (xs ys : List ℕ) → take (length xs) ys ≡ xs → length xs ≤ length ys
 front_length xs ys e = omega (arith, length-take (length xs) ys, ap length e)
 
@@ -95,7 +94,7 @@ keeps_same image file blocks extensions = record {
   first_kept = λ e. refl;
 }
 
--- ---- growth behind growth
+-- ---- one growth after another
 
 module _ (old mid new : List ℕ) (file : ℕ) (blocks extensions blocks' extensions' blocks'' extensions'' : List ℕ) (g : Grown old file blocks extensions mid blocks' extensions') (h : Grown mid file blocks' extensions' new blocks'' extensions'') where
   counts_mid : block_count mid ≡ block_count old
@@ -173,7 +172,7 @@ module _ (old mid new : List ℕ) (file : ℕ) (blocks extensions blocks' extens
         later_end : (x y i k : ℕ) → x ≤ y → data_end (format_of old) y i ≤ k → data_end (format_of mid) x i ≤ k
         later_end x y i k l d = subst (λ (f : Format). data_end f x i ≤ k) (sym g.same_format) (reach (format_of old) x y i k l d)
 
--- ---- the lists stay, and only fields and bytes of the file change
+-- ---- the lists are unchanged, and only fields and bytes of the file change
 
 pub keeps_within : (changed : ℕ → ℕ → Type 0) (old new : List ℕ) (file : ℕ) (blocks extensions : List ℕ) → SameBut changed old new → ((c k : ℕ) → IsBeside old file blocks extensions c → ¬ changed c k) → ((k : ℕ) → changed file k → IsHeaderField (pointer_count new file) (k / 4)) →
     ((q k : ℕ) → q < length extensions → changed (slice_index extensions q) k → IsPointerField (pointer_count new (slice_index extensions q)) (k / 4)) → ((i k : ℕ) → i < length blocks → changed (slice_index blocks i) k → k < data_end (format_of old) (file_size new file) i) →

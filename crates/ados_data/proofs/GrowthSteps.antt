@@ -1,17 +1,17 @@
--- What becomes of a file's skeleton as its blocks change, one kind of step at a time.
+-- The skeleton of a file after each kind of step.
 use Rattle.std.proofs.Common.{◌≡◌, ◌≢◌, ℕ, suc, ◌+◌, ◌-◌, ◌*◌, ◌<◌, ◌≤◌, inl, inr, min, List, [], ◌∷◌, ◌++◌, length, take, slice_index, refl, sym, ap, ◌∙◌, subst, arith}
 use Rattle.std.proofs.lemmas.Bool.{cases_lt, cases_eq}
 use Rattle.std.proofs.lemmas.List.{length_push, length-take-le}
-use Rattle.adf_block.specs.Fields.{secondary_type_long, first_pointer, size_long, parent_long, next_extension}
+use Rattle.adf_block.specs.Layout.{secondary_type_long, first_pointer, size_long, parent_long, next_extension}
 use Rattle.adf_block.specs.declared.Format.{Format}
 use Rattle.adf_block.specs.declared.Format.TheVariants.{Ofs}
 use Rattle.adf_block.specs.Image.{long, block_sum}
-use Rattle.ados_data.specs.File.{HasExtension, HasOfsData}
+use Rattle.ados_model.specs.Stands.{HasExtension, HasOfsData}
 use Rattle.ados_data.proofs.Untouched.{Untouched, untouched_long, untouched_sum, extension_kept}
 use Rattle.ados_data.proofs.Lists.{pushed_before, pushed_last, pushed_past, head_pushed_before, taken_before, taken_past, head_taken}
 use Rattle.ados_data.proofs.Skeleton.{IsHolder, IsData, Skeleton}
 
--- a pointer block keeps its fields: its longs but for those of the first data block, the sum and the size
+-- a pointer block keeps its fields: all longs but the first data block, the checksum and the size
 pub record KeepsHolder (old new : List ℕ) (h : ℕ) : Type 0 where
   pub longs : (j : ℕ) → j < 128 → j ≢ 4 → j ≢ 5 → j ≢ size_long → long new h j ≡ long old h j
   pub sum : block_sum old h ≡ 0 → block_sum new h ≡ 0
@@ -28,7 +28,7 @@ pub untouched_data : (old new : List ℕ) (c : ℕ) → Untouched old new c → 
 untouched_data old new c u = record { longs = λ j l. untouched_long old new c u j (omega arith); sum = λ e. untouched_sum old new c u ∙ e }
 
 module _ (old new : List ℕ) (format : Format) (file : ℕ) where
-  -- a pointer block among other lists
+  -- a pointer block in other lists
   holder_kept : (blocks extensions blocks' extensions' : List ℕ) (q : ℕ) → slice_index (file ∷ extensions') q ≡ slice_index (file ∷ extensions) q → slice_index extensions' q ≡ slice_index extensions q → min 72 (length blocks' - 72 * q) ≡ min 72 (length blocks - 72 * q) →
       ((p : ℕ) → p < 72 → 72 * q + p < length blocks' → (72 * q + p < length blocks) × (slice_index blocks' (72 * q + p) ≡ slice_index blocks (72 * q + p))) →
       (0 < q → block_sum old (slice_index (file ∷ extensions) q) ≡ 0) → KeepsHolder old new (slice_index (file ∷ extensions) q) → IsHolder old file blocks extensions q → IsHolder new file blocks' extensions' q
@@ -42,7 +42,7 @@ module _ (old new : List ℕ) (format : Format) (file : ℕ) where
         (k.sum (summed l)) (h.extension l));
   }
 
-  -- a data block among other data blocks, in a file of another size
+  -- a data block in another list, in a file of another size
   data_kept : (blocks blocks' : List ℕ) (size size' i : ℕ) → slice_index blocks' i ≡ slice_index blocks i → slice_index blocks' (suc i) ≡ slice_index blocks (suc i) → min 488 (size' - 488 * i) ≡ min 488 (size - 488 * i) → KeepsData old new (slice_index blocks i) → IsData old file blocks size i → IsData new file blocks' size' i
   data_kept blocks blocks' size size' i here following same k d = record {
     next = ap (λ (b : ℕ). long new b 4) here ∙ k.longs 4 (omega arith) ∙ d.next ∙ sym following;
@@ -60,7 +60,7 @@ module _ (old new : List ℕ) (format : Format) (file : ℕ) where
     holder_sum : (q : ℕ) → q ≤ length extensions → 0 < q → block_sum old (slice_index (file ∷ extensions) q) ≡ 0
     holder_sum q l m = ((s.holders q l).extension m).sum
 
-    -- all fields stay
+    -- all fields are unchanged
     pub skeleton_kept : ((q : ℕ) → q ≤ length extensions → KeepsHolder old new (slice_index (file ∷ extensions) q)) → long new file size_long ≡ long old file size_long → long new file 4 ≡ long old file 4 → (format ≡ Ofs → (i : ℕ) → i < length blocks → KeepsData old new (slice_index blocks i)) → Skeleton new format file blocks extensions size
     skeleton_kept holders sized first datas = record {
       size_field = sized ∙ s.size_field;
@@ -69,7 +69,7 @@ module _ (old new : List ℕ) (format : Format) (file : ℕ) where
       datas = λ e i l. data_kept blocks blocks size size i refl refl refl (datas e i l) (s.datas e i l);
     }
 
-    -- one extension block more, which is empty
+    -- one more extension block, without pointers
     pub skeleton_extended : (e : ℕ) → length blocks ≡ 72 * suc (length extensions) →
         ((q : ℕ) → q < length extensions → KeepsHolder old new (slice_index (file ∷ extensions) q)) →
         ((j : ℕ) → j < 128 → j ≢ next_extension → j ≢ 5 → long new (slice_index (file ∷ extensions) (length extensions)) j ≡ long old (slice_index (file ∷ extensions) (length extensions)) j) →
@@ -123,7 +123,7 @@ module _ (old new : List ℕ) (format : Format) (file : ℕ) where
           extension = λ l. subst (HasExtension new file) (sym there) fields;
         }
 
-    -- one data block more, which holds nothing yet; its pointer is pointer p of the last pointer block
+    -- one more data block, without data; its pointer is pointer p of the last pointer block
     pub skeleton_longer : (b p : ℕ) → length blocks ≡ 72 * length extensions + p → p < 72 →
         ((q : ℕ) → q < length extensions → KeepsHolder old new (slice_index (file ∷ extensions) q)) →
         ((j : ℕ) → j < 128 → j ≢ 2 → j ≢ first_pointer - p → j ≢ 4 → j ≢ 5 → long new (slice_index (file ∷ extensions) (length extensions)) j ≡ long old (slice_index (file ∷ extensions) (length extensions)) j) →
@@ -199,7 +199,7 @@ module _ (old new : List ℕ) (format : Format) (file : ℕ) where
               fields = subst (HasOfsData new file size (length blocks)) (sym here) (new_data e).0;
             }
 
-    -- another size, with as many blocks as before or fewer
+    -- another size, with at most as many blocks
     pub skeleton_resized : (d x size' : ℕ) → d ≤ length blocks → x ≤ length extensions → 72 * x ≤ d → (0 < x → 72 * x < d) → d ≤ 72 * suc x → (format ≡ Ofs → 488 * d ≤ size' + 487) → (format ≡ Ofs → 488 * (d - 1) ≤ size) →
         ((q : ℕ) → q < x → KeepsHolder old new (slice_index (file ∷ extensions) q)) →
         ((j : ℕ) → j < 128 → j ≢ 2 → j ≢ next_extension → j ≢ 4 → j ≢ 5 → j ≢ size_long → long new (slice_index (file ∷ extensions) x) j ≡ long old (slice_index (file ∷ extensions) x) j) →

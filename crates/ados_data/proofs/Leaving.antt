@@ -1,8 +1,8 @@
--- What the steps of a change leave as it is.
+-- What the steps of a change leave untouched.
 use Rattle.std.proofs.Common.{◌≡◌, ◌≢◌, ℕ, suc, ◌-◌, ◌/◌, ◌<◌, ◌≤◌, ◌⊎◌, inl, inr, true, false, List, [], ◌∷◌, ◌++◌, length, take, slice_index, refl, sym, ap, ◌∙◌, subst, arith}
 use Rattle.std.proofs.lemmas.Bool.{cases_Bool, cases_lt, cases_eq, cases_order, false≢true}
 use Rattle.std.proofs.lemmas.List.{length_push}
-use Rattle.adf_block.specs.Fields.{next_extension}
+use Rattle.adf_block.specs.Layout.{next_extension}
 use Rattle.adf_block.specs.declared.Format.{Format}
 use Rattle.adf_block.specs.Image.{block_sum, block_count, root_key, has_free_bit, IsInside, IsSize}
 use Rattle.adf_block.specs.Frame.{SameBut}
@@ -36,7 +36,7 @@ leaves_same image file blocks extensions = record {
   page_sums = λ p l e. e;
 }
 
--- one change after another, the second of a file with other lists
+-- two changes, the second of a file with other lists
 pub leaves_both : (old mid new : List ℕ) (file : ℕ) (blocks extensions blocks' extensions' : List ℕ) → Leaves old file blocks extensions mid → Leaves mid file blocks' extensions' new →
     ((c : ℕ) → IsOther old file blocks extensions c → ((q : ℕ) → q ≤ length extensions' → c ≢ slice_index (file ∷ extensions') q) × ((i : ℕ) → i < length blocks' → c ≢ slice_index blocks' i)) → Leaves old file blocks extensions new
 leaves_both old mid new file blocks extensions blocks' extensions' a b more = record {
@@ -67,7 +67,7 @@ leaves_both old mid new file blocks extensions blocks' extensions' a b more = re
       beside_data = (more c o).1;
     }
 
--- blocks of the file alone change
+-- only blocks of the file change
 pub leaves_owned : (changed : ℕ → ℕ → Type 0) (old new : List ℕ) (file : ℕ) (blocks extensions : List ℕ) → SameBut changed old new → IsSize (block_count old) → ((c k : ℕ) → changed c k → IsInUse old c × IsInside (block_count old) c) →
     ((c k : ℕ) → IsOther old file blocks extensions c → ¬ changed c k) → ((k : ℕ) → changed file k → IsDataField (k / 4)) → (block_sum old file ≡ 0 → block_sum new file ≡ 0) → Leaves old file blocks extensions new
 leaves_owned changed old new file blocks extensions h ok owner beside field summed = record {
@@ -81,7 +81,7 @@ leaves_owned changed old new file blocks extensions h ok owner beside field summ
   page_sums = λ p l e. same_sum changed old new h (page_block old p) (λ k m. pages_free changed old new h ok owner p k l) ∙ e;
 }
 
--- a block is taken
+-- a block is allocated
 pub leaves_taken : (old : List ℕ) (b : ℕ) (new : List ℕ) (file : ℕ) (blocks extensions : List ℕ) → IsNewBlock old b new → IsSize (block_count old) → LawfulMap old → IsInUse old file → Leaves old file blocks extensions new
 leaves_taken old b new file blocks extensions n ok m header_used = record {
   same_length = n.rest.same_length;
@@ -121,7 +121,7 @@ leaves_taken old b new file blocks extensions n ok m header_used = record {
 
 -- ---- lists that grow
 
--- another block is none of the new ones
+-- another block is not one of the new ones
 pub beside_gains : (old new : List ℕ) (file : ℕ) (blocks extensions blocks' extensions' : List ℕ) → Gains old file blocks extensions new blocks' extensions' → (c : ℕ) → IsOther old file blocks extensions c → ((q : ℕ) → q ≤ length extensions' → c ≢ slice_index (file ∷ extensions') q) × ((i : ℕ) → i < length blocks' → c ≢ slice_index blocks' i)
 beside_gains old new file blocks extensions blocks' extensions' g c o = (
   (λ q l e. elim (g.headers q l) [
@@ -137,7 +137,7 @@ beside_gains old new file blocks extensions blocks' extensions' g c o = (
 pub gains_same : (image : List ℕ) (file : ℕ) (blocks extensions : List ℕ) → Gains image file blocks extensions image blocks extensions
 gains_same image file blocks extensions = record { headers = λ q l. inl (l, refl); data_blocks_of = λ i l. inl (l, refl); marks = λ c i u. u; taken = λ c i f u. absurd (false≢true (sym u ∙ f)); lowest = λ c d i p l f u. absurd (false≢true (sym u ∙ f)); data_rises = λ i j l m n. absurd (omega (arith, l, m, n)); extensions_rise = λ i j l m n. absurd (omega (arith, l, m, n)) }
 
--- a list that rises, and then grows by blocks that were free when its own no longer were
+-- a rising list that grows by blocks that were free when its own no longer were
 rises_both : (old mid : List ℕ) (front xs ys : List ℕ) → take (length xs) ys ≡ xs → ((i : ℕ) → i < length ys → IsInside (block_count old) (slice_index ys i))
     → ((i : ℕ) → length front ≤ i → i < length xs → has_free_bit old (slice_index xs i) ≡ true) → ((i : ℕ) → i < length xs → has_free_bit mid (slice_index xs i) ≡ false)
     → ((i : ℕ) → length xs ≤ i → i < length ys → WasFree mid (slice_index ys i))
@@ -271,7 +271,7 @@ module _ (old new : List ℕ) (format : Format) (file : ℕ) (blocks extensions 
       field k (inr (inr (at, inr (inl z)))) = inr (inr (inr (inr (inl z))))
       field k (inr (inr (at, inr (inr z)))) = inr (inr (inl z))
 
--- ---- what a new block adds to the lists
+-- ---- a new block joins the lists
 
 pub gains_taken : (old : List ℕ) (b : ℕ) (new : List ℕ) (file : ℕ) (blocks extensions blocks' extensions' : List ℕ) → IsNewBlock old b new → ((q : ℕ) → q ≤ length extensions' → ((q ≤ length extensions) × (slice_index (file ∷ extensions') q ≡ slice_index (file ∷ extensions) q)) ⊎ (slice_index (file ∷ extensions') q ≡ b)) →
     ((i : ℕ) → i < length blocks' → ((i < length blocks) × (slice_index blocks' i ≡ slice_index blocks i)) ⊎ (slice_index blocks' i ≡ b)) → IsOwn file blocks' extensions' b → length blocks' ≤ suc (length blocks) → length extensions' ≤ suc (length extensions) → Gains old file blocks extensions new blocks' extensions'
@@ -291,7 +291,7 @@ gains_taken old b new file blocks extensions blocks' extensions' n headers datas
   extensions_rise = λ i j l m k. absurd (omega (arith, l, m, k, one'));
 }
 
--- marks that all stay
+-- all marks are unchanged
 pub gains_kept : (old new new' : List ℕ) (file : ℕ) (blocks extensions blocks' extensions' : List ℕ) → block_count new ≡ block_count old → ((c : ℕ) → HasBit new c → has_free_bit new' c ≡ has_free_bit new c) → Gains old file blocks extensions new blocks' extensions' → Gains old file blocks extensions new' blocks' extensions'
 gains_kept old new new' file blocks extensions blocks' extensions' counts same g = record {
   headers = g.headers;

@@ -1,20 +1,20 @@
--- A file that becomes longer within its last data block.
+-- A file made longer within its last data block.
 use Rattle.std.proofs.Common.{◌≡◌, ◌≢◌, ℕ, ◌+◌, ◌-◌, ◌*◌, ◌/◌, ◌%◌, ◌<◌, ◌≤◌, inl, inr, List, ◌∷◌, ◌++◌, length, take, slice_index, refl, sym, ap, ap₂, ◌∙◌, subst, arith}
 use Rattle.std.proofs.lemmas.Bool.{cases_lt}
-use Rattle.adf_block.specs.Fields.{size_long}
+use Rattle.adf_block.specs.Layout.{size_long}
 use Rattle.adf_block.specs.declared.Format.{Format}
 use Rattle.adf_block.specs.declared.Format.TheVariants.{Ofs}
-use Rattle.adf_block.specs.Image.{byte_at, bytes_at, long, block_count, free_bit_count, IsSize}
+use Rattle.adf_block.specs.Image.{byte_at, bytes_at, long, block_count, IsSize, format_of}
+use Rattle.adf_block.specs.Whole.{free_bit_count}
 use Rattle.adf_block.proofs.Blocks.{byte-bytes_at}
-use Rattle.ados_data.specs.Cost.{data_count}
-use Rattle.ados_data.specs.File.{format_of, file_byte}
+use Rattle.ados_model.specs.Tree.{data_count, data_size, data_start}
+use Rattle.ados_model.specs.Stands.{file_byte}
 use Rattle.ados_data.specs.steps.Blocks.{IsResized}
 use Rattle.ados_data.proofs.Standing.{Standing, standing_of, writable_of, writable_file}
 use Rattle.std.proofs.lemmas.List.{take_all, length-append, get_or_append_left, get_or-append_right}
 use Rattle.std.proofs.Math.Nat.{mod-lt}
 use Rattle.ados_data.specs.declared.grow.End.{End}
-use Rattle.ados_data.specs.Cost.{data_size, data_start}
-use Rattle.ados_data.specs.File.{data_blocks, extension_blocks, contents}
+use Rattle.ados_model.specs.File.{data_blocks, extension_blocks, contents}
 use Rattle.ados_data.specs.Changing.{WritableFile}
 use Rattle.ados_data.specs.steps.FileEnd.{IsEnd, IsLonger}
 use Rattle.ados_data.proofs.Sizes.{few_bytes, whole_block, in_block, behind_start, filled_size, filled_place, in_count, more_blocks}
@@ -27,7 +27,7 @@ use Rattle.ados_data.proofs.Spelled.{data_blocks_are, extension_blocks_are, cont
 use Rattle.ados_data.specs.Unnamed.{KeepsUnnamed}
 use Rattle.ados_data.proofs.Within.{keeps_resized}
 
--- a file that got what stands behind its bytes in its last data block, and kept its end
+-- the file got the bytes after its end in its last data block, and has the same end
 pub record IsFilled (old : List ℕ) (format : Format) (file : ℕ) (end : End) (size : ℕ) (new : List ℕ) : Type 0 where
   pub writable : WritableFile new file
   pub same_format : format_of new ≡ format_of old
@@ -73,7 +73,7 @@ module _ (i0 i1 : List ℕ) (format : Format) (file : ℕ) (end : End) (part : �
       (subst (λ (xs : List ℕ). Standing i1 format file (take (length blocks) blocks) xs (old + part)) (take_all (length extensions) extensions (omega arith))
       (stands_resized i0 i1 format file blocks extensions old (length blocks) (length extensions) (old + part) s0 y' (omega arith) (omega arith) w.lawful.extensions_fit sizes.3 sizes.4))
 
-  -- what stands behind the bytes
+  -- the bytes after the end
   abbrev behind : List ℕ
   behind = bytes_at i0 (slice_index blocks (old / data_size format)) (data_start format + old % data_size format) part
 
@@ -92,7 +92,7 @@ module _ (i0 i1 : List ℕ) (format : Format) (file : ℕ) (end : End) (part : �
   length-filled : length filled ≡ old + part
   length-filled = length-append (contents i0 file) behind ∙ ap (λ (n : ℕ). old + n) length-behind
 
-  -- the size is another, and no byte of the data
+  -- the size changes, and no byte of the data
   later : (i k : ℕ) → i < length blocks → k < 512 → (format ≡ Ofs → 24 ≤ k) → byte_at i1 (slice_index blocks i) k ≡ byte_at i0 (slice_index blocks i) k
   later = resized_byte i0 i1 format file blocks extensions old (length blocks) (length extensions) (old + part) s0 y' (omega arith) (omega arith)
 
@@ -152,7 +152,7 @@ module _ (i0 i1 : List ℕ) (format : Format) (file : ℕ) (end : End) (part : �
             (subst (λ (xs : List ℕ). KeepsUnnamed i0 file blocks extensions i1 blocks xs) (sym ex) (keeps_resized i0 i1 format file blocks extensions old (old + part) s0 sizes.0 y'));
       }
 
--- the same, by the numbers of a call
+-- the same with the numbers of a call
 module _ (i0 i1 : List ℕ) (format : Format) (file : ℕ) (end : End) (part size room : ℕ) (w : WritableFile i0 file) (ok : IsSize (block_count i0)) (f : format ≡ format_of i0) (e : IsEnd i0 file end)
     (room_is : room ≡ data_size format) (size_is : size ≡ long i0 file size_long) (started : size % room ≢ 0) (fits : part ≤ room - size % room)
     (y : IsResized i0 format file end.holder end.last end.count (size + part) i1) where
@@ -172,7 +172,7 @@ module _ (i0 i1 : List ℕ) (format : Format) (file : ℕ) (end : End) (part siz
       (λ z. started (from_here ∙ z)) (omega (arith, from_here, room_is, small, fits))
       (subst (λ (n : ℕ). IsResized i0 format file end.holder end.last end.count (n + part) i1) size_here y))
 
--- ---- what the calls need
+-- ---- the premises of the calls
 
 module _ (i0 : List ℕ) (file : ℕ) (end : End) (w : WritableFile i0 file) (e : IsEnd i0 file end) where
   pub end_apart : 0 < end.count → (end.last ≢ end.holder) × (end.last ≢ file)

@@ -1,4 +1,4 @@
--- Lists and sizes, a lawful file and its blocks, then each step of a change, and the changes made of these steps.
+-- Lists and sizes, a lawful file and its blocks, each step of a change, and the changes as sequences of steps.
 pub mod Chains
 pub mod Spelled
 pub mod Sizes

@@ -1,9 +1,9 @@
--- Places in a list that grows or is cut, and in a header before it.
+-- Positions in a list that grows or is cut, and in the same list after a header.
 use Rattle.std.proofs.Common.{◌≡◌, ◌≢◌, ℕ, zero, suc, ◌<◌, ◌≤◌, inl, inr, List, [], ◌∷◌, ◌++◌, length, take, slice_index, refl, sym, ap, ◌∙◌, subst, arith}
 use Rattle.std.proofs.lemmas.Bool.{cases_lt}
 use Rattle.std.proofs.lemmas.List.{get_or_append_left, get_or_push, get_or-take, get_or_past, length_push, length-take-le}
 use Rattle.adf_block.specs.Image.{IsInside}
-use Rattle.ados_data.specs.File.{AreApart}
+use Rattle.ados_model.specs.File.{AreApart}
 
 pub pushed_before : (xs : List ℕ) (y i : ℕ) → i < length xs → slice_index (xs ++ y ∷ []) i ≡ slice_index xs i
 pushed_before xs y i l = get_or_append_left xs (y ∷ []) 0 i l
@@ -34,10 +34,10 @@ pub head_taken : (file : ℕ) (xs : List ℕ) (n q : ℕ) → q ≤ n → slice_
 head_taken file xs n zero l = refl
 head_taken file xs n (suc q) l = taken_before xs n q (omega arith)
 
--- ---- blocks in one place each
+-- ---- blocks without duplicates
 
 module _ (n file : ℕ) (blocks extensions : List ℕ) (a : AreApart n file blocks extensions) where
-  -- one extension block more
+  -- one more extension block
   pub apart_extended : (e : ℕ) → IsInside n e → ((q : ℕ) → q ≤ length extensions → slice_index (file ∷ extensions) q ≢ e) → ((i : ℕ) → i < length blocks → slice_index blocks i ≢ e) → AreApart n file blocks (extensions ++ e ∷ [])
   apart_extended e inside headers data_blocks = record {
     headers_inside = λ q l. elim (cases_lt q (suc (length extensions))) [
@@ -56,7 +56,7 @@ module _ (n file : ℕ) (blocks extensions : List ℕ) (a : AreApart n file bloc
     ];
   }
 
-  -- one data block more
+  -- one more data block
   pub apart_longer : (b : ℕ) → IsInside n b → ((q : ℕ) → q ≤ length extensions → slice_index (file ∷ extensions) q ≢ b) → ((i : ℕ) → i < length blocks → slice_index blocks i ≢ b) → AreApart n file (blocks ++ b ∷ []) extensions
   apart_longer b inside headers data_blocks = record {
     headers_inside = a.headers_inside;

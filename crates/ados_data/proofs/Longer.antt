@@ -1,23 +1,22 @@
--- A file that takes a data block keeps the rest to the byte.
+-- A file that gets a data block leaves all other bytes untouched.
 use Rattle.std.proofs.Common.{◌≡◌, ◌≢◌, ℕ, suc, ◌+◌, ◌-◌, ◌*◌, ◌/◌, ◌%◌, ◌<◌, ◌≤◌, ◌⊎◌, inl, inr, List, [], ◌∷◌, ◌++◌, length, slice_index, refl, sym, ap, ◌∙◌, subst, arith}
 use Rattle.std.proofs.lemmas.List.{length_push}
 use Rattle.adf_block.specs.declared.Format.{Format}
 use Rattle.adf_block.specs.declared.Format.TheVariants.{Ofs, Ffs}
-use Rattle.adf_block.specs.Image.{byte_at, long}
-use Rattle.adf_block.specs.Fields.{pointer_count, file_size, pointer_count_long, first_pointer, size_long, next_extension, next_data}
+use Rattle.adf_block.specs.Image.{byte_at, long, pointer_count, file_size, format_of}
+use Rattle.adf_block.specs.Layout.{pointer_count_long, first_pointer, size_long, next_extension, next_data}
 use Rattle.adf_block.specs.Frame.{SameBut}
 use Rattle.adf_block.proofs.Frames.{same_long, same_trans, same_weaken}
 use Rattle.ados_map.specs.Pages.{pages_of, page_of}
 use Rattle.ados_map.specs.Changes.{MapPlace}
 use Rattle.ados_data.specs.steps.Edits.{AtField, AtFields, AtDataFields}
-use Rattle.ados_data.specs.File.{format_of}
 use Rattle.ados_data.specs.steps.Blocks.{IsNewBlock, IsLengthened, IsResized, AtLink, AtEnd}
 use Rattle.ados_data.specs.Unnamed.{IsPointerField, IsHeaderField, data_end, IsBeside, KeepsUnnamed}
 use Rattle.ados_data.proofs.Lists.{pushed_before, pushed_last}
 use Rattle.ados_data.proofs.Standing.{Standing, untaken, header_beside_new, data_beside_new}
 use Rattle.ados_data.proofs.Grown.{more_pointers, more_header}
 
--- the end of an OFS block's bytes is behind its header
+-- the end of an OFS data block's bytes is after its header
 behind_header : (format : Format) (size i k : ℕ) → format ≡ Ofs → data_end format size i ≤ k → 24 ≤ k
 behind_header Ofs size i k e l = omega arith
 behind_header Ffs size i k e l = cc
@@ -49,7 +48,7 @@ module _ (i1 i2 i3 i4 : List ℕ) (format : Format) (file : ℕ) (blocks extensi
   beside_data : (i : ℕ) → i < length blocks → slice_index blocks i ≢ b
   beside_data = data_beside_new i1 b i2 n s.size_ok s.map format file blocks extensions size s
 
-  -- what changes in a pointer block, but for the fields of the header alone
+  -- the changes in a pointer block, without those in the header only
   in_header : (q k : ℕ) → q ≤ length extensions → Changed (slice_index (file ∷ extensions) q) k → IsPointerField (pointer_count i4 (slice_index (file ∷ extensions) q)) (k / 4) ⊎ ((slice_index (file ∷ extensions) q ≡ file) × ((k / 4 ≡ 4) ⊎ (k / 4 ≡ size_long)))
   in_header q k l (inl at) = absurd (untaken i1 b i2 n s.size_ok s.map (slice_index (file ∷ extensions) q) k (s.headers_used q l) at)
   in_header q k l (inr (inl (inl at))) = absurd (beside_header q l at.1)
@@ -67,7 +66,7 @@ module _ (i1 i2 i3 i4 : List ℕ) (format : Format) (file : ℕ) (blocks extensi
   in_header q k l (inr (inr (inr (inr (at, inr (inl z)))))) = inr (at, inr z)
   in_header q k l (inr (inr (inr (inr (at, inr (inr z)))))) = inl (inr (inl z))
 
-  -- an OFS block's header is all that changes in a data block that was there
+  -- only the header of an old OFS data block changes
   in_data : (i k : ℕ) → i < length blocks → Changed (slice_index blocks i) k → (format ≡ Ofs) × (k < 24)
   in_data i k l (inl at) = absurd (untaken i1 b i2 n s.size_ok s.map (slice_index blocks i) k (s.data_used i l) at)
   in_data i k l (inr (inl (inl at))) = absurd (beside_data i l at.1)
@@ -79,7 +78,7 @@ module _ (i1 i2 i3 i4 : List ℕ) (format : Format) (file : ℕ) (blocks extensi
   in_data i k l (inr (inr (inr (inl at)))) = absurd (s.places.apart (length extensions) i (omega arith) l (sym at.0))
   in_data i k l (inr (inr (inr (inr at)))) = absurd (s.places.apart 0 i (omega arith) l (sym at.0))
 
-  -- and in the new one, once it is empty
+  -- the changes in the new one, which was empty
   in_new : (k : ℕ) → Set b k → (format ≡ Ofs) × (k < 24)
   in_new k (inl (inl at)) = (at.0, at.2)
   in_new k (inl (inr (inl at))) = absurd (beside_data (length blocks - 1) (omega (arith, at.1)) (sym at.2.0))

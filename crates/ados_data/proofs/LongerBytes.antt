@@ -1,15 +1,15 @@
--- The bytes of a file that became longer.
+-- The bytes of a file made longer.
 use Rattle.std.proofs.Common.{◌≡◌, ℕ, ◌+◌, ◌-◌, ◌*◌, ◌<◌, ◌≤◌, ◌++◌, inl, inr, List, length, min, replicate, take, slice_index, refl, sym, ap, ◌∙◌, arith}
 use Rattle.std.proofs.lemmas.Bool.{cases_lt}
 use Rattle.std.proofs.lemmas.List.{ext_get_or, get_or_append_left, get_or-append_right, get_or-take, get_or-replicate, length-append, length-replicate, take-append-le, take_all}
 use Rattle.adf_block.specs.declared.Format.{Format}
-use Rattle.ados_data.specs.Cost.{data_count, data_size}
-use Rattle.ados_data.specs.File.{overlaid}
+use Rattle.ados_model.specs.Tree.{data_count, data_size}
+use Rattle.ados_model.specs.Change.{overlaid}
 use Rattle.ados_data.specs.steps.FileEnd.{IsLonger}
 use Rattle.ados_data.proofs.Overlaid.{overlaid_before, overlaid_within, overlaid_behind, length-overlaid}
 use Rattle.ados_data.proofs.Sizes.{within_blocks}
 
--- no byte more
+-- no more bytes
 pub longer_same : (format : Format) (xs : List ℕ) (size : ℕ) → length xs ≡ size → IsLonger format xs size xs
 longer_same format xs size e = record {
   front = take_all (length xs) xs (omega arith);
@@ -17,7 +17,7 @@ longer_same format xs size e = record {
   zeros = λ k l m. absurd (omega (arith, l, within_blocks format k (length xs) (omega (arith, m, e))));
 }
 
--- bytes within the last block
+-- more bytes within the last block
 pub longer_filled : (format : Format) (xs ys zs : List ℕ) (size : ℕ) → zs ≡ xs ++ ys → length zs ≡ size → size ≤ data_size format * data_count format (length xs) → IsLonger format xs size zs
 longer_filled format xs ys zs size e n within = record {
   front = ap (take (length xs)) e ∙ take-append-le (length xs) xs ys (omega arith) ∙ take_all (length xs) xs (omega arith);
@@ -25,7 +25,7 @@ longer_filled format xs ys zs size e n within = record {
   zeros = λ k l m. absurd (omega (arith, l, m, within));
 }
 
--- zeros behind it
+-- zeros after them
 pub longer_zeros : (format : Format) (xs ys zs : List ℕ) (reached next : ℕ) → length xs ≤ reached → reached ≤ next → IsLonger format xs reached ys → zs ≡ ys ++ replicate (next - length ys) 0 → IsLonger format xs next zs
 longer_zeros format xs ys zs reached next a b h e = record {
   front = ap (take (length xs)) e ∙ take-append-le (length xs) ys (replicate (next - length ys) 0) (omega (arith, a, h.count)) ∙ h.front;
@@ -39,7 +39,7 @@ longer_zeros format xs ys zs reached next a b h e = record {
   ];
 }
 
--- bytes over all that was got of the last block: as over zeros
+-- bytes written over all that was added in the last block, as over zeros
 pub overlaid_longer : (format : Format) (xs zs : List ℕ) (size pos : ℕ) (ys : List ℕ) → IsLonger format xs size zs → length xs ≤ size → pos ≤ length xs → pos + length ys ≤ size
     → (length xs < size → min size (data_size format * data_count format (length xs)) ≤ pos + length ys) → overlaid zs pos ys ≡ overlaid (xs ++ replicate (size - length xs) 0) pos ys
 overlaid_longer format xs zs size pos ys h more start within over =

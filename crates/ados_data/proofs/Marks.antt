@@ -1,4 +1,4 @@
--- The map where neither the root nor a page changes.
+-- The bitmap after a change outside the root and the bitmap blocks.
 use Rattle.std.proofs.Common.{◌≡◌, ℕ, ◌+◌, ◌-◌, ◌/◌, ◌%◌, ◌^◌, ◌<◌, ◌≤◌, List, not, eqb, bit_and, sym, ap, ◌∙◌, subst, arith}
 use Rattle.adf_block.specs.Image.{long, block_count, root_key, has_free_bit, IsInside}
 use Rattle.adf_block.specs.Frame.{SameBut}
@@ -6,7 +6,7 @@ use Rattle.adf_block.proofs.Frames.{same_long, same_count}
 use Rattle.ados_map.specs.Pages.{LawfulPages, pages_of, page_block, HasBit}
 use Rattle.ados_data.specs.Changing.{IsInUse, LawfulMap}
 
--- a block of the volume has a bit
+-- a block inside the volume has a bit
 pub has_bit : (image : List ℕ) (c : ℕ) → IsInside (block_count image) c → HasBit image c
 has_bit image c h = (h.0, omega arith)
 
@@ -19,7 +19,7 @@ module _ (changed : ℕ → ℕ → Type 0) (old new : List ℕ) (h : SameBut ch
       ap (λ (n : ℕ). long new (root_key n) (79 + p)) count
       ∙ same_long changed old new h (root_key (block_count old)) (79 + p) (omega arith) (λ k e. root_free k)
 
-  -- so do the blocks in use beside a map whose marks stay
+  -- the bitmap blocks and the blocks in use stay so if the marks are unchanged
   pub pages_kept : pages_of new ≡ pages_of old
   pages_kept = ap (λ (n : ℕ). (n - 2 + 4063) / 4064) count
 

@@ -1,8 +1,8 @@
--- A list with others over a part of it.
+-- A list with another list written over a part of it.
 use Rattle.std.proofs.Common.{◌≡◌, ℕ, ◌+◌, ◌-◌, ◌<◌, ◌≤◌, ◌++◌, inl, inr, List, length, replicate, take, drop, slice_index, refl, sym, ap, ◌∙◌, arith}
 use Rattle.std.proofs.lemmas.Bool.{cases_lt}
 use Rattle.std.proofs.lemmas.List.{ext_get_or, get_or_append_left, get_or-append_right, get_or-take, get_or-drop, length-take, length-drop, length-append, length-replicate, get_or-replicate}
-use Rattle.ados_data.specs.File.{overlaid}
+use Rattle.ados_model.specs.Change.{overlaid}
 
 module _ (xs : List ℕ) (pos : ℕ) (ys : List ℕ) (room : pos ≤ length xs) where
   front : length (take pos xs) ≡ pos
@@ -32,7 +32,7 @@ module _ (xs : List ℕ) (pos : ℕ) (ys : List ℕ) (room : pos ≤ length xs) 
   pub length-overlaid : pos + length ys ≤ length xs → length (overlaid xs pos ys) ≡ length xs
   length-overlaid fits = omega (arith, length-append (take pos xs ++ ys) (drop (pos + length ys) xs), both, length-drop (pos + length ys) xs, fits)
 
--- one part after another
+-- one part after the other
 pub overlaid_more : (xs : List ℕ) (pos : ℕ) (ys : List ℕ) (done part : ℕ) → pos + length ys ≤ length xs → done + part ≤ length ys → overlaid (overlaid xs pos (take done ys)) (pos + done) (take part (drop done ys)) ≡ overlaid xs pos (take (done + part) ys)
 overlaid_more xs pos ys done part fits within =
     let dl : length (take done ys) ≡ done = omega (arith, length-take done ys) in
@@ -69,7 +69,7 @@ overlaid_more xs pos ys done part fits within =
       ]
     ])
 
--- over a list with zeros behind it, as over the list
+-- written over a list that ends with zeros
 pub overlaid_zeros : (xs : List ℕ) (pos : ℕ) (ys : List ℕ) (n : ℕ) → pos ≤ length xs → n ≡ pos + length ys - length xs → overlaid (xs ++ replicate n 0) pos ys ≡ overlaid xs pos ys
 overlaid_zeros xs pos ys n h e =
     let zl : length (xs ++ replicate n 0) ≡ length xs + n = length-append xs (replicate n 0) ∙ ap (λ (m : ℕ). length xs + m) (length-replicate {A = ℕ} n 0) in
@@ -84,7 +84,7 @@ overlaid_zeros xs pos ys n h e =
       ]
     ])
 
--- zeros over zeros
+-- zeros written over zeros
 pub zeros_over : (xs : List ℕ) (n part : ℕ) (ys : List ℕ) → part ≤ n → part ≤ 512 → ys ≡ take part (replicate 512 0) → overlaid (xs ++ replicate n 0) (length xs) ys ≡ xs ++ replicate n 0
 zeros_over xs n part ys l few e =
     let whole : length (xs ++ replicate n 0) ≡ length xs + n = length-append xs (replicate n 0) ∙ ap (λ (m : ℕ). length xs + m) (length-replicate {A = ℕ} n 0) in

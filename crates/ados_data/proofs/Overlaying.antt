@@ -1,19 +1,21 @@
--- One turn of a walk that writes over a file.
+-- One step of a walk that overwrites a file.
 use Rattle.std.proofs.Common.{◌≡◌, ◌≢◌, ℕ, ◌+◌, ◌-◌, ◌*◌, ◌/◌, ◌%◌, ◌^◌, ◌<◌, ◌≤◌, min, List, length, take, drop, slice_index, ◌∷◌, sym, ap, ◌∙◌, subst, arith}
 use Rattle.std.proofs.lemmas.List.{length-take, length-drop}
-use Rattle.adf_block.specs.Fields.{first_pointer, size_long, next_extension}
+use Rattle.adf_block.specs.Layout.{first_pointer, size_long, next_extension}
 use Rattle.adf_block.specs.declared.Format.{Format}
 use Rattle.adf_block.specs.declared.Format.TheVariants.{Ofs}
-use Rattle.adf_block.specs.Image.{byte_at, long, block_sum, block_count, IsImage, IsSize}
+use Rattle.adf_block.specs.Image.{byte_at, long, block_sum, block_count, IsSize, format_of}
+use Rattle.adf_block.specs.Whole.{IsImage}
 use Rattle.adf_block.specs.Frame.{SameBut}
 use Rattle.adf_block.proofs.Longs.{long-below}
 use Rattle.adf_block.proofs.Frames.{same_count}
-use Rattle.ados_data.specs.Cost.{data_size, data_start}
+use Rattle.ados_model.specs.Tree.{data_size, data_start}
 use Rattle.ados_data.specs.steps.Edits.{AtData}
-use Rattle.ados_data.specs.File.{LawfulFile, contents, data_blocks, extension_blocks, format_of, overlaid, pointer_block}
+use Rattle.ados_model.specs.File.{LawfulFile, contents, data_blocks, extension_blocks, pointer_block}
+use Rattle.ados_model.specs.Change.{overlaid}
 use Rattle.ados_data.specs.Changing.{WritableFile}
 use Rattle.ados_data.proofs.Sizes.{few_bytes, part_bounds}
-use Rattle.ados_data.proofs.Places.{data_is, header_is, byte_within, holder_of}
+use Rattle.ados_data.proofs.Places.{data_is, header_is, byte_within, holder_of, readable}
 use Rattle.ados_data.proofs.Overlaid.{length-overlaid, overlaid_more}
 use Rattle.ados_data.proofs.Walking.{holder_inside, block_is, block_inside, on_to_next, on_in_same}
 use Rattle.ados_data.proofs.Filling.{IsPut, is_put}
@@ -21,7 +23,7 @@ use Rattle.ados_data.specs.Others.{LeavesOthers}
 use Rattle.ados_data.specs.Unnamed.{KeepsUnnamed}
 use Rattle.ados_data.proofs.Composing.{keeps_calls, whole_front}
 
--- a file's size is a long
+-- a file's size is below 2^32
 pub size_below : (image : List ℕ) (file : ℕ) → LawfulFile image file → IsImage image → length (contents image file) < 2 ^ 32
 size_below image file s i = omega (arith, s.holds.size, long-below image file size_long i)
 
@@ -47,11 +49,11 @@ module _ (init i0 : List ℕ) (format : Format) (file pos : ℕ) (all : List ℕ
   part_within = omega (arith, bounds, same_size, fits)
 
   pub holder_is_inside : holder < block_count i0
-  holder_is_inside = holder_inside i0 file w.lawful room room_here (pos + done) holder at_within holder_is
+  holder_is_inside = holder_inside i0 file (readable i0 file w.lawful) room room_here (pos + done) holder at_within holder_is
 
   module _ (block : ℕ) (b : block ≡ long i0 holder (first_pointer - (pos + done) / room % 72)) where
     pub block_is_inside : block < block_count i0
-    block_is_inside = block_inside i0 file w.lawful room room_here (pos + done) holder block at_within holder_is b
+    block_is_inside = block_inside i0 file (readable i0 file w.lawful) room room_here (pos + done) holder block at_within holder_is b
 
     place : (pos + done) / room ≡ (pos + done) / data_size format
     place = ap (λ (n : ℕ). (pos + done) / n) room_is
@@ -59,9 +61,9 @@ module _ (init i0 : List ℕ) (format : Format) (file pos : ℕ) (all : List ℕ
     here : block ≡ slice_index (data_blocks i0 file) ((pos + done) / data_size format)
     here =
         let there : (pos + done) / room ≡ (pos + done) / data_size (format_of i0) = ap (λ (n : ℕ). (pos + done) / n) room_here in
-        let within : (pos + done) / room < length (data_blocks i0 file) = omega (arith, there, byte_within i0 file w.lawful (pos + done) at_within) in
-        block_is i0 file w.lawful room room_here (pos + done) holder block holder_is b
-        ∙ data_is i0 file w.lawful ((pos + done) / room) within
+        let within : (pos + done) / room < length (data_blocks i0 file) = omega (arith, there, byte_within i0 file (pos + done) at_within) in
+        block_is i0 file (readable i0 file w.lawful) room room_here (pos + done) holder block holder_is b
+        ∙ data_is i0 file ((pos + done) / room) within
         ∙ ap (slice_index (data_blocks i0 file)) place
 
     module _ (i1 : List ℕ) (ys : List ℕ) (ys_is : ys ≡ take part (drop done all)) (put : (k : ℕ) → k < length ys → byte_at i1 block (data_start format + (pos + done) % room + k) ≡ slice_index ys k) (summed : format ≡ Ofs → block_sum i1 block ≡ 0)
@@ -88,7 +90,7 @@ module _ (init i0 : List ℕ) (format : Format) (file pos : ℕ) (all : List ℕ
       new_size : length (contents i1 file) ≡ length (contents i0 file)
       new_size = ap length turn.bytes ∙ length-overlaid (contents i0 file) (pos + done) ys (omega (arith, at_within)) (omega (arith, part_within, count_ys))
 
-      -- what was kept so far, and by this turn
+      -- what is unchanged so far, and by this step
       pub keeps_on : LawfulFile init file → LeavesOthers init file i0 → format_of i0 ≡ format_of init → data_blocks i0 file ≡ data_blocks init file → extension_blocks i0 file ≡ extension_blocks init file → KeepsUnnamed init file (data_blocks init file) (extension_blocks init file) i0 (data_blocks i0 file) (extension_blocks i0 file) →
           KeepsUnnamed init file (data_blocks init file) (extension_blocks init file) i1 (data_blocks i1 file) (extension_blocks i1 file)
       keeps_on u l e bl ex k =
@@ -103,14 +105,14 @@ module _ (init i0 : List ℕ) (format : Format) (file pos : ℕ) (all : List ℕ
       room_new : room ≡ data_size (format_of i1)
       room_new = room_here ∙ ap data_size (sym turn.same_format)
 
-      -- the pointer block at hand is that of the new image too
+      -- the current pointer block is the same in the new image
       holder_new : holder ≡ pointer_block i1 file ((pos + done) / room / 72)
       holder_new =
           let there : (pos + done) / room ≡ (pos + done) / data_size (format_of i0) = ap (λ (n : ℕ). (pos + done) / n) room_here in
-          let old : (pos + done) / room / 72 ≤ length (extension_blocks i0 file) = omega (arith, ap (λ (n : ℕ). n / 72) there, holder_of i0 file w.lawful ((pos + done) / data_size (format_of i0)) (byte_within i0 file w.lawful (pos + done) at_within)) in
-          holder_is ∙ header_is i0 file w.lawful ((pos + done) / room / 72) old
+          let old : (pos + done) / room / 72 ≤ length (extension_blocks i0 file) = omega (arith, ap (λ (n : ℕ). n / 72) there, holder_of i0 file ((pos + done) / data_size (format_of i0)) (byte_within i0 file (pos + done) at_within)) in
+          holder_is ∙ header_is i0 file ((pos + done) / room / 72) old
           ∙ ap (λ (xs : List ℕ). slice_index (file ∷ xs) ((pos + done) / room / 72)) (sym turn.extensions)
-          ∙ sym (header_is i1 file turn.writable.lawful ((pos + done) / room / 72) (omega (arith, old, ap length turn.extensions)))
+          ∙ sym (header_is i1 file ((pos + done) / room / 72) (omega (arith, old, ap length turn.extensions)))
 
       pub holder_inside_new : holder < block_count i1
       holder_inside_new = omega (arith, holder_is_inside, same_count (AtData format block (data_start format + (pos + done) % room) (data_start format + (pos + done) % room + length ys)) i0 i1 h)
@@ -120,7 +122,7 @@ module _ (init i0 : List ℕ) (format : Format) (file pos : ℕ) (all : List ℕ
 
       pub holder_next : (next : ℕ) → (pos + done + part) % (72 * room) ≡ 0 → next ≡ long i1 holder next_extension → next ≡ pointer_block i1 file ((pos + (done + part)) / room / 72)
       holder_next next z n =
-          on_to_next i1 file turn.writable.lawful room room_new (pos + done) part holder next bounds.0 bounds.1 z holder_new n ∙ ap (λ (k : ℕ). pointer_block i1 file (k / room / 72)) next_place
+          on_to_next i1 file (readable i1 file turn.writable.lawful) room room_new (pos + done) part holder next bounds.0 bounds.1 z holder_new n ∙ ap (λ (k : ℕ). pointer_block i1 file (k / room / 72)) next_place
 
       pub holder_same : (pos + done + part) % (72 * room) ≢ 0 → holder ≡ pointer_block i1 file ((pos + (done + part)) / room / 72)
-      holder_same z = on_in_same i1 file turn.writable.lawful room room_new (pos + done) part holder bounds.1 z holder_new ∙ ap (λ (k : ℕ). pointer_block i1 file (k / room / 72)) next_place
+      holder_same z = on_in_same i1 file (readable i1 file turn.writable.lawful) room room_new (pos + done) part holder bounds.1 z holder_new ∙ ap (λ (k : ℕ). pointer_block i1 file (k / room / 72)) next_place

@@ -1,28 +1,28 @@
--- The place where a call stands in a file.
+-- The place of a call in a file.
 use Rattle.std.proofs.Common.{◌≡◌, ℕ, List, ◌∷◌, length, take, slice_index, sym, ap, ◌∙◌, arith}
 use Rattle.std.proofs.lemmas.List.{length-take}
 use Rattle.adf_block.specs.declared.Format.{Format}
-use Rattle.adf_block.specs.Fields.{file_size}
+use Rattle.adf_block.specs.Image.{file_size, format_of}
 use Rattle.ados_data.specs.declared.place.Place.{Place}
-use Rattle.ados_data.specs.Cost.{data_count, extension_count}
-use Rattle.ados_data.specs.File.{LawfulFile, contents, data_blocks, extension_blocks, format_of, pointer_block}
+use Rattle.ados_model.specs.Tree.{data_count, extension_count}
+use Rattle.ados_model.specs.File.{contents, data_blocks, extension_blocks, pointer_block}
 use Rattle.ados_data.specs.Place.{IsAmong, IsPlace}
 use Rattle.ados_data.proofs.Lists.{head_taken}
-use Rattle.ados_data.proofs.Places.{header_is}
+use Rattle.ados_data.proofs.Places.{header_is, size_is, data_counted, extensions_counted}
 
--- its pointer block
-pub placed : (image : List ℕ) (file : ℕ) (place : Place) → LawfulFile image file → IsPlace image file place → place.block ≡ pointer_block image file place.index
-placed image file place s p = p.block_is ∙ sym (header_is image file s place.index p.within)
+-- the pointer block of a place
+pub placed : (image : List ℕ) (file : ℕ) (place : Place) → IsPlace image file place → place.block ≡ pointer_block image file place.index
+placed image file place p = p.block_is ∙ sym (header_is image file place.index p.within)
 
 -- the last pointer block
-pub last_place : (image : List ℕ) (file : ℕ) → LawfulFile image file → (format : Format) (size count last : ℕ) → format ≡ format_of image → size ≡ file_size image file → count ≡ data_count format size → last ≡ extension_count count
+pub last_place : (image : List ℕ) (file : ℕ) (format : Format) (size count last : ℕ) → format ≡ format_of image → size ≡ file_size image file → count ≡ data_count format size → last ≡ extension_count count
     → last ≡ length (extension_blocks image file)
-last_place image file s format size count last f held counted is =
+last_place image file format size count last f held counted is =
     let fits : count ≡ length (data_blocks image file) =
-    counted ∙ ap (data_count format) (held ∙ s.holds.size) ∙ ap (λ (x : Format). data_count x (length (contents image file))) f ∙ sym s.data_fits in
-    is ∙ ap extension_count fits ∙ sym s.extensions_fit
+    counted ∙ ap (data_count format) (held ∙ size_is image file) ∙ ap (λ (x : Format). data_count x (length (contents image file))) f ∙ sym (data_counted image file) in
+    is ∙ ap extension_count fits ∙ sym (extensions_counted image file)
 
--- a list that keeps its front keeps the place
+-- a place stays valid if the list only grows at its end
 pub among_more : (file : ℕ) (old new : List ℕ) (place : Place) → take (length old) new ≡ old → IsAmong file old place → IsAmong file new place
 among_more file old new place e p = record {
   within = omega (arith, p.within, ap length e, length-take (length old) new);

@@ -1,27 +1,60 @@
--- The blocks of a lawful file are inside the volume.
-use Rattle.std.proofs.Common.{◌≡◌, ℕ, ◌/◌, ◌<◌, ◌≤◌, List, ◌∷◌, length, slice_index, arith}
-use Rattle.adf_block.specs.Image.{block_count}
-use Rattle.ados_data.specs.Cost.{data_size}
-use Rattle.ados_data.specs.File.{LawfulFile, format_of, pointer_block, data_block, data_blocks, extension_blocks, contents}
+-- The blocks and bytes of a file, as its size and pointers name them.
+use Rattle.std.proofs.Common.{◌≡◌, ℕ, zero, suc, ◌+◌, ◌/◌, ◌<◌, ◌≤◌, List, ◌∷◌, length, slice_index, refl, sym, ap, ◌∙◌, arith}
+use Rattle.std.proofs.lemmas.List.FromFn.{length-map-range_with_len, get_or-map-range_with_len}
+use Rattle.adf_block.specs.Image.{file_size, format_of}
+use Rattle.ados_model.specs.Tree.{data_size, data_count, extension_count}
+use Rattle.ados_model.specs.File.{LawfulFile, ReadableFile, pointer_block, data_block, data_blocks, extension_blocks, contents}
+use Rattle.ados_model.specs.Stands.{file_byte}
 use Rattle.ados_data.proofs.Sizes.{in_count}
-use Rattle.ados_data.proofs.Spelled.{pointer_block_is, data_block_is, holder_within}
 
-module _ (image : List ℕ) (file : ℕ) (s : LawfulFile image file) where
-  pub header_is : (q : ℕ) → q ≤ length (extension_blocks image file) → pointer_block image file q ≡ slice_index (file ∷ extension_blocks image file) q
-  header_is = pointer_block_is image file (data_blocks image file) (extension_blocks image file) (contents image file) s.holds
+module _ (image : List ℕ) (file : ℕ) where
+  pub size_is : file_size image file ≡ length (contents image file)
+  unfolding contents
+  size_is = sym (length-map-range_with_len (file_byte (format_of image) image (data_blocks image file)) 0 (file_size image file))
 
-  pub header_inside : (q : ℕ) → q ≤ length (extension_blocks image file) → pointer_block image file q < block_count image
-  header_inside q l = omega (arith, header_is q l, s.places.headers_inside q l)
+  pub byte_is : (k : ℕ) → k < length (contents image file) → slice_index (contents image file) k ≡ file_byte (format_of image) image (data_blocks image file) k
+  unfolding contents
+  byte_is k l =
+      get_or-map-range_with_len (file_byte (format_of image) image (data_blocks image file)) 0 (file_size image file) k k 0 (omega (arith, l, size_is)) (omega arith)
+
+  data_listed : length (data_blocks image file) ≡ data_count (format_of image) (file_size image file)
+  unfolding data_blocks
+  data_listed = length-map-range_with_len (data_block image file) 0 (data_count (format_of image) (file_size image file))
+
+  pub data_counted : length (data_blocks image file) ≡ data_count (format_of image) (length (contents image file))
+  data_counted = data_listed ∙ ap (data_count (format_of image)) size_is
+
+  pub extensions_counted : length (extension_blocks image file) ≡ extension_count (length (data_blocks image file))
+  unfolding extension_blocks
+  extensions_counted =
+      length-map-range_with_len (λ q. pointer_block image file (q + 1)) 0 (extension_count (data_count (format_of image) (file_size image file)))
+      ∙ ap extension_count (sym data_listed)
 
   pub data_is : (i : ℕ) → i < length (data_blocks image file) → data_block image file i ≡ slice_index (data_blocks image file) i
-  data_is = data_block_is image file (data_blocks image file) (extension_blocks image file) (contents image file) s
+  unfolding data_blocks
+  data_is i l =
+      sym (get_or-map-range_with_len (data_block image file) 0 (data_count (format_of image) (file_size image file)) i i 0 (omega (arith, l, data_listed)) (omega arith))
 
-  pub data_inside : (i : ℕ) → i < length (data_blocks image file) → data_block image file i < block_count image
-  data_inside i l = omega (arith, data_is i l, s.places.data_inside i l)
+  extension_is : (q : ℕ) → q < length (extension_blocks image file) → pointer_block image file (q + 1) ≡ slice_index (extension_blocks image file) q
+  unfolding extension_blocks
+  extension_is q l =
+      let count = length-map-range_with_len (λ q. pointer_block image file (q + 1)) 0 (extension_count (data_count (format_of image) (file_size image file))) in
+      sym (get_or-map-range_with_len (λ q. pointer_block image file (q + 1)) 0 (extension_count (data_count (format_of image) (file_size image file))) q q 0 (omega (arith, l, count)) (omega arith))
 
-  -- the data block of a byte, and the pointer block of that one
+  pub header_is : (q : ℕ) → q ≤ length (extension_blocks image file) → pointer_block image file q ≡ slice_index (file ∷ extension_blocks image file) q
+  header_is zero l = refl
+  header_is (suc q) l = let next : suc q ≡ q + 1 = omega arith in ap (pointer_block image file) next ∙ extension_is q (omega arith)
+
+  -- the data block of a byte, and its pointer block
   pub byte_within : (k : ℕ) → k < length (contents image file) → k / data_size (format_of image) < length (data_blocks image file)
-  byte_within k l = omega (arith, in_count (format_of image) k (length (contents image file)) l, s.data_fits)
+  byte_within k l = omega (arith, in_count (format_of image) k (length (contents image file)) l, data_counted)
 
   pub holder_of : (i : ℕ) → i < length (data_blocks image file) → i / 72 ≤ length (extension_blocks image file)
-  holder_of = holder_within image file (data_blocks image file) (extension_blocks image file) (contents image file) s
+  holder_of i l = omega (arith, extensions_counted)
+
+  -- a lawful file can be read
+  pub readable : LawfulFile image file → ReadableFile image file
+  readable s = record {
+    headers_inside = λ q l. omega (arith, header_is q l, s.places.headers_inside q l);
+    data_inside = λ i l. omega (arith, data_is i l, s.places.data_inside i l);
+  }

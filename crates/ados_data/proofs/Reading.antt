@@ -4,13 +4,13 @@ use Rattle.std.proofs.lemmas.List.{ext_get_or, get_or-take, get_or-drop, length-
 use Rattle.std.proofs.Math.Seq.{take-add}
 use borrow.Rule.Slice.PartMut.{put_mid}
 use Rattle.adf_block.specs.declared.Format.{Format}
-use Rattle.adf_block.specs.Image.{byte_at, bytes_at, block_count}
-use Rattle.ados_data.specs.Cost.{data_size, data_start}
-use Rattle.ados_data.specs.File.{LawfulFile, format_of, data_block, contents}
+use Rattle.adf_block.specs.Image.{byte_at, bytes_at, block_count, format_of}
+use Rattle.ados_model.specs.Tree.{data_size, data_start}
+use Rattle.ados_model.specs.File.{data_block, contents}
 use Rattle.ados_data.proofs.Sizes.{same_block, whole_block}
-use Rattle.ados_data.proofs.Places.{data_is, byte_within}
+use Rattle.ados_data.proofs.Places.{data_is, byte_is, byte_within}
 
--- byte k of a run of bytes of a block
+-- byte k of some bytes of a block
 pub bytes_at-at : (image : List ℕ) (b i n k : ℕ) → k < n → slice_index (bytes_at image b i n) k ≡ byte_at image b (i + k)
 unfolding bytes_at byte_at
 bytes_at-at image b i n k l =
@@ -21,12 +21,12 @@ pub length-bytes_at : (image : List ℕ) (b i n : ℕ) → b < block_count image
 unfolding bytes_at
 length-bytes_at image b i n l h = omega (arith, length-take n (drop (512 * b + i) image), length-drop (512 * b + i) image)
 
-module _ (image : List ℕ) (file : ℕ) (s : LawfulFile image file) where
-  -- a byte of a file, by its data block
+module _ (image : List ℕ) (file : ℕ) where
+  -- a byte of a file, in its data block
   pub contents-at : (k : ℕ) → k < length (contents image file) → slice_index (contents image file) k ≡ byte_at image (data_block image file (k / data_size (format_of image))) (data_start (format_of image) + k % data_size (format_of image))
   contents-at k l =
-      s.holds.contents k l
-      ∙ ap (λ (b : ℕ). byte_at image b (data_start (format_of image) + k % data_size (format_of image))) (sym (data_is image file s (k / data_size (format_of image)) (byte_within image file s k l)))
+      byte_is image file k l
+      ∙ ap (λ (b : ℕ). byte_at image b (data_start (format_of image) + k % data_size (format_of image))) (sym (data_is image file (k / data_size (format_of image)) (byte_within image file k l)))
 
   pub part_is : (at part i from : ℕ) → at / data_size (format_of image) ≡ i → at % data_size (format_of image) ≡ from → from + part ≤ data_size (format_of image) → at + part ≤ length (contents image file) → data_block image file i < block_count image →
       take part (drop from (bytes_at image (data_block image file i) (data_start (format_of image)) (data_size (format_of image)))) ≡ take part (drop at (contents image file))
@@ -47,7 +47,7 @@ module _ (image : List ℕ) (file : ℕ) (s : LawfulFile image file) where
       ∙ sym (contents-at (at + j) (omega (arith, small, within)))
       ∙ sym (get_or-take part (drop at (contents image file)) j 0 small ∙ get_or-drop at (contents image file) j 0))
 
--- a list copied over the front of another, and one part more
+-- a list with its first elements overwritten, and then one more part
 pub copied_more : (xs buffer w : List ℕ) (done part : ℕ) → done + part ≤ length buffer → done + part ≤ length xs → w ≡ take part (drop done xs) → put_mid done part (take done xs ++ drop done buffer) w ≡ take (done + part) xs ++ drop (done + part) buffer
 copied_more xs buffer w done part h l e =
     let front : length (take done xs) ≡ done = omega (arith, length-take done xs) in
@@ -56,7 +56,7 @@ copied_more xs buffer w done part h l e =
     ∙ sym (append_assoc (take done xs) (take part (drop done xs)) (drop (done + part) buffer))
     ∙ ap (λ (a : List ℕ). a ++ drop (done + part) buffer) (sym (take-add done part xs))
 
--- a block without the bytes in front of its data
+-- the bytes of a block from the start of its data
 pub data_of_block : (image : List ℕ) (b : ℕ) (format : Format) (xs : List ℕ) (start : ℕ) → xs ≡ bytes_at image b 0 512 → length xs ≡ 512 → start ≡ data_start format → take (length xs - start) (drop start xs) ≡ bytes_at image b (data_start format) (data_size format)
 unfolding bytes_at
 data_of_block image b format xs start e l s =

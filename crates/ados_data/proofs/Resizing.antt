@@ -2,15 +2,16 @@
 use Rattle.std.proofs.Common.{◌≡◌, ◌≢◌, ℕ, zero, suc, ◌+◌, ◌-◌, ◌*◌, ◌/◌, ◌<◌, ◌≤◌, ◌⊎◌, inl, inr, List, ◌∷◌, length, take, slice_index, refl, sym, ap, ◌∙◌, subst, arith}
 use Rattle.std.proofs.lemmas.Bool.{cases_lt}
 use Rattle.std.proofs.lemmas.List.{length-take-le}
-use Rattle.adf_block.specs.Fields.{pointer_count_long, size_long, next_extension, next_data}
+use Rattle.adf_block.specs.Layout.{pointer_count_long, size_long, next_extension, next_data}
 use Rattle.adf_block.specs.declared.Format.{Format}
 use Rattle.adf_block.specs.declared.Format.TheVariants.{Ofs}
-use Rattle.adf_block.specs.Image.{byte_at, long, block_sum, block_count, has_free_bit, free_bit_count, IsInside, IsSize}
+use Rattle.adf_block.specs.Image.{byte_at, long, block_sum, block_count, has_free_bit, IsInside, IsSize}
+use Rattle.adf_block.specs.Whole.{free_bit_count}
 use Rattle.adf_block.proofs.Frames.{same_long, same_count}
 use Rattle.ados_map.specs.Pages.{pages_of, page_block, HasBit}
-use Rattle.ados_data.specs.Cost.{extension_count}
+use Rattle.ados_model.specs.Tree.{extension_count}
 use Rattle.ados_data.specs.steps.Edits.{AtFields}
-use Rattle.ados_data.specs.File.{AreApart}
+use Rattle.ados_model.specs.File.{AreApart}
 use Rattle.ados_data.specs.Changing.{IsInUse}
 use Rattle.ados_data.specs.steps.Blocks.{IsResized, AtEnd}
 use Rattle.ados_data.proofs.Lists.{head_taken, taken_before, apart_taken}
@@ -28,13 +29,13 @@ module _ (old new : List ℕ) (format : Format) (file : ℕ) (blocks extensions 
   resized_owner c k (inr (inl at)) = (subst (IsInUse old) (sym at.0) (s.headers_used e fewer), subst (IsInside (block_count old)) (sym at.0) (s.places.headers_inside e fewer))
   resized_owner c k (inr (inr at)) = (subst (IsInUse old) (sym at.0) (s.headers_used 0 (omega arith)), subst (IsInside (block_count old)) (sym at.0) (s.places.headers_inside 0 (omega arith)))
 
-  -- an extension block in front of the last one
+  -- an extension block before the last one
   other_extension : (q k : ℕ) → 0 < q → q < e → ¬ Resized (slice_index (file ∷ extensions) q) k
   other_extension q k l m (inl at) = s.places.apart q (d - 1) (omega arith) (omega (arith, at.1)) at.2.0
   other_extension q k l m (inr (inl at)) = s.places.headers_once q e m fewer at.0
   other_extension q k l m (inr (inr at)) = s.places.headers_once 0 q l (omega arith) (sym at.0)
 
-  -- an extension block behind the last one
+  -- an extension block after the last one
   pub later_extension : (q k : ℕ) → e < q → q ≤ length extensions → ¬ Resized (slice_index (file ∷ extensions) q) k
   later_extension q k l m (inl at) = s.places.apart q (d - 1) m (omega (arith, at.1)) at.2.0
   later_extension q k l m (inr (inl at)) = s.places.headers_once e q l m (sym at.0)
@@ -43,7 +44,7 @@ module _ (old new : List ℕ) (format : Format) (file : ℕ) (blocks extensions 
   pub later_long : (q j : ℕ) → j < 128 → e < q → q ≤ length extensions → long new (slice_index (file ∷ extensions) q) j ≡ long old (slice_index (file ∷ extensions) q) j
   later_long q j l m n = same_long Resized old new x.rest (slice_index (file ∷ extensions) q) j l (λ k r. later_extension q k m n)
 
-  -- a long of a pointer block that stays
+  -- an unchanged long of a pointer block
   other_long : (q k j : ℕ) → k / 4 ≡ j → q ≤ e → (q ≡ e → (j ≢ 2) × (j ≢ next_extension)) → j ≢ 4 → j ≢ 5 → j ≢ size_long → ¬ Resized (slice_index (file ∷ extensions) q) k
   other_long q k j m l a f g h (inl at) = s.places.apart q (d - 1) (omega arith) (omega (arith, at.1)) at.2.0
   other_long q k j m l a f g h (inr (inl (at, z))) = elim (cases_lt q e) [
@@ -60,13 +61,13 @@ module _ (old new : List ℕ) (format : Format) (file : ℕ) (blocks extensions 
   pub header_long : (q j : ℕ) → j < 128 → q ≤ e → (q ≡ e → (j ≢ 2) × (j ≢ next_extension)) → j ≢ 4 → j ≢ 5 → j ≢ size_long → long new (slice_index (file ∷ extensions) q) j ≡ long old (slice_index (file ∷ extensions) q) j
   header_long q j l m a f g h = same_long Resized old new x.rest (slice_index (file ∷ extensions) q) j l (λ k r. other_long q k j r m a f g h)
 
-  -- a data block that isn't the last one, or is of FFS
+  -- a data block other than the last one, or any in FFS
   pub other_data : (i k : ℕ) → suc i < d → ¬ Resized (slice_index blocks i) k
   other_data i k l (inl at) = s.places.data_once i (d - 1) (omega arith) (omega arith) at.2.0
   other_data i k l (inr (inl at)) = s.places.apart e i fewer (omega arith) (sym at.0)
   other_data i k l (inr (inr at)) = s.places.apart 0 i (omega arith) (omega arith) (sym at.0)
 
-  -- a long of the last one that stays
+  -- an unchanged long of the last data block
   last_other : (i k j : ℕ) → k / 4 ≡ j → suc i ≡ d → (format ≡ Ofs → (j ≢ 3) × (j ≢ 4) × (j ≢ 5)) → ¬ Resized (slice_index blocks i) k
   last_other i k j m l a (inl (f, c, (at, inl z))) = (a f).0 (sym m ∙ z)
   last_other i k j m l a (inl (f, c, (at, inr (inl z)))) = (a f).1 (sym m ∙ z)
@@ -74,7 +75,7 @@ module _ (old new : List ℕ) (format : Format) (file : ℕ) (blocks extensions 
   last_other i k j m l a (inr (inl at)) = s.places.apart e i fewer (omega arith) (sym at.0)
   last_other i k j m l a (inr (inr at)) = s.places.apart 0 i (omega arith) (omega arith) (sym at.0)
 
-  -- the data bytes of all data blocks stay
+  -- the data bytes are unchanged
   pub resized_byte : (i k : ℕ) → i < d → k < 512 → (format ≡ Ofs → 24 ≤ k) → byte_at new (slice_index blocks i) k ≡ byte_at old (slice_index blocks i) k
   resized_byte i k l m a = elim (cases_lt (suc i) d) [
     | inl r ↦ x.rest.same_byte (slice_index blocks i) k m (other_data i k r)
@@ -122,13 +123,13 @@ module _ (old new : List ℕ) (format : Format) (file : ℕ) (blocks extensions 
         data_used = λ i l. subst (IsInUse new) (sym (taken_before blocks d i (omega (arith, l, dl)))) (used_resized (slice_index blocks i) (s.places.data_inside i (omega (arith, l, dl, few))) (s.data_used i (omega (arith, l, dl, few))));
       }
 
-  -- the marks stay
+  -- the marks are unchanged
   pub resized_marks : (c : ℕ) → HasBit old c → has_free_bit new c ≡ has_free_bit old c
   resized_marks = marks_stay Resized old new x.rest s.size_ok resized_owner
 
   pub resized_count : free_bit_count new ≡ free_bit_count old
   resized_count = count_stays Resized old new x.rest s.size_ok resized_owner
 
-  -- the pages stay where they are
+  -- the bitmap blocks are the same
   pub resized_page : (p : ℕ) → p < pages_of old → page_block new p ≡ page_block old p
   resized_page = page_kept Resized old new x.rest s.size_ok.1 (root_free Resized old new x.rest s.size_ok resized_owner)

@@ -3,23 +3,23 @@ use Rattle.std.proofs.Common.{◌≡◌, ◌≢◌, ℕ, ◌+◌, ◌-◌, ◌*�
 use Rattle.std.proofs.Math.Nat.{mod-lt}
 use Rattle.adf_block.specs.declared.Format.{Format}
 use Rattle.adf_block.specs.declared.Format.TheVariants.{Ofs, Ffs}
-use Rattle.ados_data.specs.Cost.{block_cost, data_size, data_start, data_count, extension_count}
+use Rattle.ados_model.specs.Tree.{block_cost, data_size, data_start, data_count, extension_count}
 
--- the bytes behind byte `at` in its data block
+-- the bytes after byte `at` in its data block
 pub same_block : (format : Format) (at j : ℕ) → at % data_size format + j < data_size format → ((at + j) / data_size format ≡ at / data_size format) × ((at + j) % data_size format ≡ at % data_size format + j)
 same_block Ofs at j h = (omega arith, omega arith)
 same_block Ffs at j h = (omega arith, omega arith)
 
--- a byte of a file stands in one of its data blocks
+-- a byte of a file is in one of its data blocks
 pub in_count : (format : Format) (k size : ℕ) → k < size → k / data_size format < data_count format size
 in_count Ofs k size h = omega arith
 in_count Ffs k size h = omega arith
 
--- a data block has its pointer in one of the pointer blocks
+-- the pointer of a data block is in one of the pointer blocks
 pub in_extensions : (i d : ℕ) → i < d → i / 72 ≤ extension_count d
 in_extensions i d h = omega arith
 
--- header bytes and data bytes are 512
+-- the header bytes and the data bytes of a data block are 512
 pub whole_block : (format : Format) → data_start format + data_size format ≡ 512
 whole_block Ofs = omega arith
 whole_block Ffs = omega arith
@@ -28,38 +28,38 @@ pub few_bytes : (format : Format) → (0 < data_size format) × (data_size forma
 few_bytes Ofs = (omega arith, omega arith)
 few_bytes Ffs = (omega arith, omega arith)
 
--- the next byte's pointer is the first of the next pointer block
+-- the pointer for the next byte is the first of the next pointer block
 pub next_holder : (format : Format) (at part : ℕ) → 0 < part → at % data_size format + part ≤ data_size format → (at + part) % (72 * data_size format) ≡ 0 → (at + part) / data_size format / 72 ≡ at / data_size format / 72 + 1
 next_holder Ofs at part h l e = omega arith
 next_holder Ffs at part h l e = omega arith
 
--- the next byte's pointer stands in the same pointer block
+-- the pointer for the next byte is in the same pointer block
 pub same_holder : (format : Format) (at part : ℕ) → at % data_size format + part ≤ data_size format → (at + part) % (72 * data_size format) ≢ 0 → (at + part) / data_size format / 72 ≡ at / data_size format / 72
 same_holder Ofs at part l e = omega arith
 same_holder Ffs at part l e = omega arith
 
--- a part of a walk: the rest of a data block, or of what is wanted
+-- a part of a walk: the rest of a data block, or the rest of the wanted bytes
 pub part_bounds : (room at done count part : ℕ) → 0 < room → done < count → part ≡ min (room - at % room) (count - done) → (0 < part) × (at % room + part ≤ room) × (done + part ≤ count)
 part_bounds room at done count part h l e =
     let small : at % room < room = mod-lt at h in
     (omega arith, omega arith, omega arith)
 
--- one data block more, for a size within it
+-- one more data block, for a size within it
 pub one_more_block : (format : Format) (d size : ℕ) → data_size format * d < size → size ≤ data_size format * (d + 1) → data_count format size ≡ d + 1
 one_more_block Ofs d size l m = omega arith
 one_more_block Ffs d size l m = omega arith
 
--- a byte in front of the end of d full blocks
+-- a byte before the end of d full blocks
 pub below_count : (format : Format) (d k : ℕ) → k < data_size format * d → k / data_size format < d
 below_count Ofs d k l = omega arith
 below_count Ffs d k l = omega arith
 
--- a byte in the block behind them
+-- a byte in the block after them
 pub at_count : (format : Format) (d k : ℕ) → data_size format * d ≤ k → k < data_size format * (d + 1) → k / data_size format ≡ d
 at_count Ofs d k l m = omega arith
 at_count Ffs d k l m = omega arith
 
--- a byte of a file stands in its block, behind the block's header
+-- a byte of a file is in its block, after the block's header
 pub in_block : (format : Format) (k : ℕ) → data_start format + k % data_size format < 512
 in_block Ofs k = omega arith
 in_block Ffs k = omega arith
@@ -68,7 +68,7 @@ pub behind_start : (format : Format) (k : ℕ) → format ≡ Ofs → 24 ≤ dat
 behind_start Ofs k e = omega arith
 behind_start Ffs k e = cc
 
--- bytes of one data block in front of a part, and behind it
+-- bytes of one data block before a part, and after it
 pub in_front : (format : Format) (at k : ℕ) → k < at → k / data_size format ≡ at / data_size format → k % data_size format < at % data_size format
 in_front Ofs at k l e = omega arith
 in_front Ffs at k l e = omega arith
@@ -77,23 +77,23 @@ pub behind_part : (format : Format) (at part k : ℕ) → at + part ≤ k → k 
 behind_part Ofs at part k l e = omega arith
 behind_part Ffs at part k l e = omega arith
 
--- a size that ends within a data block, and one further on in it
+-- a size that ends within a data block, and a larger one within the same block
 pub filled_size : (format : Format) (old part d : ℕ) → d ≡ data_count format old → old % data_size format ≢ 0 → old % data_size format + part ≤ data_size format →
     (0 < d) × (d - 1 ≡ old / data_size format) × (data_count format (old + part) ≡ d) × (format ≡ Ofs → d ≡ (old + part + 487) / 488) × (format ≡ Ofs → 488 * (d - 1) ≤ old)
 filled_size Ofs old part d e n l = (omega arith, omega arith, omega arith, (λ t. omega arith), (λ t. omega arith))
 filled_size Ffs old part d e n l = (omega arith, omega arith, omega arith, (λ t. cc), (λ t. cc))
 
--- a byte behind the old end, in the same data block
+-- a byte after the old end, in the same data block
 pub filled_place : (format : Format) (old part k : ℕ) → old ≤ k → k < old + part → old % data_size format + part ≤ data_size format → (k / data_size format ≡ old / data_size format) × (k % data_size format ≡ old % data_size format + (k - old))
 filled_place Ofs old part k a b l = (omega arith, omega arith)
 filled_place Ffs old part k a b l = (omega arith, omega arith)
 
--- what one data block more costs
+-- the cost of one more data block
 pub one_more_cost : (format : Format) (d size : ℕ) → data_size format * d < size → size ≤ data_size format * (d + 1) → block_cost format size ≡ block_cost format (data_size format * d) + 1 + (d / 72 - (d - 1) / 72)
 one_more_cost Ofs d size l m = omega arith
 one_more_cost Ffs d size l m = omega arith
 
--- a smaller file has no more blocks
+-- a smaller file has at most as many blocks
 pub fewer_blocks : (format : Format) (a b : ℕ) → a ≤ b → data_count format a ≤ data_count format b
 fewer_blocks Ofs a b l = omega arith
 fewer_blocks Ffs a b l = omega arith
@@ -102,7 +102,7 @@ pub some_blocks : (format : Format) (a : ℕ) → 0 < a → 0 < data_count forma
 some_blocks Ofs a l = omega arith
 some_blocks Ffs a l = omega arith
 
--- the last data block of an OFS file is the one that its size ends in
+-- an OFS file's size ends in its last data block
 pub ofs_count : (format : Format) (d size : ℕ) → d ≡ data_count format size → format ≡ Ofs → (d ≡ (size + 487) / 488) × (488 * (d - 1) ≤ size)
 ofs_count Ofs d size e t = (omega arith, omega arith)
 ofs_count Ffs d size e t = cc
@@ -112,7 +112,7 @@ pub within_blocks : (format : Format) (k size : ℕ) → k < size → k < data_s
 within_blocks Ofs k size l = omega arith
 within_blocks Ffs k size l = omega arith
 
--- a size past so many blocks takes more
+-- a size beyond this many blocks needs more
 pub more_blocks : (format : Format) (d size : ℕ) → data_size format * d < size → d < data_count format size
 more_blocks Ofs d size l = omega arith
 more_blocks Ffs d size l = omega arith

@@ -1,25 +1,25 @@
 -- A file without its bytes, block by block.
 use Rattle.std.proofs.Common.{◌≡◌, ℕ, zero, suc, ◌+◌, ◌-◌, ◌*◌, ◌/◌, ◌%◌, ◌<◌, ◌≤◌, min, List, ◌∷◌, length, slice_index, refl, sym, ap, ap₂, ◌∙◌, arith}
-use Rattle.adf_block.specs.Fields.{first_pointer, size_long, next_extension}
+use Rattle.adf_block.specs.Layout.{first_pointer, size_long, next_extension}
 use Rattle.adf_block.specs.declared.Format.{Format}
 use Rattle.adf_block.specs.declared.Format.TheVariants.{Ofs}
 use Rattle.adf_block.specs.Image.{long}
-use Rattle.ados_data.specs.File.{HasExtension, HasOfsData, HasFile, file_byte}
+use Rattle.ados_model.specs.Stands.{HasExtension, HasOfsData, HasFile, file_byte}
 use Rattle.ados_data.proofs.Chains.{first_of, next_of, chained}
 
--- pointer block q: the next one, the count, the pointers and, behind the header, the fields of an extension block
+-- pointer block q: its link, its pointers and their number, and in an extension block its other fields
 pub record IsHolder (image : List ℕ) (file : ℕ) (blocks extensions : List ℕ) (q : ℕ) : Type 0 where
   pub next : long image (slice_index (file ∷ extensions) q) next_extension ≡ slice_index extensions q
   pub count : long image (slice_index (file ∷ extensions) q) 2 ≡ min 72 (length blocks - 72 * q)
   pub pointers : (p : ℕ) → p < 72 → 72 * q + p < length blocks → long image (slice_index (file ∷ extensions) q) (first_pointer - p) ≡ slice_index blocks (72 * q + p)
   pub extension : 0 < q → HasExtension image file (slice_index (file ∷ extensions) q)
 
--- data block i of an OFS file: the next one, and its fields
+-- data block i of an OFS file: its link and its fields
 pub record IsData (image : List ℕ) (file : ℕ) (blocks : List ℕ) (size i : ℕ) : Type 0 where
   pub next : long image (slice_index blocks i) 4 ≡ slice_index blocks (suc i)
   pub fields : HasOfsData image file size i (slice_index blocks i)
 
--- a file of this size, but for what its data blocks hold
+-- a file of this size, without the bytes in its data blocks
 pub record Skeleton (image : List ℕ) (format : Format) (file : ℕ) (blocks extensions : List ℕ) (size : ℕ) : Type 0 where
   pub size_field : long image file size_long ≡ size
   pub holders : (q : ℕ) → q ≤ length extensions → IsHolder image file blocks extensions q

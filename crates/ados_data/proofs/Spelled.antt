@@ -1,15 +1,16 @@
--- The lists that a file's blocks spell are the ones that it has.
+-- The lists in a file's blocks are the lists that the file has.
 use Rattle.std.proofs.Common.{◌≡◌, ℕ, zero, suc, ◌+◌, ◌/◌, ◌%◌, ◌<◌, ◌≤◌, List, ◌∷◌, length, map, slice_index, refl, sym, ap, ◌∙◌, subst, arith}
 use Rattle.std.specs.List.{range_with_len}
 use Rattle.std.proofs.lemmas.List.{ext_get_or}
 use Rattle.std.proofs.lemmas.List.FromFn.{length-map-range_with_len, get_or-map-range_with_len}
-use Rattle.adf_block.specs.Image.{long}
-use Rattle.adf_block.specs.Fields.{pointer, file_size, next_extension}
-use Rattle.ados_data.specs.Cost.{data_count, extension_count}
-use Rattle.ados_data.specs.File.{HasFile, IsLawful, LawfulFile, format_of, file_byte, pointer_block, data_block, data_blocks, extension_blocks, contents}
+use Rattle.adf_block.specs.Image.{long, pointer, file_size, format_of}
+use Rattle.adf_block.specs.Layout.{next_extension}
+use Rattle.ados_model.specs.Tree.{data_count, extension_count}
+use Rattle.ados_model.specs.Stands.{HasFile, file_byte}
+use Rattle.ados_model.specs.File.{IsLawful, LawfulFile, pointer_block, data_block, data_blocks, extension_blocks, contents}
 use Rattle.ados_data.proofs.Chains.{next_of}
 
--- a list by its elements, as a function of their places
+-- a list by its elements, as a function of their positions
 pub listed_is : (f : ℕ → ℕ) (n : ℕ) (xs : List ℕ) → n ≡ length xs → ((i : ℕ) → i < length xs → f i ≡ slice_index xs i) → map f (range_with_len 0 n) ≡ xs
 listed_is f n xs e h =
     ext_get_or 0 (map f (range_with_len 0 n)) xs (length-map-range_with_len f 0 n ∙ e)
@@ -18,7 +19,7 @@ listed_is f n xs e h =
     get_or-map-range_with_len f 0 n i i 0 m (omega arith) ∙ h i (omega (arith, m, e)))
 
 module _ (image : List ℕ) (file : ℕ) (blocks extensions bytes : List ℕ) where
-  -- behind a pointer block stands the next one, or 0
+  -- each pointer block is followed by the next one, or by 0
   pub link_of : HasFile image (format_of image) file blocks extensions bytes → (q : ℕ) → q ≤ length extensions → long image (slice_index (file ∷ extensions) q) next_extension ≡ slice_index extensions q
   link_of h q l = next_of image next_extension file (file ∷ extensions) (refl, h.chain) q (omega arith)
 
@@ -26,7 +27,7 @@ module _ (image : List ℕ) (file : ℕ) (blocks extensions bytes : List ℕ) wh
   pointer_block_is h zero l = refl
   pointer_block_is h (suc q) l = ap (λ (b : ℕ). long image b next_extension) (pointer_block_is h q (omega arith)) ∙ link_of h q (omega arith)
 
-  -- each data block has its pointer in a pointer block that is there
+  -- the pointer of each data block is in one of the pointer blocks
   pub holder_within : IsLawful image file blocks extensions bytes → (i : ℕ) → i < length blocks → i / 72 ≤ length extensions
   holder_within s i l = omega (arith, s.extensions_fit)
 

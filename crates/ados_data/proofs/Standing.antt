@@ -1,19 +1,20 @@
 -- A file that can be changed, through the steps of a change.
 use Rattle.std.proofs.Common.{◌≡◌, ◌≢◌, ℕ, ◌<◌, ◌≤◌, ◌⊎◌, inl, inr, false, cond, eqb, List, ◌∷◌, length, slice_index, refl, sym, ap, ◌∙◌, subst, arith}
 use Rattle.std.proofs.lemmas.Bool.{false≢true}
-use Rattle.adf_block.specs.Fields.{size_long}
+use Rattle.adf_block.specs.Layout.{size_long}
 use Rattle.adf_block.specs.declared.Format.{Format}
 use Rattle.adf_block.specs.declared.Format.TheVariants.{Ofs, Ffs}
-use Rattle.adf_block.specs.Image.{long, block_count, root_key, has_free_bit, free_bit_count, IsInside, IsSize}
+use Rattle.adf_block.specs.Image.{long, block_count, root_key, has_free_bit, IsInside, IsSize, format_of}
+use Rattle.adf_block.specs.Whole.{free_bit_count}
 use Rattle.adf_block.specs.Frame.{SameBut}
 use Rattle.adf_block.proofs.Frames.{same_long, same_count}
 use Rattle.ados_map.specs.Pages.{pages_of, page_block, page_of, HasBit}
 use Rattle.ados_map.specs.Changes.{MapPlace}
-use Rattle.ados_data.specs.Cost.{data_count, extension_count}
-use Rattle.ados_data.specs.File.{HasFile, AreApart, format_of, file_byte}
+use Rattle.ados_model.specs.Tree.{data_count, extension_count}
+use Rattle.ados_model.specs.Stands.{HasFile, file_byte}
+use Rattle.ados_model.specs.File.{AreApart, extension_blocks, contents}
 use Rattle.ados_data.specs.Changing.{IsInUse, LawfulMap, IsWritable}
 use Rattle.ados_data.specs.steps.Blocks.{IsNewBlock}
-use Rattle.ados_data.specs.File.{extension_blocks, contents}
 use Rattle.ados_data.specs.Changing.{WritableFile}
 use Rattle.ados_data.proofs.Spelled.{data_blocks_are, extension_blocks_are, contents_are}
 use Rattle.ados_data.proofs.Untouched.{Untouched}
@@ -22,7 +23,7 @@ use Rattle.ados_data.proofs.GrowthSteps.{untouched_holder, untouched_data, skele
 use Rattle.ados_data.proofs.Counts.{as_many}
 use Rattle.ados_data.proofs.Marks.{has_bit, page_kept, in_use_kept, mark_kept, map_kept}
 
--- a file but for its bytes, in an image with a lawful map, with all its blocks in use
+-- a file without its bytes; the bitmap is lawful and all blocks of the file are in use
 pub record Standing (image : List ℕ) (format : Format) (file : ℕ) (blocks extensions : List ℕ) (size : ℕ) : Type 0 where
   pub format_is : format_of image ≡ format
   pub size_ok : IsSize (block_count image)
@@ -57,7 +58,7 @@ writable_of image format file blocks extensions bytes s data_fits extensions_fit
       data_used = s.data_used;
     }
 
--- the lists that the image spells are those lists
+-- the lists in the image are these lists
 pub writable_file : (image : List ℕ) (file : ℕ) (blocks extensions bytes : List ℕ) → IsWritable image file blocks extensions bytes → WritableFile image file
 writable_file image file blocks extensions bytes w =
     subst (λ (xs : List ℕ). IsWritable image file xs (extension_blocks image file) (contents image file)) (sym (data_blocks_are image file blocks extensions bytes w.lawful))
@@ -97,7 +98,7 @@ module _ (old : List ℕ) (b : ℕ) (new : List ℕ) (n : IsNewBlock old b new) 
   page_within : page_of b < pages_of old
   page_within = omega (arith, n.lowest.inside.0, n.lowest.inside.1)
 
-  -- a block that is marked used is another one
+  -- a block that is marked used is not the new one
   pub beside_new : (c : ℕ) → has_free_bit old c ≡ false → c ≢ b
   beside_new c u e = false≢true (sym u ∙ ap (has_free_bit old) e ∙ n.lowest.free)
 

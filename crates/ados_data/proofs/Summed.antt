@@ -5,7 +5,7 @@ use Rattle.ados_map.specs.Pages.{pages_of}
 use Rattle.ados_data.specs.Changing.{WritableFile, SummedFile}
 use Rattle.ados_data.specs.Others.{LeavesOthers}
 
--- a change that keeps the sums of the pages and of the header, and after which the file is lawful, keeps them all
+-- right checksums stay right if those of the bitmap and the header do, and the file is lawful afterwards
 pub summed_after : (old new : List ℕ) (file : ℕ) → WritableFile new file → LeavesOthers old file new → SummedFile old file → SummedFile new file
 summed_after old new file w l s =
     let count : block_count new ≡ block_count old = ap (λ (n : ℕ). n / 512) l.same_length in

@@ -1,4 +1,4 @@
--- A free block, taken and cleared.
+-- A free block, allocated and cleared.
 use Rattle.std.proofs.Common.{◌≡◌, ◌≢◌, ℕ, ◌<◌, ◌≤◌, inl, inr, List, false, sym, ap, ◌∙◌, arith}
 use Rattle.std.proofs.lemmas.Bool.{false≢true}
 use Rattle.adf_block.specs.Image.{byte_at, block_count, root_key, has_free_bit, IsSize}

@@ -1,12 +1,12 @@
--- Blocks that a change leaves as they are, whole or but for some longs.
+-- Blocks that a change leaves untouched, or all but some longs of them.
 use Rattle.std.proofs.Common.{◌≡◌, ℕ, ◌%◌, ◌^◌, ◌<◌, List, ap, ◌∙◌, arith}
-use Rattle.adf_block.specs.Fields.{secondary_type_long, parent_long}
+use Rattle.adf_block.specs.Layout.{secondary_type_long, parent_long}
 use Rattle.adf_block.specs.Image.{byte_at, long, block_sum}
 use Rattle.adf_block.proofs.Longs.{long-same}
 use Rattle.adf_block.proofs.Totals.{total-same}
-use Rattle.ados_data.specs.File.{HasExtension}
+use Rattle.ados_model.specs.Stands.{HasExtension}
 
--- each byte of the block is as it was
+-- each byte of the block is unchanged
 abbrev pub Untouched : List ℕ → List ℕ → ℕ → Type 0
 Untouched old new c = (k : ℕ) → k < 512 → byte_at new c k ≡ byte_at old c k
 
@@ -17,7 +17,7 @@ pub untouched_sum : (old new : List ℕ) (c : ℕ) → Untouched old new c → b
 unfolding block_sum
 untouched_sum old new c u = ap (λ (n : ℕ). n % 2 ^ 32) (total-same (long old c) (long new c) 128 (λ j l. untouched_long old new c u j l))
 
--- an extension block whose fields stay
+-- an extension block with unchanged fields
 pub extension_kept : (old new : List ℕ) (file c : ℕ) → long new c 0 ≡ long old c 0 → long new c 1 ≡ long old c 1 → long new c parent_long ≡ long old c parent_long → long new c secondary_type_long ≡ long old c secondary_type_long → block_sum new c ≡ 0 → HasExtension old file c → HasExtension new file c
 extension_kept old new file c a b d e s h = record {
   primary = a ∙ h.primary;

@@ -1,25 +1,25 @@
--- Bytes put into a file's data blocks, and its size, keep the rest to the byte.
+-- Writes of data bytes and of the size leave all other bytes untouched.
 use Rattle.std.proofs.Common.{◌≡◌, ℕ, suc, ◌+◌, ◌-◌, ◌/◌, ◌%◌, ◌<◌, ◌≤◌, ◌⊎◌, inl, inr, List, ◌∷◌, length, slice_index, sym, subst, arith}
 use Rattle.std.proofs.lemmas.Bool.{cases_lt, cases_eq}
 use Rattle.adf_block.specs.declared.Format.{Format}
 use Rattle.adf_block.specs.declared.Format.TheVariants.{Ofs, Ffs}
-use Rattle.adf_block.specs.Fields.{pointer_count, file_size, pointer_count_long, size_long, next_extension, next_data}
+use Rattle.adf_block.specs.Image.{pointer_count, file_size, format_of}
+use Rattle.adf_block.specs.Layout.{pointer_count_long, size_long, next_extension, next_data}
 use Rattle.adf_block.specs.Frame.{SameBut}
 use Rattle.adf_block.proofs.Frames.{same_long}
-use Rattle.ados_data.specs.Cost.{data_size, data_start}
+use Rattle.ados_model.specs.Tree.{data_size, data_start}
 use Rattle.ados_data.specs.steps.Edits.{AtData, AtFields}
-use Rattle.ados_data.specs.File.{format_of}
 use Rattle.ados_data.specs.steps.Blocks.{IsResized, AtEnd}
 use Rattle.ados_data.specs.Unnamed.{IsPointerField, data_end, IsBeside, KeepsUnnamed}
 use Rattle.ados_data.proofs.Standing.{Standing}
 use Rattle.ados_data.proofs.Grown.{keeps_within}
 
--- an OFS block's header is in front of the end of its bytes
+-- the header of an OFS data block is before the end of its bytes
 header_within : (format : Format) (size i k : ℕ) → format ≡ Ofs → k < 24 → k < data_end format size i
 header_within Ofs size i k e l = omega arith
 header_within Ffs size i k e l = cc
 
--- a part of a data block ends where the bytes of the file do, or in front of that
+-- a part of a data block ends at the end of the file's bytes or before it
 pub put_end : (format : Format) (at n size : ℕ) → at % data_size format + n ≤ data_size format → at + n ≤ size → data_start format + at % data_size format + n ≤ data_end format size (at / data_size format)
 put_end Ofs at n size l m = omega arith
 put_end Ffs at n size l m = omega arith
@@ -50,7 +50,7 @@ module _ (old : List ℕ) (format : Format) (file : ℕ) (blocks extensions : Li
   header_beside : (q k : ℕ) → q ≤ length extensions → ¬ Put (slice_index (file ∷ extensions) q) k
   header_beside q k l at = s.places.apart q i l within at.0
 
-  -- bytes alone
+  -- only bytes change
   pub keeps_put : (new : List ℕ) → SameBut (AtData format (slice_index blocks i) low high) old new → high ≤ data_end format (file_size new file) i → KeepsUnnamed old file blocks extensions new blocks extensions
   keeps_put new h reached =
       keeps_within Put old new file blocks extensions h (λ c k o at. o.beside_data i within at.0)
@@ -59,7 +59,7 @@ module _ (old : List ℕ) (format : Format) (file : ℕ) (blocks extensions : Li
       (λ j k l at. in_format (file_size new file) j k (put_within (file_size new file) j k reached l at))
       (same_long Put old new h file 4 (omega arith) (λ k e. header_beside 0 k (omega arith)))
 
--- the size alone
+-- only the size changes
 module _ (old new : List ℕ) (format : Format) (file : ℕ) (blocks extensions : List ℕ) (size size' : ℕ) (s : Standing old format file blocks extensions size) (some : 0 < length blocks)
     (y : IsResized old format file (slice_index (file ∷ extensions) (length extensions)) (slice_index blocks (length blocks - 1)) (length blocks) size' new) where
   abbrev Resized : ℕ → ℕ → Type 0

@@ -1,72 +1,75 @@
--- What a call on a file leaves as it is.
+-- What a call on a file leaves untouched in other blocks.
 use Rattle.std.specs.Prelude.{◌≡◌, ◌≢◌, ℕ, ◌/◌, ◌<◌, ◌≤◌, ◌⊎◌, List, ◌∷◌, length, slice_index, false, true}
-use Rattle.adf_block.specs.Fields.{sum_long, first_slot, pointer_count_long, first_pointer, size_long, next_extension, next_data}
+use Rattle.adf_block.specs.Layout.{sum_long, first_slot, pointer_count_long, first_pointer, size_long, next_extension, next_data, block_bytes, boot_blocks}
 use Rattle.adf_block.specs.Image.{byte_at, block_sum, block_count, has_free_bit, IsInside}
 use Rattle.ados_map.specs.Pages.{pages_of, page_block, HasBit}
-use Rattle.ados_data.specs.File.{data_blocks, extension_blocks}
+use Rattle.ados_model.specs.File.{data_blocks, extension_blocks}
 
 -- byte k of block b is the same in both images
 abbrev pub SameByte : List ℕ → List ℕ → ℕ → ℕ → Type 0
 SameByte old new b k = byte_at new b k ≡ byte_at old b k
 
--- a block in front of the volume, or in use: no page, and no block of the file with these lists
+-- another block: a boot block or a block in use, but neither a bitmap block nor a block of the file
 pub record IsOther (image : List ℕ) (file : ℕ) (blocks extensions : List ℕ) (c : ℕ) : Type 0 where
   pub inside : c < block_count image
-  pub used : 2 ≤ c → has_free_bit image c ≡ false
+  pub used : boot_blocks ≤ c → has_free_bit image c ≡ false
   pub beside_pages : (p : ℕ) → p < pages_of image → c ≢ page_block image p
   pub beside_headers : (q : ℕ) → q ≤ length extensions → c ≢ slice_index (file ∷ extensions) q
   pub beside_data : (i : ℕ) → i < length blocks → c ≢ slice_index blocks i
 
--- the longs of a file header that say where its bytes are: count, first data block, sum, pointers, size, first extension block
+-- the longs of a file header that a change of its data may write: the number of pointers, first data block, checksum,
+-- pointers, size, first extension block
 abbrev pub IsDataField : ℕ → Type 0
 IsDataField j =
     (j ≡ pointer_count_long) ⊎ ((j ≡ next_data) ⊎ ((j ≡ sum_long)
     ⊎ (((first_slot ≤ j) × (j ≤ first_pointer)) ⊎ ((j ≡ size_long) ⊎ (j ≡ next_extension)))))
 
--- other blocks stay, byte by byte, and stay marked used; the bits past the volume's end stay; of the header only the fields of its data change; the pages stay in their places, and sums that were settled are
+-- other blocks are unchanged and still marked used; bits past the volume's end are unchanged; in the header only the
+-- fields of the data change; the bitmap blocks are the same blocks, and right checksums stay right
 pub record Leaves (old : List ℕ) (file : ℕ) (blocks extensions : List ℕ) (new : List ℕ) : Type 0 where
   pub same_length : length new ≡ length old
   pub pages : (p : ℕ) → p < pages_of old → page_block new p ≡ page_block old p
-  pub others : (c k : ℕ) → k < 512 → IsOther old file blocks extensions c → SameByte old new c k
+  pub others : (c k : ℕ) → k < block_bytes → IsOther old file blocks extensions c → SameByte old new c k
   pub used : (c : ℕ) → IsInside (block_count old) c → IsOther old file blocks extensions c → has_free_bit new c ≡ false
   pub past_end : (j : ℕ) → HasBit old j → block_count old ≤ j → has_free_bit new j ≡ has_free_bit old j
-  pub header : (k : ℕ) → k < 512 → ¬ IsDataField (k / 4) → SameByte old new file k
+  pub header : (k : ℕ) → k < block_bytes → ¬ IsDataField (k / 4) → SameByte old new file k
   pub header_sum : block_sum old file ≡ 0 → block_sum new file ≡ 0
   pub page_sums : (p : ℕ) → p < pages_of old → block_sum old (page_block old p) ≡ 0 → block_sum new (page_block old p) ≡ 0
 
--- the same of the file whose header is this block
+-- the same for the file with this header
 abbrev pub LeavesOthers : List ℕ → ℕ → List ℕ → Type 0
 LeavesOthers old file new = Leaves old file (data_blocks old file) (extension_blocks old file) new
 
--- a block of the file with these lists: a pointer block or a data block
+-- a block of the file: a pointer block or a data block
 abbrev pub IsOwn : ℕ → List ℕ → List ℕ → ℕ → Type 0
 IsOwn file blocks extensions c =
     ((q : ℕ) × (q ≤ length extensions) × (c ≡ slice_index (file ∷ extensions) q))
     ⊎ ((i : ℕ) × (i < length blocks) × (c ≡ slice_index blocks i))
 
--- the block was marked free
+-- the block was marked free before
 abbrev pub WasFree : List ℕ → ℕ → Type 0
-WasFree old c = (2 ≤ c) × (has_free_bit old c ≡ true)
+WasFree old c = (boot_blocks ≤ c) × (has_free_bit old c ≡ true)
 
--- a place of a new list: it was known in the old one and holds the same block c, or its block d was marked free
+-- position by position: the new block d is the old block c, or it was marked free before
 abbrev pub IsKeptOrTaken : List ℕ → Type 0 → ℕ → ℕ → Type 0
 IsKeptOrTaken old known c d = (known × (d ≡ c)) ⊎ WasFree old d
 
--- behind as many places as the first list has, each block of the second is lower than those behind it
+-- after the positions of the first list, the blocks of the second have rising numbers
 abbrev pub RisesBehind : List ℕ → List ℕ → Type 0
 RisesBehind front blocks = (i j : ℕ) → length front ≤ i → i < j → j < length blocks → slice_index blocks i < slice_index blocks j
 
--- a file with lists of blocks that grew: it keeps its blocks, each further one was marked free, no block was marked free, only blocks of the file were taken, and no free block is left below one that was taken; the further blocks of each list rise
+-- a file's lists grew: it keeps its blocks; each new one was free before; no block became free; only the file's blocks
+-- were allocated, each lower than every block still free; the new blocks of each list rise
 pub record Gains (old : List ℕ) (file : ℕ) (blocks extensions : List ℕ) (new : List ℕ) (blocks' extensions' : List ℕ) : Type 0 where
   pub headers : (q : ℕ) → q ≤ length extensions'
       → IsKeptOrTaken old (q ≤ length extensions) (slice_index (file ∷ extensions) q) (slice_index (file ∷ extensions') q)
   pub data_blocks_of : (i : ℕ) → i < length blocks' → IsKeptOrTaken old (i < length blocks) (slice_index blocks i) (slice_index blocks' i)
   pub marks : (c : ℕ) → IsInside (block_count old) c → has_free_bit old c ≡ false → has_free_bit new c ≡ false
   pub taken : (c : ℕ) → IsInside (block_count old) c → has_free_bit old c ≡ true → has_free_bit new c ≡ false → IsOwn file blocks' extensions' c
-  pub lowest : (c d : ℕ) → IsInside (block_count old) d → 2 ≤ c → c < d → has_free_bit old d ≡ true → has_free_bit new d ≡ false → has_free_bit new c ≡ false
+  pub lowest : (c d : ℕ) → IsInside (block_count old) d → boot_blocks ≤ c → c < d → has_free_bit old d ≡ true → has_free_bit new d ≡ false → has_free_bit new c ≡ false
   pub data_rises : RisesBehind blocks blocks'
   pub extensions_rise : RisesBehind extensions extensions'
 
--- the same of the file whose header is this block
+-- the same for the file with this header
 abbrev pub FileGains : List ℕ → ℕ → List ℕ → Type 0
 FileGains old file new = Gains old file (data_blocks old file) (extension_blocks old file) new (data_blocks new file) (extension_blocks new file)

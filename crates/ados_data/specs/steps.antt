@@ -1,4 +1,4 @@
--- What only a step inside a call needs.
+-- Definitions for steps inside a call.
 pub mod Edits
 pub mod Blocks
 pub mod FileEnd

@@ -1,7 +1,7 @@
-//! A new block put behind the last one of a file.
+//! A new block appended to those of a file.
 
 ghost use Rattle.std.specs.Prelude.{◌≡◌, ◌≢◌, ◌<◌, ◌≤◌, ◌-◌, ◌*◌, ◌+◌, ◌^◌, ◌%◌, ℕ};
-ghost use Rattle.adf_block.specs.Fields.{next_data};
+ghost use Rattle.adf_block.specs.Layout.{next_data, block_bytes};
 ghost use Rattle.adf_block.specs.Image.{block_count, block_sum, byte_at, long};
 ghost use Rattle.adf_block.specs.Frame.{SameBut};
 ghost use Rattle.ados_data.specs.steps.Blocks.{AtLink, IsExtended, IsLengthened};
@@ -10,20 +10,20 @@ use crate::edit::{make_data, make_extension, set_field, set_fields};
 use adf_block::layout::{FIRST_POINTER, NEXT_DATA, NEXT_EXTENSION, POINTER_COUNT, TABLE_LONGS};
 use adf_block::{Format, Image};
 
-/// Makes the empty block `e` an extension block, behind `holder`, the last pointer block of a file.
+/// Makes the empty block `e` an extension block of a file. It follows `holder`, the last pointer block.
 pub fn attach_extension(image: &mut Image, file: u32, holder: u32, e: u32)
     requires holder { holder < block_count image.old }
     requires inside { e < block_count image.old }
     requires apart { e ≢ holder }
-    requires empty { (k : ℕ) → k < 512 → byte_at image.old e k ≡ 0 }
+    requires empty { (k : ℕ) → k < block_bytes → byte_at image.old e k ≡ 0 }
     ensures { IsExtended image.old file holder e image.new }
 {
     make_extension(image, e, file);
     set_field(image, holder, NEXT_EXTENSION, e);
 }
 
-/// Makes the empty block `b` a data block of a file, behind its `count` others, of which `last` is the
-/// last. Its pointer goes into `holder`, the last pointer block. It holds nothing yet.
+/// Makes the empty block `b` data block `count` of a file. `last` is the data block before it. The new pointer goes
+/// into `holder`, the last pointer block. The block holds no data yet.
 pub fn attach_data(
     image: &mut Image,
     format: Format,
@@ -39,7 +39,7 @@ pub fn attach_data(
     requires last_apart { 0 < count → (last ≢ holder) × (last ≢ file) × (last ≢ b) }
     requires inside { b < block_count image.old }
     requires apart { (b ≢ holder) × (b ≢ file) }
-    requires empty { (k : ℕ) → k < 512 → byte_at image.old b k ≡ 0 }
+    requires empty { (k : ℕ) → k < block_bytes → byte_at image.old b k ≡ 0 }
     requires fits { count + 1 < 2 ^ 32 }
     ensures { IsLengthened image.old format file holder last count b image.new }
 {
@@ -61,7 +61,7 @@ pub fn attach_data(
     set_field(image, file, NEXT_DATA, first);
 }
 
-/// Names `b` as the data block behind `last`; FFS blocks don't.
+/// Sets the link from `last` to the data block `b`. FFS has no such link.
 fn link_data(image: &mut Image, format: Format, last: u32, count: u32, b: u32)
     requires last { 0 < count → last < block_count image.old }
     ensures link { format ≡ Format.Ofs → 0 < count → long image.new last next_data ≡ b }

@@ -1,8 +1,9 @@
-//! Blocks that a file gets.
+//! New blocks for a file.
 
 ghost use Rattle.std.specs.Prelude.{◌≡◌, ◌<◌, ◌%◌, false};
-ghost use Rattle.adf_block.specs.Fields.{table_longs};
-ghost use Rattle.adf_block.specs.Image.{IsInside, block_count, has_free_bit, free_bit_count};
+ghost use Rattle.adf_block.specs.Layout.{table_longs};
+ghost use Rattle.adf_block.specs.Image.{IsInside, block_count, has_free_bit};
+ghost use Rattle.adf_block.specs.Whole.{free_bit_count};
 ghost use Rattle.ados_map.specs.Pages.{NoneFreeBelow};
 ghost use Rattle.ados_data.specs.Changing.{LawfulMap};
 ghost use Rattle.ados_data.specs.steps.Blocks.{HasPointerRoom, IsNewBlock};
@@ -12,7 +13,7 @@ use adf_block::Image;
 use adf_block::layout::{MOST_BLOCKS, TABLE_LONGS};
 use ados_map::take_first_from;
 
-/// Takes the lowest free block, which is not below `from`, and fills it with zeros.
+/// Allocates the lowest free block and fills it with zeros. No block below `from` may be free.
 pub fn new_block(image: &mut Image, from: u32) -> u32
     requires map { LawfulMap image.old }
     requires below { NoneFreeBelow image.old from }
@@ -27,8 +28,8 @@ pub fn new_block(image: &mut Image, from: u32) -> u32
     block
 }
 
-/// The pointer block for pointer `count` of a file: `holder`, the last one, or a new one behind it where
-/// that is full. No block below `from` is free.
+/// The pointer block for pointer `count` of a file. It is `holder`, the last one, or a new one after it if `holder` is
+/// full. No block below `from` may be free.
 pub fn pointer_room(image: &mut Image, file: u32, holder: u32, count: u32, from: u32) -> u32
     requires map { LawfulMap image.old }
     requires below { NoneFreeBelow image.old from }

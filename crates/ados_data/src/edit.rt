@@ -1,10 +1,10 @@
-//! Edits of the fields of one block. Where the block was settled it is so afterwards: its sum follows each field.
+//! Edits of fields in one block. The checksum follows each edit: a right one stays right.
 
 ghost use Rattle.std.specs.Prelude.{◌≡◌, ◌≢◌, ℕ, ◌<◌, ◌+◌, ◌^◌, ◌⊎◌};
-ghost use Rattle.adf_block.specs.Image.{block_count, block_sum, byte_at, long};
+ghost use Rattle.adf_block.specs.Image.{block_count, block_sum, byte_at, long, primary_type, own_key, sequence_number, held_count};
 ghost use Rattle.adf_block.specs.Frame.{SameBut, OnlyBlock};
-ghost use Rattle.adf_block.specs.Fields.{primary_type, own_key, sequence_number, held_count, sum_long, next_data};
-ghost use Rattle.ados_data.specs.File.{HasExtension};
+ghost use Rattle.adf_block.specs.Layout.{sum_long, next_data, data_type, block_longs};
+ghost use Rattle.ados_model.specs.Stands.{HasExtension};
 ghost use Rattle.ados_data.specs.steps.Edits.{AtField, AtFields, AtExtensionFields, AtDataFields};
 
 use adf_block::layout::{
@@ -15,11 +15,11 @@ use adf_block::{Format, Image};
 /// Sets long `i` of block `b`.
 pub fn set_field(image: &mut Image, b: u32, i: u32, v: u32)
     requires block { b < block_count image.old }
-    requires place { i < 128 }
+    requires place { i < block_longs }
     requires not_sum { i ≢ sum_long }
     ensures set { long image.new b i ≡ v }
     ensures sum { block_sum image.old b ≡ 0 → block_sum image.new b ≡ 0 }
-    ensures others { (c j : ℕ) → j < 128 → (c ≢ b) ⊎ ((j ≢ i) × (j ≢ sum_long)) → long image.new c j ≡ long image.old c j }
+    ensures others { (c j : ℕ) → j < block_longs → (c ≢ b) ⊎ ((j ≢ i) × (j ≢ sum_long)) → long image.new c j ≡ long image.old c j }
     ensures rest { SameBut (AtField b i) image.old image.new }
 {
     let old = image.long(b, i);
@@ -31,8 +31,8 @@ pub fn set_field(image: &mut Image, b: u32, i: u32, v: u32)
 /// Sets longs `i` and `j` of block `b`.
 pub fn set_fields(image: &mut Image, b: u32, i: u32, v: u32, j: u32, w: u32)
     requires block { b < block_count image.old }
-    requires place { i < 128 }
-    requires other_place { j < 128 }
+    requires place { i < block_longs }
+    requires other_place { j < block_longs }
     requires apart { i ≢ j }
     requires not_sum { i ≢ sum_long }
     requires other_not_sum { j ≢ sum_long }
@@ -45,7 +45,7 @@ pub fn set_fields(image: &mut Image, b: u32, i: u32, v: u32, j: u32, w: u32)
     set_field(image, b, j, w);
 }
 
-/// Makes block `b`, which is empty, an extension block of a file, with no pointers.
+/// Makes the empty block `b` an extension block of a file, without pointers.
 pub fn make_extension(image: &mut Image, b: u32, file: u32)
     requires { b < block_count image.old }
     ensures fields { HasExtension image.new file b }
@@ -58,12 +58,12 @@ pub fn make_extension(image: &mut Image, b: u32, file: u32)
     image.settle(b, SUM);
 }
 
-/// Makes block `b`, which is empty, a data block of a file, the one with this sequence number. It holds
-/// nothing yet; in FFS it has no fields.
+/// Makes the empty block `b` a data block of a file with this sequence number, from 1. It holds no data yet. In FFS it
+/// has no fields.
 pub fn make_data(image: &mut Image, format: Format, b: u32, file: u32, sequence: u32)
     requires inside { b < block_count image.old }
     requires settled { block_sum image.old b ≡ 0 }
-    ensures primary { format ≡ Format.Ofs → primary_type image.new b ≡ 8 }
+    ensures primary { format ≡ Format.Ofs → primary_type image.new b ≡ data_type }
     ensures header { format ≡ Format.Ofs → own_key image.new b ≡ file }
     ensures sequence { format ≡ Format.Ofs → sequence_number image.new b ≡ sequence }
     ensures held { held_count image.new b ≡ held_count image.old b }

@@ -1,23 +1,22 @@
-//! The longs that lead through a file.
+//! The fields that lead to a file's data.
 
 ghost use Rattle.std.specs.Prelude.{◌≡◌, ◌<◌, ◌-◌, ◌%◌, length};
-ghost use Rattle.adf_block.specs.Fields.{table_longs, first_pointer};
-ghost use Rattle.adf_block.specs.Image.{block_count, bytes_at, long};
-ghost use Rattle.ados_data.specs.Cost.{data_size, data_start};
-ghost use Rattle.ados_data.specs.File.{format_of};
+ghost use Rattle.adf_block.specs.Layout.{table_longs, first_pointer};
+ghost use Rattle.adf_block.specs.Image.{block_count, bytes_at, long, format_of};
+ghost use Rattle.ados_model.specs.Tree.{data_size, data_start};
 
 use crate::cost::data_start;
 use adf_block::layout::{FIRST_POINTER, TABLE_LONGS};
 use adf_block::{Format, Image};
 
-/// How the volume's data blocks are laid out.
+/// The layout of the volume's data blocks.
 pub fn format_of(image: &Image) -> Format
     ensures { result ≡ format_of image.now }
 {
     image.format()
 }
 
-/// The data block of pointer `i` of a file, by the pointer block that holds it.
+/// The block number in data pointer `i` of a file. `holder` is the pointer block with this pointer.
 pub fn data_block(image: &Image, holder: u32, i: u64) -> u32
     requires { holder < block_count image.now }
     ensures { result ≡ long image.now holder (first_pointer - i % table_longs) }
@@ -25,7 +24,7 @@ pub fn data_block(image: &Image, holder: u32, i: u64) -> u32
     image.long(holder, FIRST_POINTER - (i % TABLE_LONGS as u64) as u32)
 }
 
-/// The data of a data block, in OFS behind its header.
+/// The data bytes of a data block: 488 bytes after the header in OFS, all 512 in FFS.
 pub fn data_in(image: &Image, format: Format, block: u32) -> &[u8]
     requires { block < block_count image.now }
     ensures bytes { result.now ≡ bytes_at image.now block (data_start format) (data_size format) }

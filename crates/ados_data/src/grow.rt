@@ -1,11 +1,12 @@
-//! A file that becomes longer.
+//! A file made longer.
 
 ghost use Rattle.std.specs.Prelude.{◌≡◌, ◌<◌, ◌≤◌, ◌+◌, ◌-◌, ◌*◌, ◌/◌, ◌^◌, ◌++◌, length, replicate, take};
-ghost use Rattle.adf_block.specs.Fields.{table_longs};
-ghost use Rattle.adf_block.specs.Image.{free_bit_count};
+ghost use Rattle.adf_block.specs.Layout.{table_longs};
+ghost use Rattle.adf_block.specs.Whole.{free_bit_count};
 ghost use Rattle.ados_map.specs.Pages.{NoneFreeBelow};
-ghost use Rattle.ados_data.specs.Cost.{data_size};
-ghost use Rattle.ados_data.specs.File.{LawfulFile, contents, data_blocks, extension_blocks, format_of};
+ghost use Rattle.ados_model.specs.Tree.{data_size};
+ghost use Rattle.ados_model.specs.File.{LawfulFile, contents, data_blocks, extension_blocks};
+ghost use Rattle.adf_block.specs.Image.{format_of};
 ghost use Rattle.ados_data.specs.Changing.{HasFree, PaysFor, WritableFile};
 ghost use Rattle.ados_data.specs.Place.{IsPlace};
 ghost use Rattle.ados_data.specs.steps.FileEnd.{IsEnd, IsLonger};
@@ -24,15 +25,15 @@ use adf_block::{Format, Image};
 /// The end of a file.
 #[derive(Clone, Copy)]
 pub struct End {
-    /// Its data blocks.
+    /// The number of data blocks.
     pub count: u32,
     /// The last pointer block.
     pub holder: u32,
-    /// The last data block, or 0 where there is none.
+    /// The last data block, or 0 if there is none.
     pub last: u32,
 }
 
-/// Where a lawful file ends.
+/// The end of a lawful file. The walk to it starts at `near`.
 pub fn end_of(image: &Image, format: Format, file: u32, near: Place) -> End
     requires lawful { LawfulFile image.now file }
     requires near { IsPlace image.now file near }
@@ -53,8 +54,8 @@ pub fn end_of(image: &Image, format: Format, file: u32, near: Place) -> End
     }
 }
 
-/// Makes a file longer within its last data block, up to this size if there is room, and answers the size
-/// that it then has. The bytes it gets are those that stand there.
+/// Makes a file longer within its last data block, to `size` bytes or to the end of the block. It returns the new size
+/// in bytes. The added bytes are those already in the block.
 fn fill_last(image: &mut Image, format: Format, file: u32, end: End, size: u32) -> u32
     requires writable { WritableFile image.old file }
     requires format { format ≡ format_of image.old }
@@ -89,8 +90,8 @@ fn fill_last(image: &mut Image, format: Format, file: u32, end: End, size: u32) 
     reached
 }
 
-/// Appends a data block to a file whose data blocks are full, so that the file has this size. The bytes
-/// it gets are 0. No block below `from` is free.
+/// Appends a data block to a file with full data blocks, and sets the size in bytes. The added bytes are 0. No block
+/// below `from` may be free.
 fn append(image: &mut Image, format: Format, file: u32, end: End, size: u32, from: u32) -> End
     requires writable { WritableFile image.old file }
     requires below { NoneFreeBelow image.old from }
@@ -125,9 +126,11 @@ fn append(image: &mut Image, format: Format, file: u32, end: End, size: u32, fro
     }
 }
 
-/// Makes a file longer, to this size. What it gets of its last data block is what stands there, and 0 behind that. Each block
-/// it gets is the lowest free one, and what the file doesn't use of it is 0. It keeps its blocks. No block below `from` is
-/// free; the answer is such a bound for the next search.
+/// Makes a file longer, to `size` bytes.
+///
+/// The added bytes are those already in the last data block, then 0. Each new block is the lowest free one, and its
+/// unused bytes are 0. The file keeps its blocks. No block below `from` may be free. The result is such a bound for
+/// the next search.
 pub fn lengthen(image: &mut Image, file: u32, near: Place, size: u32, from: u32) -> u32
     requires writable { WritableFile image.old file }
     requires near { IsPlace image.old file near }

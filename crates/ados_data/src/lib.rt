@@ -1,4 +1,4 @@
-//! The data blocks and extension blocks of files: each call is an operation on a file's byte string.
+//! The data blocks and extension blocks of files. Each call is an operation on a file's bytes.
 #![tactic(auto)]
 
 mod attach;

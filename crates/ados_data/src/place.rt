@@ -1,22 +1,23 @@
-//! Where a call stands among the pointer blocks of a file.
+//! Positions among the pointer blocks of a file.
 
 ghost use Rattle.std.specs.Prelude.{◌≡◌, ◌≤◌, ◌/◌, List, ℕ, length, min};
-ghost use Rattle.adf_block.specs.Fields.{table_longs};
-ghost use Rattle.ados_data.specs.Cost.{data_size};
-ghost use Rattle.ados_data.specs.File.{LawfulFile, extension_blocks, format_of, pointer_block};
+ghost use Rattle.adf_block.specs.Layout.{table_longs};
+ghost use Rattle.ados_model.specs.Tree.{data_size};
+ghost use Rattle.ados_model.specs.File.{ReadableFile, extension_blocks, pointer_block};
+ghost use Rattle.adf_block.specs.Image.{format_of};
 ghost use Rattle.ados_data.specs.Place.{IsPlace};
 
 use crate::cost::{data_count, data_size, extension_count};
 use adf_block::Image;
 use adf_block::layout::{NEXT_EXTENSION, SIZE, TABLE_LONGS};
 
-/// A pointer block of a file, with so many others in front of it. A call that takes one walks on from there, and not from the
-/// header, if what it seeks does not stand in front of it.
+/// A pointer block of a file (its header or an extension block), and the number of those before it. A call with a
+/// `Place` starts its walk there, and not at the header, unless it needs a pointer block before it.
 #[derive(Clone, Copy)]
 pub struct Place {
-    /// The pointer blocks in front of it.
+    /// The number of pointer blocks before it; 0 for the header.
     pub index: u64,
-    /// Its number.
+    /// Its block number.
     pub block: u32,
 }
 
@@ -33,9 +34,9 @@ impl Place {
     }
 }
 
-/// The pointer block of byte `pos` of a file; of a position behind its end, no further than the last one.
+/// The pointer block for byte `pos` of a file. For a position after the end it is at most the last pointer block.
 pub fn place_at(image: &Image, file: u32, near: Place, pos: u64) -> Place
-    requires lawful { LawfulFile image.now file }
+    requires readable { ReadableFile image.now file }
     requires near { IsPlace image.now file near }
     ensures place { IsPlace image.now file result }
     ensures index { result.index ≡ min (pos / data_size (format_of image.now) / table_longs) (length (extension_blocks image.now file)) }
@@ -47,9 +48,9 @@ pub fn place_at(image: &Image, file: u32, near: Place, pos: u64) -> Place
     Place { index, block }
 }
 
-/// The pointer block behind `q` others: 0 is the header.
+/// Pointer block `q` of a file: 0 is the header, 1 the first extension block.
 pub fn pointer_block(image: &Image, file: u32, near: Place, q: u64) -> u32
-    requires lawful { LawfulFile image.now file }
+    requires readable { ReadableFile image.now file }
     requires near { IsPlace image.now file near }
     requires within { q ≤ length (extension_blocks image.now file) }
     ensures { result ≡ pointer_block image.now file q }
@@ -62,7 +63,7 @@ pub fn pointer_block(image: &Image, file: u32, near: Place, q: u64) -> u32
     holder
 }
 
-/// Where the walk to pointer block `q` begins.
+/// The start of the walk to pointer block `q`.
 fn start_of(file: u32, near: Place, q: u64) -> Place
     ensures place { (image : List ℕ) → IsPlace image file near → IsPlace image file result }
     ensures front { result.index ≤ q }

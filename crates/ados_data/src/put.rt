@@ -1,16 +1,16 @@
-//! Bytes put into a block.
+//! Bytes written into a block.
 
 ghost use Rattle.std.specs.Prelude.{◌≡◌, ◌<◌, ◌≤◌, ◌+◌, ℕ, length, slice_index};
 ghost use Rattle.adf_block.specs.Image.{block_count, block_sum, byte_at};
 ghost use Rattle.adf_block.specs.Frame.{SameBut};
-ghost use Rattle.ados_data.specs.Cost.{data_size, data_start};
+ghost use Rattle.ados_model.specs.Tree.{data_size, data_start};
 ghost use Rattle.ados_data.specs.steps.Edits.{AtData};
 
 use crate::cost::data_start;
 use adf_block::layout::SUM;
 use adf_block::{Format, Image};
 
-/// Puts bytes over those that a data block holds, from byte `from` of its data on.
+/// Overwrites the data of a data block, from byte `from` of its data.
 pub fn put_data(image: &mut Image, format: Format, block: u32, from: usize, bytes: &[u8])
     requires inside { block < block_count image.old }
     requires room { from + length bytes.now ≤ data_size format }

@@ -1,7 +1,7 @@
-//! Reading a file's bytes.
+//! Reads of a file.
 
 ghost use Rattle.std.specs.Prelude.{◌≡◌, ◌++◌, ◌-◌, min, take, drop, length};
-ghost use Rattle.ados_data.specs.File.{LawfulFile, contents};
+ghost use Rattle.ados_model.specs.File.{ReadableFile, contents};
 ghost use Rattle.ados_data.specs.Place.{IsPlace};
 
 use crate::cost::data_size;
@@ -10,19 +10,19 @@ use crate::place::{Place, pointer_block};
 use adf_block::Image;
 use adf_block::layout::{NEXT_EXTENSION, SIZE, TABLE_LONGS};
 
-/// Copies the bytes of a file from byte `pos` on into the buffer, as many as are there and fit, and
-/// answers how many these are. The rest of the buffer stays.
+/// Copies bytes of a file from byte `pos` into the buffer, as many as exist and fit. It returns their number. The rest
+/// of the buffer is unchanged.
 pub fn read_at(image: &Image, file: u32, pos: u64, buffer: &mut [u8]) -> usize
-    requires { LawfulFile image.now file }
+    requires { ReadableFile image.now file }
     ensures count { result ≡ min (length buffer.old) (length (contents image.now file) - pos) }
     ensures bytes { buffer.new ≡ take result (drop pos (contents image.now file)) ++ drop result buffer.old }
 {
     read_near(image, file, Place::header(file), pos, buffer)
 }
 
-/// Does what `read_at` does, and walks to the bytes from the place `near`.
+/// `read_at` with a walk that starts at `near`.
 pub fn read_near(image: &Image, file: u32, near: Place, pos: u64, buffer: &mut [u8]) -> usize
-    requires lawful { LawfulFile image.now file }
+    requires readable { ReadableFile image.now file }
     requires near { IsPlace image.now file near }
     ensures count { result ≡ min (length buffer.old) (length (contents image.now file) - pos) }
     ensures bytes { buffer.new ≡ take result (drop pos (contents image.now file)) ++ drop result buffer.old }

@@ -1,8 +1,8 @@
-//! The size of a file, and what depends on it.
+//! The size of a file, and the fields that depend on it.
 
 ghost use Rattle.std.specs.Prelude.{◌≡◌, ◌≢◌, ◌<◌, ◌≤◌, ◌-◌, ◌*◌, ◌+◌, ◌^◌};
-ghost use Rattle.adf_block.specs.Image.{block_count, block_sum, long};
-ghost use Rattle.adf_block.specs.Fields.{held_count, next_data, ofs_room};
+ghost use Rattle.adf_block.specs.Image.{block_count, block_sum, long, held_count};
+ghost use Rattle.adf_block.specs.Layout.{next_data, ofs_room};
 ghost use Rattle.adf_block.specs.Frame.{SameBut};
 ghost use Rattle.ados_data.specs.steps.Blocks.{AtEnd, IsResized};
 
@@ -12,8 +12,8 @@ use adf_block::layout::{
 };
 use adf_block::{Format, Image};
 
-/// Gives a file this size and so many data blocks. The last of these is `last`, and its pointer stands in
-/// `holder`, which becomes the last pointer block.
+/// Sets the size of a file in bytes, and its number of data blocks. `last` is the last data block. `holder` has the
+/// pointer to it and becomes the last pointer block.
 pub fn resize(
     image: &mut Image,
     format: Format,
@@ -41,7 +41,7 @@ pub fn resize(
     set_fields(image, file, NEXT_DATA, first, SIZE, size);
 }
 
-/// Makes `last` the last data block of a file of this size; FFS blocks don't say so.
+/// Makes `last` the last data block of a file with `size` bytes. FFS data blocks have no fields for it.
 fn end_data(image: &mut Image, format: Format, last: u32, count: u32, size: u32)
     requires last { 0 < count → last < block_count image.old }
     requires size { ofs_room * (count - 1) ≤ size }

@@ -1,11 +1,12 @@
-//! A file that becomes shorter.
+//! A file made shorter.
 
 ghost use Rattle.std.specs.Prelude.{◌≡◌, ℕ, true, slice_index, ◌<◌, ◌≤◌, ◌+◌, ◌-◌, ◌%◌, length, take};
-ghost use Rattle.adf_block.specs.Fields.{table_longs, ofs_data_byte};
-ghost use Rattle.adf_block.specs.Image.{IsInside, has_free_bit, block_count, byte_at, long, free_bit_count};
+ghost use Rattle.adf_block.specs.Layout.{table_longs, ofs_data_byte};
+ghost use Rattle.adf_block.specs.Image.{IsInside, has_free_bit, block_count, byte_at, long, format_of};
+ghost use Rattle.adf_block.specs.Whole.{free_bit_count};
 ghost use Rattle.ados_map.specs.Pages.{LawfulPages};
-ghost use Rattle.ados_data.specs.Cost.{block_cost, data_count, extension_count};
-ghost use Rattle.ados_data.specs.File.{contents, data_blocks, extension_blocks, format_of};
+ghost use Rattle.ados_model.specs.Tree.{block_cost, data_count, extension_count};
+ghost use Rattle.ados_model.specs.File.{contents, data_blocks, extension_blocks};
 ghost use Rattle.ados_data.specs.Cut.{CutsHeader, FreesData, FreesExtensions, KeepsData};
 ghost use Rattle.ados_data.specs.Changing.{PaysFor, SummedFile, WritableFile};
 ghost use Rattle.ados_data.specs.Others.{LeavesOthers};
@@ -20,15 +21,15 @@ use adf_block::Image;
 use adf_block::layout::{MOST_BLOCKS, NEXT_EXTENSION, SIZE, TABLE_LONGS};
 use ados_map::give_back;
 
-/// The pointer block at hand while blocks are given back, and the one behind it.
+/// The current pointer block while blocks are freed, and the next one.
 #[derive(Clone, Copy)]
 struct Cursor {
     holder: u32,
     next: u32,
 }
 
-/// Keeps the front of a file, of this size, and gives the blocks behind it back. What stands in these stays,
-/// as does each byte that no field names.
+/// Cuts a file to `size` bytes and frees the blocks after them. The bytes of freed blocks are unchanged, and so is
+/// each byte outside all fields.
 pub fn cut(image: &mut Image, file: u32, size: u32)
     requires writable { WritableFile image.old file }
     requires shorter { size ≤ length (contents image.old file) }
@@ -67,8 +68,8 @@ pub fn cut(image: &mut Image, file: u32, size: u32)
     }
 }
 
-/// Goes on to the pointer block of pointer `i`. An extension block that is entered is given back; what
-/// stands in it stays.
+/// Moves on to the pointer block of pointer `i`. If this is the next extension block, it is freed. Its bytes are
+/// unchanged.
 fn enter(image: &mut Image, at: Cursor, i: u64) -> Cursor
     requires pages { LawfulPages image.old }
     requires inside { 0 < i → i % table_longs ≡ 0 → IsInside (block_count image.old) at.next }

@@ -1,12 +1,14 @@
-//! Writing over the bytes of a file.
+//! Writes to a file.
 
 ghost use Rattle.std.specs.Prelude.{◌≡◌, ℕ, ◌<◌, ◌≤◌, ◌+◌, ◌-◌, ◌*◌, ◌++◌, length, max, min, replicate, take};
-ghost use Rattle.adf_block.specs.Image.{has_free_bit, free_bit_count};
+ghost use Rattle.adf_block.specs.Image.{has_free_bit, format_of};
+ghost use Rattle.adf_block.specs.Whole.{free_bit_count};
 ghost use Rattle.ados_map.specs.Pages.{HasBit, NoneFreeBelow};
-ghost use Rattle.ados_data.specs.Cost.{data_count, data_size};
+ghost use Rattle.ados_model.specs.Tree.{data_count, data_size};
 ghost use Rattle.ados_data.specs.Others.{FileGains, LeavesOthers};
 ghost use Rattle.ados_data.specs.Unnamed.{FileKeepsUnnamed};
-ghost use Rattle.ados_data.specs.File.{contents, data_blocks, extension_blocks, format_of, overlaid};
+ghost use Rattle.ados_model.specs.File.{contents, data_blocks, extension_blocks};
+ghost use Rattle.ados_model.specs.Change.{overlaid};
 ghost use Rattle.ados_data.specs.Changing.{HasFree, PaysFor, SummedFile, WritableFile};
 ghost use Rattle.ados_data.specs.Place.{IsPlace};
 
@@ -18,10 +20,10 @@ use crate::put::put_data;
 use adf_block::Image;
 use adf_block::layout::{BOOT_BLOCKS, FFS_ROOM, MOST_BLOCKS, NEXT_EXTENSION, SIZE, TABLE_LONGS};
 
-/// The most bytes that a data block has room for.
+/// The most data bytes of a data block.
 const ROOM: usize = FFS_ROOM as usize;
 
-/// Writes bytes over those of a file from byte `pos` on; all of these are there.
+/// Overwrites bytes of a file from byte `pos`. All of them are inside the file.
 fn overlay(image: &mut Image, file: u32, near: Place, pos: u64, bytes: &[u8])
     requires writable { WritableFile image.old file }
     requires near { IsPlace image.old file near }
@@ -57,8 +59,8 @@ fn overlay(image: &mut Image, file: u32, near: Place, pos: u64, bytes: &[u8])
     }
 }
 
-/// Makes a file longer, to this size, and writes bytes over its own from byte `pos` on. They reach over all that the file gets
-/// of what was its last data block; behind them it gets zeros.
+/// Makes a file longer, to `size` bytes, and overwrites its bytes from byte `pos`. The written bytes cover everything
+/// added in the last data block. Added bytes after them are 0. The result is a bound as in `write_near`.
 fn write_longer(
     image: &mut Image,
     file: u32,
@@ -92,8 +94,9 @@ fn write_longer(
     bound
 }
 
-/// Writes bytes to a file from byte `pos` on, over those that are there and behind them. Each block that the
-/// file gets is the lowest free one. Like `extend`, it changes no byte that it need not.
+/// Writes bytes to a file from byte `pos`, at most its size. The file grows if they reach past its end.
+///
+/// Each new block is the lowest free one. As in `extend`, bytes that need no change are unchanged.
 pub fn write_at(image: &mut Image, file: u32, pos: u64, bytes: &[u8])
     requires writable { WritableFile image.old file }
     requires start { pos ≤ length (contents image.old file) }
@@ -112,8 +115,8 @@ pub fn write_at(image: &mut Image, file: u32, pos: u64, bytes: &[u8])
     write_near(image, file, Place::header(file), pos, bytes, BOOT_BLOCKS);
 }
 
-/// Does what `write_at` does, and walks to the bytes from the place `near`. No block below `from` is free; the answer is such
-/// a bound for the next search.
+/// `write_at` with a walk that starts at `near`. No block below `from` may be free. The result is such a bound for the
+/// next search.
 pub fn write_near(
     image: &mut Image,
     file: u32,
@@ -144,9 +147,10 @@ pub fn write_near(
     write_longer(image, file, near, size as u32, pos, bytes, from)
 }
 
-/// Makes a file longer, to this size. The bytes it gets are 0, and each block it gets is the lowest free
-/// one. It keeps its blocks. Bytes of them that no field names and the file doesn't reach stay, and so
-/// do all blocks but these and the pages; what the file doesn't use of a new block is 0.
+/// Makes a file longer, to `size` bytes. The added bytes are 0, and each new block is the lowest free one.
+///
+/// The file keeps its blocks. Their bytes outside all fields and after the file's end are unchanged, and so is each
+/// block that is neither the file's nor a bitmap block. Unused bytes of a new block are 0.
 pub fn extend(image: &mut Image, file: u32, size: u32)
     requires writable { WritableFile image.old file }
     requires longer { length (contents image.old file) ≤ size }
@@ -165,8 +169,8 @@ pub fn extend(image: &mut Image, file: u32, size: u32)
     extend_near(image, file, Place::header(file), size, BOOT_BLOCKS);
 }
 
-/// Does what `extend` does, and walks to the file's end from the place `near`. No block below `from` is free; the answer is
-/// such a bound for the next search.
+/// `extend` with a walk to the file's end that starts at `near`. No block below `from` may be free. The result is such
+/// a bound for the next search.
 pub fn extend_near(image: &mut Image, file: u32, near: Place, size: u32, from: u32) -> u32
     requires writable { WritableFile image.old file }
     requires near { IsPlace image.old file near }

@@ -5,17 +5,17 @@ use Rattle.std.proofs.lemmas.List.{length_push}
 use Rattle.std.proofs.lemmas.List.Elements.{All-push}
 use Rattle.std.proofs.lemmas.List.Quantifiers.{all_pairs_push}
 use Rattle.adf_block.specs.Image.{block_count}
-use Rattle.ados_tree.specs.declared.fault.FaultKind.{FaultKind}
-use Rattle.ados_tree.specs.declared.fault.FaultKind.TheVariants.{NotADosDisk, UnsupportedKind, BadSum, BadType, BadOwnKey, BadParent, BadPointer, BlockUsedTwice, WrongChain, BadName, DuplicateName, BadComment, BadCount, BadSequence, LinkEntry, MarkedFree, NoMemory}
-use Rattle.ados_tree.specs.declared.fault.VolumeFault.{VolumeFault}
-use Rattle.ados_tree.specs.Faults.{Shows}
+use Rattle.ados_model.specs.declared.fault.FaultKind.{FaultKind}
+use Rattle.ados_model.specs.declared.fault.FaultKind.TheVariants.{NotADosDisk, UnsupportedKind, BadSum, BadType, BadOwnKey, BadParent, BadPointer, BlockUsedTwice, WrongChain, BadName, DuplicateName, BadComment, BadCount, BadSequence, LinkEntry, MarkedFree, NoMemory}
+use Rattle.ados_model.specs.declared.fault.VolumeFault.{VolumeFault}
+use Rattle.ados_model.specs.Faults.{Shows}
 use Rattle.ados_faults.specs.Listed.{rank, StandsBefore}
 use Rattle.ados_faults.specs.steps.Noted.{AreListed, AreNoted, IsNoted, HasNote, cell_at, cell_of}
 
 all_kinds : List FaultKind
 all_kinds = NotADosDisk ∷ UnsupportedKind ∷ BadSum ∷ BadType ∷ BadOwnKey ∷ BadParent ∷ BadPointer ∷ BlockUsedTwice ∷ WrongChain ∷ BadName ∷ DuplicateName ∷ BadComment ∷ BadCount ∷ BadSequence ∷ LinkEntry ∷ MarkedFree ∷ NoMemory ∷ []
 
--- a kind by its place
+-- a kind by its number
 ranked : (kind : FaultKind) → (rank kind < 17) × (get_or all_kinds (rank kind) NoMemory ≡ kind)
 unfolding all_kinds
 ranked NotADosDisk = (omega arith, refl)
@@ -39,11 +39,11 @@ ranked NoMemory = (omega arith, refl)
 pub rank_small : (kind : FaultKind) → rank kind < 17
 rank_small kind = (ranked kind).0
 
--- one place has one kind
+-- a number belongs to one kind
 one_kind : (kind other : FaultKind) → rank kind ≡ rank other → kind ≡ other
 one_kind kind other e = sym (ranked kind).1 ∙ ap (λ (r : ℕ). get_or all_kinds r NoMemory) e ∙ (ranked other).1
 
--- one cell is that of one kind of one block
+-- a cell belongs to one kind of one block
 one_cell : (kind other : FaultKind) (block b : ℕ) → cell_of kind block ≡ cell_of other b → (kind ≡ other) × (block ≡ b)
 one_cell kind other block b e =
     let k = rank_small kind in
@@ -55,7 +55,7 @@ one_cell kind other block b e =
 pub cell_within : (image : List ℕ) (cells : List Bool) (kind : FaultKind) (block : ℕ) → AreNoted image cells → block < block_count image → cell_of kind block < length cells
 cell_within image cells kind block n l = omega (arith, rank_small kind, n.size, l)
 
--- no cell is set at first
+-- at first no cell is set
 pub none_noted : (image : List ℕ) (count : ℕ) → count ≡ 17 * block_count image → (cells : List Bool) → cells ≡ replicate count false → length cells ≡ count → AreNoted image cells
 none_noted image count size cells none counted = record {
   size = counted ∙ size;
@@ -134,7 +134,7 @@ module _ (image : List ℕ) (cells : List Bool) (most below : ℕ) (faults : Lis
       grown : length (faults ++ fault ∷ []) ≡ length faults + 1
       grown = length_push faults fault
 
--- a cell that is set is one of the cells
+-- a set cell is one of the cells
 pub set_within : (cells : List Bool) (cell : ℕ) → IsNoted cells cell → cell < length cells
 set_within [] cell e = absurd (false≢true e)
 set_within (x ∷ xs) zero e = omega arith

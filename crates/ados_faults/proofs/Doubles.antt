@@ -1,14 +1,15 @@
--- A block that is met a second time.
+-- A block found for the second time.
 use Rattle.std.proofs.Common.{◌≡◌, ◌≢◌, ℕ, ◌<◌, ◌⊎◌, inl, inr, Bool, List, [], ◌∷◌, length, replicate, Option, Some, None, set, sym, ap, ◌∙◌, subst, arith, length-set}
 use Rattle.std.specs.List.{All}
 use Rattle.std.proofs.lemmas.Bool.{cases_order}
 use Rattle.std.proofs.lemmas.List.{length-replicate}
 use Rattle.std.proofs.lemmas.List.Elements.{All-push}
-use Rattle.adf_block.specs.Image.{IsImage, block_count}
-use Rattle.ados_tree.specs.declared.role.Role.TheVariants.{Root}
-use Rattle.ados_tree.specs.Faults.{InImage, IsUsedTwice, PlaceNames, Reached, root_of}
-use Rattle.ados_tree.specs.Faults.Reached.{start}
-use Rattle.ados_tree.specs.Faults.IsUsedTwice.{two_holders, two_longs, root_named}
+use Rattle.adf_block.specs.Whole.{IsImage}
+use Rattle.adf_block.specs.Image.{block_count}
+use Rattle.ados_model.specs.declared.role.Role.TheVariants.{Root}
+use Rattle.ados_model.specs.Faults.{InImage, IsUsedTwice, PlaceNames, Reached, root_of}
+use Rattle.ados_model.specs.Faults.Reached.{start}
+use Rattle.ados_model.specs.Faults.IsUsedTwice.{two_holders, two_longs, root_named}
 use Rattle.ados_check.specs.declared.mark.Mark.{Mark}
 use Rattle.ados_check.specs.Marks.{mark_at}
 use Rattle.ados_check.specs.steps.Reaching.{root_mark}
@@ -18,7 +19,7 @@ use Rattle.ados_faults.specs.steps.Noted.{AreNoted}
 use Rattle.ados_faults.specs.steps.Walked.{IsMet, IsStep, IsWalked, root_step}
 use Rattle.ados_faults.proofs.Insides.{root_inside}
 
--- by another place than the first
+-- by another place than the first time
 pub used_twice : (image : List ℕ) (block : ℕ) (first mark : Mark) → InImage image block → IsMet image block first → PlaceNames image mark.holder mark.long block
     → (first.holder ≢ mark.holder) ⊎ (first.long ≢ mark.long) → IsUsedTwice image block
 used_twice image block first mark inside (inl root) names other = root_named root names
@@ -29,7 +30,7 @@ used_twice image block first mark inside (inr met) names (inr other) = elim (cas
   | inr (inr l) ↦ two_holders inside (first.long, met) (mark.long, names) (λ z. omega (arith, z, l))
 ]
 
--- the root alone, at first
+-- only the root, at first
 pub started : (image : List ℕ) → IsImage image → (cells : List Bool) (marks : List (Option Mark)) (root : ℕ) (steps : List Step) → AreNoted image cells
     → marks ≡ replicate (block_count image) None → root ≡ root_of image → steps ≡ root_step root ∷ [] → IsWalked image cells (set marks root (Some root_mark)) steps
 started image im cells marks root steps noted none is only = record {
@@ -61,7 +62,7 @@ started image im cells marks root steps noted none is only = record {
         let h : None ≡ Some mark = sym none_there ∙ sym (more.others block other) ∙ e in
         cc h
 
--- a block that is met for the first time
+-- a block found for the first time
 pub met_first : (image : List ℕ) (cells : List Bool) (marks : List (Option Mark)) (steps : List Step) (block : ℕ) (mark : Mark) → IsWalked image cells marks steps
     → block < length marks → mark_at marks block ≡ None → PlaceNames image mark.holder mark.long block → IsWalked image cells (set marks block (Some mark)) steps
 met_first image cells marks steps block mark w within none names = record {

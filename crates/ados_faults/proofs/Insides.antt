@@ -1,12 +1,13 @@
--- What is reached lies in the image, and so does each block that shows a fault.
+-- Reached blocks are inside the image, and so is each block that shows a fault.
 use Rattle.std.proofs.Common.{◌≡◌, ℕ, ◌<◌, List, arith}
-use Rattle.adf_block.specs.Image.{IsImage, block_count}
-use Rattle.ados_tree.specs.declared.fault.FaultKind.{FaultKind}
-use Rattle.ados_tree.specs.declared.fault.FaultKind.TheVariants.{NotADosDisk, UnsupportedKind, BadSum, BadType, BadOwnKey, BadParent, BadPointer, BlockUsedTwice, WrongChain, BadName, DuplicateName, BadComment, BadCount, BadSequence, LinkEntry, MarkedFree, NoMemory}
-use Rattle.ados_tree.specs.declared.role.Role.{Role}
-use Rattle.ados_tree.specs.Faults
-use Rattle.ados_tree.specs.Faults.{HasName, HasPointers, InImage, IsData, IsEntry, IsExtension, Reached, Shows, root_of}
-use Rattle.ados_tree.specs.Faults.Reached.{start, named}
+use Rattle.adf_block.specs.Whole.{IsImage}
+use Rattle.adf_block.specs.Image.{block_count}
+use Rattle.ados_model.specs.declared.fault.FaultKind.{FaultKind}
+use Rattle.ados_model.specs.declared.fault.FaultKind.TheVariants.{NotADosDisk, UnsupportedKind, BadSum, BadType, BadOwnKey, BadParent, BadPointer, BlockUsedTwice, WrongChain, BadName, DuplicateName, BadComment, BadCount, BadSequence, LinkEntry, MarkedFree, NoMemory}
+use Rattle.ados_model.specs.declared.role.Role.{Role}
+use Rattle.ados_model.specs.Faults
+use Rattle.ados_model.specs.Faults.{HasName, HasPointers, InImage, IsData, IsEntry, IsExtension, Reached, Shows, root_of}
+use Rattle.ados_model.specs.Faults.Reached.{start, named}
 
 module _ (image : List ℕ) (im : IsImage image) where
   pub root_inside : InImage image (root_of image)

@@ -1,4 +1,4 @@
--- Cells, places and files past their faults.
+-- Lemmas about cells, places and files past their faults.
 pub mod Cells
 pub mod Insides
 pub mod Doubles

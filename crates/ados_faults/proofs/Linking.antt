@@ -1,4 +1,4 @@
--- The blocks that links reach, one more at a time, and the set of those that were met.
+-- The blocks along links, one more at a time, and the set of visited ones.
 use Rattle.std.proofs.Common.{◌≡◌, ◌≢◌, ℕ, ◌+◌, ◌-◌, ◌<◌, ◌⊎◌, inl, inr, Bool, true, false, cond, List, [], ◌∷◌, ◌++◌, length, slice_index, refl, sym, ap, ◌∙◌, subst, arith}
 use Rattle.std.specs.List.{Contains, list_any}
 use Rattle.std.specs.Ordering.{nat_cmp, is_eq}
@@ -12,10 +12,10 @@ use Rattle.std.proofs.lemmas.List.{get_or_default, length_push, get_or_push, get
 use Rattle.std.proofs.lemmas.List.Elements.{All-push, Contains-push, Contains-push_cases, Contains-append_left}
 use Rattle.std.proofs.lemmas.List.Quantifiers.{all_pairs_push}
 use Rattle.adf_block.specs.Image.{long}
-use Rattle.ados_tree.specs.Faults.{InImage, LinkedOnce, LeadOn, FurtherAreInside, last_link}
+use Rattle.ados_model.specs.Faults.{InImage, LinkedOnce, LeadOn, FurtherAreInside, last_link}
 use Rattle.ados_faults.specs.steps.Chain.{HasMet, IsChain}
 
--- the first block alone
+-- only the first block
 pub chain_start : (image : List ℕ) (link first : ℕ) → InImage image first → IsChain image link (first ∷ [])
 chain_start image link first within = record {
   not_empty = omega arith;
@@ -26,7 +26,7 @@ chain_start image link first within = record {
 }
 
 module _ (image : List ℕ) (link : ℕ) (blocks : List ℕ) (c : IsChain image link blocks) where
-  -- the links lead out, or back
+  -- the links lead outside, or back
   pub chain_whole : (next : ℕ) → last_link image link blocks ≡ next → (InImage image next → Contains blocks next) → LinkedOnce image link (slice_index blocks 0) blocks
   chain_whole next e back = record {
     not_empty = c.not_empty;
@@ -37,7 +37,7 @@ module _ (image : List ℕ) (link : ℕ) (blocks : List ℕ) (c : IsChain image 
     whole = λ inside. subst (Contains blocks) (sym e) (back (subst (InImage image) e inside));
   }
 
-  -- a block that was not met
+  -- a block not visited before
   pub chain_more : (next : ℕ) → last_link image link blocks ≡ next → InImage image next → ¬ Contains blocks next → IsChain image link (blocks ++ next ∷ [])
   chain_more next e inside fresh = record {
     not_empty = omega (arith, grown);
@@ -81,7 +81,7 @@ is_equal Greater e = absurd (cc e)
 same_block : (block other : ℕ) → is_at (nat_cmp block) other ≡ true → block ≡ other
 same_block block other e = nat_cmp-IsAntisymmetric block other (is_equal (nat_cmp block other) e)
 
--- one more block of both
+-- one more block in both
 pub met_more : (met more : BTreeSet ℕ) (blocks : List ℕ) (next : ℕ) → HasMet met blocks
     → ((q : ℕ) → contains nat_cmp more q ≡ cond (is_at (nat_cmp next) q) true (contains nat_cmp met q))
     → contains nat_cmp more next ≡ true → HasMet more (blocks ++ next ∷ [])
@@ -106,7 +106,7 @@ met_more met more blocks next h updates there = record {
             let old : contains nat_cmp met block ≡ true = ap (λ (b : Bool). cond b true (contains nat_cmp met block)) (sym a) ∙ sym (updates block) ∙ e in
             Contains-append_left blocks (next ∷ []) block (h.listed block old)
 
--- neither has a block
+-- both are empty
 pub met_none : (met : BTreeSet ℕ) → met.keys ≡ [] → HasMet met []
 met_none met none = record {
   listed = λ block e. absurd (false≢true (sym (ap (λ (ks : List ℕ). list_any (is_at (nat_cmp block)) ks) none) ∙ e));

@@ -1,11 +1,10 @@
 -- The pointers of a block, one more at a time.
 use Rattle.std.proofs.Common.{◌≡◌, ℕ, zero, suc, ◌+◌, ◌<◌, ◌≤◌, false, nat_le, List, [], ◌∷◌, ◌++◌, length, slice_index, refl, sym, ap, ◌∙◌, arith, le-leb, add-one, append_assoc}
 use Rattle.std.proofs.lemmas.List.{get_or_append_left, length_push}
-use Rattle.adf_block.specs.Image.{long}
-use Rattle.adf_block.specs.Fields.{pointer, pointer_count}
-use Rattle.ados_tree.specs.Faults.{first_pointers, pointers_of}
+use Rattle.adf_block.specs.Image.{long, pointer, pointer_count}
+use Rattle.ados_model.specs.Faults.{first_pointers, pointers_of}
 
--- behind a list
+-- after a list
 pub pointers_more : (image : List ℕ) (block n : ℕ) (old blocks : List ℕ) → blocks ≡ old ++ first_pointers image block n → blocks ++ pointer image block n ∷ [] ≡ old ++ first_pointers image block (n + 1)
 pointers_more image block n old blocks e =
     ap (λ (xs : List ℕ). xs ++ pointer image block n ∷ []) e
@@ -27,7 +26,7 @@ first_none image block none = ap (λ (xs : List ℕ). slice_index xs 0) (pointer
 pub first_over : (image : List ℕ) (block : ℕ) → 72 < pointer_count image block → slice_index (pointers_of image block) 0 ≡ 0
 first_over image block many = ap (λ (xs : List ℕ). slice_index xs 0) (no_pointers image block many)
 
--- the first of some pointers
+-- the first of several pointers
 first_of : (image : List ℕ) (block n : ℕ) → slice_index (first_pointers image block (suc n)) 0 ≡ pointer image block 0
 first_of image block zero = refl
 first_of image block (suc n) = get_or_append_left (first_pointers image block (suc n)) (pointer image block (suc n) ∷ []) 0 0 (some n) ∙ first_of image block n

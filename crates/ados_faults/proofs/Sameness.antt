@@ -1,11 +1,12 @@
--- Entries of one directory whose names are spelt alike in upper case have one name.
+-- Entries of one directory whose names are equal in upper case have the same name.
 use Rattle.std.proofs.Common.{◌≡◌, ℕ, ◌-◌, ◌<◌, ◌≤◌, List, length, take, drop, map, replicate, slice_index, sym, ap, ◌∙◌, subst, arith, ◌+◌}
 use Rattle.std.proofs.lemmas.List.{length-map, take_at}
-use Rattle.adf_block.specs.Image.{IsImage, block_count, byte_at}
-use Rattle.adf_block.specs.Fields.{text_at, name_byte}
+use Rattle.adf_block.specs.Whole.{IsImage, text_at}
+use Rattle.adf_block.specs.Image.{block_count, byte_at}
+use Rattle.adf_block.specs.Layout.{name_byte}
 use Rattle.ados_name.specs.Name.{Same, upper}
-use Rattle.ados_tree.specs.declared.role.Role.TheVariants.{Entry}
-use Rattle.ados_tree.specs.Faults.{HasDuplicateName, Reached}
+use Rattle.ados_model.specs.declared.role.Role.TheVariants.{Entry}
+use Rattle.ados_model.specs.Faults.{HasDuplicateName, Reached}
 use Rattle.ados_check.proofs.Texts.{length-bytes_at}
 use Rattle.ados_check.specs.Entries.{upper_name}
 use Rattle.ados_faults.specs.declared.names.EntryName.{EntryName}

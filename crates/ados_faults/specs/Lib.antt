@@ -1,4 +1,4 @@
--- What a list of all faults is, and what is said of a fault; what only the walk speaks of stands in steps.
+-- The list of all faults, and the text of a fault. Definitions for the walk are in `steps`.
 pub mod Listed
 pub mod Explained
 pub mod steps

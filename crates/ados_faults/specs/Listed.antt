@@ -1,11 +1,11 @@
 -- Faults of an image, in order.
 use Rattle.std.specs.Prelude.{◌≡◌, ℕ, ◌<◌, ◌≤◌, ◌⊎◌, List, length, All, AllPairs}
-use Rattle.ados_tree.specs.declared.fault.FaultKind.{FaultKind}
-use Rattle.ados_tree.specs.declared.fault.FaultKind.TheVariants.{NotADosDisk, UnsupportedKind, BadSum, BadType, BadOwnKey, BadParent, BadPointer, BlockUsedTwice, WrongChain, BadName, DuplicateName, BadComment, BadCount, BadSequence, LinkEntry, MarkedFree, NoMemory}
-use Rattle.ados_tree.specs.declared.fault.VolumeFault.{VolumeFault}
-use Rattle.ados_tree.specs.Faults.{Shows}
+use Rattle.ados_model.specs.declared.fault.FaultKind.{FaultKind}
+use Rattle.ados_model.specs.declared.fault.FaultKind.TheVariants.{NotADosDisk, UnsupportedKind, BadSum, BadType, BadOwnKey, BadParent, BadPointer, BlockUsedTwice, WrongChain, BadName, DuplicateName, BadComment, BadCount, BadSequence, LinkEntry, MarkedFree, NoMemory}
+use Rattle.ados_model.specs.declared.fault.VolumeFault.{VolumeFault}
+use Rattle.ados_model.specs.Faults.{Shows}
 
--- the place of a kind among the kinds
+-- the number of a kind
 abbrev pub rank : FaultKind → ℕ
 rank NotADosDisk = 0
 rank UnsupportedKind = 1
@@ -25,11 +25,11 @@ rank LinkEntry = 14
 rank MarkedFree = 15
 rank NoMemory = 16
 
--- the fault of a lower block, or of the same block and a kind before
+-- the fault of a lower block, or of the same block with a kind of lower number
 abbrev pub StandsBefore : VolumeFault → VolumeFault → Type 0
 StandsBefore fault other = (fault.block < other.block) ⊎ ((fault.block ≡ other.block) × (rank fault.kind < rank other.kind))
 
--- at most so many faults, each of which the image shows, by block and then by kind, each once
+-- at most this many faults that the image shows, by block and then by kind, each once
 pub record ListsFaults (image : List ℕ) (most : ℕ) (faults : List VolumeFault) : Type 0 where
   pub shown : All (λ fault. Shows image fault.kind fault.block) faults
   pub in_order : AllPairs StandsBefore faults

@@ -1,10 +1,11 @@
-//! Blocks that the bitmap says are free.
+//! Blocks that the bitmap marks free.
 ghost use Rattle.std.specs.Prelude.{◌≡◌, ◌↔◌, ◌-◌, ◌/◌, IsTrue};
-ghost use Rattle.adf_block.specs.Fields.{boot_blocks, page_bits};
-ghost use Rattle.adf_block.specs.Image.{IsImage, has_free_bit};
+ghost use Rattle.adf_block.specs.Layout.{boot_blocks, page_bits};
+ghost use Rattle.adf_block.specs.Whole.{IsImage};
+ghost use Rattle.adf_block.specs.Image.{has_free_bit};
 ghost use Rattle.ados_map.specs.Pages.{page_block};
-ghost use Rattle.ados_tree.specs.Faults.{InImage};
-ghost use Rattle.ados_tree.specs.Rebuilt.{HasValidBitmap};
+ghost use Rattle.ados_model.specs.Faults.{InImage};
+ghost use Rattle.ados_model.specs.Rebuilt.{HasValidBitmap};
 ghost use Rattle.ados_faults.specs.steps.Walked.{IsMarkedFree};
 
 use adf_block::Image;
@@ -13,7 +14,8 @@ use adf_block::layout::{
     PAGE_BITS,
 };
 
-/// Whether the bitmap is valid, the page of the block lies in the image, and the bit there says that the block is free.
+/// Whether the bitmap is valid, the bitmap block with the block's bit is inside the image, and the bit says that the
+/// block is free.
 pub(crate) fn is_marked_free(image: &Image, block: u32) -> bool
     requires { InImage image.now block }
     ensures { IsTrue result ↔ IsMarkedFree image.now block }
@@ -28,7 +30,7 @@ pub(crate) fn is_marked_free(image: &Image, block: u32) -> bool
     has_bit(image, page, block)
 }
 
-/// The page that has the bit of a block, as the root names it.
+/// The bitmap block with the bit of a block, by the root.
 fn page_of(image: &Image, block: u32) -> u32
     requires { InImage image.now block }
     ensures { result ≡ page_block image.now ((block - boot_blocks) / page_bits) }
@@ -37,7 +39,7 @@ fn page_of(image: &Image, block: u32) -> u32
     image.long(image.root(), FIRST_PAGE + (block - BOOT_BLOCKS) / PAGE_BITS)
 }
 
-/// Whether the bit of a block is set in its page.
+/// Whether the bit of a block is set in its bitmap block.
 fn has_bit(image: &Image, page: u32, block: u32) -> bool
     requires inside { InImage image.now block }
     requires page { page ≡ page_block image.now ((block - boot_blocks) / page_bits) }
@@ -51,7 +53,7 @@ fn has_bit(image: &Image, page: u32, block: u32) -> bool
         != 0
 }
 
-/// Whether the root says that the bitmap is valid.
+/// Whether the root's flag says that the bitmap is valid.
 pub(crate) fn has_valid_bitmap(image: &Image) -> bool
     ensures valid { IsTrue result ↔ HasValidBitmap image.now }
     ensures image { IsImage image.now }
@@ -60,7 +62,7 @@ pub(crate) fn has_valid_bitmap(image: &Image) -> bool
     image.long(image.root(), BITMAP_FLAG) == BITMAP_VALID
 }
 
-/// Whether the block is one of the image, behind the boot blocks.
+/// Whether the block is inside the image, after the boot blocks.
 pub(crate) fn is_inside(image: &Image, block: u32) -> bool
     ensures { IsTrue result ↔ InImage image.now block }
 {

@@ -1,7 +1,8 @@
-//! The data blocks of an OFS file, which lead from one to the next and know their places.
+//! The data blocks of an OFS file: their links and sequence numbers.
 ghost use Rattle.std.specs.Prelude.{◌≡◌, ◌≢◌, ◌<◌, ◌+◌, All, IfSome, IsTrue, length, slice_index, sum_by};
-ghost use Rattle.adf_block.specs.Fields.{held_count, ofs_room, sequence_number};
-ghost use Rattle.ados_tree.specs.Faults.{AreDataBlocks, HoldsOtherSize, InImage, IsOfs, LinksOn};
+ghost use Rattle.adf_block.specs.Image.{held_count, sequence_number};
+ghost use Rattle.adf_block.specs.Layout.{ofs_room};
+ghost use Rattle.ados_model.specs.Faults.{AreDataBlocks, HoldsOtherSize, InImage, IsOfs, LinksOn};
 ghost use Rattle.ados_faults.specs.steps.Chain.{HoldsTooLittle, IsPlaced};
 ghost use Rattle.ados_faults.specs.steps.Noted.{AreNoted};
 
@@ -9,9 +10,9 @@ use crate::bits::is_inside;
 use crate::notes::Notes;
 use adf_block::Image;
 use adf_block::layout::{HELD, NEXT_DATA, OFS_ROOM, SEQUENCE, SIZE};
-use ados_tree::FaultKind;
+use ados_model::FaultKind;
 
-/// Looks at each data block of a file at its place, and at the bytes that they hold together.
+/// Checks each data block of a file at its position, and the number of bytes that they hold together.
 pub(crate) fn look_along(image: &Image, file: u32, blocks: &[u32], notes: &mut Notes)
     requires noted { AreNoted image.now notes.old.cells.items }
     requires inside { InImage image.now file }
@@ -26,7 +27,7 @@ pub(crate) fn look_along(image: &Image, file: u32, blocks: &[u32], notes: &mut N
     notes.note_if(image, FaultKind::BadCount, file, wrong);
 }
 
-/// Looks at the data block at a place, where it is one of the image.
+/// Checks the data block at a position, if it is inside the image.
 fn look_at_place(image: &Image, file: u32, blocks: &[u32], i: usize, notes: &mut Notes)
     requires noted { AreNoted image.now notes.old.cells.items }
     requires ofs { IsOfs image.now }
@@ -40,7 +41,7 @@ fn look_at_place(image: &Image, file: u32, blocks: &[u32], i: usize, notes: &mut
     }
 }
 
-/// Looks at a data block of an OFS file at its place.
+/// Checks a data block of an OFS file at its position.
 fn look_at_block(image: &Image, blocks: &[u32], i: usize, block: u32, notes: &mut Notes)
     requires noted { AreNoted image.now notes.old.cells.items }
     requires ofs { IsOfs image.now }
@@ -58,7 +59,7 @@ fn look_at_block(image: &Image, blocks: &[u32], i: usize, block: u32, notes: &mu
     notes.note_if(image, FaultKind::BadPointer, block, link);
 }
 
-/// Whether a data block does not have its place in the file, from 1.
+/// Whether the sequence number of a data block is not its position in the file, from 1.
 fn has_other_place(image: &Image, blocks: &[u32], i: usize, block: u32) -> bool
     requires inside { InImage image.now block }
     requires within { i < length blocks.now }
@@ -68,7 +69,7 @@ fn has_other_place(image: &Image, blocks: &[u32], i: usize, block: u32) -> bool
     image.long(block, SEQUENCE) as usize != i + 1
 }
 
-/// Whether a data block holds nothing, or is not the last one and not full.
+/// Whether a data block is empty, or is not full and not the last one.
 fn is_short(image: &Image, blocks: &[u32], i: usize, block: u32) -> bool
     requires inside { InImage image.now block }
     requires within { i < length blocks.now }
@@ -81,7 +82,7 @@ fn is_short(image: &Image, blocks: &[u32], i: usize, block: u32) -> bool
     i + 1 < blocks.len() && held != OFS_ROOM
 }
 
-/// Whether a data block holds more than it has room for.
+/// Whether a data block claims more bytes than fit into it.
 fn holds_too_much(image: &Image, block: u32) -> bool
     requires { InImage image.now block }
     ensures { IsTrue result → ofs_room < held_count image.now block }
@@ -89,7 +90,7 @@ fn holds_too_much(image: &Image, block: u32) -> bool
     image.long(block, HELD) > OFS_ROOM
 }
 
-/// Whether a data block names another next one than what stands behind its place, or one where nothing does.
+/// Whether the link of a data block is not the next data block, or not 0 in the last one.
 fn leads_elsewhere(image: &Image, blocks: &[u32], i: usize, block: u32) -> bool
     requires inside { InImage image.now block }
     requires within { i < length blocks.now }
@@ -98,7 +99,7 @@ fn leads_elsewhere(image: &Image, blocks: &[u32], i: usize, block: u32) -> bool
     image.long(block, NEXT_DATA) != block_behind(blocks, i)
 }
 
-/// The block behind a place, or 0 where there is none.
+/// The block after a position, or 0 if there is none.
 fn block_behind(blocks: &[u32], i: usize) -> u32
     requires { i < length blocks.now }
     ensures { result ≡ slice_index blocks.now (i + 1) }
@@ -110,7 +111,7 @@ fn block_behind(blocks: &[u32], i: usize) -> u32
     }
 }
 
-/// Whether the data blocks are all in the image, and hold another number of bytes than the size of the file.
+/// Whether all data blocks are inside the image but hold another number of bytes than the file's size.
 fn holds_other_size(image: &Image, file: u32, blocks: &[u32]) -> bool
     requires inside { InImage image.now file }
     requires data { AreDataBlocks image.now file blocks.now }
@@ -122,7 +123,7 @@ fn holds_other_size(image: &Image, file: u32, blocks: &[u32]) -> bool
     }
 }
 
-/// How many bytes the blocks hold together; `None` where one of them is not in the image.
+/// The number of bytes that the blocks hold together; `None` if one of them is outside the image.
 fn held_together(image: &Image, blocks: &[u32]) -> Option<u64>
     ensures inside { IfSome result (λ _. All (InImage image.now) blocks.now) }
     ensures sum { IfSome result (λ sum. sum ≡ sum_by (held_count image.now) blocks.now) }
@@ -135,7 +136,7 @@ fn held_together(image: &Image, blocks: &[u32]) -> Option<u64>
     Some(sum)
 }
 
-/// The bytes of a block and of others together.
+/// The number of bytes in a block, added to a sum.
 fn with_held(image: &Image, block: u32, sum: u64) -> Option<u64>
     ensures inside { IfSome result (λ _. InImage image.now block) }
     ensures sum { IfSome result (λ more. more ≡ sum + held_count image.now block) }

@@ -1,4 +1,4 @@
-//! Counts and sizes.
+//! The text for wrong counts and sizes.
 ghost use Rattle.std.specs.Prelude.{◌<◌};
 ghost use Rattle.adf_block.specs.Image.{block_count};
 
@@ -6,10 +6,10 @@ use crate::marked::role_at;
 use adf_block::Image;
 use adf_block::layout::{HELD, NEXT_EXTENSION, OFS_ROOM, POINTER_COUNT, SIZE, TABLE_LONGS};
 use ados_check::Mark;
-use ados_tree::Role;
+use ados_model::Role;
 use std::alloc::{AllocError, Global};
 
-/// Of a count or size that the blocks of a file do not bear out.
+/// The text for a count or a size that does not match the blocks of a file.
 pub(crate) fn count_words(
     alloc: Global,
     image: &Image,

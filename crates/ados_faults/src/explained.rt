@@ -1,4 +1,4 @@
-//! A fault in words.
+//! A fault as text.
 ghost use Rattle.std.specs.Prelude.{◌<◌, IfOk};
 ghost use Rattle.std.specs.String.{string_bytes};
 ghost use Rattle.adf_block.specs.Image.{block_count};
@@ -13,11 +13,11 @@ use crate::typed::{parent_words, type_words};
 use adf_block::Image;
 use adf_block::layout::{COMMENT_BYTE, KIND, KIND_BYTE, OWN_KEY, SECONDARY_TYPE};
 use ados_check::Mark;
-use ados_tree::{FaultKind, VolumeFault};
+use ados_model::{FaultKind, VolumeFault};
 use std::alloc::{AllocError, Global};
 
-/// A fault in words: the block, the path of what it is part of where one leads there, what was found and what is wanted.
-/// The marks are those by which the walk over the image met its blocks.
+/// A fault as text: the block, the path of the directory or file that it belongs to, if one is known, what was found
+/// and what is expected. `marks` are those of the walk over the image.
 pub fn explain(
     alloc: Global,
     image: &Image,
@@ -41,7 +41,7 @@ pub fn explain(
     format!(in alloc; "block {block}, in {volume}:{path}: {what}")
 }
 
-/// What was found, and what is wanted.
+/// What was found, and what is expected.
 fn what_is_wrong(
     alloc: Global,
     image: &Image,
@@ -67,7 +67,7 @@ fn what_is_wrong(
     }
 }
 
-/// Of the kinds of disks, links, the bitmap and want of memory.
+/// The text for faults of the disk's kind, links, the bitmap, and out of memory.
 fn other_words(
     alloc: Global,
     image: &Image,

@@ -1,8 +1,8 @@
-//! The header and extension blocks of a file, and the data blocks that their pointers name.
+//! The header and extension blocks of a file, and the data blocks in their pointers.
 ghost use Rattle.std.specs.Prelude.{◌≡◌, ◌<◌, ◌++◌, ◌∷◌, [], All, flat_map, false, IfOk, IfSome, slice_index};
-ghost use Rattle.adf_block.specs.Fields.{next_extension};
+ghost use Rattle.adf_block.specs.Layout.{next_extension};
 ghost use Rattle.adf_block.specs.Image.{block_count};
-ghost use Rattle.ados_tree.specs.Faults.{AreDataBlocks, InImage, IsFile, LinkedOnce, pointers_of};
+ghost use Rattle.ados_model.specs.Faults.{AreDataBlocks, InImage, IsFile, LinkedOnce, pointers_of};
 ghost use Rattle.ados_faults.specs.steps.Chain.{HasMet, IsChain};
 
 use crate::bits::is_inside;
@@ -11,14 +11,14 @@ use adf_block::layout::{FIRST_POINTER, NEXT_EXTENSION, POINTER_COUNT, TABLE_LONG
 use std::alloc::{AllocError, Global};
 use std::collections::BTreeSet;
 
-/// Header and extension blocks, in order, and as a set.
+/// Header and extension blocks, in order and as a set.
 #[derive(Drop)]
 struct Headers {
     blocks: Vec<u32>,
     met: BTreeSet<u32>,
 }
 
-/// The header of a file and the blocks that the links behind it reach, each once; `None` where these are more than `most`.
+/// The header of a file and the blocks along its links, each once; `None` if these are more than `most`.
 pub(crate) fn headers_of(
     alloc: Global,
     image: &Image,
@@ -40,7 +40,7 @@ pub(crate) fn headers_of(
 }
 
 impl Headers {
-    /// The header alone.
+    /// Only the header.
     fn start(alloc: Global, image: &Image, file: u32) -> Result<Headers, AllocError>
         requires { InImage image.now file }
         ensures chain { IfOk result (λ headers. IsChain image.now next_extension headers.blocks.items) }
@@ -66,7 +66,7 @@ impl Headers {
         Ok(())
     }
 
-    /// Follows the link of the last block, unless it leads out of the image or back.
+    /// Follows the link of the last block, unless it leads outside the image or back.
     fn go_on(&mut self, image: &Image) -> Result<bool, AllocError>
         requires chain { IsChain image.now next_extension self.old.blocks.items }
         requires met { HasMet self.old.met self.old.blocks.items }
@@ -88,7 +88,7 @@ impl Headers {
     }
 }
 
-/// The data blocks of a file whose header and extension blocks are known.
+/// The data blocks of a file with these header and extension blocks.
 pub(crate) fn data_blocks(
     alloc: Global,
     image: &Image,
@@ -105,7 +105,7 @@ pub(crate) fn data_blocks(
     Ok(blocks)
 }
 
-/// The blocks that the pointers of these blocks name, in order.
+/// The blocks in the pointers of these blocks, in order.
 fn pointed_blocks(alloc: Global, image: &Image, headers: &[u32]) -> Result<Vec<u32>, AllocError>
     requires { All (InImage image.now) headers.now }
     ensures { IfOk result (λ blocks. blocks.items ≡ flat_map (pointers_of image.now) headers.now) }
@@ -117,7 +117,7 @@ fn pointed_blocks(alloc: Global, image: &Image, headers: &[u32]) -> Result<Vec<u
     Ok(blocks)
 }
 
-/// Adds the blocks that the pointers of a block name: none where its count is more than a table has.
+/// Adds the blocks in the pointers of a block; none if its count is more than 72.
 fn add_pointers(image: &Image, header: u32, blocks: &mut Vec<u32>) -> Result<(), AllocError>
     requires { header < block_count image.now }
     ensures { IfOk result (λ _. blocks.new.items ≡ blocks.old.items ++ pointers_of image.now header) }

@@ -1,10 +1,8 @@
-//! The files, against their sizes.
+//! The files, checked against their sizes.
 ghost use Rattle.std.specs.Prelude.{◌≡◌, ◌≢◌, ◌<◌, All, IfOk, IsTrue, length};
-ghost use Rattle.adf_block.specs.Fields.{file_size};
-ghost use Rattle.adf_block.specs.Image.{block_count};
-ghost use Rattle.ados_data.specs.Cost.{data_count};
-ghost use Rattle.ados_data.specs.File.{format_of};
-ghost use Rattle.ados_tree.specs.Faults.{AreDataBlocks, InImage, IsFile};
+ghost use Rattle.adf_block.specs.Image.{file_size, block_count, format_of};
+ghost use Rattle.ados_model.specs.Tree.{data_count};
+ghost use Rattle.ados_model.specs.Faults.{AreDataBlocks, InImage, IsFile};
 ghost use Rattle.ados_faults.specs.steps.Noted.{AreNoted};
 ghost use Rattle.ados_faults.specs.steps.Walked.{IsStep};
 
@@ -14,18 +12,18 @@ use crate::notes::Notes;
 use crate::walk::{Step, most_steps};
 use adf_block::Image;
 use adf_block::layout::{FFS_ROOM, FILE_TYPE, KIND_BYTE, OFS_ROOM, SECONDARY_TYPE, SIZE};
-use ados_tree::{FaultKind, Role};
+use ados_model::{FaultKind, Role};
 use std::alloc::{AllocError, Global};
 
-/// Which files have been looked at, and how many header and extension blocks may still be gone through.
+/// The files that were checked, and the number of header and extension blocks that may still be visited.
 #[derive(Drop)]
 struct Looked {
     files: Vec<bool>,
     left: usize,
 }
 
-/// Looks at the blocks of each file, once. Answers whether some were left out, since together the files have more header
-/// and extension blocks than are gone through.
+/// Checks the blocks of each file, once. The result is true if some were left out, because the files together have
+/// more header and extension blocks than the walk may visit.
 pub(crate) fn look_at_files(
     alloc: Global,
     image: &Image,
@@ -47,7 +45,7 @@ pub(crate) fn look_at_files(
 }
 
 impl Looked {
-    /// Looks at the blocks of a file, where this is a file that was not looked at.
+    /// Checks the blocks of a file that was not checked yet.
     fn look_at(
         &mut self,
         alloc: Global,
@@ -74,8 +72,8 @@ impl Looked {
     }
 }
 
-/// Looks at the blocks of a file, unless its header and extension blocks are as many as may be gone through or more: how
-/// many are left after it.
+/// Checks the blocks of a file, unless it has at least as many header and extension blocks as may be visited. It
+/// returns how many are left.
 fn look_at_file(
     alloc: Global,
     image: &Image,
@@ -96,7 +94,7 @@ fn look_at_file(
     Ok(left.saturating_sub(headers.len()))
 }
 
-/// Looks at the data blocks of a file.
+/// Checks the data blocks of a file.
 fn look_at_blocks(image: &Image, file: u32, blocks: &[u32], notes: &mut Notes)
     requires noted { AreNoted image.now notes.old.cells.items }
     requires inside { InImage image.now file }
@@ -111,7 +109,7 @@ fn look_at_blocks(image: &Image, file: u32, blocks: &[u32], notes: &mut Notes)
     look_along(image, file, blocks, notes);
 }
 
-/// Whether a file of its size has another number of data blocks.
+/// Whether a file has another number of data blocks than its size needs.
 fn has_other_count(image: &Image, file: u32, blocks: &[u32]) -> bool
     requires { InImage image.now file }
     ensures { IsTrue result → length blocks.now ≢ data_count (format_of image.now) (file_size image.now file) }
@@ -119,7 +117,7 @@ fn has_other_count(image: &Image, file: u32, blocks: &[u32]) -> bool
     blocks.len() != blocks_of_size(image, file) as usize
 }
 
-/// The data blocks that a file of its size has.
+/// The number of data blocks that the size of a file needs.
 fn blocks_of_size(image: &Image, file: u32) -> u32
     requires { file < block_count image.now }
     ensures { result ≡ data_count (format_of image.now) (file_size image.now file) }

@@ -1,8 +1,8 @@
-//! The first fault that the check meets, or that there is none.
+//! The first fault that the check finds, or none.
 ghost use Rattle.std.specs.Prelude.{IfOk, MatchOption, MatchResult};
-ghost use Rattle.ados_tree.specs.Accepted.{IsRefusal, ShowsNoFault};
-ghost use Rattle.ados_tree.specs.Faults.{Shows};
-ghost use Rattle.ados_tree.specs.Rebuilt.{HasValidBitmap};
+ghost use Rattle.ados_model.specs.Accepted.{IsRefusal, ShowsNoFault};
+ghost use Rattle.ados_model.specs.Faults.{Shows};
+ghost use Rattle.ados_model.specs.Rebuilt.{HasValidBitmap};
 ghost use Rattle.ados_check.specs.Marks.{IsChecked};
 
 use crate::bits::{has_valid_bitmap, is_marked_free};
@@ -11,10 +11,10 @@ use adf_block::layout::BOOT_BLOCKS;
 use ados_check::{
     Mark, Source, check_kind, check_sound, checked_has_pages, checked_is_accepted, reach,
 };
-use ados_tree::{FaultKind, VolumeFault};
+use ados_model::{FaultKind, VolumeFault};
 use std::alloc::{AllocError, Global};
 
-/// A fault that the image shows, if it shows one.
+/// One fault that the image shows, if it shows any.
 pub(crate) fn first_fault(alloc: Global, image: &Image) -> Result<Option<VolumeFault>, AllocError>
     ensures { IfOk result (λ found. MatchOption found (ShowsNoFault image.now) (λ fault. Shows image.now fault.kind fault.block)) }
 {
@@ -25,7 +25,7 @@ pub(crate) fn first_fault(alloc: Global, image: &Image) -> Result<Option<VolumeF
     }
 }
 
-/// The marks of the blocks that are reached, where nothing but the bitmap may still show a fault.
+/// The marks of the reached blocks, if only the bitmap may still have a fault.
 fn checked_marks(alloc: Global, image: &Image) -> Result<Vec<Option<Mark>>, VolumeFault>
     ensures { MatchResult result (λ marks. IsChecked image.now marks.items) (λ fault. IsRefusal image.now fault) }
 {
@@ -36,7 +36,7 @@ fn checked_marks(alloc: Global, image: &Image) -> Result<Vec<Option<Mark>>, Volu
     Ok(marks)
 }
 
-/// What the bitmap shows, where it is valid.
+/// The fault of a valid bitmap, if it has one.
 fn bitmap_fault(image: &Image, marks: &[Option<Mark>]) -> Option<VolumeFault>
     requires { IsChecked image.now marks.now }
     ensures { MatchOption result (ShowsNoFault image.now) (λ fault. Shows image.now fault.kind fault.block) }

@@ -1,4 +1,4 @@
-//! Names, comments, and places in chains and files.
+//! The text for faults of names, and of positions in hash chains and files.
 ghost use Rattle.std.specs.Prelude.{◌<◌};
 ghost use Rattle.adf_block.specs.Image.{block_count};
 
@@ -7,11 +7,11 @@ use crate::path::place_in_file;
 use adf_block::Image;
 use adf_block::layout::{NAME_BYTE, SEQUENCE};
 use ados_check::Mark;
+use ados_model::Role;
 use ados_name::Name;
-use ados_tree::Role;
 use std::alloc::{AllocError, Global};
 
-/// Of a bad name.
+/// The text for a bad name.
 pub(crate) fn name_words(alloc: Global, image: &Image, block: u32) -> Result<String, AllocError>
     requires { block < block_count image.now }
 {
@@ -25,7 +25,7 @@ pub(crate) fn name_words(alloc: Global, image: &Image, block: u32) -> Result<Str
     String::from_str(alloc, "the name has a slash or a colon")
 }
 
-/// Of an entry in the chain of another slot than its name's.
+/// The text for an entry in another hash chain than that of its name.
 pub(crate) fn chain_words(
     alloc: Global,
     image: &Image,
@@ -51,7 +51,7 @@ pub(crate) fn chain_words(
     }
 }
 
-/// Of an OFS data block with a wrong place.
+/// The text for an OFS data block with a wrong sequence number.
 pub(crate) fn sequence_words(
     alloc: Global,
     image: &Image,

@@ -1,13 +1,13 @@
-//! The kinds of faults by number.
+//! Numbers for the kinds of faults.
 ghost use Rattle.std.specs.Prelude.{◌≡◌, ◌<◌};
 ghost use Rattle.ados_faults.specs.Listed.{rank};
 
-use ados_tree::FaultKind;
+use ados_model::FaultKind;
 
-/// How many kinds there are.
+/// The number of kinds.
 pub(crate) const KINDS: usize = 17;
 
-/// The place of a kind among the kinds.
+/// The number of a kind.
 pub(crate) fn rank_of(kind: FaultKind) -> usize
     ensures rank { result ≡ rank kind }
     ensures small { result < KINDS }
@@ -33,7 +33,7 @@ pub(crate) fn rank_of(kind: FaultKind) -> usize
     }
 }
 
-/// The kind at a place among the kinds.
+/// The kind with a number.
 pub(crate) fn kind_at(place: usize) -> FaultKind
     requires { place < KINDS }
     ensures { rank result ≡ place }

@@ -1,12 +1,12 @@
-//! Every fault that an image shows, where the check of a volume stops at the first; and a fault in words for a person:
-//! where the block is, what was found there and what is wanted.
+//! Every fault that an image shows, where the check of a volume stops at the first; and a fault as text: where the
+//! block is, what was found there and what is expected.
 //!
-//! The walk goes from the root over pairs of a block and a role, each once, and past whatever is wrong: it takes at most
-//! `PAIRS` times as many pairs as the image has blocks, and as many header and extension blocks of files, so time and
-//! memory are about linear in the size of the image, also where its blocks name one another at will.
+//! The walk visits pairs of a block and a role, each once, from the root, and goes on after a fault. It visits at most
+//! `PAIRS` times as many pairs as the image has blocks, and as many header and extension blocks. So time and memory
+//! are about linear in the size of the image, even if its blocks name each other arbitrarily.
 #![tactic(auto)]
 
-// The list.
+// The list of faults.
 mod bits;
 mod chain;
 mod file_blocks;
@@ -20,7 +20,7 @@ mod names;
 mod notes;
 mod walk;
 
-// The words.
+// Their texts.
 mod counted;
 mod explained;
 mod held;

@@ -1,8 +1,8 @@
 //! All faults of an image, in order.
 ghost use Rattle.std.specs.Prelude.{◌≡◌, ◌<◌, ◌≤◌, ◌↔◌, [], IfOk, false, length};
-ghost use Rattle.adf_block.specs.Image.{IsImage};
-ghost use Rattle.ados_tree.specs.Accepted.{ShowsNoFault};
-ghost use Rattle.ados_tree.specs.Faults.{Shows};
+ghost use Rattle.adf_block.specs.Whole.{IsImage};
+ghost use Rattle.ados_model.specs.Accepted.{ShowsNoFault};
+ghost use Rattle.ados_model.specs.Faults.{Shows};
 ghost use Rattle.ados_faults.specs.Listed.{ListsFaults};
 
 use crate::files::look_at_files;
@@ -12,25 +12,25 @@ use crate::names::note_duplicates;
 use crate::walk::walked;
 use adf_block::Image;
 use ados_check::Mark;
-use ados_tree::VolumeFault;
+use ados_model::VolumeFault;
 use std::alloc::{AllocError, Global};
 
-/// The faults of an image, and the way to each block.
+/// The faults of an image, and the first place that names each block.
 #[derive(Drop)]
 pub struct AllFaults {
-    /// By block and then by kind, each once; never `NoMemory`.
+    /// By block, then by kind, each once. Never `NoMemory`.
     pub faults: Vec<VolumeFault>,
-    /// Whether the image may show faults that are not listed.
+    /// Whether the image may show faults that are not in the list.
     pub more: bool,
-    /// A cell for each block, with the place by which it was met first and the role that this gives it; none at all where
-    /// the image shows no fault.
+    /// A cell for each block, with the place that named it first and the role by that place. It is empty if the image
+    /// shows no fault.
     pub marks: Vec<Option<Mark>>,
 }
 
 /// The first `most` of all faults that an image shows.
 ///
-/// The list is empty exactly where the image is accepted. Every other fault is sought by a walk that no fault stops; where
-/// the blocks of an image name one another so often that the walk has to end before it has seen all, `more` says so.
+/// The list is empty exactly if the image is accepted. A walk that goes on after each fault finds the others. `more`
+/// is true if the walk had to end early, because the blocks of the image name each other too often.
 pub fn all_faults(alloc: Global, image: &Image, most: usize) -> Result<AllFaults, AllocError>
     ensures lists { IfOk result (λ found. ListsFaults image.now most found.faults.items) }
     ensures none { IfOk result (λ found. 1 ≤ most → (found.faults.items ≡ []) ↔ ShowsNoFault image.now) }
@@ -48,7 +48,7 @@ pub fn all_faults(alloc: Global, image: &Image, most: usize) -> Result<AllFaults
     Ok(found)
 }
 
-/// The first `most` of all faults, one of which is known.
+/// The first `most` of all faults; one of them is known.
 fn faults_with(
     alloc: Global,
     image: &Image,

@@ -1,8 +1,9 @@
-//! A look at a block in a role: all that can be told to be wrong from the block alone.
+//! The check of a block in a role, as far as it needs no other block.
 ghost use Rattle.std.specs.Prelude.{◌≡◌, ◌≢◌, ◌<◌, All, IsTrue, slice_index};
+ghost use Rattle.adf_block.specs.Layout.{block_longs};
 ghost use Rattle.adf_block.specs.Image.{block_count, long};
-ghost use Rattle.ados_tree.specs.declared.role.Role.TheVariants.{Root, Page, Entry, Data, Extension};
-ghost use Rattle.ados_tree.specs.Faults.{HasPointers, InImage, IsFile, Reached, pointers_of, root_of};
+ghost use Rattle.ados_model.specs.declared.role.Role.TheVariants.{Root, Page, Entry, Data, Extension};
+ghost use Rattle.ados_model.specs.Faults.{HasPointers, InImage, IsFile, Reached, pointers_of, root_of};
 ghost use Rattle.ados_faults.specs.steps.Noted.{AreNoted};
 ghost use Rattle.ados_faults.specs.steps.Walked.{IsStep};
 
@@ -17,9 +18,9 @@ use adf_block::layout::{
     POINTER_COUNT, PRIMARY_TYPE, ROOT_TYPE, SECONDARY_TYPE, SOFT_LINK_TYPE, TABLE_LONGS,
     TABLE_SIZE,
 };
-use ados_tree::{FaultKind, Role};
+use ados_model::{FaultKind, Role};
 
-/// Looks at the block of each step.
+/// Checks the block of each step.
 pub(crate) fn look_at_all(image: &Image, steps: &[Step], notes: &mut Notes)
     requires noted { AreNoted image.now notes.old.cells.items }
     requires steps { All (IsStep image.now) steps.now }
@@ -32,7 +33,7 @@ pub(crate) fn look_at_all(image: &Image, steps: &[Step], notes: &mut Notes)
     }
 }
 
-/// Looks at a block in the role in which it is reached.
+/// Checks a block in a role.
 fn look(image: &Image, block: u32, role: Role, notes: &mut Notes)
     requires noted { AreNoted image.now notes.old.cells.items }
     requires inside { InImage image.now block }
@@ -68,10 +69,10 @@ fn look_root(image: &Image, block: u32, notes: &mut Notes)
     notes.note_if(image, FaultKind::BadName, block, name);
 }
 
-/// Whether a long is not what is wanted.
+/// Whether a long is not the expected one.
 fn is_other(image: &Image, block: u32, i: u32, wanted: u32) -> bool
     requires inside { InImage image.now block }
-    requires long { i < 128 }
+    requires long { i < block_longs }
     ensures { IsTrue result → long image.now block i ≢ wanted }
 {
     image.long(block, i) != wanted
@@ -106,7 +107,7 @@ fn look_entry(image: &Image, block: u32, dir: u32, slot: u32, notes: &mut Notes)
     look_secondary(image, block, dir, slot, notes);
 }
 
-/// What an entry heads: a directory or a file, and no link.
+/// Checks that an entry is a directory or a file, and not a link.
 fn look_secondary(image: &Image, block: u32, dir: u32, slot: u32, notes: &mut Notes)
     requires noted { AreNoted image.now notes.old.cells.items }
     requires inside { InImage image.now block }
@@ -127,7 +128,7 @@ fn look_secondary(image: &Image, block: u32, dir: u32, slot: u32, notes: &mut No
     notes.note(image, FaultKind::BadType, block);
 }
 
-/// The header of a file.
+/// Checks the header of a file.
 fn look_file(image: &Image, block: u32, notes: &mut Notes)
     requires noted { AreNoted image.now notes.old.cells.items }
     requires inside { InImage image.now block }
@@ -144,7 +145,7 @@ fn look_file(image: &Image, block: u32, notes: &mut Notes)
     notes.note_if(image, FaultKind::BadPointer, block, wrong);
 }
 
-/// The first data pointer of a header, or 0 where it has none.
+/// The first data pointer of a header, or 0 if it has none.
 fn first_pointer(image: &Image, block: u32) -> u32
     requires { block < block_count image.now }
     ensures { result ≡ slice_index (pointers_of image.now block) 0 }
@@ -156,7 +157,7 @@ fn first_pointer(image: &Image, block: u32) -> u32
     image.long(block, FIRST_POINTER)
 }
 
-/// How many pointers a header or extension block has: a full table where another block follows.
+/// Checks the number of pointers in a header or extension block: 72 if another block follows.
 fn look_counts(image: &Image, block: u32, notes: &mut Notes)
     requires noted { AreNoted image.now notes.old.cells.items }
     requires inside { InImage image.now block }
@@ -171,7 +172,7 @@ fn look_counts(image: &Image, block: u32, notes: &mut Notes)
     notes.note_if(image, FaultKind::BadCount, block, count < TABLE_LONGS);
 }
 
-/// Only in OFS has a data block fields.
+/// Checks a data block. Only in OFS has it fields.
 fn look_data(image: &Image, block: u32, file: u32, notes: &mut Notes)
     requires noted { AreNoted image.now notes.old.cells.items }
     requires inside { InImage image.now block }

@@ -1,12 +1,12 @@
-//! By which place a block was met.
+//! The place that named a block first.
 ghost use Rattle.std.specs.Prelude.{◌<◌, IsTrue};
 ghost use Rattle.adf_block.specs.Image.{block_count};
 
 use adf_block::Image;
 use ados_check::Mark;
-use ados_tree::Role;
+use ados_model::Role;
 
-/// The place by which a block was met first.
+/// The place that named a block first.
 pub(crate) fn mark_at(marks: &[Option<Mark>], block: u32) -> Option<Mark> {
     if (block as usize) < marks.len() {
         marks[block as usize]
@@ -15,13 +15,13 @@ pub(crate) fn mark_at(marks: &[Option<Mark>], block: u32) -> Option<Mark> {
     }
 }
 
-/// The role in which a block was met first.
+/// The role of a block by the place that named it first.
 pub(crate) fn role_at(marks: &[Option<Mark>], block: u32) -> Option<Role> {
     let mark = mark_at(marks, block)?;
     Some(mark.role)
 }
 
-/// Whether the image has a block of this number.
+/// Whether the image has a block with this number.
 pub(crate) fn has_block(image: &Image, block: u32) -> bool
     ensures { IsTrue result → block < block_count image.now }
 {

@@ -1,17 +1,18 @@
-//! The name of a root or entry, also where it is none.
+//! The name of a root or entry, valid or not.
 ghost use Rattle.std.specs.Prelude.{◌≡◌, ◌↔◌, ◌<◌, ◌≤◌, IsTrue, length};
-ghost use Rattle.adf_block.specs.Fields.{text_at, name_byte};
-ghost use Rattle.adf_block.specs.Image.{IsImage, block_count, byte_at};
+ghost use Rattle.adf_block.specs.Whole.{text_at, IsImage};
+ghost use Rattle.adf_block.specs.Layout.{name_byte};
+ghost use Rattle.adf_block.specs.Image.{block_count, byte_at};
 ghost use Rattle.ados_name.specs.Name.{hash};
-ghost use Rattle.ados_tree.specs.Faults.{HasBadName, HasName, HasShortName};
+ghost use Rattle.ados_model.specs.Faults.{HasBadName, HasName, HasShortName};
 ghost use Rattle.ados_faults.specs.steps.Named.{IsOfOtherSlot};
 ghost use Rattle.ados_check.specs.Entries.{upper_name};
 
 use adf_block::Image;
-use adf_block::layout::NAME_BYTE;
+use adf_block::layout::{NAME_BYTE, TABLE_LONGS};
 use ados_name::{Name, upper};
 
-/// Whether what stands there is no name.
+/// Whether the name is not valid.
 pub(crate) fn has_bad_name(image: &Image, block: u32) -> bool
     requires inside { block < block_count image.now }
     requires named { HasName image.now block }
@@ -26,7 +27,7 @@ pub(crate) fn has_bad_name(image: &Image, block: u32) -> bool
     }
 }
 
-/// Whether the length of the name is one that a name can have.
+/// Whether the length of the name is at most 30.
 pub(crate) fn has_short_name(image: &Image, block: u32) -> bool
     requires { block < block_count image.now }
     ensures { IsTrue result ↔ HasShortName image.now block }
@@ -34,7 +35,7 @@ pub(crate) fn has_short_name(image: &Image, block: u32) -> bool
     usize::from(image.byte(block, NAME_BYTE)) <= Name::MAX_LEN
 }
 
-/// The bytes of a name of no more than 30.
+/// The bytes of a name of at most 30 bytes.
 fn short_text(image: &Image, block: u32) -> &[u8]
     requires inside { block < block_count image.now }
     requires short { HasShortName image.now block }
@@ -47,7 +48,7 @@ fn short_text(image: &Image, block: u32) -> &[u8]
     &image.block(block)[start..start + length]
 }
 
-/// Whether the name stands in the chain of another slot than its own.
+/// Whether the entry is in the hash chain of another slot than its name's.
 pub(crate) fn is_of_other_slot(image: &Image, block: u32, chain: u32) -> bool
     requires { block < block_count image.now }
     ensures { IsTrue result → IsOfOtherSlot image.now block chain }
@@ -55,10 +56,10 @@ pub(crate) fn is_of_other_slot(image: &Image, block: u32, chain: u32) -> bool
     if !has_short_name(image, block) {
         return false;
     }
-    hash_of(short_text(image, block)) % 72 != chain
+    hash_of(short_text(image, block)) % TABLE_LONGS != chain
 }
 
-/// The hash of a name, also of one that is bad.
+/// The hash of a name, valid or not.
 #[tactic(auto, unfolding(ados_name::specs::Name::hash))]
 fn hash_of(text: &[u8]) -> u32
     requires { length text.now ≤ 30 }
@@ -71,7 +72,7 @@ fn hash_of(text: &[u8]) -> u32
     hash
 }
 
-/// The name of an entry in 31 bytes: its length, its bytes in upper case, and zeros.
+/// The name of an entry in 31 bytes: its length, its bytes in upper case, then zeros.
 pub(crate) fn upper_name(image: &Image, block: u32) -> [u8; 31]
     requires image { IsImage image.now }
     requires inside { block < block_count image.now }

@@ -1,6 +1,6 @@
-//! The names of the entries, which stand in one directory once.
+//! The names of the entries: each once in its directory.
 ghost use Rattle.std.specs.Prelude.{◌≡◌, All, IfOk, IsTrue};
-ghost use Rattle.adf_block.specs.Image.{IsImage};
+ghost use Rattle.adf_block.specs.Whole.{IsImage};
 ghost use Rattle.ados_faults.specs.steps.Named.{AreDuplicates, IsEntryName};
 ghost use Rattle.ados_faults.specs.steps.Noted.{AreNoted};
 ghost use Rattle.ados_faults.specs.steps.Walked.{IsStep};
@@ -9,19 +9,19 @@ use crate::name_bytes::{has_short_name, upper_name};
 use crate::notes::Notes;
 use crate::walk::Step;
 use adf_block::Image;
-use ados_tree::{FaultKind, Role};
+use ados_model::{FaultKind, Role};
 use std::alloc::{AllocError, Global};
 
-/// A name in a directory, as AmigaDOS compares it, and the block that has it.
+/// A name in a directory, in the form for comparison, and the block that has it.
 #[derive(Clone, Copy, PartialEq, Eq, PartialOrd, Ord)]
 struct EntryName {
     dir: u32,
-    /// The length, the bytes in upper case, and zeros.
+    /// The length, the bytes in upper case, then zeros.
     name: [u8; 31],
     block: u32,
 }
 
-/// Notes each entry that has the name of another one of its directory: where names are sorted, one beside it.
+/// Notes each entry with the name of another one in its directory. In sorted order they are next to each other.
 pub(crate) fn note_duplicates(
     alloc: Global,
     image: &Image,
@@ -41,7 +41,7 @@ pub(crate) fn note_duplicates(
     Ok(())
 }
 
-/// The names of all entries, one for each role of theirs.
+/// The names of all entries, one for each role of an entry.
 fn names_of(alloc: Global, image: &Image, steps: &[Step]) -> Result<Vec<EntryName>, AllocError>
     requires { All (IsStep image.now) steps.now }
     ensures { IfOk result (λ names. All (IsEntryName image.now) names.items) }
@@ -53,7 +53,7 @@ fn names_of(alloc: Global, image: &Image, steps: &[Step]) -> Result<Vec<EntryNam
     Ok(names)
 }
 
-/// Adds the name of an entry, where it can be one.
+/// Adds the name of an entry, if it is short enough.
 fn add_name(image: &Image, step: Step, names: &mut Vec<EntryName>) -> Result<(), AllocError>
     requires step { IsStep image.now step }
     requires names { All (IsEntryName image.now) names.old.items }
@@ -75,7 +75,7 @@ fn add_name(image: &Image, step: Step, names: &mut Vec<EntryName>) -> Result<(),
     Ok(())
 }
 
-/// Notes two entries that have the same name.
+/// Notes two entries with the same name.
 fn note_if_same(image: &Image, entry: &EntryName, other: &EntryName, notes: &mut Notes)
     requires image { IsImage image.now }
     requires noted { AreNoted image.now notes.old.cells.items }
@@ -88,7 +88,7 @@ fn note_if_same(image: &Image, entry: &EntryName, other: &EntryName, notes: &mut
     notes.note_if(image, FaultKind::DuplicateName, other.block, twice);
 }
 
-/// Whether these are two blocks of one directory with one name.
+/// Whether these are two blocks in one directory with the same name.
 fn are_duplicates(entry: &EntryName, other: &EntryName) -> bool
     ensures { IsTrue result → AreDuplicates entry.now other.now }
 {

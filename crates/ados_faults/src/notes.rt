@@ -1,23 +1,23 @@
-//! What has been found: a cell for each kind of fault of each block.
+//! The faults found so far: a cell for each kind of fault of each block.
 ghost use Rattle.std.specs.Prelude.{◌≡◌, ◌<◌, ◌≤◌, ◌+◌, ◌*◌, false, length, slice_index_or, true, IfOk, IsTrue};
 ghost use Rattle.adf_block.specs.Image.{block_count};
-ghost use Rattle.ados_tree.specs.Faults.{Shows};
+ghost use Rattle.ados_model.specs.Faults.{Shows};
 ghost use Rattle.ados_faults.specs.Listed.{ListsFaults};
 ghost use Rattle.ados_faults.specs.steps.Noted.{AreListed, AreNoted, HasNote, IsNoted, cell_of};
 
 use crate::kinds::{KINDS, kind_at, rank_of};
 use adf_block::Image;
-use ados_tree::{FaultKind, VolumeFault};
+use ados_model::{FaultKind, VolumeFault};
 use std::alloc::{AllocError, Global};
 
-/// The faults that were found so far.
+/// The faults found so far.
 #[derive(Drop)]
 pub(crate) struct Notes {
-    /// Cells of one block stand together, in the order of the kinds.
+    /// The cells of a block are together, in the order of the kinds.
     cells: Vec<bool>,
 }
 
-/// Faults in order, and whether there would be more.
+/// Faults in order, and whether there are more.
 #[derive(Drop)]
 pub(crate) struct Listed {
     pub(crate) faults: Vec<VolumeFault>,
@@ -33,7 +33,7 @@ impl Notes {
         Ok(Notes { cells })
     }
 
-    /// Notes the fault of the block where it is `wrong`.
+    /// Notes the fault of the block if it is `wrong`.
     pub(crate) fn note_if(&mut self, image: &Image, kind: FaultKind, block: u32, wrong: bool)
         requires noted { AreNoted image.now self.old.cells.items }
         requires inside { block < block_count image.now }
@@ -82,7 +82,7 @@ impl Notes {
         })
     }
 
-    /// Adds the fault of a cell, where it is set; not where there are `most` already.
+    /// Adds the fault of a cell if the cell is set. The result is false if there are `most` already.
     fn has_room_for(
         &self,
         image: &Image,
@@ -102,7 +102,7 @@ impl Notes {
         Ok(true)
     }
 
-    /// Adds the fault of a cell that is set, where there are not `most` yet.
+    /// Adds the fault of a set cell, unless there are `most` already.
     fn add_fault(
         &self,
         image: &Image,
@@ -134,7 +134,7 @@ impl Notes {
     }
 }
 
-/// The fault that a cell stands for.
+/// The fault of a cell.
 fn fault_at(image: &Image, cell: usize) -> VolumeFault
     requires { cell < 17 * block_count image.now }
     ensures { cell_of result.kind result.block ≡ cell }

@@ -1,16 +1,16 @@
-//! Where a block is: the path of the directory or file that it is part of.
+//! Where a block is: the path of the directory or file that it belongs to.
 
 use crate::marked::{has_block, mark_at, role_at};
 use adf_block::Image;
 use adf_block::layout::{FIRST_POINTER, NAME_BYTE, TABLE_LONGS};
 use adf_text::letter_text;
 use ados_check::Mark;
+use ados_model::Role;
 use ados_name::Name;
-use ados_tree::Role;
 use std::alloc::{AllocError, Global};
 
-/// The path of the directory or file that a block is part of, from the root on, in letters (ISO 8859-1) with slashes; of
-/// the root it is empty. `None` where no way of the walk leads there, and of the pages of the bitmap.
+/// The path of the directory or file that a block belongs to, from the root, in letters (ISO 8859-1) with slashes. It
+/// is empty for the root, and `None` for a bitmap block or a block that the walk did not reach.
 pub fn place_of(
     alloc: Global,
     image: &Image,
@@ -37,7 +37,7 @@ pub(crate) fn volume_name(alloc: Global, image: &Image) -> Result<String, AllocE
     letter_text(alloc, &name)
 }
 
-/// The entry that a block is part of and each directory above it, without the root.
+/// The entry that a block belongs to, and each directory above it, without the root.
 fn entries_above(
     alloc: Global,
     marks: &[Option<Mark>],
@@ -59,7 +59,7 @@ fn entries_above(
     Ok(None)
 }
 
-/// Adds the name of a block, or so much of it as a name can be long.
+/// Adds the name of a block, at most the length of a valid one.
 fn add_name(image: &Image, block: u32, path: &mut Vec<u8>) -> Result<(), AllocError> {
     if !has_block(image, block) {
         return Ok(());
@@ -69,7 +69,7 @@ fn add_name(image: &Image, block: u32, path: &mut Vec<u8>) -> Result<(), AllocEr
     path.extend_from_slice(&image.block(block)[start..start + length])
 }
 
-/// The place of a data block in its file, from 1, by the place that named it first.
+/// The position of a data block in its file, from 1, by the place that named it first.
 pub(crate) fn place_in_file(marks: &[Option<Mark>], block: u32) -> Option<u32> {
     let mark = mark_at(marks, block)?;
     let mut place = FIRST_POINTER.checked_sub(mark.long)?.checked_add(1)?;

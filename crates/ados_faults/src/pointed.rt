@@ -1,4 +1,4 @@
-//! Places that name blocks.
+//! The text for places that name blocks.
 ghost use Rattle.std.specs.Prelude.{◌<◌, IfSome};
 ghost use Rattle.adf_block.specs.Image.{block_count};
 
@@ -6,10 +6,10 @@ use crate::marked::{mark_at, role_at};
 use adf_block::Image;
 use adf_block::layout::{BOOT_BLOCKS, FIRST_SLOT, NEXT_DATA, SECONDARY_TYPE};
 use ados_check::{Mark, Source, place_role};
-use ados_tree::Role;
+use ados_model::Role;
 use std::alloc::{AllocError, Global};
 
-/// Of a place that names no block of the image, or of a wrong link from data block to data block.
+/// The text for a place that names a block outside the image, or for a wrong link between data blocks.
 pub(crate) fn pointer_words(
     alloc: Global,
     image: &Image,
@@ -33,7 +33,7 @@ pub(crate) fn pointer_words(
     )
 }
 
-/// The first place of a block in a role that names no block of the image.
+/// The first place in a block with a role that names a block outside the image.
 fn outside_place(image: &Image, block: u32, role: Role) -> Option<u32>
     requires { block < block_count image.now }
     ensures { IfSome result (λ i. i < 128) }
@@ -49,7 +49,7 @@ fn outside_place(image: &Image, block: u32, role: Role) -> Option<u32>
     None
 }
 
-/// Of a block that two places name.
+/// The text for a block that two places name.
 pub(crate) fn twice_words(
     alloc: Global,
     marks: &[Option<Mark>],

@@ -1,4 +1,4 @@
-//! Types, own numbers and parents.
+//! The text for types, own numbers and parents.
 ghost use Rattle.std.specs.Prelude.{◌<◌};
 ghost use Rattle.adf_block.specs.Image.{block_count};
 
@@ -9,10 +9,10 @@ use adf_block::layout::{
     TABLE_SIZE,
 };
 use ados_check::Mark;
-use ados_tree::Role;
+use ados_model::Role;
 use std::alloc::{AllocError, Global};
 
-/// Of a wrong type or table size.
+/// The text for a wrong type or hash table size.
 pub(crate) fn type_words(
     alloc: Global,
     image: &Image,
@@ -36,7 +36,7 @@ pub(crate) fn type_words(
     format!(in alloc; "the secondary type is {found:08x}, and not {wanted}")
 }
 
-/// The primary type of a block in a role.
+/// The primary type for a role.
 fn primary_of(role: Option<Role>) -> u32 {
     match role {
         Some(Role::Data(_)) => DATA_TYPE,
@@ -45,7 +45,7 @@ fn primary_of(role: Option<Role>) -> u32 {
     }
 }
 
-/// The secondary types that a block in a role can have.
+/// The secondary types for a role.
 fn secondary_of(role: Option<Role>) -> &'static str {
     match role {
         Some(Role::Root) => "00000001",
@@ -54,7 +54,7 @@ fn secondary_of(role: Option<Role>) -> &'static str {
     }
 }
 
-/// Of a parent, or of the file header that an OFS data block names.
+/// The text for a wrong parent, or a wrong file header in an OFS data block.
 pub(crate) fn parent_words(
     alloc: Global,
     image: &Image,

@@ -1,7 +1,9 @@
-//! From the root over each place of each block that is reached, past all that is wrong.
+//! The walk from the root over every place of every reached block, past all faults.
 ghost use Rattle.std.specs.Prelude.{◌≡◌, ◌≢◌, ◌<◌, ◌⊎◌, ◌∷◌, [], IfOk, IsTrue, None, replicate};
-ghost use Rattle.adf_block.specs.Image.{IsImage, block_count};
-ghost use Rattle.ados_tree.specs.Faults.{InImage, IsPlace, PlaceNames, Reached};
+ghost use Rattle.adf_block.specs.Layout.{block_longs};
+ghost use Rattle.adf_block.specs.Whole.{IsImage};
+ghost use Rattle.adf_block.specs.Image.{block_count};
+ghost use Rattle.ados_model.specs.Faults.{InImage, IsPlace, PlaceNames, Reached};
 ghost use Rattle.ados_faults.specs.steps.Walked.{IsStep, IsWalked, root_step};
 
 use crate::bits::is_inside;
@@ -9,21 +11,21 @@ use crate::notes::Notes;
 use adf_block::Image;
 use adf_block::layout::{FIRST_SLOT, SECONDARY_TYPE};
 use ados_check::{Mark, Source, place_role};
-use ados_tree::{FaultKind, Role};
+use ados_model::{FaultKind, Role};
 use std::alloc::{AllocError, Global};
 use std::collections::BTreeSet;
 
-/// How many times as many steps as the image has blocks a walk takes at most.
+/// The most steps of a walk, as a multiple of the blocks of the image.
 const PAIRS: u32 = 4;
 
-/// A block in a role in which it is reached.
+/// A block in a role.
 #[derive(Clone, Copy)]
 pub(crate) struct Step {
     pub(crate) block: u32,
     pub(crate) role: Role,
 }
 
-/// A step as a set orders it: the role by its kind and its numbers.
+/// A step in the order of a set: by block, then by the role's kind and numbers.
 #[derive(Clone, Copy, PartialEq, Eq, PartialOrd, Ord)]
 struct StepKey {
     block: u32,
@@ -32,26 +34,26 @@ struct StepKey {
     slot: u32,
 }
 
-/// What a walk has found.
+/// The results of a walk.
 #[derive(Drop)]
 pub(crate) struct Walk {
     pub(crate) notes: Notes,
-    /// Of each block the first place that names it, with the role that it gives.
+    /// For each block, the first place that names it, and the role by that place.
     pub(crate) marks: Vec<Option<Mark>>,
-    /// Each block in each of its roles, in the order in which they were met.
+    /// Each block with each of its roles, in the order in which they were found.
     pub(crate) steps: Vec<Step>,
     /// The steps whose roles are not those of the marks.
     others: BTreeSet<StepKey>,
-    /// More steps were met than a walk takes.
+    /// Whether there were more steps than a walk may take.
     pub(crate) is_cut: bool,
 }
 
-/// How many steps a walk takes at most, and how many header and extension blocks are gone through.
+/// The most steps of a walk, and the most header and extension blocks that are visited.
 pub(crate) fn most_steps(image: &Image) -> u32 {
     PAIRS * image.blocks()
 }
 
-/// Walks from the root, and notes the places that name no block of the image, and the blocks that two places name.
+/// Walks from the root. It notes the places that name blocks outside the image, and the blocks that two places name.
 pub(crate) fn walked(alloc: Global, image: &Image) -> Result<Walk, AllocError>
     ensures { IfOk result (λ walk. IsWalked image.now walk.notes.cells.items walk.marks.items walk.steps.items) }
 {
@@ -67,7 +69,7 @@ pub(crate) fn walked(alloc: Global, image: &Image) -> Result<Walk, AllocError>
 }
 
 impl Walk {
-    /// The root alone.
+    /// Only the root.
     fn start(alloc: Global, image: &Image) -> Result<Walk, AllocError>
         ensures { IfOk result (λ walk. IsWalked image.now walk.notes.cells.items walk.marks.items walk.steps.items) }
     {
@@ -89,7 +91,7 @@ impl Walk {
         })
     }
 
-    /// Goes through the places of a block in a role.
+    /// Visits the places of a block in a role.
     fn go_through(&mut self, image: &Image, step: Step) -> Result<(), AllocError>
         requires walked { IsWalked image.now self.old.notes.cells.items self.old.marks.items self.old.steps.items }
         requires step { IsStep image.now step }
@@ -104,11 +106,11 @@ impl Walk {
         Ok(())
     }
 
-    /// Goes through one long, which is a place of names that gives the role.
+    /// Visits one long, a place that gives the role.
     fn pass(&mut self, image: &Image, step: Step, role: Role, i: u32) -> Result<(), AllocError>
         requires walked { IsWalked image.now self.old.notes.cells.items self.old.marks.items self.old.steps.items }
         requires step { IsStep image.now step }
-        requires long { i < 128 }
+        requires long { i < block_longs }
         requires place { IsPlace image.now step.block step.role i role }
         ensures { IfOk result (λ _. IsWalked image.now self.new.notes.cells.items self.new.marks.items self.new.steps.items) }
     {
@@ -125,7 +127,7 @@ impl Walk {
         Ok(())
     }
 
-    /// Meets a block by a place that names it.
+    /// Handles a block that a place names.
     fn meet(&mut self, image: &Image, block: u32, mark: Mark) -> Result<(), AllocError>
         requires walked { IsWalked image.now self.old.notes.cells.items self.old.marks.items self.old.steps.items }
         requires inside { InImage image.now block }
@@ -148,7 +150,7 @@ impl Walk {
         self.take(image, block, mark.role)
     }
 
-    /// Takes a step, unless a walk takes no more.
+    /// Adds a step, unless the walk may take no more.
     fn take(&mut self, image: &Image, block: u32, role: Role) -> Result<(), AllocError>
         requires walked { IsWalked image.now self.old.notes.cells.items self.old.marks.items self.old.steps.items }
         requires inside { InImage image.now block }
@@ -164,7 +166,7 @@ impl Walk {
     }
 }
 
-/// A cell for each block, with no mark.
+/// One cell for each block, without marks.
 fn no_marks(alloc: Global, image: &Image) -> Result<Vec<Option<Mark>>, AllocError>
     ensures none { IfOk result (λ marks. marks.items ≡ replicate (block_count image.now) None) }
     ensures image { IsImage image.now }
@@ -184,7 +186,7 @@ fn one_step(alloc: Global, root: u32) -> Result<Vec<Step>, AllocError>
     Ok(steps)
 }
 
-/// Whether two marks are those of two places.
+/// Whether two marks are from different places.
 fn is_other_place(first: Mark, mark: Mark) -> bool
     ensures { IsTrue result → (first.holder ≢ mark.holder) ⊎ (first.long ≢ mark.long) }
 {
@@ -194,7 +196,7 @@ fn is_other_place(first: Mark, mark: Mark) -> bool
     first.long != mark.long
 }
 
-/// A step as a set orders it.
+/// A step in the order of a set.
 fn key_of(block: u32, role: Role) -> StepKey {
     let (kind, holder, slot) = match role {
         Role::Root => (0, 0, 0),

@@ -1,15 +1,15 @@
--- Going up from directory to directory, and whether a key is met on the way.
+-- A walk up from directory to directory, and whether it meets a key.
 use Rattle.std.proofs.Common.{◌≡◌, ◌≢◌, ℕ, zero, suc, ◌==◌, Bool, true, false, List, [], Some, None, is_some, ap}
 use Rattle.std.specs.Prelude.{◌||◌}
 use Rattle.std.specs.List.{list_any}
 use Rattle.std.specs.Option.{option_map_or}
 use Rattle.std.proofs.lemmas.Bool.{eq-eqb, ne_eqb}
-use Rattle.ados_tree.specs.Tree.{Tree, parent_of}
-use Rattle.ados_tree.specs.Keys.{HasDirectory, HasKey}
-use Rattle.ados_tree.proofs.Nodes.{content_in}
-use Rattle.ados_handler.specs.Objects.{upward}
+use Rattle.ados_model.specs.Tree.{Tree, parent_of}
+use Rattle.ados_model.specs.Keys.{HasDirectory, HasKey}
+use Rattle.ados_model.proofs.Nodes.{content_in}
+use Rattle.ados_model.specs.Objects.{upward}
 
--- the key is `above`, or so many steps up lead by it
+-- the key is `above`, or n steps up meet it
 abbrev pub meets : Tree → ℕ → ℕ → ℕ → Bool
 meets t above steps key = list_any (λ k. k == above) (upward t steps key)
 

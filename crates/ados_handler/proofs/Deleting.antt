@@ -2,34 +2,34 @@
 use Rattle.std.proofs.Common.{◌≡◌, ◌≢◌, ℕ, Bool, true, false, not, ◌==◌, List, [], ◌∷◌, Option, Some, Ok, IsSome, refl, sym, ap, ◌∙◌}
 use Rattle.std.proofs.lemmas.Bool.{ne_eqb}
 use Rattle.ados_name.specs.declared.Date3.{Date3}
-use Rattle.ados_name.specs.Protection.{denies_delete}
-use Rattle.ados_tree.specs.Tree.{Node, Tree, Proper, entries, root}
-use Rattle.ados_tree.specs.Change.{removed}
-use Rattle.ados_tree.proofs.Nodes.{some_in}
+use Rattle.ados_name.specs.Name.{denies_delete}
+use Rattle.ados_model.specs.Tree.{Node, Tree, Proper, entries, root}
+use Rattle.ados_model.specs.Change.{removed}
+use Rattle.ados_model.proofs.Nodes.{some_in}
 use Rattle.ados_change.specs.Conditions.{CanRemove}
-use Rattle.ados_volume.specs.Examined.{file_info}
-use Rattle.ados_packet.specs.declared.dos_error.DosError.{DosError}
-use Rattle.ados_packet.specs.declared.dos_error.DosError.TheVariants.{DeleteProtected, DeviceNotMounted, DirectoryNotEmpty, ObjectInUse, ObjectWrongType}
-use Rattle.ados_packet.specs.declared.info.FileInfo.{FileInfo}
-use Rattle.ados_packet.specs.Packet.{dos_true}
-use Rattle.ados_packet.specs.declared.packet.Packet.TheVariants.{DeleteObject}
-use Rattle.ados_packet.specs.declared.answer.Body.TheVariants.{Empty}
-use Rattle.ados_handler.specs.Session.{Session, is_held}
-use Rattle.ados_handler.specs.Objects.{object, protection_in, protection_of, walked}
-use Rattle.ados_handler.specs.Refusals.{first_refusal, is_empty, refusal, refusals, refuse}
-use Rattle.ados_handler.specs.Success.{after}
+use Rattle.ados_model.specs.Objects.{file_info, object, protection_in, protection_of}
+use Rattle.ados_model.specs.declared.dos_error.DosError.{DosError}
+use Rattle.ados_model.specs.declared.dos_error.DosError.TheVariants.{DeleteProtected, DeviceNotMounted, DirectoryNotEmpty, ObjectInUse, ObjectWrongType}
+use Rattle.ados_model.specs.declared.answer.FileInfo.{FileInfo}
+use Rattle.ados_model.specs.Packet.{dos_true}
+use Rattle.ados_model.specs.declared.packet.Packet.TheVariants.{DeleteObject}
+use Rattle.ados_model.specs.declared.answer.Body.TheVariants.{Empty}
+use Rattle.ados_model.specs.Session.{Session, is_held}
+use Rattle.ados_model.specs.Resolved.{walked}
+use Rattle.ados_model.specs.Refusals.{first_refusal, is_empty, refusal, refusals, refuse}
+use Rattle.ados_model.specs.Success.{after}
 use Rattle.ados_handler.specs.steps.Methods.{MethodMeans}
 use Rattle.ados_handler.proofs.Meant.{done, served_means, walked_on}
 use Rattle.ados_handler.proofs.Placed.{passed}
 use Rattle.ados_handler.proofs.Unlisting.{is_nil, parent_there}
 
--- what is told of a node has its protection
+-- the protection bits from the description of a node
 pub denial_told : (t : Tree) (key : ℕ) (node : Node) (info : FileInfo) (denied : Bool) → t.nodes key ≡ Some node → info ≡ file_info t.format key node → denied ≡ denies_delete info.protection.0
     → denies_delete (protection_of t key) ≡ denied
 denial_told t key node info denied at told is =
     ap (λ (o : Option Node). denies_delete (protection_in o)) at ∙ ap (λ (i : FileInfo). denies_delete i.protection.0) (sym told) ∙ sym is
 
--- the refusals that look at the object
+-- the refusals that depend on the object
 abbrev object_row : Tree → Session → ℕ → List (Option DosError)
 object_row t s key =
     refuse ObjectWrongType (key == root t) ∷ refuse ObjectInUse (is_held s key) ∷ refuse DirectoryNotEmpty (not (is_empty (entries t key))) ∷ refuse DeleteProtected (denies_delete (protection_of t key)) ∷ []
@@ -51,7 +51,7 @@ module _ (t : Tree) (s : Session) (lock : ℕ) (path : List ℕ) (key : ℕ) (al
       served_means t (removed now key t) s new (DeleteObject lock path) now (done Empty) (delete_refusal ∙ passed DeleteProtected (denies_delete (protection_of t key)) [] allowed)
       (record { success = λ i. after (removed now (sym (walked_on t s lock path key [] walk).1 i) t) (same i) dos_true Empty; action = refl; res2 = refl })
 
--- a node that is not the root and has no entries can be taken away
+-- a node without entries that is not the root can be removed
 pub can_remove : (t : Tree) → Proper t → (key : ℕ) → IsSome (t.nodes key) → key ≢ root t → is_empty (entries t key) ≡ true → CanRemove t key
 can_remove t proper key there other empty =
     let n = some_in (t.nodes key) there in

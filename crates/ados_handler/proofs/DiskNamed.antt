@@ -1,4 +1,4 @@
--- RENAME_DISK with a text that is a name.
+-- RENAME_DISK with a valid name.
 use Rattle.std.proofs.Common.{◌≡◌, ℕ, false, true, not, ◌==◌, List, [], ◌∷◌, length, None, Some, refl, arith}
 use Rattle.std.specs.Prelude.{is_none}
 use Rattle.std.specs.List.{list_any}
@@ -6,17 +6,17 @@ use Rattle.std.proofs.lemmas.Bool.{le-ltb, ne_eqb, or_from}
 use Rattle.std.proofs.lemmas.List.Folds.{list_any_none}
 use Rattle.std.proofs.lemmas.List.Elements.{All-from_get_or, All-get_or}
 use Rattle.ados_name.specs.declared.Date3.{Date3}
-use Rattle.ados_name.specs.declared.name.NameFault.{NameFault}
+use Rattle.ados_name.specs.declared.NameFault.{NameFault}
 use Rattle.ados_name.specs.Name.{first_fault, IsName, IsNameByte, is_separator}
-use Rattle.ados_tree.specs.Tree.{Tree}
-use Rattle.ados_tree.specs.Change.{disk_renamed}
-use Rattle.ados_packet.specs.declared.dos_error.DosError.TheVariants.{DeviceNotMounted, InvalidComponentName}
-use Rattle.ados_packet.specs.Packet.{dos_true}
-use Rattle.ados_packet.specs.declared.packet.Packet.TheVariants.{RenameDisk}
-use Rattle.ados_packet.specs.declared.answer.Body.TheVariants.{Empty}
-use Rattle.ados_handler.specs.Session.{Session}
-use Rattle.ados_handler.specs.Refusals.{first_refusal, is_name, refusal, refuse}
-use Rattle.ados_handler.specs.Success.{after}
+use Rattle.ados_model.specs.Tree.{Tree}
+use Rattle.ados_model.specs.Change.{disk_renamed}
+use Rattle.ados_model.specs.declared.dos_error.DosError.TheVariants.{DeviceNotMounted, InvalidComponentName}
+use Rattle.ados_model.specs.Packet.{dos_true}
+use Rattle.ados_model.specs.declared.packet.Packet.TheVariants.{RenameDisk}
+use Rattle.ados_model.specs.declared.answer.Body.TheVariants.{Empty}
+use Rattle.ados_model.specs.Session.{Session}
+use Rattle.ados_model.specs.Refusals.{first_refusal, is_name, refusal, refuse}
+use Rattle.ados_model.specs.Success.{after}
 use Rattle.ados_handler.specs.steps.Methods.{MethodMeans}
 use Rattle.ados_handler.proofs.Meant.{done, served_means}
 
@@ -38,6 +38,6 @@ rename_disk_means t s new name now alive is same =
     served_means t (disk_renamed now name t) s new (RenameDisk name) now (done Empty) none
     (record { success = λ i. after (disk_renamed now name t) (same i) dos_true Empty; action = refl; res2 = refl })
 
--- a text that has a fault is refused
+-- a text with a fault is refused
 pub no_name_refused : (t : Tree) (s : Session) (name : List ℕ) (fault : NameFault) → s.died ≡ false → first_fault name ≡ Some fault → refusal t s (RenameDisk name) ≡ Some InvalidComponentName
 no_name_refused t s name fault alive has = λ i. first_refusal (refuse DeviceNotMounted (alive i) ∷ refuse InvalidComponentName (not (is_none (has i))) ∷ [])

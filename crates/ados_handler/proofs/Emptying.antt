@@ -1,23 +1,21 @@
--- A file that is emptied for a handle.
+-- A file emptied for a handle.
 use Rattle.std.proofs.Common.{◌≡◌, ◌≢◌, ℕ, Bool, true, false, not, List, [], ◌∷◌, Some, None, is_some, refl, ap, ◌∙◌, subst}
 use Rattle.std.specs.Ordering.{nat_cmp}
 use Rattle.std.specs.FinMap.{FinMap}
 use Rattle.ados_name.specs.declared.Date3.{Date3}
-use Rattle.ados_name.specs.Protection.{denies_delete, denies_write}
-use Rattle.ados_tree.specs.Tree.{Tree, Proper}
-use Rattle.ados_tree.specs.Stands.{Stands}
-use Rattle.ados_tree.specs.NewBlocks.{KeepsRest}
-use Rattle.ados_tree.specs.Walk.{is_file}
-use Rattle.ados_tree.specs.Change.{rewritten, shortened}
-use Rattle.ados_packet.specs.declared.dos_error.DosError.TheVariants.{DeleteProtected, ObjectInUse, ObjectWrongType, WriteProtected}
-use Rattle.ados_packet.specs.declared.results.Results.{Results}
-use Rattle.ados_handler.specs.declared.holds.HandleHold.{HandleHold}
-use Rattle.ados_handler.specs.Session.{Session, is_in_use}
-use Rattle.ados_handler.specs.Objects.{protection_of}
-use Rattle.ados_handler.specs.Refusals.{first_refusal, refuse}
-use Rattle.ados_handler.specs.Success.{GivesHandle}
+use Rattle.ados_name.specs.Name.{denies_delete, denies_write}
+use Rattle.ados_model.specs.Tree.{Tree, Proper}
+use Rattle.ados_model.specs.Stands.{Stands}
+use Rattle.ados_change.specs.NewBlocks.{KeepsRest}
+use Rattle.ados_model.specs.Change.{is_file, rewritten, shortened}
+use Rattle.ados_model.specs.declared.dos_error.DosError.TheVariants.{DeleteProtected, ObjectInUse, ObjectWrongType, WriteProtected}
+use Rattle.ados_model.specs.declared.results.Results.{Results}
+use Rattle.ados_model.specs.declared.holds.HandleHold.{HandleHold}
+use Rattle.ados_model.specs.Session.{Session, is_in_use, HandlerState}
+use Rattle.ados_model.specs.Objects.{protection_of}
+use Rattle.ados_model.specs.Refusals.{first_refusal, refuse}
+use Rattle.ados_model.specs.Success.{GivesHandle}
 use Rattle.ados_handler.specs.ProperSession.{HoldNumber, hold_at, IsProperSession}
-use Rattle.ados_handler.specs.Handler.{HandlerState}
 use Rattle.ados_handler.specs.Gives.{IsSoundHandler}
 use Rattle.ados_handler.specs.steps.Opening.{BringsHandle, Opens, empty_refusals}
 use Rattle.ados_handler.proofs.Holding.{not_held}
@@ -25,18 +23,18 @@ use Rattle.ados_handler.proofs.Carrying.{carried_session}
 use Rattle.ados_handler.proofs.Rewriting.{file_node, rewritten_here, rewritten_is_file, rewritten_other}
 use Rattle.ados_handler.proofs.Opening.{done_opens, gives_handle, proper_opened}
 
--- a file that keeps its first 0 bytes has none
+-- a file cut to 0 bytes has none
 cut_is_emptied : (now : Date3) (key : ℕ) (t : Tree) → shortened now key 0 t ≡ rewritten now key [] t
 cut_is_emptied now key t = refl
 
--- nothing stands against an exclusive handle on a file
+-- no refusal of an exclusive handle on a file holds
 no_refusal : (s : Session) (key : ℕ) (t : Tree) (bits : ℕ) → is_file t key ≡ true → is_in_use s key true ≡ false → protection_of t key ≡ bits → denies_delete bits ≡ false → denies_write bits ≡ false → first_refusal (empty_refusals s key t) ≡ None
 no_refusal s key t bits file free told delete write =
     let named : first_refusal (empty_refusals s key t) ≡ first_refusal (refuse DeleteProtected (denies_delete bits) ∷ refuse WriteProtected (denies_write bits) ∷ []) =
     λ i. first_refusal (refuse ObjectWrongType (not (file i)) ∷ refuse ObjectInUse (free i) ∷ refuse DeleteProtected (denies_delete (told i)) ∷ refuse WriteProtected (denies_write (told i)) ∷ []) in
     named ∙ (λ i. first_refusal (refuse DeleteProtected (delete i) ∷ refuse WriteProtected (write i) ∷ []))
 
--- no other object is touched
+-- no other object changes
 emptied_session : (t : Tree) → Proper t → (s : Session) → IsProperSession t s → (key : ℕ) → is_file t key ≡ true → is_in_use s key true ≡ false → (now : Date3) → IsProperSession (rewritten now key [] t) s
 emptied_session t proper s session key file free now =
     carried_session t (rewritten now key [] t) s session (λ hold k e h. rewritten_other t proper key (file_node t key file) [] now k (other hold k e h))
@@ -44,7 +42,7 @@ emptied_session t proper s session key file free now =
     other : (hold : HoldNumber) (k : ℕ) (e : Bool) → hold_at s hold ≡ Some (k, e) → k ≢ key
     other hold k e h same = not_held s key free hold e (subst (λ (i : ℕ). hold_at s hold ≡ Some (i, e)) same h)
 
--- the file with no bytes, and a handle on it
+-- the file without bytes, and a handle on it
 module _ (was : List ℕ) (s : Session) (key : ℕ) (now : Date3) (image : List ℕ) (stands : (t : Tree) → Stands was t → Stands image (shortened now key 0 t))
     (ready held : FinMap nat_cmp HandleHold) (results : Results) (a : BringsHandle key true ready held results) (same : ready ≡ s.handles) where
   pub emptied_sound : (sound : IsSoundHandler was s) → is_file sound.tree key ≡ true → is_in_use s key true ≡ false → IsSoundHandler image (record s { handles = held })

@@ -1,23 +1,21 @@
--- Room for one more entry, and its key.
+-- Free space for one more entry, and its key.
 use Rattle.std.proofs.Common.{◌≡◌, ℕ, ◌+◌, ◌-◌, Bool, true, false, not, cond, nat_lt, List, Some, None, Option, is_some, refl, sym, ap, ◌∙◌, arith}
 use Rattle.adf_block.specs.Image.{block_count, has_free_bit}
 use Rattle.ados_map.specs.Pages.{IsLowestFree, NoneFree}
 use Rattle.ados_name.specs.Name.{IsName}
-use Rattle.ados_tree.specs.Tree.{Tree}
-use Rattle.ados_tree.specs.Stands.{Stands}
-use Rattle.ados_tree.specs.Layout.{Duty}
-use Rattle.ados_tree.specs.Walk.{child_of}
-use Rattle.ados_tree.proofs.Counting.{free_bits_count}
-use Rattle.ados_tree.proofs.Totals.{total-zero}
-use Rattle.ados_tree.specs.Tree.{IsUnused}
+use Rattle.ados_model.specs.Tree.{Tree, IsUnused}
+use Rattle.ados_model.specs.Stands.{Stands, Duty}
+use Rattle.ados_model.specs.Change.{child_of}
+use Rattle.ados_model.proofs.Counting.{free_bits_count}
+use Rattle.ados_model.proofs.Totals.{total-zero}
 use Rattle.ados_change.specs.Conditions.{CanMake, IsDirectoryKey}
 use Rattle.ados_change.proofs.Making.{unused}
-use Rattle.ados_handler.specs.Objects.{lacks}
-use Rattle.ados_handler.specs.Success.{IsNewKey}
+use Rattle.ados_model.specs.Objects.{lacks}
+use Rattle.ados_model.specs.Success.{IsNewKey}
 use Rattle.ados_handler.proofs.Making.{no_child_new, none_there}
 
 module _ (image : List ℕ) (t : Tree) (s : Stands image t) where
-  -- where no block is marked free, there is no room
+  -- if no block is marked free, there is no free space
   pub none_free_lacks : NoneFree image → lacks t 1 ≡ true
   none_free_lacks none =
       let each = total-zero (λ k. cond (has_free_bit image (k + 2)) 1 0) (block_count image - 2) (λ k l. ap {B = ℕ} (λ (b : Bool). cond b 1 0) (none (k + 2) (omega arith, omega (arith, l)))) in
@@ -38,6 +36,6 @@ pub not_lacking : (lack : Bool) → not lack ≡ true → lack ≡ false
 not_lacking true h = sym h
 not_lacking false h = refl
 
--- an entry can be made in a directory that has no child of that name
+-- an entry can be made in a directory without a child of that name
 pub can_make_new : (t : Tree) (dir : ℕ) (name : List ℕ) → IsDirectoryKey t dir → IsName name → is_some (child_of t dir name) ≡ false → CanMake t dir name
 can_make_new t dir name directory valid none = record { directory = directory; valid = valid; new_name = no_child_new t dir name (none_there (child_of t dir name) none) }

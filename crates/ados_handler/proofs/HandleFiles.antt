@@ -1,30 +1,29 @@
--- What is known of the file of a handle that is held.
+-- The file of a handle.
 use Rattle.std.proofs.Common.{◌≡◌, ℕ, ◌≤◌, Bool, true, false, not, List, ◌∷◌, Option, Some, None, is_some, option_map, refl, sym, ap, ap₂, ◌∙◌, subst}
 use Rattle.std.specs.Option.{option_map_or}
 use Rattle.std.specs.Prelude.{IfSome}
 use Rattle.std.specs.Ordering.{nat_cmp}
 use Rattle.std.specs.FinMap.{FinMap, get}
 use Rattle.ados_name.specs.declared.Date3.{Date3}
-use Rattle.ados_tree.specs.Tree.{Content, Node, Tree, size_in, size_of}
-use Rattle.ados_tree.specs.Tree.Content.{File}
-use Rattle.ados_tree.specs.Stands.{Stands}
-use Rattle.ados_tree.specs.Walk.{is_file}
-use Rattle.ados_tree.specs.Keys.{HasFileKey, HasKey}
-use Rattle.ados_tree.proofs.OneTree.{one_tree}
-use Rattle.ados_tree.proofs.Nodes.{content_in, some_in}
-use Rattle.ados_packet.specs.declared.dos_error.DosError.{DosError}
-use Rattle.ados_packet.specs.declared.dos_error.DosError.TheVariants.{DeviceNotMounted, InvalidLock}
-use Rattle.ados_packet.specs.declared.packet.Packet.{Packet}
-use Rattle.ados_packet.specs.declared.results.Results.{Results}
+use Rattle.ados_model.specs.Tree.{Content, Node, Tree, size_in, size_of}
+use Rattle.ados_model.specs.Tree.Content.{File}
+use Rattle.ados_model.specs.Stands.{Stands}
+use Rattle.ados_model.specs.Change.{is_file}
+use Rattle.ados_model.specs.Keys.{HasFileKey, HasKey}
+use Rattle.ados_model.proofs.OneTree.{one_tree}
+use Rattle.ados_model.proofs.Nodes.{content_in, some_in}
+use Rattle.ados_model.specs.declared.dos_error.DosError.{DosError}
+use Rattle.ados_model.specs.declared.dos_error.DosError.TheVariants.{DeviceNotMounted, InvalidLock}
+use Rattle.ados_model.specs.declared.packet.Packet.{Packet}
+use Rattle.ados_model.specs.declared.results.Results.{Results}
 use Rattle.ados_volume.specs.Shown.{Shown}
-use Rattle.ados_handler.specs.Session.{Session, is_handle, handle_key, handle_position}
-use Rattle.ados_handler.specs.declared.holds.HandleHold.{HandleHold}
-use Rattle.ados_handler.specs.Objects.{protection_in, protection_of}
+use Rattle.ados_model.specs.Session.{Session, is_handle, handle_key, handle_position, HandlerState}
+use Rattle.ados_model.specs.declared.holds.HandleHold.{HandleHold}
+use Rattle.ados_model.specs.Objects.{protection_in, protection_of}
 use Rattle.ados_handler.specs.Keeps.{HasPathTexts}
-use Rattle.ados_handler.specs.Handler.{HandlerState}
 use Rattle.ados_handler.specs.Gives.{IsSoundHandler}
 use Rattle.ados_handler.specs.steps.Methods.{MethodGives, MethodMeans}
-use Rattle.ados_handler.specs.Refusals.{first_refusal, refuse}
+use Rattle.ados_model.specs.Refusals.{first_refusal, refuse}
 use Rattle.ados_handler.proofs.Rewriting.{file_node}
 use Rattle.ados_handler.proofs.ImageKept.{meaning_keeps_proper}
 use Rattle.ados_handler.proofs.Leaving.{leaves_all}
@@ -37,13 +36,13 @@ module _ (s : Session) (handle : ℕ) (hold : HandleHold) (at : get s.handles ha
   pub position_is : handle_position s handle ≡ hold.position
   position_is = ap (λ (o : Option HandleHold). option_map_or (λ h. h.position) o 0) at
 
-  -- a packet by it is refused neither as dead nor for its handle
+  -- a packet with such a handle is refused neither for death nor for its handle
   pub opened_on : s.died ≡ false → (more : List (Option DosError)) → first_refusal (refuse DeviceNotMounted s.died ∷ refuse InvalidLock (not (is_handle s handle)) ∷ more) ≡ first_refusal more
   opened_on alive more =
       let held : is_handle s handle ≡ true = ap is_some at in
       ap₂ (λ (d h : Bool). first_refusal (refuse DeviceNotMounted d ∷ refuse InvalidLock (not h) ∷ more)) alive held
 
--- the handle of a sound handler is on a file, and stands in it
+-- the handle of a sound handler is on a file, and its position is in it
 module _ (image : List ℕ) (s : Session) (sound : IsSoundHandler image s) (handle : ℕ) where
   opened_file : (hold : HandleHold) → get s.handles handle ≡ Some hold → HasFileKey image hold.key
   opened_file hold at t stands =
@@ -62,7 +61,7 @@ module _ (image : List ℕ) (s : Session) (sound : IsSoundHandler image s) (hand
   within_of None is = tt
   within_of (Some hold) is = opened_within hold (sym is)
 
--- what is told of a file
+-- facts about a file
 module _ (image : List ℕ) (key : ℕ) (file : HasFileKey image key) where
   pub file_is_key : HasKey image key
   file_is_key t stands =
@@ -79,7 +78,7 @@ module _ (image : List ℕ) (key : ℕ) (file : HasFileKey image key) where
       let n = some_in (t.nodes key) (file_is_key t stands) in
       told t n.0 stands n.1 ∙ ap protection_in (sym n.1)
 
--- a packet that takes no moment, and leaves all but the handles
+-- a packet without a time stamp that changes only the handles
 module _ (old given : HandlerState) (same : old ≡ given) (handles : FinMap nat_cmp HandleHold) (packet : Packet) (results : Results) where
   pub gives_moved : (t : Tree) → Stands old.image t → (now : Date3) → MethodMeans t old.session packet now t (record old.session { handles = handles }) results
       → MethodGives given packet now (record old { session = record old.session { handles = handles } }) results
@@ -96,7 +95,7 @@ module _ (old given : HandlerState) (same : old ≡ given) (handles : FinMap nat
       sound_after given (record old { session = record old.session { handles = handles } }) packet moment results (meaning_keeps_proper packet texts)
       (subst (λ (h : HandlerState). IsSoundHandler h.image h.session) same sound) (gives moment)
 
-  -- also where the volume keeps another place in a file
+  -- the same if the volume caches another place in a file
   pub sound_read : (volume : Shown) → volume ≡ record { image = old.image; was_validated = old.was_validated } → HasPathTexts packet → IsSoundHandler old.image old.session
       → ((now : Date3) → MethodGives given packet now (record { image = volume.image; was_validated = volume.was_validated; session = record old.session { handles = handles } }) results)
       → IsSoundHandler volume.image (record old.session { handles = handles })

@@ -1,4 +1,4 @@
--- What a new hold, a hold less and a handle that moves leave of a proper session.
+-- A new hold, a freed hold and a moved handle keep a session proper.
 use Rattle.std.proofs.Common.{◌≡◌, ◌≢◌, ◌⊎◌, ℕ, ◌≤◌, Bool, true, false, cond, List, [], ◌∷◌, ◌++◌, map, nat_eq, Some, None, refl, sym, ap, ◌∙◌, inl, inr, arith, subst, eq-eqb}
 use Rattle.std.specs.Prelude.{Option, ◌&&◌, ◌||◌, IsSome, is_some}
 use Rattle.std.specs.List.{list_any}
@@ -8,11 +8,11 @@ use Rattle.std.specs.Cmp.{nat_cmp_total}
 use Rattle.std.specs.FinMap.{FinMap, get, insert, remove, entries, find, get-entries, get-insert, get-remove}
 use Rattle.std.proofs.lemmas.Option.{none-some, same_Some}
 use Rattle.std.proofs.lemmas.Bool.Decides.{eqb_tells, nat_tests}
-use Rattle.ados_tree.specs.Tree.{Tree, size_of}
-use Rattle.ados_tree.specs.Walk.{is_file}
-use Rattle.ados_handler.specs.Session.{Session, holds, is_held, is_held_exclusively, is_in_use, with_lock, without_lock, with_handle, without_handle}
-use Rattle.ados_handler.specs.declared.holds.LockHold.{LockHold}
-use Rattle.ados_handler.specs.declared.holds.HandleHold.{HandleHold}
+use Rattle.ados_model.specs.Tree.{Tree, size_of}
+use Rattle.ados_model.specs.Change.{is_file}
+use Rattle.ados_model.specs.Session.{Session, holds, is_held, is_held_exclusively, is_in_use, with_lock, without_lock, with_handle, without_handle}
+use Rattle.ados_model.specs.declared.holds.LockHold.{LockHold}
+use Rattle.ados_model.specs.declared.holds.HandleHold.{HandleHold}
 use Rattle.ados_handler.specs.ProperSession.{HoldNumber, hold_at, IsProperSession}
 use Rattle.ados_handler.specs.ProperSession.HoldNumber.{ByLock, ByHandle}
 
@@ -22,7 +22,7 @@ tied q k e = grind (arith, nat_tests)
 apart : (q k : ℕ) → q ≢ k → eq_by_cmp nat_cmp q k ≡ false
 apart q k h = grind (arith, nat_tests)
 
--- two numbers tie where they are equal
+-- comparison finds exactly equal numbers equal
 pub number_tells : (q k : ℕ) → ((eq_by_cmp nat_cmp q k ≡ true) × (q ≡ k)) ⊎ ((eq_by_cmp nat_cmp q k ≡ false) × (q ≢ k))
 number_tells q k = elim (eqb_tells q k) [ inl w ↦ inl (tied q k w.1, w.1) | inr w ↦ inr (apart q k w.1, w.1) ]
 
@@ -37,7 +37,7 @@ list_any-append p (x ∷ xs) ys h =
     in let rest = list_any-append p xs ys parts.1
     in (ap (λ b. b || list_any p xs) parts.0 ∙ rest.0, rest.1)
 
--- no value of an entry passes a test that none passes
+-- if no value passes a test, no entry's value does
 pub find_none_passes : {X Y : Type 0} (p : Y → Bool) (f : X → Y) (q : ℕ) (es : List (ℕ × X)) (x : X) → list_any p (map f (map (λ e. e.1) es)) ≡ false → find nat_cmp q es ≡ Some x → p (f x) ≡ false
 find_none_passes p f q [] x none found = absurd (none-some x found)
 find_none_passes p f q (e ∷ es) x none found =
@@ -51,7 +51,7 @@ pub option_map_some : {A B : Type 0} (f : A → B) (o : Option A) (y : B) → op
 option_map_some f None y h = absurd (none-some y h)
 option_map_some f (Some x) y h = (x, refl, same_Some (f x) y h)
 
--- a test that no hold passes is passed by none
+-- if no hold passes a test, the hold of no number does
 pub none_passes : (s : Session) (p : ℕ × Bool → Bool) → list_any p (holds s) ≡ false → (hold : HoldNumber) (v : ℕ × Bool) → hold_at s hold ≡ Some v → p v ≡ false
 none_passes s p none (ByLock n) v h =
     let is = option_map_some _ (get s.locks n) v h
@@ -63,29 +63,29 @@ none_passes s p none (ByHandle n) v h =
 pub true_false : true ≡ false → ⊥
 true_false e = cc
 
--- where an object is not held, no hold is on it
+-- if an object is not held, no hold is on it
 pub not_held : (s : Session) (key : ℕ) → is_held s key ≡ false → (hold : HoldNumber) (e : Bool) → hold_at s hold ≡ Some (key, e) → ⊥
 not_held s key none hold e h = true_false (sym (eq-eqb key key refl) ∙ none_passes s (λ v. nat_eq v.0 key) none hold (key, e) h)
 
--- where it is not held exclusively, each hold on it is shared
+-- if it is not held exclusively, each hold on it is shared
 pub not_exclusive : (s : Session) (key : ℕ) → is_held_exclusively s key ≡ false → (hold : HoldNumber) (e : Bool) → hold_at s hold ≡ Some (key, e) → e ≡ false
 not_exclusive s key none hold e h =
     ap (λ b. b && e) (sym (eq-eqb key key refl)) ∙ none_passes s (λ v. nat_eq v.0 key && v.1) none hold (key, e) h
 
--- a new hold on an object can be given: neither that one nor another hold on it is exclusive
+-- a new hold on an object is possible: neither it nor another hold on the object is exclusive
 abbrev pub IsFree : Session → ℕ → Bool → Type 0
 IsFree s key exclusive = (hold : HoldNumber) (e : Bool) → hold_at s hold ≡ Some (key, e) → (exclusive ≡ false) × (e ≡ false)
 
--- it can where the object is not in use
+-- it is possible if the object is not in use
 pub not_in_use : (s : Session) (key : ℕ) (exclusive : Bool) → is_in_use s key exclusive ≡ false → IsFree s key exclusive
 not_in_use s key true free hold e h = absurd (not_held s key free hold e h)
 not_in_use s key false free hold e h = (refl, not_exclusive s key free hold e h)
 
--- the holds of a session with one hold more
+-- the holds of a session with one more
 pub record AddsHold (s new : Session) (number : HoldNumber) (key : ℕ) (exclusive : Bool) : Type 0 where
   pub cases : (hold : HoldNumber) (v : ℕ × Bool) → hold_at new hold ≡ Some v → ((hold ≡ number) × (v ≡ (key, exclusive))) ⊎ (hold_at s hold ≡ Some v)
 
--- a hold that was free to be given keeps exclusive holds alone
+-- a possible hold keeps exclusive holds alone
 pub adds_alone : (s new : Session) (number : HoldNumber) (key : ℕ) (exclusive : Bool) → AddsHold s new number key exclusive → IsFree s key exclusive
     → ((a b : HoldNumber) (k : ℕ) (e : Bool) → hold_at s a ≡ Some (k, true) → hold_at s b ≡ Some (k, e) → a ≡ b)
     → (a b : HoldNumber) (k : ℕ) (e : Bool) → hold_at new a ≡ Some (k, true) → hold_at new b ≡ Some (k, e) → a ≡ b
@@ -109,7 +109,7 @@ adds_alone s new number key exclusive adds free alone a b k e at_a at_b =
           ]
     ]
 
--- what a map has after an insert, and after a remove
+-- the values of a map after an insertion, and after a removal
 pub got_insert : {X : Type 0} (m : FinMap nat_cmp X) (k : ℕ) (v : X) (q : ℕ) (x : X) → get (insert m k v) q ≡ Some x → ((q ≡ k) × (x ≡ v)) ⊎ ((q ≢ k) × (get m q ≡ Some x))
 got_insert m k v q x h =
     let e = sym (get-insert nat_cmp_total m k v q) ∙ h
@@ -186,7 +186,7 @@ module _ (t : Tree) (s : Session) (proper : IsProperSession t s) where
   fewer_handles n (ByHandle m) v h = let is = option_map_some handle_hold _ v h in ap (option_map handle_hold) (got_remove s.handles n m is.0 is.1).1 ∙ ap Some is.2
   fewer_handles n (ByLock m) v h = h
 
-  -- a lock or a handle less
+  -- one lock or handle less
   pub proper_without_lock : (n : ℕ) → IsProperSession t (without_lock n s)
   proper_without_lock n = record {
     on_keys = λ hold k e h. proper.on_keys hold k e (fewer_locks n hold (k, e) h);
@@ -223,7 +223,7 @@ module _ (t : Tree) (s : Session) (proper : IsProperSession t s) where
     alone = λ a b k e at_a at_b. proper.alone a b k e (moved_holds n position h at_n a (k, true) at_a) (moved_holds n position h at_n b (k, e) at_b);
   }
 
--- the object of a shared lock can be held once more
+-- an object with a shared lock can be held once more
 pub shared_free : (t : Tree) (s : Session) → IsProperSession t s → (lock : ℕ) (l : LockHold) → get s.locks lock ≡ Some l → l.exclusive ≡ false → IsFree s l.key false
 shared_free t s session lock l at shared hold exclusive at_hold = (refl, is_shared exclusive at_hold)
   where

@@ -1,22 +1,22 @@
--- What packets leave of the image.
+-- What packets leave untouched in the image.
 use Rattle.std.proofs.Common.{◌≡◌, pos, true, inl, inr, sym, ◌∙◌, subst}
-use Rattle.ados_tree.specs.Tree.{Tree}
-use Rattle.ados_tree.specs.NewBlocks.{KeepsRest}
-use Rattle.ados_tree.proofs.Keeping.{same_keeps}
-use Rattle.ados_packet.specs.declared.packet.Packet.{Packet}
-use Rattle.ados_packet.specs.declared.results.Results.{Results}
-use Rattle.ados_handler.specs.Meaning.{sets_disk_date}
-use Rattle.ados_handler.specs.Handler.{HandlerState}
+use Rattle.ados_model.specs.Tree.{Tree}
+use Rattle.ados_change.specs.NewBlocks.{KeepsRest}
+use Rattle.ados_change.proofs.Keeping.{same_keeps}
+use Rattle.ados_model.specs.declared.packet.Packet.{Packet}
+use Rattle.ados_model.specs.declared.results.Results.{Results}
+use Rattle.ados_model.specs.DiskDate.{sets_disk_date}
+use Rattle.ados_model.specs.Session.{HandlerState}
 use Rattle.ados_handler.specs.Gives.{LeavesImage}
 use Rattle.ados_handler.specs.steps.Methods.{answer_to}
 use Rattle.ados_handler.proofs.Holding.{true_false}
 
 module _ (t : Tree) (old : HandlerState) (packet : Packet) (new : HandlerState) (results : Results) where
-  -- where no byte changes
+  -- no byte changes
   pub leaves_all : new.image ≡ old.image → LeavesImage t old packet new (answer_to packet results)
   leaves_all same = record { keeps = subst (KeepsRest old.image) (sym same) (same_keeps old.image); rest = λ _. same }
 
-  -- where a packet is served that sets the disk date
+  -- a served packet that sets the disk date
   pub leaves_rest : KeepsRest old.image new.image → results.res2 ≡ pos 0 → sets_disk_date t old.session packet ≡ true → LeavesImage t old packet new (answer_to packet results)
   leaves_rest keeps served sets = record {
     keeps = keeps;

@@ -1,4 +1,4 @@
--- Lemmas of the handler: what it holds, how it looks things up, what each packet means, and that sessions stay proper.
+-- Lemmas about the handler: its holds, its look-ups, the meaning of each packet, and proper sessions.
 pub mod Holding
 pub mod Walked
 pub mod Reading

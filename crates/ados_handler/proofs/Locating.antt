@@ -1,15 +1,15 @@
--- A lock more on an object that is not in use.
+-- One more lock on an object that is not in use.
 use Rattle.std.proofs.Common.{◌≡◌, ℕ, List, Bool, false, sym, subst}
 use Rattle.std.specs.Ordering.{nat_cmp}
 use Rattle.std.specs.FinMap.{FinMap, insert}
-use Rattle.ados_tree.specs.Keys.{HasKey}
-use Rattle.ados_handler.specs.declared.holds.LockHold.{LockHold}
-use Rattle.ados_handler.specs.Session.{Session, is_in_use}
+use Rattle.ados_model.specs.Keys.{HasKey}
+use Rattle.ados_model.specs.declared.holds.LockHold.{LockHold}
+use Rattle.ados_model.specs.Session.{Session, is_in_use}
 use Rattle.ados_handler.specs.ProperSession.{IsProperSession}
 use Rattle.ados_handler.specs.Gives.{IsSoundHandler}
 use Rattle.ados_handler.proofs.Holding.{not_in_use, proper_with_lock}
 
--- it leaves the handler sound
+-- the handler is still sound
 pub sound_locked : (image : List ℕ) (session : Session) → IsSoundHandler image session → (number key : ℕ) (exclusive : Bool) → HasKey image key → is_in_use session key exclusive ≡ false
     → (locks : FinMap nat_cmp LockHold) → locks ≡ insert session.locks number (record { key = key; exclusive = exclusive }) → IsSoundHandler image (record session { locks = locks })
 sound_locked image session sound number key exclusive there free locks is = record {

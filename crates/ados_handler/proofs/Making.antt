@@ -1,29 +1,28 @@
--- Packets that make an entry, or find the file that is there, keep tree and session proper.
+-- Packets that make an entry, or find the existing file, keep tree and session proper.
 use Rattle.std.proofs.Common.{◌≡◌, ◌≢◌, ℕ, inl, inr, Bool, true, false, cond, nat_lt, ◌==◌, List, [], ◌∷◌, length, map, Contains, Option, Some, None, Result, Ok, Err, IsSome, is_some, option_map, MatchOption, refl, sym, ap, ◌∙◌, subst, arith}
 use Rattle.std.specs.Prelude.{◌||◌, find}
 use Rattle.std.specs.Result.{result_err}
 use Rattle.std.proofs.lemmas.Bool.{cases_eq, false≢true, true≢false}
 use Rattle.std.proofs.lemmas.Slice.Eq.{bytes_eq-Decides}
-use Rattle.ados_chain.proofs.Lists.{Contains-cases, Contains-nil}
+use Rattle.ados_model.proofs.KeyLists.{Contains-cases, Contains-nil}
 use Rattle.ados_name.specs.declared.Date3.{Date3}
-use Rattle.ados_name.specs.Name.{IsName, upper}
-use Rattle.ados_name.specs.Path.{IsPathText, front, last_name, steps}
-use Rattle.ados_tree.specs.Tree.{Content, Node, Tree, Proper, entries, name_of, size_in}
-use Rattle.ados_tree.specs.Tree.Content.{Directory, File}
-use Rattle.ados_tree.specs.Walk.{child_of, holds_file, is_file, place_in, start_of, walk_steps}
-use Rattle.ados_tree.specs.declared.path_fault.WalkFault.{WalkFault}
-use Rattle.ados_tree.specs.declared.path_fault.WalkFault.TheVariants.{DirectoryNotFound}
-use Rattle.ados_tree.specs.declared.path_fault.PlaceFault.TheVariants as faults
-use Rattle.ados_tree.specs.Change.{listed, made, new_node, rewritten, with_node}
+use Rattle.ados_name.specs.Name.{IsName, upper, front, last_name, steps}
+use Rattle.ados_name.specs.Path.{IsPathText}
+use Rattle.ados_model.specs.Tree.{Content, Node, Tree, Proper, entries, name_of, size_in}
+use Rattle.ados_model.specs.Tree.Content.{Directory, File}
+use Rattle.ados_model.specs.Change.{child_of, holds_file, is_file, place_in, start_of, walk_steps, listed, made, new_node, rewritten, with_node}
+use Rattle.ados_model.specs.declared.dos_error.WalkFault.{WalkFault}
+use Rattle.ados_model.specs.declared.dos_error.WalkFault.TheVariants.{DirectoryNotFound}
+use Rattle.ados_model.specs.declared.dos_error.PlaceFault.TheVariants as faults
 use Rattle.ados_change.specs.Conditions.{CanMake, IsDirectoryKey, IsEmpty, IsNewName}
 use Rattle.ados_change.proofs.Changed.{nodes_here, nodes_other, relisted}
 use Rattle.ados_change.proofs.ProperChanges.{directory_at, dir_not_key, made_is_proper}
-use Rattle.ados_packet.specs.declared.dos_error.DosError.TheVariants.{DeviceNotMounted, InvalidLock, ObjectExists, ObjectInUse, ObjectWrongType}
-use Rattle.ados_packet.specs.declared.packet.Packet.TheVariants.{CreateDir, FindUpdate, FindOutput}
-use Rattle.ados_handler.specs.Session.{Session, is_in_use, is_lock}
-use Rattle.ados_handler.specs.Objects.{lock_key, place_error, placed, spot, spot_directory, spot_name, standing}
-use Rattle.ados_handler.specs.Refusals.{refuse, refusals, is_some_and, is_directory_there}
-use Rattle.ados_handler.specs.Success.{After, GivesHandle, GivesLock, IsNewKey, MakesFile}
+use Rattle.ados_model.specs.declared.dos_error.DosError.TheVariants.{DeviceNotMounted, InvalidLock, ObjectExists, ObjectInUse, ObjectWrongType}
+use Rattle.ados_model.specs.declared.packet.Packet.TheVariants.{CreateDir, FindUpdate, FindOutput}
+use Rattle.ados_model.specs.Session.{Session, is_in_use, is_lock}
+use Rattle.ados_model.specs.Objects.{lock_key, place_error, placed, spot, spot_directory, spot_name, standing}
+use Rattle.ados_model.specs.Refusals.{refuse, refusals, is_some_and, is_directory_there}
+use Rattle.ados_model.specs.Success.{After, GivesHandle, GivesLock, IsNewKey, MakesFile}
 use Rattle.ados_handler.specs.ProperSession.{HoldNumber, hold_at, IsProperSession}
 use Rattle.ados_handler.specs.Keeps.{KeepsProper}
 use Rattle.ados_handler.proofs.Holding.{IsFree, not_in_use, not_held, proper_with_handle, proper_with_lock}
@@ -58,7 +57,7 @@ module _ (t : Tree) (path : List ℕ) (valid : IsPathText path) where
   from_walk (Ok key) there p e = in_place key (there key refl) p e
   from_walk (Err fault) there p e = absurd (cc e)
 
--- the place of a path that was not refused
+-- the place of a path that is not refused
 pub spot_is : (t : Tree) → Proper t → (s : Session) → IsProperSession t s → (lock : ℕ) (path : List ℕ) → IsPathText path → is_lock s lock ≡ true → option_map place_error (result_err (placed t s lock path)) ≡ None → IsSpot t (spot t s lock path)
 spot_is t proper s session lock path valid held none =
     from_walk t path valid (walk_steps t (start_of t (lock_key t s lock) path) (steps (front path)) DirectoryNotFound)
@@ -76,7 +75,7 @@ is_directory t key = go (t.nodes key)
         by_content (Directory keys) f = (keys, refl)
         by_content (File bytes) f = absurd (true≢false f)
 
--- what is found nowhere passes nowhere
+-- if `find` finds nothing, no element passes
 find_none : (p : ℕ → Bool) (xs : List ℕ) (x : ℕ) → find p xs ≡ None → Contains xs x → p x ≡ true → ⊥
 find_none p [] x e c h = Contains-nil x c
 find_none p (y ∷ ys) x e c h = go (p y) refl e (λ f m. find_none p ys x f m h)
@@ -90,7 +89,7 @@ no_child_new t dir name e k c same = find_none _ (entries t dir) k e c ((bytes_e
 
 -- ---- a new entry
 
--- a directory that gets another list is one still, and each other object is as it was
+-- a directory with another list is still a directory, and each other object is unchanged
 pub carried_listed : (t : Tree) (moment : Date3) (dir : ℕ) (keys : List ℕ) → IsDirectoryKey t dir → (k : ℕ) → Carried (t.nodes k) ((listed moment dir keys t).nodes k)
 carried_listed t moment dir keys is = carried_changed t dir (relisted moment keys) (λ a at.
     let d = directory_at t dir is in
@@ -135,7 +134,7 @@ module _ (t : Tree) (s : Session) (proper : Proper t) (session : IsProperSession
   holds_kept : IsProperSession grown_tree s
   holds_kept = carried_session t grown_tree s session (λ hold k e h. made_carried k)
 
-  -- nothing is held that was not there
+  -- the new key is not held
   unheld : (exclusive : Bool) → IsFree s key exclusive
   unheld exclusive hold e h = absurd (false≢true (sym (ap is_some fresh.0.no_node) ∙ session.on_keys hold key e h))
 

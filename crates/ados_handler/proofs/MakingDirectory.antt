@@ -2,32 +2,32 @@
 use Rattle.std.proofs.Common.{◌≡◌, ℕ, pos, true, false, List, [], ◌∷◌, Option, None, Ok, refl, sym, ap, ◌∙◌}
 use Rattle.std.specs.Prelude.{is_some}
 use Rattle.ados_name.specs.declared.Date3.{Date3}
-use Rattle.ados_tree.specs.Tree.{Tree, Proper}
-use Rattle.ados_tree.specs.Tree.Content.{Directory}
-use Rattle.ados_tree.specs.Stands.{Stands}
-use Rattle.ados_tree.specs.Walk.{child_of}
-use Rattle.ados_tree.specs.Change.{made}
+use Rattle.ados_model.specs.Tree.{Tree, Proper}
+use Rattle.ados_model.specs.Tree.Content.{Directory}
+use Rattle.ados_model.specs.Stands.{Stands}
+use Rattle.ados_model.specs.Change.{child_of, made}
 use Rattle.ados_change.specs.Conditions.{CanMake}
-use Rattle.ados_packet.specs.declared.dos_error.DosError.{DosError}
-use Rattle.ados_packet.specs.declared.dos_error.DosError.TheVariants.{DeviceNotMounted, DiskFull, ObjectExists}
-use Rattle.ados_packet.specs.declared.packet.Packet.TheVariants.{CreateDir}
-use Rattle.ados_packet.specs.declared.answer.Body.TheVariants.{Empty}
-use Rattle.ados_handler.specs.Session.{Session, IsFreeNumber, with_lock}
+use Rattle.ados_model.specs.declared.dos_error.DosError.{DosError}
+use Rattle.ados_model.specs.declared.dos_error.DosError.TheVariants.{DeviceNotMounted, DiskFull, ObjectExists}
+use Rattle.ados_model.specs.declared.packet.Packet.TheVariants.{CreateDir}
+use Rattle.ados_model.specs.declared.answer.Body.TheVariants.{Empty}
+use Rattle.ados_model.specs.Session.{Session, IsFreeNumber, with_lock}
 use Rattle.ados_handler.specs.ProperSession.{IsProperSession}
-use Rattle.ados_handler.specs.Objects.{lacks, placed_at, spot}
-use Rattle.ados_handler.specs.Refusals.{first_refusal, refusal, refusals, refuse}
-use Rattle.ados_handler.specs.Success.{GivesLock, IsNewKey, after}
+use Rattle.ados_model.specs.Objects.{lacks, spot}
+use Rattle.ados_model.specs.Resolved.{placed_at}
+use Rattle.ados_model.specs.Refusals.{first_refusal, refusal, refusals, refuse}
+use Rattle.ados_model.specs.Success.{GivesLock, IsNewKey, after}
 use Rattle.ados_handler.specs.Gives.{IsSoundHandler}
 use Rattle.ados_handler.specs.steps.Methods.{MethodMeans}
 use Rattle.ados_handler.proofs.Making.{made_lock}
 use Rattle.ados_handler.proofs.Meant.{counted, served_means}
 use Rattle.ados_handler.proofs.Placed.{passed, placed_on}
 
--- the refusals that look at the place
+-- the refusals that depend on the place
 abbrev place_row : Tree → ℕ × List ℕ → List (Option DosError)
 place_row t there = refuse ObjectExists (is_some (child_of t there.0 there.1)) ∷ refuse DiskFull (lacks t 1) ∷ []
 
--- no refusal stands against a new directory there
+-- no refusal of a new directory there holds
 pub create_dir_passes : (t : Tree) (s : Session) (there : ℕ × List ℕ) (lock : ℕ) (path : List ℕ) → s.died ≡ false → placed_at t s lock path ≡ Ok there → is_some (child_of t there.0 there.1) ≡ false → lacks t 1 ≡ false
     → refusal t s (CreateDir lock path) ≡ None
 create_dir_passes t s there lock path alive place none room =

@@ -5,11 +5,11 @@ use Rattle.std.specs.Ordering.{nat_cmp}
 use Rattle.std.specs.FinMap as numbered
 use Rattle.slab.specs.Slab.{Slab, get, with_value}
 use Rattle.slab.proofs.SlabLemmas.{Updates-with_value}
-use Rattle.ados_handler.specs.declared.holds.HandleHold.{HandleHold}
+use Rattle.ados_model.specs.declared.holds.HandleHold.{HandleHold}
 use Rattle.ados_handler.specs.steps.Table.{numbered_from_one}
 use Rattle.ados_handler.proofs.Tables.{get_suc, update_inserts}
 
--- the handles with what is found under the number at this position
+-- the handles with the one under this number, if any, moved to this position
 abbrev moved_in : ℕ → ℕ → numbered.FinMap nat_cmp HandleHold → Option HandleHold → numbered.FinMap nat_cmp HandleHold
 moved_in number position held found = option_map_or (λ hold. numbered.insert held number (record hold { position = position })) found held
 

@@ -1,35 +1,33 @@
--- RENAME_OBJECT: its refusals as the code finds them, and what it means where there is none.
+-- RENAME_OBJECT: the refusals in the order of the code, and its meaning if none holds.
 use Rattle.std.proofs.Common.{◌≡◌, ◌≢◌, ℕ, pos, Bool, true, false, cond, not, nat_eq, ◌==◌, List, [], ◌∷◌, Option, Some, None, Result, Ok, Err, MatchOption, option_map, inl, inr, refl, sym, ap, ◌∙◌, subst, eqb-true}
 use Rattle.std.specs.Prelude.{◌&&◌, IsTrue}
 use Rattle.std.specs.Result.{result_err, result_unwrap_or}
 use Rattle.std.proofs.lemmas.Bool.{true≢false}
 use Rattle.ados_name.specs.declared.Date3.{Date3}
 use Rattle.ados_name.specs.Name.{IsName}
-use Rattle.ados_tree.specs.Tree.{Node, Tree, parent_of, root}
-use Rattle.ados_tree.specs.Walk.{child_of}
-use Rattle.ados_tree.specs.Keys.{HasDirectory, HasKey}
-use Rattle.ados_tree.specs.Stands.{Stands}
-use Rattle.ados_tree.specs.Change.{renamed}
-use Rattle.ados_tree.specs.declared.path_fault.WalkFault.{WalkFault}
-use Rattle.ados_tree.specs.declared.path_fault.PlaceFault.{PlaceFault}
-use Rattle.ados_tree.proofs.Nodes.{root_or_parent, some_in}
+use Rattle.ados_model.specs.Tree.{Node, Tree, parent_of, root}
+use Rattle.ados_model.specs.Change.{child_of, renamed}
+use Rattle.ados_model.specs.Keys.{HasDirectory, HasKey}
+use Rattle.ados_model.specs.Stands.{Stands}
+use Rattle.ados_model.specs.declared.dos_error.WalkFault.{WalkFault}
+use Rattle.ados_model.specs.declared.dos_error.PlaceFault.{PlaceFault}
+use Rattle.ados_model.proofs.Nodes.{root_or_parent, some_in}
 use Rattle.ados_change.specs.Conditions.{CanRename}
 use Rattle.ados_volume.proofs.Looking.{is_child}
-use Rattle.ados_packet.specs.declared.dos_error.DosError.{DosError}
-use Rattle.ados_packet.specs.declared.dos_error.DosError.TheVariants.{DeviceNotMounted, InvalidLock, NoFreeStore, ObjectExists, ObjectInUse, ObjectWrongType}
-use Rattle.ados_packet.specs.Numbers.{error_number}
-use Rattle.ados_packet.specs.Packet.{dos_true, failure_of, handed_back}
-use Rattle.ados_packet.specs.declared.packet.Packet.{Packet}
-use Rattle.ados_packet.specs.declared.packet.Packet.TheVariants.{RenameObject}
-use Rattle.ados_packet.specs.declared.results.Results.{Results}
-use Rattle.ados_packet.specs.declared.answer.Body.TheVariants.{Empty}
-use Rattle.ados_handler.specs.Session.{Session, is_lock}
-use Rattle.ados_handler.specs.Objects.{found, object, place_error, place_result, placed, spot, walk_error, walk_result}
-use Rattle.ados_handler.specs.Refusals.{first_refusal, is_some_and, refusal, refusals, refuse}
+use Rattle.ados_model.specs.declared.dos_error.DosError.{DosError}
+use Rattle.ados_model.specs.declared.dos_error.DosError.TheVariants.{DeviceNotMounted, InvalidLock, NoFreeStore, ObjectExists, ObjectInUse, ObjectWrongType}
+use Rattle.ados_model.specs.Packet.{error_number, dos_true, failure_of, handed_back}
+use Rattle.ados_model.specs.declared.packet.Packet.{Packet}
+use Rattle.ados_model.specs.declared.packet.Packet.TheVariants.{RenameObject}
+use Rattle.ados_model.specs.declared.results.Results.{Results}
+use Rattle.ados_model.specs.declared.answer.Body.TheVariants.{Empty}
+use Rattle.ados_model.specs.Session.{Session, is_lock, HandlerState}
+use Rattle.ados_model.specs.Objects.{found, object, place_error, placed, spot, walk_error}
+use Rattle.ados_model.specs.Resolved.{place_result, walk_result}
+use Rattle.ados_model.specs.Refusals.{first_refusal, is_some_and, refusal, refusals, refuse}
 use Rattle.ados_handler.specs.steps.Moves.{both, move_refusal, move_refusals, source_and_place}
-use Rattle.ados_handler.specs.Success.{after}
-use Rattle.ados_handler.specs.Meaning.{IsRefused, ServedOrNoMemory, makes_hold}
-use Rattle.ados_handler.specs.Handler.{HandlerState}
+use Rattle.ados_model.specs.Success.{after}
+use Rattle.ados_model.specs.Meaning.{IsRefused, ServedOrNoMemory, makes_hold}
 use Rattle.ados_handler.specs.steps.Methods.{MethodGives, MethodMeans, answer_to}
 use Rattle.ados_handler.proofs.Climbing.{directory_is_key}
 use Rattle.ados_handler.proofs.Leaving.{leaves_all}
@@ -38,7 +36,7 @@ use Rattle.ados_handler.proofs.Reading.{from_not, none_refuses, not_refused}
 use Rattle.ados_handler.proofs.Telling.{not_root}
 use Rattle.ados_handler.proofs.Under.{under_is_told}
 
--- a packet that is refused leaves the handler as it was
+-- a refused packet leaves the handler unchanged
 pub refused_gives : (old new : HandlerState) (packet : Packet) (now : Date3) (results : Results) (t : Tree) (error : DosError) → Stands old.image t → new ≡ old → refusal t old.session packet ≡ Some error
     → results ≡ record { res1 = failure_of packet; res2 = pos (error_number error); body = handed_back packet } → MethodGives old packet now new results
 refused_gives old new packet now results t error stood same is told = record {
@@ -52,7 +50,7 @@ refused_gives old new packet now results t error stood same is told = record {
   validated = ap (λ (h : HandlerState). h.was_validated) same;
 }
 
--- so does one for whose lock or handle there is no memory
+-- so does a packet without memory for its lock or handle
 pub no_memory_gives : (old new : HandlerState) (packet : Packet) (now : Date3) (results : Results) (t : Tree) → Stands old.image t → new ≡ old → refusal t old.session packet ≡ None → IsTrue (makes_hold t old.session packet)
     → results ≡ record { res1 = failure_of packet; res2 = pos (error_number NoFreeStore); body = handed_back packet } → MethodGives old packet now new results
 no_memory_gives old new packet now results t stood same none makes told = record {
@@ -73,7 +71,7 @@ module _ (t : Tree) (s : Session) (from_lock : ℕ) (from : List ℕ) (to_lock :
   living : refusal t s packet ≡ first_refusal (refusals t s packet)
   living = ap (λ (d : Bool). first_refusal (refuse DeviceNotMounted d ∷ refusals t s packet)) alive
 
-  -- what the code refuses with at the locks and paths
+  -- the refusals by the locks and paths
   pub source_refused : (error : DosError) → source_and_place t s from_lock from to_lock to ≡ Err error → refusal t s packet ≡ Some error
   source_refused error e = living ∙ go (is_lock s from_lock) (is_lock s to_lock) (found t s from_lock from) (placed t s to_lock to) e
     where
@@ -100,11 +98,11 @@ module _ (t : Tree) (s : Session) (from_lock : ℕ) (from : List ℕ) (to_lock :
         go true true (Ok k) (Ok q) e =
             let pair : ◌≡◌ {A = ℕ × (ℕ × List ℕ)} (k, q) (key, there) = cc e in (λ i. move_refusal t s (pair i).0 (pair i).1.0 (pair i).1.1, λ i. (pair i).0, λ i. (pair i).1)
 
-    -- and at the object and the place
+    -- the refusals by the object and the place
     pub move_refused : (error : DosError) → move_refusal t s key there.0 there.1 ≡ Some error → refusal t s packet ≡ Some error
     move_refused error e = found_refusal.0 ∙ e
 
-    -- where no refusal stands against the move it is made
+    -- the move is made if no refusal holds
     pub rename_object_means : (now : Date3) (new : Session) → move_refusal t s key there.0 there.1 ≡ None → new ≡ s
         → MethodMeans t s packet now (renamed now key there.0 there.1 t) new (done Empty)
     rename_object_means now new none same =
@@ -112,7 +110,7 @@ module _ (t : Tree) (s : Session) (from_lock : ℕ) (from : List ℕ) (to_lock :
         served_means t (renamed now key there.0 there.1 t) s new packet now (done Empty) (f.0 ∙ none)
         (record { success = λ i. after (renamed now (sym f.1 i) (sym f.2 i).0 (sym f.2 i).1 t) (same i) dos_true Empty; action = refl; res2 = refl })
 
--- an object that nothing stands against may move
+-- an object that no refusal excludes can move
 pub can_rename : (image : List ℕ) (t : Tree) → Stands image t → (s : Session) (key dir : ℕ) (name : List ℕ) → HasKey image key → HasDirectory image dir → IsName name → move_refusal t s key dir name ≡ None → CanRename t key dir name
 can_rename image t stands s key dir name there directory valid none =
     let no = none_refuses (move_refusals t s key dir name) none in

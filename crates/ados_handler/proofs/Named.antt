@@ -1,4 +1,4 @@
--- Which texts of packets are names and comments.
+-- The texts of packets that are names or comments.
 use Rattle.std.proofs.Common.{◌≡◌, ◌≢◌, ℕ, zero, suc, ◌+◌, ◌-◌, ◌<◌, ◌≤◌, ◌==◌, Bool, true, false, cond, nat_lt, not, List, length, drop, get_or, All, Some, None, refl, sym, ap, subst, ◌∙◌, arith, get_or-drop, length-drop, ltb-false}
 use Rattle.std.specs.Prelude.{is_none}
 use Rattle.std.specs.List.{list_any, suffix_len}
@@ -7,10 +7,10 @@ use Rattle.std.proofs.lemmas.List.Elements.{All-drop, All-from_get_or, All-get_o
 use Rattle.std.proofs.lemmas.List.Sums.{suffix_len_is}
 use Rattle.std.proofs.Common.{◌⊎◌, inl, inr}
 use Rattle.std.proofs.lemmas.Bool.{cases_eq, eq-eqb, false_from_ne_true, true≢false, leb-true}
-use Rattle.ados_name.specs.Name.{is_separator, IsComment, IsName, IsNameByte}
-use Rattle.ados_name.specs.declared.name.NameFault.TheVariants.{Empty, TooLong, Separator}
-use Rattle.ados_name.specs.Path.{IsPathText, last_name}
-use Rattle.ados_handler.specs.Refusals.{is_name, is_comment}
+use Rattle.ados_name.specs.Name.{is_separator, IsComment, IsName, IsNameByte, last_name}
+use Rattle.ados_name.specs.declared.NameFault.TheVariants.{Empty, TooLong, Separator}
+use Rattle.ados_name.specs.Path.{IsPathText}
+use Rattle.ados_model.specs.Refusals.{is_name, is_comment}
 
 name_byte : (c : ℕ) → c < 256 → is_separator c ≡ false → IsNameByte c
 name_byte c byte plain = record {
@@ -19,7 +19,7 @@ name_byte c byte plain = record {
   no_colon = λ e. true≢false (subst (λ x. is_separator x ≡ false) e plain);
 }
 
--- 1 to 30 bytes with no separator are a name
+-- 1 to 30 bytes without a separator are a name
 pub plain_name : (text : List ℕ) → (length text == 0) ≡ false → nat_lt 30 (length text) ≡ false → All (λ c. c < 256) text → list_any is_separator text ≡ false → IsName text
 plain_name text some short bytes plain = record {
   not_empty = let nonzero : length text ≢ 0 = λ e. true≢false (sym (eq-eqb (length text) 0 e) ∙ some) in omega (arith, nonzero);
@@ -34,7 +34,7 @@ no_fault true b c h = absurd (true≢false (sym h))
 no_fault false true c h = absurd (true≢false (sym h))
 no_fault false false true h = absurd (true≢false (sym h))
 
--- a text that is not refused as a name is one
+-- a text that is not refused as a name is a name
 pub text_is_name : (text : List ℕ) → IsPathText text → is_name text ≡ true → IsName text
 text_is_name text valid h =
     let no = no_fault (length text == 0) (nat_lt 30 (length text)) (list_any is_separator text) h in
@@ -45,7 +45,7 @@ text_is_comment text valid h = record { short = leb-true (length text) 79 h; byt
 
 -- ---- the last name of a path
 
--- from a place on all elements pass, and the one before it does not
+-- all elements from a position pass, and the one before it does not
 record LastPlace (p : ℕ → Bool) (xs : List ℕ) : Type 0 where
   place : ℕ
   within : place ≤ length xs

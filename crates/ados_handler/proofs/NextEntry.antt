@@ -8,23 +8,22 @@ use Rattle.ados_name.specs.declared.Date3.{Date3}
 use Rattle.ados_chain.specs.Look.{first_left}
 use Rattle.ados_chain.specs.declared.read.Next.TheVariants.{Entry}
 use Rattle.ados_chain.proofs.Order.{first-entry}
-use Rattle.ados_tree.specs.Tree.{Node, Tree, root}
-use Rattle.ados_tree.specs.Walk.{is_file}
-use Rattle.ados_tree.specs.Change.{entries_after}
-use Rattle.ados_volume.specs.Examined.{file_info}
-use Rattle.ados_packet.specs.declared.dos_error.DosError.TheVariants.{DeviceNotMounted, InvalidLock, NoMoreEntries, ObjectNotFound, ObjectWrongType}
-use Rattle.ados_packet.specs.declared.info.FileInfo.{FileInfo}
-use Rattle.ados_packet.specs.declared.packet.Packet.TheVariants.{ExamineNext}
-use Rattle.ados_packet.specs.declared.results.Results.{Results}
-use Rattle.ados_packet.specs.declared.answer.Body.TheVariants as body
-use Rattle.ados_handler.specs.declared.holds.LockHold.{LockHold}
-use Rattle.ados_handler.specs.Session.{Session, is_lock}
-use Rattle.ados_handler.specs.Objects.{lock_key, lock_object}
-use Rattle.ados_handler.specs.Refusals.{first_refusal, is_empty, is_some_and, refusal, refuse}
+use Rattle.ados_model.specs.Tree.{Node, Tree, root}
+use Rattle.ados_model.specs.Change.{is_file, entries_after}
+use Rattle.ados_model.specs.Objects.{file_info, lock_key}
+use Rattle.ados_model.specs.declared.dos_error.DosError.TheVariants.{DeviceNotMounted, InvalidLock, NoMoreEntries, ObjectNotFound, ObjectWrongType}
+use Rattle.ados_model.specs.declared.answer.FileInfo.{FileInfo}
+use Rattle.ados_model.specs.declared.packet.Packet.TheVariants.{ExamineNext}
+use Rattle.ados_model.specs.declared.results.Results.{Results}
+use Rattle.ados_model.specs.declared.answer.Body.TheVariants as body
+use Rattle.ados_model.specs.declared.holds.LockHold.{LockHold}
+use Rattle.ados_model.specs.Session.{Session, is_lock}
+use Rattle.ados_model.specs.Resolved.{lock_object}
+use Rattle.ados_model.specs.Refusals.{first_refusal, is_empty, is_some_and, refusal, refuse}
 use Rattle.ados_handler.specs.steps.Methods.{MethodMeans}
 use Rattle.ados_handler.proofs.Meant.{done, served_means}
 
--- a lock that has an object is held, and stands for it
+-- a lock with an object is held, and is on that object
 lock_on : (t : Tree) (s : Session) (lock key : ℕ) → lock_object t s lock ≡ Some key → (is_lock s lock ≡ true) × (lock_key t s lock ≡ key)
 lock_on t s lock key = go (lock == 0) (get s.locks lock)
   where
@@ -33,7 +32,7 @@ lock_on t s lock key = go (lock == 0) (get s.locks lock)
     go false None e = absurd (none-some key e)
     go false (Some l) e = (refl, cc e)
 
--- EXAMINE_NEXT by a lock on a directory, of a handler that has not died
+-- EXAMINE_NEXT with a lock on a directory, for a living handler
 module _ (t : Tree) (s : Session) (lock dir key : ℕ) (alive : s.died ≡ false) (is : lock_object t s lock ≡ Some dir) (directory : is_file t dir ≡ false) where
   pub next_means : (next : ℕ) (node : Node) (info : FileInfo) (now : Date3) (results : Results) → first_left (entries_after t dir key) ≡ Entry next → t.nodes next ≡ Some node
       → info ≡ file_info t.format next node → results ≡ done (body.Entry info) → MethodMeans t s (ExamineNext lock key) now t s results

@@ -1,35 +1,35 @@
--- What a packet that opens a file gives, and FINDINPUT.
+-- The results of a packet that opens a file; and FINDINPUT.
 use Rattle.std.proofs.Common.{◌≡◌, ℕ, pos, Bool, true, false, List, ◌∷◌, Option, Some, None, IsSome, Ok, MatchOption, ◌⊎◌, inl, inr, refl, sym, ap, ◌∙◌, subst}
 use Rattle.std.specs.Prelude.{IsTrue}
 use Rattle.std.specs.Ordering.{nat_cmp}
 use Rattle.std.specs.FinMap.{FinMap, insert}
 use Rattle.ados_name.specs.declared.Date3.{Date3}
-use Rattle.ados_tree.specs.Tree.{Tree}
-use Rattle.ados_tree.specs.Stands.{Stands}
-use Rattle.ados_tree.specs.Walk.{is_file}
-use Rattle.ados_packet.specs.declared.dos_error.DosError.{DosError}
-use Rattle.ados_packet.specs.declared.dos_error.DosError.TheVariants.{DeviceNotMounted, NoFreeStore}
-use Rattle.ados_packet.specs.Numbers.{error_number}
-use Rattle.ados_packet.specs.Packet.{dos_false, failure_of, handed_back}
-use Rattle.ados_packet.specs.declared.packet.Packet.{Packet}
-use Rattle.ados_packet.specs.declared.packet.Packet.TheVariants.{FindInput}
-use Rattle.ados_packet.specs.declared.results.Results.{Results}
-use Rattle.ados_packet.specs.declared.answer.Body.TheVariants.{Empty}
-use Rattle.ados_handler.specs.declared.holds.HandleHold.{HandleHold}
-use Rattle.ados_handler.specs.Session.{Session, IsFreeNumber, is_in_use}
-use Rattle.ados_handler.specs.Objects.{object, walked}
-use Rattle.ados_handler.specs.Refusals.{first_refusal, refusal, refuse, refusals}
-use Rattle.ados_handler.specs.Success.{After, after, GivesHandle, Success}
-use Rattle.ados_handler.specs.Meaning.{IsRefused, ServedOrNoMemory, makes_hold, sets_disk_date}
+use Rattle.ados_model.specs.Tree.{Tree}
+use Rattle.ados_model.specs.Stands.{Stands}
+use Rattle.ados_model.specs.Change.{is_file}
+use Rattle.ados_model.specs.declared.dos_error.DosError.{DosError}
+use Rattle.ados_model.specs.declared.dos_error.DosError.TheVariants.{DeviceNotMounted, NoFreeStore}
+use Rattle.ados_model.specs.Packet.{error_number, dos_false, failure_of, handed_back}
+use Rattle.ados_model.specs.declared.packet.Packet.{Packet}
+use Rattle.ados_model.specs.declared.packet.Packet.TheVariants.{FindInput}
+use Rattle.ados_model.specs.declared.results.Results.{Results}
+use Rattle.ados_model.specs.declared.answer.Body.TheVariants.{Empty}
+use Rattle.ados_model.specs.declared.holds.HandleHold.{HandleHold}
+use Rattle.ados_model.specs.Session.{Session, IsFreeNumber, is_in_use, HandlerState}
+use Rattle.ados_model.specs.Objects.{object}
+use Rattle.ados_model.specs.Resolved.{walked}
+use Rattle.ados_model.specs.Refusals.{first_refusal, refusal, refuse, refusals}
+use Rattle.ados_model.specs.Success.{After, after, GivesHandle, Success}
+use Rattle.ados_model.specs.Meaning.{IsRefused, ServedOrNoMemory, makes_hold}
+use Rattle.ados_model.specs.DiskDate.{sets_disk_date}
 use Rattle.ados_handler.specs.ProperSession.{IsProperSession}
-use Rattle.ados_handler.specs.Handler.{HandlerState}
 use Rattle.ados_handler.specs.steps.Methods.{MethodGives, MethodMeans, answer_to}
 use Rattle.ados_handler.specs.steps.Opening.{BringsHandle, IsOpened, IsUnopened, Opens, open_refusals}
 use Rattle.ados_handler.proofs.Holding.{not_in_use, proper_with_handle}
 use Rattle.ados_handler.proofs.Leaving.{leaves_all}
 use Rattle.ados_handler.proofs.Meant.{walked_on}
 
--- ---- what a packet that opens a file means
+-- ---- the meaning of a packet that opens a file
 
 module _ (packet : Packet) (now : Date3) (rows : Tree → List (Option DosError)) (success : Tree → After → Type 0) (old new : HandlerState) (results : Results) where
   -- the packet is this opening
@@ -78,7 +78,7 @@ module _ (packet : Packet) (now : Date3) (rows : Tree → List (Option DosError)
         validated = d.validated;
       }
 
--- an opening that no refusal stands against, and that is done
+-- a completed opening that no refusal excludes
 pub done_opens : (rows : Tree → List (Option DosError)) (gives : Tree → After → Type 0) (old new : HandlerState) (results : Results) (t : Tree) → Stands old.image t → first_refusal (rows t) ≡ None
     → IsOpened (gives t) old new results → Opens rows gives old new results
 done_opens rows gives old new results t stood none done = record {
@@ -119,7 +119,7 @@ module _ (key : ℕ) (exclusive : Bool) (s : Session) (ready held : FinMap nat_c
   pub gives_handle : (u : Tree) → GivesHandle u s key exclusive (after u (record s { handles = held }) results.res1 results.body)
   gives_handle u = (a.number, subst (λ (m : FinMap nat_cmp HandleHold). IsFreeNumber m a.number) same a.free, λ i. after u (record s { handles = added i }) (a.told i).res1 (a.told i).body)
 
-  -- the holds stay proper where nothing stands against the handle
+  -- the holds stay proper if no refusal of the handle holds
   pub proper_opened : (u : Tree) → IsProperSession u s → IsSome (u.nodes key) → is_file u key ≡ true → is_in_use s key exclusive ≡ false → IsProperSession u (record s { handles = held })
   proper_opened u holds there file free =
       subst (IsProperSession u) (λ i. record s { handles = sym added i }) (proper_with_handle u s holds a.number key exclusive there file (not_in_use s key exclusive free))

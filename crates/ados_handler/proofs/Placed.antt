@@ -1,20 +1,21 @@
--- Places that packets name, and what a refused packet means.
+-- The places of packets, and the meaning of a refused packet.
 use Rattle.std.proofs.Common.{◌≡◌, ℕ, Bool, true, false, cond, not, List, [], ◌∷◌, Option, Some, MatchOption, Result, Ok, Err, option_map, refl, sym, ap, ◌∙◌, subst}
 use Rattle.std.specs.Result.{result_err, result_unwrap_or}
 use Rattle.ados_name.specs.declared.Date3.{Date3}
-use Rattle.ados_tree.specs.Tree.{Tree}
-use Rattle.ados_tree.specs.declared.path_fault.PlaceFault.{PlaceFault}
-use Rattle.ados_packet.specs.declared.dos_error.DosError.{DosError}
-use Rattle.ados_packet.specs.declared.dos_error.DosError.TheVariants.{DeviceNotMounted, InvalidLock}
-use Rattle.ados_packet.specs.declared.packet.Packet.{Packet}
-use Rattle.ados_packet.specs.declared.results.Results.{Results}
-use Rattle.ados_handler.specs.Session.{Session, is_lock}
-use Rattle.ados_handler.specs.Objects.{place_error, place_result, placed, placed_at, spot}
-use Rattle.ados_handler.specs.Refusals.{first_refusal, refusal, refusals, refuse}
-use Rattle.ados_handler.specs.Meaning.{IsRefused, ServedOrNoMemory}
+use Rattle.ados_model.specs.Tree.{Tree}
+use Rattle.ados_model.specs.declared.dos_error.PlaceFault.{PlaceFault}
+use Rattle.ados_model.specs.declared.dos_error.DosError.{DosError}
+use Rattle.ados_model.specs.declared.dos_error.DosError.TheVariants.{DeviceNotMounted, InvalidLock}
+use Rattle.ados_model.specs.declared.packet.Packet.{Packet}
+use Rattle.ados_model.specs.declared.results.Results.{Results}
+use Rattle.ados_model.specs.Session.{Session, is_lock}
+use Rattle.ados_model.specs.Objects.{place_error, placed, spot}
+use Rattle.ados_model.specs.Resolved.{place_result, placed_at}
+use Rattle.ados_model.specs.Refusals.{first_refusal, refusal, refusals, refuse}
+use Rattle.ados_model.specs.Meaning.{IsRefused, ServedOrNoMemory}
 use Rattle.ados_handler.specs.steps.Methods.{MethodMeans, answer_to}
 
--- a path that names a place is no refusal
+-- a path with a place is not refused
 pub placed_on : (t : Tree) (s : Session) (lock : ℕ) (path : List ℕ) (there : ℕ × List ℕ) (more : List (Option DosError)) → placed_at t s lock path ≡ Ok there
     → (first_refusal (refuse InvalidLock (not (is_lock s lock)) ∷ option_map place_error (result_err (placed t s lock path)) ∷ more) ≡ first_refusal more) × (spot t s lock path ≡ there)
 placed_on t s lock path there more = go (is_lock s lock) (placed t s lock path)
@@ -25,7 +26,7 @@ placed_on t s lock path there more = go (is_lock s lock) (placed t s lock path)
     go true (Err fault) e = absurd (cc e)
     go false r e = absurd (cc e)
 
--- and one that names none is
+-- a path without one is refused
 pub place_refused : (t : Tree) (s : Session) (packet : Packet) (lock : ℕ) (path : List ℕ) (error : DosError) (rest : List (Option DosError))
     → refusals t s packet ≡ refuse InvalidLock (not (is_lock s lock)) ∷ option_map place_error (result_err (placed t s lock path)) ∷ rest
     → s.died ≡ false → placed_at t s lock path ≡ Err error → refusal t s packet ≡ Some error
@@ -38,11 +39,11 @@ place_refused t s packet lock path error rest row alive e =
     go true (Err fault) e = let is : place_error fault ≡ error = cc e in ap Some is
     go false r e = let is : InvalidLock ≡ error = cc e in ap Some is
 
--- a refusal that does not hold is passed over
+-- a refusal that does not hold is skipped
 pub passed : (code : DosError) (test : Bool) (more : List (Option DosError)) → test ≡ false → first_refusal (refuse code test ∷ more) ≡ first_refusal more
 passed code test more e = ap (λ (b : Bool). first_refusal (refuse code b ∷ more)) e
 
--- a packet that a refusal stands against is refused
+-- a packet with a refusal that holds is refused
 pub refused_means : (t : Tree) (s new : Session) (packet : Packet) (now : Date3) (results : Results) (code : DosError) → refusal t s packet ≡ Some code → IsRefused t s packet code t new (answer_to packet results) → MethodMeans t s packet now t new results
 refused_means t s new packet now results code some refused =
     subst (λ (o : Option DosError). MatchOption o (ServedOrNoMemory t s packet now t new (answer_to packet results)) (λ code. IsRefused t s packet code t new (answer_to packet results))) (sym some) refused

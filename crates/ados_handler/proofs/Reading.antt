@@ -7,40 +7,40 @@ use Rattle.std.specs.FinMap.{get, insert}
 use Rattle.std.proofs.lemmas.Option.{none-some}
 use Rattle.std.proofs.lemmas.Bool.{leb-true}
 use Rattle.ados_name.specs.declared.Date3.{Date3}
-use Rattle.ados_tree.specs.Tree.{Content, Tree, Proper, root, bytes_in, bytes_of, content_at, parent_of, size_in, size_of}
-use Rattle.ados_tree.specs.Tree.Content.{Directory, File}
-use Rattle.ados_tree.specs.Walk.{is_file}
-use Rattle.ados_packet.specs.declared.dos_error.DosError.{DosError}
-use Rattle.ados_packet.specs.declared.dos_error.DosError.TheVariants.{DeviceNotMounted, InvalidLock, NoFreeStore, ObjectInUse, ObjectWrongType, SeekError}
-use Rattle.ados_packet.specs.declared.packet.Packet.{Packet}
-use Rattle.ados_packet.specs.declared.packet.Packet.TheVariants.{Die, LocateObject, FreeLock, CopyDir, Parent, Read, FindInput, End, Seek}
-use Rattle.ados_packet.specs.declared.answer.Body.{Body}
-use Rattle.ados_packet.specs.declared.answer.Body.TheVariants.{Empty}
-use Rattle.ados_handler.specs.Session.{Session, is_lock, is_held_exclusively, without_lock, at_position, handle_key, handle_position}
-use Rattle.ados_handler.specs.declared.holds.LockHold.{LockHold}
-use Rattle.ados_handler.specs.declared.holds.HandleHold.{HandleHold}
-use Rattle.ados_handler.specs.Objects.{walk_error, lock_key, found, object, is_exclusive_mode, seek_target, is_bad_target, target_number}
-use Rattle.ados_handler.specs.Refusals.{refuse, first_refusal, refusal, refusals, is_some_and}
-use Rattle.ados_handler.specs.Success.{After, after, Success, GivesLock, GivesHandle}
-use Rattle.ados_handler.specs.Meaning.{IsRefused, ServedOrNoMemory}
+use Rattle.ados_model.specs.Tree.{Content, Tree, Proper, root, bytes_in, bytes_of, content_at, parent_of, size_in, size_of}
+use Rattle.ados_model.specs.Tree.Content.{Directory, File}
+use Rattle.ados_model.specs.Change.{is_file}
+use Rattle.ados_model.specs.declared.dos_error.DosError.{DosError}
+use Rattle.ados_model.specs.declared.dos_error.DosError.TheVariants.{DeviceNotMounted, InvalidLock, NoFreeStore, ObjectInUse, ObjectWrongType, SeekError}
+use Rattle.ados_model.specs.declared.packet.Packet.{Packet}
+use Rattle.ados_model.specs.declared.packet.Packet.TheVariants.{Die, LocateObject, FreeLock, CopyDir, Parent, Read, FindInput, End, Seek}
+use Rattle.ados_model.specs.declared.answer.Body.{Body}
+use Rattle.ados_model.specs.declared.answer.Body.TheVariants.{Empty}
+use Rattle.ados_model.specs.Session.{Session, is_lock, is_held_exclusively, without_lock, at_position, handle_key, handle_position}
+use Rattle.ados_model.specs.declared.holds.LockHold.{LockHold}
+use Rattle.ados_model.specs.declared.holds.HandleHold.{HandleHold}
+use Rattle.ados_model.specs.Objects.{walk_error, lock_key, found, object, is_exclusive_mode, seek_target, is_bad_target, target_number}
+use Rattle.ados_model.specs.Refusals.{refuse, first_refusal, refusal, refusals, is_some_and}
+use Rattle.ados_model.specs.Success.{After, after, Success, GivesLock, GivesHandle}
+use Rattle.ados_model.specs.Meaning.{IsRefused, ServedOrNoMemory}
 use Rattle.ados_handler.specs.ProperSession.{HoldNumber, hold_at, IsProperSession}
 use Rattle.ados_handler.specs.ProperSession.HoldNumber.{ByLock, ByHandle}
 use Rattle.ados_handler.specs.Keeps.{KeepsProper}
 use Rattle.ados_handler.proofs.Holding.{true_false, proper_with_lock, proper_with_handle, proper_without_lock, proper_without_handle, proper_moved, shared_free, IsFree, not_in_use}
 use Rattle.ados_handler.proofs.Walked.{parent_is_key, found_is_key, no_error}
 
--- a file has as many bytes as its size says
+-- the number of a file's bytes is its size
 pub size_is : (c : Option Content) → length (bytes_in c) ≡ size_in c
 size_is None = refl
 size_is (Some (Directory keys)) = refl
 size_is (Some (File bytes)) = refl
 
--- none of these refuses
+-- no refusal in the list holds
 abbrev pub NoneRefuses : List (Option DosError) → Type 0
 NoneRefuses [] = Unit {0}
 NoneRefuses (o ∷ more) = (o ≡ None) × NoneRefuses more
 
--- a list of refusals gives none where none of them does
+-- a list without a first refusal has none that holds
 pub none_refuses : (list : List (Option DosError)) → first_refusal list ≡ None → NoneRefuses list
 none_refuses [] h = tt
 none_refuses (None ∷ more) h = (refl, none_refuses more h)
@@ -58,14 +58,14 @@ pub from_not : (b : Bool) → not b ≡ false → b ≡ true
 from_not true h = refl
 from_not false h = absurd (true_false h)
 
--- what a packet leaves is proper
+-- the state after a packet is proper
 abbrev pub IsProperAfter : After → Type 0
 IsProperAfter result = Proper result.tree × IsProperSession result.tree result.session
 
 pub same_after : (result other : After) → result ≡ other → IsProperAfter other → IsProperAfter result
 same_after result other e p = subst IsProperAfter (sym e) p
 
--- where a packet is served or refused, it is enough to look at what it does where it is not refused
+-- for a packet that is served or refused, its effect as a success decides
 pub by_success : (packet : Packet)
     → ((t : Tree) (s : Session) (now : Date3) (result : After) → Proper t → IsProperSession t s → refusal t s packet ≡ None → Success t s packet now result → IsProperAfter result)
     → KeepsProper packet
@@ -80,7 +80,7 @@ by_success packet keeps t new_tree s new_session now answer proper session meani
     go None e (inr w) = unchanged NoFreeStore w.1
 
 module _ (t : Tree) (s : Session) (now : Date3) (result : After) (proper : Proper t) (session : IsProperSession t s) where
-  -- a packet that changed nothing, and one that died
+  -- a packet that changes nothing, and one that dies
   pub same : (res1 : ℤ) (body : Body) → result ≡ after t s res1 body → IsProperAfter result
   same res1 body e = same_after result (after t s res1 body) e (proper, session)
 
@@ -111,7 +111,7 @@ module _ (t : Tree) (s : Session) (now : Date3) (result : After) (proper : Prope
       go true = session
       go false = proper_without_lock t s session lock
 
-  -- the object of a shared lock can be locked again
+  -- an object with a shared lock can be locked again
   pub copy : (lock : ℕ) → refusal t s (CopyDir lock) ≡ None → Success t s (CopyDir lock) now result → IsProperAfter result
   copy lock none w =
       let no = none_refuses (refuse DeviceNotMounted s.died ∷ refusals t s (CopyDir lock)) none
@@ -148,7 +148,7 @@ module _ (t : Tree) (s : Session) (now : Date3) (result : After) (proper : Prope
   pub end : (handle : ℕ) → Success t s (End handle) now result → IsProperAfter result
   end handle e = same_after result _ e (proper, proper_without_handle t s session handle)
 
-  -- a handle that moved within its file
+  -- a handle moved within its file
   pub moved : (handle position : ℕ) → position ≤ size_of t (handle_key s handle) → IsProperSession t (at_position handle position s)
   moved handle position fits = go (get s.handles handle) refl fits
     where

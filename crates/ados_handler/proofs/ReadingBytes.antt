@@ -1,23 +1,22 @@
--- What READ means where it is not refused.
+-- The meaning of READ if it is not refused.
 use Rattle.std.proofs.Common.{◌≡◌, ℕ, ◌+◌, ◌-◌, ◌≤◌, min, pos, Bool, false, List, [], ◌∷◌, ◌++◌, length, take, drop, Some, None, refl, sym, ap, ap₂, ◌∙◌, subst, arith, length-append, length-take, length-drop}
 use Rattle.std.specs.Ordering.{nat_cmp}
 use Rattle.std.specs.FinMap.{FinMap, get}
 use Rattle.std.proofs.lemmas.List.{take_min}
 use Rattle.ados_name.specs.declared.Date3.{Date3}
-use Rattle.ados_name.specs.Protection.{denies_read}
-use Rattle.ados_tree.specs.Tree.{Tree, bytes_of, content_at, size_of}
-use Rattle.ados_tree.specs.Stands.{Stands}
-use Rattle.ados_packet.specs.declared.dos_error.DosError.TheVariants.{ReadProtected}
-use Rattle.ados_packet.specs.declared.packet.Packet.TheVariants.{Read}
-use Rattle.ados_packet.specs.declared.results.Results.{Results}
-use Rattle.ados_packet.specs.declared.answer.Body.TheVariants.{Buffer}
+use Rattle.ados_name.specs.Name.{denies_read}
+use Rattle.ados_model.specs.Tree.{Tree, bytes_of, content_at, size_of}
+use Rattle.ados_model.specs.Stands.{Stands}
+use Rattle.ados_model.specs.declared.dos_error.DosError.TheVariants.{ReadProtected}
+use Rattle.ados_model.specs.declared.packet.Packet.TheVariants.{Read}
+use Rattle.ados_model.specs.declared.results.Results.{Results}
+use Rattle.ados_model.specs.declared.answer.Body.TheVariants.{Buffer}
 use Rattle.ados_volume.specs.Shown.{Shown}
-use Rattle.ados_handler.specs.Session.{Session, at_position, handle_key}
-use Rattle.ados_handler.specs.declared.holds.HandleHold.{HandleHold}
-use Rattle.ados_handler.specs.Objects.{bytes_read, protection_of}
-use Rattle.ados_handler.specs.Refusals.{first_refusal, refuse, refusal}
-use Rattle.ados_handler.specs.Success.{after}
-use Rattle.ados_handler.specs.Handler.{HandlerState}
+use Rattle.ados_model.specs.Session.{Session, at_position, handle_key, HandlerState}
+use Rattle.ados_model.specs.declared.holds.HandleHold.{HandleHold}
+use Rattle.ados_model.specs.Objects.{bytes_read, protection_of}
+use Rattle.ados_model.specs.Refusals.{first_refusal, refuse, refusal}
+use Rattle.ados_model.specs.Success.{after}
 use Rattle.ados_handler.specs.steps.Methods.{MethodGives, MethodMeans}
 use Rattle.ados_handler.proofs.HandleFiles.{key_is, position_is, opened_on, gives_moved}
 use Rattle.ados_handler.proofs.Reading.{size_is}
@@ -51,7 +50,7 @@ module _ (t : Tree) (s : Session) (handle : ℕ) (buffer : List ℕ) (hold : Han
 
 module _ (old given : HandlerState) (same : old ≡ given) (t : Tree) (stood : Stands old.image t) (handle : ℕ) (buffer : List ℕ) (hold : HandleHold) (at : get given.session.handles handle ≡ Some hold)
     (count : ℕ) (counted : count ≡ min (length buffer) (length (bytes_of t hold.key) - hold.position)) where
-  -- what is kept of places in files changes nothing that is shown
+  -- cached places in files change nothing that contracts see
   pub read_gives : (volume : Shown) → volume ≡ record { image = old.image; was_validated = old.was_validated } → (filled : List ℕ) (handles : FinMap nat_cmp HandleHold) (results : Results) → old.session.died ≡ false → denies_read (protection_of t hold.key) ≡ false
       → filled ≡ take count (drop hold.position (bytes_of t hold.key)) ++ drop count buffer
       → handles ≡ (at_position handle (hold.position + count) old.session).handles → results ≡ answers count (Buffer filled)
@@ -64,7 +63,7 @@ module _ (old given : HandlerState) (same : old ≡ given) (t : Tree) (stood : S
       (subst (λ (r : Results). MethodMeans t old.session (Read handle buffer) now t new r) (sym told)
       (read_means t old.session handle buffer hold held count counted new now filled alive readable bytes (λ i. record old.session { handles = moved i }))))
 
--- the bytes that are read end where a file can
+-- the bytes that were read end at most at the file's end
 pub read_ends : (image : List ℕ) (t : Tree) → Stands image t → (key start room count : ℕ) → start ≤ size_of t key → count ≡ min room (length (bytes_of t key) - start) → start + count ≤ 52020224
 read_ends image t stands key start room count within counted =
     omega (arith, within, counted, size_small image t stands key, size_is (content_at t key))

@@ -1,4 +1,4 @@
--- Worked rows of refusals, computed from the definitions.
+-- Examples of refusals, computed from the definitions.
 use Rattle.std.specs.Prelude.{◌≡◌, ℕ, ◌==◌, if◌then◌else◌, List, [], ◌∷◌, pos, negsuc, codes, refl, replicate, Option, Some, None, true}
 use Rattle.std.proofs.Common.{ap₂, sym, ◌∙◌}
 use Rattle.std.specs.Prelude.{◌++◌, map}
@@ -7,15 +7,15 @@ use Rattle.std.specs.FinMap as numbered
 use Rattle.std.proofs.lemmas.List.{nil_from_length}
 use Rattle.adf_block.specs.declared.Format.TheVariants.{Ffs}
 use Rattle.ados_name.specs.declared.Date3.{Date3}
-use Rattle.ados_name.specs.Path.{steps, steps_along, last_name, front}
-use Rattle.ados_tree.specs.Tree.{Content, Node, Tree}
-use Rattle.ados_tree.specs.Tree.Content.{Directory, File}
-use Rattle.ados_packet.specs.declared.dos_error.DosError.TheVariants.{ActionNotKnown, CommentTooBig, DeleteProtected, DeviceNotMounted, DirectoryNotFound, InvalidComponentName, NoMoreEntries, ObjectExists, ObjectInUse, ObjectNotFound, ObjectWrongType}
-use Rattle.ados_packet.specs.declared.packet.Packet.TheVariants.{LocateObject, RenameDisk, DeleteObject, RenameObject, CreateDir, SetComment, ExamineNext, FindInput, FindOutput, Other}
-use Rattle.ados_handler.specs.Session.{holds, opening_session}
-use Rattle.ados_handler.specs.declared.holds.LockHold.{LockHold}
-use Rattle.ados_handler.specs.declared.holds.HandleHold.{HandleHold}
-use Rattle.ados_handler.specs.Refusals.{refusal}
+use Rattle.ados_name.specs.Name.{steps, steps_along, last_name, front}
+use Rattle.ados_model.specs.Tree.{Content, Node, Tree}
+use Rattle.ados_model.specs.Tree.Content.{Directory, File}
+use Rattle.ados_model.specs.declared.dos_error.DosError.TheVariants.{ActionNotKnown, CommentTooBig, DeleteProtected, DeviceNotMounted, DirectoryNotFound, InvalidComponentName, NoMoreEntries, ObjectExists, ObjectInUse, ObjectNotFound, ObjectWrongType}
+use Rattle.ados_model.specs.declared.packet.Packet.TheVariants.{LocateObject, RenameDisk, DeleteObject, RenameObject, CreateDir, SetComment, ExamineNext, FindInput, FindOutput, Other}
+use Rattle.ados_model.specs.Session.{holds, opening_session}
+use Rattle.ados_model.specs.declared.holds.LockHold.{LockHold}
+use Rattle.ados_model.specs.declared.holds.HandleHold.{HandleHold}
+use Rattle.ados_model.specs.Refusals.{refusal}
 
 abbrev moment : Date3
 moment = record { days = 0; minutes = 0; ticks = 0 }
@@ -23,7 +23,7 @@ moment = record { days = 0; minutes = 0; ticks = 0 }
 abbrev node : List ℕ → Option ℕ → ℕ → Content → Node
 node name parent bits content = record { name = name; parent = parent; protection = bits; date = moment; comment = []; content = content }
 
--- a root with the directories a and b and the file f, which may be neither written nor deleted
+-- a root with the directories a and b and the file f, which cannot be written or deleted
 abbrev small : Tree
 small = record {
   blocks = 16;
@@ -39,7 +39,7 @@ small = record {
   lost = λ block. None;
 }
 
--- nothing is held at the opening
+-- nothing is held at first
 no_entries : {X : Type 0} → numbered.entries (numbered.empty {X = X} {R = nat_cmp}) ≡ []
 no_entries {X} = nil_from_length (numbered.entries (numbered.empty {X = X} {R = nat_cmp})) (sym (numbered.len-entries (numbered.empty {X = X} {R = nat_cmp})) ∙ numbered.len-empty nat_cmp X)
 

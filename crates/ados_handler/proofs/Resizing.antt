@@ -9,37 +9,34 @@ use Rattle.std.proofs.lemmas.Bool.{eqb-true, false_from_ne_true, le-ltb, lt-ltb,
 use Rattle.slab.specs.Slab.{Slab, RetainsFrom, entries_from}
 use Rattle.adf_block.specs.declared.Format.{Format}
 use Rattle.adf_block.specs.declared.Format.TheVariants.{Ofs, Ffs}
-use Rattle.ados_data.specs.Cost.{block_cost}
+use Rattle.ados_model.specs.Tree.{block_cost, Tree, free, size_of, needs_more}
 use Rattle.ados_name.specs.declared.Date3.{Date3}
-use Rattle.ados_name.specs.Protection.{denies_write}
-use Rattle.ados_tree.specs.Tree.{Tree, free, size_of}
-use Rattle.ados_tree.specs.Stands.{Stands}
-use Rattle.ados_tree.specs.NewBlocks.{KeepsRest}
-use Rattle.ados_tree.specs.Change.{grown, shortened}
+use Rattle.ados_name.specs.Name.{denies_write}
+use Rattle.ados_model.specs.Stands.{Stands}
+use Rattle.ados_change.specs.NewBlocks.{KeepsRest}
+use Rattle.ados_model.specs.Change.{grown, shortened}
 use Rattle.ados_change.specs.Renewed.{NeedsMore}
-use Rattle.ados_packet.specs.declared.dos_error.DosError.{DosError}
-use Rattle.ados_packet.specs.declared.dos_error.DosError.TheVariants.{DiskFull, SeekError, WriteProtected}
-use Rattle.ados_packet.specs.Numbers.{error_number}
-use Rattle.ados_packet.specs.Packet.{dos_true}
-use Rattle.ados_packet.specs.declared.packet.Packet.{Packet}
-use Rattle.ados_packet.specs.declared.packet.Packet.TheVariants.{SetFileSize}
-use Rattle.ados_packet.specs.declared.results.Results.{Results}
-use Rattle.ados_packet.specs.declared.answer.Body.TheVariants.{Empty}
-use Rattle.ados_handler.specs.declared.holds.HandleHold.{HandleHold}
-use Rattle.ados_handler.specs.Session.{handle_key, positions_within}
+use Rattle.ados_model.specs.declared.dos_error.DosError.{DosError}
+use Rattle.ados_model.specs.declared.dos_error.DosError.TheVariants.{DiskFull, SeekError, WriteProtected}
+use Rattle.ados_model.specs.Packet.{error_number, dos_true}
+use Rattle.ados_model.specs.declared.packet.Packet.{Packet}
+use Rattle.ados_model.specs.declared.packet.Packet.TheVariants.{SetFileSize}
+use Rattle.ados_model.specs.declared.results.Results.{Results}
+use Rattle.ados_model.specs.declared.answer.Body.TheVariants.{Empty}
+use Rattle.ados_model.specs.declared.holds.HandleHold.{HandleHold}
+use Rattle.ados_model.specs.Session.{handle_key, positions_within, HandlerState}
 use Rattle.ados_handler.specs.steps.Table.{numbered_from_one}
-use Rattle.ados_handler.specs.Objects.{handle_target, is_bad_target, needs_more, protection_of, seek_target, target_number}
-use Rattle.ados_handler.specs.Refusals.{first_refusal, refusal, refuse}
-use Rattle.ados_handler.specs.Success.{after, resized}
-use Rattle.ados_handler.specs.Meaning.{IsRefused, ServedOrNoMemory}
-use Rattle.ados_handler.specs.Handler.{HandlerState}
+use Rattle.ados_model.specs.Objects.{handle_target, is_bad_target, protection_of, seek_target, target_number}
+use Rattle.ados_model.specs.Refusals.{first_refusal, refusal, refuse}
+use Rattle.ados_model.specs.Success.{after, resized}
+use Rattle.ados_model.specs.Meaning.{IsRefused, ServedOrNoMemory}
 use Rattle.ados_handler.specs.steps.Methods.{MethodGives, answer_to}
 use Rattle.ados_handler.proofs.Leaving.{leaves_all}
 use Rattle.ados_handler.proofs.Meant.{done, served_means}
 use Rattle.ados_handler.proofs.HandleFiles.{key_is, opened_on, position_is}
 use Rattle.ados_handler.proofs.Tables.{sorted_entries}
 
--- a smaller size takes no more blocks
+-- a smaller size needs at most as many blocks
 cost_below : (format : Format) (a b : ℕ) → a ≤ b → block_cost format a ≤ block_cost format b
 cost_below Ofs a b h = let d : (a + 488 - 1) / 488 ≤ (b + 488 - 1) / 488 = omega arith in omega arith
 cost_below Ffs a b h = let d : (a + 512 - 1) / 512 ≤ (b + 512 - 1) / 512 = omega arith in omega arith
@@ -48,7 +45,7 @@ pub needs_no_more : (t : Tree) (key size : ℕ) → size ≤ size_of t key → n
 needs_no_more t key size h =
     le-ltb (free t + block_cost t.format (size_of t key)) (block_cost t.format size) (omega (arith, cost_below t.format size (size_of t key) h))
 
--- the three ways in which a file gets a size
+-- the three ways to a new size
 module _ (now : Date3) (key size : ℕ) (t : Tree) where
   pub resized_same : size ≡ size_of t key → resized now key size t ≡ t
   resized_same e = ap (λ (b : Bool). cond b t (cond (nat_lt size (size_of t key)) (shortened now key size t) (grown now key size t))) (eq-eqb size (size_of t key) e)
@@ -63,7 +60,7 @@ module _ (now : Date3) (key size : ℕ) (t : Tree) where
       ap (λ (b : Bool). cond b t (cond (nat_lt size (size_of t key)) (shortened now key size t) (grown now key size t))) (ne_eqb size (size_of t key) (λ e. omega (arith, h, e)))
       ∙ ap (λ (b : Bool). cond b (shortened now key size t) (grown now key size t)) (le-ltb size (size_of t key) (omega (arith, h)))
 
--- what the answer of a growth says of the size
+-- the size after a growth, by its result
 pub full_or_grown : {A E : Type 0} (now : Date3) (key size : ℕ) (old new : List ℕ) (r : Result A E) (Same : Type 0)
     → ((t : Tree) → Stands old t → size_of t key < size)
     → MatchResult r (λ _. (t : Tree) → Stands old t → (¬ NeedsMore t key size) × Stands new (grown now key size t)) (λ _. Same × ((t : Tree) → Stands old t → NeedsMore t key size))
@@ -76,7 +73,7 @@ full_or_grown now key size old new (Ok x) Same longer done = λ t stands.
 full_or_grown now key size old new (Err x) Same longer done =
     done
 
--- SET_FILE_SIZE by a handle that is held, on a file that may be written, of a handler that has not died
+-- SET_FILE_SIZE with a valid handle on a writable file, for a living handler
 module _ (old given : HandlerState) (same : old ≡ given) (t : Tree) (stood : Stands old.image t) (handle : ℕ) (offset mode : ℤ) (now : Date3) (hold : HandleHold) (at : get given.session.handles handle ≡ Some hold)
     (alive : old.session.died ≡ false) (free : denies_write (protection_of t hold.key) ≡ false) (held : ℕ) (is : held ≡ size_of t hold.key) where
   abbrev packet : Packet
@@ -116,7 +113,7 @@ module _ (old given : HandlerState) (same : old ≡ given) (t : Tree) (stood : S
     validated = ap (λ (h : HandlerState). h.was_validated) stays;
   })
 
-  -- the target is no size
+  -- the target is not a size
   pub bad_gives : (results : Results) → is_bad_target 2147483647 target ≡ true → results ≡ record { res1 = pos 0; res2 = pos (error_number SeekError); body = Empty } → MethodGives given packet now given results
   bad_gives results bad told = subst (λ (h : HandlerState). MethodGives given packet now h results) same (refused old results SeekError (row true _ bad refl) refl told)
 
@@ -124,11 +121,11 @@ module _ (old given : HandlerState) (same : old ≡ given) (t : Tree) (stood : S
     size_is : target_number (handle_target t old.session handle offset mode) ≡ size
     size_is = ap target_number target_is ∙ sym there
 
-    -- there is no room for it
+    -- too few blocks are free for it
     pub full_gives : needs_more t hold.key size ≡ true → new ≡ old → results ≡ record { res1 = pos 0; res2 = pos (error_number DiskFull); body = Empty } → MethodGives given packet now new results
     full_gives more stays told = refused new results DiskFull (row false true good (ap (needs_more t hold.key) (sym there) ∙ more)) stays told
 
-    -- the file has it now
+    -- the file now has it
     pub sized_gives : needs_more t hold.key size ≡ false → Stands new.image (resized now hold.key size t) → KeepsRest old.image new.image
         → (size ≡ size_of t hold.key → new.image ≡ old.image) → new.was_validated ≡ old.was_validated → new.session ≡ positions_within hold.key size old.session
         → results ≡ done Empty → MethodGives given packet now new results
@@ -157,7 +154,7 @@ module _ (old given : HandlerState) (same : old ≡ given) (t : Tree) (stood : S
 
 -- ---- the handles of the file
 
--- a slab whose values are each changed in place, by a closure that stays as it is
+-- a slab whose values are each changed by a closure that stays the same
 module _ {T F : Type 0} (step : F → ℕ → MutBor T → Bool → MutBor T → F → Type 0) (change : T → T) (f : F)
     (calls : (k : ℕ) (shown : MutBor T) (keep : Bool) (left : MutBor T) (next : F) → step f k shown keep left next → (keep ≡ true) × (left.now ≡ change shown.now) × (next ≡ f)) where
   pub all_changed : (g : F) → g ≡ f → (k : ℕ) (slots kept : List (Option T)) → RetainsFrom step g k slots kept → kept ≡ map (option_map change) slots
@@ -174,7 +171,7 @@ entries_changed f [] i = refl
 entries_changed f (None ∷ rest) i = entries_changed f rest (i + 1)
 entries_changed f (Some x ∷ rest) i = ap (λ l. (i, f x) ∷ l) (entries_changed f rest (i + 1))
 
--- has them changed under their numbers
+-- the changed values have the same numbers
 pub numbers_changed : {T : Type 0} (f : T → T) (old new : Slab T) → new.slots ≡ map (option_map f) old.slots
     → numbered_from_one new ≡ numbered.from_entries (map (λ e. (e.0, f e.1)) (numbered.entries (numbered_from_one old)))
 numbers_changed f old new is = same_map nat_cmp_total nat_cmp-IsAntisymmetric _ _ (λ q.

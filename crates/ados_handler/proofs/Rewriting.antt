@@ -8,22 +8,22 @@ use Rattle.std.specs.FinMap.{get, find, entries, get-entries, get-from_entries}
 use Rattle.std.proofs.lemmas.List.{length-replicate}
 use Rattle.std.proofs.lemmas.Bool.{cases_eq, false≢true, true≢false}
 use Rattle.ados_name.specs.declared.Date3.{Date3}
-use Rattle.ados_tree.specs.Tree.{Content, Node, Tree, Proper, root, bytes_in, bytes_of, size_in, size_of}
-use Rattle.ados_tree.specs.Tree.Content.{Directory, File}
-use Rattle.ados_tree.specs.Walk.{is_file, holds_file}
-use Rattle.ados_tree.specs.Change.{grown, overlaid, rewritten, shortened, without_archive, written}
+use Rattle.ados_model.specs.Tree.{Content, Node, Tree, Proper, root, bytes_in, bytes_of, size_in, size_of}
+use Rattle.ados_model.specs.Tree.Content.{Directory, File}
+use Rattle.ados_model.specs.Change.{is_file, holds_file, grown, overlaid, rewritten, shortened, written}
+use Rattle.ados_name.specs.Name.{without_archive}
 use Rattle.ados_change.proofs.Cases.{changed_node}
 use Rattle.ados_change.specs.Stamps.{touched}
 use Rattle.ados_change.proofs.Contents.{file_not_root, proper_after as refilled_proper}
 use Rattle.ados_change.proofs.Renewed.{is_rewritten}
 use Rattle.ados_change.proofs.Changed.{nodes_other}
-use Rattle.ados_packet.specs.declared.dos_error.DosError.TheVariants.{DeviceNotMounted, InvalidLock}
-use Rattle.ados_packet.specs.declared.packet.Packet.TheVariants.{Write, SetFileSize}
-use Rattle.ados_handler.specs.Session.{Session, at_position, handle_key, handle_position, is_handle, positions_within, within}
-use Rattle.ados_handler.specs.declared.holds.HandleHold.{HandleHold}
-use Rattle.ados_handler.specs.Objects.{handle_target, target_number}
-use Rattle.ados_handler.specs.Refusals.{refuse, refusals}
-use Rattle.ados_handler.specs.Success.{After, resized}
+use Rattle.ados_model.specs.declared.dos_error.DosError.TheVariants.{DeviceNotMounted, InvalidLock}
+use Rattle.ados_model.specs.declared.packet.Packet.TheVariants.{Write, SetFileSize}
+use Rattle.ados_model.specs.Session.{Session, at_position, handle_key, handle_position, is_handle, positions_within, within}
+use Rattle.ados_model.specs.declared.holds.HandleHold.{HandleHold}
+use Rattle.ados_model.specs.Objects.{handle_target, target_number}
+use Rattle.ados_model.specs.Refusals.{refuse, refusals}
+use Rattle.ados_model.specs.Success.{After, resized}
 use Rattle.ados_handler.specs.ProperSession.{HoldNumber, hold_at, IsProperSession}
 use Rattle.ados_handler.specs.ProperSession.HoldNumber.{ByLock, ByHandle}
 use Rattle.ados_handler.specs.Keeps.{KeepsProper}
@@ -100,7 +100,7 @@ module _ (t : Tree) (proper : Proper t) (key : ℕ) (f : IsFileNode t key) (byte
   unfolding refill
   rewritten_other k n = carried_same (t.nodes k) (rewrite.nodes k) (nodes_other key (option_map refill (t.nodes key)) t k n)
 
-  -- each object is carried where the file does not get shorter
+  -- each object is carried if the file does not get shorter
   pub rewritten_carried : length f.bytes ≤ length bytes → (k : ℕ) → Carried (t.nodes k) (rewrite.nodes k)
   unfolding refill
   rewritten_carried longer = carried_changed t key refill (λ a at.
@@ -117,7 +117,7 @@ held_handle s handle = go (get s.handles handle)
     go None e = absurd (false≢true e)
     go (Some h) e = (h, refl)
 
--- a handle that is held is on a file, and stands in it
+-- a handle is on a file, and its position is in it
 pub record IsOnFile (t : Tree) (s : Session) (handle : ℕ) : Type 0 where
   pub file : IsFileNode t (handle_key s handle)
   pub within : handle_position s handle ≤ size_of t (handle_key s handle)
@@ -188,7 +188,7 @@ module _ (key size : ℕ) (s : Session) where
   abbrev hold_of : HandleHold → ℕ × Bool
   hold_of h = (h.key, h.exclusive)
 
-  -- the holds are on the objects on which they were
+  -- the holds are on the same objects as before
   same_holds : (hold : HoldNumber) → hold_at drawn hold ≡ hold_at s hold
   same_holds (ByLock n) = refl
   same_holds (ByHandle n) = ap (option_map hold_of) (got_within n) ∙ go (get s.handles n)
@@ -201,7 +201,7 @@ module _ (key size : ℕ) (s : Session) where
       go None = refl
       go (Some h) = pair h (nat_eq h.key key && nat_lt size h.position)
 
--- a handle of the file stands within its size, and another one is as it was
+-- a handle of the file is within its size, and any other handle is unchanged
 record IsWithin (key size : ℕ) (old new : HandleHold) : Type 0 where
   same_key : new.key ≡ old.key
   here : old.key ≡ key → new.position ≤ size
@@ -215,7 +215,7 @@ is_within key size h = go (nat_eq h.key key) refl (nat_lt size h.position) refl
     go true e false l = record { same_key = refl; here = λ _. ltb-false size h.position l; other = λ _. refl }
     go false e c l = record { same_key = refl; here = λ d. absurd (true≢false (sym (eq-eqb h.key key d) ∙ e)); other = λ _. refl }
 
--- where a file gets another size, and each other object is carried, the holds stay proper
+-- if a file gets another size and each other object is carried, the holds stay proper
 pub drawn_session : (t u : Tree) (s : Session) → IsProperSession t s → (key size : ℕ) → IsSome (u.nodes key) → is_file u key ≡ true → size_of u key ≡ size
     → ((k : ℕ) → k ≢ key → Carried (t.nodes k) (u.nodes k)) → IsProperSession u (positions_within key size s)
 drawn_session t u s session key size there file is carried = record {

@@ -1,21 +1,20 @@
--- What SEEK means where it is not refused.
+-- The meaning of SEEK if it is not refused.
 use Rattle.std.proofs.Common.{◌≡◌, ℕ, ℤ, pos, Bool, false, [], ◌∷◌, Option, Some, None, refl, sym, ap, ap₂, ◌∙◌, subst}
 use Rattle.std.specs.Ordering.{nat_cmp}
 use Rattle.std.specs.FinMap.{FinMap, get}
 use Rattle.ados_name.specs.declared.Date3.{Date3}
-use Rattle.ados_tree.specs.Tree.{Tree, size_of}
-use Rattle.ados_tree.specs.Stands.{Stands}
-use Rattle.ados_packet.specs.declared.dos_error.DosError.TheVariants.{SeekError}
-use Rattle.ados_packet.specs.declared.packet.Packet.{Packet}
-use Rattle.ados_packet.specs.declared.packet.Packet.TheVariants.{Seek}
-use Rattle.ados_packet.specs.declared.results.Results.{Results}
-use Rattle.ados_packet.specs.declared.answer.Body.TheVariants.{Empty}
-use Rattle.ados_handler.specs.Session.{Session, at_position, handle_key}
-use Rattle.ados_handler.specs.declared.holds.HandleHold.{HandleHold}
-use Rattle.ados_handler.specs.Objects.{handle_target, is_bad_target, seek_target, target_number}
-use Rattle.ados_handler.specs.Refusals.{first_refusal, refuse, refusal}
-use Rattle.ados_handler.specs.Success.{after}
-use Rattle.ados_handler.specs.Handler.{HandlerState}
+use Rattle.ados_model.specs.Tree.{Tree, size_of}
+use Rattle.ados_model.specs.Stands.{Stands}
+use Rattle.ados_model.specs.declared.dos_error.DosError.TheVariants.{SeekError}
+use Rattle.ados_model.specs.declared.packet.Packet.{Packet}
+use Rattle.ados_model.specs.declared.packet.Packet.TheVariants.{Seek}
+use Rattle.ados_model.specs.declared.results.Results.{Results}
+use Rattle.ados_model.specs.declared.answer.Body.TheVariants.{Empty}
+use Rattle.ados_model.specs.Session.{Session, at_position, handle_key, HandlerState}
+use Rattle.ados_model.specs.declared.holds.HandleHold.{HandleHold}
+use Rattle.ados_model.specs.Objects.{handle_target, is_bad_target, seek_target, target_number}
+use Rattle.ados_model.specs.Refusals.{first_refusal, refuse, refusal}
+use Rattle.ados_model.specs.Success.{after}
 use Rattle.ados_handler.specs.steps.Methods.{MethodGives, MethodMeans}
 use Rattle.ados_handler.proofs.HandleFiles.{key_is, position_is, opened_on, gives_moved}
 use Rattle.ados_handler.proofs.Meant.{counted, served_means}

@@ -1,22 +1,22 @@
--- What keeps a handler sound: its image stands for a tree, and its holds are those of that tree.
+-- What keeps a handler sound: its image represents a tree, and its holds are proper for that tree.
 use Rattle.std.proofs.Common.{◌≡◌, ℕ, Bool, Some, None, false, sym, ap, ◌∙◌, subst, List}
 use Rattle.std.specs.Prelude.{IsSome, option_map}
 use Rattle.std.specs.Ordering.{nat_cmp}
 use Rattle.std.specs.FinMap.{FinMap, empty, get, get-empty, insert, remove}
 use Rattle.std.proofs.lemmas.Option.{none-some}
-use Rattle.ados_tree.specs.Tree.{Tree}
-use Rattle.ados_tree.specs.Stands.{Stands}
-use Rattle.ados_tree.specs.Keys.{HasKey}
-use Rattle.ados_tree.proofs.OneTree.{one_tree}
-use Rattle.ados_handler.specs.Session.{Session, opening_session}
-use Rattle.ados_handler.specs.declared.holds.LockHold.{LockHold}
-use Rattle.ados_handler.specs.declared.holds.HandleHold.{HandleHold}
+use Rattle.ados_model.specs.Tree.{Tree}
+use Rattle.ados_model.specs.Stands.{Stands}
+use Rattle.ados_model.specs.Keys.{HasKey}
+use Rattle.ados_model.proofs.OneTree.{one_tree}
+use Rattle.ados_model.specs.Session.{Session, opening_session}
+use Rattle.ados_model.specs.declared.holds.LockHold.{LockHold}
+use Rattle.ados_model.specs.declared.holds.HandleHold.{HandleHold}
 use Rattle.ados_handler.specs.ProperSession.{HoldNumber, hold_at, IsProperSession}
 use Rattle.ados_handler.specs.ProperSession.HoldNumber.{ByLock, ByHandle}
 use Rattle.ados_handler.specs.Gives.{IsSoundHandler}
 use Rattle.ados_handler.proofs.Holding.{proper_with_lock, proper_without_lock, proper_without_handle, shared_free}
 
--- nothing is held at the opening
+-- nothing is held at first
 no_hold : (hold : HoldNumber) → hold_at opening_session hold ≡ None
 no_hold (ByLock n) = ap (option_map (λ (l : LockHold). (l.key, l.exclusive))) (get-empty nat_cmp n)
 no_hold (ByHandle n) = ap (option_map (λ (h : HandleHold). (h.key, h.exclusive))) (get-empty nat_cmp n)
@@ -50,13 +50,13 @@ module _ (image : List ℕ) (locks : FinMap nat_cmp LockHold) (handles : FinMap 
     holds = subst (IsProperSession sound.tree) (λ i. record { locks = locks; handles = sym is i; died = died }) (proper_without_handle sound.tree (record { locks = locks; handles = handles; died = died }) sound.holds number);
   }
 
--- the object of a lock that is held is a node
+-- the object of a lock is a node
 pub sound_key : (image : List ℕ) (session : Session) → IsSoundHandler image session → (lock : ℕ) (hold : LockHold) → get session.locks lock ≡ Some hold → HasKey image hold.key
 sound_key image session sound lock hold at t stands =
     subst (λ (u : Tree). IsSome (u.nodes hold.key)) (one_tree image sound.tree t sound.stands stands)
     (sound.holds.on_keys (ByLock lock) hold.key hold.exclusive (ap (option_map (λ (l : LockHold). (l.key, l.exclusive))) at))
 
--- a shared lock more on the object of one
+-- one more shared lock on the object of another
 pub sound_copied : (image : List ℕ) (session : Session) → IsSoundHandler image session → (lock : ℕ) (hold : LockHold) → get session.locks lock ≡ Some hold → hold.exclusive ≡ false
     → (number : ℕ) (locks : FinMap nat_cmp LockHold) → locks ≡ insert session.locks number hold → IsSoundHandler image (record session { locks = locks })
 sound_copied image session sound lock hold at shared number locks is = record {

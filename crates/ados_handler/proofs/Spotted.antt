@@ -1,22 +1,21 @@
--- FINDUPDATE and FINDOUTPUT at the place to which their path leads.
+-- FINDUPDATE and FINDOUTPUT at the place of their path.
 use Rattle.std.proofs.Common.{◌≡◌, ℕ, Bool, true, false, not, List, [], ◌∷◌, ◌++◌, Option, Some, None, Ok, MatchOption, option_map, refl, sym, ap, ◌∙◌, subst}
 use Rattle.std.specs.Prelude.{is_none}
 use Rattle.std.specs.Result.{result_err}
 use Rattle.ados_name.specs.declared.Date3.{Date3}
-use Rattle.ados_tree.specs.Tree.{Tree}
-use Rattle.ados_tree.specs.Stands.{Stands}
-use Rattle.ados_tree.specs.Change.{rewritten}
-use Rattle.ados_tree.specs.Walk.{child_of}
-use Rattle.ados_name.specs.Protection.{denies_delete, denies_write}
-use Rattle.ados_packet.specs.declared.dos_error.DosError.{DosError}
-use Rattle.ados_packet.specs.declared.dos_error.DosError.TheVariants.{DeleteProtected, DeviceNotMounted, DiskFull, InvalidLock, ObjectInUse, ObjectWrongType, WriteProtected}
-use Rattle.ados_packet.specs.declared.packet.Packet.TheVariants.{FindOutput, FindUpdate}
-use Rattle.ados_packet.specs.declared.results.Results.{Results}
-use Rattle.ados_handler.specs.Session.{Session, is_in_use, is_lock}
-use Rattle.ados_handler.specs.Objects.{place_error, placed, placed_at, protection_of, spot, spot_directory, spot_name, standing}
-use Rattle.ados_handler.specs.Refusals.{first_refusal, has_no_room, is_directory_there, is_some_and, refuse}
-use Rattle.ados_handler.specs.Success.{After, GivesHandle, MakesFile}
-use Rattle.ados_handler.specs.Handler.{HandlerState}
+use Rattle.ados_model.specs.Tree.{Tree}
+use Rattle.ados_model.specs.Stands.{Stands}
+use Rattle.ados_model.specs.Change.{rewritten, child_of}
+use Rattle.ados_name.specs.Name.{denies_delete, denies_write}
+use Rattle.ados_model.specs.declared.dos_error.DosError.{DosError}
+use Rattle.ados_model.specs.declared.dos_error.DosError.TheVariants.{DeleteProtected, DeviceNotMounted, DiskFull, InvalidLock, ObjectInUse, ObjectWrongType, WriteProtected}
+use Rattle.ados_model.specs.declared.packet.Packet.TheVariants.{FindOutput, FindUpdate}
+use Rattle.ados_model.specs.declared.results.Results.{Results}
+use Rattle.ados_model.specs.Session.{Session, is_in_use, is_lock, HandlerState}
+use Rattle.ados_model.specs.Objects.{place_error, placed, protection_of, spot, spot_directory, spot_name, standing}
+use Rattle.ados_model.specs.Resolved.{placed_at}
+use Rattle.ados_model.specs.Refusals.{first_refusal, has_no_room, is_directory_there, is_some_and, refuse}
+use Rattle.ados_model.specs.Success.{After, GivesHandle, MakesFile}
 use Rattle.ados_handler.specs.steps.Methods.{MethodGives}
 use Rattle.ados_handler.specs.steps.Opening.{Opens, empty_refusals, make_refusals, open_refusals}
 use Rattle.ados_handler.proofs.Holding.{true_false}
@@ -24,13 +23,13 @@ use Rattle.ados_volume.specs.Shown.{Shown}
 use Rattle.ados_handler.proofs.Opening.{opening_gives}
 use Rattle.ados_handler.proofs.Placed.{placed_on}
 
--- a refusal behind all others that does not refuse
+-- a refusal after all others that does not hold
 behind_none : (rows : List (Option DosError)) → first_refusal (rows ++ (None ∷ [])) ≡ first_refusal rows
 behind_none [] = refl
 behind_none (None ∷ rows) = behind_none rows
 behind_none (Some code ∷ rows) = refl
 
--- the refusals that look at what stands there
+-- the refusals that depend on the entry there
 update_rows : Tree → Session → Option ℕ → List (Option DosError)
 update_rows t s o =
     refuse ObjectWrongType (is_directory_there t o)
@@ -51,7 +50,7 @@ module _ (old : HandlerState) (lock : ℕ) (path : List ℕ) (now : Date3) (ther
   abbrev s : Session
   s = old.session
 
-  -- where the path leads, and what stands there
+  -- the place of the path, and the entry there
   record IsSpotWith (t : Tree) (o : Option ℕ) : Type 0 where
     spot_is : spot t s lock path ≡ there
     standing_is : standing t s lock path ≡ o
@@ -70,11 +69,11 @@ module _ (old : HandlerState) (lock : ℕ) (path : List ℕ) (now : Date3) (ther
             ∙ (placed_on t s lock path there (rest (standing t s lock path)) (place t stood)).0 ∙ ap (λ (k : Option ℕ). first_refusal (rest k)) at;
       }
 
-  -- a new file at the place is one at the path's
+  -- a new file at the place is a file at the path's place
   makes_at : (t : Tree) (exclusive : Bool) (left : After) → spot t s lock path ≡ there → MakesFile t s there.0 there.1 exclusive now left → MakesFile t s (spot_directory t s lock path) (spot_name t s lock path) exclusive now left
   makes_at t exclusive left led w = subst (λ (p : ℕ × List ℕ). MakesFile t s p.0 p.1 exclusive now left) (sym led) w
 
-  -- the volume found what stands there, and the handler went on with it
+  -- the volume found the entry there, and the handler continued with it
   module _ (shown found : Shown) (session : Session) (same : found ≡ shown) (view : record { image = shown.image; was_validated = shown.was_validated; session = session } ≡ old) (new : HandlerState) (results : Results) where
     abbrev HasChild : Option ℕ → Type 0
     HasChild o = (t : Tree) → Stands shown.image t → child_of t there.0 there.1 ≡ o

@@ -1,4 +1,4 @@
--- Worked rows of packets that are served, computed from the definitions.
+-- Examples of served packets, computed from the definitions.
 use Rattle.std.specs.Prelude.{◌≡◌, ℕ, ◌==◌, if◌then◌else◌, List, [], ◌∷◌, pos, negsuc, codes, refl, Bool, true, false, Some, None}
 use Rattle.std.proofs.Common.{◌∙◌, lit≤}
 use Rattle.std.specs.Ordering.{nat_cmp}
@@ -6,19 +6,19 @@ use Rattle.std.specs.Cmp.{nat_cmp_total}
 use Rattle.std.specs.FinMap as numbered
 use Rattle.adf_block.specs.declared.Format.TheVariants.{Ffs}
 use Rattle.ados_name.specs.declared.Date3.{Date3}
-use Rattle.ados_name.specs.Path.{steps, steps_along, last_name, front}
-use Rattle.ados_tree.specs.Tree.{Node, Tree}
-use Rattle.ados_tree.specs.Tree.Content.{Directory, File}
-use Rattle.ados_packet.specs.Packet.{action_of, dos_true}
-use Rattle.ados_packet.specs.declared.packet.Packet.{Packet}
-use Rattle.ados_packet.specs.declared.packet.Packet.TheVariants.{Die, LocateObject, SetProtect, ExamineNext, DiskInfo, SameLock, Read, Write, Seek}
-use Rattle.ados_packet.specs.declared.answer.Answer.{Answer}
-use Rattle.ados_packet.specs.declared.answer.Body.{Body}
-use Rattle.ados_packet.specs.declared.answer.Body.TheVariants.{Empty, Buffer, Entry, Disk}
-use Rattle.ados_handler.specs.declared.holds.HandleHold.{HandleHold}
-use Rattle.ados_handler.specs.Session.{Session, opening_session}
-use Rattle.ados_handler.specs.Success.{after}
-use Rattle.ados_handler.specs.Meaning.{Meaning}
+use Rattle.ados_name.specs.Name.{steps, steps_along, last_name, front}
+use Rattle.ados_model.specs.Tree.{Node, Tree}
+use Rattle.ados_model.specs.Tree.Content.{Directory, File}
+use Rattle.ados_model.specs.Packet.{action_of, dos_true}
+use Rattle.ados_model.specs.declared.packet.Packet.{Packet}
+use Rattle.ados_model.specs.declared.packet.Packet.TheVariants.{Die, LocateObject, SetProtect, ExamineNext, DiskInfo, SameLock, Read, Write, Seek}
+use Rattle.ados_model.specs.declared.answer.Answer.{Answer}
+use Rattle.ados_model.specs.declared.answer.Body.{Body}
+use Rattle.ados_model.specs.declared.answer.Body.TheVariants.{Empty, Buffer, Entry, Disk}
+use Rattle.ados_model.specs.declared.holds.HandleHold.{HandleHold}
+use Rattle.ados_model.specs.Session.{Session, opening_session}
+use Rattle.ados_model.specs.Success.{after}
+use Rattle.ados_model.specs.Meaning.{Meaning}
 use Rattle.ados_handler.proofs.Meant.{served_means}
 use Rattle.ados_handler.proofs.RefusalRows.{no_holds}
 
@@ -38,7 +38,7 @@ file date bits bytes = record { name = codes "f"; parent = Some 8; protection = 
 abbrev greeting : Node
 greeting = file opened 16 (codes "hello")
 
--- a root with this file alone
+-- a root with only this file
 abbrev disk : Date3 → Node → Tree
 disk date node = record {
   blocks = 16;
@@ -57,11 +57,11 @@ replaced : {A : Type 0} (b : Bool) (x y z : A) → (if b then x else z) ≡ (if 
 replaced true x y z = refl
 replaced false x y z = refl
 
--- a handle on the file, which stands at this position
+-- a handle on the file at this position
 abbrev on_file : ℕ → HandleHold
 on_file position = record { key = 4; position = position; exclusive = false }
 
--- lock 1 on the root, lock 2 on the file, and handle 1 on the file behind its first byte
+-- lock 1 on the root, lock 2 on the file, and handle 1 on the file at position 1
 abbrev holding : Session
 holding = record {
   locks = numbered.insert (numbered.insert numbered.empty 1 (record { key = 8; exclusive = false })) 2 (record { key = 4; exclusive = false });
@@ -86,14 +86,14 @@ lock_2 = numbered.get-insert nat_cmp_total (numbered.insert numbered.empty 1 (re
 handle_1 : numbered.get holding.handles 1 ≡ Some (on_file 1)
 handle_1 = numbered.get-insert nat_cmp_total numbered.empty 1 (on_file 1) 1
 
--- SAME_LOCK: the root by lock 0 and by lock 1, and the root and the file
+-- SAME_LOCK: locks 0 and 1 are both on the root; locks 1 and 2 are on different objects
 root_twice : Meaning before holding (SameLock 0 1) later before holding (done (SameLock 0 1) Empty)
 root_twice = served_means before before holding holding (SameLock 0 1) later _ (rw lock_1 refl) (record { success = rw lock_1 refl; action = refl; res2 = refl })
 
 root_and_file : Meaning before holding (SameLock 1 2) later before holding (record { action = pos 40; res1 = pos 0; res2 = pos 0; body = Empty })
 root_and_file = served_means before before holding holding (SameLock 1 2) later _ (rw (lock_1, lock_2) refl) (record { success = rw (lock_1, lock_2) refl; action = refl; res2 = refl })
 
--- SEEK answers the old position: to 3 from the beginning, back by 1, and to the end
+-- SEEK returns the old position: to 3 from the start, back by 1, and to the end
 from_beginning : Meaning before holding (Seek 1 (pos 3) (negsuc 0)) later before (moved 3) (record { action = pos 1008; res1 = pos 1; res2 = pos 0; body = Empty })
 from_beginning = served_means before before holding (moved 3) (Seek 1 (pos 3) (negsuc 0)) later _ (rw handle_1 refl) (record { success = rw handle_1 refl; action = refl; res2 = refl })
 
@@ -103,14 +103,14 @@ from_position = served_means before before holding (moved 0) (Seek 1 (negsuc 0) 
 from_end : Meaning before holding (Seek 1 (pos 0) (pos 1)) later before (moved 5) (record { action = pos 1008; res1 = pos 1; res2 = pos 0; body = Empty })
 from_end = served_means before before holding (moved 5) (Seek 1 (pos 0) (pos 1)) later _ (rw handle_1 refl) (record { success = rw handle_1 refl; action = refl; res2 = refl })
 
--- READ: three bytes, and fewer than asked at the end, where the rest of the buffer stays
+-- READ: three bytes; and fewer than requested at the end, with the rest of the buffer unchanged
 read_within : Meaning before holding (Read 1 (codes "...")) later before (moved 4) (record { action = pos 82; res1 = pos 3; res2 = pos 0; body = Buffer (codes "ell") })
 read_within = served_means before before holding (moved 4) (Read 1 (codes "...")) later _ (rw handle_1 refl) (record { success = rw handle_1 refl; action = refl; res2 = refl })
 
 read_to_end : Meaning before holding (Read 1 (codes "......")) later before (moved 5) (record { action = pos 82; res1 = pos 4; res2 = pos 0; body = Buffer (codes "ello..") })
 read_to_end = served_means before before holding (moved 5) (Read 1 (codes "......")) later _ (rw handle_1 refl) (record { success = rw handle_1 refl; action = refl; res2 = refl })
 
--- SET_PROTECT: the file has the bits, and the volume the date
+-- SET_PROTECT: the file has the bits, and the disk has the date
 protected : Meaning before holding (SetProtect 0 (codes "F") 5) later (disk later (file opened 5 (codes "hello"))) holding (done (SetProtect 0 (codes "F") 5) Empty)
 unfolding steps steps_along last_name front
 protected = served_means before (disk later (file opened 5 (codes "hello"))) holding holding (SetProtect 0 (codes "F") 5) later _ refl (record {
@@ -119,7 +119,7 @@ protected = served_means before (disk later (file opened 5 (codes "hello"))) hol
   res2 = refl;
 })
 
--- WRITE: two bytes over those of the file, whose date is the moment, and whose archive bit is clear
+-- WRITE: two bytes over those of the file; its date is the time stamp, and its archive bit is clear
 overwritten : Meaning before holding (Write 1 (codes "HI")) later (disk later (file later 0 (codes "hHIlo"))) (moved 3) (record { action = pos 87; res1 = pos 2; res2 = pos 0; body = Buffer (codes "HI") })
 overwritten = served_means before (disk later (file later 0 (codes "hHIlo"))) holding (moved 3) (Write 1 (codes "HI")) later _ (rw handle_1 refl) (record {
   success = rw handle_1 (λ i. after (record (disk later greeting) { nodes = λ key. replaced (key == 4) (Some (file later 0 (codes "hHIlo"))) (Some greeting) (if key == 8 then Some root_node else None) i }) (moved 3) (pos 2) (Buffer (codes "HI")));
@@ -143,10 +143,10 @@ shared_lock = served_means before before opening_session located (LocateObject 0
 first_entry : Meaning before holding (ExamineNext 0 8) later before holding (done (ExamineNext 0 8) (Entry (record { key = 4; entry_type = negsuc 2; name = codes "f"; protection = record { 0 = 16 }; size = 5; blocks = 2; date = opened; comment = [] })))
 first_entry = served_means before before holding holding (ExamineNext 0 8) later _ refl (record { success = (4, [], refl, (greeting, refl, refl)); action = refl; res2 = refl })
 
--- DISK_INFO: of the 14 blocks behind the boot blocks the root, the bitmap and the file's two are in use
+-- DISK_INFO: of the 14 blocks after the boot blocks, the root, the bitmap block and the file's two are in use
 told_of_disk : Meaning before holding DiskInfo later before holding (done DiskInfo (Disk (record { state = 82; blocks = 14; used = 4; bytes_per_block = 512; disk_type = 0x444F5301 })))
 told_of_disk = served_means before before holding holding DiskInfo later _ refl (record { success = refl; action = refl; res2 = refl })
 
--- DIE: where nothing is held
+-- DIE: nothing is held
 dies : Meaning before opening_session Die later before (record opening_session { died = true }) (done Die Empty)
 dies = served_means before before opening_session (record opening_session { died = true }) Die later _ (rw no_holds refl) (record { success = refl; action = refl; res2 = refl })

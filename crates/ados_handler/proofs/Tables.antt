@@ -1,4 +1,4 @@
--- A slab's values under the numbers from 1 on.
+-- The values of a slab under numbers from 1.
 use Rattle.std.proofs.Common.{◌≡◌, ◌≢◌, ℕ, zero, suc, ◌+◌, ◌-◌, ◌<◌, Bool, true, false, cond, List, [], ◌∷◌, map, get_or, Some, None, refl, sym, ap, ◌∙◌, inl, inr, arith, add-zero}
 use Rattle.std.specs.Prelude.{Option, ◌&&◌, T}
 use Rattle.std.specs.Ordering.{nat_cmp, eq_by_cmp, is_lt}
@@ -29,13 +29,13 @@ below_entries [] i j h = tt
 below_entries (None ∷ rest) i j h = below_entries rest i (j + 1) (omega (arith, h))
 below_entries (Some x ∷ rest) i j h = both _ _ (is_below i j h) (below_entries rest i (j + 1) (omega (arith, h)))
 
--- the entries of a slab rise by their numbers
+-- the numbers of a slab's entries rise
 pub sorted_entries : {X : Type 0} (slots : List (Option X)) (i : ℕ) → T (is_sorted nat_cmp (entries_from i slots))
 sorted_entries [] i = tt
 sorted_entries (None ∷ rest) i = sorted_entries rest (i + 1)
 sorted_entries (Some x ∷ rest) i = both _ _ (below_entries rest i (i + 1) (omega arith)) (sorted_entries rest (i + 1))
 
--- the value at a place, and none before the first
+-- the value at a position, and none before the first
 find_before : {X : Type 0} (slots : List (Option X)) (i q : ℕ) → q < i → find nat_cmp q (entries_from i slots) ≡ None
 find_before [] i q h = refl
 find_before (None ∷ rest) i q h = find_before rest (i + 1) q (omega (arith, h))
@@ -59,7 +59,7 @@ find_at (Some x ∷ rest) i (suc k) = elim (number_tells (i + suc k) i) [
 ]
 
 module _ {X : Type 0} where
-  -- number 0 has none, and number k + 1 what the slab has under k
+  -- number 0 has no value, and number k + 1 that of the slab under k
   pub get_zero : (s : Slab X) → numbered.get (numbered_from_one s) 0 ≡ None
   get_zero s = get-from_sorted nat_cmp (entries_from 1 s.slots) 0 (sorted_entries s.slots 1) ∙ find_before s.slots 1 0 (omega arith)
 
@@ -68,7 +68,7 @@ module _ {X : Type 0} where
       get-from_sorted nat_cmp (entries_from 1 s.slots) number (sorted_entries s.slots 1)
       ∙ ap (λ n. find nat_cmp n (entries_from 1 s.slots)) (let e : number ≡ 1 + (number - 1) = omega (arith, h) in e) ∙ find_at s.slots 1 (number - 1)
 
-  -- an update of the slab changes its number alone
+  -- an update of the slab changes the value of one number
   pub get_updated : (old new : Slab X) (key : ℕ) (slot : Option X) → Updates old new key slot → (q : ℕ)
       → numbered.get (numbered_from_one new) q ≡ cond (eq_by_cmp nat_cmp q (key + 1)) slot (numbered.get (numbered_from_one old) q)
   get_updated old new key slot updates q = elim (eqb_tells q 0) [
@@ -86,7 +86,7 @@ module _ {X : Type 0} where
     ]
   ]
 
-  -- so it is an insert or a remove
+  -- so it is an insertion or a removal
   pub update_inserts : (old new : Slab X) (key : ℕ) (value : X) → Updates old new key (Some value) → numbered_from_one new ≡ numbered.insert (numbered_from_one old) (key + 1) value
   update_inserts old new key value updates = same_map nat_cmp_total nat_cmp-IsAntisymmetric _ _ (λ q.
       get_updated old new key (Some value) updates q ∙ sym (get-insert nat_cmp_total (numbered_from_one old) (key + 1) value q))
@@ -95,7 +95,7 @@ module _ {X : Type 0} where
   update_removes old new key updates = same_map nat_cmp_total nat_cmp-IsAntisymmetric _ _ (λ q.
       get_updated old new key None updates q ∙ sym (get-remove nat_cmp_total (numbered_from_one old) (key + 1) q))
 
-  -- to remove number 0 changes nothing
+  -- the removal of number 0 changes nothing
   pub remove_zero : (s : Slab X) → numbered_from_one s ≡ numbered.remove (numbered_from_one s) 0
   remove_zero s = same_map nat_cmp_total nat_cmp-IsAntisymmetric _ _ (λ q. sym (get-remove nat_cmp_total (numbered_from_one s) 0 q ∙ elim (number_tells q 0) [
     | inl w ↦ ap (λ b. cond b None (numbered.get (numbered_from_one s) q)) w.0 ∙ sym (get_zero s) ∙ ap (numbered.get (numbered_from_one s)) (sym w.1)
@@ -123,6 +123,6 @@ filtered [] i = refl
 filtered (None ∷ rest) i = filtered rest (i + 1)
 filtered (Some x ∷ rest) i = ap suc (filtered rest (i + 1))
 
--- as many values as the slab has
+-- equally many values as in the slab
 pub values_counted : {X : Type 0} (s : Slab X) → slab_len s ≡ length (numbered.values (numbered_from_one s))
 values_counted s = sym (ap length (values_are s) ∙ filtered s.slots 0 ∙ length-filter is_some s.slots)

@@ -1,22 +1,22 @@
--- Packets that set what is told of an object keep tree and session proper.
+-- Packets that set an object's metadata keep tree and session proper.
 use Rattle.std.proofs.Common.{◌≡◌, ◌≢◌, ℕ, true, false, inl, inr, List, Option, Some, None, option_map, refl, sym, ap, ◌∙◌, subst, eq-eqb}
 use Rattle.std.specs.Prelude.{◌∷◌, ◌==◌}
 use Rattle.std.specs.Result.{result_err}
 use Rattle.std.proofs.lemmas.Bool.{cases_eq}
 use Rattle.ados_name.specs.declared.Date3.{Date3}
 use Rattle.ados_name.specs.Path.{IsPathText}
-use Rattle.ados_tree.specs.Tree.{Node, Tree, Proper, root}
-use Rattle.ados_tree.specs.Change.{changed, stamped, with_node}
-use Rattle.ados_tree.proofs.Nodes.{some_in}
+use Rattle.ados_model.specs.Tree.{Node, Tree, Proper, root}
+use Rattle.ados_model.specs.Change.{changed, stamped, with_node}
+use Rattle.ados_model.proofs.Nodes.{some_in}
 use Rattle.ados_change.proofs.Retells.{Retells, proper_after}
 use Rattle.ados_change.proofs.Cases.{bits_case, comment_case, date_case, name_case}
 use Rattle.ados_change.proofs.Loose.{stamped_is_proper}
-use Rattle.ados_packet.specs.declared.dos_error.DosError.TheVariants.{CommentTooBig, DeviceNotMounted, InvalidComponentName, InvalidLock, ObjectWrongType}
-use Rattle.ados_packet.specs.declared.packet.Packet.TheVariants.{SetProtect, SetComment, SetDate, RenameDisk}
-use Rattle.ados_handler.specs.Session.{Session, is_lock}
-use Rattle.ados_handler.specs.Objects.{walk_error, object, found}
-use Rattle.ados_handler.specs.Refusals.{refuse, refusals, is_name, is_comment}
-use Rattle.ados_handler.specs.Success.{After}
+use Rattle.ados_model.specs.declared.dos_error.DosError.TheVariants.{CommentTooBig, DeviceNotMounted, InvalidComponentName, InvalidLock, ObjectWrongType}
+use Rattle.ados_model.specs.declared.packet.Packet.TheVariants.{SetProtect, SetComment, SetDate, RenameDisk}
+use Rattle.ados_model.specs.Session.{Session, is_lock}
+use Rattle.ados_model.specs.Objects.{walk_error, object, found}
+use Rattle.ados_model.specs.Refusals.{refuse, refusals, is_name, is_comment}
+use Rattle.ados_model.specs.Success.{After}
 use Rattle.ados_handler.specs.ProperSession.{IsProperSession}
 use Rattle.ados_handler.specs.Keeps.{KeepsProper}
 use Rattle.ados_handler.proofs.Holding.{true_false}
@@ -25,13 +25,13 @@ use Rattle.ados_handler.proofs.Walked.{root_is_key, found_is_key, no_error}
 use Rattle.ados_handler.proofs.Reading.{none_refuses, not_refused, from_not, IsProperAfter, by_success}
 use Rattle.ados_handler.proofs.Carrying.{carried_content, carried_changed, carried_session}
 
--- a tree with one node told of anew, and another disk date, is proper
+-- a tree with one node's metadata and the disk date replaced is proper
 pub told_proper : (t : Tree) → Proper t → (key : ℕ) (node : Node) → t.nodes key ≡ Some node → (f : Node → Node) → Retells t key node (f node) t.disk_date → (now : Date3) → Proper (stamped now (changed key f t))
 told_proper t proper key node at f retells now =
     stamped_is_proper now (changed key f t)
     (subst (λ (o : Option Node). Proper (with_node key o t)) (sym (ap (option_map f) at)) (proper_after t key node (f node) t.disk_date retells proper))
 
--- where the node keeps its content, the holds stay proper too
+-- if the node keeps its content, the holds stay proper too
 pub tells : (t : Tree) (now : Date3) (result : After) → Proper t → (key : ℕ) (f : Node → Node) → ((node : Node) → (f node).content ≡ node.content)
     → (node : Node) → t.nodes key ≡ Some node → Retells t key node (f node) t.disk_date → (u : Session) → IsProperSession t u → result.tree ≡ stamped now (changed key f t) → result.session ≡ u → IsProperAfter result
 tells t now result proper key f same node at retells u holds tree is =
@@ -41,12 +41,12 @@ tells t now result proper key f same node at retells u holds tree is =
           (carried_session t told u holds (λ hold k e h. carried_changed t key f (λ a at_a. carried_content a (f a) (same a)) k))),
     )
 
--- the object that a packet marks is a node other than the root
+-- the object of the packet is a node other than the root
 pub not_root : (key r : ℕ) → (key == r) ≡ false → key ≢ r
 not_root key r h e = elim (cases_eq key r) [ inl d ↦ absurd (true_false (sym (rw e (eq-eqb r r refl)) ∙ h)) | inr n ↦ n e ]
 
 module _ (t : Tree) (s : Session) (proper : Proper t) (session : IsProperSession t s) where
-  -- the node of a walk that was not refused
+  -- the node of a walk that is not refused
   pub walked_node : (lock : ℕ) (path : List ℕ) → is_lock s lock ≡ true → option_map walk_error (result_err (found t s lock path)) ≡ None → (node : Node) × (t.nodes (object t s lock path) ≡ Some node)
   walked_node lock path held walked = some_in (t.nodes (object t s lock path)) (found_is_key t proper s session lock path (object t s lock path) held (no_error walk_error (found t s lock path) 0 walked))
 

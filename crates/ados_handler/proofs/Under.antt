@@ -1,4 +1,5 @@
--- A key lies under another where repeated parents lead to it, which `is_under` finds among as many as there are blocks.
+-- A key is below another if a chain of parents leads to that. `is_under` finds this within as many steps as there are
+-- blocks.
 use Rattle.std.proofs.Common.{◌≡◌, ◌≢◌, ℕ, zero, suc, ◌+◌, ◌<◌, ◌≤◌, inl, inr, Bool, true, false, nat_eq, ◌==◌, List, [], ◌∷◌, length, Contains, Option, Some, None, refl, sym, ap, ◌∙◌, subst, arith, eq-eqb, eqb-true}
 use Rattle.std.specs.Prelude.{◌||◌, option_and_then}
 use Rattle.std.specs.List.{list_any}
@@ -6,13 +7,13 @@ use Rattle.std.specs.Option.{option_map_or}
 use Rattle.std.proofs.lemmas.Bool.{false≢true}
 use Rattle.std.proofs.lemmas.List.Elements.{Contains-get_or}
 use Rattle.std.proofs.lemmas.List.Kept.{AllPairs-cons}
-use Rattle.ados_chain.proofs.Lists.{Once, Contains-cases, Contains-here, Contains-later, Contains-nil, length-once}
-use Rattle.ados_tree.specs.Tree.{Tree, Proper, LeadsToRoot, parent_of, root}
-use Rattle.ados_tree.specs.Tree.LeadsToRoot.{at_root, by_parent}
-use Rattle.ados_tree.proofs.Nodes.{parent_in, some_in}
+use Rattle.ados_model.proofs.KeyLists.{Once, Contains-cases, Contains-here, Contains-later, Contains-nil, length-once}
+use Rattle.ados_model.specs.Tree.{Tree, Proper, LeadsToRoot, parent_of, root}
+use Rattle.ados_model.specs.Tree.LeadsToRoot.{at_root, by_parent}
+use Rattle.ados_model.proofs.Nodes.{parent_in, some_in}
 use Rattle.ados_change.specs.Conditions.{IsUnder}
 use Rattle.ados_change.specs.Conditions.IsUnder.{itself, by_parent as under_parent}
-use Rattle.ados_handler.specs.Objects.{upward}
+use Rattle.ados_model.specs.Objects.{upward}
 use Rattle.ados_handler.specs.Keeps.{UnderIsTold}
 
 module _ (t : Tree) (proper : Proper t) where
@@ -27,7 +28,7 @@ module _ (t : Tree) (proper : Proper t) where
   extended above key dir p (itself e) = under_parent (ap (parent_of t) e ∙ p) (itself refl)
   extended above key dir p (under_parent q u) = under_parent q (extended above _ dir p u)
 
-  -- no directory lies under an object that it holds
+  -- no directory is below an object that it holds
   no_loop : (key dir : ℕ) → LeadsToRoot t key → parent_of t key ≡ Some dir → IsUnder t key dir → ⊥
   no_loop key dir (at_root e) p u = no_parent key dir e p
   no_loop key dir (by_parent {dir = d} q rest) p u =
@@ -60,7 +61,7 @@ module _ (t : Tree) (proper : Proper t) where
       let same : d ≡ dir = cc (q, p) in
       Contains-later key (line dir rest) above (on_line dir above rest (subst (IsUnder t above) same u))
 
-  -- each of them is a node, and no one comes twice
+  -- each of them is a node, and none occurs twice
   line_inside : (key : ℕ) (l : LeadsToRoot t key) (x : ℕ) → Contains (line key l) x → x < t.blocks
   unfolding line
   line_inside key (at_root e) x c = elim (Contains-cases key [] x c) [
@@ -98,7 +99,7 @@ module _ (t : Tree) (proper : Proper t) where
   upward_line (suc n) key (by_parent {dir = dir} p rest) short =
       ap (λ (o : Option ℕ). key ∷ option_map_or (upward t n) o []) p ∙ ap (λ (xs : List ℕ). key ∷ xs) (upward_line n dir rest (omega (arith, short)))
 
--- a test of a list finds what the list has
+-- a test of a list finds an element of it
 found_in : (xs : List ℕ) (x : ℕ) → Contains xs x → list_any (λ k. k == x) xs ≡ true
 found_in [] x c = absurd (Contains-nil x c)
 found_in (y ∷ ys) x c = elim (Contains-cases y ys x c) [

@@ -1,21 +1,20 @@
--- Packets that take an entry out of its directory's list keep tree and session proper.
+-- Packets that remove an entry from its directory's list keep tree and session proper.
 use Rattle.std.proofs.Common.{◌≡◌, ◌≢◌, ℕ, inl, inr, Bool, true, false, not, nat_eq, ◌==◌, List, [], ◌∷◌, filter, Contains, Option, Some, None, option_map, refl, sym, ap, ◌∙◌, subst, eqb-true}
 use Rattle.std.proofs.lemmas.Bool.{false≢true, true≢false}
 use Rattle.ados_name.specs.declared.Date3.{Date3}
 use Rattle.ados_name.specs.Name.{Same}
 use Rattle.ados_name.specs.Path.{IsPathText}
-use Rattle.ados_tree.specs.Tree.{Node, Tree, Proper, entries, name_of, parent_of, root}
-use Rattle.ados_tree.specs.Walk.{child_of}
-use Rattle.ados_tree.specs.Change.{changed, left, removed, renamed, with_node}
-use Rattle.ados_tree.proofs.Nodes.{directory_node, root_or_parent}
+use Rattle.ados_model.specs.Tree.{Node, Tree, Proper, entries, name_of, parent_of, root}
+use Rattle.ados_model.specs.Change.{child_of, changed, left, removed, renamed, with_node}
+use Rattle.ados_model.proofs.Nodes.{directory_node, root_or_parent}
 use Rattle.ados_change.specs.Conditions.{CanRename, IsDirectoryKey}
 use Rattle.ados_change.proofs.Loose.{left_is}
 use Rattle.ados_change.proofs.ProperChanges.{into_directory, removed_is_proper, renamed_is_proper}
-use Rattle.ados_packet.specs.declared.dos_error.DosError.TheVariants.{DeviceNotMounted, DirectoryNotEmpty, InvalidLock, ObjectExists, ObjectInUse, ObjectWrongType}
-use Rattle.ados_packet.specs.declared.packet.Packet.TheVariants.{DeleteObject, RenameObject}
-use Rattle.ados_handler.specs.Session.{is_lock}
-use Rattle.ados_handler.specs.Objects.{is_under, object, spot_directory, spot_name, standing}
-use Rattle.ados_handler.specs.Refusals.{refuse, refusals, is_empty, is_some_and}
+use Rattle.ados_model.specs.declared.dos_error.DosError.TheVariants.{DeviceNotMounted, DirectoryNotEmpty, InvalidLock, ObjectExists, ObjectInUse, ObjectWrongType}
+use Rattle.ados_model.specs.declared.packet.Packet.TheVariants.{DeleteObject, RenameObject}
+use Rattle.ados_model.specs.Session.{is_lock}
+use Rattle.ados_model.specs.Objects.{is_under, object, spot_directory, spot_name, standing}
+use Rattle.ados_model.specs.Refusals.{refuse, refusals, is_empty, is_some_and}
 use Rattle.ados_handler.specs.ProperSession.{HoldNumber, hold_at}
 use Rattle.ados_handler.specs.Keeps.{KeepsProper}
 use Rattle.ados_handler.proofs.Holding.{not_held}
@@ -39,7 +38,7 @@ module _ (t : Tree) (proper : Proper t) (key dir : ℕ) (below : parent_of t key
       let d = directory_node t proper dir key ((proper.listed dir key).1 below) in
       (d.1, ap (λ (o : Option Node). option_map (λ node. node.content) o) d.2 ∙ ap Some d.3)
 
-  -- an entry that leaves its list leaves each object as it was
+  -- an entry that leaves its list leaves each object unchanged
   left_carried : (k : ℕ) → Carried (t.nodes k) ((left moment key t).nodes k)
   left_carried k =
       subst (λ (u : Tree). Carried (t.nodes k) (u.nodes k)) (sym (left_is t proper key dir below moment))

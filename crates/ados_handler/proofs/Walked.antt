@@ -1,24 +1,24 @@
--- The walks of packets lead to nodes.
+-- The walks of packets end at nodes.
 use Rattle.std.proofs.Common.{◌≡◌, ℕ, Bool, true, false, cond, List, [], ◌∷◌, nat_eq, Option, Some, None, Result, Ok, Err, IsSome, is_some, refl, sym, ap, ◌∙◌}
 use Rattle.std.specs.Prelude.{◌||◌, ok_or, option_map}
 use Rattle.std.specs.Option.{option_map_or}
 use Rattle.std.specs.Result.{result_err, result_unwrap_or}
 use Rattle.std.specs.FinMap.{get}
-use Rattle.ados_name.specs.Path.{Step, is_from_root, steps}
-use Rattle.ados_name.specs.Path.Step.{ToParent, ToChild}
-use Rattle.ados_tree.specs.Tree.{Tree, Proper, root, entries, parent_of}
-use Rattle.ados_tree.specs.Walk.{and_then, child_of, is_file, missing_before, start_of, step_from, walk_steps}
-use Rattle.ados_tree.specs.declared.path_fault.WalkFault.{WalkFault}
-use Rattle.ados_tree.specs.declared.path_fault.WalkFault.TheVariants.{ObjectNotFound, WrongType}
-use Rattle.ados_tree.proofs.Nodes.{entry_node, directory_node}
+use Rattle.ados_name.specs.Name.{Step, is_from_root, steps}
+use Rattle.ados_name.specs.Name.Step.{ToParent, ToChild}
+use Rattle.ados_model.specs.Tree.{Tree, Proper, root, entries, parent_of}
+use Rattle.ados_model.specs.Change.{and_then, child_of, is_file, missing_before, start_of, step_from, walk_steps}
+use Rattle.ados_model.specs.declared.dos_error.WalkFault.{WalkFault}
+use Rattle.ados_model.specs.declared.dos_error.WalkFault.TheVariants.{ObjectNotFound, WrongType}
+use Rattle.ados_model.proofs.Nodes.{entry_node, directory_node}
 use Rattle.ados_volume.proofs.Walking.{find-is}
-use Rattle.ados_handler.specs.Session.{Session, is_lock}
-use Rattle.ados_handler.specs.declared.holds.LockHold.{LockHold}
-use Rattle.ados_handler.specs.Objects.{lock_key, found}
+use Rattle.ados_model.specs.Session.{Session, is_lock}
+use Rattle.ados_model.specs.declared.holds.LockHold.{LockHold}
+use Rattle.ados_model.specs.Objects.{lock_key, found}
 use Rattle.ados_handler.specs.ProperSession.{IsProperSession}
 use Rattle.ados_handler.specs.ProperSession.HoldNumber.{ByLock}
 
--- a result that has no error has its value
+-- a result without an error has its value
 pub no_error : {A E D : Type 0} (number : E → D) (r : Result A E) (d : A) → option_map number (result_err r) ≡ None → r ≡ Ok (result_unwrap_or r d)
 no_error number (Ok x) d e = refl
 no_error number (Err c) d e = absurd (cc e)
@@ -35,7 +35,7 @@ module _ (t : Tree) (proper : Proper t) where
   pub root_is_key : IsSome (t.nodes (root t))
   root_is_key = ap is_some proper.root_node.1
 
-  -- a child is a node, and so is a parent
+  -- a child is a node, and a parent is a node
   pub child_is_key : (dir : ℕ) (name : List ℕ) (key : ℕ) → child_of t dir name ≡ Some key → IsSome (t.nodes key)
   child_is_key dir name key e = ap is_some (entry_node t proper dir key (find-is _ (entries t dir) key e).0).1
 
@@ -50,7 +50,7 @@ module _ (t : Tree) (proper : Proper t) where
       go true e = absurd (cc e)
       go false e = child_is_key at name key (ok_or_some (child_of t at name) missing key e)
 
-  -- steps from a node lead to a node
+  -- steps from a node end at a node
   pub walk_key : (start : ℕ) (path : List Step) (last : WalkFault) (key : ℕ) → IsSome (t.nodes start) → walk_steps t start path last ≡ Ok key → IsSome (t.nodes key)
   walk_key start [] last key there e = let same : start ≡ key = cc e in ap (λ k. is_some (t.nodes k)) (sym same) ∙ there
   walk_key start (step ∷ rest) last key there e =
@@ -70,7 +70,7 @@ module _ (t : Tree) (proper : Proper t) where
         go true h = root_is_key
         go false h = at_lock (get s.locks lock) refl h
 
-    -- where a path from it starts there is one
+    -- the start of a path from it is a node
     pub start_is_key : (lock : ℕ) (path : List ℕ) → is_lock s lock ≡ true → IsSome (t.nodes (start_of t (lock_key t s lock) path))
     start_is_key lock path held = go (is_from_root path)
       where
@@ -78,6 +78,6 @@ module _ (t : Tree) (proper : Proper t) where
         go true = root_is_key
         go false = lock_is_key lock held
 
-    -- and where it leads
+    -- the end of the path is a node
     pub found_is_key : (lock : ℕ) (path : List ℕ) (key : ℕ) → is_lock s lock ≡ true → found t s lock path ≡ Ok key → IsSome (t.nodes key)
     found_is_key lock path key held e = walk_key (start_of t (lock_key t s lock) path) (steps path) ObjectNotFound key (start_is_key lock path held) e

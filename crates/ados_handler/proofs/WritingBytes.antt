@@ -1,30 +1,27 @@
--- What WRITE means where it is not refused.
+-- The meaning of WRITE if it is not refused.
 use Rattle.std.proofs.Common.{◌≡◌, ℕ, ◌+◌, ◌-◌, ◌≤◌, pos, Bool, true, false, List, [], ◌∷◌, ◌++◌, length, take, drop, Some, None, inl, inr, refl, sym, ap, ap₂, ◌∙◌, subst, arith, length-take, length-append, ltb-false}
 use Rattle.std.specs.Prelude.{max}
 use Rattle.std.specs.Ordering.{nat_cmp}
 use Rattle.std.specs.FinMap.{FinMap, get}
 use Rattle.std.proofs.lemmas.Bool.{false_from_ne_true, ltb-true}
 use Rattle.std.proofs.lemmas.List.{nil_from_length}
-use Rattle.ados_data.specs.Cost.{block_cost}
+use Rattle.ados_model.specs.Tree.{block_cost, Tree, Proper, bytes_of, content_at, size_of, needs_more}
 use Rattle.ados_name.specs.declared.Date3.{Date3}
-use Rattle.ados_name.specs.Protection.{denies_write}
-use Rattle.ados_tree.specs.NewBlocks.{KeepsRest}
-use Rattle.ados_tree.specs.Tree.{Tree, Proper, bytes_of, content_at, size_of}
-use Rattle.ados_tree.specs.Stands.{Stands}
-use Rattle.ados_tree.specs.Keys.{HasFileKey, HasTree}
-use Rattle.ados_tree.specs.Walk.{holds_file, is_file}
-use Rattle.ados_tree.specs.Change.{overlaid, written}
+use Rattle.ados_name.specs.Name.{denies_write}
+use Rattle.ados_change.specs.NewBlocks.{KeepsRest}
+use Rattle.ados_model.specs.Stands.{Stands}
+use Rattle.ados_model.specs.Keys.{HasFileKey, HasTree}
+use Rattle.ados_model.specs.Change.{holds_file, is_file, overlaid, written}
 use Rattle.ados_change.specs.Renewed.{NeedsMore}
-use Rattle.ados_packet.specs.declared.dos_error.DosError.TheVariants.{DiskFull, WriteProtected}
-use Rattle.ados_packet.specs.declared.packet.Packet.TheVariants.{Write}
-use Rattle.ados_packet.specs.declared.results.Results.{Results}
-use Rattle.ados_packet.specs.declared.answer.Body.TheVariants.{Buffer}
-use Rattle.ados_handler.specs.Session.{Session, at_position, handle_key, handle_position}
-use Rattle.ados_handler.specs.declared.holds.HandleHold.{HandleHold}
-use Rattle.ados_handler.specs.Objects.{needs_more, protection_of}
-use Rattle.ados_handler.specs.Refusals.{first_refusal, refuse, refusal}
-use Rattle.ados_handler.specs.Success.{after}
-use Rattle.ados_handler.specs.Handler.{HandlerState}
+use Rattle.ados_model.specs.declared.dos_error.DosError.TheVariants.{DiskFull, WriteProtected}
+use Rattle.ados_model.specs.declared.packet.Packet.TheVariants.{Write}
+use Rattle.ados_model.specs.declared.results.Results.{Results}
+use Rattle.ados_model.specs.declared.answer.Body.TheVariants.{Buffer}
+use Rattle.ados_model.specs.Session.{Session, at_position, handle_key, handle_position, HandlerState}
+use Rattle.ados_model.specs.declared.holds.HandleHold.{HandleHold}
+use Rattle.ados_model.specs.Objects.{protection_of}
+use Rattle.ados_model.specs.Refusals.{first_refusal, refuse, refusal}
+use Rattle.ados_model.specs.Success.{after}
 use Rattle.ados_handler.specs.Gives.{LeavesImage}
 use Rattle.ados_handler.specs.steps.Methods.{MethodGives, MethodMeans, answer_to}
 use Rattle.ados_handler.proofs.Reading.{size_is}
@@ -49,7 +46,7 @@ module _ (t : Tree) (s : Session) (handle : ℕ) (bytes : List ℕ) (hold : Hand
       served_means t (written now hold.key hold.position bytes t) s new (Write handle bytes) now (answers count (Buffer bytes)) none
       (record { success = λ i. after (written now (sym key i) (sym position i) bytes t) (moves i) (pos (counted i)) (Buffer bytes); action = refl; res2 = refl })
 
--- what a WRITE that is served leaves of the image
+-- what a served WRITE leaves untouched in the image
 written_leaves : (t : Tree) (old new : HandlerState) (handle : ℕ) (bytes : List ℕ) (results : Results) → results.res2 ≡ pos 0 → KeepsRest old.image new.image → (bytes ≡ [] → new.image ≡ old.image)
     → LeavesImage t old (Write handle bytes) new (answer_to (Write handle bytes) results)
 written_leaves t old new handle bytes results served keeps empty = record {
@@ -87,7 +84,7 @@ module _ (old given : HandlerState) (same : old ≡ given) (t : Tree) (stood : S
         validated = kept;
       })
 
--- behind a file's new bytes the file does not end
+-- the file does not end before its new bytes
 written_reaches : (t : Tree) → Proper t → (now : Date3) (key start : ℕ) → is_file t key ≡ true → start ≤ size_of t key → (bytes : List ℕ) → start + length bytes ≤ size_of (written now key start bytes t) key
 written_reaches t proper now key start file within [] = omega (arith, within)
 written_reaches t proper now key start file within (c ∷ cs) =
@@ -98,7 +95,7 @@ written_reaches t proper now key start file within (c ∷ cs) =
     let front = length-append (take start old) new in
     omega (arith, size, whole, front, length-take start old, size_is (content_at t key), within)
 
--- they end where a file can
+-- the bytes end at most at the largest size of a file
 pub written_end : (old new : List ℕ) → HasTree old → (now : Date3) (key start : ℕ) → HasFileKey old key → ((t : Tree) → Stands old t → start ≤ size_of t key) → (bytes : List ℕ)
     → ((t : Tree) → Stands old t → Stands new (written now key start bytes t)) → start + length bytes ≤ 52020224
 written_end old new (t, stands) now key start file within bytes stood =
@@ -106,7 +103,7 @@ written_end old new (t, stands) now key start file within bytes stood =
     let reaches = written_reaches t stands.proper now key start is (within t stands) bytes in
     omega (arith, reaches, size_small new (written now key start bytes t) (stood t stands) key)
 
--- to write no bytes there is room, and they change no tree
+-- no bytes need no free blocks, and change no tree
 pub written_none : (image : List ℕ) → HasTree image → (now : Date3) (key start : ℕ) → ((t : Tree) → Stands image t → start ≤ size_of t key) → (bytes : List ℕ) → length bytes ≡ 0
     → (start ≡ start + length bytes) × (start ≤ 52020224)
     × ((t : Tree) → Stands image t → (¬ NeedsMore t key (max (size_of t key) (start + length bytes))) × Stands image (written now key start bytes t))

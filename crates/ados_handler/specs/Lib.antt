@@ -1,13 +1,11 @@
--- What a handler holds, when it refuses a packet and what it does with one, and the laws of that.
-pub use Rattle.ados_packet.specs.Numbers
-pub use Rattle.ados_packet.specs.Packet
-pub mod Session
+-- What a handler gives for a packet, and laws about it. The meaning of packets is in `ados_model`.
+pub use Rattle.ados_model.specs.Packet
+pub use Rattle.ados_model.specs.Session
 pub mod ProperSession
-pub mod Objects
-pub mod Refusals
-pub mod Success
-pub mod Meaning
-pub mod Handler
+pub use Rattle.ados_model.specs.Objects
+pub use Rattle.ados_model.specs.Refusals
+pub use Rattle.ados_model.specs.Success
+pub use Rattle.ados_model.specs.Meaning
 pub mod Gives
 pub mod Keeps
 pub mod Closing

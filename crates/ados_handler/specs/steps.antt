@@ -1,5 +1,5 @@
--- What only a step inside needs: what the method of a packet comes to, how files are opened and written, objects moved and locks
--- given, the table of the holds and the positions in it, and why a reply that closes is given by a handler that has died.
+-- Definitions for steps: the results of a packet's method, opening and writing of files, moves of objects, new locks,
+-- the table of holds and its positions, and replies that close.
 pub mod Methods
 pub mod Table
 pub mod Positions

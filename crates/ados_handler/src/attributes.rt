@@ -1,11 +1,11 @@
-//! Packets that change what is told of an object.
+//! Packets that change an object's metadata.
 
-ghost use Rattle.ados_packet.specs.declared.packet.Packet.TheVariants.{RenameDisk, SetComment, SetDate, SetProtect};
+ghost use Rattle.ados_model.specs.declared.packet.Packet.TheVariants.{RenameDisk, SetComment, SetDate, SetProtect};
 ghost use Rattle.ados_handler.specs.steps.Methods.{MethodGives};
 
 use crate::handler::Handler;
+use ados_model::{Body, DosError, Results};
 use ados_name::{Comment, Date3, Name, PathText, Protect};
-use ados_packet::{Body, DosError, Results};
 
 impl Handler {
     /// RENAME_DISK.

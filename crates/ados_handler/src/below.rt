@@ -1,15 +1,16 @@
-//! What lies under an object.
+//! The directories above an object.
 
 ghost use Rattle.std.specs.Prelude.{◌≡◌};
-ghost use Rattle.ados_tree.specs.Tree.{Tree};
-ghost use Rattle.ados_tree.specs.Stands.{Stands};
-ghost use Rattle.ados_tree.specs.Keys.{HasKey};
-ghost use Rattle.ados_handler.specs.Objects.{is_under};
+ghost use Rattle.ados_model.specs.Tree.{Tree};
+ghost use Rattle.ados_model.specs.Stands.{Stands};
+ghost use Rattle.ados_model.specs.Keys.{HasKey};
+ghost use Rattle.ados_model.specs.Objects.{is_under};
 
 use crate::handler::Handler;
 
 impl Handler {
-    /// Whether an object is the other, or lies under it. No object has more directories above it than the volume has blocks.
+    /// Whether an object is the other one, or is below it. The search ends, because no object has more directories
+    /// above it than the volume has blocks.
     pub(crate) fn is_under(&self, above: u32, key: u32) -> bool
         requires { HasKey self.now.image key }
         ensures { (t : Tree) → Stands self.now.image t → result ≡ is_under t above key }

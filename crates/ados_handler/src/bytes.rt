@@ -2,22 +2,22 @@
 
 ghost use Rattle.std.specs.Prelude.{◌≡◌, ◌+◌, ◌-◌, ◌≤◌, [], ◌++◌, length, take, drop, min};
 ghost use Rattle.ados_name.specs.declared.Date3.{Date3 as Moment};
-ghost use Rattle.ados_tree.specs.Keys.{HasFileKey, HasTree};
-ghost use Rattle.ados_tree.specs.Tree.{Tree, bytes_of, size_of};
-ghost use Rattle.ados_tree.specs.Stands.{Stands};
-ghost use Rattle.ados_tree.specs.NewBlocks.{KeepsRest};
-ghost use Rattle.ados_packet.specs.declared.packet.Packet.TheVariants.{Read, Seek, Write};
+ghost use Rattle.ados_model.specs.Keys.{HasFileKey, HasTree};
+ghost use Rattle.ados_model.specs.Tree.{Tree, bytes_of, size_of};
+ghost use Rattle.ados_model.specs.Stands.{Stands};
+ghost use Rattle.ados_change.specs.NewBlocks.{KeepsRest};
+ghost use Rattle.ados_model.specs.declared.packet.Packet.TheVariants.{Read, Seek, Write};
 ghost use Rattle.ados_handler.specs.steps.Methods.{MethodGives};
 ghost use Rattle.ados_handler.specs.steps.Files.{WritesOrStays};
 
 use crate::handler::Handler;
 use crate::target::{number_within, target_of};
+use ados_model::{Body, Buffer, DosError, Results};
 use ados_name::Date3;
-use ados_packet::{Body, Buffer, DosError, Results};
 use ados_volume::{Full, Volume};
 
 impl Handler {
-    /// SEEK. The answer is the position before it.
+    /// SEEK. The result is the old position.
     pub(crate) fn seek(&mut self, handle: u32, offset: i32, mode: i32) -> Results
         ensures gives { (now : Moment) → MethodGives self.old (Seek handle offset mode) now self.new result }
     {
@@ -55,7 +55,7 @@ impl Handler {
         Results::counted(count, Body::Buffer(Buffer::from_vec(bytes)))
     }
 
-    /// WRITE, of all the bytes or of none.
+    /// WRITE. It writes all of the bytes, or none.
     pub(crate) fn write(&mut self, handle: u32, bytes: Buffer, now: Date3) -> Results
         ensures { MethodGives self.old (Write handle bytes) now self.new result }
     {
@@ -83,7 +83,7 @@ impl Handler {
     }
 }
 
-/// Copies the bytes of a file from a position on into the buffer, as many as are there and fit, and answers how many.
+/// Copies bytes of a file from a position into the buffer, as many as exist and fit, and returns their number.
 fn read_some(volume: &mut Volume, key: u32, position: u32, buffer: &mut [u8]) -> u32
     requires tree { HasTree volume.old.image }
     requires file { HasFileKey volume.old.image key }
@@ -96,7 +96,7 @@ fn read_some(volume: &mut Volume, key: u32, position: u32, buffer: &mut [u8]) ->
     volume.read_on(key, position as u64, buffer) as u32
 }
 
-/// Writes bytes into a file, where there are any, and answers the position behind them. With no bytes the image stays.
+/// Writes bytes into a file and returns the position after them. No bytes change nothing.
 fn write_some(
     volume: &mut Volume,
     key: u32,

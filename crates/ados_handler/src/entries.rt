@@ -1,17 +1,16 @@
-//! Packets that make entries and take them away.
+//! Packets that make and delete entries.
 
 ghost use Rattle.std.specs.Prelude.{◌≡◌, not};
-ghost use Rattle.ados_tree.specs.Keys.{HasKey};
-ghost use Rattle.ados_tree.specs.Tree.{Tree, entries};
-ghost use Rattle.ados_tree.specs.Stands.{Stands};
-ghost use Rattle.ados_packet.specs.declared.packet.Packet.TheVariants.{CreateDir, DeleteObject};
-ghost use Rattle.ados_handler.specs.Refusals.{is_empty};
+ghost use Rattle.ados_model.specs.Keys.{HasKey};
+ghost use Rattle.ados_model.specs.Tree.{Tree, entries};
+ghost use Rattle.ados_model.specs.Stands.{Stands};
+ghost use Rattle.ados_model.specs.declared.packet.Packet.TheVariants.{CreateDir, DeleteObject};
+ghost use Rattle.ados_model.specs.Refusals.{is_empty};
 ghost use Rattle.ados_handler.specs.steps.Methods.{MethodGives};
 
 use crate::handler::Handler;
-use crate::holds::LockHold;
+use ados_model::{Body, DosError, LockHold, Results};
 use ados_name::{Date3, PathText};
-use ados_packet::{Body, DosError, Results};
 use ados_volume::{Next, NodeKind};
 
 impl Handler {

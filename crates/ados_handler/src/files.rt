@@ -2,16 +2,15 @@
 
 ghost use Rattle.std.specs.Prelude.{◌≡◌, IsTrue};
 ghost use Rattle.ados_name.specs.declared.Date3.{Date3 as Moment};
-ghost use Rattle.ados_tree.specs.Keys.{HasKey};
-ghost use Rattle.ados_packet.specs.declared.packet.Packet.TheVariants.{End, FindInput};
+ghost use Rattle.ados_model.specs.Keys.{HasKey};
+ghost use Rattle.ados_model.specs.declared.packet.Packet.TheVariants.{End, FindInput};
 ghost use Rattle.ados_handler.specs.steps.Methods.{MethodGives};
 ghost use Rattle.ados_handler.specs.steps.Opening.{BringsHandle, OpensShared};
 
 use crate::handler::Handler;
-use crate::holds::HandleHold;
 use crate::table::Table;
+use ados_model::{Body, DosError, HandleHold, Results};
 use ados_name::PathText;
-use ados_packet::{Body, DosError, Results};
 
 impl Handler {
     /// FINDINPUT.
@@ -27,7 +26,7 @@ impl Handler {
         }
     }
 
-    /// A shared handle on a file that is there.
+    /// A shared handle on an existing file.
     pub(crate) fn open_file(&mut self, key: u32) -> Results
         requires { HasKey self.old.image key }
         ensures opens { OpensShared key self.old self.new result }
@@ -60,7 +59,7 @@ impl Handler {
     }
 }
 
-/// The results with a new handle at the beginning of a file, for which a place is ready.
+/// The results with a new handle at the start of a file. The place for it is reserved.
 pub(crate) fn opened(handles: &mut Table<HandleHold>, key: u32, exclusive: bool) -> Results
     requires { IsTrue handles.old.ready }
     ensures { BringsHandle key exclusive handles.old.held handles.new.held result }

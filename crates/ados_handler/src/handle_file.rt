@@ -1,18 +1,18 @@
-//! What is known of the file of a handle.
+//! The file of a handle.
 
 ghost use Rattle.std.specs.Prelude.{◌≡◌, ◌≤◌, IfSome};
 ghost use Rattle.std.specs.FinMap as numbered;
-ghost use Rattle.ados_tree.specs.Keys.{HasFileKey};
-ghost use Rattle.ados_tree.specs.Tree.{Tree, size_of};
-ghost use Rattle.ados_tree.specs.Stands.{Stands};
-ghost use Rattle.ados_handler.specs.Objects.{protection_of};
+ghost use Rattle.ados_model.specs.Keys.{HasFileKey};
+ghost use Rattle.ados_model.specs.Tree.{Tree, size_of};
+ghost use Rattle.ados_model.specs.Stands.{Stands};
+ghost use Rattle.ados_model.specs.Objects.{protection_of};
 
 use crate::handler::Handler;
-use crate::holds::HandleHold;
+use ados_model::HandleHold;
 use ados_name::Protect;
 
 impl Handler {
-    /// The hold of a handle. It is on a file, and does not stand behind its end.
+    /// The hold of a handle. It is on a file, and its position is at most the file's size.
     pub(crate) fn hold_of(&self, handle: u32) -> Option<HandleHold>
         ensures hold { result ≡ numbered.get self.now.session.handles handle }
         ensures file { IfSome result (λ hold. HasFileKey self.now.image hold.key) }
@@ -21,7 +21,7 @@ impl Handler {
         self.handles.get(handle).copied()
     }
 
-    /// The bytes of a file. On the largest volume there is room for 52,020,224 of them.
+    /// The size of a file in bytes. The largest volume has room for 52,020,224 of them.
     pub(crate) fn file_size(&self, key: u32) -> u32
         requires { HasFileKey self.now.image key }
         ensures size { (t : Tree) → Stands self.now.image t → result ≡ size_of t key }

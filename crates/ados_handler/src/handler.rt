@@ -1,15 +1,16 @@
 //! The handler: a volume, the locks and handles on it, and whether it has died.
 
 ghost use Rattle.std.specs.Prelude.{◌≡◌};
-ghost use Rattle.ados_handler.specs.Session.{opening_session};
+ghost use Rattle.ados_model.specs.Session.{opening_session};
 
-use crate::holds::{HandleHold, LockHold};
 use crate::table::Table;
+use ados_model::{HandleHold, LockHold};
 use ados_volume::Volume;
 use std::alloc::Global;
 use std::marker::Model;
 
-/// A handler over a volume. Contracts see the volume's image and the holds, and speak of the tree that the image stands for.
+/// A handler over a volume. Contracts see the volume's image and the holds, and are about the tree that the image
+/// represents.
 #[derive(Drop)]
 pub struct Handler {
     pub(crate) volume: Volume,
@@ -19,8 +20,8 @@ pub struct Handler {
 }
 
 impl Model for Handler {
-    ghost use Rattle.ados_handler.specs.Session.{session_of};
-    ghost use Rattle.ados_handler.specs.Handler.{HandlerState, handler_code};
+    ghost use Rattle.ados_model.specs.Codes.{session_of, handler_code};
+    ghost use Rattle.ados_model.specs.Session.{HandlerState};
     ghost use Rattle.ados_handler.specs.Gives.{IsSoundHandler};
 
     ghost Value = { HandlerState };
@@ -33,7 +34,7 @@ impl Model for Handler {
 }
 
 impl Handler {
-    /// A handler with no locks and handles. The allocator is kept for them.
+    /// Makes a handler without locks and handles. It allocates memory for them with `alloc`.
     pub fn new(alloc: Global, volume: Volume) -> Handler
         ensures image { result.image ≡ volume.image }
         ensures validated { result.was_validated ≡ volume.was_validated }
@@ -48,13 +49,14 @@ impl Handler {
         }
     }
 
-    /// Whether a DIE was served. It is never taken back.
+    /// Whether a DIE was served. Once true, it stays true.
     pub fn died(&self) -> bool
         ensures { result ≡ self.now.session.died }
     {
         self.died
     }
 
+    /// The handler's volume, to read it between packets.
     pub fn volume(&self) -> &Volume
         ensures image { result.now.image ≡ self.now.image }
         ensures validated { result.now.was_validated ≡ self.now.was_validated }
@@ -62,6 +64,7 @@ impl Handler {
         &self.volume
     }
 
+    /// Ends the handler, with all its locks and file handles, and returns its volume.
     pub fn into_volume(self) -> Volume
         ensures image { result.image ≡ self.image }
         ensures validated { result.was_validated ≡ self.was_validated }

@@ -1,12 +1,12 @@
-//! Which objects are held.
+//! Locks and handles on an object.
 
 ghost use Rattle.std.specs.Prelude.{◌≡◌};
-ghost use Rattle.ados_handler.specs.Session.{is_held, is_held_exclusively, is_in_use};
+ghost use Rattle.ados_model.specs.Session.{is_held, is_held_exclusively, is_in_use};
 
 use crate::handler::Handler;
 
 impl Handler {
-    /// Whether there is a hold on the object.
+    /// Whether there is a hold, a lock or a handle, on the object.
     pub(crate) fn is_held(&self, key: u32) -> bool
         ensures { result ≡ is_held self.now.session key }
     {
@@ -21,7 +21,7 @@ impl Handler {
             || self.handles.any(|hold| hold.key == key && hold.exclusive)
     }
 
-    /// Whether a new hold on the object would stand against one that is there.
+    /// Whether an existing hold on the object excludes a new one.
     pub(crate) fn is_in_use(&self, key: u32, exclusive: bool) -> bool
         ensures { result ≡ is_in_use self.now.session key exclusive }
     {

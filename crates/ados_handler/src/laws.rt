@@ -1,23 +1,23 @@
-//! Laws over the definitions, each as the contract of a function that does nothing.
+//! Laws about the definitions. Each is the contract of a function that does nothing.
 ghost use Rattle.ados_handler.specs.Keeps.{MeaningKeepsProper, UnderIsTold};
 ghost use Rattle.ados_handler.specs.Closing.{ClosingIsDead, DeadStays};
 
-/// What a packet means keeps tree and session proper.
+/// The meaning of a packet keeps tree and session proper.
 pub fn meaning_keeps_proper()
     ensures { MeaningKeepsProper }
 {}
 
-/// A handler that died stays dead.
+/// A dead handler stays dead.
 pub fn dead_stays()
     ensures { DeadStays }
 {}
 
-/// A reply that closes is given only by a handler that has died.
+/// Only a dead handler gives a reply that closes.
 pub fn closing_is_dead()
     ensures { ClosingIsDead }
 {}
 
-/// `is_under` looks far enough up the tree.
+/// `is_under` searches far enough up the tree.
 pub fn under_is_told()
     ensures { UnderIsTold }
 {}

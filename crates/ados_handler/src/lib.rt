@@ -1,4 +1,4 @@
-//! What an AmigaDOS handler does with its packets: locks and handles, refusals, and what each packet means.
+//! The AmigaDOS handler: locks and handles, refusals, and the meaning of each packet.
 #![tactic(auto)]
 
 mod attributes;
@@ -10,7 +10,6 @@ mod free_block;
 mod handle_file;
 pub mod handler;
 mod held;
-pub mod holds;
 pub mod laws;
 mod locks;
 mod moves;
@@ -24,6 +23,5 @@ mod target;
 mod told;
 mod within;
 
-pub use ados_packet::{Action, Answer, Body, Packet};
+pub use ados_model::{Action, Answer, Body, HandleHold, LockHold, Packet};
 pub use handler::Handler;
-pub use holds::{HandleHold, LockHold};

@@ -2,17 +2,16 @@
 
 ghost use Rattle.std.specs.Prelude.{◌≡◌, false};
 ghost use Rattle.ados_name.specs.declared.Date3.{Date3 as Moment};
-ghost use Rattle.ados_tree.specs.Keys.{HasKey};
-ghost use Rattle.ados_packet.specs.declared.packet.Packet.TheVariants.{CopyDir, FreeLock, LocateObject, Parent, SameLock};
-ghost use Rattle.ados_handler.specs.Session.{is_in_use};
-ghost use Rattle.ados_handler.specs.Objects.{is_exclusive_mode};
+ghost use Rattle.ados_model.specs.Keys.{HasKey};
+ghost use Rattle.ados_model.specs.declared.packet.Packet.TheVariants.{CopyDir, FreeLock, LocateObject, Parent, SameLock};
+ghost use Rattle.ados_model.specs.Session.{is_in_use};
+ghost use Rattle.ados_model.specs.Objects.{is_exclusive_mode};
 ghost use Rattle.ados_handler.specs.steps.NewLock.{BringsLock};
 ghost use Rattle.ados_handler.specs.steps.Methods.{MethodGives};
 
 use crate::handler::Handler;
-use crate::holds::LockHold;
+use ados_model::{Body, DosError, LockHold, NO_LOCK, Results};
 use ados_name::PathText;
-use ados_packet::{Body, DosError, NO_LOCK, Results};
 
 impl Handler {
     /// LOCATE_OBJECT.
@@ -33,7 +32,7 @@ impl Handler {
         self.bring_lock(key, exclusive)
     }
 
-    /// FREE_LOCK. `NO_LOCK` is no hold, and stays.
+    /// FREE_LOCK. `NO_LOCK` is no hold: it succeeds and changes nothing.
     pub(crate) fn free_lock(&mut self, lock: u32) -> Results
         ensures gives { (now : Moment) → MethodGives self.old (FreeLock lock) now self.new result }
     {
@@ -49,7 +48,7 @@ impl Handler {
         Results::done(Body::Empty)
     }
 
-    /// COPY_DIR. `NO_LOCK` is no hold, and is its own copy.
+    /// COPY_DIR. `NO_LOCK` is no hold: its copy is `NO_LOCK`.
     pub(crate) fn copy_dir(&mut self, lock: u32) -> Results
         ensures gives { (now : Moment) → MethodGives self.old (CopyDir lock) now self.new result }
     {
@@ -93,7 +92,7 @@ impl Handler {
         }
     }
 
-    /// PARENT. The root has none, and `NO_LOCK` is answered.
+    /// PARENT. The parent of the root is `NO_LOCK`.
     pub(crate) fn parent(&mut self, lock: u32) -> Results
         ensures gives { (now : Moment) → MethodGives self.old (Parent lock) now self.new result }
     {
@@ -112,7 +111,7 @@ impl Handler {
         self.bring_lock(dir, false)
     }
 
-    /// A new lock on an object, where there is memory and a number for it.
+    /// A new lock on an object, or `NoFreeStore` (103) if there is no memory or no number for it.
     fn bring_lock(&mut self, key: u32, exclusive: bool) -> Results
         requires key { HasKey self.old.image key }
         requires free { is_in_use self.old.session key exclusive ≡ false }
@@ -128,7 +127,7 @@ impl Handler {
     }
 }
 
-/// Whether a mode of LOCATE_OBJECT asks for an exclusive lock.
+/// Whether the mode of LOCATE_OBJECT means an exclusive lock.
 fn is_exclusive(mode: i32) -> bool
     ensures { result ≡ is_exclusive_mode mode }
 {

@@ -1,19 +1,19 @@
 //! The packet that moves entries.
 
 ghost use Rattle.std.specs.Prelude.{◌≡◌, IfOk};
-ghost use Rattle.ados_packet.specs.declared.packet.Packet.TheVariants.{RenameObject};
-ghost use Rattle.ados_tree.specs.Tree.{Tree};
-ghost use Rattle.ados_tree.specs.Stands.{Stands};
-ghost use Rattle.ados_tree.specs.Keys.{HasDirectory, HasKey};
+ghost use Rattle.ados_model.specs.declared.packet.Packet.TheVariants.{RenameObject};
+ghost use Rattle.ados_model.specs.Tree.{Tree};
+ghost use Rattle.ados_model.specs.Stands.{Stands};
+ghost use Rattle.ados_model.specs.Keys.{HasDirectory, HasKey};
 ghost use Rattle.ados_handler.specs.steps.Moves.{move_refusal, source_and_place};
 ghost use Rattle.ados_handler.specs.steps.Methods.{MethodGives};
 
 use crate::handler::Handler;
+use ados_model::{Body, DosError, Results};
 use ados_name::{Date3, Name, PathText};
-use ados_packet::{Body, DosError, Results};
 
 impl Handler {
-    /// RENAME_OBJECT. Protection isn't looked at.
+    /// RENAME_OBJECT. Protection bits do not refuse it.
     pub(crate) fn rename_object(
         &mut self,
         from_lock: u32,
@@ -39,7 +39,7 @@ impl Handler {
         Results::done(Body::Empty)
     }
 
-    /// The object that is to move, with the directory and the name that it is to get, or the DOS error.
+    /// The object to move, and its new directory and name; or the DOS error.
     fn source_and_place(
         &mut self,
         from_lock: u32,
@@ -60,7 +60,7 @@ impl Handler {
         Ok((key, place))
     }
 
-    /// The DOS error that stands against a move of an object into a directory under a name.
+    /// The DOS error that refuses a move of an object into a directory under a name, or none.
     fn move_refusal(&mut self, key: u32, dir: u32, name: &Name) -> Option<DosError>
         requires key { HasKey self.old.image key }
         requires directory { HasDirectory self.old.image dir }

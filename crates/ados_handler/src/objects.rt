@@ -1,18 +1,18 @@
-//! What locks and paths lead to.
+//! The objects of locks and paths.
 
 ghost use Rattle.std.specs.Prelude.{◌≡◌, IfOk, IfSome};
-ghost use Rattle.ados_tree.specs.Keys.{HasDirectory, HasKey};
-ghost use Rattle.ados_tree.specs.Tree.{Tree};
-ghost use Rattle.ados_tree.specs.Stands.{Stands};
-ghost use Rattle.ados_handler.specs.Objects.{lock_object, place_error, placed_at, walk_error, walked};
+ghost use Rattle.ados_model.specs.Keys.{HasDirectory, HasKey};
+ghost use Rattle.ados_model.specs.Tree.{Tree};
+ghost use Rattle.ados_model.specs.Stands.{Stands};
+ghost use Rattle.ados_model.specs.Resolved.{lock_object, placed_at, walked};
+ghost use Rattle.ados_model.specs.Objects.{place_error, walk_error};
 
 use crate::handler::Handler;
+use ados_model::{DosError, NO_LOCK, PlaceFault, WalkFault};
 use ados_name::{Name, PathText};
-use ados_packet::{DosError, NO_LOCK};
-use ados_tree::{PlaceFault, WalkFault};
 
 impl Handler {
-    /// The object of a lock, where it is one.
+    /// The object of a lock, or none if no lock has this number.
     pub(crate) fn object_of(&self, lock: u32) -> Option<u32>
         ensures object { (t : Tree) → Stands self.now.image t → result ≡ lock_object t self.now.session lock }
         ensures key { IfSome result (λ key. HasKey self.now.image key) }
@@ -26,7 +26,7 @@ impl Handler {
         }
     }
 
-    /// The object of a path from a lock, or the DOS error.
+    /// The object of a path that starts at a lock, or the DOS error.
     pub(crate) fn walked(&mut self, lock: u32, path: &PathText) -> Result<u32, DosError>
         ensures walk { (t : Tree) → Stands self.old.image t → result ≡ walked t self.old.session lock path.now }
         ensures key { IfOk result (λ key. HasKey self.old.image key) }
@@ -41,7 +41,7 @@ impl Handler {
         }
     }
 
-    /// The directory and the name that a path from a lock names as a place, or the DOS error.
+    /// The directory and the name of a new place by a path that starts at a lock, or the DOS error.
     pub(crate) fn placed(&mut self, lock: u32, path: &PathText) -> Result<(u32, Name), DosError>
         ensures place { (t : Tree) → Stands self.old.image t → result ≡ placed_at t self.old.session lock path.now }
         ensures directory { IfOk result (λ found. HasDirectory self.old.image found.0) }
@@ -57,7 +57,7 @@ impl Handler {
     }
 }
 
-/// The DOS error of a walk that ends at no object.
+/// The DOS error of a walk that finds no object.
 fn walk_error(fault: WalkFault) -> DosError
     ensures { result ≡ walk_error fault }
 {
@@ -68,7 +68,7 @@ fn walk_error(fault: WalkFault) -> DosError
     }
 }
 
-/// The DOS error of a path that names no place.
+/// The DOS error of a path without a place.
 fn place_error(fault: PlaceFault) -> DosError
     ensures { result ≡ place_error fault }
 {

@@ -1,19 +1,19 @@
-//! Packets that open files to be written.
+//! Packets that open files for writing.
 
 ghost use Rattle.std.specs.Prelude.{◌≡◌, None};
-ghost use Rattle.ados_tree.specs.Tree.{Tree};
-ghost use Rattle.ados_tree.specs.Keys.{HasDirectory, HasKey};
-ghost use Rattle.ados_tree.specs.Stands.{Stands};
-ghost use Rattle.ados_tree.specs.Walk.{child_of};
-ghost use Rattle.ados_packet.specs.declared.packet.Packet.TheVariants.{FindOutput, FindUpdate};
+ghost use Rattle.ados_model.specs.Tree.{Tree};
+ghost use Rattle.ados_model.specs.Keys.{HasDirectory, HasKey};
+ghost use Rattle.ados_model.specs.Stands.{Stands};
+ghost use Rattle.ados_model.specs.Change.{child_of};
+ghost use Rattle.ados_model.specs.declared.packet.Packet.TheVariants.{FindOutput, FindUpdate};
 ghost use Rattle.ados_handler.specs.steps.Methods.{MethodGives};
 ghost use Rattle.ados_handler.specs.steps.Opening.{Opens, OpensEmptied, make_refusals};
-ghost use Rattle.ados_handler.specs.Success.{MakesFile};
+ghost use Rattle.ados_model.specs.Success.{MakesFile};
 
 use crate::files::opened;
 use crate::handler::Handler;
+use ados_model::{DosError, Results};
 use ados_name::{Date3, Name, PathText};
-use ados_packet::{DosError, Results};
 use ados_volume::NodeKind;
 
 impl Handler {
@@ -51,7 +51,7 @@ impl Handler {
         }
     }
 
-    /// An exclusive handle on a file that is there, which is emptied.
+    /// An exclusive handle on an existing file, which is emptied.
     fn empty_file(&mut self, key: u32, now: Date3) -> Results
         requires { HasKey self.old.image key }
         ensures { OpensEmptied key now self.old self.new result }
@@ -76,7 +76,7 @@ impl Handler {
         opened(&mut self.handles, key, true)
     }
 
-    /// A handle on a new file, under a name that its directory does not have.
+    /// A handle on a new file. Its directory has no entry with this name.
     fn make_file(&mut self, dir: u32, name: Name, exclusive: bool, now: Date3) -> Results
         requires directory { HasDirectory self.old.image dir }
         requires new_name { (t : Tree) → Stands self.old.image t → child_of t dir name ≡ None }

@@ -3,11 +3,11 @@
 ghost use Rattle.std.specs.Prelude.{◌≡◌};
 ghost use Rattle.ados_handler.specs.steps.Positions.{positioned};
 
-use crate::holds::HandleHold;
 use crate::table::Table;
+use ados_model::HandleHold;
 
 impl Table<HandleHold> {
-    /// Moves the handle under a number to a position in bytes. With no handle there nothing changes.
+    /// Sets the position of a handle, in bytes. If no handle has the number, nothing changes.
     pub fn set_position(&mut self, number: u32, position: u32)
         ensures held { self.new.held ≡ positioned self.old.held number position }
         ensures ready { self.new.ready ≡ self.old.ready }

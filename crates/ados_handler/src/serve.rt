@@ -2,17 +2,17 @@
 
 ghost use Rattle.std.specs.Prelude.{ℤ};
 ghost use Rattle.ados_name.specs.declared.Date3.{Date3 as Moment};
-ghost use Rattle.ados_packet.specs.declared.packet.Packet.TheVariants.{Die, Other};
+ghost use Rattle.ados_model.specs.declared.packet.Packet.TheVariants.{Die, Other};
 ghost use Rattle.ados_handler.specs.Gives.{HandlerGives};
 ghost use Rattle.ados_handler.specs.steps.Methods.{MethodGives};
 
 use crate::handler::Handler;
+use ados_model::{Action, Answer, Body, DosError, Packet, Results};
 use ados_name::Date3;
-use ados_packet::{Action, Answer, Body, DosError, Packet, Results};
 use ados_port::Server;
 
 impl Handler {
-    /// DIE, which waits until nothing is held.
+    /// DIE. It is refused while any lock or handle is held.
     pub(crate) fn die(&mut self) -> Results
         ensures gives { (now : Moment) → MethodGives self.old Die now self.new result }
     {
@@ -26,7 +26,7 @@ impl Handler {
         Results::done(Body::Empty)
     }
 
-    /// A packet whose action is not known.
+    /// A packet with an unknown action.
     pub(crate) fn unknown(&self) -> Results
         ensures { (action : ℤ) (now : Moment) → MethodGives self.now (Other action) now self.now result }
     {
@@ -36,7 +36,7 @@ impl Handler {
         Results::refused(DosError::ActionNotKnown)
     }
 
-    /// What the method of a packet comes to. The answer is that of the packet's action.
+    /// The results of a packet. With the packet's action they are the answer.
     fn results_of(&mut self, packet: Packet, now: Date3) -> Results
         ensures { MethodGives self.old packet now self.new result }
     {
@@ -96,7 +96,7 @@ impl Handler {
         }
     }
 
-    /// Serves a packet at a moment, and answers it.
+    /// Serves a packet with a time stamp, and answers it.
     pub fn serve(&mut self, packet: Packet, now: Date3) -> Answer
         ensures { HandlerGives self.old packet now self.new result }
     {
@@ -107,7 +107,7 @@ impl Handler {
 
 impl Server for Handler {
     ghost use Rattle.ados_handler.specs.Gives.{HandlerGives};
-    ghost use Rattle.ados_handler.specs.Meaning.{is_closing};
+    ghost use Rattle.ados_model.specs.Meaning.{is_closing};
     ghost use Rattle.ados_handler.specs.steps.Closes.{serves_dead, serves_closing};
 
     type Request = Packet;

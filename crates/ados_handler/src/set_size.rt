@@ -1,22 +1,21 @@
 //! SET_FILE_SIZE.
 
 ghost use Rattle.std.specs.Prelude.{◌≡◌, MatchResult};
-ghost use Rattle.ados_tree.specs.Tree.{Tree, size_of};
-ghost use Rattle.ados_tree.specs.Stands.{Stands};
-ghost use Rattle.ados_tree.specs.Keys.{HasFileKey};
-ghost use Rattle.ados_tree.specs.NewBlocks.{KeepsRest};
-ghost use Rattle.ados_packet.specs.declared.packet.Packet.TheVariants.{SetFileSize};
+ghost use Rattle.ados_model.specs.Tree.{Tree, size_of};
+ghost use Rattle.ados_model.specs.Stands.{Stands};
+ghost use Rattle.ados_model.specs.Keys.{HasFileKey};
+ghost use Rattle.ados_change.specs.NewBlocks.{KeepsRest};
+ghost use Rattle.ados_model.specs.declared.packet.Packet.TheVariants.{SetFileSize};
 ghost use Rattle.ados_handler.specs.steps.Methods.{MethodGives};
 ghost use Rattle.ados_handler.specs.steps.Files.{IsResized, IsUnresized};
 
 use crate::handler::Handler;
 use crate::target::{number_within, target_of};
+use ados_model::{Body, DosError, Full, Results};
 use ados_name::Date3;
-use ados_packet::{Body, DosError, Results};
-use ados_tree::Full;
 use ados_volume::Volume;
 
-/// The largest size that a SET_FILE_SIZE may ask for.
+/// The largest size, in bytes, that SET_FILE_SIZE may set.
 const LARGEST: u32 = 2_147_483_647;
 
 impl Handler {
@@ -53,7 +52,7 @@ impl Handler {
     }
 }
 
-/// Cuts a file that holds so many bytes, or puts zeros behind them. With the same size nothing changes.
+/// Cuts a file with `held` bytes to `size`, or appends zeros. If the sizes are equal, nothing changes.
 fn resize(volume: &mut Volume, key: u32, held: u32, size: u32, moment: Date3) -> Result<(), Full>
     requires file { HasFileKey volume.old.image key }
     requires held { (t : Tree) → Stands volume.old.image t → held ≡ size_of t key }

@@ -1,4 +1,4 @@
-//! A table of values under numbers from 1 to 2,147,483,647 that it picks.
+//! A table of values under numbers from 1 to 2,147,483,647. The table chooses the numbers.
 ghost use Rattle.std.specs.Prelude.{◌≡◌, ◌==◌, Bool, IsTrue, OnOk, length};
 ghost use Rattle.std.specs.Fn.{FnReturnsAt};
 ghost use Rattle.std.specs.List.{list_any};
@@ -9,9 +9,9 @@ use slab::Slab;
 use std::alloc::{AllocError, Global};
 use std::marker::Model;
 
-/// Values under their numbers. A number that was freed may be given again.
+/// Values under their numbers. A freed number may be used again.
 ///
-/// A contract sees the finite map from numbers to values, and whether a place for one more is ready.
+/// Contracts see the finite map from numbers to values, and whether a place for one more value is reserved.
 #[derive(Drop)]
 pub struct Table<T> {
     pub(crate) slab: Slab<T>,
@@ -27,14 +27,15 @@ impl<T> Model for Table<T> {
     ghost view = { λ a. table_view a.slab };
 }
 
-/// There is no memory, or no number below 2 ^ 31.
+/// There is no memory, or no free number below 2^31.
 #[derive(Clone, Copy, Debug, PartialEq, Eq)]
 pub struct NoPlace;
 
 impl<T> Table<T> {
-    ghost use Rattle.ados_handler.specs.Session.{IsFreeNumber};
+    ghost use Rattle.ados_model.specs.Session.{IsFreeNumber};
     ghost use Rattle.ados_handler.specs.steps.Table.{IsTestBy};
 
+    /// An empty table.
     pub fn new(alloc: Global) -> Self
         ensures { result.held ≡ numbered.empty }
     {
@@ -54,7 +55,7 @@ impl<T> Table<T> {
         slab.get(number as usize - 1)
     }
 
-    /// Gets a place ready for one more value.
+    /// Reserves a place for one more value.
     pub fn reserve(&mut self) -> Result<(), NoPlace>
         ensures held { self.new.held ≡ self.old.held }
         ensures ready { OnOk result (IsTrue self.new.ready) }
@@ -68,7 +69,7 @@ impl<T> Table<T> {
         }
     }
 
-    /// Puts a value in the place that is ready, under a number that is not in use.
+    /// Puts a value into the reserved place, under a free number.
     pub fn insert_reserved(&mut self, value: T) -> u32
         requires { IsTrue self.old.ready }
         ensures free { IsFreeNumber self.old.held result }
@@ -78,7 +79,7 @@ impl<T> Table<T> {
         key as u32 + 1
     }
 
-    /// Takes the value under a number away.
+    /// Removes the value under a number and returns it.
     pub fn remove(&mut self, number: u32) -> Option<T>
         ensures value { result ≡ numbered.get self.old.held number }
         ensures held { self.new.held ≡ numbered.remove self.old.held number }
@@ -90,7 +91,7 @@ impl<T> Table<T> {
         slab.try_remove(number as usize - 1)
     }
 
-    /// Whether the test passes of some value.
+    /// Whether some value passes the test.
     pub fn any<F: Fn(&T) -> bool>(&self, test: F) -> bool
         requires { F.IsAlwaysCallable test }
         ensures { (passes : T → Bool) → IsTestBy (FnReturnsAt F.Fn) test passes → result ≡ list_any passes (numbered.values self.now.held) }

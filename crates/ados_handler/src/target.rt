@@ -1,10 +1,10 @@
-//! Where a SEEK or a SET_FILE_SIZE leads.
+//! The target of a SEEK or a SET_FILE_SIZE.
 
 ghost use Rattle.std.specs.Prelude.{◌≡◌, MatchOption, pos, true, false, option_map};
-ghost use Rattle.ados_handler.specs.Objects.{is_bad_target, seek_target, target_number};
+ghost use Rattle.ados_model.specs.Objects.{is_bad_target, seek_target, target_number};
 
-/// The target in bytes from the beginning of a file of this size, in which a handle stands at this position. Mode -1 counts
-/// from the beginning, 0 from the position and 1 from the end; with another mode there is none.
+/// The target in bytes from the start of a file with this size, for a handle at this position. Mode -1 counts from the
+/// start, 0 from the position, 1 from the end. Any other mode has no target.
 pub(crate) fn target_of(position: u32, size: u32, offset: i32, mode: i32) -> Option<i64>
     ensures { result ≡ seek_target position size offset mode }
 {
@@ -17,7 +17,7 @@ pub(crate) fn target_of(position: u32, size: u32, offset: i32, mode: i32) -> Opt
     Some(base as i64 + offset as i64)
 }
 
-/// The target as a number, where it is one from 0 to the limit.
+/// The target as a number, if it is between 0 and the limit.
 pub(crate) fn number_within(target: Option<i64>, limit: u32) -> Option<u32>
     ensures { MatchOption result (is_bad_target limit target ≡ true) (λ number. (is_bad_target limit target ≡ false) × (number ≡ target_number target)) }
 {

@@ -1,17 +1,17 @@
-//! Packets that ask what there is to tell.
+//! Packets that describe the volume or an object.
 
 ghost use Rattle.std.specs.Prelude.{◌≡◌};
 ghost use Rattle.ados_name.specs.declared.Date3.{Date3 as Moment};
-ghost use Rattle.ados_tree.specs.Tree.{Tree};
-ghost use Rattle.ados_tree.specs.Stands.{Stands};
-ghost use Rattle.ados_tree.specs.Change.{entries_after};
-ghost use Rattle.ados_tree.specs.Keys.{HasDirectory};
+ghost use Rattle.ados_model.specs.Tree.{Tree};
+ghost use Rattle.ados_model.specs.Stands.{Stands};
+ghost use Rattle.ados_model.specs.Change.{entries_after};
+ghost use Rattle.ados_model.specs.Keys.{HasDirectory};
 ghost use Rattle.ados_chain.specs.Look.{first_left};
-ghost use Rattle.ados_packet.specs.declared.packet.Packet.TheVariants.{DiskInfo, ExamineNext, ExamineObject, Info};
+ghost use Rattle.ados_model.specs.declared.packet.Packet.TheVariants.{DiskInfo, ExamineNext, ExamineObject, Info};
 ghost use Rattle.ados_handler.specs.steps.Methods.{MethodGives};
 
 use crate::handler::Handler;
-use ados_packet::{Body, DosError, Results};
+use ados_model::{Body, DosError, Results};
 use ados_volume::Next;
 
 impl Handler {
@@ -72,7 +72,7 @@ impl Handler {
         Results::done(Body::Entry(self.volume.examine(next)))
     }
 
-    /// What comes after a key in the order of a directory. An entry is kept as the one that was told last of it.
+    /// What follows a key in the order of a directory. The volume remembers an entry as the one listed last.
     fn entry_after(&mut self, dir: u32, key: u32) -> Next
         requires { HasDirectory self.old.image dir }
         ensures next { (t : Tree) → Stands self.old.image t → result ≡ first_left (entries_after t dir key) }

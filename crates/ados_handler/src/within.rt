@@ -1,14 +1,14 @@
-//! Handles that may not stand behind the end of their file.
+//! Handles that may not be past the end of their file.
 
 ghost use Rattle.std.specs.Prelude.{◌≡◌, map, true};
 ghost use Rattle.std.specs.FinMap as numbered;
-ghost use Rattle.ados_handler.specs.Session.{within};
+ghost use Rattle.ados_model.specs.Session.{within};
 
-use crate::holds::HandleHold;
 use crate::table::Table;
+use ados_model::HandleHold;
 
 impl Table<HandleHold> {
-    /// Each handle of the file that stands behind this size stands at it from now on.
+    /// Moves each handle of the file with a larger position to this size.
     pub(crate) fn keep_within(&mut self, key: u32, size: u32)
         ensures { self.new.held ≡ numbered.from_entries (map (λ e. (e.0, within key size e.1)) (numbered.entries self.old.held)) }
     {

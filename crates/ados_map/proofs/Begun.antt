@@ -1,8 +1,8 @@
--- Pages written anew, one after another.
+-- Bitmap blocks written one after the other.
 use Rattle.std.proofs.Common.{◌≡◌, ◌≢◌, ℕ, ◌+◌, ◌-◌, ◌*◌, ◌/◌, ◌%◌, ◌<◌, ◌≤◌, inl, inr, Bool, cond, List, arith, ap, sym, ◌∙◌}
 use Rattle.std.specs.Int.{bit_at}
 use Rattle.std.proofs.lemmas.Bool.{cases_lt}
-use Rattle.adf_block.specs.Fields.{boot_blocks, page_longs, map_longs, long_bits, page_bits}
+use Rattle.adf_block.specs.Layout.{boot_blocks, page_longs, map_longs, long_bits, page_bits}
 use Rattle.adf_block.specs.Image.{long, block_count, block_sum}
 use Rattle.adf_block.specs.Frame.{SameBut, InBlock, OnlyBlock}
 use Rattle.adf_block.proofs.Frames.{same_trans, same_refl, same_weaken, other_block_long, other_block_sum}
@@ -12,7 +12,7 @@ use Rattle.ados_map.specs.Changes.{InPages, PagesRebuilt}
 use Rattle.ados_map.proofs.BitLemmas.{mark, marked-is, mark-bit}
 use Rattle.ados_map.proofs.PageLemmas.{same_page}
 
--- the first p pages were written, and nothing else
+-- the first p bitmap blocks are written, and nothing else changed
 pub record IsBegun (old : List ℕ) (named : List Bool) (p : ℕ) (image : List ℕ) : Type 0 where
   pub longs : (q : ℕ) → q < p → (j : ℕ) → j < map_longs → IsUnnamedBits named (map_longs * q + j) (long image (page_block old q) (1 + j))
   pub sums : (q : ℕ) → q < p → block_sum image (page_block old q) ≡ 0
@@ -25,11 +25,11 @@ begun_none image named = record {
   rest = same_refl (InPages image) image;
 }
 
--- while only pages were written, the root names them as before
+-- the root names the bitmap blocks as before while only these are written
 pub begun_page : (old : List ℕ) (named : List Bool) (p : ℕ) (image : List ℕ) → LawfulPages old → IsBegun old named p image → (q : ℕ) → q < page_longs → page_block image q ≡ page_block old q
 begun_page old named p image lawful h q lt = same_page (InPages old) old image h.rest (λ k low high at. lawful.beside_root at.0 at.1 (sym at.2)) q lt
 
--- one page more
+-- one more bitmap block
 pub begun_more : (old : List ℕ) (named : List Bool) (p page : ℕ) (image new : List ℕ) → LawfulPages old → p < pages_of old → page ≡ page_block old p → IsBegun old named p image
     → ((j : ℕ) → j < map_longs → IsUnnamedBits named (map_longs * p + j) (long new page (1 + j))) → block_sum new page ≡ 0 → OnlyBlock page image new → IsBegun old named (p + 1) new
 begun_more old named p page image new lawful lt at h longs sum rest =
@@ -54,7 +54,7 @@ begun_more old named p page image new lawful lt at h longs sum rest =
       rest = same_trans (InPages old) old image new h.rest (same_weaken (InBlock page) (InPages old) image new (λ c i e. (p, lt, e ∙ at)) rest);
     }
 
--- all pages
+-- all bitmap blocks
 pub begun_all : (old : List ℕ) (named : List Bool) (p : ℕ) (image : List ℕ) → LawfulPages old → block_count old ≤ 101602 → pages_of old ≤ p → IsBegun old named p image → PagesRebuilt old named image
 begun_all old named p image lawful size all h = record {
   marks = λ k has.

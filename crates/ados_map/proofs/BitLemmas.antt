@@ -1,4 +1,4 @@
--- The bit of a block, as a bit of its map long.
+-- The bit of a block, as a bit of a long in the bitmap.
 use Rattle.std.proofs.Common.{◌≡◌, ℕ, ◌+◌, ◌-◌, ◌*◌, ◌/◌, ◌%◌, ◌^◌, ◌<◌, ◌≤◌, inl, inr, Bool, true, false, cond, not, List, arith, ap, ap₂, sym, ◌∙◌, refl}
 use Rattle.std.specs.Prelude.{bit_and, ◌==◌, ◌&&◌}
 use Rattle.std.specs.Int.{bit_at}
@@ -9,11 +9,11 @@ use Rattle.adf_block.specs.Image.{long, block_count, has_free_bit}
 use Rattle.ados_map.specs.Pages.{page_block, page_of, map_long}
 use Rattle.ados_map.specs.Bits.{free_bit}
 
--- whether bit i of a map long is set
+-- whether bit i of a long is set
 abbrev pub mark : ℕ → ℕ → Bool
 mark v i = not (bit_and v (2 ^ i) == 0)
 
--- a block is marked free by one bit of one long
+-- whether a block is marked free depends on one bit of one long
 pub marked-is : (image : List ℕ) (k : ℕ) → has_free_bit image k ≡ mark (long image (page_block image (page_of k)) (map_long k)) ((k - 2) % 32)
 unfolding has_free_bit
 marked-is image k = refl
@@ -28,23 +28,23 @@ set_mark v i e =
     let power : bit_and v (2 ^ i) ≡ 2 ^ i = and_pow v i ∙ ap (λ (b : ℕ). b * 2 ^ i) e ∙ omega arith in
     ap not (ne_eqb (bit_and v (2 ^ i)) 0 (λ z. omega (arith, pow_pos i)))
 
--- a bit is 1 where it marks, and 0 where it doesn't
+-- a bit is 1 if it is set, else 0
 pub bit-mark : (v i : ℕ) → bit_at v i ≡ cond (mark v i) 1 0
 bit-mark v i = elim (cases_lt (bit_at v i) 1) [
   | inl none ↦ let e : bit_at v i ≡ 0 = omega arith in e ∙ ap (λ (b : Bool). cond b 1 0) (sym (clear_mark v i e))
   | inr some ↦ let e : bit_at v i ≡ 1 = omega (arith, bit_at-lt v i) in e ∙ ap (λ (b : Bool). cond b 1 0) (sym (set_mark v i e))
 ]
 
--- a bit that is as given marks as given
+-- a bit with a given value is set as given
 pub mark-bit : (v i : ℕ) (free : Bool) → bit_at v i ≡ cond free 1 0 → mark v i ≡ free
 mark-bit v i true e = set_mark v i e
 mark-bit v i false e = clear_mark v i e
 
--- equal bits mark the same
+-- equal bits are both set or both clear
 pub mark-same : (u v i : ℕ) → bit_at u i ≡ bit_at v i → mark u i ≡ mark v i
 mark-same u v i e = mark-bit u i (mark v i) (e ∙ bit-mark v i)
 
--- the place of bit i of map long w
+-- the position of bit i of long w
 pub page_of_bit : (w i : ℕ) → i < 32 → page_of (2 + 32 * w + i) ≡ w / 127
 page_of_bit w i lt = omega arith
 
@@ -54,19 +54,19 @@ long_of_bit w i lt = omega arith
 pub bit_of_bit : (w i : ℕ) → i < 32 → (2 + 32 * w + i - 2) % 32 ≡ i
 bit_of_bit w i lt = omega arith
 
--- bit i of map long w marks its block
+-- bit i of long w is the mark of its block
 pub marked-at : (image : List ℕ) (w i : ℕ) → i < 32 → has_free_bit image (2 + 32 * w + i) ≡ mark (long image (page_block image (w / 127)) (1 + w % 127)) i
 marked-at image w i lt =
     marked-is image (2 + 32 * w + i)
     ∙ ap₂ (λ (p l : ℕ). mark (long image (page_block image p) l) ((2 + 32 * w + i - 2) % 32)) (page_of_bit w i lt) (long_of_bit w i lt)
     ∙ ap (mark (long image (page_block image (w / 127)) (1 + w % 127))) (bit_of_bit w i lt)
 
--- the bit of a block of the volume
+-- the bit of a block inside the volume
 pub free_bit-inside : (image : List ℕ) (k : ℕ) → k < block_count image → free_bit image k ≡ cond (has_free_bit image k) 1 0
 unfolding free_bit
 free_bit-inside image k lt = ap (λ (b : Bool). cond (b && has_free_bit image k) 1 0) (lt-ltb k (block_count image) lt)
 
--- past the end no bit counts
+-- a bit past the end counts as 0
 pub free_bit-past : (image : List ℕ) (k : ℕ) → block_count image ≤ k → free_bit image k ≡ 0
 unfolding free_bit
 free_bit-past image k le = ap (λ (b : Bool). cond (b && has_free_bit image k) 1 0) (le-ltb k (block_count image) le)
@@ -79,7 +79,7 @@ masked_below v n i lt fits =
     ∙ bit_at_and v (2 ^ n - 1) i
     ∙ omega (arith, bit_at_ones n i lt, bit_at-lt v i)
 
--- a bit above a mask of ones
+-- a bit at or above a mask of ones
 pub masked_above : (v n i : ℕ) → n ≤ i → n < 32 → bit_at (bit_and v (1 * 2 ^ n % 4294967296 - 1)) i ≡ 0
 masked_above v n i le fits =
     let mask : 1 * 2 ^ n % 4294967296 - 1 ≡ 2 ^ n - 1 = omega (arith, pow_below n 32 fits) in
@@ -87,21 +87,21 @@ masked_above v n i le fits =
     ∙ bit_at_and v (2 ^ n - 1) i
     ∙ omega (arith, bit_at_ones_above n i le)
 
--- a bit that is 0 is one of a block that is not marked
+-- the bit 0 is that of a block not marked free
 pub unmarked : (free : Bool) → ◌≡◌ {A = ℕ} (cond free 1 0) 0 → free ≡ false
 unmarked true e = absurd (omega arith)
 unmarked false e = refl
 
--- a bit that is 1 is one of a block that is marked
+-- the bit 1 is that of a block marked free
 pub marked : (free : Bool) → ◌≡◌ {A = ℕ} (cond free 1 0) 1 → free ≡ true
 marked true e = refl
 marked false e = absurd (omega arith)
 
--- a free bit that is 0
+-- a block inside the volume with bit 0 is not marked free
 pub free_bit-none : (image : List ℕ) (k : ℕ) → k < block_count image → free_bit image k ≡ 0 → has_free_bit image k ≡ false
 free_bit-none image k lt e = unmarked (has_free_bit image k) (sym (free_bit-inside image k lt) ∙ e)
 
--- a free bit that is 1 is that of a block of the volume
+-- a block with bit 1 is inside the volume
 pub free_bit-within : (image : List ℕ) (k : ℕ) → free_bit image k ≡ 1 → k < block_count image
 free_bit-within image k e = elim (cases_lt k (block_count image)) [
   | inl lt ↦ lt

@@ -1,4 +1,4 @@
--- The bits of a map long, pages that change and stay lawful, and counts of bits.
+-- The bits of a long in the bitmap, bitmap blocks that change and stay lawful, and counts of bits.
 pub mod BitLemmas
 pub mod PageLemmas
 pub mod MarkLemmas

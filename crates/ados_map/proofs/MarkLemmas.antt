@@ -1,7 +1,8 @@
--- What changes leave of the marks, and of their number.
-use Rattle.std.proofs.Common.{◌≡◌, ℕ, zero, suc, ◌+◌, ◌-◌, ◌%◌, ◌<◌, ◌≤◌, Bool, true, false, cond, inl, inr, List, arith, ap, sym, ◌∙◌, refl}
+-- The marks after a change, and the number of free blocks.
+use Rattle.std.proofs.Common.{◌≡◌, ℕ, zero, suc, ◌+◌, ◌-◌, ◌%◌, ◌<◌, ◌≤◌, Bool, true, false, cond, inl, inr, List, arith, ap, sym, ◌∙◌}
 use Rattle.std.proofs.lemmas.Bool.{cases_lt, cases_eq}
-use Rattle.adf_block.specs.Image.{long, total, block_count, block_sum, page_count, IsInside, has_free_bit, free_bit_count}
+use Rattle.adf_block.specs.Image.{long, total, block_count, block_sum, page_count, IsInside, has_free_bit}
+use Rattle.adf_block.specs.Whole.{free_bit_count}
 use Rattle.adf_block.specs.Frame.{SameBut, InBlock, OnlyBlock}
 use Rattle.adf_block.proofs.Frames.{same_count, same_long, same_weaken, other_block_sum}
 use Rattle.adf_block.proofs.Totals.{total-same, total-one}
@@ -11,9 +12,9 @@ use Rattle.ados_map.proofs.BitLemmas.{mark, marked-is}
 use Rattle.ados_map.proofs.PageLemmas.{same_page}
 use Rattle.ados_map.proofs.Counting.{total-zero}
 
--- ---- where no page was changed
+-- ---- no bitmap block changed
 
--- where the pages are named as before and were not changed, the marks are as before
+-- the marks stay the same if the root names the same bitmap blocks and these did not change
 pub mark_kept : (changed : ℕ → ℕ → Type 0) (old new : List ℕ) → SameBut changed old new
     → ((p : ℕ) → p < pages_of old → page_block new p ≡ page_block old p) → ((p k : ℕ) → p < pages_of old → k < 512 → ¬ changed (page_block old p) k)
     → (k : ℕ) → HasBit old k → has_free_bit new k ≡ has_free_bit old k
@@ -24,24 +25,24 @@ mark_kept changed old new h named un k has =
     ∙ ap (λ (v : ℕ). mark v ((k - 2) % 32)) (same_long changed old new h (page_block old (page_of k)) (map_long k) (omega arith) (λ i e. un (page_of k) i page (omega arith)))
     ∙ sym (marked-is old k)
 
--- a block of the volume has a bit
+-- a block inside the volume has a bit
 pub bit_of_inside : (image : List ℕ) (k : ℕ) → IsInside (block_count image) k → HasBit image k
 bit_of_inside image k inside = (inside.0, omega (arith, inside.0, inside.1))
 
--- where the marks of the volume are as before, so is their number
+-- the number of free blocks stays the same if the marks of the volume do
 pub marked_count_kept : (old new : List ℕ) → block_count new ≡ block_count old → ((k : ℕ) → IsInside (block_count old) k → has_free_bit new k ≡ has_free_bit old k) → free_bit_count new ≡ free_bit_count old
 marked_count_kept old new count same =
     ap (λ (n : ℕ). total (λ (k : ℕ). cond (has_free_bit new (k + 2)) 1 0) (n - 2)) count
     ∙ total-same (λ (k : ℕ). cond (has_free_bit old (k + 2)) 1 0) (λ (k : ℕ). cond (has_free_bit new (k + 2)) 1 0) (block_count old - 2)
     (λ k lt. ap (λ (b : Bool). cond b 1 0) (same (k + 2) (omega arith, omega arith)))
 
--- ---- where one bit was put
+-- ---- one bit changed
 
--- nothing but the page was changed
+-- only its bitmap block changed
 pub marked_page_only : (old : List ℕ) (k : ℕ) (free : Bool) (new : List ℕ) → BitChanged old k free new → OnlyBlock (page_block old (page_of k)) old new
 marked_page_only old k free new h = same_weaken (MapPlace old k) (InBlock (page_block old (page_of k))) old new (λ c i at. at.0) h.rest
 
--- the checksums of the pages stay right
+-- the checksums of the bitmap blocks stay right
 pub marked_sums : (old : List ℕ) (k : ℕ) (free : Bool) (new : List ℕ) → LawfulPages old → block_count old ≤ 101602 → IsInside (block_count old) k → BitChanged old k free new
     → SummedPages old → SummedPages new
 marked_sums old k free new lawful size inside h sums p lt =
@@ -54,7 +55,7 @@ marked_sums old k free new lawful size inside h sums p lt =
       | inr apart ↦ other_block_sum (page_block old (page_of k)) old new (marked_page_only old k free new h) (page_block old p) apart ∙ sums p below
     ]
 
--- the number of marks moves with the bit
+-- the number of free blocks changes with the bit
 pub marked_count_moved : (old : List ℕ) (k : ℕ) (free : Bool) (new : List ℕ) → BitChanged old k free new → IsInside (block_count old) k
     → free_bit_count new + cond (has_free_bit old k) 1 0 ≡ free_bit_count old + cond free 1 0
 marked_count_moved old k free new h inside =
@@ -67,11 +68,11 @@ marked_count_moved old k free new h inside =
     (λ j lt ne. ap (λ (b : Bool). cond b 1 0) (h.others (j + 2) (bit_of_inside old (j + 2) (omega arith, omega arith)) (omega (arith, inside.0)))) in
     omega (arith, moved, here, was, ap (λ (n : ℕ). total (bit new) (n - 2)) count)
 
--- a block was taken: one mark less
+-- a block was allocated: one free block less
 pub marked_count_taken : (old : List ℕ) (k : ℕ) (new : List ℕ) → BitChanged old k false new → IsInside (block_count old) k → has_free_bit old k ≡ true → free_bit_count new + 1 ≡ free_bit_count old
 marked_count_taken old k new h inside was = omega (arith, marked_count_moved old k false new h inside, ap {B = ℕ} (λ (b : Bool). cond b 1 0) was)
 
--- a used block was given back: one mark more
+-- a used block was freed: one free block more
 pub marked_count_given : (old : List ℕ) (k : ℕ) (new : List ℕ) → BitChanged old k true new → IsInside (block_count old) k → has_free_bit old k ≡ false → free_bit_count new ≡ free_bit_count old + 1
 marked_count_given old k new h inside was = omega (arith, marked_count_moved old k true new h inside, ap {B = ℕ} (λ (b : Bool). cond b 1 0) was)
 
@@ -84,13 +85,13 @@ part f (suc n) k lt = elim (cases_lt k n) [
   | inr at ↦ let e : k ≡ n = omega arith in omega (arith, ap f e)
 ]
 
--- where no block is marked their number is 0
+-- no block is marked free: their number is 0
 pub free_bit_count-none : (image : List ℕ) → NoneFree image → free_bit_count image ≡ 0
 free_bit_count-none image none =
     total-zero (λ (k : ℕ). cond (has_free_bit image (k + 2)) 1 0) (block_count image - 2)
     (λ k lt. ap (λ (b : Bool). cond b 1 0) (none (k + 2) (omega arith, omega arith)))
 
--- where a block is marked their number isn't 0
+-- a block is marked free: their number is positive
 pub free_bit_count-some : (image : List ℕ) (k : ℕ) → IsInside (block_count image) k → has_free_bit image k ≡ true → 0 < free_bit_count image
 free_bit_count-some image k inside marked =
     let back : k - 2 + 2 ≡ k = omega (arith, inside.0) in

@@ -1,8 +1,9 @@
--- Lawful pages stay lawful, and what a change of a page leaves of the marks.
+-- Lawful bitmap blocks stay lawful, and the effect of a change of one of them on the marks.
 use Rattle.std.proofs.Common.{◌≡◌, ◌≢◌, ℕ, ◌+◌, ◌-◌, ◌/◌, ◌%◌, ◌<◌, ◌≤◌, ◌⊎◌, inl, inr, Bool, List, arith, ap, ap₂, sym, ◌∙◌}
 use Rattle.std.proofs.lemmas.Bool.{cases_eq}
 use Rattle.std.specs.Int.{bit_at}
-use Rattle.adf_block.specs.Fields.{first_page, page_longs, bitmap_extension}
+use Rattle.adf_block.specs.declared.layout.TheConstants.{BITMAP_EXTENSION}
+use Rattle.adf_block.specs.Layout.{first_page, page_longs}
 use Rattle.adf_block.specs.Image.{long, block_count, block_sum, root_key, page_count, IsInside}
 use Rattle.adf_block.specs.Frame.{SameBut, AtLong, InBlock, OnlyLong, OnlyBlock}
 use Rattle.adf_block.proofs.Frames.{same_count, same_long, same_trans, same_weaken, other_long}
@@ -11,14 +12,14 @@ use Rattle.ados_map.specs.Changes.{InPages, MapPlace, BitChanged}
 use Rattle.ados_map.specs.Bits.{IsBitPut}
 use Rattle.ados_map.proofs.BitLemmas.{mark, marked-is, mark-bit, mark-same}
 
--- where the longs of the root that name pages were not changed it names the pages as before
-pub same_page : (changed : ℕ → ℕ → Type 0) (old new : List ℕ) → SameBut changed old new → ((k : ℕ) → first_page ≤ k / 4 → k / 4 < bitmap_extension → ¬ changed (root_key (block_count old)) k)
+-- the root names the same bitmap blocks if its longs for them did not change
+pub same_page : (changed : ℕ → ℕ → Type 0) (old new : List ℕ) → SameBut changed old new → ((k : ℕ) → first_page ≤ k / 4 → k / 4 < BITMAP_EXTENSION → ¬ changed (root_key (block_count old)) k)
     → (p : ℕ) → p < page_longs → page_block new p ≡ page_block old p
 same_page changed old new h un p lt =
     ap (λ (n : ℕ). long new (root_key n) (first_page + p)) (same_count changed old new h)
     ∙ same_long changed old new h (root_key (block_count old)) (first_page + p) (omega arith) (λ k e. un k (omega arith) (omega arith))
 
--- pages that are named as before are lawful still
+-- bitmap blocks that the root names as before are lawful as before
 pub lawful_kept : (old new : List ℕ) → LawfulPages old → block_count new ≡ block_count old → ((p : ℕ) → p < pages_of old → page_block new p ≡ page_block old p) → LawfulPages new
 lawful_kept old new h count same =
     let pages : pages_of new ≡ pages_of old = ap page_count count in
@@ -37,29 +38,29 @@ lawful_kept old new h count same =
           h.beside_root p below (sym (same p below) ∙ e ∙ ap root_key count);
     }
 
--- a change of other places than those longs leaves the pages lawful
-pub lawful_beside_root : (changed : ℕ → ℕ → Type 0) (old new : List ℕ) → SameBut changed old new → ((k : ℕ) → first_page ≤ k / 4 → k / 4 < bitmap_extension → ¬ changed (root_key (block_count old)) k)
+-- a change outside those longs keeps the bitmap blocks lawful
+pub lawful_beside_root : (changed : ℕ → ℕ → Type 0) (old new : List ℕ) → SameBut changed old new → ((k : ℕ) → first_page ≤ k / 4 → k / 4 < BITMAP_EXTENSION → ¬ changed (root_key (block_count old)) k)
     → block_count old ≤ 101602 → LawfulPages old → LawfulPages new
 lawful_beside_root changed old new h un size lawful =
     lawful_kept old new lawful (same_count changed old new h) (λ p lt. same_page changed old new h un p (omega arith))
 
--- a change of pages only leaves them lawful
+-- a change inside the bitmap blocks keeps them lawful
 pub lawful_in_pages : (old new : List ℕ) → SameBut (InPages old) old new → block_count old ≤ 101602 → LawfulPages old → LawfulPages new
 lawful_in_pages old new h size lawful =
     lawful_beside_root (InPages old) old new h (λ k low high at. lawful.beside_root at.0 at.1 (sym at.2)) size lawful
 
--- a change of one page leaves the pages lawful
+-- a change inside one bitmap block keeps them lawful
 pub lawful_at_page : (old new : List ℕ) (p : ℕ) → p < pages_of old → OnlyBlock (page_block old p) old new → block_count old ≤ 101602 → LawfulPages old → LawfulPages new
 lawful_at_page old new p lt h size lawful =
     lawful_beside_root (InBlock (page_block old p)) old new h (λ k low high at. lawful.beside_root p lt (sym at)) size lawful
 
--- a long but for the changed one and the sum
+-- a long other than the changed one and the checksum
 kept_long : (b l : ℕ) (old mid new : List ℕ) → OnlyLong b l old mid → OnlyLong b 0 mid new
     → (c j : ℕ) → j < 128 → j ≢ 0 → (c ≢ b) ⊎ (j ≢ l) → long new c j ≡ long old c j
 kept_long b l old mid new first second c j lt behind apart =
     other_long b 0 mid new second c j lt (inr behind) ∙ other_long b l old mid first c j lt apart
 
--- a bit other than the one that was put
+-- a bit other than the changed one
 other_mark : (old mid new : List ℕ) (k : ℕ) (free : Bool) → LawfulPages old → block_count old ≤ 101602 → IsInside (block_count old) k
     → OnlyLong (page_block old (page_of k)) (map_long k) old mid → OnlyLong (page_block old (page_of k)) 0 mid new
     → IsBitPut (long old (page_block old (page_of k)) (map_long k)) ((k - 2) % 32) free (long mid (page_block old (page_of k)) (map_long k))
@@ -93,7 +94,7 @@ other_mark old mid new k free lawful size inside first second put j has ne =
           ap (λ (v : ℕ). mark v ((j - 2) % 32)) (kept_long b l old mid new first second (page_block old (page_of j)) (map_long j) place behind (inl apart))
     ]
 
--- the bit of a block put into its map long, and then the sum long moved against it
+-- the bit of a block written into its long, then the checksum changed by the opposite amount
 pub marked_by : (old mid new : List ℕ) (k : ℕ) (free : Bool) → LawfulPages old → block_count old ≤ 101602 → IsInside (block_count old) k
     → OnlyLong (page_block old (page_of k)) (map_long k) old mid → OnlyLong (page_block old (page_of k)) 0 mid new
     → IsBitPut (long old (page_block old (page_of k)) (map_long k)) ((k - 2) % 32) free (long mid (page_block old (page_of k)) (map_long k))

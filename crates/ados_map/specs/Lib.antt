@@ -1,4 +1,4 @@
--- The bitmap: the pages and what they say, their longs, and how they change.
+-- The bitmap: its blocks, their longs, and changes of them.
 pub mod Pages
 pub mod Bits
 pub mod Changes

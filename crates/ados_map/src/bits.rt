@@ -1,7 +1,7 @@
-//! One page, and one map long of it.
+//! One bitmap block, and one long of it.
 
 ghost use Rattle.std.specs.Prelude.{◌≡◌, ◌<◌, ◌≤◌, ◌+◌, ◌*◌, length};
-ghost use Rattle.adf_block.specs.Fields.{boot_blocks, long_bits, map_longs, page_longs};
+ghost use Rattle.adf_block.specs.Layout.{boot_blocks, long_bits, map_longs, page_longs};
 ghost use Rattle.adf_block.specs.Image.{IsInside, IsSize, block_count};
 ghost use Rattle.ados_map.specs.Pages.{LawfulPages, page_block, pages_of};
 ghost use Rattle.ados_map.specs.Bits.{IsBitPut, IsFreeBits, IsUnnamedBits, is_unnamed};
@@ -11,7 +11,7 @@ use adf_block::layout::{
     BOOT_BLOCKS, FIRST_MAP_LONG, FIRST_PAGE, LONG_BITS, MAP_LONGS, MOST_BLOCKS,
 };
 
-/// The block of page `p`.
+/// The block number of bitmap block `p`, from 0.
 pub fn page_at(image: &Image, p: u32) -> u32
     requires pages { LawfulPages image.now }
     requires within { p < pages_of image.now }
@@ -23,7 +23,8 @@ pub fn page_at(image: &Image, p: u32) -> u32
     image.long(image.root(), FIRST_PAGE + p)
 }
 
-/// Map long `w` of the volume, with no bit past the volume's end.
+/// Long `w` of the bitmap, with the bits past the volume's end cleared. Longs are counted from 0 over all bitmap
+/// blocks.
 pub fn free_bits(image: &Image, w: u32) -> u32
     requires pages { LawfulPages image.now }
     requires within { boot_blocks + long_bits * w < block_count image.now }
@@ -41,7 +42,7 @@ pub fn free_bits(image: &Image, w: u32) -> u32
     }
 }
 
-/// The bits with bit `i` set or cleared.
+/// The bits with bit `i` set (`free`) or cleared.
 pub fn with_bit(bits: u32, i: u32, free: bool) -> u32
     requires { i < long_bits }
     ensures { IsBitPut bits i free result }
@@ -53,7 +54,7 @@ pub fn with_bit(bits: u32, i: u32, free: bool) -> u32
     }
 }
 
-/// Map long `w` where all blocks but the named ones are free, and no bit past the end is set.
+/// Long `w` of the bitmap in which each block that is not named is free. Bits past the volume's end are 0.
 pub fn unnamed_bits(named: &[bool], w: u32) -> u32
     requires { w < page_longs * map_longs }
     ensures { IsUnnamedBits named.now w result }
@@ -66,7 +67,7 @@ pub fn unnamed_bits(named: &[bool], w: u32) -> u32
     bits
 }
 
-/// Whether the block is one of the volume and not named.
+/// Whether the block is inside the volume and not named.
 fn is_unnamed_block(named: &[bool], block: usize) -> bool
     ensures { result ≡ is_unnamed named.now block }
 {

@@ -1,7 +1,8 @@
-//! One block taken or given back.
+//! One block allocated or freed.
 
 ghost use Rattle.std.specs.Prelude.{◌≡◌, true, false};
-ghost use Rattle.adf_block.specs.Image.{IsImage, IsInside, block_count};
+ghost use Rattle.adf_block.specs.Whole.{IsImage};
+ghost use Rattle.adf_block.specs.Image.{IsInside, block_count};
 ghost use Rattle.ados_map.specs.Pages.{LawfulPages, NoneFreeBelow};
 ghost use Rattle.ados_map.specs.Changes.{BitChanged, SummedPages, TakesFirst};
 
@@ -10,7 +11,8 @@ use crate::reading::first_free;
 use adf_block::Image;
 use adf_block::layout::{BOOT_BLOCKS, FIRST_MAP_LONG, LONG_BITS, PAGE_BITS, PAGE_SUM};
 
-/// Takes the lowest free block and marks it used; `None` where none is free. What stands in the block stays.
+/// Marks the lowest free block used and returns it, or `None` if no block is free. The bytes of the block do not
+/// change.
 pub fn take_first(image: &mut Image) -> Option<u32>
     requires { LawfulPages image.old }
     ensures none { TakesFirst image.old result image.new }
@@ -22,7 +24,7 @@ pub fn take_first(image: &mut Image) -> Option<u32>
     take_first_from(image, BOOT_BLOCKS)
 }
 
-/// Does what `take_first` does, where no block below `from` is free: it looks for the block from there on.
+/// `take_first` with a search that starts at block `from`. No block below `from` may be free.
 pub fn take_first_from(image: &mut Image, from: u32) -> Option<u32>
     requires pages { LawfulPages image.old }
     requires below { NoneFreeBelow image.old from }
@@ -37,7 +39,7 @@ pub fn take_first_from(image: &mut Image, from: u32) -> Option<u32>
     Some(block)
 }
 
-/// Marks block `b` free, which is neither a boot block nor past the end.
+/// Marks block `b` free. It must be a block of the volume after the boot blocks.
 pub fn give_back(image: &mut Image, b: u32)
     requires pages { LawfulPages image.old }
     requires inside { IsInside (block_count image.old) b }
@@ -49,7 +51,8 @@ pub fn give_back(image: &mut Image, b: u32)
     put_mark(image, b, true);
 }
 
-/// Sets or clears the bit of block `b`. The sum long of its page moves against it, so that the page's sum stays.
+/// Sets or clears the bit of block `b`. The checksum of its bitmap block is changed by the opposite amount, so the sum
+/// of its longs stays the same.
 fn put_mark(image: &mut Image, b: u32, free: bool)
     requires pages { LawfulPages image.old }
     requires inside { IsInside (block_count image.old) b }

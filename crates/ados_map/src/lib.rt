@@ -1,7 +1,8 @@
-//! The bitmap pages of a floppy image: which blocks are free.
+//! The bitmap of a floppy image: which blocks are free.
 //!
-//! Bit `i`, lowest first, of map long `j` of a page stands for a block; a set bit means free. The
-//! root names the pages (AmigaDOS Technical Reference). Bits past the volume's end are not looked at (this project's choice).
+//! Each block after the boot blocks has a bit, lowest first in each long of a bitmap block. A set bit means free. The
+//! root has the numbers of the bitmap blocks (AmigaDOS Technical Reference). Bits past the volume's end are not read
+//! (this project's choice).
 #![tactic(auto)]
 
 mod bits;

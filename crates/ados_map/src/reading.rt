@@ -1,15 +1,16 @@
-//! What the pages say.
+//! Reads of the bitmap.
 
 ghost use Rattle.std.specs.Prelude.{◌≡◌, ◌+◌, ◌-◌, ◌/◌, ◌≤◌, MatchBool, MatchOption};
-ghost use Rattle.adf_block.specs.Fields.{boot_blocks, long_bits};
-ghost use Rattle.adf_block.specs.Image.{IsImage, IsInside, IsSize, block_count, has_free_bit, free_bit_count};
+ghost use Rattle.adf_block.specs.Layout.{boot_blocks, long_bits};
+ghost use Rattle.adf_block.specs.Whole.{IsImage, free_bit_count};
+ghost use Rattle.adf_block.specs.Image.{IsInside, IsSize, block_count, has_free_bit};
 ghost use Rattle.ados_map.specs.Pages.{IsLowestFree, LawfulPages, NoneFree, NoneFreeBelow};
 
 use crate::bits::{free_bits, page_at};
 use adf_block::Image;
 use adf_block::layout::{BOOT_BLOCKS, FIRST_MAP_LONG, LONG_BITS, PAGE_BITS};
 
-/// Whether block `b`, which is neither a boot block nor past the end, is marked free.
+/// Whether block `b` is marked free. It must be a block of the volume after the boot blocks.
 pub fn is_free(image: &Image, b: u32) -> bool
     requires pages { LawfulPages image.now }
     requires inside { IsInside (block_count image.now) b }
@@ -23,7 +24,7 @@ pub fn is_free(image: &Image, b: u32) -> bool
         != 0
 }
 
-/// How many blocks are marked free.
+/// The number of blocks that are marked free.
 pub fn count_free(image: &Image) -> u32
     requires { LawfulPages image.now }
     ensures { result ≡ free_bit_count image.now }
@@ -35,7 +36,8 @@ pub fn count_free(image: &Image) -> u32
     count
 }
 
-/// Whether so many blocks are marked free, none of them below `from`. The bitmap is read no further than they are found.
+/// Whether at least `needed` blocks are marked free. No block below `from` may be free. Reading stops as soon as
+/// enough are found.
 pub fn has_free(image: &Image, from: u32, needed: u64) -> bool
     requires pages { LawfulPages image.now }
     requires below { NoneFreeBelow image.now from }
@@ -51,7 +53,7 @@ pub fn has_free(image: &Image, from: u32, needed: u64) -> bool
     needed <= found as u64
 }
 
-/// The lowest block that is marked free; none is below `from`.
+/// The lowest block that is marked free, or `None`. No block below `from` may be free.
 pub fn first_free(image: &Image, from: u32) -> Option<u32>
     requires pages { LawfulPages image.now }
     requires below { NoneFreeBelow image.now from }
@@ -67,14 +69,14 @@ pub fn first_free(image: &Image, from: u32) -> Option<u32>
     None
 }
 
-/// The map long with the bit of block `b`; of a boot block the first.
+/// The index, over all bitmap blocks, of the long with the bit of block `b`. A boot block counts as block 2.
 fn map_long_of(b: u32) -> u32
     ensures { result ≡ (b - boot_blocks) / long_bits }
 {
     b.saturating_sub(BOOT_BLOCKS) / LONG_BITS
 }
 
-/// How many map longs have bits of the volume.
+/// The number of bitmap longs that have bits of blocks in the volume.
 fn map_longs(image: &Image) -> u32
     ensures count { result ≡ (block_count image.now - boot_blocks + (long_bits - 1)) / long_bits }
     ensures size { IsSize (block_count image.now) }

@@ -1,8 +1,9 @@
-//! All pages written anew.
+//! Rebuilding of the whole bitmap.
 
 ghost use Rattle.std.specs.Prelude.{◌≡◌, ◌<◌, ◌+◌, ◌*◌, ℕ, length};
-ghost use Rattle.adf_block.specs.Fields.{first_map_long, map_longs, page_longs};
-ghost use Rattle.adf_block.specs.Image.{IsImage, block_count, block_sum, long};
+ghost use Rattle.adf_block.specs.Layout.{first_map_long, map_longs, page_longs};
+ghost use Rattle.adf_block.specs.Whole.{IsImage};
+ghost use Rattle.adf_block.specs.Image.{block_count, block_sum, long};
 ghost use Rattle.adf_block.specs.Frame.{OnlyBlock};
 ghost use Rattle.ados_map.specs.Pages.{LawfulPages};
 ghost use Rattle.ados_map.specs.Bits.{IsUnnamedBits};
@@ -12,9 +13,9 @@ use crate::bits::{page_at, unnamed_bits};
 use adf_block::layout::{FIRST_MAP_LONG, MAP_LONGS, PAGE_SUM};
 use adf_block::{Image, page_count};
 
-/// Marks exactly the blocks free that are not named: `named` has one truth value a block, boot
-/// blocks included. Bits past the volume's end become 0, and the pages' sums are settled. That the
-/// bitmap is valid is the root's to say, which stays as it is.
+/// Marks a block free exactly if it is not named. `named` has one truth value for each block, boot blocks included.
+/// Bits past the volume's end become 0, and the checksum of each bitmap block becomes right. The root and its flag of
+/// a valid bitmap do not change.
 pub fn rebuild(image: &mut Image, named: &[bool])
     requires pages { LawfulPages image.old }
     requires named { length named.now ≡ block_count image.old }
@@ -28,7 +29,7 @@ pub fn rebuild(image: &mut Image, named: &[bool])
     }
 }
 
-/// Writes page `p`, which stands in block `page`.
+/// Writes bitmap block `p` of the volume. Its block number is `page`.
 fn fill_page(image: &mut Image, page: u32, p: u32, named: &[bool])
     requires inside { page < block_count image.old }
     requires page { p < page_longs }

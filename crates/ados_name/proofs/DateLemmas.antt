@@ -15,7 +15,7 @@ epoch_day-1978 date is =
     let day : date.day ≡ 1 = omega (arith, signed_arith, is.2) in
     rw (is.0, month, day) (unfold jiff_on_literals in refl)
 
--- what `{:02}` writes
+-- the output of `{:02}`
 abbrev padded : ℕ → List ℕ
 padded n = padded_integral (format_spec 32 0 4 2 (2 ^ 64 - 1)) false [] (decimal n)
 
@@ -34,7 +34,7 @@ padded-two_digits n small = by (nat_lt n 10) refl
         let tens : n / 10 < 10 = omega arith in
         rw (decimal_step n above (omega arith), decimal_digit (n / 10) tens) refl
 
--- what `{date} {:02}:{:02}:{:02}.{:02}` writes of the parts of a time
+-- the output of `{date} {:02}:{:02}:{:02}.{:02}` for the parts of a time
 pub civil_text-written : (date : Date) (minutes ticks : ℕ) → minutes < 1440 → ticks < 3000
     → date_text date ++ (32 ∷ (padded (minutes / 60) ++ (58 ∷ (padded (minutes % 60) ++ (58 ∷ (padded (ticks / 50) ++ (46 ∷ padded (2 * (ticks % 50)))))))))
     ≡ civil_text date minutes ticks

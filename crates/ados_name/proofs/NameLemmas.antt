@@ -6,11 +6,12 @@ use Rattle.std.proofs.lemmas.List.{length-map}
 use Rattle.std.proofs.lemmas.List.Folds.{list_any_none, list_any_at}
 use Rattle.std.proofs.lemmas.List.Elements.{All-from_get_or, All-get_or}
 use Rattle.std.proofs.lemmas.Bool.{eq-eqb, eqb-true, le-ltb, false_from_ne_true, or_from, true≢false}
-use Rattle.ados_name.specs.declared.name.NameFault.{NameFault}
-use Rattle.ados_name.specs.declared.name.NameFault.TheVariants.{Separator}
-use Rattle.ados_name.specs.Name.{upper, hash, is_separator, first_fault, IsName, IsNameByte, SameNameSameSlot, Same}
+use Rattle.ados_name.specs.declared.NameFault.{NameFault}
+use Rattle.ados_name.specs.declared.NameFault.TheVariants.{Separator}
+use Rattle.ados_name.specs.Name.{upper, hash, is_separator, first_fault, IsName, IsNameByte, Same}
+use Rattle.ados_name.specs.Path.{SameNameSameSlot}
 
--- one step of the hash with a byte that is in upper case already
+-- one step of the hash, with a byte that is in upper case
 step : ℕ → ℕ → ℕ
 step h c = (13 * h + c) % 2048
 
@@ -33,7 +34,7 @@ upper-lower c = grind arith
 lower-upper : (c : ℕ) → to_ascii_lowercase (upper c) ≡ to_ascii_lowercase c
 lower-upper c = grind arith
 
--- two maps that forget the same say the same of two lists
+-- a map f absorbs an earlier map g if f (g c) is always f c
 map-after : (f g : ℕ → ℕ) → ((c : ℕ) → f (g c) ≡ f c) → (xs : List ℕ) → map f (map g xs) ≡ map f xs
 map-after f g law [] = refl
 map-after f g law (x ∷ xs) = λ i. law x i ∷ map-after f g law xs i
@@ -54,7 +55,7 @@ name_byte c byte plain = record {
 no_separator : (c : ℕ) → IsNameByte c → is_separator c ≡ false
 no_separator c b = or_from (c == 47) (c == 58) (false_from_ne_true _ (λ e. b.no_slash (eqb-true c 47 e))) (false_from_ne_true _ (λ e. b.no_colon (eqb-true c 58 e)))
 
--- a text of 1 to 30 bytes is a name where it has no separator
+-- a text of 1 to 30 bytes without a separator is a name
 module _ (text : List ℕ) (some : (length text == 0) ≡ false) (short : length text ≤ 30) where
   pub IsName-from_plain : All (λ c. c < 256) text → list_any is_separator text ≡ false → IsName text
   IsName-from_plain bytes plain = record {
@@ -71,7 +72,7 @@ pub plain-from_IsName : (text : List ℕ) → IsName text → list_any is_separa
 plain-from_IsName text name = list_any_none is_separator text
     (All-from_get_or (λ c. is_separator c ≡ false) text 0 (λ k inside. no_separator _ (All-get_or IsNameByte text k 0 inside name.plain)))
 
--- upper case makes no separator and takes none away
+-- upper case keeps separators, and makes none
 is_separator-upper : (c : ℕ) → is_separator (upper c) ≡ is_separator c
 is_separator-upper c = grind arith
 
@@ -91,7 +92,7 @@ first_fault-name name is =
     let some : (length name == 0) ≡ false = false_from_ne_true _ (λ e. let none = eqb-true _ 0 e in let long = is.not_empty in absurd (omega arith)) in
     rw (some, le-ltb 30 (length name) is.short, plain-from_IsName name is) refl
 
--- a text with a fault is the same as no name
+-- a text with a fault equals no name
 pub no_name_is_same : (text : List ℕ) (fault : NameFault) → first_fault text ≡ Some fault → (name : List ℕ) → IsName name → ¬ (Same name text)
 no_name_is_same text fault has name is same =
     let conflict : None ≡ Some fault = sym (first_fault-name name is) ∙ sym (first_fault-same name text same) ∙ has in cc

@@ -11,8 +11,7 @@ use Rattle.std.proofs.lemmas.List.Sums.{prefix_len-le-length, fails_before_first
 use Rattle.std.proofs.lemmas.List.{length-drop, get_or-drop}
 use Rattle.std.proofs.lemmas.List.Folds.{list_any_none}
 use Rattle.bstr.specs.Find.{IsLastByte}
-use Rattle.ados_name.specs.Name.{is_slash, is_separator}
-use Rattle.ados_name.specs.Path.{Step, Step.ToParent, Step.ToChild, steps_of_parts, steps_along, last_name, front}
+use Rattle.ados_name.specs.Name.{is_slash, is_separator, Step, Step.ToParent, Step.ToChild, steps_of_parts, steps_along, last_name, front}
 use Rattle.ados_name.proofs.SeparatorLemmas.{behind, suffix-found, behind-le, none-behind}
 
 -- the step of a component
@@ -42,7 +41,7 @@ steps_of_parts-one : (component : List ℕ) → 0 < length component → steps_o
 steps_of_parts-one [] some = absurd (omega arith)
 steps_of_parts-one (c ∷ cs) some = refl
 
--- the component is the last, or a slash stands behind it
+-- the component is the last one, or a slash follows it
 steps_along-first : (walked : List ℕ) → 0 < length walked
     → steps_along walked ≡ taken (before_first is_slash walked) ∷ steps_along (after_first is_slash walked)
 unfolding steps_along
@@ -58,7 +57,7 @@ steps_along-first walked some =
           (steps_of_parts-more _ (slice_split is_slash (after_first is_slash walked)) (rw length-slice_split (omega arith)))
     ]
 
--- the last name stands behind the last separator
+-- the last name follows the last separator
 module _ (path : List ℕ) (r : Option ℕ) (last : IsLastByte is_separator path r) where
   pub drop-behind : drop (behind r) path ≡ last_name path
   unfolding last_name
@@ -76,7 +75,7 @@ module _ (path : List ℕ) (r : Option ℕ) (last : IsLastByte is_separator path
       (All-from_get_or (λ c. is_separator c ≡ false) (drop (behind r) path) 0
       (λ k inside. rw get_or-drop (none-behind is_separator path r last (behind r + k) (omega arith) (let total = length-drop (behind r) path in omega arith)))))
 
--- what `next` gives, where the walk goes on
+-- the result of `next` while steps are left
 module _ (walked component rest : List ℕ) (some : (length walked == 0) ≡ false) (is : component ≡ before_first is_slash walked) (behind_it : rest ≡ after_first is_slash walked) where
   next-step : steps_along walked ≡ taken component ∷ steps_along rest
   next-step = rw (is, behind_it) (steps_along-first walked (nonempty walked some))

@@ -1,4 +1,4 @@
--- What a search for a byte that passes a test says of the list.
+-- The result of a search for a byte, in terms of the list.
 use Rattle.std.proofs.Common.{◌≡◌, ℕ, ◌+◌, ◌-◌, ◌<◌, ◌≤◌, zero-le, ◌==◌, Bool, false, ◌||◌, not, List, [], ◌∷◌, length, take, drop, get_or, Option, None, Some, is_some, unwrap_or, sym, ap, ◌∙◌, arith}
 use Rattle.std.specs.List.{list_any, before_first, after_first, position_or_len, suffix_len}
 use Rattle.std.proofs.Math.Bool.{or-false}
@@ -13,7 +13,7 @@ use Rattle.bstr.specs.Find.{IsFirstByte, IsLastByte}
 use Rattle.bstr.specs.Bytes.{is_in}
 use Rattle.ados_name.specs.Name.{is_separator}
 
--- the place behind the byte that was found, or the start
+-- the position after the found byte, or 0
 abbrev pub behind : Option ℕ → ℕ
 behind None = 0
 behind (Some k) = k + 1

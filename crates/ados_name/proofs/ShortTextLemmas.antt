@@ -1,4 +1,4 @@
--- Cells that a text was copied into hold it.
+-- Cells hold the text that was copied into them.
 use Rattle.std.proofs.Common.{ℕ, ◌<◌, ◌≤◌, List, ◌++◌, length, drop, replicate, get_or, All, Fits, w8, sym, ap, refl, arith}
 use Rattle.std.proofs.Math.Seq.{take-append_seam}
 use Rattle.std.proofs.lemmas.List.{drop-replicate}

@@ -6,11 +6,11 @@ use Rattle.jiff.specs.Words.{date_text}
 use Rattle.ados_name.specs.declared.Date3.{Date3}
 use Rattle.ados_name.specs.CivilDay.{IsDaysAfterEpoch}
 
--- a number below 100 in two digits
+-- a number below 100 as two digits
 abbrev pub two_digits : ℕ → List ℕ
 two_digits n = (48 + n / 10) ∷ (48 + n % 10) ∷ []
 
--- up to 31 December 9999, at a time of a day
+-- the day is at most 31 December 9999, and the minutes and ticks are a time of day
 abbrev pub has_civil_text : Date3 → Bool
 has_civil_text d = nat_le d.days 2_929_974 && nat_lt d.minutes 1_440 && nat_lt d.ticks 3_000
 
@@ -24,7 +24,7 @@ civil_text date minutes ticks =
 abbrev pub raw_text : Date3 → List ℕ
 raw_text d = codes "raw " ++ decimal d.days ++ codes " " ++ decimal d.minutes ++ codes " " ++ decimal d.ticks
 
--- the text of a date: of its civil day and time, or of its three numbers
+-- the text of a date: its calendar date and time if it has both, else its three numbers
 abbrev pub IsTextOf : Date3 → List ℕ → Type 0
 IsTextOf d text =
     MatchBool (has_civil_text d)

@@ -1,4 +1,4 @@
--- What names, comments, paths, protection bits and dates are; then how a step and a text in an array are seen.
+-- Names, comments, paths, protection bits and dates; then how contracts see a step and a text in an array.
 pub mod Name
 pub mod Path
 pub mod Protection

@@ -1,26 +1,28 @@
--- Names of files and directories, as lists of bytes.
-use Rattle.std.specs.Prelude.{◌≡◌, ◌≢◌, ℕ, ◌+◌, ◌-◌, ◌*◌, ◌%◌, ◌<◌, ◌≤◌, ◌==◌, ◌&&◌, ◌||◌, Bool, nat_le, nat_lt, if◌then◌else◌, List, map, length, fold, All, Option, None, Some}
-use Rattle.std.specs.List.{list_any}
-use Rattle.ados_name.specs.declared.name.NameFault.{NameFault}
-use Rattle.ados_name.specs.declared.name.NameFault.TheVariants.{Empty, TooLong, Separator}
+-- Names and comments, as lists of bytes; paths: their steps, their last name, and the prefix before it; and protection bits.
+-- Bits not named here keep their values.
+use Rattle.std.specs.Prelude.{◌≡◌, ◌≢◌, ℕ, ◌+◌, ◌-◌, ◌*◌, ◌%◌, ◌<◌, ◌≤◌, ◌==◌, ◌&&◌, ◌||◌, Bool, nat_le, nat_lt, if◌then◌else◌, List, map, length, fold, All, Option, None, Some, [], ◌∷◌, take}
+use Rattle.std.specs.List.{list_any, after_first, after_last, slice_split}
+use Rattle.std.specs.Int.{bit_at}
+use Rattle.ados_name.specs.declared.NameFault.{NameFault}
+use Rattle.ados_name.specs.declared.NameFault.TheVariants.{Empty, TooLong, Separator}
 
--- what ends a component of a path
+-- the byte `/`, which ends a component of a path
 abbrev pub is_slash : ℕ → Bool
 is_slash c = c == 47
 
--- what ends the part of a path that names the volume
+-- the byte `:`, which ends the volume's name in a path
 abbrev pub is_colon : ℕ → Bool
 is_colon c = c == 58
 
--- what no name has
+-- a byte that no name contains
 abbrev pub is_separator : ℕ → Bool
 is_separator c = is_slash c || is_colon c
 
--- the letters a to z in upper case, every other byte as it is
+-- a to z in upper case, every other byte unchanged
 abbrev pub upper : ℕ → ℕ
 upper c = if nat_le 97 c && nat_le c 122 then c - 32 else c
 
--- two names are the same where they are equal in upper case
+-- two names are the same if they are equal in upper case
 abbrev pub Same : List ℕ → List ℕ → Type 0
 Same name other = map upper name ≡ map upper other
 
@@ -28,11 +30,11 @@ Same name other = map upper name ≡ map upper other
 unfoldable pub hash : List ℕ → ℕ
 hash name = fold (λ h c. (13 * h + upper c) % 2048) (length name) name
 
--- the slot of a directory's table in whose chain the name stands
+-- the slot of the hash table whose hash chain holds the name
 abbrev pub slot : List ℕ → ℕ
 slot name = hash name % 72
 
--- a byte of a name: neither `/` nor `:`
+-- a byte of a name: not `/` and not `:`
 pub record IsNameByte (c : ℕ) : Type 0 where
   pub byte : c < 256
   pub no_slash : c ≢ 47
@@ -44,7 +46,7 @@ pub record IsName (name : List ℕ) : Type 0 where
   pub short : length name ≤ 30
   pub plain : All IsNameByte name
 
--- the first fault of a text that is no name
+-- the first fault of a text as a name, or none
 abbrev pub first_fault : List ℕ → Option NameFault
 first_fault text =
     if length text == 0 then Some Empty
@@ -57,6 +59,57 @@ pub record IsComment (comment : List ℕ) : Type 0 where
   pub short : length comment ≤ 79
   pub bytes : All (λ c. c < 256) comment
 
--- Law: names that are the same have one slot.
-abbrev pub SameNameSameSlot : Type 0
-SameNameSameSlot = (name other : List ℕ) → Same name other → slot name ≡ slot other
+-- the bit of this number is set
+abbrev pub is_set : ℕ → ℕ → Bool
+is_set bits number = bit_at bits number == 1
+
+-- a set bit of 0 to 3 denies
+abbrev pub denies_delete : ℕ → Bool
+denies_delete bits = is_set bits 0
+
+abbrev pub denies_write : ℕ → Bool
+denies_write bits = is_set bits 2
+
+abbrev pub denies_read : ℕ → Bool
+denies_read bits = is_set bits 3
+
+-- the bits with bit 4 clear
+abbrev pub without_archive : ℕ → ℕ
+without_archive bits = bits - 16 * bit_at bits 4
+
+-- one step of a walk: to the parent, or to the child with a name
+pub data Step : Type 0 where
+  ToParent : Step
+  ToChild : List ℕ → Step
+
+-- a path with a `:` starts at the root
+abbrev pub is_from_root : List ℕ → Bool
+is_from_root path = list_any is_colon path
+
+-- the part with the steps: everything after the first `:`, or the whole path if it has none
+abbrev pub walked_part : List ℕ → List ℕ
+walked_part path = if is_from_root path then after_first is_colon path else path
+
+-- the parts are split at slashes; a part that is not empty is a step to a child, an empty part before a slash is a
+-- step to the parent, and an empty last part is no step
+abbrev pub steps_of_parts : List (List ℕ) → List Step
+steps_of_parts [] = []
+steps_of_parts ([] ∷ []) = []
+steps_of_parts ([] ∷ part ∷ rest) = ToParent ∷ steps_of_parts (part ∷ rest)
+steps_of_parts ((c ∷ cs) ∷ rest) = ToChild (c ∷ cs) ∷ steps_of_parts rest
+
+-- the steps of a text without a volume's name
+unfoldable pub steps_along : List ℕ → List Step
+steps_along walked = steps_of_parts (slice_split is_slash walked)
+
+-- the steps of a path
+unfoldable pub steps : List ℕ → List Step
+steps path = steps_along (walked_part path)
+
+-- the longest suffix without `/` and `:`
+unfoldable pub last_name : List ℕ → List ℕ
+last_name path = after_last is_separator path
+
+-- the prefix before the last name
+unfoldable pub front : List ℕ → List ℕ
+front path = take (length path - length (last_name path)) path

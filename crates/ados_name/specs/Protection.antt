@@ -1,34 +1,16 @@
--- Protection bits, of which other bits than these keep their value.
-use Rattle.std.specs.Prelude.{ℕ, ◌-◌, ◌*◌, Bool, not, ◌==◌, if◌then◌else◌, List, [], ◌∷◌}
-use Rattle.std.specs.Int.{bit_at}
+-- The letters of the protection bits.
+use Rattle.std.specs.Prelude.{ℕ, Bool, not, if◌then◌else◌, List, [], ◌∷◌}
+use Rattle.ados_name.specs.Name.{is_set}
 
--- the bit of this number is set
-abbrev pub is_set : ℕ → ℕ → Bool
-is_set bits number = bit_at bits number == 1
-
--- bits 0 to 3 deny where they are set
-abbrev pub denies_delete : ℕ → Bool
-denies_delete bits = is_set bits 0
-
-abbrev pub denies_write : ℕ → Bool
-denies_write bits = is_set bits 2
-
-abbrev pub denies_read : ℕ → Bool
-denies_read bits = is_set bits 3
-
--- bit 4 says that the file was not changed since it was archived
+-- bit 4: the file has not changed since it was archived
 abbrev pub is_archived : ℕ → Bool
 is_archived bits = is_set bits 4
 
--- the bits with bit 4 clear
-abbrev pub without_archive : ℕ → ℕ
-without_archive bits = bits - 16 * bit_at bits 4
-
--- the letter, or a dash
+-- the letter if it is shown, else a dash
 abbrev pub letter_or_dash : Bool → ℕ → ℕ
 letter_or_dash shown letter = if shown then letter else 45
 
--- the letters `sparwed`: script, pure and archived where set, read, write, execute and delete where not denied
+-- the letters `sparwed`: script, pure and archived if set; read, write, execute and delete if not denied
 abbrev pub letters : ℕ → List ℕ
 letters bits =
     letter_or_dash (is_set bits 6) 115 ∷ letter_or_dash (is_set bits 5) 112 ∷ letter_or_dash (is_set bits 4) 97

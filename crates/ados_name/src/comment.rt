@@ -26,9 +26,10 @@ impl Model for Comment {
 pub struct CommentTooLong;
 
 impl Comment {
-    /// The most bytes that a comment has.
+    /// The most bytes of a comment.
     pub const MAX_LEN: usize = 79;
 
+    /// Checks the length of a text. Each byte may have any value.
     pub fn new(text: &[u8]) -> Result<Comment, CommentTooLong>
         ensures ok { IfOk result (λ comment. comment ≡ text.now) }
         ensures valid { IsOk result ↔ IsComment text.now }
@@ -41,6 +42,7 @@ impl Comment {
         })
     }
 
+    /// The 0 to 79 bytes of the comment, without a length byte.
     pub fn bytes(&self) -> &[u8]
         ensures value { result.now ≡ self.now }
         ensures valid { IsComment self.now }

@@ -1,4 +1,4 @@
-//! Dates of a volume, and their text.
+//! Dates, and their text.
 ghost use Rattle.std.specs.Prelude.{◌≡◌, ◌≤◌, IfOk, IsTrue, ◌↔◌};
 ghost use Rattle.std.specs.String.{string_bytes};
 ghost use Rattle.ados_name.specs.CivilDay.{IsDaysAfterEpoch};
@@ -11,9 +11,10 @@ use std::alloc::{AllocError, Global};
 impl Date3 {
     ghost use Rattle.ados_name.specs.Date.{has_civil_text, IsTextOf};
 
-    /// `YYYY-MM-DD hh:mm:ss.cc` up to 31 December 9999, where the time is one of a day; else `raw DAYS MINUTES TICKS`.
+    /// The date as text: `YYYY-MM-DD hh:mm:ss.cc`, or `raw DAYS MINUTES TICKS`. The second form is for days after 31
+    /// December 9999, 1,440 minutes or more, and 3,000 ticks or more.
     ///
-    /// The hundredths `cc` are even, since a tick has two.
+    /// The hundredths `cc` are even, because a tick has two.
     pub fn text(self, alloc: Global) -> Result<String, AllocError>
         ensures { IfOk result (λ text. IsTextOf self (string_bytes text)) }
     {
@@ -26,7 +27,7 @@ impl Date3 {
         format!(in alloc; "{date} {hour:02}:{minute:02}:{second:02}.{hundredths:02}")
     }
 
-    // Whether the day has four digits of a year, and the time is one of a day.
+    // Whether the year has at most four digits, and minutes and ticks are a time of day.
     fn has_civil_text(self) -> bool
         ensures { result ≡ has_civil_text self }
     {
@@ -34,7 +35,7 @@ impl Date3 {
     }
 }
 
-// The calendar's date so many days after 1 January 1978.
+// The date in the calendar, this many days after 1 January 1978.
 fn civil_date(days: u32) -> Date
     requires { days ≤ 2_929_974 }
     ensures { IsDaysAfterEpoch days result }

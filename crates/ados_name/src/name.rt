@@ -1,14 +1,16 @@
 //! Names of files and directories.
 ghost use Rattle.std.specs.Prelude.{◌≡◌, ◌↔◌, ◌<◌, IsTrue, IsOk, IfOk, IfErr, Some, List, ℕ};
-ghost use Rattle.ados_name.specs.Name.{hash, slot, upper as upper_of, Same, IsName, first_fault, SameNameSameSlot};
+ghost use Rattle.ados_name.specs.Name.{hash, slot, upper as upper_of, Same, IsName, first_fault};
+ghost use Rattle.ados_name.specs.Path.{SameNameSameSlot};
 
+use crate::NameFault;
 use crate::short_text::ShortText;
 use bstr::ByteSlice;
 use std::marker::Model;
 
-/// A name of 1 to 30 bytes with neither `/` nor `:`.
+/// A name of 1 to 30 bytes without `/` and `:`.
 ///
-/// `==` compares the bytes; `same` is how AmigaDOS compares names.
+/// `==` compares the bytes. `same` compares names as AmigaDOS does.
 #[derive(Clone, Copy, Debug, PartialEq, Eq)]
 pub struct Name {
     text: ShortText<30>,
@@ -27,27 +29,17 @@ impl Model for Name {
     ghost inverse = { λ bytes. record { text = bytes } };
 }
 
-/// Why a text is no name.
-#[derive(Clone, Copy, Debug, PartialEq, Eq)]
-pub enum NameFault {
-    Empty,
-    /// More than 30 bytes.
-    TooLong,
-    /// A `/` or a `:`.
-    Separator,
-}
-
 impl Name {
-    /// The most bytes that a name has.
+    /// The most bytes of a name.
     pub const MAX_LEN: usize = 30;
 
-    /// The name that these bytes spell, or the first fault that they have, in the order of `NameFault`.
+    /// The name that these bytes spell, or their first fault in the order of `NameFault`.
     pub fn new(text: &[u8]) -> Result<Name, NameFault>
         ensures ok { IfOk result (λ name. name ≡ text.now) }
         ensures fault { IfErr result (λ fault. first_fault text.now ≡ Some fault) }
         ensures valid { IsOk result ↔ IsName text.now }
 
-        // What is no name is the same as none.
+        // A text that is not a name equals no name.
         ensures foreign { IfErr result (λ _. (name : List ℕ) → IsName name → ¬ (Same name text.now)) }
     {
         if text.is_empty() {
@@ -64,7 +56,7 @@ impl Name {
         })
     }
 
-    /// The bytes as they were written.
+    /// The bytes as given.
     pub fn bytes(&self) -> &[u8]
         ensures value { result.now ≡ self.now }
         ensures valid { IsName self.now }
@@ -72,8 +64,8 @@ impl Name {
         self.text.bytes()
     }
 
-    /// The hash of the AmigaDOS Technical Reference: it starts with the length, and each byte in upper case makes
-    /// `(13 h + byte) mod 2048` of it.
+    /// The hash of the AmigaDOS Technical Reference. It starts with the length. Each byte, in upper case, turns `h`
+    /// into `(13 h + byte) mod 2048`.
     #[tactic(auto, unfolding(crate::specs::Name::hash))]
     pub fn hash(&self) -> u32
         ensures { result ≡ hash self.now }
@@ -86,7 +78,7 @@ impl Name {
         h
     }
 
-    /// The slot of a directory's table of 72 in whose chain an entry of this name stands.
+    /// The slot in a directory's hash table, 0 to 71: an entry of this name is in that slot's hash chain.
     pub fn slot(&self) -> u32
         ensures value { result ≡ slot self.now }
         ensures small { result < 72 }
@@ -102,14 +94,14 @@ impl Name {
     }
 }
 
-/// The letters a to z in upper case, and every other byte as it is, also those of international letters.
+/// Upper case of the letters a to z. All other bytes stay as they are, international letters included.
 pub fn upper(byte: u8) -> u8
     ensures { result ≡ upper_of byte }
 {
     byte.to_ascii_uppercase()
 }
 
-/// Names that are the same have one slot.
+/// Names that are the same have the same slot.
 pub fn same_name_same_slot()
     ensures { SameNameSameSlot }
 {}

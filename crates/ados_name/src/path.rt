@@ -1,14 +1,14 @@
-//! Paths and the steps that they spell.
+//! Paths and their steps.
 ghost use Rattle.std.specs.Prelude.{◌≡◌, ◌↔◌, IsTrue, IsOk, IfOk, false};
 ghost use Rattle.std.specs.List.{list_any, before_first, after_first};
-ghost use Rattle.ados_name.specs.Name.{is_slash, is_separator};
-ghost use Rattle.ados_name.specs.Path.{IsPathText, is_from_root, walked_part, steps, front, last_name};
+ghost use Rattle.ados_name.specs.Name.{is_slash, is_separator, is_from_root, walked_part, steps, front, last_name};
+ghost use Rattle.ados_name.specs.Path.{IsPathText};
 
 use crate::short_text::ShortText;
 use bstr::ByteSlice;
 use std::marker::Model;
 
-/// The bytes of a path, or of another text that a packet brings: at most 255.
+/// A path, or another text in a packet: at most 255 bytes.
 #[derive(Clone, Copy, Debug, PartialEq, Eq)]
 pub struct PathText {
     text: ShortText<255>,
@@ -29,9 +29,10 @@ impl Model for PathText {
 pub struct PathTooLong;
 
 impl PathText {
-    /// The most bytes that a path has.
+    /// The most bytes of a path.
     pub const MAX_LEN: usize = 255;
 
+    /// Checks the length of a text. Each byte may have any value, and the names in the path are not checked.
     pub fn new(text: &[u8]) -> Result<PathText, PathTooLong>
         ensures ok { IfOk result (λ path. path ≡ text.now) }
         ensures valid { IsOk result ↔ IsPathText text.now }
@@ -44,6 +45,7 @@ impl PathText {
         })
     }
 
+    /// The 0 to 255 bytes of the path.
     pub fn bytes(&self) -> &[u8]
         ensures value { result.now ≡ self.now }
         ensures valid { IsPathText self.now }
@@ -51,21 +53,23 @@ impl PathText {
         self.text.bytes()
     }
 
-    /// Whether the walk starts at the root: the path has a `:`.
+    /// Whether the path starts at the root: it has a `:`. The text before the `:` is not compared with any volume's
+    /// name.
     pub fn from_root(&self) -> bool
         ensures { result ≡ is_from_root self.now }
     {
         self.bytes().find_byte(b':').is_some()
     }
 
-    /// The steps of the whole path.
+    /// The steps of the whole path. An empty component before a `/` is a step to the parent.
     pub fn steps(&self) -> PathSteps<'_>
         ensures { result ≡ steps self.now }
     {
         PathSteps::of(self.bytes())
     }
 
-    /// The front and the last name of the path. The last name may be empty or longer than a name.
+    /// The path without its last name, and that name: the bytes after the last `/` or `:`. The name may be empty or
+    /// longer than 30 bytes.
     pub fn split_last(&self) -> (&[u8], &[u8])
         ensures front { result.0.now ≡ front self.now }
         ensures last { result.1.now ≡ last_name self.now }
@@ -83,11 +87,11 @@ impl PathText {
 #[derive(Clone, Copy, Debug, PartialEq, Eq)]
 pub enum Step<'a> {
     Parent,
-    /// To the child of this name, which may be longer than a name, or have a `:`.
+    /// To the child of this name. The name may be longer than 30 bytes or have a `:`.
     Child(&'a [u8]),
 }
 
-/// The steps of a path that are still to be made.
+/// The steps of a path that are not made yet.
 #[derive(Drop)]
 pub struct PathSteps<'a> {
     rest: &'a [u8],
@@ -95,7 +99,7 @@ pub struct PathSteps<'a> {
 
 impl<'a> Model for PathSteps<'a> {
     ghost use Rattle.std.specs.Prelude.{List};
-    ghost use Rattle.ados_name.specs.Path.{Step, steps_along};
+    ghost use Rattle.ados_name.specs.Name.{Step, steps_along};
 
     ghost Value = { List Step };
 
@@ -103,7 +107,7 @@ impl<'a> Model for PathSteps<'a> {
 }
 
 impl<'a> PathSteps<'a> {
-    /// The steps of a path, or of its front.
+    /// The steps of a path, or of a path without its last name.
     pub fn of(path: &'a [u8]) -> PathSteps<'a>
         ensures { result ≡ steps path.now }
     {
@@ -136,7 +140,7 @@ impl<'a> Iterator for PathSteps<'a> {
     }
 }
 
-// The bytes before the first `/`, or all of them, and what stands behind it.
+// The bytes before the first `/`, or all of them; and the bytes after it.
 fn split_component(walked: &[u8]) -> (&[u8], &[u8])
     ensures component { result.0.now ≡ before_first is_slash walked.now }
     ensures rest { result.1.now ≡ after_first is_slash walked.now }
@@ -147,7 +151,7 @@ fn split_component(walked: &[u8]) -> (&[u8], &[u8])
     }
 }
 
-// The text behind the first `:`, or all of it.
+// The text after the first `:`, or all of it.
 fn without_volume(path: &[u8]) -> &[u8]
     ensures { result.now ≡ walked_part path.now }
 {

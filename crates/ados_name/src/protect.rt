@@ -1,22 +1,23 @@
 //! Protection bits.
 ghost use Rattle.std.specs.Prelude.{◌≡◌, ⊤, [], ◌∷◌, codes, if◌then◌else◌};
-ghost use Rattle.ados_name.specs.Protection.{denies_delete, denies_write, denies_read, is_archived, without_archive, letters};
+ghost use Rattle.ados_name.specs.Name.{denies_delete, denies_write, denies_read, without_archive};
+ghost use Rattle.ados_name.specs.Protection.{is_archived, letters};
 
 use bitflags::{Flag, Flags, bitflag_items};
 
-/// The protection long of a header (ROM Kernel Manual). Bits without a name here keep their value.
+/// The protection long of a header (ROM Kernel Manual). Bits without a name here keep their values.
 #[derive(Clone, Copy, Debug, PartialEq, Eq)]
 pub struct Protect(pub u32);
 
 bitflag_items! {
     impl Protect: u32 {
-        /// To delete is denied.
+        /// The file or directory cannot be deleted.
         const DELETE = 1;
-        /// To execute is denied.
+        /// The file cannot be executed.
         const EXECUTE = 2;
-        /// To write is denied.
+        /// The file cannot be written.
         const WRITE = 4;
-        /// To read is denied.
+        /// The file cannot be read.
         const READ = 8;
         /// The file has not changed since it was archived.
         const ARCHIVE = 16;
@@ -51,34 +52,35 @@ impl Flags for Protect {
 }
 
 impl Protect {
+    /// The 32 bits as the protection long of a header stores them.
     pub fn bits(self) -> u32
         ensures { result ≡ self.0 }
     {
         self.0
     }
 
-    /// Bit 0.
+    /// Whether bit 0 is set.
     pub fn denies_delete(self) -> bool
         ensures { result ≡ denies_delete self.0 }
     {
         self.contains(Protect::DELETE)
     }
 
-    /// Bit 2.
+    /// Whether bit 2 is set.
     pub fn denies_write(self) -> bool
         ensures { result ≡ denies_write self.0 }
     {
         self.contains(Protect::WRITE)
     }
 
-    /// Bit 3.
+    /// Whether bit 3 is set.
     pub fn denies_read(self) -> bool
         ensures { result ≡ denies_read self.0 }
     {
         self.contains(Protect::READ)
     }
 
-    /// Bit 4, which a change of the file's bytes clears.
+    /// Whether bit 4 is set. A change of the file's bytes clears it.
     pub fn archive(self) -> bool
         ensures { result ≡ is_archived self.0 }
     {
@@ -92,8 +94,8 @@ impl Protect {
         self.difference(Protect::ARCHIVE)
     }
 
-    /// The letters `sparwed`, as `List` shows them: `s`, `p` and `a` where the bit is set, `r`, `w`, `e` and `d` where
-    /// it is clear, and else a dash.
+    /// The letters `sparwed` in the form of the command `List`. `s`, `p` and `a` are shown for a set bit, `r`, `w`,
+    /// `e` and `d` for a clear bit, and a dash otherwise.
     pub fn letters(self) -> [u8; 7]
         ensures { result ≡ letters self.0 }
     {

@@ -1,9 +1,9 @@
-//! Bytes of bounded number in a fixed array. A contract sees them as a list.
+//! A text of bounded length in a fixed array. Contracts see a list of bytes.
 ghost use Rattle.std.specs.Prelude.{◌≡◌, ◌<◌, ◌≤◌, All, length};
 
 use std::marker::Model;
 
-/// At most `CAPACITY` bytes; the cells behind them are 0.
+/// At most `CAPACITY` bytes. The cells after them are 0.
 #[derive(Clone, Copy, Debug, PartialEq, Eq)]
 pub(crate) struct ShortText<const CAPACITY: usize> {
     cells: [u8; CAPACITY],

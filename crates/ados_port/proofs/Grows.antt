@@ -1,4 +1,4 @@
--- A history grows by whatever one step comes to.
+-- A history grows by the outcome of one step.
 use Rattle.std.proofs.Common.{◌≡◌, ◌≢◌, ◌⊎◌, ℕ, zero, suc, ◌+◌, ◌-◌, ◌≤◌, Bool, true, false, cond, List, [], ◌∷◌, ◌++◌, map, length, take, drop, slice_get, slice_set, nat_eq, Some, None, refl, sym, ap, ◌∙◌, inl, inr, arith, subst, MatchOption, add-zero, length-append}
 use Rattle.std.specs.Prelude.{Option}
 use Rattle.std.specs.Bool.{MatchBool}
@@ -8,8 +8,8 @@ use Rattle.std.proofs.lemmas.List.{append-nil, length-map, length-drop}
 use Rattle.std.proofs.lemmas.List.Elements.{filter_map-append}
 use Rattle.std.proofs.lemmas.Option.{none-some, same_Some}
 use Rattle.std.proofs.lemmas.Bool.Decides.{eqb_tells}
-use Rattle.port_history.specs.Port.{ClientState, PortState}
-use Rattle.port_history.specs.History.{Serving, Event, events_of, packets_by, accepted_in, moments_in, taken_in, taken_count, packets_of, answers_to, client_state, Run, last_server, queue, client_now, PutFits, take_outcome, OutcomeFits, PortHistory, packet_accepted, moment_served, reply_taken, PutGives, ServeGives, TakeGives, StepGives}
+use Rattle.port_history.specs.History.{ClientState, PortState, Serving, Event, events_of, packets_by, accepted_in, moments_in, taken_in, taken_count, packets_of, answers_to, client_state, Run, last_server, queue, client_now, PutFits, take_outcome, OutcomeFits, PortHistory, packet_accepted, moment_served, reply_taken}
+use Rattle.port_history.specs.Steps.{PutGives, ServeGives, TakeGives, StepGives}
 use Rattle.port_history.specs.declared.step.Step.{Step}
 use Rattle.port_history.specs.declared.step.Step.TheVariants.{Put, Serve, Take}
 use Rattle.port_history.specs.declared.step.PutRefused.TheVariants.{Closed, NoRoom}
@@ -36,14 +36,14 @@ slice_get-set_other (y ∷ ys) zero (suc i) v h = refl
 slice_get-set_other (y ∷ ys) (suc p) zero v h = refl
 slice_get-set_other (y ∷ ys) (suc p) (suc i) v h = slice_get-set_other ys p i v (λ e. h (ap suc e))
 
--- a client that is there has a number from 1 on
+-- an existing client has a number from 1
 pub client_state-at : {A : Type 0} (cs : List (ClientState A)) (n : ℕ) (c : ClientState A) → client_state cs n ≡ Some c → (n ≢ 0) × (slice_get cs (n - 1) ≡ Some c)
 client_state-at cs n c found = elim (eqb_tells n 0) [
   | inl w ↦ absurd (none-some c (sym (ap (λ b. cond b None (slice_get cs (n - 1))) w.0) ∙ found))
   | inr w ↦ (w.1, sym (ap (λ b. cond b None (slice_get cs (n - 1))) w.0) ∙ found)
 ]
 
--- a client other than the one that changed, and that one
+-- the client that changed, and any other client
 pub client_state-set : {A : Type 0} (cs : List (ClientState A)) (n : ℕ) (c v : ClientState A) → client_state cs n ≡ Some c → (number : ℕ)
     → client_state (slice_set cs (n - 1) v) number ≡ cond (nat_eq number n) (Some v) (client_state cs number)
 client_state-set cs n c v found number =
@@ -69,7 +69,7 @@ client_state-set cs n c v found number =
           ]
     ]
 
--- one client changed as f says, and f leaves the others
+-- one client changed by f, and f leaves the others unchanged
 pub set_is_map : {A : Type 0} (cs : List (ClientState A)) (n : ℕ) (c v : ClientState A) (f : ℕ → ClientState A → ClientState A) → client_state cs n ≡ Some c
     → ((number : ℕ) (d : ClientState A) → number ≢ n → f number d ≡ d) → f n c ≡ v
     → (number : ℕ) → client_state (slice_set cs (n - 1) v) number ≡ option_map (f number) (client_state cs number)
@@ -83,7 +83,7 @@ set_is_map cs n c v f found others own number =
     ]
 
 module _ {S Q M A : Type 0} (gives : S → Q → M → S → A → Type 0) (has_died : S → Bool) where
-  -- a history in which no client has taken more than there was
+  -- a history in which no client has taken more replies than there were
   pub record Grown (opening : PortState S Q A) (steps : List (Step Q M)) (outcomes : List (Outcome Q A)) (closing : PortState S Q A) : Type 0 where
     pub history : PortHistory gives has_died opening steps outcomes closing
     pub bound : (number : ℕ) (c : ClientState A) → client_state opening.clients number ≡ Some c
@@ -155,7 +155,7 @@ module _ {S Q M A : Type 0} (gives : S → Q → M → S → A → Type 0) (has_
     abbrev all : List (Event Q M A)
     all = events_of steps outcomes
 
-    -- what holds of a client of the port as it is, counted from the opening
+    -- a property of a client of the current port, counted from the opening
     pub by_client : (P : Type 0) (R : ClientState A → Type 0) (n : ℕ) → MatchOption (client_state mid.clients n) P R
         → MatchOption (client_state opening.clients n) P (λ c. R (client_now h.history.served all n c))
     by_client P R n w = MatchOption-map (client_now h.history.served all n) (client_state opening.clients n) P R (subst (λ o. MatchOption o P R) (h.history.closing_clients n) w)
@@ -252,7 +252,7 @@ module _ {S Q M A : Type 0} (gives : S → Q → M → S → A → Type 0) (has_
           untaken = ap (λ l. c.untaken ++ l) (packets_by-own first.0 first.0 w.7 refl) i;
         }) number))
 
-    -- a take that changed nothing, or gave the first reply
+    -- a take that changed nothing, or returned the first reply
     take_cases : (client : ℕ) (outcome : Outcome Q A) (closing : PortState S Q A) (o : Option (ClientState A))
         → MatchOption o ((outcome ≡ NoClient None) × (closing ≡ mid)) (λ c. ((c.untaken ≡ []) × (outcome ≡ Nothing) × (closing ≡ mid))
         ⊎ ((answer : A) × (rest : List A) × (c.untaken ≡ answer ∷ rest)

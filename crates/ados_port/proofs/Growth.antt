@@ -23,7 +23,7 @@ module _ {Q M A : Type 0} where
   }
 
 module _ {S Q M A : Type 0} where
-  -- ends that have grown are still the ends of that port
+  -- grown ends are still the ends of that port
   pub ends_after : (gives : S → Q → M → S → A → Type 0) (m : M) (h h' : HandlerView S Q M A) (xs : List (Serving Q M A)) (cs cs' : List (ClientView Q M A))
       → AreEnds h cs → Serves gives m h xs h' → length cs' ≡ length cs → ((k : ℕ) (o : ClientView Q M A) → slice_get cs k ≡ Some o → (n : ClientView Q M A) × (slice_get cs' k ≡ Some n) × Grown o n) → AreEnds h' cs'
   ends_after gives m h h' xs cs cs' ends serves len grown = (

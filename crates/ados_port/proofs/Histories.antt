@@ -8,8 +8,7 @@ use Rattle.std.proofs.Math.Seq.{take-append_seam, take-append-add, drop-append-a
 use Rattle.std.proofs.lemmas.Option.{none-some, same_Some}
 use Rattle.port_history.proofs.Events.{filter_map-take}
 use Rattle.port_history.proofs.Serving.{run-length, run-append, last_server-append, packets_by-append, answers_to-append}
-use Rattle.port_history.specs.Port.{ClientState, PortState}
-use Rattle.port_history.specs.History.{Serving, Event, events_of, packets_by, accepted_in, moments_in, taken_in, served_count, accepted_count, taken_count, packets_of, answers_to, client_state, Run, last_server, queue, client_now, OutcomeFits, PortHistory, moment_served}
+use Rattle.port_history.specs.History.{ClientState, PortState, Serving, Event, events_of, packets_by, accepted_in, moments_in, taken_in, served_count, accepted_count, taken_count, packets_of, answers_to, client_state, Run, last_server, queue, client_now, OutcomeFits, PortHistory, moment_served}
 use Rattle.port_history.specs.declared.step.Step.{Step}
 use Rattle.port_history.specs.declared.step.Outcome.{Outcome}
 
@@ -26,7 +25,7 @@ length-events [] outcomes e = refl
 length-events (s ∷ ss) [] e = absurd (omega (arith, e))
 length-events (s ∷ ss) (o ∷ os) e = ap suc (length-events ss os (omega (arith, e)))
 
--- an element of a list after a push, with its place
+-- an element of a list after a push, with its index
 pub slice_get-push_at : {A : Type 0} (xs : List A) (y : A) (i : ℕ) (x : A) → slice_get (xs ++ y ∷ []) i ≡ Some x
     → ((i < length xs) × (slice_get xs i ≡ Some x)) ⊎ ((i ≡ length xs) × (x ≡ y))
 slice_get-push_at [] y zero x h = inr (refl, sym (same_Some y x h))
@@ -110,7 +109,7 @@ module _ {S Q M A : Type 0} (gives : S → Q → M → S → A → Type 0) (has_
           ∙ ap (drop (taken_count number (e ∷ []))) (drop-append-le (taken_count number es) (c.untaken ++ answers_to number h.served) (answers_to number more) bound)
           in λ i. record { accepted = sum_accepted i; taken = sum_taken i; untaken = rest i }
 
-      -- what stands before an earlier step stays
+      -- the events before an earlier step stay the same
       pub fits_still : (i : ℕ) (f : Event Q M A) → i < length es → slice_get es i ≡ Some f
           → OutcomeFits opening (take (served_count (take i (es ++ e ∷ []))) (h.served ++ more))
           (has_died (last_server opening.server (take (served_count (take i (es ++ e ∷ []))) (h.servers ++ after)))) (take i (es ++ e ∷ [])) f.step f.outcome
@@ -124,7 +123,7 @@ module _ {S Q M A : Type 0} (gives : S → Q → M → S → A → Type 0) (has_
           (subst (λ l. OutcomeFits opening (take (served_count (take i es)) h.served) (has_died (last_server opening.server l)) (take i es) f.step f.outcome) (sym as_servers)
           (h.fits i f at_i)))
 
-      -- what stands before the last step is all of it
+      -- every earlier event comes before the last step
       pub fits_last : OutcomeFits opening h.served (has_died (last_server opening.server h.servers)) es step outcome
           → OutcomeFits opening (take (served_count (take (length es) (es ++ e ∷ []))) (h.served ++ more))
           (has_died (last_server opening.server (take (served_count (take (length es) (es ++ e ∷ []))) (h.servers ++ after)))) (take (length es) (es ++ e ∷ [])) step outcome

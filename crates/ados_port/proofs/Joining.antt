@@ -1,4 +1,4 @@
--- Two histories, one behind the other, are one.
+-- Two histories, one after the other, are one history.
 use Rattle.std.proofs.Common.{◌≡◌, ◌⊎◌, ℕ, zero, suc, ◌+◌, ◌<◌, ◌≤◌, Bool, cond, List, [], ◌∷◌, ◌++◌, map, length, take, drop, slice_get, nat_eq, Some, None, refl, sym, ap, ◌∙◌, inl, inr, arith, subst, MatchOption, append_assoc, length-append}
 use Rattle.std.specs.Prelude.{Option}
 use Rattle.std.specs.Option.{option_map}
@@ -10,8 +10,7 @@ use Rattle.std.proofs.Math.Seq.{take-append-add, drop-append-add}
 use Rattle.port_history.proofs.Events.{filter_map-take}
 use Rattle.port_history.proofs.Numbers.{eq_true, eq_false}
 use Rattle.port_history.proofs.Serving.{run-append, last_server-append, packets_by-append, packets_by-own, packets_by-other, answers_to-append}
-use Rattle.port_history.specs.Port.{ClientState, PortState}
-use Rattle.port_history.specs.History.{Serving, Event, events_of, packets_by, accepted_in, moments_in, taken_in, served_count, accepted_count, taken_count, packets_of, answers_to, client_state, Run, last_server, queue, client_now, PutFits, take_outcome, OutcomeFits, PortHistory, moment_served}
+use Rattle.port_history.specs.History.{ClientState, PortState, Serving, Event, events_of, packets_by, accepted_in, moments_in, taken_in, served_count, accepted_count, taken_count, packets_of, answers_to, client_state, Run, last_server, queue, client_now, PutFits, take_outcome, OutcomeFits, PortHistory, moment_served}
 use Rattle.port_history.specs.declared.step.Step.{Step}
 use Rattle.port_history.specs.declared.step.Step.TheVariants.{Put, Serve, Take}
 use Rattle.port_history.specs.declared.step.Reply.{Reply}
@@ -27,7 +26,7 @@ events-append [] more (o ∷ os) after e = absurd (omega (arith, e))
 events-append (s ∷ ss) more [] after e = absurd (omega (arith, e))
 events-append (s ∷ ss) more (o ∷ os) after e = ap (λ es. record { step = s; outcome = o } ∷ es) (events-append ss more os after (omega (arith, e)))
 
--- an element of two lists is one of the first, or of the second with its place there
+-- an element of two appended lists is one of the first, or one of the second at its index there
 slice_get-append_at : {X : Type 0} (xs ys : List X) (i : ℕ) (x : X) → slice_get (xs ++ ys) i ≡ Some x
     → ((i < length xs) × (slice_get xs i ≡ Some x)) ⊎ ((j : ℕ) × (i ≡ length xs + j) × (slice_get ys j ≡ Some x))
 slice_get-append_at [] ys i x h = inr (i, omega arith, h)
@@ -37,7 +36,7 @@ slice_get-append_at (z ∷ zs) ys (suc i) x h = elim (slice_get-append_at zs ys 
   | inr w ↦ inr (w.0, omega (arith, w.1), w.2)
 ]
 
--- one element more, or none
+-- one more element, or none
 take-next : {X : Type 0} (xs : List X) (i : ℕ) (x : X) → slice_get xs i ≡ Some x → take (suc i) xs ≡ take i xs ++ x ∷ []
 take-next [] i x h = absurd (none-some x h)
 take-next (y ∷ ys) zero x h = ap (λ z. z ∷ []) (same_Some y x h)
@@ -49,27 +48,27 @@ take-none [] (suc i) h = refl
 take-none (y ∷ ys) zero h = absurd (none-some y (sym h))
 take-none (y ∷ ys) (suc i) h = ap (λ l. y ∷ l) (take-none ys i h)
 
--- two numbers that are as much larger
+-- two numbers, both larger by k
 eq-longer : (k a b x y : ℕ) → x ≡ k + a → y ≡ k + b → nat_eq x y ≡ nat_eq a b
 eq-longer k a b x y e f = elim (eqb_tells a b) [
   | inl w ↦ eq_true x y (omega (arith, e, f, w.1)) ∙ sym w.0
   | inr w ↦ eq_false x y (λ q. w.1 (omega (arith, e, f, q))) ∙ sym w.0
 ]
 
--- a reply is taken only where one is left
+-- a reply is taken only if one is left
 one_is_left : {Q A : Type 0} (taken : ℕ) (untaken : List A) (reply : Reply A) → ◌≡◌ {A = Outcome Q A} (Taken reply) (take_outcome taken untaken) → 1 ≤ length untaken
 one_is_left taken [] reply e = let f = e in cc
 one_is_left taken (answer ∷ answers) reply e = omega arith
 
 module _ {Q M A : Type 0} where
-  -- no more answers are in the first ones
+  -- the first packets have no further answers
   answers_to-take : (number k : ℕ) (served : List (Serving Q M A)) → length (answers_to number (take k served)) ≤ length (answers_to number served)
   answers_to-take number k served =
       let all : answers_to number (take k served) ++ answers_to number (drop k served) ≡ answers_to number served =
       sym (answers_to-append number (take k served) (drop k served)) ∙ ap (answers_to number) (take-append-drop k served)
       in omega (arith, ap length all, length-append (answers_to number (take k served)) (answers_to number (drop k served)))
 
-  -- nor by an earlier event
+  -- nor has an earlier event
   answers_to-later : (number i j : ℕ) (served : List (Serving Q M A)) → i ≤ j → length (answers_to number (take i served)) ≤ length (answers_to number (take j served))
   answers_to-later number i j served before =
       let few = answers_to-take number i (take j served)
@@ -109,7 +108,7 @@ module _ {S Q M A : Type 0} (gives : S → Q → M → S → A → Type 0) (has_
     abbrev es : List (Event Q M A)
     es = events_of steps outcomes
 
-    -- no client has taken more by any event than there was
+    -- at no event has a client taken more replies than there were
     abbrev Bounded : ℕ → ClientState A → List (Event Q M A) → Type 0
     Bounded number c before = taken_count number before ≤ length (c.untaken ++ answers_to number (take (served_count before) h.served))
 
@@ -169,7 +168,7 @@ module _ {S Q M A : Type 0} (gives : S → Q → M → S → A → Type 0) (has_
         ∙ ap (drop (taken_count number before)) (drop-append-le (taken_count number es) (c.untaken ++ answers_to number h.served) (answers_to number served) bound)
         in λ i. record { accepted = sum_accepted i; taken = sum_taken i; untaken = rest i }
 
-    -- what holds of a client behind these events
+    -- a property of a client after these events
     by_client_behind : (P : Type 0) (R : ClientState A → Type 0) (number : ℕ) (served : List (Serving Q M A)) (before : List (Event Q M A))
         → MatchOption (client_state mid.clients number) P (λ c. R (client_now served before number c))
         → MatchOption (client_state opening.clients number) P (λ c. R (client_now (h.served ++ served) (es ++ before) number c))
@@ -179,7 +178,7 @@ module _ {S Q M A : Type 0} (gives : S → Q → M → S → A → Type 0) (has_
         (MatchOption-map (client_now h.served es number) (client_state opening.clients number) P (λ c. R (client_now served before number c))
         (subst (λ o. MatchOption o P (λ c. R (client_now served before number c))) (h.closing_clients number) w))
 
-    -- an outcome that fits behind these events fits in both
+    -- an outcome that fits after these events fits in both histories
     fits_behind : (served : List (Serving Q M A)) (died : Bool) (before : List (Event Q M A)) (step : Step Q M) (outcome : Outcome Q A)
         → OutcomeFits mid served died before step outcome → OutcomeFits opening (h.served ++ served) died (es ++ before) step outcome
     fits_behind served died before (Put client packet) outcome w = by_client_behind (outcome ≡ NoClient (Some packet)) (λ c. PutFits died packet c outcome) client served before w
@@ -193,7 +192,7 @@ module _ {S Q M A : Type 0} (gives : S → Q → M → S → A → Type 0) (has_
       abbrev fs : List (Event Q M A)
       fs = events_of more after
 
-      -- an event fits what stands before it in both histories
+      -- an event fits the events before it in both histories
       abbrev FitsBoth : ℕ → Event Q M A → Type 0
       FitsBoth i f =
           OutcomeFits opening (take (served_count (take i (es ++ fs))) (h.served ++ g.served))
@@ -239,7 +238,7 @@ module _ {S Q M A : Type 0} (gives : S → Q → M → S → A → Type 0) (has_
       served_both : length (h.served ++ g.served) ≡ length (packets_of h.served) + length g.served
       served_both = length-append h.served g.served ∙ ap (λ n. n + length g.served) (sym (length-map h.served _))
 
-      -- the packets served in both are the first of the queue, and what waits is the rest
+      -- the packets served in both are the first of the queue, and the waiting packets are the rest
       first_both : take (length (h.served ++ g.served)) (queue opening (es ++ fs)) ≡ packets_of h.served ++ take (length g.served) (queue mid fs)
       first_both = ap (take (length (h.served ++ g.served))) (queue_behind fs) ∙ ap (λ n. take n (packets_of h.served ++ queue mid fs)) served_both
           ∙ take-append-add (packets_of h.served) (queue mid fs) (length g.served)

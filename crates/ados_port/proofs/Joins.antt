@@ -11,12 +11,12 @@ nil_of : {X : Type 0} (xs : List X) → length xs ≡ 0 → xs ≡ []
 nil_of [] e = refl
 nil_of (x ∷ xs) e = absurd (omega arith)
 
--- all was gone over
+-- the loop has reached the end of the list
 pub none_left : {X : Type 0} (ys rest all : List X) → ys ++ rest ≡ all → length rest ≡ 0 → ys ≡ all
 none_left ys rest all whole none = sym (append-nil ys) ∙ (ap (λ l. ys ++ l) (sym (nil_of rest none)) ∙ whole)
 
 module _ {H J V : Type 0} where
-  -- every job was started, where every end was
+  -- each job was started if each end was handed out
   pub jobs_started : (endv : H → V) (jobv : H → J) (hs : List H) (ys rest all : List V) (jobs given : List J)
       → ys ++ rest ≡ all → length rest ≡ 0 → map endv hs ≡ ys → map jobv hs ++ jobs ≡ given → length given ≡ length all → map jobv hs ≡ given
   jobs_started endv jobv hs ys rest all jobs given whole none is_ends parts len =
@@ -31,7 +31,7 @@ module _ {H J V : Type 0} where
       sym (append-nil (map jobv hs)) ∙ (ap (λ (l : List J). map jobv hs ++ l) (sym r) ∙ parts)
 
 module _ {X : Type 0} where
-  -- an element stays where it is in a longer list
+  -- an element keeps its index in a longer list
   get_front : (xs ys : List X) (k : ℕ) (x : X) → slice_get xs k ≡ Some x → slice_get (xs ++ ys) k ≡ Some x
   get_front [] ys k x e = absurd (none-some x e)
   get_front (z ∷ zs) ys zero x e = e
@@ -69,7 +69,7 @@ module _ {Q M A J T : Type 0} (does : J → ClientView Q M A → ClientView Q M 
     ],
   )
 
-  -- the same of lists that are equal
+  -- the same for equal lists
   pub did_alike : (jobs jobs' : List J) (old old' new : List (ClientView Q M A)) (reports : List T) → jobs ≡ jobs' → old ≡ old' → EachDid does jobs old new reports → EachDid does jobs' old' new reports
   did_alike jobs jobs' old old' new reports same_jobs same_old did =
       subst (λ (l : List J). EachDid does l old' new reports) same_jobs (subst (λ (l : List (ClientView Q M A)). EachDid does jobs l new reports) same_old did)
@@ -82,7 +82,7 @@ module _ {Q M A J T : Type 0} (does : J → ClientView Q M A → ClientView Q M 
       rw (map-append jobv hs (h ∷ []), map-append endv hs (h ∷ []), is_new, is_reports)
       (each_did_more (map jobv hs) (map endv hs) new reports (jobv h) (endv h) n report (length-map hs jobv ∙ sym (length-map hs endv)) each did)
 
--- what holds where the first of two results is well holds where both are
+-- a property that follows from the success of the first result follows from the success of both
 pub first_ok : {F : Type 0} (P : Type 0) (first second : Result (Unit {0}) F) (done : Unit {0}) → result_and first second ≡ Ok done → OnOk first P → P
 first_ok P (Ok x) second done both p = p
 first_ok P (Err f) second done both p = absurd (cc both)

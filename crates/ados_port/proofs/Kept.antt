@@ -1,4 +1,4 @@
--- Lemmas on the clients and the packets that wait.
+-- Lemmas on the clients and the waiting packets.
 use Rattle.std.proofs.Common.{◌≡◌, ◌≢◌, ◌⊎◌, ℕ, zero, suc, ◌+◌, ◌<◌, ◌≤◌, List, [], ◌∷◌, ◌++◌, length, slice_get, slice_set, nat_eq, Some, refl, sym, ap, ◌∙◌, inl, inr, arith, cond, add-zero, zero-add}
 use Rattle.std.specs.Prelude.{count_by}
 use Rattle.std.proofs.lemmas.List.Sums.{sum_by-append}
@@ -15,7 +15,7 @@ suc_path i p e = ap suc e
 suc_apart : (i p : ℕ) → i ≢ p → suc i ≢ suc p
 suc_apart i p h e = h (omega (arith, e))
 
--- an element of a list after a write is the one written, or an old one at another place
+-- an element of a list after a write is the written one, or an old one at another index
 pub slice_get-set_cases : {A : Type 0} (xs : List A) (p : ℕ) (y : A) (i : ℕ) (x : A) → slice_get (slice_set xs p y) i ≡ Some x
     → ((i ≡ p) × (x ≡ y)) ⊎ ((i ≢ p) × (slice_get xs i ≡ Some x))
 slice_get-set_cases [] p y i x h = absurd (none-some x h)
@@ -28,14 +28,14 @@ slice_get-set_cases (z ∷ zs) (suc p) y (suc i) x h =
       | inr c ↦ inr (suc_apart i p c.0, c.1)
     ]
 
--- an element of a list after a push is an old one, or the one pushed
+-- an element of a list after a push is an old one, or the pushed one
 pub slice_get-push_cases : {A : Type 0} (xs : List A) (y : A) (i : ℕ) (x : A) → slice_get (xs ++ y ∷ []) i ≡ Some x → (slice_get xs i ≡ Some x) ⊎ (x ≡ y)
 slice_get-push_cases [] y zero x h = inr (sym (same_Some y x h))
 slice_get-push_cases [] y (suc i) x h = absurd (none-some x h)
 slice_get-push_cases (z ∷ zs) y zero x h = inl h
 slice_get-push_cases (z ∷ zs) y (suc i) x h = slice_get-push_cases zs y i x h
 
--- one more packet at the end, and one less in front
+-- one more packet at the end, and one less at the start
 pub count-push : {Q : Type 0} (ws : List (Waiting Q)) (w : Waiting Q) (n : ℕ) → count_by (λ v. nat_eq v.client n) (ws ++ w ∷ []) ≡ count_by (λ v. nat_eq v.client n) ws + cond (nat_eq w.client n) 1 0
 count-push ws w n = sum_by-append _ ws (w ∷ []) ∙ ap (λ k. count_by (λ v. nat_eq v.client n) ws + k) (zero-add _)
 
@@ -43,7 +43,7 @@ pub count-cons : {Q : Type 0} (ws : List (Waiting Q)) (w : Waiting Q) (n : ℕ) 
 count-cons ws w n = sum_by-append _ (w ∷ []) ws ∙ ap (λ k. k + count_by (λ v. nat_eq v.client n) ws) (zero-add _)
 
 module _ {Q A : Type 0} (clients : List (Client A)) (waiting : List (Waiting Q)) (kept : IsKept clients waiting) where
-  -- a client that counts as before
+  -- a client with unchanged counts
   pub kept_same : (p : ℕ) (old new : Client A) → slice_get clients p ≡ Some old → new.waiting ≡ old.waiting → IsKept (slice_set clients p new) waiting
   kept_same p old new at_p same = record {
     counted = λ i c h. elim (slice_get-set_cases clients p new i c h) [
@@ -73,7 +73,7 @@ module _ {Q A : Type 0} (clients : List (Client A)) (waiting : List (Waiting Q))
     ]);
   }
 
--- a client has a packet that waits where one of its packets is the first
+-- a client has a waiting packet if the first one is the client's
 pub waits_first : {Q A : Type 0} (clients : List (Client A)) (w : Waiting Q) (rest : List (Waiting Q)) (p : ℕ) (c : Client A) → IsKept clients (w ∷ rest) → slice_get clients p ≡ Some c → w.client ≡ p + 1 → 0 < c.waiting
 waits_first clients w rest p c kept at_p is_client =
     let e : c.waiting ≡ 1 + count_by (λ v. nat_eq v.client (p + 1)) rest =
@@ -98,6 +98,6 @@ kept_served clients w rest p old new kept at_p less is_client = record {
   known = λ i v h. rw length-set (kept.known (suc i) v h);
 }
 
--- the first packet that waits is a client's
+-- the first waiting packet belongs to a client
 pub first_known : {Q A : Type 0} (clients : List (Client A)) (waiting : List (Waiting Q)) (w : Waiting Q) (rest : List (Waiting Q)) → IsKept clients waiting → waiting ≡ w ∷ rest → (1 ≤ w.client) × (w.client ≤ length clients)
 first_known clients waiting w rest kept e = kept.known 0 w (ap (λ ws. slice_get ws 0) e)

@@ -1,4 +1,4 @@
--- Lemmas for those who drive a port: on its histories, its steps, its ends, and its clients in threads.
+-- Lemmas for callers of a port: on its histories, its steps, its ends, and its clients in threads.
 pub mod Kept
 pub mod Views
 pub mod Histories

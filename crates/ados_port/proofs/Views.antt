@@ -1,27 +1,27 @@
--- Lemmas on what an exchange shows.
+-- Lemmas on the visible state of an exchange.
 use Rattle.std.proofs.Common.{◌≡◌, ◌≢◌, ℕ, zero, suc, ◌+◌, ◌-◌, ◌<◌, ◌≤◌, Bool, true, false, cond, List, [], ◌∷◌, ◌++◌, length, slice_get, slice_set, Some, None, refl, sym, ap, ◌∙◌, inl, inr, arith, subst, MatchOption}
 use Rattle.std.specs.Prelude.{Option}
 use Rattle.std.specs.Bool.{MatchBool}
 use Rattle.std.specs.Option.{option_map}
 use Rattle.std.proofs.lemmas.List.{map-set, map-append}
 use Rattle.std.proofs.lemmas.Option.{slice_get-map, slice_get_past, same_Some}
-use Rattle.port_history.specs.Port.{ClientState, PortState}
+use Rattle.port_history.specs.History.{ClientState, PortState, client_state}
 use Rattle.ados_port.specs.View.{clients_view, waiting_view}
-use Rattle.port_history.specs.History.{PutGives, ServeGives, TakeGives, client_state}
+use Rattle.port_history.specs.Steps.{PutGives, ServeGives, TakeGives}
 use Rattle.ados_port.specs.declared.counts.Client.{Client}
 use Rattle.ados_port.specs.declared.exchange.Waiting.{Waiting}
 use Rattle.port_history.specs.declared.step.PutRefused.TheVariants.{Closed, NoRoom}
 use Rattle.port_history.specs.declared.step.Outcome.TheVariants.{Accepted, Refused, Served, Taken, Nothing, NoClient}
 use Rattle.port_history.proofs.Numbers.{eq_false}
 
--- what a contract sees of a client, and of an exchange
+-- the visible state of a client, and of an exchange
 abbrev pub client_view : {A : Type 0} → Client A → ClientState A
 client_view c = record { accepted = c.accepted; taken = c.taken; untaken = c.replies.items }
 
 abbrev pub port_view : {S Q A : Type 0} → S → List (Client A) → List (Waiting Q) → PortState S Q A
 port_view server clients waiting = record { server = server; clients = clients_view clients; waiting = waiting_view waiting }
 
--- a client with a number from 1 on is found
+-- a client with a number from 1 is found
 pub client_state-found : {A : Type 0} (cs : List (Client A)) (client : ℕ) (c : Client A) → client ≢ 0 → slice_get cs (client - 1) ≡ Some c
     → client_state (clients_view cs) client ≡ Some (client_view c)
 client_state-found cs client c not_zero found =
@@ -36,13 +36,13 @@ client_state-past cs client past =
     ap (λ b. cond b None (slice_get (clients_view cs) (client - 1))) (eq_false client 0 (λ e. absurd (omega (arith, e, past))))
     ∙ slice_get-map client_view cs (client - 1) ∙ ap (option_map client_view) (slice_get_past cs (client - 1) (omega (arith, past)))
 
--- a client that shows the same
+-- a client whose visible state is unchanged
 pub view_same : {A : Type 0} (cs : List (Client A)) (p : ℕ) (old new : Client A) → slice_get cs p ≡ Some old → client_view new ≡ client_view old → clients_view (slice_set cs p new) ≡ clients_view cs
 view_same [] p old new found same = refl
 view_same (c ∷ cs) zero old new found same = ap (λ v. v ∷ clients_view cs) (same ∙ ap client_view (sym (same_Some c old found)))
 view_same (c ∷ cs) (suc p) old new found same = ap (λ l. client_view c ∷ l) (view_same cs p old new found same)
 
--- a client that shows something else
+-- a client whose visible state changed
 pub view_changed : {A : Type 0} (cs : List (Client A)) (p : ℕ) (new : Client A) (v : ClientState A) → client_view new ≡ v → clients_view (slice_set cs p new) ≡ slice_set (clients_view cs) p v
 view_changed cs p new v same = map-set client_view cs p new ∙ ap (slice_set (clients_view cs) p) same
 
@@ -68,7 +68,7 @@ module _ {S Q A : Type 0} (has_died : S → Bool) (server : S) (cs : List (Clien
       → PutGives has_died (port_view server cs ws) client packet (Refused (Closed packet)) (port_view server cs ws)
   put_closed c not_zero found dead = MatchOption-some (client_state (clients_view cs) client) (client_view c) _ _ (client_state-found cs client c not_zero found) (MatchBool-at (has_died server) true _ _ dead (refl, refl))
 
-  -- there is no room, and the client shows the same
+  -- there is no room, and the client's visible state is unchanged
   pub put_no_room : (c new : Client A) → client ≢ 0 → slice_get cs (client - 1) ≡ Some c → has_died server ≡ false → client_view new ≡ client_view c
       → PutGives has_died (port_view server cs ws) client packet (Refused (NoRoom packet)) (port_view server (slice_set cs (client - 1) new) ws)
   put_no_room c new not_zero found alive same = MatchOption-some (client_state (clients_view cs) client) (client_view c) _ _ (client_state-found cs client c not_zero found)
@@ -89,7 +89,7 @@ module _ {S Q A : Type 0} (has_died : S → Bool) (server : S) (cs : List (Clien
         },
       )))
 
--- the first packet that waits is served
+-- the first waiting packet is served
 pub serve_first : {S Q M A : Type 0} (gives : S → Q → M → S → A → Type 0) (server new_server : S) (cs : List (Client A)) (ws rest : List (Waiting Q)) (w : Waiting Q) (moment : M) (answer : A) (c new : Client A)
     → ws ≡ w ∷ rest → 1 ≤ w.client → slice_get cs (w.client - 1) ≡ Some c → gives server w.packet moment new_server answer
     → new.accepted ≡ c.accepted → new.taken ≡ c.taken → new.replies.items ≡ c.replies.items ++ answer ∷ []
@@ -114,7 +114,7 @@ serve_first gives server new_server cs ws rest w moment answer c new split from_
     )
 
 module _ {S Q A : Type 0} (server : S) (cs : List (Client A)) (ws : List (Waiting Q)) (client : ℕ) where
-  -- there is no reply, and the client shows the same
+  -- there is no reply, and the client's visible state is unchanged
   pub take_nothing : (c new : Client A) → client ≢ 0 → slice_get cs (client - 1) ≡ Some c → c.replies.items ≡ [] → new.replies.items ≡ [] → new.accepted ≡ c.accepted → new.taken ≡ c.taken
       → TakeGives (port_view server cs ws) client Nothing (port_view server (slice_set cs (client - 1) new) ws)
   take_nothing c new not_zero found none still_none accepted taken =

@@ -2,7 +2,7 @@
 use Rattle.std.specs.Prelude.{◌≡◌, ℕ, true, List, ◌++◌, length, Some, slice_get}
 use Rattle.port_ends.specs.Ends.{ClientView}
 
--- the same end, with more put and more taken. One that knew of the close still knows
+-- the same end, with more puts and more takes. An end that knew of the close still knows
 pub record Grown {Q M A : Type 0} (old new : ClientView Q M A) : Type 0 where
   pub port : new.port ≡ old.port
   pub mark : new.mark ≡ old.mark
@@ -12,16 +12,16 @@ pub record Grown {Q M A : Type 0} (old new : ClientView Q M A) : Type 0 where
   pub taken : (ys : List (M × A)) × (new.taken ≡ old.taken ++ ys)
   pub knows : old.knows ≡ true → new.knows ≡ true
 
--- what a job means: with a client's end as it was, it may leave the end so, and report this
+-- the meaning of a job: from this client's end, it may leave this end and report this
 abbrev pub JobMeaning : Type 0 → Type 0 → Type 0 → Type 0 → Type 0 → Type 1
 JobMeaning J Q M A T = J → ClientView Q M A → ClientView Q M A → T → Type 0
 
 module _ {Q M A J T : Type 0} where
-  -- a client did its job: its end has grown from its own, and it reports what the job says
+  -- a client did its job: its end has grown, and its report is allowed by the job
   abbrev pub Did : JobMeaning J Q M A T → J → ClientView Q M A → ClientView Q M A → T → Type 0
   Did does job old new report = Grown old new × does job old new report
 
-  -- the client at this place did the job there, and left the end and the report that stand there
+  -- the client at this index did the job at this index, and left the end and the report at this index
   abbrev pub DidAt : JobMeaning J Q M A T → ℕ → ClientView Q M A → List J → List (ClientView Q M A) → List T → Type 0
   DidAt does k old jobs new reports =
       (job : J) × (n : ClientView Q M A) × (report : T)

@@ -1,16 +1,14 @@
--- What the contracts of a port speak of: what is in use, what happens to it, and what its ends keep; how an exchange shows its port, and what a client's thread may have done to its end. What only the calls inside speak of stands in steps.
+-- Definitions for the contracts of a port: the visible state of an exchange, a refused run, and what a client's thread
+-- may do to its end. Definitions for steps are in `steps`.
 pub mod View
 pub mod Refused
 pub mod Grown
-pub use Rattle.port_history.specs.Port
 pub use Rattle.port_history.specs.declared.step.Step
 pub use Rattle.port_history.specs.declared.step.Outcome
 pub use Rattle.port_history.specs.declared.step.PutRefused
 pub use Rattle.port_history.specs.declared.step.Reply
 pub use Rattle.port_history.specs.Steps
-pub use Rattle.port_history.specs.Serving
 pub use Rattle.port_history.specs.History
-pub use Rattle.port_history.specs.Closing
 pub use Rattle.port_history.specs.Lawful
 pub use Rattle.port_history.specs.Lists
 pub use Rattle.port_history.specs.Laws

@@ -1,2 +1,2 @@
--- What only the calls inside speak of: what a client has accepted, and its replies.
+-- Definitions for steps: accepted packets of a client, and its replies.
 pub mod Taking

@@ -6,11 +6,11 @@ use port_ends::ClientEnd;
 use port_history::Server;
 use std::sync::Wait;
 
-/// What a client does with its end, on a thread of its own.
+/// What a client does with its end, on its own thread.
 pub trait Client<S: Server> {
     type Report: Drop;
 
-    /// This client, with its end as it was, may leave its end so, and report this.
+    /// From this end, this client may leave this end and report this.
     ghost does: { Self → ClientView S.Request S.Moment S.Reply → ClientView S.Request S.Moment S.Reply → Self.Report → Type 0 };
 
     fn run<R: Wait>(self, rt: &R, end: &mut ClientEnd<S>) -> Self::Report

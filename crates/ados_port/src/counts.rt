@@ -6,7 +6,8 @@ use port_history::Reply;
 use std::alloc::Global;
 use std::collections::VecDeque;
 
-/// A client: its counts, how many of its packets wait, and its replies. There is room for the reply to each packet that waits.
+/// A client: its counts, the number of its waiting packets, and its replies. There is room for the reply to each
+/// waiting packet.
 #[derive(Drop)]
 pub(crate) struct Client<A> {
     accepted: u64,
@@ -34,7 +35,8 @@ impl<A: Drop> Client<A> {
         }
     }
 
-    /// Counts one more packet, and reserves the place of its reply. It answers nothing where there is no memory, or where the count is at its end.
+    /// Counts one more packet, and reserves room for its reply. Returns its number, or `None` if memory ran out or the
+    /// count is at its maximum.
     pub(crate) fn accept(&mut self) -> Option<u64>
         ensures replies { self.new.replies.items ≡ self.old.replies.items }
         ensures taken { self.new.taken ≡ self.old.taken }
@@ -52,7 +54,7 @@ impl<A: Drop> Client<A> {
         Some(self.accepted)
     }
 
-    /// Keeps the reply to a packet that waited, in the place that is reserved.
+    /// Stores the reply to a waiting packet, in the reserved room.
     #[inline(always)]
     pub(crate) fn answer(&mut self, reply: A)
         requires { 0 < self.old.waiting }

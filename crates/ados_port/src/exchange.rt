@@ -1,7 +1,7 @@
 //! The exchange: a server, its port and its clients' replies.
 ghost use Rattle.std.specs.Prelude.{◌≡◌, ◌≤◌, [], ◌∷◌, MatchResult};
-ghost use Rattle.port_history.specs.Port.{opening_port};
-ghost use Rattle.port_history.specs.History.{PortHistory, PutGives, ServeGives, TakeGives, StepGives};
+ghost use Rattle.port_history.specs.History.{opening_port, PortHistory};
+ghost use Rattle.port_history.specs.Steps.{PutGives, ServeGives, TakeGives, StepGives};
 
 use crate::counts::Client;
 use port_history::{Outcome, PutRefused, Server, Step};
@@ -16,8 +16,8 @@ struct Waiting<Q> {
     packet: Q,
 }
 
-/// A server with its port and its clients' replies. A contract sees it as a `PortState`: the server, what each client
-/// has put and taken with its replies that are left, and the packets that wait.
+/// A server with its port and its clients' replies. A contract sees it as a `PortState`: the server, the puts, takes
+/// and untaken replies of each client, and the waiting packets.
 #[derive(Drop)]
 pub struct Exchange<S: Server> {
     server: S,
@@ -26,7 +26,8 @@ pub struct Exchange<S: Server> {
 }
 
 impl<S: Server> Model for Exchange<S> {
-    ghost use Rattle.port_history.specs.Port.{PortState, port_code};
+    ghost use Rattle.port_history.specs.History.{PortState};
+    ghost use Rattle.port_history.specs.Codes.{port_code};
 
     ghost Value = { PortState S S.Request S.Reply };
 
@@ -39,14 +40,14 @@ impl<S: Server> Model for Exchange<S> {
     ghost invariant = { λ e. IsKept e.clients.items e.waiting.items };
 }
 
-/// The server of an exchange for which there was no memory, as it was.
+/// The server of an exchange that was not made because memory ran out, unchanged.
 #[derive(Debug, Drop)]
 pub struct NewRefused<S> {
     pub server: S,
 }
 
 impl<S: Server> Exchange<S> {
-    /// Makes an exchange over this server, whose clients have the numbers 1 to `clients`, and where nothing was put.
+    /// Makes an exchange over this server, with clients 1 to `clients`, in which nothing was put.
     pub fn new(alloc: Global, server: S, clients: usize) -> Result<Self, NewRefused<S>>
         requires { 1 ≤ clients }
         ensures { MatchResult result (λ exchange. exchange ≡ opening_port server clients) (λ refused. refused.server ≡ server) }
@@ -64,9 +65,10 @@ impl<S: Server> Exchange<S> {
         })
     }
 
-    /// Does one step. A put that is accepted has the place of its reply, so that neither its serve nor its take needs memory.
+    /// Does one step. An accepted put reserves room for its reply, so neither its serve nor its take needs memory.
     ///
-    /// It is made part of its caller, where mostly the kind of step is known: called, it moves room for any packet there and back.
+    /// It is inlined, because most callers know the kind of step. As a call it would move room for any packet there and
+    /// back.
     #[inline(always)]
     pub fn step(&mut self, step: Step<S::Request, S::Moment>) -> Outcome<S::Request, S::Reply>
         ensures gives { StepGives S.gives S.has_died self.old step result self.new }
@@ -79,14 +81,14 @@ impl<S: Server> Exchange<S> {
         }
     }
 
-    /// The server as it is after the packets served so far.
+    /// The server after the packets served so far.
     pub fn server(&self) -> &S
         ensures { result.now ≡ self.now.server }
     {
         &self.server
     }
 
-    /// Hands out the server. Packets that wait and replies that were not taken are dropped.
+    /// Hands out the server. Waiting packets and untaken replies are dropped.
     pub fn into_server(self) -> S
         ensures { result ≡ self.server }
     {

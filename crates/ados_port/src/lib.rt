@@ -1,6 +1,6 @@
-//! A message port: clients put packets to it, a server serves them one after another, and each client takes its replies.
-//! On one thread it is an [`Exchange`]; with clients in threads of their own it is opened by [`open_port`], and at the
-//! end [`gather`] brings all ends together.
+//! A message port: clients put packets to it, a server serves them one after another, and each client takes its
+//! replies. On one thread it is an [`Exchange`]. With clients on threads of their own it is opened by [`open_port`],
+//! and at the end [`gather`] brings all ends together.
 #![tactic(auto)]
 
 // On one thread.
@@ -8,7 +8,7 @@ mod counts;
 mod exchange;
 mod steps;
 
-// A thread for each client, and the handler on the first one.
+// A thread for each client, and the handler on the first thread.
 mod client;
 mod serve;
 

@@ -1,4 +1,4 @@
-//! The clients' threads, and the batches beside them.
+//! The clients' threads, and the handler's batches meanwhile.
 ghost use Rattle.std.specs.Prelude.{◌≡◌, ◌≤◌, [], IfOk, OnOk, length, map, vec_capacity};
 ghost use Rattle.port_ends.specs.Ends.{AreEnds};
 ghost use Rattle.port_ends.specs.Batches.{ServesSome};
@@ -15,7 +15,7 @@ use std::sync::{Arc, Wait};
 use std::thread;
 use std::thread::{Promise, PromisedHandle, Threads};
 
-/// How many packets are served in a batch.
+/// The number of packets in a batch.
 const BATCH: usize = 64;
 
 /// The promise of a client's thread: it hands back this client's end, after its job.
@@ -29,7 +29,7 @@ impl<S: Server, C: Client<S>> Promise<(ClientEnd<S>, C::Report)> for EndOf<S, C>
     ghost kept_by = { λ p r. Did C.does p.job.value p.end.value r.0 r.1 };
 }
 
-/// What the threads left: the handler's end, and in order of client the ends and what the clients report.
+/// What the threads left: the handler's end, and in order of client the ends and the clients' reports.
 #[derive(Drop)]
 pub struct Served<S: Server, T: Drop> {
     pub handler: HandlerEnd<S>,
@@ -37,7 +37,7 @@ pub struct Served<S: Server, T: Drop> {
     pub reports: Vec<T>,
 }
 
-/// Why the ends were given up: memory was refused, or a thread could not be made.
+/// Why the ends were given up: memory ran out, or a thread could not be made.
 #[derive(Drop)]
 pub enum ServeClientsFault {
     Memory,
@@ -50,7 +50,7 @@ impl From<AllocError> for ServeClientsFault {
     }
 }
 
-// What is there before any thread: the count of those that have ended, and room for all handles, ends and reports.
+// What is made before any thread: the count of ended threads, and room for all handles, ends and reports.
 struct Room<S: Server, C: Client<S>> {
     ended: Arc<AtomicUsize, Global>,
     handles: Vec<PromisedHandle<(ClientEnd<S>, C::Report), EndOf<S, C>>>,
@@ -58,7 +58,7 @@ struct Room<S: Server, C: Client<S>> {
     reports: Vec<C::Report>,
 }
 
-// Room for so many threads, of which none has ended.
+// Room for this many threads, none of which has ended.
 fn room_for<S: Server, C: Client<S>>(
     alloc: Global,
     threads: usize,
@@ -128,7 +128,8 @@ where
 
 // Serves until this many threads have ended and a batch found nothing.
 //
-// After batches that found nothing it sleeps until a client wakes it. A batch that is refused memory is tried again as long as a thread runs, and has its clients look once more. After the last one has ended it is a fault.
+// After empty batches it sleeps until a client wakes it. A batch that runs out of memory is repeated as long as a
+// thread runs, and wakes the clients. After the last thread has ended it is a fault.
 fn serve_until_ended<S: Server, R: Wait>(
     rt: &R,
     handler: &mut HandlerEnd<S>,
@@ -164,7 +165,8 @@ fn serve_until_ended<S: Server, R: Wait>(
     Ok(())
 }
 
-// Starts a thread for each client, in order. The list has the room for their handles. After a fault those that were started run on.
+// Starts a thread for each client, in order. The list has room for their handles. After a fault the started threads run
+// on.
 fn start_clients<S, C, R>(
     rt: &R,
     ends: Vec<ClientEnd<S>>,
@@ -198,7 +200,7 @@ where
     Ok(())
 }
 
-// Joins each thread, in order. The lists have the room for what the threads hand back.
+// Joins each thread, in order. The lists have room for what the threads hand back.
 fn join_clients<S, C, R>(
     rt: &R,
     handles: Vec<PromisedHandle<(ClientEnd<S>, C::Report), EndOf<S, C>>>,
@@ -223,9 +225,11 @@ where
     (ends, reports)
 }
 
-/// Runs each client on a thread of its own, and the handler on this one, until every client has ended and a batch found nothing.
+/// Runs each client on a thread of its own, and the handler on this thread, until every client has ended and a batch
+/// found nothing.
 ///
-/// The ends come back in the order of the clients, each grown from its own, so that `gather` can be called with them. On a fault the ends are given up, after the clients whose threads were started have been served to their end and joined.
+/// The ends come back in the order of the clients, each grown from its own, so `gather` can be called with them. On a
+/// fault the ends are given up, after the clients of all started threads were served to their end and joined.
 pub fn serve_clients<S, C, R>(
     rt: &R,
     alloc: Global,

@@ -1,7 +1,7 @@
 //! Runs a list of steps at an exchange.
 ghost use Rattle.std.specs.Prelude.{◌≡◌, true, IfOk, MatchResult};
-ghost use Rattle.port_history.specs.History.{PortHistory, FirstAreServed, events_of};
-ghost use Rattle.port_history.specs.Closing.{PutsAreClosed};
+ghost use Rattle.port_history.specs.History.{PortHistory, events_of, PutsAreClosed};
+ghost use Rattle.port_history.specs.Steps.{FirstAreServed};
 ghost use Rattle.ados_port.specs.Refused.{HandsBack};
 
 use crate::exchange::Exchange;
@@ -9,21 +9,21 @@ use port_history::{Outcome, Server, Step};
 use std::alloc::Global;
 use std::collections::VecDeque;
 
-/// The exchange after a list of steps, and what each step came to.
+/// The exchange after a list of steps, and the outcome of each step.
 #[derive(Drop)]
 pub struct RunDone<S: Server> {
     pub exchange: Exchange<S>,
     pub outcomes: Vec<Outcome<S::Request, S::Reply>>,
 }
 
-/// The exchange and the steps for whose outcomes there was no memory, as they were.
+/// The exchange and the steps, unchanged: memory for the outcomes ran out.
 #[derive(Drop)]
 pub struct RunRefused<S: Server> {
     pub exchange: Exchange<S>,
     pub steps: Vec<Step<S::Request, S::Moment>>,
 }
 
-/// Does these steps in order. The place of each outcome is got before the first step.
+/// Does these steps in order. Room for all outcomes is reserved before the first step.
 pub fn run<S: Server>(
     alloc: Global,
     exchange: Exchange<S>,
@@ -34,7 +34,7 @@ pub fn run<S: Server>(
         (HandsBack exchange steps.items) }
     ensures first_served { IfOk result (λ done. FirstAreServed exchange (events_of steps.items done.outcomes.items) done.exchange) }
 
-    // After a death nothing more is accepted, in this run and in those after it.
+    // After a death no packet is accepted, in this run and in later ones.
     ensures stays_dead { S.has_died exchange.server ≡ true → IfOk result (λ done. S.has_died done.exchange.server ≡ true) }
     ensures stays_closed { S.has_died exchange.server ≡ true → IfOk result (λ done. PutsAreClosed exchange (events_of steps.items done.outcomes.items)) }
 {

@@ -1,9 +1,9 @@
--- A text that tells of the close tells of the server's death, where the end knows of the one only by the other.
+-- A text says that the port is closed only if the server has died, if the end knows it only then.
 use Rattle.std.proofs.Common.{◌≡◌, ℕ, ◌+◌, inl, inr, ⊎_elim, Bool, true, false, List, [], ◌++◌, length}
 use Rattle.std.specs.Prelude.{IsTrue}
 use Rattle.std.specs.Bool.{MatchBool}
-use Rattle.ados_packet.specs.declared.packet.Packet.{Packet}
-use Rattle.ados_packet.specs.declared.answer.Answer.{Answer}
+use Rattle.ados_model.specs.declared.packet.Packet.{Packet}
+use Rattle.ados_model.specs.declared.answer.Answer.{Answer}
 use Rattle.ados_port.specs.Lawful.{numbered}
 use Rattle.ados_port.specs.Reply.{Reply}
 use Rattle.adf_script.specs.declared.ending.ClientEnding.{ClientEnding}

@@ -1,22 +1,21 @@
--- A history of the port of a handler is one of the tree behind it, side by side.
+-- A history of a handler's port is one of its tree, side by side.
 use Rattle.std.proofs.Common.{◌≡◌, ℕ, Bool, List, [], ◌∷◌, map, take, refl, sym, ap, ◌∙◌, subst}
 use Rattle.std.proofs.lemmas.List.{take-map}
 use Rattle.ados_name.specs.declared.Date3.{Date3}
-use Rattle.ados_tree.specs.Tree.{Tree}
-use Rattle.ados_tree.specs.Stands.{Stands}
-use Rattle.ados_tree.proofs.OneTree.{one_tree}
-use Rattle.ados_port.specs.Port.{PortState}
+use Rattle.ados_model.specs.Tree.{Tree}
+use Rattle.ados_model.specs.Stands.{Stands}
+use Rattle.ados_model.proofs.OneTree.{one_tree}
+use Rattle.ados_port.specs.History.{PortState, Event, PortHistory, Serving, Run, last_server, events_of, served_count, served_by, OutcomeFits}
 use Rattle.ados_port.specs.Step.{Step}
 use Rattle.ados_port.specs.Outcome.{Outcome}
 use Rattle.ados_port.specs.Lawful.{Lawful}
-use Rattle.ados_port.specs.History.{Event, PortHistory, Serving, Run, last_server, events_of, served_count, served_by, OutcomeFits}
-use Rattle.ados_packet.specs.declared.packet.Packet.{Packet}
-use Rattle.ados_packet.specs.declared.answer.Answer.{Answer}
-use Rattle.ados_handler.specs.Meaning.{Meaning}
-use Rattle.ados_handler.specs.Handler.{HandlerState}
+use Rattle.ados_model.specs.declared.packet.Packet.{Packet}
+use Rattle.ados_model.specs.declared.answer.Answer.{Answer}
+use Rattle.ados_model.specs.Meaning.{Meaning}
+use Rattle.ados_model.specs.Session.{HandlerState}
 use Rattle.ados_handler.specs.Gives.{HandlerGives}
-use Rattle.ados_run.specs.TreePort.{TreeState, means, tree_died, handler_died, with_tree}
-use Rattle.ados_run.specs.SideBySide.{BothSides, both_died, handlers_of, beside, port_beside}
+use Rattle.ados_run.specs.TreePort.{TreeState, means, tree_died, with_tree}
+use Rattle.ados_run.specs.Runs.{handler_died, BothSides, both_died, handlers_of, beside, port_beside}
 use Rattle.ados_run.specs.Keeping.{ServesBoth}
 use Rattle.ados_run.specs.Laws.{EachSideIsAHistory, EachSideIsLawful, HistoriesFollowTrees, ListsFollowTrees}
 
@@ -37,7 +36,7 @@ module _ {S T : Type 0} (f : S → T) where
     run-map opening (s ∷ served) [] run = elim run [ ]
     run-map opening (s ∷ served) (new ∷ servers) run = (seen opening new s.packet s.moment s.answer run.0, run-map new served servers run.1)
 
--- a history in which other servers stand for its own, and die when they do
+-- a history in which other servers replace its own, and die when they do
 module _ {S T Q M A : Type 0} (gives : S → Q → M → S → A → Type 0) (has_died : S → Bool) (also : T → Q → M → T → A → Type 0) (also_died : T → Bool)
     (opening : PortState S Q A) (steps : List (Step Q M)) (outcomes : List (Outcome Q A)) (closing : PortState S Q A) (h : PortHistory gives has_died opening steps outcomes closing) where
   abbrev with_server : T → PortState S Q A → PortState T Q A
@@ -69,7 +68,7 @@ handler_side both = both.handler
 abbrev tree_side : BothSides → TreeState
 tree_side both = with_tree both.tree both.handler
 
--- the trees beside a run of a handler whose image stood for this one
+-- the trees next to a run of a handler with this tree
 record BothRun (old : HandlerState) (t : Tree) (served : List (Serving Packet Date3 Answer)) (servers : List HandlerState) : Type 0 where
   states : List BothSides
   run : Run ServesBoth (beside t old) served states
@@ -134,7 +133,7 @@ lists_follow_trees t opening clients served unanswered closing stood h =
       validated = sym (ap (λ (s : HandlerState). s.was_validated) h.meaning.2) ∙ both.validated;
     }
 
--- what is served side by side is served on each side
+-- a packet served side by side is served on each side
 abbrev on_tree : (old new : BothSides) (packet : Packet) (moment : Date3) (answer : Answer) → ServesBoth old packet moment new answer → means (tree_side old) packet moment (tree_side new) answer
 on_tree old new packet moment answer given = given.meant.means
 

@@ -1,22 +1,22 @@
--- The texts of the clients, from what their threads did.
+-- The output of the clients, from the results of their threads.
 use Rattle.std.proofs.Common.{◌≡◌, ℕ, zero, suc, List, [], ◌∷◌, length, map, Some, slice_get, refl, sym, ap, subst, ◌∙◌}
 use Rattle.std.proofs.lemmas.List.{length-map}
 use Rattle.std.proofs.lemmas.Option.{none-some}
-use Rattle.ados_packet.specs.declared.packet.Packet.{Packet}
-use Rattle.ados_packet.specs.declared.answer.Answer.{Answer}
+use Rattle.ados_model.specs.declared.packet.Packet.{Packet}
+use Rattle.ados_model.specs.declared.answer.Answer.{Answer}
 use Rattle.ados_port.specs.Ends.{ClientView}
 use Rattle.ados_port.proofs.Gathers.{get_map}
 use Rattle.ados_port.specs.Grown.{Grown, EachDid}
 use Rattle.adf_script.specs.declared.ending.ClientEnding.{ClientEnding}
 use Rattle.ados_run.specs.Scripts.{IsUnused, AreUnused, Tells, EachTells}
 
--- an element of a mapped list comes from one of the list
+-- an element of a mapped list comes from an element of the list
 get_map_back : {X Y : Type 0} (f : X → Y) (xs : List X) (k : ℕ) (y : Y) → slice_get (map f xs) k ≡ Some y → (x : X) × (slice_get xs k ≡ Some x) × (f x ≡ y)
 get_map_back f [] k y e = absurd (none-some y e)
 get_map_back f (x ∷ xs) zero y e = (x, refl, (let same : f x ≡ y = cc in same))
 get_map_back f (x ∷ xs) (suc k) y e = get_map_back f xs k y e
 
--- what stands at one place of two equal lists
+-- the elements at one position of two equal lists
 same_at : {X Y Z : Type 0} (f : X → Z) (g : Y → Z) (xs : List X) (ys : List Y) (k : ℕ) (x : X) (y : Y) → map f xs ≡ map g ys → slice_get xs k ≡ Some x → slice_get ys k ≡ Some y → f x ≡ g y
 same_at f g xs ys k x y same at_x at_y =
     let both : Some (f x) ≡ Some (g y) = sym (get_map f xs k x at_x) ∙ (ap (λ l. slice_get l k) same ∙ get_map g ys k y at_y) in
@@ -28,9 +28,9 @@ module _ {C J V X : Type 0} (end_of : C → V) (script_of : C → X) (job_script
   as_many_jobs clients ends jobs are_ends are_scripts =
       sym (length-map jobs job_script) ∙ (ap (λ (l : List X). length l) are_scripts ∙ (length-map clients script_of ∙ (sym (length-map clients end_of) ∙ ap (λ (l : List V). length l) (sym are_ends))))
 
--- clients with their ends and scripts, the jobs with theirs, and what came back: an end, a report and what it tells
+-- clients with their ends and scripts, the jobs with theirs, and the results: an end, a report and its output
 module _ {M C D J T X : Type 0} (bytes : X → List ℕ) (end_of : C → ClientView Packet M Answer) (script_of : C → X) (job_script : J → X) (client_of : D → ClientView Packet M Answer) (report_of : D → T) (told_of : D → List ℕ × ClientEnding) (does : J → ClientView Packet M Answer → ClientView Packet M Answer → T → Type 0) where
-  -- where each client did its job, and a job tells of its script
+  -- if each client did its job, its output is that of its script
   pub each_tells : (clients : List C) (ends : List (ClientView Packet M Answer)) (jobs : List J) (news : List (ClientView Packet M Answer)) (reports : List T) (done : List D)
       → ends ≡ map end_of clients → map job_script jobs ≡ map script_of clients → map client_of done ≡ news → map report_of done ≡ reports
       → AreUnused (map end_of clients) → EachDid does jobs ends news reports

@@ -1,4 +1,5 @@
--- Lemmas on what a client has told so far and on clients that are parted from their ends and joined again; and of runs: histories and lists follow the tree, after death nothing changes, and a close that a text tells of is a death.
+-- Lemmas about the output of a client so far, and about clients separated from their ends and joined again. Histories
+-- and lists follow the tree. After death nothing changes, and an output says that the port is closed only after death.
 pub mod Said
 pub mod Joining
 pub mod Following

@@ -1,23 +1,21 @@
--- Once a handler has died each packet is refused and nothing is changed.
+-- After a handler's death each packet is refused and nothing changes.
 use Rattle.std.proofs.Common.{◌≡◌, ◌≢◌, ℕ, zero, suc, ◌+◌, pos, Bool, true, false, List, [], ◌∷◌, take, drop, slice_get, Some, MatchOption, arith, refl, sym, ap, ◌∙◌, subst, inl}
 use Rattle.std.specs.Prelude.{All}
 use Rattle.std.proofs.lemmas.List.Elements.{All-nil, All-cons}
 use Rattle.std.proofs.lemmas.Option.{none-some, same_Some}
 use Rattle.ados_name.specs.declared.Date3.{Date3}
-use Rattle.ados_tree.specs.Tree.{Tree}
+use Rattle.ados_model.specs.Tree.{Tree}
 use Rattle.ados_port.specs.History.{Serving, Run, last_server}
-use Rattle.ados_packet.specs.declared.packet.Packet.{Packet}
-use Rattle.ados_packet.specs.declared.answer.Answer.{Answer}
-use Rattle.ados_packet.specs.declared.dos_error.DosError.TheVariants.{DeviceNotMounted}
-use Rattle.ados_handler.specs.Session.{Session}
-use Rattle.ados_handler.specs.Refusals.{first_refusal, refuse, refusals}
-use Rattle.ados_handler.specs.Meaning.{Meaning, IsRefused, ServedOrNoMemory, is_closing, is_number}
-use Rattle.ados_handler.specs.Handler.{HandlerState}
+use Rattle.ados_model.specs.declared.packet.Packet.{Packet}
+use Rattle.ados_model.specs.declared.answer.Answer.{Answer}
+use Rattle.ados_model.specs.declared.dos_error.DosError.TheVariants.{DeviceNotMounted}
+use Rattle.ados_model.specs.Session.{Session, HandlerState}
+use Rattle.ados_model.specs.Refusals.{first_refusal, refuse, refusals}
+use Rattle.ados_model.specs.Meaning.{Meaning, IsRefused, ServedOrNoMemory, is_closing, is_number}
 use Rattle.ados_handler.specs.Gives.{HandlerGives}
 use Rattle.ados_handler.specs.steps.Closes.{serves_closing}
 use Rattle.ados_handler.proofs.Holding.{true_false}
-use Rattle.ados_run.specs.TreePort.{handler_died}
-use Rattle.ados_run.specs.Rests.{IsTooLate, handler_after, RestsAfter}
+use Rattle.ados_run.specs.Runs.{handler_died, IsTooLate, handler_after, RestsAfter}
 use Rattle.ados_run.specs.Laws.{DeadHandlersRest}
 
 -- after death each packet is refused
@@ -30,12 +28,12 @@ dead_refused t u s v packet now answer dead means = go s.died dead means
     go true e refused = refused
     go false e other = absurd (true_false (sym e))
 
--- where no packet was served the handler is the old one
+-- without packets, the handler is the old one
 last_of_none : (old : HandlerState) (n : ℕ) → last_server old (take n []) ≡ old
 last_of_none old zero = refl
 last_of_none old (suc n) = refl
 
--- what a dead handler serves: all is too late, and no byte changes
+-- the packets of a dead handler: all are too late, and no byte changes
 record DeadRun (old : HandlerState) (served : List (Serving Packet Date3 Answer)) (servers : List HandlerState) : Type 0 where
   too_late : All IsTooLate served
   image : (n : ℕ) → (last_server old (take n servers)).image ≡ old.image
@@ -56,7 +54,7 @@ dead_run old (s ∷ served) (new ∷ servers) dead run =
     let rest : DeadRun new served servers = dead_run new served servers (ap (λ (v : Session). v.died) refused.session ∙ dead) run.1 in
     record { too_late = All-cons IsTooLate s served refused.answered rest.too_late; image = image_behind old new servers (first.leaves.rest (inl failed)) rest.image }
 
--- a run from its first packets on
+-- the rest of a run after its first packets
 run_from : (old : HandlerState) (served : List (Serving Packet Date3 Answer)) (servers : List HandlerState) → Run HandlerGives old served servers
     → (n : ℕ) → Run HandlerGives (last_server old (take n servers)) (drop n served) (drop n servers)
 run_from old [] [] run zero = tt
@@ -73,7 +71,7 @@ last_from old (new ∷ servers) (suc n) m =
     let more : suc (n + m) ≡ suc n + m = omega arith in
     last_from new servers n m ∙ ap (λ k. last_server old (take k (new ∷ servers))) more
 
--- behind an answer that closes the handler has died
+-- after an answer that closes, the handler is dead
 dead_behind : (old : HandlerState) (served : List (Serving Packet Date3 Answer)) (servers : List HandlerState) → Run HandlerGives old served servers
     → (place : ℕ) (s : Serving Packet Date3 Answer) → slice_get served place ≡ Some s → is_closing s.answer ≡ true → handler_died (last_server old (take (suc place) servers)) ≡ true
 dead_behind old [] servers run place s at closes = absurd (none-some s at)

@@ -1,44 +1,40 @@
--- A run over the volume that `check` answered.
+-- A run over the volume from `check`.
 use Rattle.std.proofs.Common.{◌≡◌, ℕ, Bool, true, false, List, ap, ◌∙◌, subst}
 use Rattle.ados_name.specs.declared.Date3.{Date3}
-use Rattle.ados_tree.specs.Tree.{Tree}
-use Rattle.ados_tree.specs.Stands.{Stands}
-use Rattle.ados_tree.specs.Accepted.{Accepts}
-use Rattle.ados_tree.proofs.OneTree.{one_tree}
-use Rattle.ados_port.specs.Port.{PortState, opening_port}
-use Rattle.ados_port.specs.History.{PortHistory}
+use Rattle.ados_model.specs.Tree.{Tree}
+use Rattle.ados_model.specs.Stands.{Stands}
+use Rattle.ados_model.specs.Accepted.{Accepts}
+use Rattle.ados_model.proofs.OneTree.{one_tree}
+use Rattle.ados_port.specs.History.{PortState, opening_port, PortHistory}
 use Rattle.ados_port.specs.Step.{Step}
 use Rattle.ados_port.specs.Outcome.{Outcome}
 use Rattle.ados_port.proofs.Closing.{closed_after_death}
-use Rattle.ados_packet.specs.declared.packet.Packet.{Packet}
-use Rattle.ados_packet.specs.declared.answer.Answer.{Answer}
-use Rattle.ados_handler.specs.Session.{opening_session}
-use Rattle.ados_handler.specs.Handler.{HandlerState}
+use Rattle.ados_model.specs.declared.packet.Packet.{Packet}
+use Rattle.ados_model.specs.declared.answer.Answer.{Answer}
+use Rattle.ados_model.specs.Session.{opening_session, HandlerState}
 use Rattle.ados_handler.specs.Gives.{HandlerGives}
 use Rattle.ados_handler.specs.steps.Closes.{serves_dead}
-use Rattle.ados_run.specs.TreePort.{handler_died}
-use Rattle.ados_run.specs.SideBySide.{BothSides, FollowsTree, beside, both_died, handler_over, handlers_of, port_beside}
-use Rattle.ados_run.specs.Runs.{SaysValid, port_over}
+use Rattle.ados_run.specs.Runs.{handler_died, BothSides, FollowsTree, beside, both_died, handler_over, handlers_of, port_beside, SaysValid, port_over}
 use Rattle.ados_run.specs.Keeping.{KeepsVolume, ServesBoth}
 use Rattle.ados_run.proofs.Following.{handlers_run, histories_follow_trees}
 use Rattle.ados_run.proofs.Resting.{dead_handlers_rest}
 
--- an accepted image stands for a tree
+-- an accepted image represents a tree
 accepted_tree : (image checked : List ℕ) (was_validated : Bool) → Accepts image was_validated checked → (t : Tree) × Stands checked t
 accepted_tree image checked false a = a.3
 accepted_tree image checked true a = (a.2.0, a.2.1)
 
--- and it is the image that was handed in, where that one says that its bitmap is valid
+-- it is the image that was handed in if that says that its bitmap is valid
 accepted_as_it_is : (image checked : List ℕ) (was_validated : Bool) → Accepts image was_validated checked → SaysValid image → checked ≡ image
 accepted_as_it_is image checked false a valid = a.2
 accepted_as_it_is image checked true a valid = absurd (a.1.was_not_valid valid)
 
--- the opening handler, of which the image, the validation and the holds are told apart
+-- the opening handler, by its image, its validation and its holds
 pub opening_handler : (handler : HandlerState) (image : List ℕ) (was_validated : Bool) → handler.image ≡ image → handler.was_validated ≡ was_validated → handler.session ≡ opening_session
     → handler ≡ record { image = image; was_validated = was_validated; session = opening_session }
 opening_handler handler image was_validated i v s j = record { image = i j; was_validated = v j; session = s j }
 
--- a handler that died stays dead, with its tree beside it
+-- a dead handler stays dead, with its tree next to it
 both_stay_dead : (old new : BothSides) (packet : Packet) (moment : Date3) (answer : Answer) → ServesBoth old packet moment new answer → both_died old ≡ true → both_died new ≡ true
 both_stay_dead old new packet moment answer given dead = serves_dead old.handler new.handler packet moment answer given.gives dead
 

@@ -1,11 +1,11 @@
--- What a client has told of its script so far, line after line.
+-- The output of a client's script so far, line by line.
 use Rattle.std.proofs.Common.{◌≡◌, ℕ, ◌+◌, inl, inr, Bool, true, false, List, [], ◌∷◌, ◌++◌, length, refl, sym, ap, subst, ◌∙◌, arith, append-nil, length-append}
 use Rattle.std.specs.Prelude.{Option}
 use Rattle.std.specs.Bool.{MatchBool}
 use Rattle.std.proofs.lemmas.List.{map-append}
 use Rattle.std.proofs.lemmas.Option.{none-some}
-use Rattle.ados_packet.specs.declared.packet.Packet.{Packet}
-use Rattle.ados_packet.specs.declared.answer.Answer.{Answer}
+use Rattle.ados_model.specs.declared.packet.Packet.{Packet}
+use Rattle.ados_model.specs.declared.answer.Answer.{Answer}
 use Rattle.ados_port.specs.Lawful.{numbered}
 use Rattle.ados_port.specs.Reply.{Reply}
 use Rattle.ados_port.specs.Ends.{ClientView}
@@ -24,7 +24,8 @@ use Rattle.ados_run.specs.Asking.{Replied, StoppedBy, stop_line, stop_ending}
 use Rattle.ados_run.specs.Scripts.{IsUnused, Tells}
 
 module _ (client : ℕ) (script : List ℕ) where
-  -- after so many replies of these values: these packets were put, answered so, and this text told
+  -- after this many replies with these values: these packets were put, answered with these answers, and this text was
+  -- printed
   pub record SoFar (count : ℕ) (values : List (Option ℕ)) (text : List ℕ) (puts : List Packet) (answers : List Answer) : Type 0 where
     pub many_puts : length puts ≡ count
     pub many_answers : length answers ≡ count
@@ -51,7 +52,7 @@ module _ (client : ℕ) (script : List ℕ) where
       in let faulty : Faulty = (refl, refl, refl, refl)
       in subst (λ b. MatchBool b Faulty Runs) (sym long) faulty
 
-  -- one that is not, by its end
+  -- a script that is not too long, by its end
   spoken_by : (puts : List Packet) (answers : List Answer) (knows : Bool) (text last : List ℕ) (ending : ClientEnding) → is_too_long script ≡ false
       → ArePackets (kept_lines script) answers puts → SpokenEnd client (kept_lines script) answers (length puts) knows last ending → text ≡ reply_lines client 1 answers ++ last
       → Spoken client script puts (numbered 1 answers) knows text ending
@@ -89,14 +90,14 @@ module _ (client : ℕ) (script : List ℕ) where
       numbered_next : count + 1 ≡ length puts + 1
       numbered_next = ap (λ n. n + 1) (sym sofar.many_puts)
 
-      -- a packet that was not put, as the end knows of the close
+      -- a packet that was not put, because the end knows that the port is closed
       pub said_closed : (knows : Bool) → knows ≡ true → Spoken client script puts (numbered 1 answers) knows (text ++ closed_line client (count + 1)) Done
       said_closed knows known =
           spoken_by puts answers knows (text ++ closed_line client (count + 1)) (closed_line client (count + 1)) Done short sofar.each
           (as_many, inr (packet, next_here, known, ap (closed_line client) numbered_next))
           (ap (λ l. l ++ closed_line client (count + 1)) sofar.text_is)
 
-      -- one that found no room
+      -- a packet without room
       pub said_no_room : (knows : Bool) → Spoken client script puts (numbered 1 answers) knows (text ++ no_room_line client (count + 1)) Tries
       said_no_room knows =
           spoken_by puts answers knows (text ++ no_room_line client (count + 1)) (no_room_line client (count + 1)) Tries short sofar.each
@@ -106,7 +107,7 @@ module _ (client : ℕ) (script : List ℕ) where
       one_more : length (puts ++ packet ∷ []) ≡ length puts + 1
       one_more = length-append puts (packet ∷ [])
 
-      -- one that was put, and not answered
+      -- a packet that was put, but not answered
       pub said_no_reply : (knows : Bool) → Spoken client script (puts ++ packet ∷ []) (numbered 1 answers) knows (text ++ no_reply_line client (count + 1)) Tries
       said_no_reply knows =
           spoken_by (puts ++ packet ∷ []) answers knows (text ++ no_reply_line client (count + 1)) (no_reply_line client (count + 1)) Tries short
@@ -127,7 +128,7 @@ module _ (client : ℕ) (script : List ℕ) where
                 ∙ sym (reply_lines-push client 1 answers answer ∙ ap (λ n. reply_lines client 1 answers ++ reply_line client n answer) counted);
           }
 
--- the same of a client's end
+-- the same for a client's end
 module _ {M : Type 0} (client : ℕ) (script : List ℕ) where
   abbrev pub SaidBy : ℕ → List (Option ℕ) → List ℕ → ClientView Packet M Answer → Type 0
   SaidBy count values text end = SoFar client script count values text end.put (answers_of end.taken)
@@ -135,7 +136,7 @@ module _ {M : Type 0} (client : ℕ) (script : List ℕ) where
   abbrev pub SpokenBy : ClientView Packet M Answer → List ℕ → ClientEnding → Type 0
   SpokenBy end text ending = Spoken client script end.put (numbered 1 (answers_of end.taken)) end.knows text ending
 
-  -- what this client, whose number its end knows, has told
+  -- the output of this client; its end has the client's number
   pub tells_by : (end : ClientView Packet M Answer) (text told : List ℕ) (ending ended : ClientEnding) → client ≡ end.number → told ≡ text → ended ≡ ending → SpokenBy end text ending → Tells script end told ended
   tells_by end text told ending ended is_client is_text is_ending spoken =
       subst (λ (n : ℕ). Spoken n script end.put (numbered 1 (answers_of end.taken)) end.knows told ended) is_client
@@ -174,7 +175,7 @@ module _ {M : Type 0} (client : ℕ) (script : List ℕ) where
         subst (λ p. Spoken client script p (numbered 1 (answers_of new.taken)) new.knows told ending) (sym put_is)
         (subst (λ t. Spoken client script puts (numbered 1 (answers_of t)) new.knows told ending) (sym taken_is) spoken)
 
-    -- a packet without one
+    -- a packet without a reply
     pub stops : (stopped : Stopped) → StoppedBy old packet stopped new → SpokenBy new (text ++ stop_line client (count + 1) stopped) (stop_ending stopped)
     stops Closed how = with_lists old.put how.0.0 how.0.1 _ _
         (said_closed client script short count values text old.put (answers_of old.taken) said packet next new.knows how.1)

@@ -1,4 +1,4 @@
--- Scripts over the volume of a handler, from what the port's ends tell.
+-- Scripts over the volume of a handler, from the lists of the port's ends.
 use Rattle.std.proofs.Common.{◌≡◌, ℕ, zero, suc, ◌+◌, ◌<◌, ◌≤◌, Bool, List, [], ◌∷◌, ◌++◌, length, map, get_or, Some, None, slice_get, arith, refl, sym, ap, ◌∙◌, subst, ⊎_elim}
 use Rattle.std.specs.Prelude.{Vec}
 use Rattle.std.specs.declared.alloc.Global.{Global}
@@ -6,26 +6,24 @@ use Rattle.std.proofs.lemmas.List.{length-map}
 use Rattle.std.proofs.lemmas.Option.{slice_get_within, slice_get_cases}
 use mathlib.Core.List.{map-map}
 use Rattle.ados_name.specs.declared.Date3.{Date3}
-use Rattle.ados_tree.specs.Tree.{Tree}
-use Rattle.ados_tree.specs.Stands.{Stands}
-use Rattle.ados_tree.proofs.OneTree.{one_tree}
+use Rattle.ados_model.specs.Tree.{Tree}
+use Rattle.ados_model.specs.Stands.{Stands}
+use Rattle.ados_model.proofs.OneTree.{one_tree}
 use Rattle.ados_port.specs.Lawful.{ClientLists, Lawful}
-use Rattle.ados_port.specs.Serving.{Serving}
+use Rattle.ados_port.specs.History.{Serving}
 use Rattle.ados_port.specs.Reply.{Reply}
 use Rattle.ados_port.specs.Ends.{ClientView, HandlerView, AreEnds, CloseMeansDeath, IsNew, Serves}
 use Rattle.ados_port.specs.Gathering.{all_lists, lists_of}
 use Rattle.ados_port.proofs.Gathers.{get_map}
 use Rattle.ados_port.proofs.Replayed.{lists_have_a_history}
-use Rattle.ados_packet.specs.declared.packet.Packet.{Packet}
-use Rattle.ados_packet.specs.declared.answer.Answer.{Answer}
-use Rattle.ados_handler.specs.Session.{opening_session}
-use Rattle.ados_handler.specs.Handler.{HandlerState}
+use Rattle.ados_model.specs.declared.packet.Packet.{Packet}
+use Rattle.ados_model.specs.declared.answer.Answer.{Answer}
+use Rattle.ados_model.specs.Session.{opening_session, HandlerState}
 use Rattle.ados_handler.specs.Gives.{HandlerGives}
 use Rattle.adf_script.specs.declared.ending.ClientEnding.{ClientEnding}
 use Rattle.adf_script.specs.Spoken.{Spoken}
 use Rattle.ados_run.specs.Scripts.{Tells, EachTells}
-use Rattle.ados_run.specs.TreePort.{handler_died}
-use Rattle.ados_run.specs.SideBySide.{beside, both_died, handler_over, handlers_of}
+use Rattle.ados_run.specs.Runs.{handler_died, beside, both_died, handler_over, handlers_of}
 use Rattle.ados_run.specs.TreeLists.{ListsFollowTree}
 use Rattle.ados_run.specs.ServesVolume.{EachSpeaks}
 use Rattle.ados_run.specs.Keeping.{KeepsServed, ServesBoth}
@@ -33,7 +31,7 @@ use Rattle.ados_run.proofs.Closed.{spoken_closed}
 use Rattle.ados_run.proofs.Following.{handlers_run, lists_follow_trees}
 use Rattle.ados_run.proofs.Resting.{dead_handlers_rest}
 
--- an end with its script, and with what it told
+-- an end with its script, and with its output
 abbrev Given : Type 0
 Given = ClientView Packet Date3 Answer × List ℕ
 
@@ -43,7 +41,7 @@ Done = ClientView Packet Date3 Answer × (List ℕ × ClientEnding)
 abbrev ends_of : List Done → List (ClientView Packet Date3 Answer)
 ends_of done = map (λ d. d.0) done
 
--- each client's end has its lists, and there are no others
+-- each client's end has its lists, and these are all lists
 lists_of_end : (ends : List (ClientView Packet Date3 Answer)) (untaken : List (Vec (Reply Answer) Global)) (place : ℕ) (end : ClientView Packet Date3 Answer) → length untaken ≡ length ends → slice_get ends place ≡ Some end
     → (u : Vec (Reply Answer) Global) × (slice_get (all_lists ends untaken) place ≡ Some (lists_of end u))
 lists_of_end [] untaken place end long at = cc
@@ -91,7 +89,7 @@ each_speaks h given done untaken died tells ends long closed =
           ),
     )
 
--- clients with their ends and scripts, and with what they told when they were done
+-- clients with their ends and scripts, and with their output at the end
 module _ {C D : Type 0} (end_of : C → ClientView Packet Date3 Answer) (script_of : C → List ℕ) (client_of : D → ClientView Packet Date3 Answer) (told_of : D → List ℕ × ClientEnding) where
   pub keeps_served : (image : List ℕ) (was_validated : Bool) (moment : Date3) (opening : HandlerState) (first last : HandlerView HandlerState Packet Date3 Answer) (served : List (Serving Packet Date3 Answer))
       (clients : List C) (done : List D) (scripts : List (List ℕ)) (ends : List (ClientView Packet Date3 Answer)) (told : List (List ℕ × ClientEnding)) (untaken : List (Vec (Reply Answer) Global)) (unanswered : List (ℕ × Packet)) (closing : HandlerState)

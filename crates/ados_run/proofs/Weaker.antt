@@ -1,19 +1,16 @@
--- What was served in one way was served in each way that follows from it, by the same servers.
+-- A packet served in one way was served in each way that follows from it, by the same servers.
 use Rattle.std.proofs.Common.{◌≡◌, ℕ, Bool, List, [], ◌∷◌, length}
 use Rattle.ados_name.specs.declared.Date3.{Date3}
-use Rattle.ados_port.specs.Port.{PortState, opening_port}
+use Rattle.ados_port.specs.History.{PortState, opening_port, PortHistory, Serving, ServerMeaning, Run}
 use Rattle.ados_port.specs.Step.{Step}
 use Rattle.ados_port.specs.Outcome.{Outcome}
-use Rattle.ados_port.specs.History.{PortHistory, Serving, ServerMeaning, Run}
 use Rattle.ados_port.specs.Lawful.{ClientLists, Lawful}
 use Rattle.ados_port.specs.Lists.{HasHistory}
-use Rattle.ados_packet.specs.declared.packet.Packet.{Packet}
-use Rattle.ados_packet.specs.declared.answer.Answer.{Answer}
-use Rattle.ados_handler.specs.Handler.{HandlerState}
+use Rattle.ados_model.specs.declared.packet.Packet.{Packet}
+use Rattle.ados_model.specs.declared.answer.Answer.{Answer}
+use Rattle.ados_model.specs.Session.{HandlerState}
 use Rattle.adf_script.specs.declared.ending.ClientEnding.{ClientEnding}
-use Rattle.ados_run.specs.TreePort.{HandlerPort, PacketOutcomes, PacketSteps}
-use Rattle.ados_run.specs.SideBySide.{BothSides, MeansBoth, beside, both_died, handler_over, port_beside}
-use Rattle.ados_run.specs.Runs.{RunsVolume, RunsWith, port_over}
+use Rattle.ados_run.specs.Runs.{HandlerPort, PacketOutcomes, PacketSteps, BothSides, MeansBoth, beside, both_died, handler_over, port_beside, RunsVolume, RunsWith, port_over}
 use Rattle.ados_run.specs.ServesVolume.{ServesVolume, ServesWith}
 use Rattle.ados_run.specs.Keeping.{ServesBoth}
 
@@ -52,7 +49,7 @@ module _ {S Q M A : Type 0} (gives also : ServerMeaning S Q M A)
 meant : (old : BothSides) (packet : Packet) (moment : Date3) (new : BothSides) (answer : Answer) → ServesBoth old packet moment new answer → MeansBoth old packet moment new answer
 meant old packet moment new answer given = given.meant
 
--- what a run keeps and means, it means
+-- a run that keeps everything else and follows the meaning follows the meaning
 pub meant_run : (image : List ℕ) (clients : ℕ) (steps : PacketSteps) (outcomes : PacketOutcomes) (closing : HandlerPort)
     → RunsWith ServesBoth image clients steps outcomes closing → RunsVolume image clients steps outcomes closing
 meant_run image clients steps outcomes closing r = record {
@@ -72,7 +69,7 @@ meant_run image clients steps outcomes closing r = record {
   rests = r.rests;
 }
 
--- and so do clients' scripts
+-- the same for clients' scripts
 pub meant_scripts : (image : List ℕ) (was_validated : Bool) (scripts : List (List ℕ)) (moment : Date3) (told : List (List ℕ × ClientEnding)) (closing : HandlerState)
     → ServesWith ServesBoth image was_validated scripts moment told closing → ServesVolume image was_validated scripts moment told closing
 meant_scripts image was_validated scripts moment told closing r =

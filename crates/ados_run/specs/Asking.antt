@@ -1,4 +1,4 @@
--- What a packet of a client comes to. Its end is given before and after.
+-- The result of a client's packet. The client's end is given before and after.
 use Rattle.std.specs.Prelude.{◌≡◌, ℕ, true, List, [], ◌∷◌, ◌++◌, length}
 use Rattle.ados_port.specs.Reply.{Reply}
 use Rattle.ados_port.specs.Ends.{ClientView}
@@ -14,7 +14,7 @@ module _ {Q M A : Type 0} where
     pub put : new.put ≡ old.put ++ packet ∷ []
     pub taken : new.taken ≡ old.taken
 
-  -- a reply was taken, numbered among the replies of this end, and nothing was put
+  -- a reply was taken, its number counts the replies of this end, and nothing was put
   pub record HasTaken (old : ClientView Q M A) (reply : Reply A) (new : ClientView Q M A) : Type 0 where
     pub put : new.put ≡ old.put
     pub moment : M
@@ -32,19 +32,19 @@ module _ {Q M A : Type 0} where
   abbrev pub Rests : ClientView Q M A → ClientView Q M A → Type 0
   Rests old new = (new.put ≡ old.put) × (new.taken ≡ old.taken)
 
-  -- no reply was taken: the end knows of the close, or nothing was put, or the packet was
+  -- no reply was taken: the end knows that the port is closed, or nothing was put, or only the packet was
   abbrev pub StoppedBy : ClientView Q M A → Q → Stopped → ClientView Q M A → Type 0
   StoppedBy old packet Closed new = Rests old new × (new.knows ≡ true)
   StoppedBy old packet NoRoom new = Rests old new
   StoppedBy old packet NoReply new = HasPut old packet new
 
--- the last line of a client that got no reply to the packet with this number
+-- the last line of a client without a reply to the packet with this number
 abbrev pub stop_line : ℕ → ℕ → Stopped → List ℕ
 stop_line client number Closed = closed_line client number
 stop_line client number NoRoom = no_room_line client number
 stop_line client number NoReply = no_reply_line client number
 
--- how it ends
+-- how the client ends
 abbrev pub stop_ending : Stopped → ClientEnding
 stop_ending Closed = Done
 stop_ending NoRoom = Tries

@@ -1,11 +1,10 @@
--- What runs of steps and of scripts at a handler come to, told by the tree that its image stands for; and what a packet of a client comes to, and what clients tell of their scripts.
+-- The results of runs of steps and of scripts at a handler, in terms of the tree that its image represents; the result
+-- of a client's packet, and the output of clients' scripts.
 pub mod Asking
 pub mod Scripts
-pub mod TreePort
-pub mod SideBySide
-pub mod TreeLists
-pub mod Rests
 pub mod Runs
+pub mod TreePort
+pub mod TreeLists
 pub mod Keeping
 pub mod Refused
 pub mod ServesVolume

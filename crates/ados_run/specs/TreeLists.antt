@@ -1,18 +1,21 @@
 -- The lists of a running port's ends, with a tree beside the handler's image.
-use Rattle.std.specs.Prelude.{◌≡◌, ℕ, List}
-use Rattle.ados_tree.specs.Tree.{Tree}
-use Rattle.ados_tree.specs.Stands.{Stands}
+use Rattle.std.specs.Prelude.{List, ◌≡◌, ℕ}
 use Rattle.ados_name.specs.declared.Date3.{Date3}
-use Rattle.ados_port.specs.Serving.{ServerMeaning}
-use Rattle.ados_port.specs.Lawful.{Lawful}
-use Rattle.ados_packet.specs.declared.packet.Packet.{Packet}
-use Rattle.ados_packet.specs.declared.answer.Answer.{Answer}
-use Rattle.ados_handler.specs.Handler.{HandlerState}
-use Rattle.ados_run.specs.TreePort.{PacketLists, ServedPackets}
-use Rattle.ados_run.specs.SideBySide.{BothSides, beside}
+use Rattle.ados_model.specs.Tree.{Tree}
+use Rattle.ados_model.specs.declared.packet.Packet.{Packet}
+use Rattle.ados_model.specs.declared.answer.Answer.{Answer}
+use Rattle.ados_model.specs.Session.{HandlerState}
+use Rattle.ados_model.specs.Stands.{Stands}
+use Rattle.ados_port.specs.Lawful.{ClientLists, Lawful}
+use Rattle.ados_port.specs.History.{ServerMeaning}
+use Rattle.ados_run.specs.Runs.{ServedPackets, BothSides, beside}
 
--- The lists of all ends belong to one history from this tree on, in which at each packet tree and image changed together in
--- this way, and at its end the image stands for the tree that it led to
+-- the lists of clients
+abbrev pub PacketLists : Type 0
+PacketLists = List (ClientLists Packet Answer)
+
+-- the lists of all ends belong to one history from this tree; at each packet tree and image changed together in this
+-- way, and at the end the image represents the resulting tree
 pub record ListsFollowTree (together : ServerMeaning BothSides Packet Date3 Answer) (t : Tree) (opening : HandlerState) (clients : PacketLists) (served : ServedPackets)
     (unanswered : List (ℕ × Packet)) (closing : HandlerState) : Type 0 where
   pub last_tree : Tree

@@ -1,2 +1,2 @@
--- What only the calls inside speak of: what the ends of a port over a volume are, opened and gathered.
+-- Definitions for steps: the ends of a port over a volume, opened and gathered.
 pub mod Gathered

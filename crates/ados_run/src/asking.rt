@@ -1,4 +1,4 @@
-//! One packet of a client, up to its reply.
+//! One packet of a client, until its reply.
 ghost use Rattle.std.specs.Prelude.{◌≡◌, ◌++◌, ◌∷◌, [], length, true, IfSome, IfNone, MatchResult};
 ghost use Rattle.ados_port.specs.Grown.{Grown};
 ghost use Rattle.ados_run.specs.Asking.{HasPut, HasTaken, Replied, StoppedBy};
@@ -11,15 +11,15 @@ use std::thread;
 /// Why a packet got no reply.
 #[derive(Clone, Copy)]
 pub(crate) enum Stopped {
-    /// The port was closed, and the packet not put.
+    /// The port was closed, and the packet was not put.
     Closed,
-    /// The packet was not put in so many tries, or was held back.
+    /// The packet was not put: there was no room in all tries, or the gate held it back.
     NoRoom,
-    /// It was put, and its reply did not come in so many tries.
+    /// The packet was put, but no reply came in all tries.
     NoReply,
 }
 
-/// Puts a packet, with this many tries where it finds no room.
+/// Puts a packet. While there is no room, it tries again, up to this many tries.
 fn put_packet<S: Server, R: Wait>(
     rt: &R,
     end: &mut ClientEnd<S>,
@@ -54,7 +54,7 @@ fn await_reply<S: Server, R: Wait>(
     end.take_within(rt, turns)
 }
 
-/// Puts a packet, which has this number, and takes its reply.
+/// Puts the packet with this number and takes its reply.
 pub(crate) fn ask<S: Server, G: Gate, R: Wait>(
     rt: &R,
     end: &mut ClientEnd<S>,

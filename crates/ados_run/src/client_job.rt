@@ -1,4 +1,4 @@
-//! What a client's thread does.
+//! The job of a client's thread.
 ghost use Rattle.std.specs.Prelude.{◌≡◌, IfOk};
 ghost use Rattle.ados_run.specs.Scripts.{IsUnused, Tells};
 
@@ -6,12 +6,12 @@ use crate::gate::Gate;
 use crate::speaking::{ClientText, finish, speak};
 use adf_script::text::fault_text;
 use adf_script::{ClientEnding, LONGEST_SCRIPT};
-use ados_packet::{Answer, Packet};
+use ados_model::{Answer, Packet};
 use ados_port::{Client, ClientEnd, Server};
 use std::alloc::{AllocError, Global};
 use std::sync::Wait;
 
-/// A client's script, with its gate and how many tries it has for each packet and each reply.
+/// A client's script, its gate, and the number of tries for each packet and each reply.
 #[derive(Drop)]
 pub(crate) struct ScriptJob<G: Drop> {
     pub(crate) alloc: Global,

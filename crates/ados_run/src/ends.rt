@@ -1,4 +1,4 @@
-//! The clients' ends with their jobs, and with what they told.
+//! The clients' ends, with their jobs and with their output.
 ghost use Rattle.std.specs.Prelude.{◌≡◌, IfOk, Ok, length, map};
 
 use crate::client_job::ScriptJob;
@@ -10,7 +10,7 @@ use ados_port::{ClientEnd, Server};
 use std::alloc::{AllocError, Global};
 use std::collections::VecDeque;
 
-/// Parts the clients' ends from their jobs.
+/// Separates the clients' ends from their jobs.
 pub(crate) fn part<S: Server, G: Gate + Drop>(
     alloc: Global,
     clients: Vec<(ClientEnd<S>, Vec<u8>, G)>,
@@ -33,7 +33,7 @@ pub(crate) fn part<S: Server, G: Gate + Drop>(
     Ok((ends, jobs))
 }
 
-/// Joins the ends with what their clients told. A client that found no memory is a want of memory.
+/// Joins the ends with the output of their clients. If a client ran out of memory, the result is an error.
 pub(crate) fn join<S: Server>(
     alloc: Global,
     ends: Vec<ClientEnd<S>>,
@@ -55,7 +55,7 @@ pub(crate) fn join<S: Server>(
     Ok(done)
 }
 
-/// Gives each client its script and its gate, in order.
+/// Pairs each client with its script and its gate, in order.
 pub fn assign<S: Server, G: Drop>(
     alloc: Global,
     ends: Vec<ClientEnd<S>>,
@@ -76,7 +76,7 @@ pub fn assign<S: Server, G: Drop>(
     Ok(clients)
 }
 
-/// Parts the ends from what their clients told, so that the ends can be gathered.
+/// Separates the ends from their clients' output, so that the ends can be gathered.
 pub fn part_done<S: Server>(
     alloc: Global,
     clients: Vec<ClientDone<S>>,

@@ -1,17 +1,18 @@
-//! What may hold a client back.
+//! Gates, which may stop a client.
 
-/// What may hold a client back before a packet, and hears of each reply.
+/// A gate may stop a client before a packet. It is called before each packet and after each reply.
 ///
 /// It is called on the client's thread.
 pub trait Gate {
-    /// Called once for each packet, by its number, before it is put first. Where it answers false the packet is not put, and the client ends as one that found no room.
+    /// Called once for each packet, by its number, before its first put. If it returns false, the packet is not put,
+    /// and the client ends as if there were no room.
     fn before(&mut self, number: u64) -> bool;
 
-    /// Called when the reply with this number was taken.
+    /// Called after the reply with this number was taken.
     fn after(&mut self, number: u64);
 }
 
-/// A gate that holds nothing back.
+/// A gate that never stops a client.
 #[derive(Clone, Copy, Debug, PartialEq, Eq)]
 pub struct OpenGate;
 

@@ -1,8 +1,8 @@
-//! The whole handler in one call: an image is checked and port steps are run at a handler over its volume, or clients'
-//! scripts are run over a volume, each on a thread of its own.
+//! The whole handler in one call. It checks an image and runs port steps at a handler over its volume, or runs
+//! clients' scripts over a volume, each on its own thread.
 #![tactic(auto)]
 
-// A client and a thread for each script, at any port of packets.
+// A client with its own thread for each script, at any port of packets.
 mod asking;
 mod client_job;
 mod ends;

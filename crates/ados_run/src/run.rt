@@ -6,18 +6,18 @@ ghost use Rattle.ados_run.specs.Runs.{RunsVolume};
 
 use adf_block::Image;
 use ados_handler::Handler;
+use ados_model::Packet;
 use ados_name::Date3;
-use ados_packet::Packet;
 use ados_port::{Exchange, RunDone, Step, run};
 use ados_volume::{Rejected, check};
 use std::alloc::Global;
 
-/// Why no step was run. The image is handed back.
+/// Why no step was run. Each case returns the image.
 #[derive(Drop)]
 pub enum RunFault {
-    /// The image is refused, as `check` refuses it.
+    /// `check` refuses the image.
     Rejected(Rejected),
-    /// There is no memory for the clients or the outcomes. The image is the accepted one: its bitmap may have been rebuilt.
+    /// No memory for the clients or the outcomes. The image is the accepted one: its bitmap may be rebuilt.
     NoMemory(Image),
 }
 
@@ -32,9 +32,10 @@ impl From<Rejected> for RunFault {
     }
 }
 
-/// Checks an image, opens a port with clients 1 to `clients` to a handler over its volume, and does these steps in order.
+/// Checks an image, opens a port with clients 1 to `clients` at a handler over its volume, and runs these steps in
+/// order.
 ///
-/// Each Serve takes its moment from its step. What the server then is, with its image, is `done.exchange.server()`.
+/// Each Serve has its own time stamp. Afterwards the server with its image is `done.exchange.server()`.
 pub fn run_volume(
     alloc: Global,
     image: Image,
@@ -59,7 +60,7 @@ pub fn run_volume(
     }
 }
 
-/// Want of memory, with the image of a handler that served nothing.
+/// Out of memory, with the image of a handler that served nothing.
 fn no_memory(handler: Handler) -> RunFault
     ensures { result ≡ RunFault.NoMemory handler.image }
 {

@@ -1,7 +1,7 @@
-//! Scripts of clients, each on a thread of its own.
+//! Scripts of clients, each on its own thread.
 ghost use Rattle.std.specs.Prelude.{◌≡◌, List, IfOk, map};
-ghost use Rattle.ados_packet.specs.declared.packet.Packet.{Packet};
-ghost use Rattle.ados_packet.specs.declared.answer.Answer.{Answer};
+ghost use Rattle.ados_model.specs.declared.packet.Packet.{Packet};
+ghost use Rattle.ados_model.specs.declared.answer.Answer.{Answer};
 ghost use Rattle.ados_port.specs.History.{Serving};
 ghost use Rattle.ados_port.specs.Ends.{AreEnds, Serves};
 ghost use Rattle.ados_run.specs.Scripts.{AreUnused, EachTells, given_to, told_by};
@@ -9,13 +9,13 @@ ghost use Rattle.ados_run.specs.Scripts.{AreUnused, EachTells, given_to, told_by
 use crate::ends::{join, part};
 use crate::gate::Gate;
 use adf_script::ClientEnding;
-use ados_packet::{Answer, Packet};
+use ados_model::{Answer, Packet};
 use ados_port::{ClientEnd, HandlerEnd, ServeClientsFault, Served, Server, serve_clients};
 use std::alloc::{AllocError, Global};
 use std::sync::Wait;
 use std::thread::Threads;
 
-/// A client's end after its script, with its lines of text, and how it came to its end.
+/// A client's end after its script, with its output and how it ended.
 #[derive(Drop)]
 pub struct ClientDone<S: Server> {
     pub client: ClientEnd<S>,
@@ -23,14 +23,14 @@ pub struct ClientDone<S: Server> {
     pub end: ClientEnding,
 }
 
-/// The ends of the port after all scripts, the clients' in order.
+/// The ends of the port after all scripts. The clients' ends are in order.
 #[derive(Drop)]
 pub struct ScriptsDone<S: Server> {
     pub handler: HandlerEnd<S>,
     pub clients: Vec<ClientDone<S>>,
 }
 
-/// Why the ends were given up: memory was refused, or a thread could not be made.
+/// Why the ends are lost: memory ran out, or a thread could not be started.
 #[derive(Clone, Copy, Debug, PartialEq, Eq)]
 pub enum ScriptsFault {
     Memory,
@@ -48,9 +48,12 @@ impl From<AllocError> for ScriptsFault {
     }
 }
 
-/// Runs each client's script on a thread of its own, and the handler on this one, until every client has ended and a batch found nothing.
+/// Runs each client's script on its own thread, and the handler on this one. It returns when every client has ended
+/// and no packet waits.
 ///
-/// A client puts a packet and waits for its reply before its next line. It has this many tries for each put, with a yield between them, and for each reply, between which it rests as `take_within` does. The gate of a client hears of each of its packets. After a fault no thread is left.
+/// A client puts a packet and waits for its reply before its next line. It has `turns` tries for each put, with a
+/// yield between them, and for each reply, with pauses as in `take_within`. The client's gate is called for each of
+/// its packets. After a fault no thread is left.
 pub fn serve_scripts<S, G, R>(
     rt: &R,
     alloc: Global,

@@ -1,8 +1,8 @@
-//! Runs scripts at a handler over a volume, each as a client on a thread of its own.
+//! Runs scripts at a handler over a volume, each as a client on its own thread.
 ghost use Rattle.std.specs.Prelude.{◌≡◌, ◌<◌, IfOk, length, map};
 ghost use Rattle.ados_port.specs.Ends.{AreEnds, IsNew};
 ghost use Rattle.ados_run.specs.Scripts.{AreUnused};
-ghost use Rattle.ados_run.specs.SideBySide.{handler_over};
+ghost use Rattle.ados_run.specs.Runs.{handler_over};
 ghost use Rattle.ados_run.specs.steps.Gathered.{IsGathered};
 ghost use Rattle.ados_run.specs.Keeping.{KeepsServed};
 ghost use Rattle.ados_run.specs.ServesVolume.{ServesVolume, scripts_of, texts_of};
@@ -19,20 +19,20 @@ use std::alloc::Global;
 use std::sync::Wait;
 use std::thread::Threads;
 
-/// The places in each client's ring of replies.
+/// The number of places in each client's ring of replies.
 const RING: usize = 8;
 
-/// The handler after all packets that it served, and what each client was told with how it came to its end, in their order.
+/// The handler after all packets that it served; and the output of each client and how it ended, in order.
 #[derive(Drop)]
 pub struct VolumeServed {
     pub handler: Handler,
     pub texts: Vec<(Vec<u8>, ClientEnding)>,
 }
 
-/// The handler's end of a port, and those of its clients, each with its script and its gate.
+/// The handler's end of a port, and the clients' ends, each with its script and its gate.
 type OpenedClients<G> = (HandlerEnd<Handler>, Vec<(ClientEnd<Handler>, Vec<u8>, G)>);
 
-/// Opens a port to a handler over this volume, with a client for each script.
+/// Opens a port at a handler over this volume, with a client for each script.
 fn open_clients<G: Drop>(
     alloc: Global,
     volume: Volume,
@@ -72,10 +72,11 @@ fn gather_done<R: Wait>(
     }
 }
 
-/// Opens a port to a handler over this volume with a client for each script, runs them as `serve_scripts` does, each packet
-/// at this moment, and gathers all ends. A script's gate hears of each of its packets.
+/// Opens a port at a handler over this volume, with a client for each script. It runs the scripts as `serve_scripts`
+/// does, with the time stamp `moment` for each packet, and gathers all ends. Each script's gate is called for each of
+/// its packets.
 ///
-/// After a fault the volume is given up, and no thread is left.
+/// After a fault the volume is lost, and no thread is left.
 pub fn serve_volume<G, R>(
     rt: &R,
     alloc: Global,
@@ -92,7 +93,7 @@ where
         (λ done. ServesVolume volume.image volume.was_validated (scripts_of scripts.items) moment (texts_of done.texts.items) done.handler
         × KeepsServed volume.image volume.was_validated (scripts_of scripts.items) moment (texts_of done.texts.items) done.handler) }
 {
-    // This calls `image`, which tells that there is a tree.
+    // This calls `image`, whose contract says that there is a tree.
     prove!(volume.image().blocks() >= 16);
     let (handler, clients) = open_clients(alloc, volume, scripts)?;
     let done = serve_scripts(rt, alloc, handler, clients, moment, turns)?;

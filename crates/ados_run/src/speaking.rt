@@ -1,4 +1,4 @@
-//! The lines of a client's script, one after another.
+//! The lines of a client's script, one after the other.
 ghost use Rattle.std.specs.Prelude.{◌≡◌, ◌++◌, ◌∷◌, [], false, IfOk, OnOk};
 ghost use Rattle.adf_script.specs.Lines.{is_too_long};
 ghost use Rattle.adf_script.specs.Text.{reply_line};
@@ -12,12 +12,12 @@ use crate::gate::Gate;
 use adf_script::text::{closed_text, fault_text, no_reply_text, no_room_text, reply_text};
 use adf_script::values::keep_value;
 use adf_script::{ClientEnding, NextLine, PacketLines};
-use ados_packet::{Answer, Packet};
+use ados_model::{Answer, Packet};
 use ados_port::{ClientEnd, Reply, Server};
 use std::alloc::{AllocError, Global};
 use std::sync::Wait;
 
-/// What a client tells of its script, and how it came to its end.
+/// The output of a client's script, and how it ended.
 #[derive(Drop)]
 pub(crate) struct ClientText {
     pub(crate) text: Vec<u8>,
@@ -37,7 +37,7 @@ pub(crate) fn finish(
     Ok(ClientText { text, end })
 }
 
-/// The end of a client that got no reply to the packet with this number.
+/// The end of a client without a reply to the packet with this number.
 fn stop(
     alloc: Global,
     client: usize,
@@ -55,7 +55,7 @@ fn stop(
     finish(text, line, end)
 }
 
-/// Adds the line of a reply, and its value to those of the replies before.
+/// Appends the line for a reply, and keeps its value.
 fn keep(
     alloc: Global,
     client: usize,
@@ -72,7 +72,7 @@ fn keep(
     keep_value(values, &reply.answer)
 }
 
-/// Puts the packets of a script, each after the reply to the one before it, and tells of the replies.
+/// Puts the packets of a script, each after the reply to the one before, and prints the replies.
 pub(crate) fn speak<S, G, R>(
     rt: &R,
     alloc: Global,

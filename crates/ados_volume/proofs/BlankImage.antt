@@ -1,25 +1,23 @@
--- An image of zeros with the kind, a blank root and its pages is a blank image.
+-- An image of zeros with the kind, a blank root and its bitmap blocks is a blank image.
 use Rattle.std.proofs.Common.{◌≡◌, ℕ, ◌+◌, ◌-◌, ◌*◌, ◌<◌, ◌≤◌, ◌⊎◌, inl, inr, Bool, true, false, List, [], ◌∷◌, length, replicate, slice_index, refl, sym, ap, ◌∙◌, arith, zero-add}
 use Rattle.std.proofs.lemmas.Bool.{cases_lt, false≢true}
 use Rattle.std.proofs.lemmas.List.{get_or-replicate}
 use Rattle.adf_block.specs.declared.Format.{Format}
-use Rattle.adf_block.specs.Image.{IsSize, IsInside, block_count, byte_at, bytes_at, long, block_sum, root_key, page_count, has_free_bit}
-use Rattle.adf_block.specs.Fields.{HasText}
+use Rattle.adf_block.specs.Image.{IsSize, IsInside, block_count, byte_at, bytes_at, long, block_sum, root_key, page_count, has_free_bit, HasText}
 use Rattle.adf_block.specs.Frame.{SameBut, InBlock, OnlyBlock, Within}
 use Rattle.adf_block.proofs.Frames.{same_count, same_long, same_bytes_at, same_sum}
 use Rattle.ados_name.specs.declared.Date3.{Date3}
 use Rattle.ados_map.specs.Pages.{LawfulPages, page_block, pages_of, HasBit}
 use Rattle.ados_map.specs.Bits.{is_unnamed}
 use Rattle.ados_map.specs.Changes.{InPages, PagesRebuilt}
-use Rattle.ados_tree.specs.declared.role.Role.TheVariants.{Root}
-use Rattle.ados_tree.specs.Dates.{date_at}
-use Rattle.ados_tree.specs.Kept.{IsField}
-use Rattle.ados_tree.specs.Stands.{format_byte}
-use Rattle.ados_tree.specs.Blank.{IsBlank}
+use Rattle.ados_model.specs.declared.role.Role.TheVariants.{Root}
+use Rattle.ados_model.specs.Stands.{date_at, format_byte}
+use Rattle.ados_model.specs.Kept.{IsField}
+use Rattle.ados_model.specs.Blank.{IsBlank}
 use Rattle.ados_volume.specs.steps.BlankParts.{IsBlankRoot, IsBetweenFields, NamesBlank}
 use Rattle.ados_change.proofs.Texts.{bytes_put}
 
--- the pages behind a blank root are lawful
+-- the bitmap blocks after a blank root are lawful
 module _ (n : ℕ) (name : List ℕ) (moment : Date3) (image : List ℕ) (size : IsSize n) (count : block_count image ≡ n) (root : IsBlankRoot n name moment image) where
   pub blank_page : (p : ℕ) → p < page_count n → page_block image p ≡ root_key n + 1 + p
   blank_page p l = ap (λ (m : ℕ). long image (root_key m) (79 + p)) count ∙ root.pages p l
@@ -34,7 +32,7 @@ module _ (n : ℕ) (name : List ℕ) (moment : Date3) (image : List ℕ) (size :
     beside_root = λ p l e. let at = blank_page p (omega (arith, l, blank_pages)) in omega (arith, at, e, count);
   }
 
--- byte i of the boot blocks that lies in the second
+-- byte i of the boot blocks, in the second block
 byte_next : (image : List ℕ) (i : ℕ) → 512 ≤ i → byte_at image 0 i ≡ byte_at image 1 (i - 512)
 unfolding byte_at
 byte_next image i l = ap (slice_index image) (omega arith)
@@ -65,7 +63,7 @@ module _ (format : Format) (n : ℕ) (name : List ℕ) (moment : Date3) (named :
       let same = at.2 in
       elim side [ inl l ↦ omega (arith, is, same, l) | inr l ↦ omega (arith, is, same, l, at.1, pages) ]
 
-  -- the root stays
+  -- the root is unchanged
   root_long : (i : ℕ) → i < 128 → long z3 (root_key n) i ≡ long z2 (root_key n) i
   root_long i l = same_long (InPages z2) z2 z3 f3 (root_key n) i l (λ k e. not_page (root_key n) k (inl (omega arith)))
 
@@ -96,7 +94,7 @@ module _ (format : Format) (n : ℕ) (name : List ℕ) (moment : Date3) (named :
     secondary = λ m. none (IsField.root_longs (7, (127, 127), omega arith, refl, (omega (arith, m), omega (arith, l))));
   }
 
-  -- a byte of another block
+  -- a byte of any other block
   other_byte : (b i : ℕ) → i < 512 → (b < root_key n) ⊎ (root_key n + page_count n < b) → ¬ Within 0 0 4 b i → byte_at z3 b i ≡ 0
   other_byte b i l side outside =
       f3.same_byte b i l (not_page b i (elim side [ inl m ↦ inl (omega (arith, m)) | inr m ↦ inr m ]))

@@ -1,13 +1,12 @@
--- The fields of a blank root, written one after another.
+-- The fields of a blank root, written one after the other.
 use Rattle.std.proofs.Common.{◌≡◌, ◌≢◌, ℕ, ◌+◌, ◌-◌, ◌*◌, ◌/◌, ◌^◌, ◌<◌, ◌≤◌, ◌⊎◌, inl, inr, List, length, refl, sym, ap, ◌∙◌, subst, arith}
-use Rattle.adf_block.specs.Image.{byte_at, long, block_sum, root_key, page_count}
-use Rattle.adf_block.specs.Fields.{HasText}
+use Rattle.adf_block.specs.Image.{byte_at, long, block_sum, root_key, page_count, HasText}
 use Rattle.adf_block.specs.Frame.{SameBut, AtLong, InBlock, OnlyLong, OnlyBlock, Within}
 use Rattle.std.proofs.lemmas.Bool.{cases_lt, cases_eq}
 use Rattle.adf_block.proofs.Frames.{same_trans, same_weaken, same_long, same_bytes_at}
 use Rattle.adf_block.proofs.Longs.{long-bytes}
 use Rattle.ados_name.specs.declared.Date3.{Date3}
-use Rattle.ados_tree.specs.Dates.{date_at}
+use Rattle.ados_model.specs.Stands.{date_at}
 use Rattle.ados_volume.specs.steps.BlankParts.{IsBlankRoot, HasBlankFields, IsBetweenFields}
 
 -- a long is four bytes
@@ -18,7 +17,7 @@ within_long b i old new h = same_weaken (AtLong b i) (Within b (4 * i) (4 * i + 
 pub within_more : (b low high low' high' : ℕ) (old new : List ℕ) → low' ≤ low → high ≤ high' → SameBut (Within b low high) old new → SameBut (Within b low' high') old new
 within_more b low high low' high' old new l m h = same_weaken (Within b low high) (Within b low' high') old new (λ c k at. (at.0, omega (arith, at.1, l), omega (arith, at.2, m))) h
 
--- a change within a block is one of the block
+-- a change inside a range is a change inside the block
 pub within_block : (b low high : ℕ) (old new : List ℕ) → SameBut (Within b low high) old new → OnlyBlock b old new
 within_block b low high old new h = same_weaken (Within b low high) (InBlock b) old new (λ c k at. at.0) h
 
@@ -36,7 +35,7 @@ zero_long image b i zero =
     long-bytes image b i
     ∙ rw (zero (4 * i + 0) (omega arith), zero (4 * i + 1) (omega arith), zero (4 * i + 2) (omega arith), zero (4 * i + 3) (omega arith)) refl
 
--- the writes of a blank root, in order, over a block r of zeros
+-- the writes of a blank root in order, into a block r of zeros
 module _ (n r : ℕ) (name : List ℕ) (moment : Date3) (r_is : r ≡ root_key n) (small : page_count n ≤ 25) (short : length name ≤ 30)
     (z0 z1 z2 z3 z4 z5 z6 z7 z8 z9 z10 : List ℕ)
     (zero : (i : ℕ) → i < 512 → byte_at z0 r i ≡ 0)
@@ -59,7 +58,7 @@ module _ (n r : ℕ) (name : List ℕ) (moment : Date3) (r_is : r ≡ root_key n
   f10 : SameBut (Within r 20 24) z9 z10
   f10 = within_long r 5 z9 z10 s10
 
-  -- a long that later writes leave
+  -- a long that later writes leave untouched
   kept9 : (i : ℕ) → i < 128 → i ≢ 5 → long z10 r i ≡ long z9 r i
   kept9 i l ne = long_beside r 20 24 z9 z10 f10 i l (grind arith)
 
@@ -135,7 +134,7 @@ module _ (n r : ℕ) (name : List ℕ) (moment : Date3) (r_is : r ≡ root_key n
   kept_date : (i : ℕ) (z : List ℕ) → ((j : ℕ) → i ≤ j → j < i + 3 → long z10 r j ≡ long z r j) → date_at z r i ≡ moment → date_at z10 r i ≡ moment
   kept_date i z same date = (λ k. record { days = same i (omega arith) (omega arith) k; minutes = same (i + 1) (omega arith) (omega arith) k; ticks = same (i + 2) (omega arith) (omega arith) k }) ∙ date
 
-  -- the name is not written over
+  -- the name is not overwritten
   behind_name : (i : ℕ) → 432 ≤ i → i < 472 → byte_at z10 r i ≡ byte_at z6 r i
   behind_name i l m =
       byte_beside r 20 24 z9 z10 f10 i (omega arith) (λ at. omega (arith, at.1, l))

@@ -1,4 +1,4 @@
--- Below which block none is free, after a change.
+-- A bound below which no block is free, after a change.
 use Rattle.std.proofs.Common.{◌≡◌, ℕ, ◌/◌, ◌<◌, Bool, true, false, inl, inr, List, length, IsSome, refl, sym, ap, ◌∙◌, arith}
 use Rattle.std.proofs.lemmas.Bool.{false≢true}
 use Rattle.adf_block.specs.Image.{HasFreeBit, IsInside, block_count, has_free_bit}
@@ -6,19 +6,18 @@ use Rattle.adf_block.proofs.Frames.{same_count}
 use Rattle.ados_map.specs.Pages.{NoneFreeBelow, page_block, pages_of}
 use Rattle.ados_map.proofs.MarkLemmas.{bit_of_inside, mark_kept}
 use Rattle.ados_data.proofs.Bounds.{below_stays}
-use Rattle.ados_tree.specs.Tree.{Tree}
-use Rattle.ados_tree.specs.Layout.{Duty}
-use Rattle.ados_tree.specs.Stands.{Stands}
-use Rattle.ados_tree.specs.Faults.{root_of}
-use Rattle.ados_tree.specs.NewBlocks.{KeepsRest}
-use Rattle.ados_tree.proofs.Writable.{beside_pages, root_serves}
+use Rattle.ados_model.specs.Tree.{Tree}
+use Rattle.ados_model.specs.Stands.{Duty, Stands}
+use Rattle.ados_model.specs.Faults.{root_of}
+use Rattle.ados_change.specs.NewBlocks.{KeepsRest}
+use Rattle.ados_change.proofs.Writable.{beside_pages, root_serves}
 use Rattle.ados_change.specs.Places.{OnlyRestamped, Restamped}
 
 -- the boot blocks have no bit
 pub below_boot : (image : List ℕ) → NoneFreeBelow image 2
 below_boot image k inside lt = absurd (omega (arith, inside.0, lt))
 
--- where no block became free
+-- no block became free
 pub below_kept : (old new : List ℕ) (from : ℕ) → length new ≡ length old → ((b : ℕ) → IsInside (block_count old) b → HasFreeBit new b → HasFreeBit old b) → NoneFreeBelow old from → NoneFreeBelow new from
 below_kept old new from size was = below_stays old new from (ap (λ (n : ℕ). n / 512) size) (λ b inside used. go b inside used (has_free_bit new b) refl)
   where
@@ -26,7 +25,7 @@ below_kept old new from size was = below_stays old new from (ap (λ (n : ℕ). n
     go b inside used false e = e
     go b inside used true e = absurd (false≢true (sym used ∙ was b inside e))
 
--- where only what is told of a node was changed
+-- only the fields of a node changed
 pub below_restamped : (old new : List ℕ) (t : Tree) (s : Stands old t) (key low high : ℕ) → IsSome (t.nodes key) → OnlyRestamped key low high old new → KeepsRest old new → (from : ℕ) → NoneFreeBelow old from → NoneFreeBelow new from
 below_restamped old new t s key low high node rest keeps from =
     below_stays old new from (same_count (Restamped (root_of old) key low high) old new rest)

@@ -1,18 +1,18 @@
--- In an image that stands for a tree the chains of its directories are lawful.
+-- In an image that represents a tree, the hash chains of its directories are lawful.
 use Rattle.std.proofs.Common.{◌≡◌, ◌≢◌, ℕ, ◌+◌, ◌<◌, ◌==◌, List, Contains, Some, None, sym, ap, ◌∙◌, subst}
 use Rattle.std.proofs.lemmas.List.{get_or_default}
 use Rattle.std.proofs.lemmas.List.Kept.{AllPairs-filter}
-use Rattle.adf_block.specs.Image.{bytes_at}
-use Rattle.adf_block.specs.Fields.{name_byte, text_at, HasText}
+use Rattle.adf_block.specs.Image.{bytes_at, HasText}
+use Rattle.adf_block.specs.Layout.{name_byte}
+use Rattle.adf_block.specs.Whole.{text_at}
 use Rattle.ados_name.specs.Name.{slot, IsName}
 use Rattle.ados_chain.specs.Chains.{LawfulChains, IsEntryBlock, name_at}
-use Rattle.ados_tree.proofs.Writable.{inside, key_serves}
-use Rattle.ados_tree.specs.Tree.{Node, Tree, LeadsToRoot, entries, name_of, parent_of}
-use Rattle.ados_tree.specs.Tree.Content.{Directory}
-use Rattle.ados_tree.specs.Tree.LeadsToRoot.{at_root, by_parent}
-use Rattle.ados_tree.specs.Layout.{Duty}
-use Rattle.ados_tree.specs.Stands.{Stands, in_slot}
-use Rattle.ados_tree.proofs.Standing.{root_is, entry_at, IsEntryNode}
+use Rattle.ados_change.proofs.Writable.{inside, key_serves}
+use Rattle.ados_model.specs.Tree.{Node, Tree, LeadsToRoot, entries, name_of, parent_of}
+use Rattle.ados_model.specs.Tree.Content.{Directory}
+use Rattle.ados_model.specs.Tree.LeadsToRoot.{at_root, by_parent}
+use Rattle.ados_model.specs.Stands.{Duty, Stands, in_slot}
+use Rattle.ados_model.proofs.Standing.{root_is, entry_at, IsEntryNode}
 
 -- the text of a block
 pub text_is : (image : List ℕ) (block i : ℕ) (text : List ℕ) → HasText image block i text → text_at image block i ≡ text

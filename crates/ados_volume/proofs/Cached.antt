@@ -1,4 +1,4 @@
--- What a cache of children gives back, and what it keeps.
+-- The results of the cache of children, and its contents.
 use Rattle.std.proofs.Common.{◌≡◌, ℕ, zero, suc, ◌-◌, Bool, true, false, ◌==◌, ◌&&◌, ◌⊎◌, inl, inr, List, [], ◌∷◌, ◌++◌, map, length, take, drop, replicate, find, Contains, Option, Some, None, Result, Ok, Err, OnOk, OnErr, IfSome, bytes_eq, refl, sym, ap, ap₂, ◌∙◌, subst, eq-eqb, arith}
 use Rattle.std.specs.Map.{lookup, remove_entry, keys_of}
 use Rattle.std.specs.List.{AllByRecursion, IsDistinct}
@@ -11,13 +11,13 @@ use Rattle.lru.specs.LruCache.{LruCache, lru_cache, promoted, put_entries}
 use Rattle.lru.proofs.CallerLemmas.{Contains-lookup, Contains-promoted, Contains-put_entries, Contains-remove_entry}
 use Rattle.ados_name.specs.Name.{upper, Same}
 use Rattle.lru.proofs.Splits.{Contains-nil, Contains-cons}
-use Rattle.ados_tree.specs.Tree.{Tree, entries, name_of}
-use Rattle.ados_tree.specs.Stands.{Stands}
-use Rattle.ados_tree.specs.Walk.{child_of}
+use Rattle.ados_model.specs.Tree.{Tree, entries, name_of}
+use Rattle.ados_model.specs.Stands.{Stands}
+use Rattle.ados_model.specs.Change.{child_of}
 use Rattle.ados_volume.specs.declared.cache.Sought.{Sought}
 use Rattle.ados_volume.specs.steps.Cache.{Seeks, HasPair, Adds, AddsNone, TakesOut, AreChildren}
 
--- how what is sought is compared
+-- how keys of the cache are compared
 abbrev pub same_sought : Sought → Sought → Bool
 same_sought a b = (a.dir == b.dir) && ((a.length == b.length) && bytes_eq a.letters b.letters)
 
@@ -35,7 +35,7 @@ is_sought a =
     and_from (a.dir == a.dir) ((a.length == a.length) && bytes_eq a.letters a.letters) (eq-eqb a.dir a.dir refl)
     (and_from (a.length == a.length) (bytes_eq a.letters a.letters) (eq-eqb a.length a.length refl) ((bytes_eq-Decides a.letters a.letters).1 refl))
 
--- a name is sought by one value, which those of the same name share
+-- equal names have the same key
 same_length : (name other : List ℕ) → Same name other → length name ≡ length other
 same_length name other e = sym (length-map name upper) ∙ ap length e ∙ length-map other upper
 
@@ -55,7 +55,7 @@ seeks_same a dir dir' name other h k =
 upper_is : (c : ℕ) → to_ascii_uppercase c ≡ upper c
 upper_is c = grind (arith, nat_tests)
 
--- a name that was copied over zeros, and put into upper case
+-- a name copied over zeros, in upper case
 pub spelled : (name copied letters : List ℕ) → copied ≡ name → letters ≡ map to_ascii_uppercase (copied ++ drop (length name) (replicate 30 0)) → letters ≡ map upper name ++ replicate (30 - length name) 0
 spelled name copied letters same e =
     e
@@ -68,7 +68,7 @@ spelled name copied letters same e =
     zeros_upper zero = refl
     zeros_upper (suc n) = ap (λ (zeros : List ℕ). 0 ∷ zeros) (zeros_upper n)
 
--- ---- an entry that was taken out
+-- ---- an entry that was removed
 
 apart : (x sought : Sought) (key : ℕ) (pairs : List (Sought × ℕ)) → AllByRecursion (λ y. same_sought x y ≡ false) (keys_of pairs) → Contains pairs (sought, key) → same_sought x sought ≡ false
 apart x sought key [] all c = absurd (Contains-nil (sought, key) c)
@@ -92,7 +92,7 @@ gone sought key (f ∷ pairs) distinct c = go (same_sought sought f.0) refl (gon
     ]
 
 module _ (sought : Sought) (dir : ℕ) (name : List ℕ) (seeks : Seeks sought dir name) where
-  -- what is found is a pair
+  -- a found value belongs to a pair
   pub found : (pairs : List (Sought × ℕ)) (r : Option ℕ) → r ≡ lookup (same_sought sought) pairs → IfSome r (λ key. HasPair pairs dir name key)
   found pairs None e = tt
   found pairs (Some key) e =
@@ -122,7 +122,7 @@ module _ (sought : Sought) (dir : ℕ) (name : List ℕ) (seeks : Seeks sought d
   put_adds old key new (Ok o) put stays = subst (λ (c : LruCache Sought ℕ). Adds old.entries dir name key c.entries) (sym put) (added old key)
   put_adds old key new (Err e) put stays = subst (λ (c : LruCache Sought ℕ). Adds old.entries dir name key c.entries) (sym stays) (λ d n k h. inl h)
 
-  -- what is taken out is no longer there
+  -- a removed pair is gone
   pub taken_out : (old new : LruCache Sought ℕ) → IsDistinct same_sought (keys_of old.entries) → new ≡ lru_cache (remove_entry (same_sought sought) old.entries) old.cap → TakesOut old.entries dir name new.entries
   taken_out old new distinct e d n k h =
       let left : Contains (remove_entry (same_sought sought) old.entries) (h.sought, k) = subst (λ (c : LruCache Sought ℕ). Contains c.entries (h.sought, k)) e h.listed in (
@@ -140,11 +140,11 @@ kept test old new e d n k h = record {
   seeks = h.seeks;
 }
 
--- a directory's children by names that are the same are one
+-- a directory's child is the same for equal names
 child_same : (t : Tree) (dir : ℕ) (name other : List ℕ) → Same name other → child_of t dir name ≡ child_of t dir other
 child_same t dir name other e = ap (λ (letters : List ℕ). find (λ key. bytes_eq (map upper (name_of t key)) letters) (entries t dir)) e
 
--- children stay children
+-- children are still children
 pub fewer : (image : List ℕ) (old new : List (Sought × ℕ)) → AreChildren image old → AddsNone old new → AreChildren image new
 fewer image old new h less dir name key p = h dir name key (less dir name key p)
 

@@ -1,24 +1,23 @@
--- What a change of a tree leaves of the children that were found.
+-- Cached children after a change of the tree.
 use Rattle.std.proofs.Common.{◌≡◌, ℕ, inl, inr, List, map, Contains, Option, Some, None, option_map, refl, sym, ap, ◌∙◌, subst, eq-eqb}
 use Rattle.std.proofs.lemmas.Bool.{ne_eqb, cases_eq}
 use Rattle.std.proofs.lemmas.Slice.Eq.{bytes_eq-Decides}
 use Rattle.ados_name.specs.Name.{upper, Same}
-use Rattle.ados_tree.specs.Tree.{Node, Tree, entries, entries_in, name_in, name_of}
-use Rattle.ados_tree.specs.Stands.{Stands}
-use Rattle.ados_tree.specs.Walk.{child_of}
-use Rattle.ados_tree.specs.Change.{changed}
-use Rattle.ados_tree.proofs.OneTree.{one_tree}
+use Rattle.ados_model.specs.Tree.{Node, Tree, entries, entries_in, name_in, name_of}
+use Rattle.ados_model.specs.Stands.{Stands}
+use Rattle.ados_model.specs.Change.{child_of, changed}
+use Rattle.ados_model.proofs.OneTree.{one_tree}
 use Rattle.ados_volume.specs.declared.cache.Sought.{Sought}
 use Rattle.ados_volume.specs.steps.Cache.{HasPair, AreChildren}
 use Rattle.ados_volume.specs.steps.Listed.{AreListed}
 use Rattle.ados_volume.proofs.Looking.{is_child}
 use Rattle.ados_volume.proofs.Walking.{find-is}
 
--- an entry of the directory is one of the other tree too, under its name
+-- an entry of the directory is an entry of it in the other tree, with the same name
 abbrev pub Stays : Tree → Tree → ℕ → ℕ → Type 0
 Stays t u dir key = Contains (entries t dir) key → Contains (entries u dir) key × (name_of u key ≡ name_of t key)
 
--- each entry is
+-- this holds for each entry
 abbrev pub AllStay : Tree → Tree → Type 0
 AllStay t u = (dir key : ℕ) → Stays t u dir key
 
@@ -33,7 +32,7 @@ module _ (old new : List ℕ) (t u : Tree) (s : Stands old t) (r : Stands new u)
       let now = stays was.0 in
       is_child new u r dir key name now.0 (ap (map upper) now.1 ∙ was.1)
 
-  -- pairs that were children, and whose entries stay, are children of the new tree
+  -- pairs that were children are children of the new tree, if their entries stay
   pub carried : (old_pairs pairs : List (Sought × ℕ)) → AreChildren old old_pairs
       → ((dir key : ℕ) (name : List ℕ) → HasPair pairs dir name key → HasPair old_pairs dir name key × (child_of t dir name ≡ Some key → Stays t u dir key)) → AreChildren new pairs
   carried old_pairs pairs h from dir name key p v w =
@@ -41,15 +40,15 @@ module _ (old new : List ℕ) (t u : Tree) (s : Stands old t) (r : Stands new u)
       let child = h dir name key c.0 t s in
       subst (λ (x : Tree). child_of x dir name ≡ Some key) (one_tree new u v r w) (child_stays dir key name (c.1 child) child)
 
-  -- entries that stay are those of the new tree
+  -- entries that stay are entries in the new tree
   told_stay : (told : List (ℕ × ℕ)) → AreListed old told → AllStay t u → AreListed new told
   told_stay told listed stay dir key c v w = subst (λ (x : Tree). Contains (entries x dir) key) (one_tree new u v r w) (stay dir key (listed dir key c t s)).0
 
-  -- the image stands for a tree whose children the pairs are, and which has the entries that were told last
+  -- the image represents a tree in which the pairs are children and the listed entries are entries
   pub all_carried : (pairs : List (Sought × ℕ)) → AreChildren old pairs → (told : List (ℕ × ℕ)) → AreListed old told → AllStay t u → (((x : Tree) × Stands new x) × AreChildren new pairs) × AreListed new told
   all_carried pairs h told listed stay = (((u, r), carried pairs pairs h (λ dir key name p. (p, λ child. stay dir key))), told_stay told listed stay)
 
--- ---- one node is changed
+-- ---- one node changes
 
 module _ (t : Tree) (key : ℕ) (f : Node → Node) (lists : (a : Node) → t.nodes key ≡ Some a → entries_in (Some (f a).content) ≡ entries_in (Some a.content))
     (names : (dir : ℕ) (a : Node) → Contains (entries t dir) key → t.nodes key ≡ Some a → (f a).name ≡ a.name) where
@@ -79,6 +78,6 @@ module _ (t : Tree) (key : ℕ) (f : Node → Node) (lists : (a : Node) → t.no
     | inr n ↦ rw (ne_eqb k key n) refl
   ]
 
-  -- where the list and an entry's name stay, all entries do
+  -- all entries stay if the list and the entry's name do
   pub changed_stay : AllStay t (changed key f t)
   changed_stay dir k c = (subst (λ (keys : List ℕ). Contains keys k) (sym (entries_same dir)) c, name_same dir k c)

@@ -1,10 +1,10 @@
--- Why the answer of `check` decides.
+-- The result of `check` decides.
 use Rattle.std.proofs.Common.{ℕ, Bool, true, false, inl, inr, List, Ok, Err, refl}
 use Rattle.std.proofs.lemmas.Bool.{false≢true}
-use Rattle.ados_tree.specs.Accepted.{Accepts, ShowsNoFault}
-use Rattle.ados_tree.specs.Stands.{Stands}
-use Rattle.ados_tree.specs.Tree.{Tree}
-use Rattle.ados_tree.proofs.OneTree.{one_tree}
+use Rattle.ados_model.specs.Accepted.{Accepts, ShowsNoFault}
+use Rattle.ados_model.specs.Stands.{Stands}
+use Rattle.ados_model.specs.Tree.{Tree}
+use Rattle.ados_model.proofs.OneTree.{one_tree}
 use Rattle.ados_volume.specs.Checked.{StandsForOne, CheckDecides}
 
 stands_for_one : (image : List ℕ) (t : Tree) → Stands image t → StandsForOne image

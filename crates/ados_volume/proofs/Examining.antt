@@ -1,17 +1,16 @@
--- What the block of a node tells of it.
+-- The description of a node by its block.
 use Rattle.std.proofs.Common.{◌≡◌, ◌≢◌, ℕ, ◌+◌, ◌-◌, ◌*◌, ◌≤◌, inl, inr, true, false, List, length, take, drop, Option, Some, pos, negsuc, refl, sym, ap, ◌∙◌, arith}
 use Rattle.std.proofs.lemmas.Bool.{false≢true, true≢false}
 use Rattle.std.proofs.lemmas.List.{drop-drop, drop-take, take-take}
 use Rattle.adf_block.specs.declared.Format.{Format}
 use Rattle.adf_block.specs.Image.{block_count, bytes_at, root_key}
-use Rattle.ados_data.specs.Cost.{data_count, extension_count}
-use Rattle.ados_tree.specs.Tree.{Content, Node, Tree, cost_in, size_in}
-use Rattle.ados_tree.specs.Tree.Content.{Directory, File}
-use Rattle.ados_tree.specs.Stands.{Stands, HasEntry}
-use Rattle.ados_tree.specs.Walk.{is_file, holds_file}
-use Rattle.ados_tree.proofs.Nodes.{root_or_parent}
-use Rattle.ados_tree.proofs.Standing.{root_is}
-use Rattle.ados_volume.specs.Examined.{entry_type}
+use Rattle.ados_model.specs.Tree.{data_count, extension_count, Content, Node, Tree, cost_in, size_in}
+use Rattle.ados_model.specs.Tree.Content.{Directory, File}
+use Rattle.ados_model.specs.Stands.{Stands, HasEntry}
+use Rattle.ados_model.specs.Change.{is_file, holds_file}
+use Rattle.ados_model.proofs.Nodes.{root_or_parent}
+use Rattle.ados_model.proofs.Standing.{root_is}
+use Rattle.ados_model.specs.Objects.{entry_type}
 
 -- bytes of a block, from the list of all its bytes
 pub part_of_block : (image : List ℕ) (b i n : ℕ) (xs : List ℕ) → xs ≡ bytes_at image b 0 512 → i + n ≤ 512 → take n (drop i xs) ≡ bytes_at image b i n
@@ -27,7 +26,7 @@ part_of_block image b i n xs e room =
     ∙ take-take n m (drop i ys) (omega (arith, room))
     ∙ ap (take n) (drop-drop i (512 * b + 0) image ∙ ap (λ (k : ℕ). drop k image) place)
 
--- the type of a file and of a directory that is not the root
+-- the types of a file and of a directory other than the root
 pub file_type_is : (parent : Option ℕ) (dir : ℕ) (content : Content) → parent ≡ Some dir → true ≡ holds_file (Some content) → negsuc 2 ≡ entry_type parent content
 file_type_is parent dir (Directory keys) p h = absurd (true≢false h)
 file_type_is parent dir (File bytes) p h = rw p refl
@@ -36,7 +35,7 @@ pub directory_type_is : (parent : Option ℕ) (dir : ℕ) (content : Content) �
 directory_type_is parent dir (Directory keys) p h = rw p refl
 directory_type_is parent dir (File bytes) p h = absurd (false≢true h)
 
--- what a file of this size takes
+-- the number of blocks of a file with this size
 pub file_cost_is : (format : Format) (content : Content) (size : ℕ) → true ≡ holds_file (Some content) → size ≡ size_in (Some content)
     → 1 + (data_count format size + extension_count (data_count format size)) ≡ cost_in format (Some content)
 file_cost_is format (Directory keys) size h e = absurd (true≢false h)
@@ -49,7 +48,7 @@ module _ (image : List ℕ) (t : Tree) (s : Stands image t) (key : ℕ) (node : 
   pub file_is : is_file t key ≡ holds_file (Some node.content)
   file_is = rw e refl
 
-  -- what is not the root is an entry
+  -- a node other than the root is an entry
   pub entry_of : key ≢ root_key (block_count image) → (dir : ℕ) × (node.parent ≡ Some dir) × HasEntry image key node dir
   entry_of other = elim (root_or_parent t s.proper key node e) [
     | inl r ↦ absurd (other (r ∙ sym (root_is image t s)))

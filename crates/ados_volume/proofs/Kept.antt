@@ -1,4 +1,4 @@
--- What a cache of places, and one of entries that were told, gives back, and what it keeps.
+-- The results and contents of the caches of places and of listed entries.
 use Rattle.std.proofs.Common.{◌≡◌, ℕ, Bool, true, false, ◌==◌, inl, inr, List, [], ◌∷◌, Contains, Option, Some, Result, Ok, Err, OnOk, OnErr, IsTrue, refl, sym, ap, ◌∙◌, subst, eq-eqb, eqb-true}
 use Rattle.std.specs.Map.{lookup, remove_entry, keys_of}
 use Rattle.std.specs.List.{AllByRecursion, IsDistinct}
@@ -11,7 +11,7 @@ use Rattle.ados_data.specs.Place.{IsPlace}
 use Rattle.ados_volume.specs.steps.Places.{AreKnown, Drops}
 use Rattle.ados_volume.specs.steps.Listed.{AreListed}
 
--- what is found is a pair
+-- a found value belongs to a pair
 found_pair : {V : Type 0} (pairs : List (ℕ × V)) (key : ℕ) (v : V) → lookup (λ k. key == k) pairs ≡ Some v → Contains pairs (key, v)
 found_pair {V} pairs key v e =
     let h = Contains-lookup (λ k. key == k) pairs v e in
@@ -21,11 +21,11 @@ found_pair {V} pairs key v e =
 pub found_place : (pairs : List (ℕ × Place)) (file : ℕ) (place : Place) → lookup (λ k. file == k) pairs ≡ Some place → (image : List ℕ) → AreKnown image pairs → IsPlace image file place
 found_place pairs file place e image known = (known file place (found_pair pairs file place e)).place_is
 
--- and it is the entry that was told last, where it is the same
+-- so it is the entry listed last, if it equals the key
 pub found_last : (pairs : List (ℕ × ℕ)) (dir last key : ℕ) → lookup (λ k. dir == k) pairs ≡ Some last → IsTrue (last == key) → Contains pairs (dir, key)
 found_last pairs dir last key e same = subst (λ (k : ℕ). Contains pairs (dir, k)) (eqb-true last key same) (found_pair pairs dir last e)
 
--- what holds of each pair holds of each after a put of one of which it holds
+-- what holds for each pair still does after a put of one for which it holds
 module _ {V : Type 0} (Holds : ℕ → V → Type 0) where
   added : (cache : LruCache ℕ V) (key : ℕ) (value : V) → Holds key value → ((k : ℕ) (v : V) → Contains cache.entries (k, v) → Holds k v)
       → (k : ℕ) (v : V) → Contains (put_entries (λ a b. a == b) cache key value) (k, v) → Holds k v
@@ -43,11 +43,11 @@ module _ {V : Type 0} (Holds : ℕ → V → Type 0) where
   put_holds old key value new (Ok o) put stays this known = subst (λ (c : LruCache ℕ V). (k : ℕ) (v : V) → Contains c.entries (k, v) → Holds k v) (sym put) (added old key value this known)
   put_holds old key value new (Err e) put stays this known = subst (λ (c : LruCache ℕ V). (k : ℕ) (v : V) → Contains c.entries (k, v) → Holds k v) (sym stays) known
 
--- with no pairs there is none that is not an entry
+-- without pairs, all are entries
 pub none_listed : (image : List ℕ) (pairs : List (ℕ × ℕ)) → pairs ≡ [] → AreListed image pairs
 none_listed image pairs e dir key c = absurd (Contains-nil (dir, key) (subst (λ (xs : List (ℕ × ℕ)). Contains xs (dir, key)) e c))
 
--- a pair that was taken out is gone
+-- a removed pair is gone
 apart : (x f : ℕ) (place : Place) (pairs : List (ℕ × Place)) → AllByRecursion (λ y. (x == y) ≡ false) (keys_of pairs) → Contains pairs (f, place) → (x == f) ≡ false
 apart x f place [] all c = absurd (Contains-nil (f, place) c)
 apart x f place (g ∷ pairs) all c = elim (Contains-cons g pairs (f, place) c) [

@@ -1,4 +1,4 @@
--- What a change leaves of the places in files that are kept.
+-- Cached places in files after a change.
 use Rattle.std.proofs.Common.{◌≡◌, ◌≢◌, ℕ, zero, suc, ◌+◌, ◌-◌, ◌≤◌, inl, inr, List, [], ◌∷◌, ◌++◌, length, take, drop, replicate, slice_index, Contains, Option, Some, None, option_map, refl, sym, ap, ap₂, ◌∙◌, subst, arith, eq-eqb}
 use Rattle.std.proofs.lemmas.Bool.{ne_eqb, cases_eq}
 use Rattle.std.proofs.lemmas.List.{length-append, length-take, length-drop}
@@ -6,35 +6,35 @@ use Rattle.lru.proofs.Splits.{Contains-nil}
 use Rattle.adf_block.specs.declared.Format.{Format}
 use Rattle.adf_block.specs.declared.Format.TheVariants.{Ofs, Ffs}
 use Rattle.ados_name.specs.declared.Date3.{Date3}
-use Rattle.ados_data.specs.Cost.{data_count, extension_count}
+use Rattle.ados_model.specs.Tree.{data_count, extension_count, Content, Node, Tree, content_at, bytes_in as bytes_held, size_in, bytes_of, size_of}
 use Rattle.ados_data.specs.declared.place.Place.{Place}
-use Rattle.ados_data.specs.File.{LawfulFile, extension_blocks}
+use Rattle.ados_model.specs.File.{LawfulFile, extension_blocks}
 use Rattle.ados_data.specs.Place.{IsAmong}
-use Rattle.ados_tree.specs.Tree.{Content, Node, Tree, content_at, bytes_in as bytes_held, size_in, bytes_of, size_of}
-use Rattle.ados_tree.specs.Tree.Content.{File}
-use Rattle.ados_tree.specs.Keys.{HasFileKey}
-use Rattle.ados_tree.specs.Stands.{Stands}
-use Rattle.ados_tree.specs.Change.{changed, rewritten, written, grown, overlaid, without_archive}
-use Rattle.ados_tree.specs.NewBlocks.{KeepsRest}
-use Rattle.ados_tree.specs.Untold.{AgreeInFront}
-use Rattle.ados_tree.proofs.OneTree.{one_tree}
-use Rattle.ados_tree.proofs.Writable.{format_is}
+use Rattle.ados_model.specs.Tree.Content.{File}
+use Rattle.ados_model.specs.Keys.{HasFileKey}
+use Rattle.ados_model.specs.Stands.{Stands}
+use Rattle.ados_model.specs.Change.{changed, rewritten, written, grown, overlaid}
+use Rattle.ados_name.specs.Name.{without_archive}
+use Rattle.ados_change.specs.NewBlocks.{KeepsRest}
+use Rattle.ados_change.specs.Untold.{AgreeInFront}
+use Rattle.ados_model.proofs.OneTree.{one_tree}
+use Rattle.ados_change.proofs.Writable.{format_is}
 use Rattle.ados_change.proofs.Renewed.{bytes_in, file_writable}
 use Rattle.ados_volume.specs.steps.Places.{AreKnown, Drops, IsKnown}
 
--- with no fewer bytes a file has no fewer extension blocks
+-- a file with at least as many bytes has at least as many extension blocks
 more_extensions : (format : Format) (m n : ℕ) → m ≤ n → extension_count (data_count format m) ≤ extension_count (data_count format n)
 more_extensions Ofs m n l = omega (arith, l)
 more_extensions Ffs m n l = omega (arith, l)
 
--- how many it has
+-- the number of extension blocks of a file
 extensions_in : (image : List ℕ) (t : Tree) (s : Stands image t) (file : ℕ) (bytes : List ℕ) → HasFileKey image file → content_at t file ≡ Some (File bytes) → length (extension_blocks image file) ≡ extension_count (data_count t.format (length bytes))
 extensions_in image t s file bytes key e =
     let lawful : LawfulFile image file = (file_writable image file (t, s) key).lawful in
     let size = ap length (bytes_in image t s file key) ∙ ap (λ (o : Option Content). length (bytes_held o)) e in
     lawful.extensions_fit ∙ ap extension_count (lawful.data_fits ∙ ap₂ data_count (format_is image t s) size)
 
--- a list that agrees with another one, and is no shorter, has its places
+-- a list that agrees with another and is not shorter has its places
 among_agreed : (file : ℕ) (old new : List ℕ) (place : Place) → AgreeInFront old new → length old ≤ length new → IsAmong file old place → IsAmong file new place
 among_agreed file old new place agree longer p = record { within = omega (arith, p.within, longer); block_is = p.block_is ∙ go place.index p.within }
   where
@@ -42,7 +42,7 @@ among_agreed file old new place agree longer p = record { within = omega (arith,
     go zero l = refl
     go (suc q) l = sym (agree q (omega (arith, l)) (omega (arith, l, longer)))
 
--- a file of one tree is one of the other, with no fewer bytes
+-- a file of one tree is a file of the other, with at least as many bytes
 abbrev pub Lasts : Tree → Tree → ℕ → Type 0
 Lasts t u file = (bytes : List ℕ) → content_at t file ≡ Some (File bytes) → (more : List ℕ) × (content_at u file ≡ Some (File more)) × (length bytes ≤ length more)
 
@@ -54,7 +54,7 @@ lasts_same t u file same bytes e = (bytes, same ∙ e, omega arith)
 other_content : (t : Tree) (key : ℕ) (f : Node → Node) (file : ℕ) → file ≢ key → content_at (changed key f t) file ≡ content_at t file
 other_content t key f file n = rw (ne_eqb file key n) refl
 
--- a node is changed that holds the same as before
+-- a node changes, but not its content
 pub changed_last : (t : Tree) (key : ℕ) (f : Node → Node) → ((a : Node) → (f a).content ≡ a.content) → (file : ℕ) → Lasts t (changed key f t) file
 changed_last t key f same file = lasts_same t (changed key f t) file (elim (cases_eq file key) [
   | inl e ↦ ap (content_at (changed key f t)) e ∙ here ∙ ap (content_at t) (sym e)
@@ -71,11 +71,11 @@ changed_last t key f same file = lasts_same t (changed key f t) file (elim (case
 abbrev rewrite : Date3 → List ℕ → Node → Node
 rewrite moment bytes node = record node { content = File bytes; date = moment; protection = without_archive node.protection }
 
--- a file gets other bytes: each other one lasts
+-- a file gets other bytes: all other files last
 pub others_last : (t : Tree) (moment : Date3) (key : ℕ) (bytes : List ℕ) (file : ℕ) → file ≢ key → Lasts t (rewritten moment key bytes t) file
 others_last t moment key bytes file n = lasts_same t (rewritten moment key bytes t) file (other_content t key (rewrite moment bytes) file n)
 
--- and it too where they are no fewer
+-- that file lasts too if it has at least as many bytes as before
 pub rewritten_lasts : (t : Tree) (moment : Date3) (key : ℕ) (bytes : List ℕ) → ((was : List ℕ) → content_at t key ≡ Some (File was) → length was ≤ length bytes) → (file : ℕ) → Lasts t (rewritten moment key bytes t) file
 rewritten_lasts t moment key bytes l file = elim (cases_eq file key) [
   | inl e ↦ subst (λ (k : ℕ). Lasts t (rewritten moment key bytes t) k) (sym e) here
@@ -131,10 +131,10 @@ module _ (old new : List ℕ) (keeps : KeepsRest old new) (t u : Tree) (s : Stan
       (subst (λ (n : ℕ). n ≤ extension_count (data_count t.format (length more.0))) (sym before) (more_extensions t.format (length was.0) (length more.0) more.2)) in
       record { is_file = key; place_is = among_agreed file (extension_blocks old file) (extension_blocks new file) place (keeps.untold.file_ends file k.is_file key).extensions longer k.place_is }
 
-  -- where each file lasts, so does each place
+  -- if each file lasts, so does each place
   pub known_carried : (pairs : List (ℕ × Place)) → AreKnown old pairs → ((file : ℕ) → Lasts t u file) → AreKnown new pairs
   known_carried pairs h lasts file place c = known_stays file place (lasts file) (h file place c)
 
-  -- and where each but one does, so do the places in these
+  -- if each file but one lasts, so do the places in the others
   pub known_dropped : (pairs left : List (ℕ × Place)) (key : ℕ) → AreKnown old pairs → Drops pairs key left → ((file : ℕ) → file ≢ key → Lasts t u file) → AreKnown new left
   known_dropped pairs left key h drops lasts file place c = let d = drops file place c in known_stays file place (lasts file d.1) (h file place d.0)

@@ -1,5 +1,5 @@
--- Why `check` decides, then blank images, then what the image says of its tree, then what the caches keep through each change,
--- and the bound of free blocks.
+-- `check` decides; blank images; the description of a tree by its image; the caches through each change; and the bound
+-- of free blocks.
 pub mod Decided
 pub mod BlankRoot
 pub mod BlankMarks
@@ -16,3 +16,4 @@ pub mod Moved
 pub mod Kept
 pub mod Known
 pub mod Bounds
+pub mod Listed

@@ -1,26 +1,25 @@
--- What the chains, the files and the longs of an image say of its tree.
+-- The tree, in terms of the hash chains, files and longs of its image.
 use Rattle.std.proofs.Common.{◌≡◌, ℕ, zero, suc, ◌+◌, inl, inr, Bool, true, false, nat_eq, ◌==◌, List, [], ◌∷◌, ◌++◌, filter, map, find, Contains, Option, Some, None, IsSome, bytes_eq, refl, sym, ap, ◌∙◌, subst, arith, eq-eqb, zero-add}
 use Rattle.std.proofs.lemmas.Bool.{false≢true}
 use Rattle.std.proofs.lemmas.List.{append-nil}
 use Rattle.std.proofs.lemmas.List.Elements.{All-filter, All-contains, All-contains_itself, Contains-append_right}
 use Rattle.std.proofs.lemmas.Slice.Eq.{bytes_eq-Decides}
-use Rattle.ados_name.specs.Name.{upper, slot, Same, SameNameSameSlot}
+use Rattle.ados_name.specs.Name.{upper, slot, Same}
+use Rattle.ados_name.specs.Path.{SameNameSameSlot}
 use Rattle.adf_block.specs.Image.{long}
-use Rattle.adf_block.specs.Fields.{file_type}
+use Rattle.adf_block.specs.Layout.{file_type}
 use Rattle.ados_chain.specs.Chains.{InChains, LawfulChains, name_at, chains_from, entries_of}
-use Rattle.ados_chain.specs.Behind.{behind}
+use Rattle.ados_model.specs.Tree.{behind, Content, Node, Tree, root, content_at, entries, name_of}
 use Rattle.ados_chain.specs.Look.{FindsNamed, first_left}
-use Rattle.ados_chain.proofs.Lists.{Contains-here, Contains-later, Contains-cases, Contains-nil}
+use Rattle.ados_model.proofs.KeyLists.{Contains-here, Contains-later, Contains-cases, Contains-nil}
 use Rattle.ados_chain.proofs.Found.{listed_same}
 use Rattle.ados_chain.specs.declared.read.Next.TheVariants.{Entry}
 use Rattle.ados_chain.proofs.Order.{behind-later, chains_from-split, entry-in_chains, first-entry}
-use Rattle.ados_tree.specs.Tree.{Content, Node, Tree, root, content_at, entries, name_of}
-use Rattle.ados_tree.specs.Tree.Content.{Directory, File}
-use Rattle.ados_tree.specs.Stands.{Stands, in_slot, type_of}
-use Rattle.ados_tree.specs.Walk.{child_of, is_file, holds_file}
-use Rattle.ados_tree.specs.Change.{entries_after}
-use Rattle.ados_tree.proofs.Lists.{joined}
-use Rattle.ados_tree.proofs.Nodes.{some_in, content_in, entry_node, entries_by_slot, root_or_parent}
+use Rattle.ados_model.specs.Tree.Content.{Directory, File}
+use Rattle.ados_model.specs.Stands.{Stands, in_slot, type_of}
+use Rattle.ados_model.specs.Change.{child_of, is_file, holds_file, entries_after}
+use Rattle.ados_model.proofs.Lists.{joined}
+use Rattle.ados_model.proofs.Nodes.{some_in, content_in, entry_node, entries_by_slot, root_or_parent}
 use Rattle.ados_volume.proofs.Bridge.{lawful_chains, name_is}
 
 Contains-filter-in : (p : ℕ → Bool) (xs : List ℕ) (x : ℕ) → Contains xs x → p x ≡ true → Contains (filter p xs) x
@@ -34,7 +33,7 @@ Contains-filter-in p (y ∷ ys) x c e = go (p y) refl (λ m. Contains-filter-in 
 Contains-filter-out : (p : ℕ → Bool) (xs : List ℕ) (x : ℕ) → Contains (filter p xs) x → Contains xs x
 Contains-filter-out p xs x c = All-contains (Contains xs) (filter p xs) x (All-filter p (Contains xs) xs (All-contains_itself xs)) c
 
--- the only element of a list that passes is found
+-- `find` returns the only element that passes
 find_one : (p : ℕ → Bool) (xs : List ℕ) (x : ℕ) → Contains xs x → p x ≡ true → ((y : ℕ) → Contains xs y → p y ≡ true → y ≡ x) → find p xs ≡ Some x
 find_one p [] x c e one = absurd (Contains-nil x c)
 find_one p (y ∷ ys) x c e one = go (p y) refl (λ m. find_one p ys x m e (λ z n. one z (Contains-later y ys z n)))
@@ -51,7 +50,7 @@ find_none p (y ∷ ys) none = go (p y) refl (find_none p ys (λ z n. none z (Con
     go true h rest = absurd (none y (Contains-here y ys) h)
     go false h rest = rw h rest
 
--- lists joined in order are the chains from the first on
+-- concatenated lists are the chains from the first on
 joined-chains : (g : ℕ → List ℕ) (n : ℕ) → joined g n ≡ chains_from g 0 n
 unfolding joined chains_from
 joined-chains g zero = refl
@@ -63,7 +62,7 @@ joined-chains g (suc n) =
     ∙ sym (chains_from-split g 0 n 1)
     ∙ ap (chains_from g 0) more
 
--- what comes after a key is an entry
+-- what follows a key is an entry
 pub next_listed : (t : Tree) (dir key next : ℕ) → first_left (entries_after t dir key) ≡ Entry next → Contains (entries t dir) next
 next_listed t dir key next e =
     let f = first-entry (entries_after t dir key) next e in
@@ -92,18 +91,18 @@ module _ (image : List ℕ) (t : Tree) (s : Stands image t) where
   unfolding is_named
   named_from_same name key same = (bytes_eq-Decides (map upper (name_of t key)) (map upper name)).1 same
 
-  -- an entry of that name stands in the slot of the name
+  -- an entry with the name is in the name's slot
   in_own_slot : SameNameSameSlot → (dir key : ℕ) (name : List ℕ) → Contains (entries t dir) key → Same (name_of t key) name → Contains (in_slot t dir (slot name)) key
   in_own_slot law dir key name c same = Contains-filter-in (λ k. slot (name_of t k) == slot name) (entries t dir) key c (eq-eqb (slot (name_of t key)) (slot name) (law (name_of t key) name same))
 
-  -- the directory has a child of that name
+  -- the directory has a child with this name
   pub is_child : (dir key : ℕ) (name : List ℕ) → Contains (entries t dir) key → Same (name_of t key) name → child_of t dir name ≡ Some key
   unfolding is_named
   is_child dir key name c same =
       find_one (is_named name) (entries t dir) key c (named_from_same name key same)
       (λ y m e. s.proper.unlike dir y key m c (same_from_named name y e ∙ sym same))
 
-  -- it has none
+  -- the directory has no child with this name
   pub no_child : (dir : ℕ) (name : List ℕ) → ((key : ℕ) → Contains (entries t dir) key → ¬ Same (name_of t key) name) → child_of t dir name ≡ None
   unfolding is_named
   no_child dir name none = find_none (is_named name) (entries t dir) (λ y c e. none y c (same_from_named name y e))
@@ -124,7 +123,7 @@ module _ (image : List ℕ) (t : Tree) (s : Stands image t) where
   pub next_is : (dir key : ℕ) → first_left (behind key (dir ∷ entries_of (in_slot t dir))) ≡ first_left (entries_after t dir key)
   next_is dir key = ap (λ (keys : List ℕ). first_left (behind key (dir ∷ keys))) (entries_are dir)
 
-  -- an entry stands in one of the chains
+  -- an entry is in one of the hash chains
   pub listed_in_chains : (dir key : ℕ) → (keys : List ℕ) × (content_at t dir ≡ Some (Directory keys)) → Contains (entries t dir) key → (chains : ℕ → List ℕ) → LawfulChains image dir chains → InChains chains key
   listed_in_chains dir key directory c chains h =
       listed_same image dir key (in_slot t dir) chains (chains_of dir directory) h

@@ -1,16 +1,15 @@
--- What a new entry, one that is taken away and one that moves leave of the children that were found.
+-- Cached children after an entry is made, removed or moved.
 use Rattle.std.proofs.Common.{◌≡◌, ◌≢◌, ℕ, inl, inr, List, [], filter, not, ◌==◌, Contains, Option, Some, None, IsSome, option_map, refl, sym, ap, ◌∙◌, subst}
 use Rattle.std.specs.Option.{option_map_or}
 use Rattle.std.proofs.lemmas.Bool.{cases_eq}
-use Rattle.ados_chain.proofs.Lists.{Contains-nil}
+use Rattle.ados_model.proofs.KeyLists.{Contains-nil}
 use Rattle.ados_name.specs.declared.Date3.{Date3}
 use Rattle.ados_name.specs.Name.{Same, slot}
-use Rattle.ados_tree.specs.Tree.{Content, Node, Tree, Proper, content_at, entries, entries_in, name_in, name_of, parent_of}
-use Rattle.ados_tree.specs.Tree.Content.{Directory}
-use Rattle.ados_tree.specs.Stands.{Stands}
-use Rattle.ados_tree.specs.Walk.{child_of}
-use Rattle.ados_tree.specs.Change.{with_node, changed, listed, enter, entered, left, new_node, made, removed, renamed}
-use Rattle.ados_tree.proofs.Nodes.{content_in, directory_in, entry_node, parent_in}
+use Rattle.ados_model.specs.Tree.{Content, Node, Tree, Proper, content_at, entries, entries_in, name_in, name_of, parent_of}
+use Rattle.ados_model.specs.Tree.Content.{Directory}
+use Rattle.ados_model.specs.Stands.{Stands}
+use Rattle.ados_model.specs.Change.{child_of, with_node, changed, listed, enter, entered, left, new_node, made, removed, renamed}
+use Rattle.ados_model.proofs.Nodes.{content_in, directory_in, entry_node, parent_in}
 use Rattle.ados_change.proofs.Changed.{nodes_other, changed_keeps, listed_names, listed_here, listed_other}
 use Rattle.ados_change.proofs.Entering.{Contains-enter_kept, Contains-stays}
 use Rattle.ados_volume.specs.declared.cache.Sought.{Sought}
@@ -23,7 +22,7 @@ stays_on t u v dir k first second c = let a = first c in let b = second a.0 in (
 
 -- ---- the steps
 
--- another node is put in or taken out
+-- another node is added or removed
 beside_stays : (t : Tree) (key : ℕ) (o : Option Node) (dir k : ℕ) → dir ≢ key → k ≢ key → Stays t (with_node key o t) dir k
 beside_stays t key o dir k n m c = (
   subst (λ (a : Option Node). Contains (entries_in (option_map (λ node. node.content) a)) k) (sym (nodes_other key o t dir n)) c,
@@ -44,7 +43,7 @@ titled_stays t key name parent dir k m c = (
     same None = refl
     same (Some a) = refl
 
--- a directory gets a list in which the entry still stands
+-- a directory gets a list that still has the entry
 listed_stays : (t : Tree) (moment : Date3) (at : ℕ) (keys : List ℕ) (dir k : ℕ) → (dir ≡ at → Contains keys k) → Stays t (listed moment at keys t) dir k
 listed_stays t moment at keys dir k still c = (elim (cases_eq dir at) [ inl e ↦ here e | inr n ↦ subst (λ (ks : List ℕ). Contains ks k) (sym (listed_other moment at keys t dir n)) c ], listed_names moment at keys t k)
   where
@@ -100,10 +99,10 @@ renamed_stays t moment key at name dir k n =
     stays_on t out (entered moment at key moved) dir k (left_stays t moment key dir k n)
     (stays_on out moved (entered moment at key moved) dir k (titled_stays out key name at dir k n) (entered_stays moved moment at key dir k))
 
--- ---- the names that are kept
+-- ---- the cached names
 
 module _ (image : List ℕ) (t : Tree) (s : Stands image t) (key : ℕ) where
-  -- where the name of an object in its directory was taken out, no pair's child is that object
+  -- after its name in its directory was removed, no pair has that object
   pub forgets : (dir : ℕ) (name : List ℕ) → parent_of t key ≡ Some dir → name ≡ name_of t key → (d : ℕ) (n : List ℕ) → ¬ ((d ≡ dir) × Same n name) → child_of t d n ≢ Some key
   forgets dir name parent own d n gone e =
       let there = child_there t d key n e in
@@ -111,7 +110,7 @@ module _ (image : List ℕ) (t : Tree) (s : Stands image t) (key : ℕ) where
       let same : Same n name = sym (subst (λ (x : List ℕ). Same x n) (sym own) there.1) in
       gone (cc same_dir, same)
 
-  -- an object with no directory is no child
+  -- an object without a directory is no child
   pub no_child_here : parent_of t key ≡ None → (d : ℕ) (n : List ℕ) → child_of t d n ≢ Some key
   no_child_here parent d n e =
       let there = child_there t d key n e in
@@ -121,7 +120,7 @@ module _ (image : List ℕ) (t : Tree) (s : Stands image t) (key : ℕ) where
   pub has_parent : (dir : ℕ) → parent_of t key ≡ Some dir → IsSome (t.nodes key)
   has_parent dir e = let n = parent_in (t.nodes key) dir e in has_node image t s key n.0 n.1
 
--- where the object was forgotten, and each other entry stays, the pairs that are left are children
+-- if the object was removed from the cache and each other entry stays, the remaining pairs are children
 pub forgotten_carried : (old new : List ℕ) (t u : Tree) (s : Stands old t) (r : Stands new u) (key : ℕ) (old_pairs pairs : List (Sought × ℕ)) → AreChildren old old_pairs → Forgets old key old_pairs pairs
     → ((dir k : ℕ) → k ≢ key → Stays t u dir k) → ((x : Tree) × Stands new x) × AreChildren new pairs
 forgotten_carried old new t u s r key old_pairs pairs h forgotten stays = (

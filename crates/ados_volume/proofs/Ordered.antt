@@ -1,18 +1,17 @@
--- From which keys the order of a directory can be gone on.
+-- From which keys a directory can be listed further.
 use Rattle.std.proofs.Common.{◌≡◌, ◌≢◌, ℕ, inl, inr, Bool, true, false, cond, ◌==◌, List, [], ◌∷◌, Contains, Some, IsSome, refl, sym, ◌∙◌, subst, eq-eqb, eqb-true}
 use Rattle.std.proofs.lemmas.Bool.{false≢true}
-use Rattle.ados_chain.specs.Behind.{behind}
+use Rattle.ados_model.specs.Tree.{behind, Tree, entries}
 use Rattle.ados_chain.specs.Look.{first_left}
 use Rattle.ados_chain.specs.declared.read.Next.TheVariants.{Entry}
-use Rattle.ados_chain.proofs.Lists.{Contains-here, Contains-later, Contains-cases, Contains-nil}
-use Rattle.ados_tree.specs.Tree.{Tree, entries}
-use Rattle.ados_tree.specs.Stands.{Stands}
-use Rattle.ados_tree.specs.Change.{entries_after}
+use Rattle.ados_model.proofs.KeyLists.{Contains-here, Contains-later, Contains-cases, Contains-nil}
+use Rattle.ados_model.specs.Stands.{Stands}
+use Rattle.ados_model.specs.Change.{entries_after}
 use Rattle.ados_volume.specs.Order.{IsPlaceIn}
 use Rattle.ados_volume.specs.steps.Listed.{IsListed}
 use Rattle.ados_volume.proofs.Looking.{next_listed}
 
--- something stands behind a key, if only the end, exactly where it is in the list
+-- a key in the list is followed by something, or by the end
 behind-some : (xs : List ℕ) (key : ℕ) → Contains xs key → IsSome (behind key xs)
 behind-some [] key c = absurd (Contains-nil key c)
 behind-some (x ∷ xs) key c = go (x == key) refl (behind-some xs key)
@@ -29,19 +28,19 @@ some-behind (x ∷ xs) key s = go (x == key) refl s (some-behind xs key)
     go true e s rest = subst (Contains (x ∷ xs)) (eqb-true x key e) (Contains-here x xs)
     go false e s rest = Contains-later x xs key (rest s)
 
--- the directory's own key is a place in it
+-- the directory's own key
 pub own_place : (image : List ℕ) (dir : ℕ) → IsPlaceIn image dir dir
 own_place image dir t s = rw (eq-eqb dir dir refl) refl
 
--- an entry's key is one
+-- the key of an entry
 pub entry_place : (image : List ℕ) (dir key : ℕ) → IsListed image dir key → IsPlaceIn image dir key
 entry_place image dir key listed t s = behind-some (dir ∷ entries t dir) key (Contains-later dir (entries t dir) key (listed t s))
 
--- so is the key that was told as what comes after another one
+-- the key that a call returned as the next one
 pub told_place : (image : List ℕ) (dir last key : ℕ) → ((t : Tree) → Stands image t → Entry key ≡ first_left (entries_after t dir last)) → IsPlaceIn image dir key
 told_place image dir last key told = entry_place image dir key (λ t s. next_listed t dir last key (sym (told t s)))
 
--- and each place but the directory's own key is an entry's
+-- each such key other than the directory's own is an entry's
 pub place_listed : (image : List ℕ) (dir key : ℕ) → key ≢ dir → IsPlaceIn image dir key → IsListed image dir key
 place_listed image dir key other place t s = elim (Contains-cases dir (entries t dir) key (some-behind (dir ∷ entries t dir) key (place t s))) [
   | inl same ↦ absurd (other (sym same))

@@ -1,9 +1,10 @@
--- What a change of a file's bytes leaves of the children that were found, and what is shown of it.
+-- Cached children after a change of a file's bytes, and what contracts see of it.
 use Rattle.std.proofs.Common.{◌≡◌, ℕ, Bool, List, [], ◌∷◌, Some, Result, Ok, Err, IsErrAnd, MatchResult, option_map, refl, sym, ap, ◌∙◌}
 use Rattle.ados_name.specs.declared.Date3.{Date3}
-use Rattle.ados_tree.specs.Tree.{Node, Tree, content_at, entries_in, bytes_of}
-use Rattle.ados_tree.specs.Tree.Content.{File}
-use Rattle.ados_tree.specs.Change.{rewritten, written, overlaid, without_archive}
+use Rattle.ados_model.specs.Tree.{Node, Tree, content_at, entries_in, bytes_of}
+use Rattle.ados_model.specs.Tree.Content.{File}
+use Rattle.ados_model.specs.Change.{rewritten, written, overlaid}
+use Rattle.ados_name.specs.Name.{without_archive}
 use Rattle.ados_volume.specs.Shown.{Shown}
 use Rattle.ados_volume.proofs.Children.{AllStay, changed_stay}
 
@@ -18,11 +19,11 @@ module _ (t : Tree) (key : ℕ) (file : (bytes : List ℕ) × (content_at t key 
   written_stay pos [] dir k c = (c, refl)
   written_stay pos (b ∷ bs) dir k c = rewritten_stay (overlaid (bytes_of t key) pos (b ∷ bs)) dir k c
 
--- where the image is as it was, what is shown is too
+-- an unchanged image is seen unchanged
 pub still_shown : (old new : List ℕ) (validated : Bool) (shown : Shown) → record { image = old; was_validated = validated } ≡ shown → new ≡ old → record { image = new; was_validated = validated } ≡ shown
 still_shown old new validated shown v same = (λ i. record { image = same i; was_validated = validated }) ∙ v
 
--- an answer that is an error refuses
+-- an error is a refusal
 pub refuses : {T E : Type 0} (Done : T → Type 0) (Refused : Type 0) (r : Result T E) (fault : E) → IsErrAnd r (λ told. told ≡ fault) → Refused → MatchResult r Done (λ _. Refused)
 refuses Done Refused (Ok x) fault is why = absurd is
 refuses Done Refused (Err told) fault is why = why

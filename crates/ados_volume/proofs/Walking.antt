@@ -3,16 +3,16 @@ use Rattle.std.proofs.Common.{◌≡◌, ◌≢◌, ℕ, inl, inr, Bool, true, f
 use Rattle.std.proofs.lemmas.Bool.{false≢true, true≢false}
 use Rattle.adf_block.specs.Image.{long, block_count, root_key}
 use Rattle.ados_name.specs.Name.{IsName, Same}
-use Rattle.ados_chain.proofs.Lists.{Contains-here, Contains-later}
-use Rattle.ados_tree.specs.Tree.{Content, Node, Tree, content_at, entries, name_of, parent_of}
-use Rattle.ados_tree.specs.Tree.Content.{Directory, File}
-use Rattle.ados_tree.specs.Stands.{Stands}
-use Rattle.ados_tree.specs.Walk.{child_of, is_file, holds_file}
-use Rattle.ados_tree.proofs.Nodes.{some_in, entry_node, directory_node, root_or_parent}
-use Rattle.ados_tree.proofs.Standing.{root_is}
+use Rattle.ados_model.proofs.KeyLists.{Contains-here, Contains-later}
+use Rattle.ados_model.specs.Tree.{Content, Node, Tree, content_at, entries, name_of, parent_of}
+use Rattle.ados_model.specs.Tree.Content.{Directory, File}
+use Rattle.ados_model.specs.Stands.{Stands}
+use Rattle.ados_model.specs.Change.{child_of, is_file, holds_file}
+use Rattle.ados_model.proofs.Nodes.{some_in, entry_node, directory_node, root_or_parent}
+use Rattle.ados_model.proofs.Standing.{root_is}
 use Rattle.ados_volume.proofs.Looking.{no_child}
 
--- what is found is an element that passes
+-- the result of `find` is an element that passes
 pub find-is : (p : ℕ → Bool) (xs : List ℕ) (x : ℕ) → find p xs ≡ Some x → Contains xs x × (p x ≡ true)
 find-is p [] x e = absurd (cc e)
 find-is p (y ∷ ys) x e = go (p y) refl (λ m. find-is p ys x m)
@@ -25,7 +25,7 @@ module _ (image : List ℕ) (t : Tree) (s : Stands image t) where
   pub has_node : (key : ℕ) (node : Node) → t.nodes key ≡ Some node → IsSome (t.nodes key)
   has_node key node e = rw e refl
 
-  -- a node that is no file is a directory
+  -- a node other than a file is a directory
   pub directory_at : (key : ℕ) → IsSome (t.nodes key) → is_file t key ≡ false → (keys : List ℕ) × (content_at t key ≡ Some (Directory keys))
   directory_at key = go (t.nodes key)
     where
@@ -45,7 +45,7 @@ module _ (image : List ℕ) (t : Tree) (s : Stands image t) where
   pub parent_node : (key dir : ℕ) → parent_of t key ≡ Some dir → IsSome (t.nodes dir)
   parent_node key dir e = let n = directory_node t s.proper dir key ((s.proper.listed dir key).1 e) in has_node dir n.0 n.2
 
-  -- the parent of an entry stands in its long
+  -- the parent of an entry is in its parent long
   pub parent_is : (key v : ℕ) → IsSome (t.nodes key) → key ≢ root_key (block_count image) → v ≡ long image key 125 → Some v ≡ parent_of t key
   parent_is key v h other e =
       let n = some_in (t.nodes key) h in
@@ -56,7 +56,7 @@ module _ (image : List ℕ) (t : Tree) (s : Stands image t) where
             ap Some (e ∙ (s.entries key p.0 n.0 n.1 p.1).parent) ∙ sym own
       ]
 
-  -- no entry has the name that is none
+  -- no entry has a text that is not a name
   pub foreign_child : (dir : ℕ) (text : List ℕ) → ((name : List ℕ) → IsName name → ¬ Same name text) → child_of t dir text ≡ None
   foreign_child dir text foreign =
       no_child image t s dir text (λ key c same.

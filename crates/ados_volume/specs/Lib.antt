@@ -1,8 +1,7 @@
--- What a volume shows and tells; what only the calls inside speak of stands in steps.
+-- What contracts see of a volume, and the results of its calls. Definitions for steps are in `steps`.
 pub mod Shown
 pub mod Checked
-pub mod Examined
+pub use Rattle.ados_model.specs.Objects
 pub mod Order
-pub mod Info
 pub mod Refused
 pub mod steps

@@ -1,4 +1,5 @@
--- A step of a walk, what is kept of names and places, the entries that were told last, and the parts of a blank image.
+-- Definitions for steps: a step of a walk, the caches of names, places and listed entries, and the parts of a blank
+-- image.
 pub mod PathStep
 pub mod Cache
 pub mod Places

@@ -1,12 +1,13 @@
-//! A blank volume: an empty root in the middle, and the bitmap pages right behind it.
+//! A blank volume: an empty root in the middle, followed by the bitmap blocks.
 
 ghost use Rattle.std.specs.Prelude.{◌≡◌, ◌<◌, ◌+◌, ◌*◌, ℕ, length, IfOk, false};
-ghost use Rattle.adf_block.specs.Image.{IsImage, IsSize, block_count, byte_at, bytes_at, long, page_count, root_key};
-ghost use Rattle.adf_block.specs.Fields.{long_byte, kind_byte, first_page};
+ghost use Rattle.adf_block.specs.Whole.{IsImage};
+ghost use Rattle.adf_block.specs.Image.{IsSize, block_count, byte_at, bytes_at, long, page_count, root_key};
+ghost use Rattle.adf_block.specs.Layout.{long_byte, kind_byte, first_page, block_bytes};
 ghost use Rattle.adf_block.specs.Frame.{OnlyBlock, SameBut, Within};
 ghost use Rattle.ados_name.specs.Name.{IsName};
-ghost use Rattle.ados_tree.specs.Stands.{kind_bytes};
-ghost use Rattle.ados_tree.specs.Blank.{IsBlank};
+ghost use Rattle.ados_model.specs.Stands.{kind_bytes};
+ghost use Rattle.ados_model.specs.Blank.{IsBlank};
 ghost use Rattle.ados_volume.specs.steps.BlankParts.{IsBlankRoot, NamesBlank};
 
 use crate::cache::NameCache;
@@ -14,8 +15,8 @@ use crate::places::PlaceCache;
 use crate::told::ToldCache;
 use crate::volume::Volume;
 use adf_block::layout::{
-    BITMAP_FLAG, BITMAP_VALID, CREATION_DATE, DATE, DISK_DATE, FIRST_PAGE, HEADER_TYPE, NAME_BYTE,
-    PRIMARY_TYPE, ROOT_TYPE, SECONDARY_TYPE, SUM, TABLE_LONGS, TABLE_SIZE,
+    BITMAP_FLAG, BITMAP_VALID, BLOCK_BYTES, CREATION_DATE, DATE, DISK_DATE, FIRST_PAGE,
+    HEADER_TYPE, NAME_BYTE, PRIMARY_TYPE, ROOT_TYPE, SECONDARY_TYPE, SUM, TABLE_LONGS, TABLE_SIZE,
 };
 use adf_block::{Format, Image, page_count};
 use ados_change::{put_date, put_text};
@@ -23,8 +24,9 @@ use ados_map::rebuild;
 use ados_name::{Date3, Name};
 use std::alloc::{AllocError, Global};
 
-/// A volume with no directories and files, whose three dates are the moment. Its boot blocks hold the four bytes of the
-/// kind and zeros, so it cannot be booted from.
+/// Makes a volume without directories and files, of 16 to 101,602 blocks. Its three dates are `moment`.
+///
+/// Its boot blocks have the four bytes of the kind, then zeros. AmigaDOS does not boot from it.
 pub fn blank(
     alloc: Global,
     format: Format,
@@ -66,17 +68,17 @@ fn blank_image(
 /// An image of zeros.
 fn zero_image(alloc: Global, blocks: u32) -> Result<Image, AllocError>
     requires { IsSize blocks }
-    ensures whole { IfOk result (λ image. length image ≡ 512 * blocks) }
+    ensures whole { IfOk result (λ image. length image ≡ block_bytes * blocks) }
     ensures zero { IfOk result (λ image. (b i : ℕ) → byte_at image b i ≡ 0) }
 {
-    let bytes = vec![in alloc; 0_u8; 512 * blocks as usize]?;
+    let bytes = vec![in alloc; 0_u8; BLOCK_BYTES as usize * blocks as usize]?;
     let Ok(image) = Image::from_bytes(bytes) else {
         unreachable!()
     };
     Ok(image)
 }
 
-/// For each block whether it is the root or a page.
+/// Whether each block is the root or a bitmap block.
 fn named_blocks(alloc: Global, blocks: u32) -> Result<Vec<bool>, AllocError>
     requires { IsSize blocks }
     ensures { IfOk result (λ named. NamesBlank blocks named.items) }
@@ -90,7 +92,7 @@ fn named_blocks(alloc: Global, blocks: u32) -> Result<Vec<bool>, AllocError>
     Ok(named)
 }
 
-/// Puts the four bytes of the kind.
+/// Writes the four bytes of the kind: `DOS` and 0 (OFS) or 1 (FFS).
 fn put_kind(image: &mut Image, format: Format)
     ensures kind { bytes_at image.new 0 0 4 ≡ kind_bytes format }
     ensures rest { SameBut (Within 0 0 (kind_byte + 1)) image.old image.new }
@@ -103,9 +105,9 @@ fn put_kind(image: &mut Image, format: Format)
     image.put_bytes(0, 0, &[b'D', b'O', b'S', kind]);
 }
 
-/// Makes the root block, which is empty, the root of a blank volume.
+/// Turns the root block, which is empty, into the root of a blank volume.
 fn put_root(image: &mut Image, name: &Name, moment: Date3)
-    requires { (i : ℕ) → i < 512 → byte_at image.old (root_key (block_count image.old)) i ≡ 0 }
+    requires { (i : ℕ) → i < block_bytes → byte_at image.old (root_key (block_count image.old)) i ≡ 0 }
     ensures name { IsName name.now }
     ensures root { IsBlankRoot (block_count image.old) name.now moment image.new }
     ensures rest { OnlyBlock (root_key (block_count image.old)) image.old image.new }
@@ -124,7 +126,7 @@ fn put_root(image: &mut Image, name: &Name, moment: Date3)
     image.settle(root, SUM);
 }
 
-/// Names the blocks behind the root as the bitmap pages.
+/// Makes the blocks after the root the bitmap blocks.
 fn name_pages(image: &mut Image, root: u32)
     requires { root ≡ root_key (block_count image.old) }
     ensures named { (p : ℕ) → p < page_count (block_count image.old) → long image.new root (first_page + p) ≡ root + 1 + p }

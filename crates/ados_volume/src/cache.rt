@@ -1,4 +1,4 @@
-//! The children that were looked up last, so that the same name is not searched again.
+//! A cache of children that were found by name.
 
 ghost use Rattle.std.specs.Prelude.{◌≡◌, IfOk, IfSome, []};
 ghost use Rattle.ados_volume.specs.steps.Cache.{Adds, AddsNone, HasPair, Seeks, TakesOut};
@@ -8,10 +8,10 @@ use lru::LruCache;
 use std::alloc::{AllocError, Global};
 use std::num::NonZeroUsize;
 
-/// How many children are kept (this project's own choice).
+/// The number of children in the cache (this project's own choice).
 const KEPT_NAMES: usize = 256;
 
-/// A directory, and in upper case the name that is sought in it.
+/// A directory, and the name to find in it, in upper case.
 #[derive(Clone, Copy, PartialEq, Eq, Hash)]
 pub struct Sought {
     dir: u32,
@@ -19,7 +19,7 @@ pub struct Sought {
     letters: [u8; 30],
 }
 
-/// The keys of the children that were looked up last.
+/// The keys of the children found most recently.
 #[derive(Drop)]
 pub struct NameCache {
     pairs: LruCache<Sought, u32>,
@@ -34,7 +34,7 @@ impl NameCache {
         Ok(NameCache { pairs })
     }
 
-    /// The child that was found under this name or one that is the same.
+    /// The child cached under this name, or under one that is the same.
     pub fn get(&mut self, dir: u32, name: &Name) -> Option<u32>
         ensures found { IfSome result (λ key. HasPair self.old.pairs.entries dir name.now key) }
         ensures rest { AddsNone self.old.pairs.entries self.new.pairs.entries }
@@ -42,14 +42,14 @@ impl NameCache {
         self.pairs.get(&seek(dir, name)).copied()
     }
 
-    /// Keeps a child. Where its memory is refused, it is not kept.
+    /// Caches a child. If memory runs out, it is not cached.
     pub fn put(&mut self, dir: u32, name: &Name, key: u32)
         ensures { Adds self.old.pairs.entries dir name.now key self.new.pairs.entries }
     {
         let _ = self.pairs.put(seek(dir, name), key);
     }
 
-    /// Takes out the child of this name or one that is the same, if it is kept.
+    /// Removes the child with this name, or with one that is the same.
     pub fn take_out(&mut self, dir: u32, name: &Name)
         ensures { TakesOut self.old.pairs.entries dir name.now self.new.pairs.entries }
     {
@@ -58,7 +58,7 @@ impl NameCache {
     }
 }
 
-/// What is sought by a name in a directory.
+/// The key of the cache for a name in a directory.
 fn seek(dir: u32, name: &Name) -> Sought
     ensures { Seeks result dir name.now }
 {

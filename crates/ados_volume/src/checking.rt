@@ -1,4 +1,4 @@
-//! The volume of an image that was checked.
+//! The volume of an image that has to be checked.
 
 ghost use Rattle.ados_volume.specs.Checked.{Checks};
 
@@ -8,13 +8,14 @@ use crate::told::ToldCache;
 use crate::volume::Volume;
 use adf_block::Image;
 use ados_check::{Rejected, check_image};
-use ados_tree::{FaultKind, VolumeFault};
+use ados_model::{FaultKind, VolumeFault};
 use std::alloc::Global;
 
-/// The volume of an image that shows no fault. Every other image is handed back as it was, with a fault that it shows.
+/// Makes the volume of an image without faults. Any other image is returned unchanged, with one fault that it
+/// shows.
 ///
-/// Where the root says that the bitmap is valid, the volume's image is the one that was handed in; else the bitmap was
-/// written anew. `NoMemory` says that memory was refused before any change.
+/// The image is unchanged if its root says that the bitmap is valid; otherwise the bitmap is rebuilt. `NoMemory` means
+/// that memory ran out, before any change.
 pub fn check(alloc: Global, image: Image) -> Result<Volume, Rejected>
     ensures { Checks image result }
 {

@@ -1,23 +1,26 @@
-//! Changes of what a file holds.
+//! Changes of a file's bytes.
 
 ghost use Rattle.std.specs.Prelude.{◌≡◌, ◌<◌, ◌≤◌};
-ghost use Rattle.ados_tree.specs.Tree.{Tree, size_of};
-ghost use Rattle.ados_tree.specs.Stands.{Stands};
-ghost use Rattle.ados_tree.specs.Keys.{HasFileKey};
-ghost use Rattle.ados_tree.specs.Change.{shortened};
-ghost use Rattle.ados_tree.specs.NewBlocks.{KeepsRest, TakesNone};
+ghost use Rattle.ados_model.specs.Tree.{Tree, size_of};
+ghost use Rattle.ados_model.specs.Stands.{Stands};
+ghost use Rattle.ados_model.specs.Keys.{HasFileKey};
+ghost use Rattle.ados_model.specs.Change.{shortened};
+ghost use Rattle.ados_change.specs.NewBlocks.{KeepsRest, TakesNone};
 ghost use Rattle.ados_volume.specs.Refused.{GrowsOrRefuses, WritesOrRefuses};
 
 use crate::volume::Volume;
 use adf_block::layout::BOOT_BLOCKS;
 use ados_change::{cut, grow, write};
 use ados_data::place_at;
+use ados_model::Full;
 use ados_name::Date3;
-use ados_tree::Full;
 
 impl Volume {
-    /// Writes bytes over those of a file from byte `pos` on, which may reach past its end. The moment becomes the file's date
-    /// and the disk date, and the file's archive bit is cleared. With no bytes nothing changes.
+    /// Writes bytes into a file from byte `pos`, at most its size. The file grows if they reach past its end. No bytes
+    /// change nothing.
+    ///
+    /// The file's date and the disk date become `moment`, and the file's archive bit is cleared. `Full` (DOS error
+    /// 221) means that too few blocks are free; then nothing changes.
     pub fn write(&mut self, key: u32, pos: u64, bytes: &[u8], moment: Date3) -> Result<(), Full>
         requires file { HasFileKey self.old.image key }
         requires start { (t : Tree) → Stands self.old.image t → pos ≤ size_of t key }
@@ -39,8 +42,9 @@ impl Volume {
         Ok(())
     }
 
-    /// Keeps the front of a file, of this size. The moment becomes the file's date and the disk date, and the file's archive bit
-    /// is cleared. What stands in the blocks that are given back stays there.
+    /// Cuts a file to `size` bytes. The bytes of freed blocks are unchanged.
+    ///
+    /// The file's date and the disk date become `moment`, and the file's archive bit is cleared.
     pub fn cut(&mut self, key: u32, size: u32, moment: Date3)
         requires file { HasFileKey self.old.image key }
         requires shorter { (t : Tree) → Stands self.old.image t → size ≤ size_of t key }
@@ -54,8 +58,10 @@ impl Volume {
         self.free_from = BOOT_BLOCKS;
     }
 
-    /// Puts zeros behind the bytes of a file, up to this size. The moment becomes the file's date and the disk date, and the
-    /// file's archive bit is cleared.
+    /// Appends zeros to a file, up to `size` bytes.
+    ///
+    /// The file's date and the disk date become `moment`, and the file's archive bit is cleared. `Full` (DOS error
+    /// 221) means that too few blocks are free; then nothing changes.
     pub fn grow(&mut self, key: u32, size: u32, moment: Date3) -> Result<(), Full>
         requires file { HasFileKey self.old.image key }
         requires longer { (t : Tree) → Stands self.old.image t → size_of t key < size }

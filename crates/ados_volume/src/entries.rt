@@ -1,11 +1,11 @@
 //! Changes of a directory's entries.
 
 ghost use Rattle.std.specs.Prelude.{◌≡◌, [], MatchResult};
-ghost use Rattle.ados_tree.specs.Tree.{Tree};
-ghost use Rattle.ados_tree.specs.Stands.{Stands};
-ghost use Rattle.ados_tree.specs.Keys.{HasKey, HasTree};
-ghost use Rattle.ados_tree.specs.NewBlocks.{KeepsRest, TakesNone};
-ghost use Rattle.ados_tree.specs.Change.{removed, renamed};
+ghost use Rattle.ados_model.specs.Tree.{Tree};
+ghost use Rattle.ados_model.specs.Stands.{Stands};
+ghost use Rattle.ados_model.specs.Keys.{HasKey, HasTree};
+ghost use Rattle.ados_change.specs.NewBlocks.{KeepsRest, TakesNone};
+ghost use Rattle.ados_model.specs.Change.{removed, renamed};
 ghost use Rattle.ados_change.specs.Behind.{KeepsBehindName};
 ghost use Rattle.ados_change.specs.Conditions.{CanMake, CanRemove, CanRename};
 ghost use Rattle.ados_change.specs.Kinds.{Makes};
@@ -20,12 +20,15 @@ use crate::walk::parent_in;
 use adf_block::Image;
 use adf_block::layout::BOOT_BLOCKS;
 use ados_change::{NodeKind, create, remove, rename};
+use ados_model::Full;
 use ados_name::{Date3, Name};
-use ados_tree::Full;
 
 impl Volume {
-    /// Makes an entry with nothing in it, whose name no other entry of the directory has, and answers its key, the lowest free
-    /// block. The moment becomes its date, that of the directory and the disk date.
+    /// Makes an empty file or directory and returns its key, the lowest free block. No other entry of the directory
+    /// may have the name.
+    ///
+    /// The dates of the entry, of its directory and of the disk become `moment`. `Full` (DOS error 221) means that no
+    /// block is free; then nothing changes.
     pub fn create(
         &mut self,
         dir: u32,
@@ -44,8 +47,10 @@ impl Volume {
         Ok(key)
     }
 
-    /// Takes away a file, or a directory with no entries. What stands in the blocks that are given back stays there, but for some
-    /// fields of the entry's own. The moment becomes the date of the directory and the disk date.
+    /// Removes a file, or a directory without entries. The bytes of freed blocks are unchanged, except for some fields
+    /// of the entry's own block.
+    ///
+    /// The date of the directory and the disk date become `moment`.
     pub fn remove(&mut self, key: u32, moment: Date3)
         requires { (t : Tree) → Stands self.old.image t → CanRemove t key }
         ensures stands { (t : Tree) → Stands self.old.image t → Stands self.new.image (removed moment key t) }
@@ -59,8 +64,10 @@ impl Volume {
         self.free_from = BOOT_BLOCKS;
     }
 
-    /// Moves an entry into a directory, also its own, under a name. The moment becomes the date of both directories and the disk
-    /// date; the entry keeps its own. What stood behind a shorter name stays.
+    /// Moves an entry into a directory, possibly its own, under a name. Bytes of a longer old name after the new one
+    /// are unchanged.
+    ///
+    /// The dates of both directories and the disk date become `moment`. The entry keeps its date.
     pub fn rename(&mut self, key: u32, dir: u32, name: Name, moment: Date3)
         requires { (t : Tree) → Stands self.old.image t → CanRename t key dir name }
         ensures stands { (t : Tree) → Stands self.old.image t → Stands self.new.image (renamed moment key dir name t) }
@@ -75,7 +82,7 @@ impl Volume {
     }
 }
 
-/// Takes an object out of the names that are kept, and keeps no entry that was told last.
+/// Removes an object from the cache of names, and clears the cache of listed entries.
 fn forget(names: &mut NameCache, told: &mut ToldCache, image: &Image, key: u32)
     requires tree { HasTree image.now }
     requires key { HasKey image.now key }

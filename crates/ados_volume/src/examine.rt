@@ -1,23 +1,24 @@
-//! What is told of a directory or file.
+//! The description of a directory or file.
 
 ghost use Rattle.std.specs.Prelude.{◌≡◌, ◌<◌, ◌≤◌, ◌+◌, Some, length};
 ghost use Rattle.adf_block.specs.Image.{block_count, byte_at};
-ghost use Rattle.adf_block.specs.Fields.{text_at};
-ghost use Rattle.ados_tree.specs.Tree.{Node, Tree, cost_in, size_in};
-ghost use Rattle.ados_tree.specs.Stands.{Stands};
-ghost use Rattle.ados_tree.specs.Keys.{HasKey, HasTree};
-ghost use Rattle.ados_volume.specs.Examined.{entry_type, file_info};
+ghost use Rattle.adf_block.specs.Whole.{text_at};
+ghost use Rattle.adf_block.specs.Layout.{block_bytes};
+ghost use Rattle.ados_model.specs.Tree.{Node, Tree, cost_in, size_in};
+ghost use Rattle.ados_model.specs.Stands.{Stands};
+ghost use Rattle.ados_model.specs.Keys.{HasKey, HasTree};
+ghost use Rattle.ados_model.specs.Objects.{entry_type, file_info};
 
 use crate::look::is_file_in;
 use crate::volume::Volume;
 use adf_block::Image;
 use adf_block::layout::{COMMENT_BYTE, DATE, NAME_BYTE, PROTECTION, SIZE};
 use ados_data::blocks_of;
+use ados_model::FileInfo;
 use ados_name::{Comment, Date3, Name, Protect};
-use ados_packet::FileInfo;
 
 impl Volume {
-    /// What is told of the object of a key.
+    /// Describes the object of a key.
     pub fn examine(&self, key: u32) -> FileInfo
         requires { HasKey self.now.image key }
         ensures { (t : Tree) (node : Node) → Stands self.now.image t → t.nodes key ≡ Some node → result ≡ file_info t.format key node }
@@ -25,7 +26,7 @@ impl Volume {
         examine_in(self.image(), key)
     }
 
-    /// The bytes of a file, as `examine` tells them; 0 of a directory.
+    /// The size of a file in bytes, as in `examine`; 0 for a directory.
     pub fn size(&self, key: u32) -> u32
         requires { HasKey self.now.image key }
         ensures { (t : Tree) (node : Node) → Stands self.now.image t → t.nodes key ≡ Some node → result ≡ size_in (Some node.content) }
@@ -33,7 +34,7 @@ impl Volume {
         size_in(self.image(), key)
     }
 
-    /// The protection bits of an object, as `examine` tells them; 0 of the root.
+    /// The protection bits of an object, as in `examine`; 0 for the root.
     pub fn protection(&self, key: u32) -> Protect
         requires { HasKey self.now.image key }
         ensures { (t : Tree) (node : Node) → Stands self.now.image t → t.nodes key ≡ Some node → result.0 ≡ node.protection }
@@ -42,7 +43,7 @@ impl Volume {
     }
 }
 
-/// What is told of the object of a key.
+/// Describes the object of a key.
 fn examine_in(image: &Image, key: u32) -> FileInfo
     requires tree { HasTree image.now }
     requires key { HasKey image.now key }
@@ -61,7 +62,7 @@ fn examine_in(image: &Image, key: u32) -> FileInfo
     }
 }
 
-/// 1 of the root, 2 of a directory, -3 of a file.
+/// 1 for the root, 2 for a directory, -3 for a file.
 fn entry_type_in(image: &Image, key: u32) -> i32
     requires tree { HasTree image.now }
     requires key { HasKey image.now key }
@@ -76,7 +77,7 @@ fn entry_type_in(image: &Image, key: u32) -> i32
     }
 }
 
-/// The bytes of a file; 0 of a directory.
+/// The size of a file in bytes; 0 for a directory.
 fn size_in(image: &Image, key: u32) -> u32
     requires tree { HasTree image.now }
     requires key { HasKey image.now key }
@@ -89,7 +90,7 @@ fn size_in(image: &Image, key: u32) -> u32
     }
 }
 
-/// The blocks of an object of this size.
+/// The number of blocks of an object with this size.
 fn cost_in(image: &Image, key: u32, size: u32) -> u32
     requires tree { HasTree image.now }
     requires key { HasKey image.now key }
@@ -103,7 +104,7 @@ fn cost_in(image: &Image, key: u32, size: u32) -> u32
     }
 }
 
-/// The protection bits; 0 of the root.
+/// The protection bits; 0 for the root.
 fn protection_in(image: &Image, key: u32) -> Protect
     requires tree { HasTree image.now }
     requires key { HasKey image.now key }
@@ -116,7 +117,7 @@ fn protection_in(image: &Image, key: u32) -> Protect
     }
 }
 
-/// The date; of the root its own, not the disk's.
+/// The date of an object. For the root it is the root's own, not that of the disk.
 fn date_in(image: &Image, key: u32) -> Date3
     requires tree { HasTree image.now }
     requires key { HasKey image.now key }
@@ -141,7 +142,7 @@ pub fn name_in(image: &Image, key: u32) -> Name
     }
 }
 
-/// The comment; empty of the root.
+/// The comment; empty for the root.
 fn comment_in(image: &Image, key: u32) -> Comment
     requires tree { HasTree image.now }
     requires key { HasKey image.now key }
@@ -154,7 +155,7 @@ fn comment_in(image: &Image, key: u32) -> Comment
     }
 }
 
-/// A text as a comment.
+/// These bytes as a comment.
 fn comment_of(text: &[u8]) -> Comment
     requires { length text.now ≤ 79 }
     ensures { result ≡ text.now }
@@ -165,11 +166,11 @@ fn comment_of(text: &[u8]) -> Comment
     }
 }
 
-/// The text of a block behind the byte of its length.
+/// The text of a block after its length byte `at`.
 fn text_in(image: &Image, key: u32, at: u32) -> &[u8]
     requires inside { key < block_count image.now }
-    requires place { at < 512 }
-    requires room { at + 1 + byte_at image.now key at ≤ 512 }
+    requires place { at < block_bytes }
+    requires room { at + 1 + byte_at image.now key at ≤ block_bytes }
     ensures { result.now ≡ text_at image.now key at }
 {
     let start = at as usize + 1;

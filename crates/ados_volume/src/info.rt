@@ -1,25 +1,26 @@
-//! What a volume tells of itself.
+//! The description of a volume.
 
 ghost use Rattle.std.specs.Prelude.{◌≡◌};
-ghost use Rattle.ados_tree.specs.Tree.{Tree};
-ghost use Rattle.ados_tree.specs.Stands.{Stands};
-ghost use Rattle.ados_tree.specs.Keys.{HasTree};
-ghost use Rattle.ados_volume.specs.Info.{disk_info};
+ghost use Rattle.ados_model.specs.Tree.{Tree};
+ghost use Rattle.ados_model.specs.Stands.{Stands};
+ghost use Rattle.ados_model.specs.Keys.{HasTree};
+ghost use Rattle.ados_model.specs.Objects.{disk_info};
 
 use crate::volume::Volume;
 use adf_block::layout::{BOOT_BLOCKS, FFS_ROOM, OFS_ROOM};
 use adf_block::{Format, Image};
 use ados_map::count_free;
-use ados_packet::DiskInfo;
+use ados_model::DiskInfo;
 
-/// The state of a volume that is valid and may be written (AmigaDOS Technical Reference, InfoData).
+/// The state of a valid volume that can be written (AmigaDOS Technical Reference, InfoData).
 const VALID: u32 = 82;
 
-/// `DOS` and 0, as a long.
+/// `DOS` and a zero byte, as a long.
 const DOS: u32 = 0x444F_5300;
 
 impl Volume {
-    /// What DISK_INFO tells. Blocks that nothing names but that are not marked free count as used.
+    /// Describes the volume, as DISK_INFO returns it. A block that is marked used counts as used, even if no file or
+    /// directory has it.
     pub fn info(&self) -> DiskInfo
         ensures { (t : Tree) → Stands self.now.image t → result ≡ disk_info t }
     {
@@ -27,7 +28,7 @@ impl Volume {
     }
 }
 
-/// What an image tells of its tree.
+/// Describes the tree of an image.
 fn info_of(image: &Image) -> DiskInfo
     requires { HasTree image.now }
     ensures { (t : Tree) → Stands image.now t → result ≡ disk_info t }

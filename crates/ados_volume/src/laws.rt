@@ -1,7 +1,7 @@
-//! Laws over the definitions, each as the contract of a function that does nothing.
+//! Laws about the definitions. Each is the contract of a function that does nothing.
 ghost use Rattle.ados_volume.specs.Checked.{CheckDecides};
 
-/// But for want of memory, `check` answers Ok exactly where the image shows no fault, and then the volume's image stands for
+/// Unless memory runs out, `check` returns Ok exactly if the image shows no fault. The volume's image then represents
 /// exactly one tree.
 pub fn check_decides()
     ensures { CheckDecides }

@@ -1,4 +1,4 @@
-//! An OFS or FFS volume on an image: the tree of directories and files that the image stands for.
+//! An OFS or FFS volume on an image: the tree of directories and files that the image represents.
 #![tactic(auto)]
 
 mod blank_volume;
@@ -19,8 +19,7 @@ mod walk;
 pub use ados_chain::Next;
 pub use ados_change::NodeKind;
 pub use ados_check::Rejected;
-pub use ados_packet::{DiskInfo, FileInfo};
-pub use ados_tree::{FaultKind, Full, PlaceFault, VolumeFault, WalkFault};
+pub use ados_model::{DiskInfo, FaultKind, FileInfo, Full, PlaceFault, VolumeFault, WalkFault};
 pub use blank_volume::blank;
 pub use checking::check;
 pub use laws::check_decides;

@@ -1,12 +1,11 @@
-//! Looking into directories and files.
+//! Reads of directories and files.
 
 ghost use Rattle.std.specs.Prelude.{◌≡◌, ◌++◌, ◌-◌, IsTrue, min, take, drop, length};
 ghost use Rattle.std.specs.Bool.{IsFalse};
-ghost use Rattle.ados_tree.specs.Tree.{Tree, bytes_of, root};
-ghost use Rattle.ados_tree.specs.Stands.{Stands};
-ghost use Rattle.ados_tree.specs.Walk.{child_of, is_file};
-ghost use Rattle.ados_tree.specs.Change.{entries_after};
-ghost use Rattle.ados_tree.specs.Keys.{HasDirectory, HasFileKey, HasKey, HasTree};
+ghost use Rattle.ados_model.specs.Tree.{Tree, bytes_of, root};
+ghost use Rattle.ados_model.specs.Stands.{Stands};
+ghost use Rattle.ados_model.specs.Change.{child_of, is_file, entries_after};
+ghost use Rattle.ados_model.specs.Keys.{HasDirectory, HasFileKey, HasKey, HasTree};
 ghost use Rattle.ados_chain.specs.Look.{first_left};
 ghost use Rattle.ados_volume.specs.Order.{IsPlaceIn};
 ghost use Rattle.ados_volume.specs.steps.Listed.{AreListed};
@@ -29,7 +28,7 @@ impl Volume {
         self.image().root()
     }
 
-    /// The entry of a directory whose name is the same, in upper case. The entries that were found last are kept in a cache.
+    /// The entry of a directory with the same name, a to z in upper case. Entries found recently come from a cache.
     pub fn child(&mut self, dir: u32, name: &Name) -> Option<u32>
         requires { HasDirectory self.old.image dir }
         ensures child { (t : Tree) → Stands self.old.image t → result ≡ child_of t dir name.now }
@@ -45,7 +44,7 @@ impl Volume {
         found
     }
 
-    /// Whether the object of a key is a file, and not a directory.
+    /// Whether the object of a key is a file. Otherwise it is a directory.
     pub fn is_file(&self, key: u32) -> bool
         requires { HasKey self.now.image key }
         ensures file { (t : Tree) → Stands self.now.image t → result ≡ is_file t key }
@@ -55,9 +54,9 @@ impl Volume {
         is_file_in(self.image(), key)
     }
 
-    /// What comes after a key in the order of a directory: slot 0 to 71, and in a slot by chain.
+    /// What follows a key in the order of a directory: by slot from 0 to 71, then along each hash chain.
     ///
-    /// The directory's own key asks for the first entry. Any number may be asked.
+    /// The directory's own key asks for the first entry. `key` may be any number.
     pub fn next(&self, dir: u32, key: u32) -> Next
         requires { HasDirectory self.now.image dir }
         ensures { (t : Tree) → Stands self.now.image t → result ≡ first_left (entries_after t dir key) }
@@ -65,8 +64,7 @@ impl Volume {
         after(self.image(), dir, key)
     }
 
-    /// What comes after a key that is the directory's own or an entry's in it, as `next` says it, without going through a
-    /// chain to find the entry again.
+    /// `next` for a key that is the directory's own or an entry's. It does not search a hash chain for that entry.
     pub fn next_from(&self, dir: u32, key: u32) -> Next
         requires dir { HasDirectory self.now.image dir }
         requires place { IsPlaceIn self.now.image dir key }
@@ -75,8 +73,8 @@ impl Volume {
         next_at(self.image(), dir, key)
     }
 
-    /// What comes after a key, as `next` says it. The entry that was told last is kept of each of some directories, so that no
-    /// chain is gone through to find it again.
+    /// `next` with a cache: for some directories the volume remembers the last entry returned, and does not search a
+    /// hash chain for it.
     pub fn tell_next(&mut self, dir: u32, key: u32) -> Next
         requires { HasDirectory self.old.image dir }
         ensures next { (t : Tree) → Stands self.old.image t → result ≡ first_left (entries_after t dir key) }
@@ -89,8 +87,8 @@ impl Volume {
         next
     }
 
-    /// Copies the bytes of a file from byte `pos` on into the buffer, as many as are there and fit, and answers how many
-    /// these are. The rest of the buffer stays.
+    /// Copies bytes of a file from byte `pos` into the buffer, as many as exist and fit. It returns their number. The
+    /// rest of the buffer is unchanged.
     pub fn read(&self, key: u32, pos: u64, buffer: &mut [u8]) -> usize
         requires { HasFileKey self.now.image key }
         ensures count { (t : Tree) → Stands self.now.image t → result ≡ min (length buffer.old) (length (bytes_of t key) - pos) }
@@ -99,7 +97,7 @@ impl Volume {
         read_near(&self.image, key, self.places.of(key), pos, buffer)
     }
 
-    /// Does what `read` does, and keeps where it stands in the file: a call for what comes behind goes on from there.
+    /// `read` with a cache: the position in the file is remembered, and a call for later bytes starts there.
     pub fn read_on(&mut self, key: u32, pos: u64, buffer: &mut [u8]) -> usize
         requires { HasFileKey self.old.image key }
         ensures count { (t : Tree) → Stands self.old.image t → result ≡ min (length buffer.old) (length (bytes_of t key) - pos) }
@@ -112,7 +110,7 @@ impl Volume {
     }
 }
 
-/// What comes after a key in the order of a directory, where an entry of some directories is known already.
+/// What follows a key in the order of a directory. The cache has known entries of some directories.
 fn next_in(image: &Image, told: &ToldCache, dir: u32, key: u32) -> Next
     requires tree { HasTree image.now }
     requires dir { HasDirectory image.now dir }
@@ -126,7 +124,7 @@ fn next_in(image: &Image, told: &ToldCache, dir: u32, key: u32) -> Next
     }
 }
 
-/// What comes after a key that is the directory's own or an entry's in it.
+/// What follows a key that is the directory's own or an entry's.
 fn next_at(image: &Image, dir: u32, key: u32) -> Next
     requires tree { HasTree image.now }
     requires dir { HasDirectory image.now dir }
@@ -140,7 +138,7 @@ fn next_at(image: &Image, dir: u32, key: u32) -> Next
     }
 }
 
-/// The entry of a directory whose name is the same.
+/// The entry of a directory with the same name.
 fn child_in(image: &Image, dir: u32, name: &Name) -> Option<u32>
     requires tree { HasTree image.now }
     requires dir { HasDirectory image.now dir }

@@ -1,4 +1,4 @@
-//! Where the last calls stood in files, so that the next ones need not walk there again.
+//! A cache of positions in files, so that the next call need not walk from the header.
 
 ghost use Rattle.std.specs.Prelude.{◌≡◌, IfOk, List, ℕ, []};
 ghost use Rattle.ados_data.specs.Place.{IsPlace};
@@ -9,10 +9,10 @@ use lru::LruCache;
 use std::alloc::{AllocError, Global};
 use std::num::NonZeroUsize;
 
-/// How many files have a place that is kept (this project's own choice).
+/// The number of files in the cache (this project's own choice).
 const KEPT_PLACES: usize = 64;
 
-/// The places in the files that were read and written last, each by the file's key.
+/// The positions in the files read and written most recently, by the file's key.
 #[derive(Drop)]
 pub struct PlaceCache {
     places: LruCache<u32, Place>,
@@ -27,7 +27,7 @@ impl PlaceCache {
         Ok(PlaceCache { places })
     }
 
-    /// The place that is kept of a file, or else its header.
+    /// The cached place in a file, or its header.
     pub fn of(&self, file: u32) -> Place
         ensures { (image : List ℕ) → AreKnown image self.now.places.entries → IsPlace image file result }
     {
@@ -37,14 +37,14 @@ impl PlaceCache {
         }
     }
 
-    /// Keeps a place in a file. Where its memory is refused, it is not kept.
+    /// Caches a place in a file. If memory runs out, it is not cached.
     pub fn keep(&mut self, file: u32, place: Place)
         ensures { (image : List ℕ) → IsKnown image file place → AreKnown image self.old.places.entries → AreKnown image self.new.places.entries }
     {
         let _ = self.places.put(file, place);
     }
 
-    /// Drops the place in a file, if one is kept.
+    /// Removes the place in a file, if there is one.
     pub fn drop_of(&mut self, file: u32)
         ensures { Drops self.old.places.entries file self.new.places.entries }
     {
@@ -52,7 +52,7 @@ impl PlaceCache {
         let _ = self.places.pop(&file);
     }
 
-    /// Drops all.
+    /// Removes all places.
     pub fn clear(&mut self)
         ensures { self.new.places.entries ≡ [] }
     {

@@ -1,13 +1,13 @@
-//! Changes of what a volume tells of a directory or file, and of its own name.
+//! Changes of an object's metadata, and of the volume's name.
 
 ghost use Rattle.std.specs.Prelude.{◌≡◌, ◌+◌, length};
-ghost use Rattle.adf_block.specs.Fields.{long_byte, protection_long, comment_byte, date_long, name_byte};
-ghost use Rattle.ados_tree.specs.Tree.{Tree};
-ghost use Rattle.ados_tree.specs.Stands.{Stands};
-ghost use Rattle.ados_tree.specs.Keys.{HasEntryKey};
-ghost use Rattle.ados_tree.specs.Faults.{root_of};
-ghost use Rattle.ados_tree.specs.NewBlocks.{KeepsRest};
-ghost use Rattle.ados_tree.specs.Change.{disk_renamed, with_comment, with_date, with_protection};
+ghost use Rattle.adf_block.specs.Layout.{long_byte, protection_long, comment_byte, date_long, name_byte};
+ghost use Rattle.ados_model.specs.Tree.{Tree};
+ghost use Rattle.ados_model.specs.Stands.{Stands};
+ghost use Rattle.ados_model.specs.Keys.{HasEntryKey};
+ghost use Rattle.ados_model.specs.Faults.{root_of};
+ghost use Rattle.ados_change.specs.NewBlocks.{KeepsRest};
+ghost use Rattle.ados_model.specs.Change.{disk_renamed, with_comment, with_date, with_protection};
 ghost use Rattle.ados_change.specs.Places.{OnlyRestamped};
 
 use crate::volume::Volume;
@@ -15,8 +15,8 @@ use ados_change::{rename_disk, set_comment, set_date, set_protection};
 use ados_name::{Comment, Date3, Name, Protect};
 
 impl Volume {
-    /// Sets the protection bits of a directory or file. The disk date becomes the moment. But for these and the sums of both
-    /// blocks every byte stays.
+    /// Sets the protection bits of a directory or file. The disk date becomes `moment`. Only these fields and the
+    /// checksums of both blocks change.
     pub fn set_protect(&mut self, key: u32, bits: Protect, moment: Date3)
         requires { HasEntryKey self.old.image key }
         ensures stands { (t : Tree) → Stands self.old.image t → Stands self.new.image (with_protection moment key bits.0 t) }
@@ -27,8 +27,8 @@ impl Volume {
         set_protection(&mut self.image, key, bits, moment);
     }
 
-    /// Sets the comment of a directory or file. The disk date becomes the moment. But for these and the sums of both blocks
-    /// every byte stays, those behind a shorter comment too.
+    /// Sets the comment of a directory or file. The disk date becomes `moment`. Only these fields and the checksums of
+    /// both blocks change. Bytes of a longer old comment after the new one stay.
     pub fn set_comment(&mut self, key: u32, comment: Comment, moment: Date3)
         requires { HasEntryKey self.old.image key }
         ensures stands { (t : Tree) → Stands self.old.image t → Stands self.new.image (with_comment moment key comment t) }
@@ -39,8 +39,8 @@ impl Volume {
         set_comment(&mut self.image, key, &comment, moment);
     }
 
-    /// Sets the date of a directory or file. The disk date becomes the moment. But for these and the sums of both blocks every
-    /// byte stays.
+    /// Sets the date of a directory or file. The disk date becomes `moment`. Only these fields and the checksums of
+    /// both blocks change.
     pub fn set_date(&mut self, key: u32, date: Date3, moment: Date3)
         requires { HasEntryKey self.old.image key }
         ensures stands { (t : Tree) → Stands self.old.image t → Stands self.new.image (with_date moment key date t) }
@@ -51,8 +51,8 @@ impl Volume {
         set_date(&mut self.image, key, date, moment);
     }
 
-    /// Gives the volume another name. The disk date becomes the moment. But for these and the root's sum every byte stays, those
-    /// behind a shorter name too.
+    /// Sets the volume's name. The disk date becomes `moment`. Only these fields and the root's checksum change. Bytes
+    /// of a longer old name after the new one stay.
     pub fn rename_disk(&mut self, name: Name, moment: Date3)
         ensures stands { (t : Tree) → Stands self.old.image t → Stands self.new.image (disk_renamed moment name t) }
         ensures keeps { KeepsRest self.old.image self.new.image }

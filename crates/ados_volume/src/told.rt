@@ -1,4 +1,4 @@
-//! Which entries were told last, so that the next ones need not be sought through a chain.
+//! A cache of the entries listed last, so that the next call need not search a hash chain.
 
 ghost use Rattle.std.specs.Prelude.{◌≡◌, IfOk, IsTrue, List, ℕ, Contains, []};
 ghost use Rattle.ados_volume.specs.steps.Listed.{AreListed, IsListed};
@@ -7,10 +7,10 @@ use lru::LruCache;
 use std::alloc::{AllocError, Global};
 use std::num::NonZeroUsize;
 
-/// How many directories have an entry that is kept (this project's own choice).
+/// The number of directories in the cache (this project's own choice).
 const KEPT_TOLD: usize = 64;
 
-/// The entries that were told last, one of each directory, by the directory's key.
+/// The entry listed last, by its directory's key.
 #[derive(Drop)]
 pub struct ToldCache {
     entries: LruCache<u32, u32>,
@@ -25,7 +25,7 @@ impl ToldCache {
         Ok(ToldCache { entries })
     }
 
-    /// Whether this entry is the one that was told last of the directory.
+    /// Whether this entry was the last one listed of the directory.
     pub fn is_last(&self, dir: u32, key: u32) -> bool
         ensures { IsTrue result → Contains self.now.entries.entries (dir, key) }
     {
@@ -35,14 +35,14 @@ impl ToldCache {
         }
     }
 
-    /// Keeps an entry of a directory. Where its memory is refused, it is not kept.
+    /// Caches an entry of a directory. If memory runs out, it is not cached.
     pub fn keep(&mut self, dir: u32, key: u32)
         ensures { (image : List ℕ) → IsListed image dir key → AreListed image self.old.entries.entries → AreListed image self.new.entries.entries }
     {
         let _ = self.entries.put(dir, key);
     }
 
-    /// Drops all.
+    /// Removes all entries.
     pub fn clear(&mut self)
         ensures { self.new.entries.entries ≡ [] }
     {

@@ -1,8 +1,8 @@
-//! The volume: an image that stands for a tree.
+//! The volume: an image that represents a tree.
 
 ghost use Rattle.std.specs.Prelude.{◌≡◌, []};
-ghost use Rattle.ados_tree.specs.Tree.{Tree};
-ghost use Rattle.ados_tree.specs.Stands.{Stands};
+ghost use Rattle.ados_model.specs.Tree.{Tree};
+ghost use Rattle.ados_model.specs.Stands.{Stands};
 
 use crate::cache::NameCache;
 use crate::places::PlaceCache;
@@ -11,9 +11,10 @@ use adf_block::Image;
 use adf_block::layout::BOOT_BLOCKS;
 use std::marker::Model;
 
-/// A volume whose image stands for one tree, by `one_tree` of `ados_tree`. Contracts see the image and whether its
-/// bitmap was rebuilt, and speak of that tree. Which names and places in files are kept, which entries were told last and where
-/// free blocks are sought they do not see.
+/// A volume. Its image represents exactly one tree, by `one_tree` of `ados_model`.
+///
+/// Contracts see the image and whether its bitmap was rebuilt, and are about that tree. They do not see the caches or
+/// the start of the search for free blocks.
 #[derive(Drop)]
 pub struct Volume {
     pub(crate) image: Image,
@@ -21,13 +22,13 @@ pub struct Volume {
     pub(crate) names: NameCache,
     pub(crate) places: PlaceCache,
     pub(crate) told: ToldCache,
-    /// No block below it is free.
+    /// No block below this one is free.
     pub(crate) free_from: u32,
 }
 
 impl Model for Volume {
-    ghost use Rattle.ados_tree.specs.Tree.{Tree};
-    ghost use Rattle.ados_tree.specs.Stands.{Stands};
+    ghost use Rattle.ados_model.specs.Tree.{Tree};
+    ghost use Rattle.ados_model.specs.Stands.{Stands};
     ghost use Rattle.ados_map.specs.Pages.{NoneFreeBelow};
     ghost use Rattle.ados_volume.specs.steps.Cache.{AreChildren};
     ghost use Rattle.ados_volume.specs.steps.Places.{AreKnown};
@@ -42,7 +43,7 @@ impl Model for Volume {
 }
 
 impl Volume {
-    /// The volume of an image that stands for a tree, of which nothing is kept.
+    /// The volume of an image that represents a tree, with empty caches.
     pub(crate) fn standing(
         image: Image,
         was_validated: bool,
@@ -75,7 +76,7 @@ impl Volume {
         &self.image
     }
 
-    /// The image, when the volume is no longer wanted.
+    /// The image. The volume is consumed.
     pub fn into_image(self) -> Image
         ensures same { result ≡ self.image }
         ensures stands { (t : Tree) × Stands self.image t }
@@ -83,7 +84,7 @@ impl Volume {
         self.image
     }
 
-    /// Whether the bitmap of the image that was checked was not valid, and so was rebuilt.
+    /// Whether `check` found the bitmap invalid and rebuilt it.
     pub fn was_validated(&self) -> bool
         ensures { result ≡ self.now.was_validated }
     {

@@ -1,23 +1,25 @@
-//! Where paths lead.
+//! Walks along paths.
 
 ghost use Rattle.std.specs.Prelude.{◌≡◌, IfOk, IfSome, option_map, List, ℕ};
 ghost use Rattle.ados_name.specs.StepView.{step_of};
-ghost use Rattle.ados_tree.specs.Tree.{Tree, parent_of};
-ghost use Rattle.ados_tree.specs.Stands.{Stands};
-ghost use Rattle.ados_tree.specs.Walk.{child_of, fault_of_walk, missing_before, place, start_of, step_from, walk, walk_steps};
-ghost use Rattle.ados_tree.specs.declared.path_fault.WalkFault.{WalkFault};
-ghost use Rattle.ados_tree.specs.Keys.{HasDirectory, HasKey, HasTree};
+ghost use Rattle.ados_model.specs.Tree.{Tree, parent_of};
+ghost use Rattle.ados_model.specs.Stands.{Stands};
+ghost use Rattle.ados_model.specs.Change.{child_of, fault_of_walk, missing_before, place, start_of, step_from, walk, walk_steps};
+ghost use Rattle.ados_model.specs.declared.dos_error.WalkFault.{WalkFault};
+ghost use Rattle.ados_model.specs.Keys.{HasDirectory, HasKey, HasTree};
 ghost use Rattle.ados_volume.specs.steps.PathStep.{found_or};
 
 use crate::look::is_file_in;
 use crate::volume::Volume;
 use adf_block::Image;
 use adf_block::layout::PARENT;
+use ados_model::{PlaceFault, WalkFault};
 use ados_name::{Name, PathSteps, PathText, Step};
-use ados_tree::{PlaceFault, WalkFault};
 
 impl Volume {
-    /// The object of a path, walked from the object of a key; a path with a `:` is walked from the root.
+    /// The object at the end of a path. The path starts at the object `start`, or at the root if it has a `:`.
+    ///
+    /// Errors have the DOS numbers 204, 205 and 212.
     pub fn walk(&mut self, start: u32, path: &PathText) -> Result<u32, WalkFault>
         requires { HasKey self.old.image start }
         ensures walk { (t : Tree) → Stands self.old.image t → result ≡ walk t start path.now }
@@ -28,7 +30,9 @@ impl Volume {
         self.walk_steps(start, path.steps(), WalkFault::ObjectNotFound)
     }
 
-    /// The place that a path names: the directory to which its front leads, and its last name.
+    /// The place that a path names: the directory at the end of its prefix, and its last name.
+    ///
+    /// Errors have the DOS numbers 204, 205, 210 and 212.
     pub fn place(&mut self, start: u32, path: &PathText) -> Result<(u32, Name), PlaceFault>
         requires { HasKey self.old.image start }
         ensures place { (t : Tree) → Stands self.old.image t → result ≡ place t start path.now }
@@ -50,7 +54,7 @@ impl Volume {
         }
     }
 
-    /// The directory that holds an object; the root has none.
+    /// The directory of an object; `None` for the root.
     pub fn parent(&self, key: u32) -> Option<u32>
         requires { HasKey self.now.image key }
         ensures parent { (t : Tree) → Stands self.now.image t → result ≡ parent_of t key }
@@ -59,7 +63,7 @@ impl Volume {
         parent_in(self.image(), key)
     }
 
-    /// Where a path starts.
+    /// The start of a path.
     fn start_of(&self, start: u32, path: &PathText) -> u32
         requires { HasKey self.now.image start }
         ensures start { (t : Tree) → Stands self.now.image t → result ≡ start_of t start path.now }
@@ -72,7 +76,7 @@ impl Volume {
         }
     }
 
-    /// The steps from a key, one after another. A missing child is the fault `last` at the last step.
+    /// Walks the steps from a key. At the last step, a missing child is the fault `last`.
     fn walk_steps(
         &mut self,
         start: u32,
@@ -94,7 +98,7 @@ impl Volume {
         Ok(key)
     }
 
-    /// One step; `None` where there is no such child.
+    /// Makes one step. `None` means that there is no such child.
     fn step_from(&mut self, key: u32, step: Step<'_>) -> Result<Option<u32>, WalkFault>
         requires { HasKey self.old.image key }
         ensures step { (t : Tree) (missing : WalkFault) → Stands self.old.image t → found_or result missing ≡ step_from t key (step_of step.entry) missing }
@@ -115,7 +119,7 @@ impl Volume {
         }
     }
 
-    /// The child of a name that need not be a valid one.
+    /// The child with this name, which need not be a valid name.
     fn child_named(&mut self, dir: u32, name: &[u8]) -> Option<u32>
         requires { HasDirectory self.old.image dir }
         ensures child { (t : Tree) → Stands self.old.image t → result ≡ child_of t dir name.now }
@@ -128,7 +132,7 @@ impl Volume {
     }
 }
 
-/// The directory that holds an object; the root has none.
+/// The directory of an object; `None` for the root.
 pub fn parent_in(image: &Image, key: u32) -> Option<u32>
     requires tree { HasTree image.now }
     requires key { HasKey image.now key }
@@ -141,7 +145,7 @@ pub fn parent_in(image: &Image, key: u32) -> Option<u32>
     }
 }
 
-/// The fault of a step to a child that is missing, by the steps behind it.
+/// The fault of a missing child, by the steps after it.
 fn missing_before(mut steps: PathSteps<'_>, last: WalkFault) -> WalkFault
     ensures { result ≡ missing_before steps.entry last }
 {
@@ -151,7 +155,7 @@ fn missing_before(mut steps: PathSteps<'_>, last: WalkFault) -> WalkFault
     }
 }
 
-/// A fault of a walk, as one of a place.
+/// A fault of a walk, as a fault of a place.
 fn place_fault(fault: WalkFault) -> PlaceFault
     ensures { result ≡ fault_of_walk fault }
 {

@@ -1,2 +1,2 @@
--- A server that answers each number with itself, which the round trips are made with.
+-- The server of the round trips, which answers each number with itself.
 pub mod Echoes

@@ -1,5 +1,6 @@
-//! Times what its first argument names: round trips through a port by clients on threads of their own, or packets as steps
-//! of a port on one thread. The scripts in `bench/`, at the top of the repository, run it and say what it prints.
+//! Times what its first argument names: round trips through a port by clients, each on its own thread, or packets as
+//! steps of a port on one thread. The scripts in `bench/`, at the top of the repository, run it and describe its
+//! output.
 #![tactic(auto)]
 
 mod packets;
@@ -8,14 +9,14 @@ mod port;
 use anyhow::{Result, bail};
 use std::env;
 
-/// What the arguments may be. `all` times each thing, with the counts that are taken where no argument gives another.
+/// The possible arguments. `all` times everything; a count without an argument has its default.
 const USAGE: &str =
     "usage: bench port [TRIPS] | idle [TRIPS] | packets [ROUNDS [LOCKS [ENTRIES]]] | all";
 
-/// How many numbers may follow the first argument.
+/// The maximum number of numbers after the first argument.
 const NUMBERS: usize = 3;
 
-/// What is timed.
+/// The things to time.
 #[derive(Copy, Clone)]
 enum Timed {
     Port,
@@ -24,7 +25,7 @@ enum Timed {
     All,
 }
 
-/// What an argument says is timed.
+/// The thing to time, by its argument.
 fn named(argument: Option<&str>) -> Option<Timed> {
     match argument {
         Some("port") => Some(Timed::Port),
@@ -35,21 +36,18 @@ fn named(argument: Option<&str>) -> Option<Timed> {
     }
 }
 
-/// The number that an argument is, where there is one.
-fn number(argument: Option<String>) -> Result<Option<u32>> {
-    match argument {
-        Some(argument) => Ok(Some(argument.as_str().parse::<u32>()?)),
-        None => Ok(None),
-    }
+/// The number that an argument spells, if it spells one.
+fn number(argument: Option<String>) -> Option<u32> {
+    argument?.as_str().parse().ok()
 }
 
-/// What the arguments say is timed, and the numbers that follow.
+/// The thing to time, and the numbers after it.
 fn arguments(rt: &HostRuntime) -> Result<(Option<Timed>, [Option<u32>; NUMBERS])> {
     let mut arguments = env::args(rt)?.skip(1);
     let timed = named(arguments.next().as_deref());
     let mut numbers = [None; NUMBERS];
     for place in numbers.iter_mut() {
-        *place = number(arguments.next())?;
+        *place = number(arguments.next());
     }
     Ok((timed, numbers))
 }

@@ -1,4 +1,5 @@
-//! Times round trips through a port: each client puts a number and takes its reply before the next, at once or after a second.
+//! Times round trips through a port: each client puts a number and takes its reply before the next one, at once or
+//! after a second.
 ghost use Rattle.std.specs.Prelude.{◌≡◌, ◌==◌, ◌||◌, ◌<◌, false, IfOk, length};
 ghost use Rattle.ados_port.specs.Grown.{Grown};
 
@@ -11,15 +12,15 @@ use std::sync::atomic::AtomicU64;
 use std::thread::Threads;
 use std::time::{Duration, Instant};
 
-/// How many round trips each client makes where no argument says.
+/// The default number of round trips of each client.
 pub(crate) const TRIPS: u32 = 1_000;
 
-/// How many each idle client makes, and how many of those there are.
+/// The number of round trips of each idle client, and the number of idle clients.
 pub(crate) const IDLE_TRIPS: u32 = 1;
 
 const IDLE_CLIENTS: usize = 8;
 
-/// The places of a client's ring of replies.
+/// The number of places in a client's reply ring.
 const RING: usize = 8;
 
 /// Answers each number with itself, and dies at 0.
@@ -63,7 +64,7 @@ impl Server for Echo {
     ghost closes_dead = { λ old new request moment reply given closing. closes old.died new.died request reply given.0 given.1 closing };
 }
 
-/// Makes round trips, and waits so many seconds before each.
+/// Makes round trips, and waits this many seconds before each.
 #[derive(Drop)]
 struct RoundTrips {
     count: u64,
@@ -75,7 +76,7 @@ impl Client<Echo> for RoundTrips {
 
     ghost does = { λ job old new report. Unit {0} };
 
-    /// Returns how many replies were right.
+    /// Returns the number of right replies.
     fn run<R: Wait>(self, rt: &R, end: &mut ClientEnd<Echo>) -> u64 {
         let mut right = 0u64;
         for number in 0..self.count {
@@ -88,7 +89,7 @@ impl Client<Echo> for RoundTrips {
     }
 }
 
-/// Waits for so many seconds.
+/// Waits for this many seconds.
 fn pause<R: Wait>(rt: &R, seconds: u64) {
     if seconds > 0 {
         AtomicU64::new(0).park_timeout(rt, 0, Duration::from_secs(seconds));
@@ -115,7 +116,7 @@ fn take_one<R: Wait>(rt: &R, end: &mut ClientEnd<Echo>, number: u64) -> bool
     }
 }
 
-/// The jobs of so many clients.
+/// The jobs of this many clients.
 fn jobs(
     alloc: Global,
     clients: usize,
@@ -134,27 +135,29 @@ fn jobs(
     Ok(jobs)
 }
 
-/// Lets so many clients make round trips, and returns how many replies were right.
+/// Lets this many clients make round trips, and returns the number of right replies.
 fn round_trips<R: Threads + Wait + Copy + Send + Drop + 'static>(
     rt: &R,
     alloc: Global,
     clients: usize,
     trips: u64,
     pause: u64,
-) -> Result<u64>
+) -> Option<u64>
     requires { 0 < clients }
 {
-    let jobs = jobs(alloc, clients, trips, pause)?;
     let Ok((handler, ends)) = open_port(alloc, Echo { died: false }, clients, RING) else {
-        bail!("no port");
+        return None;
+    };
+    let Ok(jobs) = jobs(alloc, clients, trips, pause) else {
+        return None;
     };
     let Ok(served) = serve_clients(rt, alloc, handler, ends, jobs, 0) else {
-        bail!("a fault");
+        return None;
     };
-    Ok(sum(&served.reports))
+    Some(sum(&served.reports))
 }
 
-/// How many replies were right in all.
+/// The total number of right replies.
 fn sum(reports: &[u64]) -> u64 {
     let mut right = 0u64;
     for report in reports.iter() {
@@ -163,56 +166,53 @@ fn sum(reports: &[u64]) -> u64 {
     right
 }
 
-/// How many replies of so many clients were right, and the microseconds of their round trips, the opening of the port and
-/// the starts of the threads among them.
-fn timed<R: Threads + Wait + Clock + Copy + Send + Drop + 'static>(
+/// Lets this many clients make round trips, and prints the number of right replies. Their time goes to standard error,
+/// since it differs each time: milliseconds if they pause, else round trips a second. It includes opening the port and
+/// starting the threads.
+fn print_trips<R: Threads + Wait + Clock + Print + Eprint + Copy + Send + Drop + 'static>(
     rt: &R,
     alloc: Global,
     clients: usize,
     trips: u64,
     pause: u64,
-) -> Result<(u64, u128)>
+) -> Result<()>
     requires { 0 < clients }
 {
     let start = Instant::now(rt)?;
-    let right = round_trips(rt, alloc, clients, trips, pause)?;
+    let Some(right) = round_trips(rt, alloc, clients, trips, pause) else {
+        bail!("no memory or no thread");
+    };
     let micros = start.elapsed(rt)?.as_micros();
-    Ok((right, micros))
-}
-
-/// Prints how many replies were right. The figure goes to standard error, since it differs each time.
-fn print<R: Print + Eprint>(
-    rt: &R,
-    what: &str,
-    clients: usize,
-    right: u64,
-    figure: u128,
-) -> Result<()> {
+    let (what, figure) = if pause > 0 {
+        ("idle", micros / 1_000)
+    } else {
+        (
+            "port",
+            (right as u128).wrapping_mul(1_000_000) / micros.max(1),
+        )
+    };
     eprintln!(rt; "{what} {clients} {figure}")?;
     println!(rt; "{what} {clients}: {right} right replies")?;
     Ok(())
 }
 
-/// Prints the round trips a second of 1, 2, 4 and 8 clients that each make so many.
+/// Times 1, 2, 4 and 8 clients that each make this many round trips.
 pub(crate) fn time<R: Threads + Wait + Clock + Print + Eprint + Copy + Send + Drop + 'static>(
     rt: &R,
     alloc: Global,
     trips: u32,
 ) -> Result<()> {
     for clients in [1usize, 2, 4, 8] {
-        let (right, micros) = timed(rt, alloc, clients, trips as u64, 0)?;
-        let a_second = (right as u128).wrapping_mul(1_000_000) / micros.max(1);
-        print(rt, "port", clients, right, a_second)?;
+        print_trips(rt, alloc, clients, trips as u64, 0)?;
     }
     Ok(())
 }
 
-/// Prints the milliseconds of 8 clients that each wait a second before each of so many round trips.
+/// Times 8 clients that each wait a second before each of this many round trips.
 pub(crate) fn time_idle<R: Threads + Wait + Clock + Print + Eprint + Copy + Send + Drop + 'static>(
     rt: &R,
     alloc: Global,
     trips: u32,
 ) -> Result<()> {
-    let (right, micros) = timed(rt, alloc, IDLE_CLIENTS, trips as u64, 1)?;
-    print(rt, "idle", IDLE_CLIENTS, right, micros / 1_000)
+    print_trips(rt, alloc, IDLE_CLIENTS, trips as u64, 1)
 }

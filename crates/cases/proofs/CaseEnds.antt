@@ -1,4 +1,4 @@
--- One end of a port that changed stands for the same client.
+-- After a change of one end of a port, it is still an end of the same client.
 use Rattle.std.proofs.Common.{◌≡◌, ◌≢◌, ℕ, ◌<◌, List, length, set, Some, slice_get, sym, refl, ap, ◌∙◌, subst}
 use Rattle.std.proofs.lemmas.List.{length-set}
 use Rattle.std.proofs.lemmas.Option.{slice_get_read}
@@ -23,12 +23,12 @@ module _ {S Q M A : Type 0} where
         (λ (other : j ≢ k). ends.1 j c (sym (get_set_other cs k j n other) ∙ here)),
   )
 
-  -- .. by a put
+  -- after a put
   pub ends_put : (h : HandlerView S Q M A) (cs : List (ClientView Q M A)) (k : ℕ) (o n : ClientView Q M A) → AreEnds h cs → k < length cs → o ≡ get_or cs k o
       → n ≡ record o { put = n.put; knows = n.knows } → AreEnds h (set cs k n)
   ends_put h cs k o n ends within at same = ends_set h cs k o n ends within at (ap (λ (v : ClientView Q M A). v.port) same) (ap (λ (v : ClientView Q M A). v.mark) same) (ap (λ (v : ClientView Q M A). v.number) same) (ap (λ (v : ClientView Q M A). v.ring) same)
 
-  -- .. by a take
+  -- after a take
   pub ends_take : (h : HandlerView S Q M A) (cs : List (ClientView Q M A)) (k : ℕ) (o n : ClientView Q M A) → AreEnds h cs → k < length cs → o ≡ get_or cs k o
       → n ≡ record o { taken = n.taken; knows = n.knows } → AreEnds h (set cs k n)
   ends_take h cs k o n ends within at same = ends_set h cs k o n ends within at (ap (λ (v : ClientView Q M A). v.port) same) (ap (λ (v : ClientView Q M A). v.mark) same) (ap (λ (v : ClientView Q M A). v.number) same) (ap (λ (v : ClientView Q M A). v.ring) same)

@@ -1,3 +1,4 @@
--- Lemmas on the ends of a port in one hand, and on the chains of a directory.
+-- Lemmas on the ends of a port in one value, on the hash chains of a directory, and on an entry that moves.
 pub mod CaseEnds
 pub mod CaseChains
+pub mod CaseEntries

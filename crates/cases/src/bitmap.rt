@@ -1,121 +1,121 @@
-//! The bitmap of a floppy by itself: blocks that are taken, given back and counted.
+//! The boot blocks, the blocks and the bitmap of a floppy, each alone. A case is a text, and its rows are calls.
 
-ghost use Rattle.std.specs.Prelude.{IsTrue};
-ghost use Rattle.ados_map.specs.Pages.{LawfulPages};
-
-use crate::drawn::put;
 use crate::fixtures::{FLOPPY, work};
-use Row::{Free, Gives, Is, Long, Takes};
+use crate::on_image::{expect, has_one_bitmap_block};
 use adf_block::Image;
-use adf_block::layout::{BOOT_BLOCKS, FIRST_PAGE, PAGE_BITS};
-use ados_map::{count_free, give_back, is_free, rebuild, take_first};
+use ados_map::rebuild;
 use std::process::Abort;
 use std::test::Fail;
 
-/// Whether the volume has one bitmap block, which is inside it and not the root.
-fn has_one_bitmap_block(image: &Image) -> bool
-    ensures { IsTrue result → LawfulPages image.now }
-{
-    let blocks = image.blocks();
-    let root = image.root();
-    let page = image.long(root, FIRST_PAGE);
-    blocks <= BOOT_BLOCKS + PAGE_BITS && BOOT_BLOCKS <= page && page < blocks && page != root
+/// The blank floppy: its longs, worked out by hand, and calls that read and write its bytes.
+const BLOCKS: &str = "\
+long 880 5 = x90a88cd3
+long 880 79 = 881
+long 881 0 = xc000c037
+long 881 28 = xffff3fff
+sum 880 = 0
+sum 881 = 0
+byte 881 3 = x37
+in 881 2 = xc0
+write 881 3 x38 = 0
+sum 881 = 1
+byte 881 3 = x38
+settle 881 0 = xc000c037
+put 881 56 1 = 0
+sum 881 = 1";
+
+/// A boot block is bootable if its checksum is right. Only its first four bytes give the kind of the disk.
+const BOOT: &str = "\
+kind = 1
+boots = 0
+put 0 0 x444f5300 = 0
+put 0 1 xbbb0acff = 0
+kind = 0
+boots = 1
+put 0 0 x444f5301 = 0
+put 0 1 xbbb0acfe = 0
+put 0 2 xffffffff = 0
+kind = 1
+boots = 1
+put 0 2 0 = 0
+boots = 1
+put 0 3 1 = 0
+boots = 0
+put 0 0 x444f5302 = 0
+kind = 2
+put 0 0 x004f5301 = 0
+kind = 255";
+
+const FIRST_FREE: &str = "\
+free = 1756
+first = 2
+first = 3
+free = 1754
+long 881 1 = xfffffffc
+long 881 0 = xc000c03a
+back 2 = 0
+marked 2 = 1
+marked 3 = 0
+first = 2";
+
+/// The two bits after the end of the volume are set.
+const FIRST_FREE_OF_BOOT_CODE: &str = "\
+put 881 0 x0000c037 = 0
+put 881 55 xffffffff = 0
+free = 1756
+first = 2
+back 1759 = 0
+long 881 55 = xffffffff";
+
+/// All blocks are allocated, and then the last one is freed.
+const FULL: &str = "\
+free = 0
+first = error 221
+back 1759 = 0
+long 881 55 = x20000000
+free = 1
+first = 1759
+first = error 221";
+
+#[test]
+fn blocks(rt: HostRuntime) -> Result<(), Fail> {
+    let mut image = work(rt.alloc(), FLOPPY)?.into_image();
+    expect(&rt, &mut image, BLOCKS);
+    Ok(())
 }
 
-/// A call of a case with its answer, or a long of the bitmap block that is seen.
-#[derive(Clone, Copy)]
-enum Row {
-    /// How many blocks are free.
-    Free(u32),
-    /// The first free block is taken.
-    Takes(Option<u32>),
-    /// A block is given back.
-    Gives(u32),
-    /// Whether a block is free.
-    Is(u32, bool),
-    Long(u32, u32),
-}
-
-/// Goes through one row.
-fn go(rt: &impl Abort, image: &mut Image, number: usize, row: Row) {
-    assert!(rt; has_one_bitmap_block(image));
-    match row {
-        Free(count) => assert_eq!(rt; count_free(image), count, "row {number}"),
-        Takes(block) => assert_eq!(rt; take_first(image), block, "row {number}"),
-        Gives(block) => {
-            assert!(rt; 2 <= block && block < image.blocks());
-            give_back(image, block);
-        }
-        Is(block, wanted) => {
-            assert!(rt; 2 <= block && block < image.blocks());
-            assert_eq!(rt; is_free(image, block), wanted, "row {number}");
-        }
-        Long(i, value) => {
-            assert!(rt; 881 < image.blocks() && i < 128);
-            assert_eq!(rt; image.long(881, i), value, "row {number}");
-        }
-    }
-}
-
-/// Goes through a case on an image. A row with another answer ends the test with its number, counted from 1.
-fn play(rt: &impl Abort, image: &mut Image, rows: &[Row]) {
-    let mut number = 0_usize;
-    for row in rows {
-        number = number.wrapping_add(1);
-        go(rt, image, number, *row);
-    }
+#[test]
+fn boot_sum(rt: HostRuntime) -> Result<(), Fail> {
+    let mut image = work(rt.alloc(), FLOPPY)?.into_image();
+    expect(&rt, &mut image, BOOT);
+    Ok(())
 }
 
 #[test]
 fn first_free(rt: HostRuntime) -> Result<(), Fail> {
     let mut image = work(rt.alloc(), FLOPPY)?.into_image();
-    let rows = [
-        Free(1756),
-        Takes(Some(2)),
-        Takes(Some(3)),
-        Free(1754),
-        Long(1, 0xffff_fffc),
-        Long(0, 0xc000_c03a),
-        Gives(2),
-        Is(2, true),
-        Is(3, false),
-        Takes(Some(2)),
-    ];
-    play(&rt, &mut image, &rows);
+    expect(&rt, &mut image, FIRST_FREE);
     Ok(())
 }
 
-/// The two bits past the volume's end are set.
 #[test]
 fn first_free_of_boot_code(rt: HostRuntime) -> Result<(), Fail> {
     let mut image = work(rt.alloc(), FLOPPY)?.into_image();
-    put(&mut image, 881, &[(0, 0x0000_c037), (55, u32::MAX)]);
-    let rows = [Free(1756), Takes(Some(2)), Gives(1759), Long(55, u32::MAX)];
-    play(&rt, &mut image, &rows);
+    expect(&rt, &mut image, FIRST_FREE_OF_BOOT_CODE);
     Ok(())
 }
 
-/// Writes the bitmap anew, where these blocks are named.
+/// Rebuilds the bitmap with these blocks in use.
 fn rebuilt(rt: &impl Abort, image: &mut Image, named: &[bool]) {
     assert!(rt; has_one_bitmap_block(image) && named.len() == image.blocks() as usize);
     rebuild(image, named);
 }
 
-/// Every block is named, and then the last one given back.
 #[test]
 fn full_bitmap(rt: HostRuntime) -> Result<(), Fail> {
     let mut image = work(rt.alloc(), FLOPPY)?.into_image();
     let named = vec![in rt.alloc(); true; 1_760]?;
     rebuilt(&rt, &mut image, &named);
-    let rows = [
-        Free(0),
-        Takes(None),
-        Gives(1759),
-        Long(55, 0x2000_0000),
-        Free(1),
-        Takes(Some(1759)),
-        Takes(None),
-    ];
-    play(&rt, &mut image, &rows);
+    expect(&rt, &mut image, FULL);
     Ok(())
 }

@@ -1,12 +1,16 @@
-//! Entries that are found and told in their order, by the chains and by the calls of a volume drawn by hand, and files that
-//! are read.
+//! Entries that are found, listed in order and moved: by the hash chains of the root alone, and by the calls of a
+//! volume.
 
-use crate::drawn::{checked, put, put_directory, settle};
+ghost use Rattle.ados_chain.specs.Chains.{HasChains};
+
+use crate::drawn::{checked, put_directory, settle};
 use crate::fixtures::{FLOPPY, work};
-use Next::{End, Entry, NotAnEntry};
-use adf_block::layout::{FILE_TYPE, FIRST_SLOT, NEXT_IN_CHAIN, SUM};
-use ados_chain::{Next, after, find};
-use ados_name::{Name, PathText};
+use crate::on_volume::expect;
+use crate::rows::{Came, came_of, cut, long_of, parts};
+use adf_block::Image;
+use adf_block::layout::{FIRST_SLOT, NEXT_IN_CHAIN, SUM};
+use ados_chain::{Next, after, find, insert_last, is_empty, unlink};
+use ados_name::Name;
 use ados_volume::Volume;
 use std::alloc::Global;
 use std::process::Abort;
@@ -25,103 +29,109 @@ fn three_directories(alloc: Global) -> Result<Volume, Fail> {
     Ok(checked(alloc, image)?)
 }
 
-/// The entry of this name in the root, by its chains alone.
-fn found(volume: &Volume, name: &Name) -> Option<u32> {
-    find(volume.image(), volume.root(), name)
+/// The key of the next entry: 232 at the end, 205 after a key that is no entry.
+pub(crate) fn came_next(next: Next) -> Came {
+    match next {
+        Next::Entry(key) => Ok(key),
+        Next::End => Err(232),
+        Next::NotAnEntry => Err(205),
+    }
 }
 
-/// What comes after a key in the root, by its chains alone.
-fn behind(volume: &Volume, key: u32) -> Next {
-    after(volume.image(), volume.root(), key)
+/// The entry with this name, or 205.
+fn find_named(image: &Image, dir: u32, name: &str) -> Came
+    requires { HasChains image.now dir }
+{
+    match Name::new(name.as_bytes()) {
+        Ok(name) => find(image, dir, &name).ok_or(205),
+        Err(_) => Err(210),
+    }
 }
 
-/// The chains and the volume have this entry of the root under a name. The volume is asked twice: its second answer may be
-/// that of a name that is kept.
-fn expect_entry(
-    rt: &impl Abort,
-    volume: &mut Volume,
-    name: &[u8],
-    key: Option<u32>,
-) -> Result<(), Fail> {
-    let name = Name::new(name)?;
-    assert!(rt; found(volume, &name) == key);
-    assert!(rt; volume.child(volume.root(), &name) == key);
-    assert!(rt; volume.child(volume.root(), &name) == key);
-    Ok(())
+/// Removes the entry with this name from its hash chain, and adds it as the last entry of that chain.
+fn put_last(image: &mut Image, dir: u32, name: &str) -> Came
+    requires { HasChains image.old dir }
+    ensures { HasChains image.new dir }
+{
+    let Ok(name) = Name::new(name.as_bytes()) else {
+        return Err(210);
+    };
+    let Some(key) = find(image, dir, &name) else {
+        return Err(205);
+    };
+    unlink(image, dir, key);
+    insert_last(image, dir, key);
+    Ok(key)
 }
 
-/// By the chains and by the volume this comes after a key in the root.
-fn expect_behind(rt: &impl Abort, volume: &Volume, key: u32, next: Next) {
-    assert!(rt; behind(volume, key) == next, "after {key}");
-    assert!(rt; volume.next(volume.root(), key) == next, "after {key}");
+/// The result of a call of the hash chains.
+fn came(image: &mut Image, dir: u32, text: &str) -> Came
+    requires { HasChains image.old dir }
+    ensures { HasChains image.new dir }
+{
+    let (word, rest) = cut(text);
+    match word {
+        "child" => find_named(image, dir, rest),
+        "next" => came_next(after(image, dir, long_of(rest))),
+        "empty" => Ok(is_empty(image, dir) as u32),
+        "last" => put_last(image, dir, rest),
+        _ => Err(0),
+    }
 }
+
+/// Each row of the root returns its result, by the hash chains alone.
+fn expect_chains(rt: &impl Abort, volume: Volume, rows: &str) {
+    let dir = volume.root();
+    let mut image = volume.into_image();
+    for row in rows.lines() {
+        let (text, wanted) = parts(row);
+        assert!(rt; came(&mut image, dir, text) == came_of(wanted), "{row}");
+    }
+}
+
+/// Each name is looked up twice. A volume may answer the second time from its kept names.
+const BY_HAND: &str = "\
+child dp = 11
+child a = 10
+child C = error 205
+child dp = 11
+child a = 10
+child C = error 205
+next 880 = 10
+next 10 = 11
+next 11 = 12
+next 12 = error 232
+next 881 = error 205
+next 4000000000 = error 205";
+
+/// An entry that moves becomes the last one of its hash chain.
+const PUT_LAST: &str = "\
+empty = 0
+last a = 10
+next 880 = 11
+next 11 = 10
+next 10 = 12
+next 12 = error 232
+last b = 12
+next 10 = 12
+next 12 = error 232
+child A = 10";
 
 #[test]
 fn chains_by_hand(rt: HostRuntime) -> Result<(), Fail> {
     let mut volume = three_directories(rt.alloc())?;
-    expect_entry(&rt, &mut volume, b"dp", Some(11))?;
-    expect_entry(&rt, &mut volume, b"a", Some(10))?;
-    expect_entry(&rt, &mut volume, b"C", None)?;
-    expect_behind(&rt, &volume, 880, Entry(10));
-    expect_behind(&rt, &volume, 10, Entry(11));
-    expect_behind(&rt, &volume, 11, Entry(12));
-    expect_behind(&rt, &volume, 12, End);
-    expect_behind(&rt, &volume, 881, NotAnEntry);
-    expect_behind(&rt, &volume, 4_000_000_000, NotAnEntry);
+    expect(&rt, &mut volume, BY_HAND);
+    expect_chains(&rt, volume, BY_HAND);
     Ok(())
 }
 
-/// A file `f` of 600 bytes in the root: its header is block 2, its data blocks are 3 and 4. Its bytes 508 to 511 are `0123`,
-/// 512 to 515 are `4567`, 596 to 599 are `89AB`; what stands behind the last one is not the file's.
-fn file_of_600_bytes(alloc: Global) -> Result<Volume, Fail> {
-    let mut image = work(alloc, FLOPPY)?.into_image();
-    settle(&mut image, 880, SUM, &[(17, 2)]);
-    settle(&mut image, 881, 0, &[(1, 0xffff_fff8)]);
-    put_directory(&mut image, 2, 880, 0x0166_0000);
-    let file = [
-        (2, 2),
-        (4, 3),
-        (76, 4),
-        (77, 3),
-        (81, 600),
-        (127, FILE_TYPE),
-    ];
-    settle(&mut image, 2, SUM, &file);
-    put(&mut image, 3, &[(127, 0x3031_3233)]);
-    put(
-        &mut image,
-        4,
-        &[(0, 0x3435_3637), (21, 0x3839_4142), (22, u32::MAX)],
-    );
-    Ok(checked(alloc, image)?)
-}
-
-/// Reads the file of a path into a buffer of four bytes EE: the count, and the buffer.
-fn read_four(volume: &mut Volume, path: &[u8], pos: u64) -> Result<(usize, [u8; 4]), Fail> {
-    let root = volume.root();
-    let key = volume.walk(root, &PathText::new(path)?)?;
-    if !volume.is_file(key) {
-        return Err("a directory in place of a file".into());
-    }
-    let mut buffer = [0xee; 4];
-    let count = volume.read(key, pos, &mut buffer);
-    Ok((count, buffer))
-}
-
 #[test]
-fn read_at_the_end(rt: HostRuntime) -> Result<(), Fail> {
-    let mut volume = file_of_600_bytes(rt.alloc())?;
-    for (pos, count, bytes) in [
-        (510, 4, *b"2345"),
-        (598, 2, *b"AB\xee\xee"),
-        (600, 0, [0xee; 4]),
-        (u64::MAX, 0, [0xee; 4]),
-    ] {
-        assert_eq!(&rt;
-            read_four(&mut volume, b"f", pos)?,
-            (count, bytes),
-            "at {pos}"
-        );
-    }
+fn put_last_in_chains(rt: HostRuntime) -> Result<(), Fail> {
+    expect_chains(&rt, three_directories(rt.alloc())?, PUT_LAST);
+    expect_chains(
+        &rt,
+        work(rt.alloc(), FLOPPY)?,
+        "empty = 1\nnext 880 = error 232",
+    );
     Ok(())
 }

@@ -1,17 +1,16 @@
-//! Volumes that the cases draw, by the longs of their blocks.
+//! Volumes that the cases draw by the longs of their blocks.
 
 use crate::fixtures::work;
 use adf_block::layout::*;
 use adf_block::{Format, Image};
-use ados_tree::VolumeFault;
-use ados_volume::{Volume, check};
+use ados_volume::{Volume, VolumeFault, check};
 use std::alloc::Global;
 use std::test::Fail;
 
-/// The long with a name's length and its first three bytes.
+/// The long with the length of a name and its first three bytes.
 const NAME: u32 = NAME_BYTE / 4;
 
-/// The volume of an image, or the fault that it is refused with.
+/// The volume of an image, or the fault for which the image is refused.
 pub(crate) fn checked(alloc: Global, image: Image) -> Result<Volume, VolumeFault> {
     match check(alloc, image) {
         Ok(volume) => Ok(volume),
@@ -19,7 +18,7 @@ pub(crate) fn checked(alloc: Global, image: Image) -> Result<Volume, VolumeFault
     }
 }
 
-/// Writes longs of a block, each by its place. A place that the image does not have is skipped.
+/// Writes longs of a block, each by its position. A position outside the image is skipped.
 pub(crate) fn put(image: &mut Image, block: u32, longs: &[(u32, u32)]) {
     for &(i, value) in longs {
         if block < image.blocks() && i < BLOCK_LONGS {
@@ -28,7 +27,7 @@ pub(crate) fn put(image: &mut Image, block: u32, longs: &[(u32, u32)]) {
     }
 }
 
-/// Writes longs of a block, and the long of its checksum, so that all of them add up to 0.
+/// Writes longs of a block, and then its checksum, so that all longs sum to 0.
 pub(crate) fn settle(image: &mut Image, block: u32, sum: u32, longs: &[(u32, u32)]) {
     put(image, block, longs);
     if block < image.blocks() && sum < BLOCK_LONGS {
@@ -36,7 +35,7 @@ pub(crate) fn settle(image: &mut Image, block: u32, sum: u32, longs: &[(u32, u32
     }
 }
 
-/// A directory in a block, by the long of its name, whose parent is given.
+/// Writes a directory into a block, with this parent and this long of its name.
 pub(crate) fn put_directory(image: &mut Image, block: u32, parent: u32, name: u32) {
     let longs = [
         (PRIMARY_TYPE, HEADER_TYPE),
@@ -48,9 +47,9 @@ pub(crate) fn put_directory(image: &mut Image, block: u32, parent: u32, name: u3
     settle(image, block, SUM, &longs);
 }
 
-/// The volume `Work` of 160 blocks with directories `A` in block 2 and `DP` in block 3, and in `A` a file `f` of 73 data
-/// blocks, the last of one byte: its header is block 4, its data blocks are 5 to 76 and 78, its extension block is 77. The
-/// check has written its bitmap.
+/// The volume `Work` of 160 blocks, with directories `A` in block 2 and `DP` in block 3. `A` holds a file `f` of 73
+/// data blocks; the last one holds one byte. The header is block 4, the data blocks are 5 to 76 and 78, and the
+/// extension block is 77. The check has written the bitmap.
 pub(crate) fn filled(alloc: Global, format: Format) -> Result<Image, Fail> {
     let mut image = work(alloc, 160)?.into_image();
     let root = [(BITMAP_FLAG, 0), (FIRST_SLOT + 6, 2)];
@@ -77,7 +76,7 @@ pub(crate) fn filled(alloc: Global, format: Format) -> Result<Image, Fail> {
     Ok(checked(alloc, image)?.into_image())
 }
 
-/// The fields of the file's header and of its extension block.
+/// Writes the fields of the file's header and of its extension block.
 fn put_header(image: &mut Image, size: u32) {
     let header = [
         (PRIMARY_TYPE, HEADER_TYPE),
@@ -102,7 +101,7 @@ fn put_header(image: &mut Image, size: u32) {
     settle(image, 77, SUM, &extension);
 }
 
-/// The fields of the file's data blocks in OFS.
+/// Writes the fields of the file's data blocks in OFS.
 fn put_data(image: &mut Image) {
     for i in 0..73 {
         let (block, next) = match i {

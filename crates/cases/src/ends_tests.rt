@@ -1,4 +1,4 @@
-//! Cases of the ends of a port, over the handler of the blank floppy: each is a text whose rows are gone through.
+//! Cases of the ends of a port, over the handler of the blank floppy. A case is a text, and its rows are run in order.
 use crate::fixtures::{START, blank_handler};
 use crate::playing::play;
 use std::alloc::Global;
@@ -6,31 +6,28 @@ use std::process::Abort;
 use std::sync::Wait;
 use std::test::Fail;
 
-/// A case goes as it says.
+/// Each row of a case comes to its result.
 pub(crate) fn expect<R: Abort + Wait>(rt: &R, alloc: Global, case: &str) -> Result<(), Fail> {
-    let handler = blank_handler(alloc)?;
-    let strayed = play(rt, alloc, handler, START, case)?;
-    assert!(rt; strayed.is_empty(), "{strayed}");
-    Ok(())
+    Ok(play(rt, alloc, blank_handler(alloc)?, START, case)?)
 }
 
-/// A reply waits where the ring is full, and is posted once there is a place.
+/// A reply waits while the ring is full, and is posted as soon as there is a free place.
 const RINGS: &str = "\
 open 1 1
 put 1 other 999 = accepted 1
 put 1 other 999 = accepted 2
 put 1 other 999 = accepted 3
 batch 8 = served 3
-post = 2 wait
+post = waiting 2
 take 1 = 1 0 209
-post = 1 wait
+post = waiting 1
 take 1 = 2 0 209
 gather = alive, untaken 1 3-3 0 209";
 
-/// Each batch first posts what waits, also where no packet waits to be served.
+/// Each batch first posts the waiting replies, even if no packet waits.
 const BATCHES_POST: &str = "\
 open 1 1
-many 1 3 other 999 = accepted 1 to 3
+many 1 3 other 999 = numbered 3
 batch 8 = served 3
 take 1 = 1 0 209
 take 1 = nothing
@@ -40,7 +37,7 @@ batch 0 = served 0
 take 1 = 3 0 209
 gather = alive, untaken 1";
 
-/// The packets that are left stand in the order in which they were put, whoever put them.
+/// The unanswered packets are in the order of their puts, whichever client put them.
 const LEFT_IN_ORDER: &str = "\
 open 3 8
 put 2 other 999 = accepted 1
@@ -53,7 +50,7 @@ batch 1 = served 1
 gather = alive, unanswered 3 25, unanswered 1 999, unanswered 2 5, unanswered 1 25, unanswered 3 999, \
 untaken 1, untaken 2 1-1 0 209, untaken 3";
 
-/// A packet behind two that were served is left.
+/// A packet after two served ones is unanswered.
 const HALF_SERVED: &str = "\
 open 2 8
 put 1 other 999 = accepted 1
@@ -62,7 +59,7 @@ put 2 diskinfo = accepted 1
 batch 2 = served 2
 gather = alive, unanswered 2 25, untaken 1 1-2 0 209, untaken 2";
 
-/// After DIE every put is refused.
+/// After DIE each put is refused.
 const CLOSE: &str = "\
 open 2 8
 put 1 die = accepted 1
@@ -77,7 +74,7 @@ put 2 other 999 = closed 999
 batches = closed
 gather = dead, untaken 1, untaken 2";
 
-/// A client knows of the close before it takes the reply to its DIE, and after.
+/// A client sees the close both before and after it takes the reply to its DIE.
 const DIE_IN_THE_RING: &str = "\
 open 1 1
 ask 1 = open
@@ -89,7 +86,7 @@ ask 1 = shut
 put 1 other 999 = closed 999
 gather = dead, untaken 1";
 
-/// A client that has put and taken nothing knows of the close.
+/// A client without puts and takes sees the close.
 const NEWS_OF_THE_CLOSE: &str = "\
 open 3 8
 put 1 die = accepted 1
@@ -99,7 +96,7 @@ put 3 other 999 = closed 999
 take 3 = nothing
 gather = dead, untaken 1 1-1 -1 0, untaken 2, untaken 3";
 
-/// Batches end where three in a row found nothing.
+/// Batches end after three in a row without a packet.
 const IDLE_LIMIT: &str = "\
 open 1 2
 batches = idle
@@ -110,10 +107,10 @@ take 1 = 1 0 209
 take 1 = 2 0 209
 gather = alive, untaken 1";
 
-/// Neither the queue nor the list beside a ring has an end.
+/// The queue and the list beside a ring have no limit.
 const A_THOUSAND_PUTS: &str = "\
 open 1 1
-many 1 1000 other 999 = accepted 1 to 1000
+many 1 1000 other 999 = numbered 1000
 batch 64 = served 64
 batch 64 = served 64
 batch 64 = served 64
@@ -131,38 +128,39 @@ batch 64 = served 64
 batch 64 = served 64
 batch 64 = served 40
 batch 64 = served 0
-post = 999 wait
+post = waiting 999
 gather = alive, untaken 1 1-1000 0 209";
 
-/// Packets behind a DIE are left where no batch came to them.
+/// Packets after a DIE are unanswered if no batch reaches them.
 const UNANSWERED_AFTER_DIE: &str = "\
 open 2 8
 put 1 die = accepted 1
-many 2 3 other 999 = accepted 1 to 3
+many 2 3 other 999 = numbered 3
 batch 2 = served 2
 gather = dead, unanswered 2 999, unanswered 2 999, untaken 1 1-1 -1 0, untaken 2 1-1 0 218";
 
-/// A batch for which there is no memory serves nothing: no list has room for so many. The next one serves every packet.
+/// A batch that is out of memory serves nothing: no list has room for so many packets. The next one serves every
+/// packet.
 pub(crate) const BATCH_REFUSED: &str = "\
 open 2 1 again
 put 1 other 999 = accepted 1
 put 2 other 999 = accepted 1
 put 1 other 999 = accepted 2
-batch 18446744073709551615 = no memory
+batch 18446744073709551615 = no-memory
 take 1 = nothing
 batch 8 = served 3
 gather = alive, untaken 1 1-2 0 209, untaken 2 1-1 0 209";
 
-/// Each call is made once more where its growth was refused: `tools/growths.sh` refuses each in turn.
+/// Each call whose growth is refused is repeated once: `tools/growths.sh` refuses each growth in turn.
 pub(crate) const GATHER_REFUSED: &str = "\
 open 2 1 again
-many 1 40 other 999 = accepted 1 to 40
+many 1 40 other 999 = numbered 40
 batches = idle
 put 2 die = accepted 1
 take 1 = 1 0 209
 gather = alive, unanswered 2 5, untaken 1 2-40 0 209, untaken 2";
 
-/// A port over the server that was handed back serves and closes.
+/// If opening a port fails, a port over the returned server serves and closes.
 pub(crate) const PORT_REFUSED: &str = "\
 open 1 1 again
 put 1 die = accepted 1

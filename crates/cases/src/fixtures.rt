@@ -1,4 +1,4 @@
-//! Handlers over a blank volume `Work`, and what a case that goes as it says tells.
+//! Handlers over a blank volume `Work`.
 ghost use Rattle.std.specs.Prelude.{◌≡◌, false, IfOk};
 ghost use Rattle.adf_block.specs.Image.{IsSize};
 
@@ -16,10 +16,10 @@ pub(crate) const START: Date3 = Date3 {
     ticks: 0,
 };
 
-/// How many blocks a double-density floppy has.
+/// The number of blocks of a double-density floppy.
 pub(crate) const FLOPPY: u32 = 1_760;
 
-/// The blank FFS volume `Work` of so many blocks.
+/// The blank FFS volume `Work` with `blocks` blocks.
 pub(crate) fn work(alloc: Global, blocks: u32) -> Result<Volume, AllocError>
     requires { IsSize blocks }
 {

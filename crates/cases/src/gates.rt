@@ -1,4 +1,4 @@
-//! Two clients that go in turns.
+//! Two clients that take turns.
 
 use ados_run::Gate;
 use std::alloc::Global;
@@ -6,17 +6,17 @@ use std::sync::Arc;
 use std::sync::atomic::{AtomicU64, Ordering};
 use std::thread;
 
-/// How often a client looks for what it waits for.
+/// The maximum number of polls of a client.
 const LOOKS: u32 = 1_000_000;
 
-/// Which of the two clients.
+/// One of the two clients.
 #[derive(Clone, Copy)]
 pub(crate) enum Side {
     A,
     B,
 }
 
-/// How far one client has come: whether it was at its gate, and how many replies it has taken.
+/// The progress of one client: whether it was at its gate, and the number of replies that it has taken.
 #[derive(Drop)]
 pub(crate) struct Steps {
     started: AtomicU64,
@@ -32,7 +32,7 @@ impl Steps {
     }
 }
 
-/// How far both have come.
+/// The progress of both clients.
 #[derive(Drop)]
 pub(crate) struct Progress {
     a: Steps,
@@ -55,14 +55,15 @@ impl Progress {
     }
 }
 
-/// Lets two clients begin together and then go in turns: A's first packet, B's first, A's second, B's second, each after the reply to the one before it.
+/// Lets two clients begin together and then take turns: A's first packet, B's first, A's second, B's second, each after
+/// the reply to the previous one.
 #[derive(Drop)]
 pub(crate) struct TurnGate {
     pub(crate) side: Side,
     pub(crate) progress: Arc<Progress, Global>,
 }
 
-// Looks so often for a count of at least this.
+// Polls until the count is at least `least`. Returns `false` after too many polls.
 fn comes(count: &AtomicU64, least: u64) -> bool {
     for _ in 0..LOOKS {
         if count.load(Ordering::SeqCst) >= least {
@@ -73,7 +74,7 @@ fn comes(count: &AtomicU64, least: u64) -> bool {
     false
 }
 
-// Notes that this side is at its gate, and waits for the other.
+// Notes that this side is at its gate, and waits for the other side.
 fn begin_together(progress: &Progress, side: Side) -> bool {
     let other = match side {
         Side::A => Side::B,

@@ -1,8 +1,8 @@
 //! Growths of memory that are refused.
 //!
-//! Each test passes with ample memory. `tools/growths.sh` refuses each growth in turn: then a test passes too, since it asks
-//! once more where a call answers out of memory and looks at what that call left; or it ends with out of memory as its
-//! error, where the growth was one of its own.
+//! Each test passes with ample memory. `tools/growths.sh` refuses each growth in turn. Then a test passes too: if a
+//! call answers out of memory, the test checks what the call left and repeats it. If the growth was one of the test
+//! itself, the test ends with the error out of memory.
 ghost use Rattle.std.specs.Prelude.{◌≤◌};
 ghost use Rattle.adf_block.specs.Image.{IsSize};
 
@@ -10,7 +10,7 @@ use crate::desk::{ENTRIES, expect_hold, handler_of, serve_rows};
 use crate::drawn::{put, put_directory, settle};
 use crate::ends_tests::{BATCH_REFUSED, GATHER_REFUSED, PORT_REFUSED, expect};
 use crate::fixtures::{FLOPPY, START, blank_handler, work};
-use crate::steps::{Got, steps_of, strays};
+use crate::steps::{Got, steps_of, stray};
 use adf_block::Image;
 use adf_block::layout::{BITMAP_FLAG, FIRST_SLOT, SUM};
 use adf_script::{TryFault, run_script};
@@ -53,8 +53,8 @@ fn refused_blank(rt: HostRuntime) -> Result<(), Fail> {
     Ok(())
 }
 
-/// A volume of 160 blocks, all in use: 156 directories `d`, each in the one before. The root is block 80, its bitmap block 81.
-/// So many names make three levels of the sorted set in which the check keeps them.
+/// A volume of 160 blocks, all in use: 156 directories `d`, each in the previous one. The root is block 80, its bitmap
+/// block is 81. This many names make three levels of the sorted set in which the check keeps them.
 fn deep(alloc: Global, flag: u32) -> Result<Image, AllocError> {
     let mut image = work(alloc, 160)?.into_image();
     settle(&mut image, 80, SUM, &[(BITMAP_FLAG, flag)]);
@@ -74,7 +74,7 @@ fn deep(alloc: Global, flag: u32) -> Result<Image, AllocError> {
     Ok(image)
 }
 
-/// The deep volume is accepted; where memory is refused, its image is handed back as it was, and then accepted.
+/// The deep volume is accepted. If memory is refused, its image is returned unchanged and then accepted.
 fn checked_deep(rt: &impl Abort, alloc: Global, flag: u32) -> Result<Volume, Fail> {
     match check(alloc, deep(alloc, flag)?) {
         Ok(volume) => Ok(volume),
@@ -94,8 +94,8 @@ fn refused_check(rt: HostRuntime) -> Result<(), Fail> {
     Ok(())
 }
 
-/// The bitmap is not valid, and is built anew. Where only the last growth is refused, that of the list for it, the check
-/// asks for less and goes on.
+/// The bitmap is not valid, and is rebuilt. If only the last growth is refused, that of the list for the bitmap, the
+/// check asks for less and goes on.
 #[test]
 fn refused_validation(rt: HostRuntime) -> Result<(), Fail> {
     let volume = checked_deep(&rt, rt.alloc(), 0)?;
@@ -105,7 +105,7 @@ fn refused_validation(rt: HostRuntime) -> Result<(), Fail> {
     Ok(())
 }
 
-/// What steps come to, and then what they come to where one put or one lock was refused memory.
+/// The outcomes of steps, and then their outcomes if one put or one lock was refused memory.
 const LOCKS: &str = "\
 put 2 locate 0 -2 \"\" = accepted 1
 serve = served
@@ -115,9 +115,9 @@ serve = served
 take 2 = 2 2 0
 put 2 diskinfo = accepted 3
 serve = served
-take 2 = 3 -1 0 state 82 of 1758 blocks 2 used
+take 2 = 3 -1 0 disk 82 1758 2
 
-put 2 locate 0 -2 \"\" = no room 8
+put 2 locate 0 -2 \"\" = no-room 8
 serve = idle
 take 2 = nothing
 put 2 copy 1 = accepted 1
@@ -125,7 +125,7 @@ serve = served
 take 2 = 1 0 211
 put 2 diskinfo = accepted 2
 serve = served
-take 2 = 2 -1 0 state 82 of 1758 blocks 2 used
+take 2 = 2 -1 0 disk 82 1758 2
 
 put 2 locate 0 -2 \"\" = accepted 1
 serve = served
@@ -135,17 +135,17 @@ serve = served
 take 2 = 2 0 211
 put 2 diskinfo = accepted 3
 serve = served
-take 2 = 3 -1 0 state 82 of 1758 blocks 2 used
+take 2 = 3 -1 0 disk 82 1758 2
 
 put 2 locate 0 -2 \"\" = accepted 1
 serve = served
 take 2 = 1 1 0
-put 2 copy 1 = no room 19
+put 2 copy 1 = no-room 19
 serve = idle
 take 2 = nothing
 put 2 diskinfo = accepted 2
 serve = served
-take 2 = 2 -1 0 state 82 of 1758 blocks 2 used
+take 2 = 2 -1 0 disk 82 1758 2
 
 put 2 locate 0 -2 \"\" = accepted 1
 serve = served
@@ -155,7 +155,7 @@ serve = served
 take 2 = 2 0 103
 put 2 diskinfo = accepted 3
 serve = served
-take 2 = 3 -1 0 state 82 of 1758 blocks 2 used
+take 2 = 3 -1 0 disk 82 1758 2
 
 put 2 locate 0 -2 \"\" = accepted 1
 serve = served
@@ -163,21 +163,21 @@ take 2 = 1 1 0
 put 2 copy 1 = accepted 2
 serve = served
 take 2 = 2 2 0
-put 2 diskinfo = no room 25
+put 2 diskinfo = no-room 25
 serve = idle
 take 2 = nothing";
 
-/// Whether outcomes are those of one of the ways that steps may come to.
-fn is_one_of(alloc: Global, ways: &str, outcomes: &[Got]) -> Result<bool, AllocError> {
+/// Whether these are the outcomes of one of the ways.
+fn is_one_of(ways: &str, outcomes: &[Got]) -> bool {
     for way in ways.split("\n\n") {
-        if strays(alloc, way, outcomes)?.is_empty() {
-            return Ok(true);
+        if stray(way, outcomes).is_none() {
+            return true;
         }
     }
-    Ok(false)
+    false
 }
 
-/// The image that a fault hands back, and whether it was refused.
+/// The image that a fault returns, and whether it was refused.
 fn image_of(rt: &impl Abort, fault: RunFault) -> (Image, bool) {
     match fault {
         RunFault::NoMemory(image) => (image, false),
@@ -188,24 +188,24 @@ fn image_of(rt: &impl Abort, fault: RunFault) -> (Image, bool) {
     }
 }
 
-/// The image that a run leaves, whose outcomes are as they may be.
-fn left_by(rt: &impl Abort, alloc: Global, done: RunDone<Handler>) -> Result<Image, Fail> {
+/// The image after a run, whose outcomes are possible ones.
+fn left_by(rt: &impl Abort, done: RunDone<Handler>) -> Image {
     let RunDone { exchange, outcomes } = done;
-    assert!(rt; is_one_of(alloc, LOCKS, &outcomes)?);
-    Ok(exchange.into_server().into_volume().into_image())
+    assert!(rt; is_one_of(LOCKS, &outcomes));
+    exchange.into_server().into_volume().into_image()
 }
 
-/// The image that the steps leave.
+/// The image after the steps.
 fn left_by_locks(rt: &impl Abort, alloc: Global) -> Result<Image, Fail> {
     let image = work(alloc, FLOPPY)?.into_image();
     match run_volume(alloc, image, 2, steps_of(alloc, first_of(LOCKS))?) {
-        Ok(done) => left_by(rt, alloc, done),
+        Ok(done) => Ok(left_by(rt, done)),
         Err(fault) => Ok(image_of(rt, fault).0),
     }
 }
 
-/// With ample memory the steps are run. Where a growth is refused the image comes back, or the run goes on without that put
-/// or that lock; no byte of the image is changed either way.
+/// With ample memory the steps are run. If a growth is refused, the image is returned, or the run continues without
+/// that put or that lock. No byte of the image changes either way.
 #[test]
 fn refused_run(rt: HostRuntime) -> Result<(), Fail> {
     let left = left_by_locks(&rt, rt.alloc())?;
@@ -221,7 +221,8 @@ fn first_of(ways: &str) -> &str {
     }
 }
 
-/// The image that a run without steps leaves of the deep volume whose bitmap is not valid, with so many clients; and whether it was refused.
+/// The image after a run without steps over the deep volume whose bitmap is not valid, with this many clients. Also
+/// returns whether the image was refused.
 fn run_deep(rt: &impl Abort, alloc: Global, clients: usize) -> Result<(Image, bool), Fail>
     requires { 1 ≤ clients }
 {
@@ -231,7 +232,8 @@ fn run_deep(rt: &impl Abort, alloc: Global, clients: usize) -> Result<(Image, bo
     }
 }
 
-/// Where the bitmap is not valid, an image for which there is no memory comes back as it was, or as it was accepted. No memory has room for the most clients.
+/// The bitmap is not valid. If there is no memory for the image, it is returned unchanged, or as it was accepted. No
+/// memory has room for the maximum number of clients.
 #[test]
 fn refused_validating_run(rt: HostRuntime) -> Result<(), Fail> {
     for clients in [1, usize::MAX] {
@@ -242,7 +244,8 @@ fn refused_validating_run(rt: HostRuntime) -> Result<(), Fail> {
     Ok(())
 }
 
-/// The packets that make a lock or a handle, where `*` is another letter each time. FINDOUTPUT makes a file, and empties one.
+/// The packets that make a lock or a handle; each time another letter replaces `*`. FINDOUTPUT makes a file, and
+/// empties another one.
 const HOLDS: &str = "\
 locate 0 -2 \"d\"
 copy 1
@@ -253,21 +256,25 @@ output 1 \"*\"
 output 0 \"*\"
 update 1 \"*\"";
 
-/// Each of the packets nine times over, so that the tables of locks and handles grow under each.
-#[test]
-fn refused_holds(rt: HostRuntime) -> Result<(), Fail> {
-    for line in HOLDS.lines() {
-        let mut handler = handler_of(rt.alloc(), 64)?;
-        serve_rows(&rt, rt.alloc(), &mut handler, ENTRIES)?;
-        let mut was = Vec::from_slice(rt.alloc(), handler.volume().image().as_bytes())?;
-        for letter in b'k'..=b's' {
-            expect_hold(&rt, rt.alloc(), &mut handler, &mut was, line, letter)?;
-        }
+/// The packet of a line, nine times, so that the table of locks or handles grows.
+fn expect_holds(rt: &impl Abort, alloc: Global, line: &str) -> Result<(), Fail> {
+    let mut handler = handler_of(alloc, 64)?;
+    serve_rows(rt, alloc, &mut handler, ENTRIES)?;
+    for letter in b'k'..=b's' {
+        expect_hold(rt, alloc, &mut handler, line, letter)?;
     }
     Ok(())
 }
 
-/// A directory in the block of one that was taken away.
+#[test]
+fn refused_holds(rt: HostRuntime) -> Result<(), Fail> {
+    for line in HOLDS.lines() {
+        expect_holds(&rt, rt.alloc(), line)?;
+    }
+    Ok(())
+}
+
+/// A directory in the block of a deleted one.
 const NO_STALE_NAMES: &str = "\
 mkdir 0 \"a\" = 1 0
 examine 1 = -1 0 2 a
@@ -291,10 +298,9 @@ fn refused_no_stale_names(rt: HostRuntime) -> Result<(), Fail> {
     serve_rows(&rt, rt.alloc(), &mut handler, NO_STALE_NAMES)
 }
 
-/// Rows for so many directories: the one of this line gives a lock, by which it tells its key and its name. A volume of 400
-/// blocks has its root and its bitmap in blocks 200 and 201.
-fn name_rows(alloc: Global, line: &str, count: u32) -> Result<String, AllocError> {
-    let mut rows = String::new(alloc);
+/// Adds rows for this many directories. The packet of this line makes a lock, and EXAMINE reports its key and its name.
+/// A volume of 400 blocks has its root and its bitmap in blocks 200 and 201.
+fn push_names(rows: &mut String, line: &str, count: u32) -> Result<(), AllocError> {
     for name in 0..count {
         let key = name.saturating_add(if name < 198 { 2 } else { 4 });
         write!(
@@ -302,23 +308,33 @@ fn name_rows(alloc: Global, line: &str, count: u32) -> Result<String, AllocError
             "{line} \"{name}\" = 1 0\nexamine 1 = -1 0 {key} {name}\nfree 1 = -1 0\n"
         )?;
     }
-    Ok(rows)
+    Ok(())
 }
 
-/// More names than are kept, of directories that are made, and then located in turn, twice over.
+/// Serves the rows for three hundred directories.
+fn serve_names(
+    rt: &impl Abort,
+    alloc: Global,
+    handler: &mut Handler,
+    line: &str,
+) -> Result<(), Fail> {
+    let mut rows = String::new(alloc);
+    push_names(&mut rows, line, 300)?;
+    serve_rows(rt, alloc, handler, rows.as_str())
+}
+
+/// More directories than the volume keeps names: they are made, and then located in order, twice.
 #[test]
 fn refused_three_hundred_names(rt: HostRuntime) -> Result<(), Fail> {
-    let made = name_rows(rt.alloc(), "mkdir 0", 300)?;
-    let located = name_rows(rt.alloc(), "locate 0 -2", 300)?;
     let mut handler = handler_of(rt.alloc(), 400)?;
-    serve_rows(&rt, rt.alloc(), &mut handler, made.as_str())?;
-    serve_rows(&rt, rt.alloc(), &mut handler, located.as_str())?;
-    serve_rows(&rt, rt.alloc(), &mut handler, located.as_str())
+    serve_names(&rt, rt.alloc(), &mut handler, "mkdir 0")?;
+    serve_names(&rt, rt.alloc(), &mut handler, "locate 0 -2")?;
+    serve_names(&rt, rt.alloc(), &mut handler, "locate 0 -2")
 }
 
 const FIRST_RUN: &str = "1.1 -1 0 82 1758 2 512 444f5301\n1.2 0 209\n1.3 -1 0\n1.4 closed\n";
 
-/// A script for which there is no memory tells nothing wrong before that.
+/// A script that is out of memory prints nothing wrong before that.
 #[test]
 fn refused_script(rt: HostRuntime) -> Result<(), Fail> {
     let mut script = b"diskinfo\nother 999\ndie\ndiskinfo\n".as_slice();

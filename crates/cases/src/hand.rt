@@ -1,29 +1,30 @@
-//! A port with all its ends in one hand.
+//! A port with all its ends in one value.
 ghost use Rattle.std.specs.Prelude.{◌≡◌, ◌<◌, false, IfErr, length};
 ghost use Rattle.ados_port.specs.Ends.{AreEnds};
 
 use crate::rows::Opening;
 use ados_port::{
-    ClientEnd, GatherRefused, Gathered, HandlerEnd, PutRefused, Reply, ServeEnd, ServeFault,
-    Server, gather, open_port,
+    ClientEnd, GatherRefused, Gathered, HandlerEnd, OpenRefused, PutRefused, Reply, ServeEnd,
+    ServeFault, Server, gather, open_port,
 };
 use std::alloc::Global;
 use std::sync::Wait;
 
-/// A port's ends. Clients are named by their number, from 1.
+/// The ends of a port. Clients are numbered from 1.
 #[derive(Drop)]
 pub(crate) struct Port<S: Server> {
     pub(crate) handler: HandlerEnd<S>,
     pub(crate) ends: Vec<ClientEnd<S>>,
-    /// The moment of every batch.
+    /// The time stamp of every batch.
     pub(crate) moment: S::Moment,
-    /// Whether a case makes a call once more for which memory was refused.
+    /// Whether a case repeats a call once if memory was refused.
     pub(crate) again: bool,
     ghost all: { AreEnds handler ends.items },
 }
 
 impl<S: Server> Port<S> {
-    /// Opens a port. It needs a client and a place, and hands the server back where there is none, or memory was refused.
+    /// Opens a port. It needs at least one client and at least one place in each ring. Without these, or if memory is
+    /// refused, the server is returned.
     pub(crate) fn open(
         alloc: Global,
         server: S,
@@ -48,11 +49,11 @@ impl<S: Server> Port<S> {
                 moment,
                 again,
             }),
-            Err(refused) => Err(refused.server),
+            Err(OpenRefused { server }) => Err(server),
         }
     }
 
-    /// Puts for this client. One that the port does not have is refused.
+    /// Puts a packet for this client. A put of an unknown client is refused.
     pub(crate) fn put<R: Wait>(
         &mut self,
         rt: &R,
@@ -112,7 +113,7 @@ impl<S: Server> Port<S> {
 }
 
 impl<S: Server + Drop> Port<S> {
-    /// Gathers the ends, once more where memory was refused and the case says so.
+    /// Gathers the ends. If memory was refused, gathers once more if the case says so.
     pub(crate) fn gather<R: Wait>(self, rt: &R, alloc: Global) -> Option<Gathered<S>> {
         let Port {
             handler,

@@ -2,80 +2,96 @@
 
 use crate::drawn::{checked, filled, put, settle};
 use crate::fixtures::{FLOPPY, work};
-use adf_block::{BootKind, Format, Image, SizeFault, size_ok};
+use crate::rows::{cut, long_of, parts};
+use adf_block::{BootKind, Format, Image, SizeFault, SizeRefused, size_ok};
 use ados_check::{Sketch, accepted_kind, whole_pages};
 use ados_data::blocks_of;
-use std::alloc::Global;
+use std::alloc::{AllocError, Global};
 use std::process::Abort;
 use std::test::Fail;
 
-/// An image of that many bytes has this fault, and they come back; or it has none.
-fn expect_size(
-    rt: &impl Abort,
-    alloc: Global,
-    bytes: usize,
-    fault: Option<SizeFault>,
-) -> Result<(), Fail> {
-    assert!(rt; bytes <= 100_000_000);
-    match Image::from_bytes(vec![in alloc; 7_u8; bytes]?) {
-        Ok(_image) => assert_eq!(rt; None, fault, "of {bytes} bytes"),
-        Err(refused) => {
-            assert_eq!(rt; Some(refused.fault), fault, "of {bytes} bytes");
-            assert_eq!(rt; refused.bytes.len(), bytes);
-        }
+/// Whether an image of this many bytes has this fault, and the bytes are returned.
+fn has_size(alloc: Global, bytes: usize, wanted: &str) -> Result<bool, AllocError> {
+    if bytes > 100_000_000 {
+        return Ok(false);
     }
-    Ok(())
+    let (text, back) = match Image::from_bytes(vec![in alloc; 7_u8; bytes]?) {
+        Ok(image) => ("none", image.into_bytes()),
+        Err(SizeRefused { fault, bytes }) => (size_text(fault), bytes),
+    };
+    Ok(text == wanted && back.len() == bytes)
 }
+
+pub(crate) fn size_text(fault: SizeFault) -> &'static str {
+    match fault {
+        SizeFault::NotWholeBlocks => "no whole blocks",
+        SizeFault::TooFewBlocks => "too few blocks",
+        SizeFault::TooManyBlocks => "too many blocks",
+    }
+}
+
+/// Sizes of images, with their faults.
+const SIZES: &str = "\
+0 = too few blocks
+7680 = too few blocks
+8192 = none
+901119 = no whole blocks
+52020224 = none
+52020736 = too many blocks";
 
 #[test]
 fn sizes(rt: HostRuntime) -> Result<(), Fail> {
-    for (bytes, fault) in [
-        (0, Some(SizeFault::TooFewBlocks)),
-        (7_680, Some(SizeFault::TooFewBlocks)),
-        (8_192, None),
-        (901_119, Some(SizeFault::NotWholeBlocks)),
-        (52_020_224, None),
-        (52_020_736, Some(SizeFault::TooManyBlocks)),
-    ] {
-        expect_size(&rt, rt.alloc(), bytes, fault)?;
+    for row in SIZES.lines() {
+        let (bytes, wanted) = parts(row);
+        assert!(rt;
+            has_size(rt.alloc(), long_of(bytes) as usize, wanted)?,
+            "{row}"
+        );
     }
     Ok(())
 }
 
 #[test]
 fn size_limits(rt: HostRuntime) {
-    for (blocks, ok) in [
-        (0, false),
-        (15, false),
-        (16, true),
-        (101_602, true),
-        (101_603, false),
-    ] {
-        assert_eq!(rt; size_ok(blocks), ok, "at {blocks}");
+    assert!(rt; !size_ok(0) && !size_ok(15) && size_ok(16));
+    assert!(rt; size_ok(101_602) && !size_ok(101_603));
+}
+
+/// Sizes of files, with the number of blocks that they use.
+const OF_FFS: &str = "\
+0 = 0
+1 = 1
+512 = 1
+513 = 2
+36864 = 72
+36865 = 74
+886272 = 1755
+18446744073709551615 = 36529196977560689";
+
+const OF_OFS: &str = "\
+488 = 1
+489 = 2
+35136 = 72
+35137 = 74";
+
+fn expect_blocks(rt: &impl Abort, format: Format, rows: &str) {
+    for row in rows.lines() {
+        let (size, blocks) = parts(row);
+        let size = size.parse().unwrap_or(0);
+        assert!(rt;
+            blocks.parse().ok() == Some(blocks_of(format, size)),
+            "{row}"
+        );
     }
 }
 
 #[test]
 fn blocks_of_files(rt: HostRuntime) {
-    for (format, size, blocks) in [
-        (Format::Ffs, 0, 0),
-        (Format::Ffs, 1, 1),
-        (Format::Ffs, 512, 1),
-        (Format::Ffs, 513, 2),
-        (Format::Ffs, 36_864, 72),
-        (Format::Ffs, 36_865, 74),
-        (Format::Ffs, 886_272, 1_755),
-        (Format::Ffs, u64::MAX, 36_529_196_977_560_689),
-        (Format::Ofs, 488, 1),
-        (Format::Ofs, 489, 2),
-        (Format::Ofs, 35_136, 72),
-        (Format::Ofs, 35_137, 74),
-    ] {
-        assert_eq!(rt; blocks_of(format, size), blocks, "of {size} bytes");
-    }
+    expect_blocks(&rt, Format::Ffs, OF_FFS);
+    expect_blocks(&rt, Format::Ofs, OF_OFS);
 }
 
-/// The kind of the disk, if a sketch of the image shows that it is accepted.
+/// The kind of the disk, if a sketch of the image shows that the image is accepted.
 fn shown(alloc: Global, image: &Image) -> Result<Option<BootKind>, Fail> {
     prove!(image.blocks() >= 16);
     let bytes = image.as_bytes().to_vec(alloc)?;
@@ -83,7 +99,7 @@ fn shown(alloc: Global, image: &Image) -> Result<Option<BootKind>, Fail> {
     Ok(accepted_kind(alloc, &sketch))
 }
 
-/// Volumes of either kind with directories, an extension block and data blocks.
+/// Volumes of either format, with directories, an extension block and data blocks.
 #[test]
 fn sketch_of_a_filled_volume(rt: HostRuntime) -> Result<(), Fail> {
     let old = filled(rt.alloc(), Format::Ofs)?;
@@ -93,7 +109,7 @@ fn sketch_of_a_filled_volume(rt: HostRuntime) -> Result<(), Fail> {
     Ok(())
 }
 
-/// A blank floppy of which one long is written over, and a checksum settled where that is another long, is not shown as accepted.
+/// A blank floppy with one long overwritten is not shown as accepted. If the checksum is another long, it is corrected.
 fn expect_not_shown(
     rt: &impl Abort,
     alloc: Global,
@@ -133,17 +149,20 @@ fn sketch_of_a_bitmap_block_like_data(rt: HostRuntime) -> Result<(), Fail> {
     Ok(())
 }
 
-/// Room below the bound stays as it is; other room makes whole huge pages with the 32 bytes of the allocator.
+/// Room below the bound is unchanged; larger room fills whole huge pages, less 32 bytes for the allocator.
+const ROOMS: &str = "\
+901121 16777216 = 901121
+901121 524288 = 2097120
+2097120 524288 = 2097120
+2097152 524288 = 4194272
+52020224 16777216 = 52428768";
+
 #[test]
 fn room_in_whole_huge_pages(rt: HostRuntime) {
-    let rows = [
-        (901_121, 16_777_216, 901_121),
-        (901_121, 524_288, 2_097_120),
-        (2_097_120, 524_288, 2_097_120),
-        (2_097_152, 524_288, 4_194_272),
-        (52_020_224, 16_777_216, 52_428_768),
-    ];
-    for (room, least, whole) in rows {
-        assert_eq!(&rt; whole_pages(room, least), whole, "for {room} bytes");
+    for row in ROOMS.lines() {
+        let (room, wanted) = parts(row);
+        let (room, least) = cut(room);
+        let whole = whole_pages(long_of(room) as usize, long_of(least) as usize);
+        assert!(rt; whole == long_of(wanted) as usize, "{row}");
     }
 }

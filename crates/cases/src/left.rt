@@ -3,12 +3,18 @@ use crate::spoken::Spoken;
 use ados_port::{Gathered, Reply};
 use std::alloc::{AllocError, Global};
 
-/// Tells what is left of a port: whether its server has died, each packet that was put and not served, with its client and its action, and each client's untaken replies.
+/// What is left of a port: whether its server has died; each unanswered packet with its client and its action; and each
+/// client's untaken replies.
 pub(crate) fn left_text<S: Spoken>(
     alloc: Global,
     left: &Gathered<S>,
 ) -> Result<String, AllocError> {
     let mut text = String::from_str(alloc, if left.server.died() { "dead" } else { "alive" })?;
+    push_left(&mut text, left)?;
+    Ok(text)
+}
+
+fn push_left<S: Spoken>(text: &mut String, left: &Gathered<S>) -> Result<(), AllocError> {
     for (client, packet) in &left.unanswered {
         let action = S::action_of(packet);
         write!(text, ", unanswered {client} {action}")?;
@@ -17,12 +23,12 @@ pub(crate) fn left_text<S: Spoken>(
     for replies in &left.untaken {
         client = client.wrapping_add(1);
         write!(text, ", untaken {client}")?;
-        push_replies::<S>(&mut text, replies)?;
+        push_replies::<S>(text, replies)?;
     }
-    Ok(text)
+    Ok(())
 }
 
-/// Replies that follow one another and have the same results.
+/// Consecutive replies with the same results.
 #[derive(Clone, Copy)]
 struct Run {
     first: u64,

@@ -1,10 +1,12 @@
-//! Cases of what only a call shows: names, the bitmap, hash chains, sizes and sketches of images, the ends of a port, steps at
-//! an exchange, clients on threads, readers and writers that fail in mid-stream, and growths of memory that are refused.
+//! Cases of what only a call shows: names, the bitmap, hash chains, files, volumes, and sizes and sketches of images.
+//! Also the ends of a port, steps at an exchange, and clients on threads. Also readers and writers that fail in
+//! mid-stream, and refused growths of memory. Each public call and type is named here, so a change of the surface does
+//! not build.
 //!
-//! A case is a text, whose rows one function goes through: each test is proved too, and a text costs the prover nothing.
+//! A case is a text, and one function runs its rows. Each test is proved too, and a text costs the prover nothing.
 #![tactic(auto)]
 
-// Rows, and what they speak of.
+// Rows and their values.
 #[cfg(test)]
 mod fixtures;
 #[cfg(test)]
@@ -12,7 +14,7 @@ mod rows;
 #[cfg(test)]
 mod spoken;
 
-// Calls of lower crates, and the volumes that they are made on.
+// Calls of lower crates, and the volumes that they work on.
 #[cfg(test)]
 mod bitmap;
 #[cfg(test)]
@@ -20,13 +22,21 @@ mod chains;
 #[cfg(test)]
 mod drawn;
 #[cfg(test)]
+mod files;
+#[cfg(test)]
 mod images;
 #[cfg(test)]
 mod marks;
 #[cfg(test)]
 mod names;
+#[cfg(test)]
+mod on_image;
+#[cfg(test)]
+mod on_volume;
+#[cfg(test)]
+mod volumes;
 
-// A port with all its ends in one hand, and what is left of it.
+// A port with all its ends in one value, and what is left of it.
 #[cfg(test)]
 mod ends_tests;
 #[cfg(test)]
@@ -42,7 +52,7 @@ mod steps;
 #[cfg(test)]
 mod steps_tests;
 
-// Clients on threads of their own.
+// Clients, each on its own thread.
 #[cfg(test)]
 mod gates;
 #[cfg(test)]
@@ -66,7 +76,7 @@ mod streams;
 #[cfg(test)]
 mod streams_tests;
 
-// Growths that are refused.
+// Refused growths.
 #[cfg(test)]
 mod desk;
 #[cfg(test)]

@@ -1,4 +1,4 @@
-//! What the walk from the root notes of each block that it reaches: what the block is for, and which long names it.
+//! The marks of the walk from the root for each reached block: the purpose of the block, and the long that names it.
 
 use crate::drawn::{put, put_directory, settle};
 use crate::fixtures::work;
@@ -8,9 +8,9 @@ use ados_check::{Mark, Source, reach};
 use std::alloc::{AllocError, Global};
 use std::test::Fail;
 
-/// An OFS volume of 16 blocks, whose root is block 8 and whose bitmap is block 9. In slot 6 of the root are the directory `A`
-/// in block 10 and behind it the file `DP` in block 11, with the data block 13, and with 14 by its extension block 12; in `A`
-/// is a directory `f` in block 15.
+/// An OFS volume of 16 blocks. Its root is block 8, its bitmap block is 9. Slot 6 of the root holds the directory `A`
+/// in block 10 and after it the file `DP` in block 11. The file has the data block 13, and by its extension block 12
+/// the data block 14. `A` holds a directory `f` in block 15.
 fn small_volume(alloc: Global) -> Result<Image, AllocError> {
     let mut image = work(alloc, 16)?.into_image();
     put(&mut image, 0, &[(KIND, 0x444f_5300)]);
@@ -49,15 +49,14 @@ fn small_volume(alloc: Global) -> Result<Image, AllocError> {
     Ok(image)
 }
 
-/// A line for each mark: its block, what that is for, and the block and long that name it.
-fn marks_text(alloc: Global, marks: &[Option<Mark>]) -> Result<String, AllocError> {
-    let mut text = String::new(alloc);
+/// Adds a line for each mark: its block, the purpose of the block, and the block and long that name it.
+fn push_marks(text: &mut String, marks: &[Option<Mark>]) -> Result<(), AllocError> {
     for (block, mark) in marks.iter().enumerate() {
         if let Some(Mark { role, holder, long }) = mark {
             write!(text, "{block} {role:?} {holder} {long}\n")?;
         }
     }
-    Ok(text)
+    Ok(())
 }
 
 const MARKS: &str = "\
@@ -77,7 +76,8 @@ fn marks(rt: HostRuntime) -> Result<(), Fail> {
     let Ok(marks) = reach(rt.alloc(), &Source::whole(&image)) else {
         return Err(Fail::from("a fault"));
     };
-    let told = marks_text(rt.alloc(), &marks)?;
-    assert_eq!(rt; told.as_str(), MARKS);
+    let mut told = String::new(rt.alloc());
+    push_marks(&mut told, &marks)?;
+    assert!(rt; told.as_str() == MARKS, "{told}");
     Ok(())
 }

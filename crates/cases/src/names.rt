@@ -1,46 +1,46 @@
 //! Names, comments, paths, protection bits and dates, each call once.
 
+use crate::rows::{cut, long_of, parts};
 use ados_name::{
     Comment, CommentTooLong, Date3, Name, NameFault, PathSteps, PathText, PathTooLong, Protect,
     Step, same_name_same_slot, upper,
 };
-use std::alloc::Global;
-use std::process::Abort;
 use std::test::Fail;
 
-/// A name has this slot and these bytes.
-fn expect_slot(rt: &impl Abort, bytes: &[u8], slot: u32) -> Result<(), Fail> {
-    let name = Name::new(bytes)?;
-    assert_eq!(rt; (name.slot(), name.hash() % 72), (slot, slot));
-    assert_eq!(rt; name.bytes(), bytes);
-    Ok(())
+/// Whether a name has this slot and these bytes.
+fn has_slot(bytes: &[u8], slot: u32) -> bool {
+    match Name::new(bytes) {
+        Ok(name) => name.slot() == slot && name.hash() % 72 == slot && name.bytes() == bytes,
+        Err(_) => false,
+    }
 }
+
+/// Names with their slots.
+const SLOTS: &str = "\
+A = 6
+a = 6
+ab = 25
+readme = 4
+DP = 6
+B = 7
+d = 9
+hello = 1";
 
 #[test]
-fn hashes(rt: HostRuntime) -> Result<(), Fail> {
-    let slots: [(&[u8], u32); 10] = [
-        (b"A", 6),
-        (b"a", 6),
-        (b"ab", 25),
-        (b"readme", 4),
-        (b"DP", 6),
-        (b"B", 7),
-        (b"d", 9),
-        (b"hello", 1),
-        (b"\xe4", 25),
-        (b"\xc4", 65),
-    ];
-    for (bytes, slot) in slots {
-        expect_slot(&rt, bytes, slot)?;
+fn hashes(rt: HostRuntime) {
+    for row in SLOTS.lines() {
+        let (name, slot) = parts(row);
+        assert!(rt; has_slot(name.as_bytes(), long_of(slot)), "{row}");
     }
+    assert!(rt; has_slot(b"\xe4", 25) && has_slot(b"\xc4", 65));
     same_name_same_slot();
-    Ok(())
 }
 
-/// The letters that have an upper case, in that.
+/// The letters that have an upper case, in upper case.
 const UPPER: &[u8] = b"ABCDEFGHIJKLMNOPQRSTUVWXYZ";
 
-/// The letters from `a` to `z` in upper case, and each other byte as it is: also E0 to FE, the small letters past ASCII.
+/// The letters from `a` to `z` become upper case. Every other byte is unchanged, even E0 to FE, the small letters after
+/// ASCII.
 #[test]
 fn upper_cases(rt: HostRuntime) {
     for byte in 0..=255 {
@@ -52,7 +52,7 @@ fn upper_cases(rt: HostRuntime) {
     }
 }
 
-/// Letters past ASCII have no other case.
+/// Letters after ASCII have no other case.
 #[test]
 fn same_names(rt: HostRuntime) -> Result<(), Fail> {
     assert!(rt; Name::new(b"ReadMe")?.same(&Name::new(b"README")?));
@@ -109,117 +109,148 @@ fn lengths_of_comments_and_paths(rt: HostRuntime) {
     }
 }
 
-/// A date by its days, minutes and ticks has this text.
-fn expect_text(
-    rt: &impl Abort,
-    alloc: Global,
-    [days, minutes, ticks]: [u32; 3],
-    wanted: &str,
-) -> Result<(), Fail> {
-    let date = Date3 {
-        days,
-        minutes,
-        ticks,
-    };
-    assert_eq!(rt; date.text(alloc)?.as_str(), wanted);
-    Ok(())
+/// The date with these days, minutes and ticks.
+fn date_of(text: &str) -> Date3 {
+    let (days, rest) = cut(text);
+    let (minutes, ticks) = cut(rest);
+    Date3 {
+        days: long_of(days),
+        minutes: long_of(minutes),
+        ticks: long_of(ticks),
+    }
 }
+
+const DATES: &str = "\
+8035 61 125 = 2000-01-01 01:01:02.50
+2929974 1439 2999 = 9999-12-31 23:59:59.98
+2929975 0 0 = raw 2929975 0 0
+0 1440 0 = raw 0 1440 0
+0 0 0 = 1978-01-01 00:00:00.00
+0 0 3000 = raw 0 0 3000";
 
 #[test]
 fn dates(rt: HostRuntime) -> Result<(), Fail> {
-    let texts = [
-        ([8035, 61, 125], "2000-01-01 01:01:02.50"),
-        ([2_929_974, 1439, 2999], "9999-12-31 23:59:59.98"),
-        ([2_929_975, 0, 0], "raw 2929975 0 0"),
-        ([0, 1440, 0], "raw 0 1440 0"),
-        ([0, 0, 0], "1978-01-01 00:00:00.00"),
-        ([0, 0, 3000], "raw 0 0 3000"),
-    ];
-    for (date, wanted) in texts {
-        expect_text(&rt, rt.alloc(), date, wanted)?;
+    for row in DATES.lines() {
+        let (date, wanted) = parts(row);
+        assert!(rt; date_of(date).text(rt.alloc())?.as_str() == wanted, "{row}");
     }
     Ok(())
 }
 
-/// A path is split into these.
-fn expect_split(rt: &impl Abort, bytes: &[u8], front: &[u8], last: &[u8]) -> Result<(), Fail> {
-    let path = PathText::new(bytes)?;
-    assert_eq!(rt; path.split_last(), (front, last));
-    Ok(())
+/// Whether a path is split into a prefix and a last name, which a bar separates in the row.
+fn is_split(path: &str, wanted: &str) -> bool {
+    let Ok(path) = PathText::new(path.as_bytes()) else {
+        return false;
+    };
+    let (front, last) = path.split_last();
+    match wanted.split_once('|') {
+        Some((before, behind)) => front == before.as_bytes() && last == behind.as_bytes(),
+        None => false,
+    }
 }
+
+const SPLITS: &str = "\
+x/y = x/|y
+a/ = a/|
+x:b = x:|b
+b = |b
+x:a/b:c = x:a/b:|c
+ = |";
+
+const LETTERS: &str = "\
+0 = ---rwed
+15 = -------
+112 = sparwed";
 
 #[test]
-fn split_and_letters(rt: HostRuntime) -> Result<(), Fail> {
-    let splits: [(&[u8], &[u8], &[u8]); 6] = [
-        (b"x/y", b"x/", b"y"),
-        (b"a/", b"a/", b""),
-        (b"x:b", b"x:", b"b"),
-        (b"b", b"", b"b"),
-        (b"x:a/b:c", b"x:a/b:", b"c"),
-        (b"", b"", b""),
-    ];
-    for (bytes, front, last) in splits {
-        expect_split(&rt, bytes, front, last)?;
+fn split_and_letters(rt: HostRuntime) {
+    for row in SPLITS.lines() {
+        let (path, wanted) = parts(row);
+        assert!(rt; is_split(path, wanted), "{row}");
     }
-    for (bits, letters) in [(0, b"---rwed"), (15, b"-------"), (112, b"sparwed")] {
-        assert_eq!(rt; Protect(bits).letters().as_slice(), letters.as_slice());
+    for row in LETTERS.lines() {
+        let (bits, letters) = parts(row);
+        assert!(rt;
+            Protect(long_of(bits)).letters().as_slice() == letters.as_bytes(),
+            "{row}"
+        );
     }
-    Ok(())
 }
 
-/// The steps as a text: `^` to the parent, and `>` before the name of a child.
-fn spelled(alloc: Global, steps: PathSteps) -> Result<Vec<u8>, Fail> {
-    let mut text = Vec::new(alloc);
+/// The permissions that the bits deny, and the archive bit, each at the position of its bit.
+fn told_bits(bits: Protect) -> u32 {
+    bits.denies_delete() as u32
+        + 4 * bits.denies_write() as u32
+        + 8 * bits.denies_read() as u32
+        + 16 * bits.archive() as u32
+}
+
+/// Bits 0, 2 and 3 deny if they are set, and bit 4 is the archive bit. The others are kept.
+#[test]
+fn protection_bits(rt: HostRuntime) {
+    for low in 0..=255 {
+        let bits = 0x8000_0000 + low;
+        assert!(rt; told_bits(Protect(bits)) == bits & 0b1_1101, "{low}");
+        let without = Protect(bits).without_archive();
+        assert!(rt; without.bits() == bits & !16, "{low}");
+    }
+}
+
+/// Whether a text spells these steps: `^` for the parent, and `>` before the name of a child.
+fn are_steps(steps: PathSteps, text: &str) -> bool {
+    let mut rest = text.as_bytes();
     for step in steps {
-        match step {
-            Step::Parent => text.push(b'^')?,
-            Step::Child(name) => {
-                text.push(b'>')?;
-                text.extend_from_slice(name)?;
-            }
+        let left = match step {
+            Step::Parent => rest.strip_prefix(b"^".as_slice()),
+            Step::Child(name) => behind_child(rest, name),
+        };
+        match left {
+            Some(left) => rest = left,
+            None => return false,
         }
     }
-    Ok(text)
+    rest.is_empty()
 }
 
-/// A path has these steps, from the root or not.
-fn expect_steps(
-    rt: &impl Abort,
-    alloc: Global,
-    bytes: &[u8],
-    steps: &[u8],
-    from_root: bool,
-) -> Result<(), Fail> {
-    let path = PathText::new(bytes)?;
-    assert_eq!(rt; spelled(alloc, path.steps())?.as_slice(), steps);
-    assert_eq!(rt; path.from_root(), from_root);
-    Ok(())
+/// The text after a step to a child.
+fn behind_child<'a>(text: &'a [u8], name: &[u8]) -> Option<&'a [u8]> {
+    text.strip_prefix(b">".as_slice())?.strip_prefix(name)
 }
+
+/// Whether a path has these steps, after `:` if it starts from the root.
+fn has_steps(path: &str, wanted: &str) -> bool {
+    let Ok(path) = PathText::new(path.as_bytes()) else {
+        return false;
+    };
+    match wanted.strip_prefix(':') {
+        Some(steps) => path.from_root() && are_steps(path.steps(), steps),
+        None => !path.from_root() && are_steps(path.steps(), wanted),
+    }
+}
+
+const STEPS: &str = "\
+a//b = >a^>b
+a/ = >a
+x:b = :>b
+ = 
+/ = ^
+f/y = >f>y
+x:/b:c = :^>b:c
+: = :";
 
 #[test]
-fn steps_of_paths(rt: HostRuntime) -> Result<(), Fail> {
-    let walks: [(&[u8], &[u8], bool); 8] = [
-        (b"a//b", b">a^>b", false),
-        (b"a/", b">a", false),
-        (b"x:b", b">b", true),
-        (b"", b"", false),
-        (b"/", b"^", false),
-        (b"f/y", b">f>y", false),
-        (b"x:/b:c", b"^>b:c", true),
-        (b":", b"", true),
-    ];
-    for (bytes, steps, from_root) in walks {
-        expect_steps(&rt, rt.alloc(), bytes, steps, from_root)?;
+fn steps_of_paths(rt: HostRuntime) {
+    for row in STEPS.lines() {
+        let (path, wanted) = parts(row);
+        assert!(rt; has_steps(path, wanted), "{row}");
     }
-    Ok(())
 }
 
-/// The front of a path that names a place: its steps lead to the directory.
+/// The prefix of a path that names a place: its steps lead to the directory.
 #[test]
 fn steps_to_a_place(rt: HostRuntime) -> Result<(), Fail> {
     let path = PathText::new(b"x:a//b/c")?;
     let (front, _) = path.split_last();
-    let steps = spelled(rt.alloc(), PathSteps::of(front))?;
-    assert_eq!(rt; steps.as_slice(), b">a^>b".as_slice());
+    assert!(rt; are_steps(PathSteps::of(front), ">a^>b"));
     Ok(())
 }

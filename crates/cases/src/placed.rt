@@ -1,17 +1,17 @@
-//! A server that numbers the packets which another one serves, in the order in which they are served.
+//! A server that numbers the packets of another server in the order of service.
 
 use crate::spoken::Spoken;
 use ados_port::Server;
 use std::alloc::{AllocError, Global};
 
-/// A server, and how many packets it has served.
+/// A server, and the number of packets that it has served.
 #[derive(Drop)]
 pub(crate) struct Placed<S: Server> {
     pub(crate) server: S,
     pub(crate) served: usize,
 }
 
-/// What the server answers, and how many packets were served before.
+/// The server's answer, and the number of packets served before.
 #[derive(Drop)]
 pub(crate) struct PlacedReply<A> {
     pub(crate) answer: A,

@@ -1,27 +1,31 @@
-//! A case of a port whose ends are all in one hand, and how it is gone through.
+//! Runs a case of a port whose ends are all in one value.
 ghost use Rattle.std.specs.Prelude.{◌≡◌, false};
 
 use crate::hand::Port;
 use crate::left::left_text;
-use crate::rows::{Opening, Turn, first_row, last_row, opening_of, parts, turn_of};
+use crate::rows::{
+    Opening, Turn, Went, first_row, last_row, opening_of, parts, turn_of, went_of, with_action,
+};
 use crate::spoken::Spoken;
 use ados_port::{PutRefused, Reply, ServeEnd, ServeFault};
 use std::alloc::{AllocError, Global};
+use std::process::Abort;
 use std::sync::Wait;
 
-/// After how many batches in a row that found nothing a port is idle.
+/// The number of batches in a row without a packet after which a port is idle.
 const IDLE_LIMIT: u64 = 3;
 
-/// Opens a port over this server, goes through the rows of a case and gathers the ends. It tells what came otherwise than the case says: nothing, if all is well.
+/// Opens a port over this server, runs the rows of a case and gathers the ends.
 ///
-/// The first row opens the port, and the last one says what is left of it.
-pub(crate) fn play<S: Spoken + Drop, R: Wait>(
+/// The first row opens the port, and the last one says what is left of it. If memory runs out, the case ends with that
+/// error.
+pub(crate) fn play<S: Spoken + Drop, R: Wait + Abort>(
     rt: &R,
     alloc: Global,
     server: S,
     moment: S::Moment,
     case: &str,
-) -> Result<String, AllocError>
+) -> Result<(), AllocError>
     requires { S.has_died server ≡ false }
 {
     let (first, rest) = first_row(case);
@@ -29,19 +33,17 @@ pub(crate) fn play<S: Spoken + Drop, R: Wait>(
     let Some(mut port) = opened(alloc, server, moment, opening_of(first)) else {
         return Err(AllocError);
     };
-    let mut strayed = String::new(alloc);
-    play_rows(rt, alloc, &mut port, rows, &mut strayed)?;
+    play_rows(rt, alloc, &mut port, rows)?;
     let Some(left) = port.gather(rt, alloc) else {
         return Err(AllocError);
     };
     let came = left_text(alloc, &left)?;
-    if came.as_str() != wanted {
-        write!(strayed, "left is {came}\n")?;
-    }
-    Ok(strayed)
+    assert!(rt; came.as_str() == wanted, "left is {came}");
+    Ok(())
 }
 
-// The port of a case. It first asks for rings of more places than there can be, and goes on with the server that is handed back.
+// The port of a case. The first try asks for rings with more places than memory can hold. The second try uses the
+// returned server.
 fn opened<S: Spoken + Drop>(
     alloc: Global,
     server: S,
@@ -64,50 +66,46 @@ fn opened<S: Spoken + Drop>(
     }
 }
 
-// Goes through rows, and adds to `strayed` each one that came to something else than it says.
-fn play_rows<S: Spoken, R: Wait>(
+// Runs rows; each has the result that it says.
+fn play_rows<S: Spoken, R: Wait + Abort>(
     rt: &R,
     alloc: Global,
     port: &mut Port<S>,
     rows: &str,
-    strayed: &mut String,
 ) -> Result<(), AllocError> {
     for row in rows.lines() {
         let (text, wanted) = parts(row);
-        let came = match turn_of(text) {
-            Some(turn) => port.turn(rt, alloc, turn)?,
-            None => String::from_str(alloc, "no turn")?,
-        };
-        if came.as_str() != wanted {
-            write!(strayed, "{text} came to {came}\n")?;
-        }
+        let (word, number, first, second) = port.turn(rt, alloc, text)?;
+        assert!(rt;
+            (word, number, first, second) == went_of(wanted),
+            "{text} came to {word} {number} {first} {second}"
+        );
     }
     Ok(())
 }
 
 impl<S: Spoken> Port<S> {
-    /// Makes a turn, and tells what it came to.
+    /// Makes a turn, and returns its result.
     fn turn<R: Wait>(
         &mut self,
         rt: &R,
         alloc: Global,
-        turn: Turn<'_>,
-    ) -> Result<String, AllocError> {
-        match turn {
-            Turn::Put(client, line) => self.put_line(rt, alloc, client, line),
-            Turn::PutMany(client, count, line) => self.put_many(rt, alloc, client, count, line),
-            Turn::Batch(limit) => batch_text(alloc, self.batch(rt, limit)),
-            Turn::Batches => end_text(alloc, self.batches(rt)),
-            Turn::Post => {
-                let waiting = self.post_waiting();
-                format!(in alloc; "{waiting} wait")
+        text: &str,
+    ) -> Result<Went<'static>, AllocError> {
+        Ok(match turn_of(text) {
+            Some(Turn::Put(client, line)) => self.put_line(rt, alloc, client, line)?,
+            Some(Turn::PutMany(client, count, line)) => {
+                self.put_many(rt, alloc, client, count, line)?
             }
-            Turn::Take(client) => reply_text::<S>(alloc, self.take(client)),
-            Turn::Ask(client) => {
-                String::from_str(alloc, if self.is_shut(client) { "shut" } else { "open" })
+            Some(Turn::Batch(limit)) => batch_went(self.batch(rt, limit)),
+            Some(Turn::Batches) => (end_word(self.batches(rt)), 0, 0, 0),
+            Some(Turn::Post) => ("waiting", self.post_waiting() as u64, 0, 0),
+            Some(Turn::Take(client)) => reply_went::<S>(&self.take(client)),
+            Some(Turn::Ask(client)) => {
+                (if self.is_shut(client) { "shut" } else { "open" }, 0, 0, 0)
             }
-            Turn::Serve | Turn::Read(..) => String::from_str(alloc, "no turn of a port's ends"),
-        }
+            _ => ("no-turn", 0, 0, 0),
+        })
     }
 
     fn put_line<R: Wait>(
@@ -116,14 +114,14 @@ impl<S: Spoken> Port<S> {
         alloc: Global,
         client: usize,
         line: &str,
-    ) -> Result<String, AllocError> {
+    ) -> Result<Went<'static>, AllocError> {
         match S::packet_of(alloc, line)? {
-            Some(packet) => put_text::<S>(alloc, self.put_packet(rt, client, packet)),
-            None => String::from_str(alloc, "no packet"),
+            Some(packet) => Ok(put_went::<S>(&self.put_packet(rt, client, packet))),
+            None => Ok(("no-packet", 0, 0, 0)),
         }
     }
 
-    // Puts so many packets of a line, and tells whether each was accepted under the next number.
+    // Puts this many packets of a line; each must be accepted under the next number.
     fn put_many<R: Wait>(
         &mut self,
         rt: &R,
@@ -131,20 +129,17 @@ impl<S: Spoken> Port<S> {
         client: usize,
         count: u64,
         line: &str,
-    ) -> Result<String, AllocError> {
+    ) -> Result<Went<'static>, AllocError> {
         for place in 0..count {
-            let Some(packet) = S::packet_of(alloc, line)? else {
-                return String::from_str(alloc, "no packet");
-            };
-            let put = self.put_packet(rt, client, packet);
-            if put.as_ref().ok().copied() != place.checked_add(1) {
-                return put_text::<S>(alloc, put);
+            let went = self.put_line(rt, alloc, client, line)?;
+            if went != ("accepted", place.wrapping_add(1), 0, 0) {
+                return Ok(went);
             }
         }
-        format!(in alloc; "accepted 1 to {count}")
+        Ok(("numbered", count, 0, 0))
     }
 
-    // Puts a packet. Where it was refused since there was no memory and is put again, that is the packet that was handed back.
+    // Puts a packet. If memory was refused and the case puts again, it puts the returned packet.
     fn put_packet<R: Wait>(
         &mut self,
         rt: &R,
@@ -172,50 +167,37 @@ impl<S: Spoken> Port<S> {
     }
 }
 
-// What a put came to: the number that was accepted, or why it was refused, with the action of the packet that was handed back.
-fn put_text<S: Spoken>(
-    alloc: Global,
-    put: Result<u64, PutRefused<S::Request>>,
-) -> Result<String, AllocError> {
+// The result of a put: the accepted number, or the reason of the refusal with the action of the returned packet.
+fn put_went<S: Spoken>(put: &Result<u64, PutRefused<S::Request>>) -> Went<'static> {
     match put {
-        Ok(number) => format!(in alloc; "accepted {number}"),
-        Err(PutRefused::Closed(back)) => {
-            let action = S::action_of(&back);
-            format!(in alloc; "closed {action}")
-        }
-        Err(PutRefused::NoRoom(back)) => {
-            let action = S::action_of(&back);
-            format!(in alloc; "no room {action}")
-        }
+        Ok(number) => ("accepted", *number, 0, 0),
+        Err(PutRefused::Closed(back)) => with_action("closed", S::action_of(back)),
+        Err(PutRefused::NoRoom(back)) => with_action("no-room", S::action_of(back)),
     }
 }
 
-fn batch_text(alloc: Global, served: Result<usize, ServeFault>) -> Result<String, AllocError> {
+fn batch_went(served: Result<usize, ServeFault>) -> Went<'static> {
     match served {
-        Ok(count) => format!(in alloc; "served {count}"),
-        Err(_) => String::from_str(alloc, "no memory"),
+        Ok(count) => ("served", count as u64, 0, 0),
+        Err(_) => ("no-memory", 0, 0, 0),
     }
 }
 
-fn end_text(alloc: Global, end: Result<ServeEnd, ServeFault>) -> Result<String, AllocError> {
-    let word = match end {
+fn end_word(end: Result<ServeEnd, ServeFault>) -> &'static str {
+    match end {
         Ok(ServeEnd::Closed) => "closed",
         Ok(ServeEnd::Idle) => "idle",
-        Err(_) => "no memory",
-    };
-    String::from_str(alloc, word)
+        Err(_) => "no-memory",
+    }
 }
 
-// What a client took: the number and the results of the reply.
-fn reply_text<S: Spoken>(
-    alloc: Global,
-    reply: Option<Reply<S::Reply>>,
-) -> Result<String, AllocError> {
+// The result of a take: the number and the results of the reply.
+fn reply_went<S: Spoken>(reply: &Option<Reply<S::Reply>>) -> Went<'static> {
     match reply {
         Some(Reply { number, answer }) => {
-            let (first, second) = S::results_of(&answer);
-            format!(in alloc; "{number} {first} {second}")
+            let (first, second) = S::results_of(answer);
+            ("reply", *number, first, second)
         }
-        None => String::from_str(alloc, "nothing"),
+        None => ("nothing", 0, 0, 0),
     }
 }

@@ -6,11 +6,12 @@ use ados_port::{Client, ClientEnd, PutRefused, Server};
 use std::sync::Wait;
 use std::thread;
 
-/// Puts its packets in order, each again where memory was refused, and ends at the close. Where it `takes`, it then takes the reply to each.
+/// Puts its packets in order, repeats a put that runs out of memory, and ends at the close. If it `takes`, it then
+/// takes the reply to each packet.
 #[derive(Drop)]
 pub(crate) struct Putter<S: Server> {
     pub(crate) packets: Vec<S::Request>,
-    /// How often it tries a put, and looks for a reply.
+    /// The maximum number of tries of a put, and of polls for a reply.
     pub(crate) turns: u64,
     pub(crate) takes: bool,
 }
@@ -22,7 +23,7 @@ impl<S: Server> Client<S> for Putter<S> {
 
     ghost does = { λ job old new report. ⊤ };
 
-    // How many packets were accepted; of a client that takes, how many replies it took.
+    // Returns the number of accepted packets; for a client that takes, the number of replies taken.
     fn run<R: Wait>(self, rt: &R, end: &mut ClientEnd<S>) -> usize {
         let Putter {
             packets,
@@ -44,7 +45,7 @@ impl<S: Server> Client<S> for Putter<S> {
     }
 }
 
-// Puts one packet, with so many tries. It was not put where the port has closed or the tries ran out.
+// Puts one packet, with at most `turns` tries. The packet is not put if the port has closed or all tries failed.
 fn put_one<S: Server, R: Wait>(
     rt: &R,
     end: &mut ClientEnd<S>,
@@ -65,7 +66,7 @@ fn put_one<S: Server, R: Wait>(
     false
 }
 
-// Takes so many replies, or fewer where one does not come, and answers how many.
+// Takes `count` replies, or fewer if one does not come. Returns their number.
 fn take_many<S: Server>(end: &mut ClientEnd<S>, count: usize, turns: u64) -> usize
     ensures { Grown end.old end.new }
 {
@@ -77,7 +78,7 @@ fn take_many<S: Server>(end: &mut ClientEnd<S>, count: usize, turns: u64) -> usi
     count
 }
 
-// Takes one reply, with so many looks for it.
+// Takes one reply, with at most `turns` polls.
 fn take_one<S: Server>(end: &mut ClientEnd<S>, turns: u64) -> bool
     ensures { Grown end.old end.new }
 {

@@ -1,4 +1,4 @@
-//! Clients that put at the same time, each on a thread of its own.
+//! Clients that put at the same time, each on its own thread.
 ghost use Rattle.std.specs.Prelude.{◌≡◌, false};
 
 use crate::putter::Putter;
@@ -8,29 +8,30 @@ use std::alloc::{AllocError, Global};
 use std::sync::Wait;
 use std::thread::Threads;
 
-/// How often a client tries a put, and looks for a reply.
+/// The maximum number of tries of a put, and of polls for a reply.
 const TURNS: u64 = 100_000_000;
 
-/// A race: how many clients there are, how many places the ring of each has, and how many packets of action 999 each puts.
+/// A race: the number of clients, the number of places in each ring, and the number of packets with action 999 that
+/// each client puts.
 #[derive(Clone, Copy)]
 pub(crate) struct Plan {
     pub(crate) clients: usize,
     pub(crate) ring: usize,
     pub(crate) puts: usize,
-    /// Behind how many others the first client puts a DIE in place of one.
+    /// The number of packets of the first client before its DIE, which replaces one packet.
     pub(crate) die_at: Option<usize>,
-    /// Whether each client takes its replies when all its packets are put.
+    /// Whether each client takes its replies after all its puts.
     pub(crate) takes: bool,
 }
 
-/// What a race leaves of a port, and what each client has counted.
+/// What a race leaves of a port, and the count of each client.
 #[derive(Drop)]
 pub(crate) struct Raced<S: Server> {
     pub(crate) left: Gathered<S>,
     pub(crate) counts: Vec<usize>,
 }
 
-// A client's packets. The one behind so many is DIE.
+// A client's packets. The one at index `die_at` is DIE.
 fn putter<S: Spoken>(
     alloc: Global,
     plan: Plan,
@@ -63,7 +64,7 @@ fn putters<S: Spoken>(alloc: Global, plan: Plan) -> Result<Vec<Putter<S>>, Alloc
     Ok(jobs)
 }
 
-// Lets clients do their jobs, each on a thread of its own, and the handler serve on this one.
+// Lets clients do their jobs, each on its own thread, and the handler serve on this thread.
 fn run<S, R>(
     rt: &R,
     alloc: Global,
@@ -102,7 +103,8 @@ where
     })
 }
 
-/// Lets clients put, each on a thread of its own, and the handler serve on this one. It gives none where there is no client or no place, or memory or a thread was refused.
+/// Lets clients put, each on its own thread, and the handler serve on this thread. Returns `None` without clients or
+/// places, or if memory ran out or a thread could not be made.
 pub(crate) fn race<S, R>(
     rt: &R,
     alloc: Global,

@@ -10,7 +10,7 @@ use std::sync::Wait;
 use std::test::Fail;
 use std::thread::Threads;
 
-/// Each client counts all its packets or replies, and this is left.
+/// Each client counts all its packets or replies, and the port leaves `wanted`.
 fn expect<R: Threads + Wait + Abort + Copy + Send + Drop + 'static>(
     rt: &R,
     alloc: Global,
@@ -41,7 +41,8 @@ fn four_threads_put(rt: HostRuntime) -> Result<(), Fail> {
     expect(&rt, rt.alloc(), plan, wanted)
 }
 
-/// Each client puts all its packets before it takes a reply, so that replies wait beside a ring of one place until a batch posts them.
+/// Each client puts all its packets before it takes a reply, so replies wait beside a ring of one place until a batch
+/// posts them.
 #[test]
 fn put_ahead(rt: HostRuntime) -> Result<(), Fail> {
     let plan = Plan {
@@ -54,8 +55,8 @@ fn put_ahead(rt: HostRuntime) -> Result<(), Fail> {
     expect(&rt, rt.alloc(), plan, "alive, untaken 1, untaken 2")
 }
 
-/// Each client puts its packets or comes to the close. In the order in which the packets of all of them were served, those in
-/// front of the DIE are answered otherwise than those behind it.
+/// Each client puts its packets or finds the close. In the order of service, the packets before the DIE and those after
+/// it get different answers.
 #[test]
 fn racing_die(rt: HostRuntime) -> Result<(), Fail> {
     let plan = Plan {

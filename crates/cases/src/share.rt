@@ -1,18 +1,18 @@
-//! What a DIE in a race makes of each client's packets.
+//! The effect of a DIE in a race on each client's packets.
 use crate::placed::{Placed, PlacedReply};
 use crate::racing::Raced;
 use crate::spoken::Spoken;
 use ados_port::Reply;
 use std::alloc::{AllocError, Global};
 
-/// The results of a packet that the server does not know, of the DIE that ends it, and of every packet behind that.
+/// The results of a packet that the server does not know, of the DIE that ends it, and of every later packet.
 const UNKNOWN: (i32, i32) = (0, 209);
 
 const ENDED: (i32, i32) = (-1, 0);
 
 const DEAD: (i32, i32) = (0, 218);
 
-/// A client's replies: how many stand before the DIE, whether it is among them, and how many stand behind it.
+/// A client's replies: the number before the DIE, whether it is among them, and the number after it.
 #[derive(Clone, Copy)]
 struct Share {
     before: usize,
@@ -28,7 +28,7 @@ impl Share {
     }
 }
 
-// The share of a client whose replies are numbered from 1, and stand in the order of their kinds.
+// The share of a client with replies numbered from 1, in the order of their kinds.
 fn share_of<S: Spoken>(replies: &[Reply<S::Reply>]) -> Option<Share> {
     let mut share = Share {
         before: 0,
@@ -55,7 +55,9 @@ fn share_of<S: Spoken>(replies: &[Reply<S::Reply>]) -> Option<Share> {
     Some(share)
 }
 
-/// Whether the first client's DIE behind so many other packets ended the server: each client's replies are 0 209 and then 0 218, with the DIE's own between those of the first client, and its served and unanswered packets are as many as it put.
+/// Whether the first client's DIE, after `die_at` other packets, ended the server: the replies of each client are 0 209
+/// and then 0 218, with the reply of the DIE in between for the first client; served and unanswered packets of a client
+/// are as many as it put.
 pub(crate) fn is_parted<S: Spoken>(raced: &Raced<S>, die_at: usize) -> bool {
     let left = &raced.left;
     if !left.server.died() || left.untaken.len() != raced.counts.len() {
@@ -84,8 +86,8 @@ pub(crate) fn is_parted<S: Spoken>(raced: &Raced<S>, die_at: usize) -> bool {
     true
 }
 
-/// The results of all replies in the order in which their packets were served, whoever put them. A place stays empty where no
-/// reply has it, where two have it, or where a client's packets were served in another order than it put them.
+/// The results of all replies in the order in which their packets were served, of all clients. A place is empty if no
+/// reply belongs to it, if two do, or if a client's packets were not served in the order of its puts.
 pub(crate) fn served_order<S: Spoken + Drop>(
     alloc: Global,
     raced: &Raced<Placed<S>>,
@@ -97,7 +99,7 @@ pub(crate) fn served_order<S: Spoken + Drop>(
     Ok(order)
 }
 
-// Puts the results of a client's replies to their places, which rise.
+// Puts the results of a client's replies into their places, which must ascend.
 fn put_in_order<S: Spoken>(
     order: &mut [Option<(i32, i32)>],
     replies: &[Reply<PlacedReply<S::Reply>>],
@@ -116,7 +118,7 @@ fn put_in_order<S: Spoken>(
     }
 }
 
-/// Whether the packets in front of one DIE were answered 0 209, and all behind it 0 218.
+/// Whether the packets before one DIE were answered 0 209, and all after it 0 218.
 pub(crate) fn ends_at_the_die(order: &[Option<(i32, i32)>]) -> bool {
     let Some(die) = order.iter().position(|results| *results == Some(ENDED)) else {
         return false;

@@ -1,14 +1,13 @@
-//! How the cases speak of packets and answers. What goes through a port is generic in its server, so that a packet which is
-//! let go of is one case for the prover, and not one for each packet.
+//! The text form of packets and answers in the cases. A port is generic in its server, so that a dropped packet is one
+//! case for the prover, and not one for each packet.
 use adf_script::grammar::parse;
-use ados_handler::Handler;
-use ados_packet::{Answer, Packet};
+use ados_handler::{Answer, Handler, Packet};
 use ados_port::Server;
 use std::alloc::{AllocError, Global};
 
-/// A server whose packets are read from lines and named by their actions, and whose replies by their two results.
+/// A server whose packets are read from lines and named by their actions. Its replies are named by their two results.
 pub(crate) trait Spoken: Server {
-    /// The packet of a script's line, where it spells one.
+    /// The packet of a line of a script, if the line spells one.
     fn packet_of(alloc: Global, line: &str) -> Result<Option<Self::Request>, AllocError>;
 
     fn action_of(packet: &Self::Request) -> i32;

@@ -1,27 +1,31 @@
-//! Scripts at a handler's port, from its opening to its gathering.
+//! Scripts at the port of a handler, from opening the port to gathering its ends.
 ghost use Rattle.std.specs.Prelude.{◌≡◌, ◌<◌, false, length, map, IfSome};
 ghost use Rattle.ados_port.specs.Ends.{AreEnds};
 
 use crate::fixtures::START;
 use crate::hand::Port;
-use ados_handler::Handler;
-use ados_packet::Packet;
-use ados_port::{Gathered, open_port};
-use ados_run::{ClientEnding, Gate, ScriptsDone, assign, part_done, serve_scripts};
+use ados_handler::{Handler, Packet};
+use ados_port::{ClientEnd, Gathered, HandlerEnd, Server, open_port};
+use ados_run::{
+    ClientDone, ClientEnding, Gate, ScriptsDone, ScriptsFault, assign, part_done, serve_scripts,
+};
 use std::alloc::Global;
 use std::sync::Wait;
 use std::thread::Threads;
 
-/// How many places a reply ring has.
+/// The number of places in a reply ring.
 const RING: usize = 8;
 
-/// How often a client tries a put, and looks for a reply.
+/// The maximum number of tries of a put, and of polls for a reply.
 const TURNS: u64 = 100_000_000;
 
-/// What each client told, the number of one more packet that client 1 put when all had ended, and what was left of the port.
+/// What each client printed, and what was left of the port. Also the number of one more packet that client 1 put after
+/// all clients had ended.
 #[derive(Drop)]
 pub(crate) struct Staged {
     pub(crate) told: Vec<(Vec<u8>, ClientEnding)>,
+    /// Whether each client reached the end of its script and printed something.
+    pub(crate) all_done: bool,
     pub(crate) number: Option<u64>,
     pub(crate) left: Gathered<Handler>,
 }
@@ -46,14 +50,45 @@ where
     let Ok(clients) = assign(alloc, ends, scripts) else {
         return None;
     };
-    let Ok(done) = serve_scripts(rt, alloc, handler, clients, START, TURNS) else {
-        return None;
-    };
-    Some(done)
+    match serve_scripts(rt, alloc, handler, clients, START, TURNS) {
+        Ok(done) => Some(done),
+        Err(ScriptsFault::Memory | ScriptsFault::Thread) => None,
+    }
 }
 
-/// Opens a port, runs the scripts at it, puts action 999 by client 1, and gathers the ends. It gives none where memory or a
-/// thread was refused.
+fn is_done<S: Server>(done: &ClientDone<S>) -> bool {
+    let ClientDone {
+        client: _,
+        text,
+        end,
+    } = done;
+    *end == ClientEnding::Done && !text.is_empty()
+}
+
+/// Puts a packet by client 1, and gathers the ends. Returns the number of the packet, and what is left.
+fn put_and_gather<S: Server + Drop, R: Wait>(
+    rt: &R,
+    alloc: Global,
+    handler: HandlerEnd<S>,
+    ends: Vec<ClientEnd<S>>,
+    moment: S::Moment,
+    packet: S::Request,
+) -> Option<(Option<u64>, Gathered<S>)>
+    requires { AreEnds handler ends.items }
+{
+    let mut port = Port {
+        handler,
+        ends,
+        moment,
+        again: false,
+    };
+    let number = port.put(rt, 1, packet).ok();
+    let left = port.gather(rt, alloc)?;
+    Some((number, left))
+}
+
+/// Opens a port, runs the scripts at it, puts action 999 by client 1, and gathers the ends. Returns `None` if memory or
+/// a thread was refused.
 pub(crate) fn stage<G, R>(
     rt: &R,
     alloc: Global,
@@ -67,16 +102,16 @@ where
     requires some { 0 < length scripts.items }
 {
     let ScriptsDone { handler, clients } = run(rt, alloc, server, scripts)?;
+    let all_done = clients.iter().all(is_done);
     let Ok((ends, told)) = part_done(alloc, clients) else {
         return None;
     };
-    let mut port = Port {
-        handler,
-        ends,
-        moment: START,
-        again: false,
-    };
-    let number = port.put(rt, 1, Packet::Other { action: 999 }).ok();
-    let left = port.gather(rt, alloc)?;
-    Some(Staged { told, number, left })
+    let last = Packet::Other { action: 999 };
+    let (number, left) = put_and_gather(rt, alloc, handler, ends, START, last)?;
+    Some(Staged {
+        told,
+        all_done,
+        number,
+        left,
+    })
 }

@@ -1,7 +1,7 @@
-//! Readers and writers that fail, that do not end, and that give or take little at a time.
+//! Readers and writers that fail, that do not end, or that transfer only few bytes at a time.
 use std::io::{Error, ErrorKind, Read, Result as IoResult, Write};
 
-/// Gives so many bytes, at most `step` a read, each read after one that was interrupted; and then its end or a fault.
+/// Returns `left` bytes, at most `step` a read, each read after an interrupted one. Then it ends or fails.
 #[derive(Drop)]
 pub(crate) struct Bytes {
     pub(crate) byte: u8,
@@ -27,7 +27,7 @@ impl Read for Bytes {
     }
 }
 
-/// Takes at most `step` bytes a write, keeps them, and fails after so many writes.
+/// Accepts and keeps at most `step` bytes a write, and fails after `writes` writes.
 #[derive(Drop)]
 pub(crate) struct Narrow {
     pub(crate) writes: usize,

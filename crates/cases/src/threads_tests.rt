@@ -1,4 +1,4 @@
-//! Scripts at the running handler, each client on a thread of its own.
+//! Scripts at the running handler, each client on its own thread.
 ghost use Rattle.std.specs.Prelude.{◌≡◌, ◌<◌, false, length, IfOk};
 
 use crate::fixtures::{START, blank_handler};
@@ -21,7 +21,7 @@ fn make_directory(alloc: Global, handler: &mut Handler) -> Result<(), Fail> {
     Ok(())
 }
 
-/// The handler of the blank floppy with a directory `x`. Nothing is held, and it has not died.
+/// The handler of the blank floppy with a directory `x`. There are no locks or handles, and it has not died.
 fn handler_with_directory(alloc: Global) -> Result<Handler, Fail>
     ensures { IfOk result (λ handler. handler.session.died ≡ false) }
 {
@@ -30,7 +30,8 @@ fn handler_with_directory(alloc: Global) -> Result<Handler, Fail>
     Ok(Handler::new(alloc, handler.into_volume()))
 }
 
-/// The scripts of two clients, of which each needs a reply of the other's before its next packet: no order of one after the other does.
+/// The scripts of two clients. Each needs a reply of the other one before its next packet, so they cannot run one after
+/// the other.
 fn two_in_turns(alloc: Global) -> Result<Vec<(Vec<u8>, TurnGate)>, AllocError>
     ensures { IfOk result (λ scripts. 0 < length scripts.items) }
 {
@@ -48,9 +49,8 @@ fn two_in_turns(alloc: Global) -> Result<Vec<(Vec<u8>, TurnGate)>, AllocError>
     Ok(vec![in alloc; (a, first), (b, second)]?)
 }
 
-/// What clients told, with how each came to its end, under which number one more packet of client 1 was accepted, and what was left of the port.
-fn staged_text(alloc: Global, staged: &Staged) -> Result<String, AllocError> {
-    let mut text = String::new(alloc);
+/// What the clients printed, how each one ended, and the number of one more packet of client 1.
+fn push_told(text: &mut String, staged: &Staged) -> Result<(), AllocError> {
     for (lines, ending) in &staged.told {
         text.push_str(from_utf8(lines).unwrap_or("no text"))?;
         text.push_str(if *ending == ClientEnding::Done {
@@ -59,12 +59,10 @@ fn staged_text(alloc: Global, staged: &Staged) -> Result<String, AllocError> {
             "another ending\n"
         })?;
     }
-    if let Some(number) = staged.number {
-        write!(text, "accepted {number}\n")?;
+    match staged.number {
+        Some(number) => write!(text, "accepted {number}\n"),
+        None => Ok(()),
     }
-    let left = left_text(alloc, &staged.left)?;
-    text.push_str(left.as_str())?;
-    Ok(text)
 }
 
 const THREADS: &str = "\
@@ -75,7 +73,10 @@ done
 2.2 1 0
 done
 accepted 3
-alive, unanswered 1 999, untaken 1, untaken 2";
+";
+
+/// What is left of the port.
+const LEFT: &str = "alive, unanswered 1 999, untaken 1, untaken 2";
 
 #[test]
 fn threads(rt: HostRuntime) -> Result<(), Fail> {
@@ -84,7 +85,11 @@ fn threads(rt: HostRuntime) -> Result<(), Fail> {
     let Some(staged) = stage(&rt, rt.alloc(), server, scripts) else {
         return Err(Fail::from("memory or a thread"));
     };
-    let told = staged_text(rt.alloc(), &staged)?;
-    assert_eq!(rt; told.as_str(), THREADS);
+    assert!(rt; staged.all_done);
+    let mut told = String::new(rt.alloc());
+    push_told(&mut told, &staged)?;
+    assert!(rt; told.as_str() == THREADS, "{told}");
+    let left = left_text(rt.alloc(), &staged.left)?;
+    assert!(rt; left.as_str() == LEFT, "{left}");
     Ok(())
 }

@@ -1,7 +1,7 @@
--- What was noted for later is there still once more is put.
+-- What is to be done later is still valid after more was put.
 use Rattle.std.proofs.Common.{List, ℕ}
 use Rattle.std.proofs.lemmas.List.Elements.{All-weaker}
-use Rattle.ados_tree.specs.Keys.{HasDirectory, HasEntryKey}
+use Rattle.ados_model.specs.Keys.{HasDirectory, HasEntryKey}
 use Rattle.files_in.specs.declared.progress.Made.{Made}
 use Rattle.files_in.specs.declared.progress.Progress.{Progress}
 use Rattle.files_in.specs.Progress.{IsProgress}

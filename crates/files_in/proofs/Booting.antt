@@ -1,4 +1,4 @@
--- What the boot blocks hold once code was put into them.
+-- The boot blocks after code was written into them.
 use Rattle.std.proofs.Common.{◌≡◌, ℕ, inl, inr, ◌+◌, ◌-◌, ◌*◌, ◌%◌, ◌==◌, if◌then◌else◌, ◌/◌, ◌<◌, ◌≤◌, List, length, take, drop, min, slice_index, Option, Some, Ok, refl, sym, ap, ◌∙◌, subst, arith, length-take, length-drop}
 use Rattle.std.proofs.lemmas.Bool.{cases_eq, cases_lt}
 use Rattle.std.proofs.lemmas.List.{get_or-drop, get_or-take, get_or_past}
@@ -9,7 +9,7 @@ use Rattle.adf_block.proofs.Frames.{same_long}
 use Rattle.adf_block.proofs.Totals.{total-same}
 use Rattle.files_in.specs.Boot.{Boots, HoldsCode}
 
--- a block that was cleared and written from its beginning
+-- a block that was cleared and then written from its start
 pub put_byte : (mid new : List ℕ) (b : ℕ) (bytes : List ℕ) → ((k : ℕ) → k < 512 → byte_at mid b k ≡ 0) → ((k : ℕ) → k < length bytes → byte_at new b (0 + k) ≡ slice_index bytes k)
     → SameBut (Within b 0 (0 + length bytes)) mid new → (k : ℕ) → k < 512 → byte_at new b k ≡ slice_index bytes k
 put_byte mid new b bytes empty put rest k lt = elim (cases_lt k (length bytes)) [
@@ -23,7 +23,7 @@ put_rest old mid new b n cleared put = record {
   same_byte = λ c k lt other. put.same_byte c k lt (λ w. other w.0) ∙ cleared.same_byte c k lt other;
 }
 
--- the front of code, and what stands behind it, in the two boot blocks
+-- the first part of the code and the rest, in the two boot blocks
 module _ (code old one two new : List ℕ) (n : ℕ) (front : n ≡ min (length code) 512)
     (first : (k : ℕ) → k < 512 → byte_at one 0 k ≡ slice_index (take n code) k) (only_first : OnlyBlock 0 old one)
     (second : (k : ℕ) → k < 512 → byte_at two 1 k ≡ slice_index (drop n code) k) (only_second : OnlyBlock 1 one two)
@@ -69,7 +69,7 @@ module _ (code old one two new : List ℕ) (n : ℕ) (front : n ≡ min (length 
     };
   }
 
--- code whose boot sum was set
+-- code with its checksum
 pub settled : (code old mid new : List ℕ) → HoldsCode 4 code old mid → OnlyLong 0 1 mid new → HoldsCode 8 code old new
 settled code old mid new h rest = record {
   kind = same_long (λ c k. (c ≡ 0) × (k / 4 ≡ 1)) mid new rest 0 0 (omega arith) (λ k e at. absurd (omega (arith, e, at.1))) ∙ h.kind;
@@ -80,7 +80,7 @@ settled code old mid new h rest = record {
   };
 }
 
--- the boot sum counts not itself
+-- the checksum does not depend on itself
 boot_long_same : (old new : List ℕ) → OnlyLong 0 1 old new → (k : ℕ) → k < 256 → boot_long new k ≡ boot_long old k
 unfolding boot_long
 boot_long_same old new rest k lt = elim (cases_eq k 1) [
@@ -95,6 +95,6 @@ pub sum_is : (old new : List ℕ) → OnlyLong 0 1 old new → boot_sum new ≡ 
 unfolding boot_sum
 sum_is old new rest = ap (λ (t : ℕ). 4294967295 - carried_sum t) (total-same (boot_long old) (boot_long new) 256 (boot_long_same old new rest))
 
--- code that fits is put, and the sum set
+-- code that fits is written, and the checksum set
 pub booted : {A : Type 0} (o : Option (List ℕ)) (code old mid new : List ℕ) (a : A) → o ≡ Some code → length code ≤ 1024 → HoldsCode 4 code old mid → OnlyLong 0 1 mid new → long new 0 1 ≡ boot_sum new → Boots o old new (Ok a)
 booted o code old mid new a is fits holds rest sum = subst (λ (x : Option (List ℕ)). Boots x old new (Ok a)) (sym is) (fits, (settled code old mid new holds rest, sum))

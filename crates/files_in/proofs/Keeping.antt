@@ -1,15 +1,15 @@
--- Directories stay directories, and entries entries, while others are put and told of.
+-- Directories stay directories and entries stay entries while others are put and described.
 use Rattle.std.proofs.Common.{◌≡◌, ◌≢◌, ℕ, inl, inr, List, [], Option, Some, None, IsSome, is_some, option_map, refl, sym, ap, ◌∙◌, subst}
 use Rattle.std.proofs.lemmas.Bool.{cases_eq, false≢true}
 use Rattle.adf_block.specs.Image.{root_key}
 use Rattle.ados_name.specs.declared.Date3.{Date3}
-use Rattle.ados_name.specs.Name.{slot}
-use Rattle.ados_tree.specs.Tree.{Content, Node, Tree, Proper, content_at, entries, name_of, root}
-use Rattle.ados_tree.specs.Tree.Content.{Directory, File}
-use Rattle.ados_tree.specs.Keys.{HasTree}
-use Rattle.ados_tree.specs.Stands.{Stands}
-use Rattle.ados_tree.specs.Change.{changed, enter, made, new_node, rewritten, stamped, with_comment, with_date, with_node, with_protection, without_archive}
-use Rattle.ados_tree.proofs.Nodes.{content_in}
+use Rattle.ados_name.specs.Name.{slot, without_archive}
+use Rattle.ados_model.specs.Tree.{Content, Node, Tree, Proper, content_at, entries, name_of, root}
+use Rattle.ados_model.specs.Tree.Content.{Directory, File}
+use Rattle.ados_model.specs.Keys.{HasTree}
+use Rattle.ados_model.specs.Stands.{Stands}
+use Rattle.ados_model.specs.Change.{changed, enter, made, new_node, rewritten, stamped, with_comment, with_date, with_node, with_protection}
+use Rattle.ados_model.proofs.Nodes.{content_in}
 use Rattle.ados_change.specs.Conditions.{IsDirectoryKey}
 use Rattle.ados_change.proofs.Changed.{nodes_here, nodes_other, relisted}
 use Rattle.adf_transfer.specs.declared.put.NewFile.{NewFile}
@@ -17,7 +17,7 @@ use Rattle.adf_transfer.specs.Changes.{filled}
 use Rattle.adf_transfer.proofs.Filling.{IsEntry, after_change}
 use Rattle.files_in.specs.Put.{KeepsKeys}
 
--- each node of a tree is one of another of its size, and each directory a directory
+-- each node of a tree is a node of another with the same size, and each directory a directory
 pub record Keeps (t u : Tree) : Type 0 where
   pub blocks : u.blocks ≡ t.blocks
   pub node : (k : ℕ) → IsSome (t.nodes k) → IsSome (u.nodes k)
@@ -33,7 +33,7 @@ some_mapped : (f : Node → Node) (o : Option Node) → IsSome o → IsSome (opt
 some_mapped f (Some node) there = refl
 some_mapped f None there = there
 
--- a change of a node that makes no directory a file
+-- a change of a node that turns no directory into a file
 pub keeps_changed : (t : Tree) (key : ℕ) (f : Node → Node) → ((node : Node) → t.nodes key ≡ Some node → (keys : List ℕ) → node.content ≡ Directory keys → (after : List ℕ) × ((f node).content ≡ Directory after)) → Keeps t (changed key f t)
 keeps_changed t key f kept = record {
   blocks = refl;
@@ -67,11 +67,11 @@ keeps_new t key node none = record {
     apart : (k : ℕ) → IsSome (t.nodes k) → k ≢ key
     apart k is e = false≢true (sym (ap is_some (ap t.nodes e ∙ none)) ∙ is)
 
--- the disk date is no matter
+-- the disk date makes no difference
 keeps_stamped : (t u : Tree) (moment : Date3) → Keeps t u → Keeps t (stamped moment u)
 keeps_stamped t u moment h = record { blocks = h.blocks; node = h.node; directory = h.directory }
 
--- ---- what is told of an entry
+-- ---- the metadata of an entry
 
 module _ (t : Tree) (moment : Date3) (key : ℕ) where
   pub keeps_protection : (bits : ℕ) → Keeps t (with_protection moment key bits t)
@@ -156,7 +156,7 @@ module _ (t : Tree) (moment : Date3) (dir key : ℕ) (name : List ℕ) (content 
 
 -- ---- images
 
--- what holds of each tree holds of the image
+-- a fact about each tree is a fact about the image
 pub keeps_keys : (old new : List ℕ) (change : Tree → Tree) → HasTree old → ((t : Tree) → Stands old t → Stands new (change t)) → ((t : Tree) → Stands old t → Keeps t (change t)) → KeepsKeys old new
 keeps_keys old new change has stands keeps =
     let kept = keeps has.0 has.1 in record {

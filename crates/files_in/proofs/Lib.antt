@@ -1,4 +1,4 @@
--- Why what is found at a path is what is changed, and why directories stay ones while others are put.
+-- The entry found at a path is the one that is changed, and directories stay directories while others are put.
 pub mod Finding
 pub mod Turning
 pub mod Telling

@@ -1,21 +1,19 @@
--- What is put by a name: into what has the name, or anew.
+-- A file or directory put under a name: in place of the entry with the name, or new.
 use Rattle.std.proofs.Common.{◌≡◌, ℕ, Bool, false, true, not, if◌then◌else◌, List, [], ◌∷◌, Option, Some, None, option_map, Result, Ok, Err, refl, sym, ap, ◌∙◌, subst, is_some}
 use Rattle.std.specs.Prelude.{◌&&◌, OnOk, IfOk}
 use Rattle.std.specs.Option.{option_map_or}
 use Rattle.ados_name.specs.declared.Date3.{Date3}
-use Rattle.ados_name.specs.Protection.{denies_delete, denies_write}
-use Rattle.ados_packet.specs.declared.dos_error.DosError.TheVariants.{DeleteProtected, DiskFull, ObjectExists, ObjectWrongType, WriteProtected}
-use Rattle.ados_tree.specs.Tree.{Node, Tree, free}
-use Rattle.ados_tree.specs.Tree.Content.{Directory, File}
-use Rattle.ados_tree.specs.Stands.{Stands}
-use Rattle.ados_tree.specs.Keys.{HasDirectory, HasEntryKey, HasKey, HasTree}
-use Rattle.ados_tree.specs.Change.{made}
-use Rattle.ados_tree.specs.Walk.{child_of, is_file}
-use Rattle.ados_tree.specs.Tree.{IsUnused}
+use Rattle.ados_name.specs.Name.{denies_delete, denies_write}
+use Rattle.ados_model.specs.declared.dos_error.DosError.TheVariants.{DeleteProtected, DiskFull, ObjectExists, ObjectWrongType, WriteProtected}
+use Rattle.ados_model.specs.Tree.{Node, Tree, free, IsUnused}
+use Rattle.ados_model.specs.Tree.Content.{Directory, File}
+use Rattle.ados_model.specs.Stands.{Stands}
+use Rattle.ados_model.specs.Keys.{HasDirectory, HasEntryKey, HasKey, HasTree}
+use Rattle.ados_model.specs.Change.{made, child_of, is_file}
 use Rattle.ados_change.specs.Conditions.{IsDirectoryKey}
 use Rattle.ados_volume.specs.Shown.{Shown}
-use Rattle.ados_handler.specs.Objects.{lacks, protection_of}
-use Rattle.ados_handler.specs.Refusals.{first_refusal, refuse}
+use Rattle.ados_model.specs.Objects.{lacks, protection_of}
+use Rattle.ados_model.specs.Refusals.{first_refusal, refuse}
 use Rattle.ados_handler.proofs.Placed.{passed}
 use Rattle.ados_handler.proofs.Rewriting.{file_node}
 use Rattle.ados_handler.proofs.Walked.{child_is_key}
@@ -46,7 +44,7 @@ module _ (t : Tree) (dir : ℕ) (name : List ℕ) (none : child_of t dir name �
   enter_new force =
       ap (λ (o : Option ℕ). option_map_or (λ (key : ℕ). if is_file t key then Some (Refused (if force then ObjectWrongType else ObjectExists)) else None) o (new_refusal t)) none
 
-  -- what refuses to make a directory is that no block is free
+  -- a directory cannot be made only if no block is free
   pub made_has_room : make_refusal dir name t ≡ None → new_refusal t ≡ None
   made_has_room allowed = go (lacks t 1) (sym (passed ObjectExists (is_some (child_of t dir name)) (refuse DiskFull (lacks t 1) ∷ []) (ap is_some none)) ∙ allowed)
     where
@@ -76,7 +74,7 @@ module _ (t : Tree) (dir : ℕ) (name : List ℕ) (there : ℕ) (is : child_of t
   pub enter_there_tree : (moment : Date3) (key : ℕ) → entered moment dir name key t ≡ t
   enter_there_tree moment key = ap (λ (o : Option ℕ). option_map_or (λ (k : ℕ). t) o (made moment dir key name (Directory []) t)) is
 
--- what may be replaced is a file
+-- only a file can be replaced
 replaced_is_file : (t : Tree) (key size : ℕ) (force : Bool) → replace_refusal key size force t ≡ None → is_file t key ≡ true
 replaced_is_file t key size force none = go (is_file t key) none
   where
@@ -86,9 +84,9 @@ replaced_is_file t key size force none = go (is_file t key) none
     go true e = refl
     go false e = absurd (cc e)
 
--- ---- what stays
+-- ---- what is unchanged
 
--- a new file leaves every directory and entry
+-- a new file keeps every directory and entry
 pub add_keeps : (refusal : Tree → Option NotPut) (moment : Date3) (dir : ℕ) (name : List ℕ) (file : NewFile) (old new : Shown) (r : Result ℕ NotPut) → HasTree old.image → HasDirectory old.image dir
     → Changes refusal (λ key t. added moment dir key name file t) old new r → IfOk r (λ key. (t : Tree) → Stands old.image t → IsUnused t key) → OnOk r (KeepsKeys old.image new.image)
 add_keeps refusal moment dir name file old new (Ok key) has directory h unused =
@@ -96,14 +94,14 @@ add_keeps refusal moment dir name file old new (Ok key) has directory h unused =
     (λ t s. keeps_added t moment dir key name (File []) (directory t s) (unused t s).no_node file refl)
 add_keeps refusal moment dir name file old new (Err error) has directory h unused = tt
 
--- the same of a volume in which the name was sought before
+-- the same for a volume in which the name was looked up before
 pub add_keeps_from : (refusal : Tree → Option NotPut) (moment : Date3) (dir : ℕ) (name : List ℕ) (file : NewFile) (old looked new : Shown) (r : Result ℕ NotPut) → looked ≡ old → HasTree old.image → HasDirectory old.image dir
     → Changes refusal (λ key t. added moment dir key name file t) looked new r → IfOk r (λ key. (t : Tree) → Stands looked.image t → IsUnused t key) → OnOk r (KeepsKeys old.image new.image)
 add_keeps_from refusal moment dir name file old looked new r same has directory h unused =
     add_keeps refusal moment dir name file old new r has directory (subst (λ (v : Shown). Changes refusal (λ key t. added moment dir key name file t) v new r) same h)
     (subst (λ (v : Shown). IfOk r (λ key. (t : Tree) → Stands v.image t → IsUnused t key)) same unused)
 
--- and so does one that is replaced
+-- a replaced file keeps them too
 pub replace_keeps : (moment : Date3) (key size : ℕ) (force : Bool) (file : NewFile) (old new : List ℕ) → HasTree old
     → ((t : Tree) → Stands old t → (replace_refusal key size force t ≡ None) × Stands new (filled moment key file t)) → KeepsKeys old new
 replace_keeps moment key size force file old new has h =
@@ -112,7 +110,7 @@ replace_keeps moment key size force file old new has h =
     let f = file_node t key (replaced_is_file t key size force (h t s).0) in
     keeps_filled t moment key file f.bytes (ap (option_map (λ (node : Node). node.content)) f.at ∙ ap Some f.content))
 
--- a new directory leaves them, and is one itself
+-- a new directory keeps them, and is a directory itself
 module _ (moment : Date3) (dir key : ℕ) (name : List ℕ) (old new : List ℕ) (has : HasTree old) (directory : HasDirectory old dir)
     (stands : (t : Tree) → Stands old t → Stands new (made moment dir key name (Directory []) t)) (unused : (t : Tree) → Stands old t → IsUnused t key) where
   pub made_keeps : KeepsKeys old new

@@ -1,13 +1,13 @@
--- What each command that changes a volume makes of it.
+-- The effect of each command that changes a volume.
 use Rattle.std.specs.Prelude.{◌≡◌, ◌∷◌, ℕ, Bool, false, true, List, [], Result, Ok, Err, OnOk, map, ⊤}
 use Rattle.std.specs.Str.{chars}
 use Rattle.ados_name.specs.declared.Date3.{Date3}
-use Rattle.ados_packet.specs.declared.dos_error.DosError.{DosError}
-use Rattle.ados_tree.specs.Change.{disk_renamed, made, removed, renamed, with_comment}
-use Rattle.ados_tree.specs.Stands.{Stands}
-use Rattle.ados_tree.specs.Tree.{Tree}
-use Rattle.ados_tree.specs.Tree.Content.{Directory}
-use Rattle.ados_tree.specs.Tree.{IsUnused}
+use Rattle.ados_model.specs.declared.dos_error.DosError.{DosError}
+use Rattle.ados_model.specs.Change.{disk_renamed, made, removed, renamed, with_comment}
+use Rattle.ados_model.specs.Stands.{Stands}
+use Rattle.ados_model.specs.Tree.{Tree}
+use Rattle.ados_model.specs.Tree.Content.{Directory}
+use Rattle.ados_model.specs.Tree.{IsUnused}
 use Rattle.ados_volume.specs.Shown.{Shown}
 use Rattle.adf_jobs.specs.declared.changing.Change.{Change}
 use Rattle.adf_jobs.specs.declared.changing.Change.TheVariants.{Add, Comment, Delete, MakeDirectories, Protect, Relabel, Rename}
@@ -27,7 +27,7 @@ use Rattle.files_in.specs.declared.fault.InFault.TheVariants.{Bits, Memory, Refu
 use Rattle.files_in.specs.declared.paths.MoveFault.{MoveFault}
 use Rattle.files_in.specs.declared.paths.MoveFault.TheVariants.{New, Old}
 
--- a directory is made at a path, under a key of no node
+-- a directory is made at a path, under a new key
 abbrev pub MakesAt : Date3 → List ℕ → Shown → Shown → Result ℕ DosError → Type 0
 MakesAt moment path old new result =
     ChangesAt (place_at path) (λ to. Changes (make_refusal to.0 to.1) (λ key t. made moment to.0 key to.1 (Directory []) t)) old new result
@@ -36,58 +36,58 @@ abbrev pub Makes : Date3 → List ℕ → Shown → Shown → Result Unit DosErr
 Makes moment path old new (Ok _) = (key : ℕ) × MakesAt moment path old new (Ok key) × ((t : Tree) → Stands old.image t → IsUnused t key)
 Makes moment path old new (Err error) = MakesAt moment path old new (Err error)
 
--- what stands at a path is deleted, with all that lies below it or only if nothing does
+-- the entry at a path is deleted: with everything below it, or only if nothing is
 abbrev pub Deletes : Date3 → Bool → Bool → List ℕ → Shown → Shown → Result Unit DosError → Type 0
 Deletes moment true force path old new result = ChangesAt (object_at path) (λ key. Prunes moment key force) old new result
 Deletes moment false force path old new result =
     ChangesAt (object_at path) (λ key. Changes (delete_refusal key force) (λ _ t. removed moment key t)) old new result
 
--- what a command does at each of its paths
+-- the effect of a command at each of its paths
 abbrev pub Does : Date3 → Each → List ℕ → Shown → Shown → Result Unit DosError → Type 0
 Does moment Make = Makes moment
 Does moment (each.Delete all force) = Deletes moment all force
 
--- what stands at one path moves to another
+-- the entry at one path moves to another
 abbrev pub Moves : Date3 → List ℕ → List ℕ → Shown → Shown → Result Unit MoveFault → Type 0
 Moves moment from to old new result =
     ChangesAt (move_ends from to) (λ m. Changes (entry_move_refusal m) (λ _ t. renamed moment m.0 m.1.0 m.1.1 t)) old new result
 
--- the fault of a move is told of the word of its path
+-- the fault of a move has the argument of its path
 abbrev pub IsMoveRefusal : List ℕ → List ℕ → MoveFault → InFault → Type 0
 IsMoveRefusal from to (Old error) fault = IsRefusal error from fault
 IsMoveRefusal from to (New error) fault = IsRefusal error to fault
 
--- the move that two words ask for is made, or refused
+-- the move by two arguments is made, or refused
 abbrev pub EndsMove : Date3 → List ℕ → List ℕ → Shown → Shown → Result Unit InFault → Type 0
 EndsMove moment from to old new (Ok _) = Moves moment (chars from) (chars to) old new (Ok tt)
 EndsMove moment from to old new (Err (Refused told)) = (fault : MoveFault) × Moves moment (chars from) (chars to) old new (Err fault) × IsMoveRefusal from to fault (Refused told)
 EndsMove moment from to old new (Err Memory) = ⊤
 EndsMove moment from to old new (Err _) = ⊥
 
--- the low eight protection bits of what stands at a path are set
+-- the low eight protection bits of the entry at a path are set
 abbrev pub Protects : Date3 → List ℕ → ℕ → Shown → Shown → Result Unit DosError → Type 0
 Protects moment path bits old new result = ChangesAt (object_at path) (λ key. Changes (root_refusal key) (λ _ t. protected moment key bits t)) old new result
 
--- the bits that a word spells are set, or that is refused; or it spells none, and nothing is changed
+-- the protection bits of an argument are set, or this is refused; or the argument has none, and nothing changes
 abbrev pub EndsProtect : Date3 → List ℕ → List ℕ → Shown → Shown → Result Unit InFault → Type 0
 EndsProtect moment path bits old new (Ok _) = AreLetters (chars bits) × Protects moment (chars path) (protection_of (chars bits)) old new (Ok tt)
 EndsProtect moment path bits old new (Err (Bits text)) = (new ≡ old) × IsBitsFault bits (Bits text)
 EndsProtect moment path bits old new (Err fault) = EndsAt (Protects moment (chars path) (protection_of (chars bits))) path old new (Err fault)
 
--- what stands at a path gets a comment
+-- the entry at a path gets a comment
 abbrev pub Comments : Date3 → List ℕ → List ℕ → Shown → Shown → Result Unit DosError → Type 0
 Comments moment path text old new result = ChangesAt (object_at path) (λ key. Changes (comment_refusal key text) (λ _ t. with_comment moment key text t)) old new result
 
--- the volume gets a name
+-- the volume is renamed
 abbrev pub Relabels : Date3 → List ℕ → Shown → Shown → Result Unit DosError → Type 0
 Relabels moment name old new result = Changes (relabel_refusal name) (λ _ t. disk_renamed moment name t) old new result
 
--- how it ended, without the answer
+-- a result without its value
 abbrev pub without_answer : {A E : Type 0} → Result A E → Result Unit E
 without_answer (Ok _) = Ok tt
 without_answer (Err error) = Err error
 
--- what a command makes of a volume, or why it ends before; of files of the host that are put in, no directory or entry goes away
+-- the effect of a command on a volume, or its fault; `add` removes no directory and no entry
 abbrev pub ChangesVolume : Change → Date3 → Shown → Shown → Result Unit InFault → Type 0
 ChangesVolume (Add files to force) moment old new result = OnOk result (KeepsKeys old.image new.image)
 ChangesVolume (MakeDirectories paths) moment old new result =

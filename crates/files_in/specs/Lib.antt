@@ -1,4 +1,4 @@
--- What changes of a volume come to: at a path, in turn, of files that are put in; and what a boot block is.
+-- Changes of a volume: at a path, in turn, by files that are put in; and the boot block.
 pub mod Words
 pub mod Paths
 pub mod Turns

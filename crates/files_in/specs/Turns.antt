@@ -1,22 +1,23 @@
--- How changes of a volume end that words ask for, one after another.
+-- How changes of a volume by arguments end, one after the other.
 use Rattle.std.specs.Prelude.{◌≡◌, ◌++◌, ◌∷◌, ℕ, List, [], Contains, Result, Ok, Err, ⊤}
 use Rattle.std.specs.Str.{chars}
 use Rattle.std.specs.String.{string_bytes}
-use Rattle.ados_packet.specs.declared.dos_error.DosError.{DosError}
-use Rattle.ados_tree.specs.Keys.{HasTree}
+use Rattle.ados_model.specs.declared.dos_error.DosError.{DosError}
+use Rattle.ados_model.specs.Keys.{HasTree}
 use Rattle.ados_volume.specs.Shown.{Shown}
 use Rattle.adf_transfer.specs.declared.refused.Refused.{Refused as Told}
 use Rattle.files_in.specs.declared.fault.InFault.{InFault}
 use Rattle.files_in.specs.declared.fault.InFault.TheVariants.{Letter, Memory, Refused}
 use Rattle.files_in.specs.Words.{IsForeign}
 
--- each word in turn is a path at which the volume is changed that those before it left; each leaves one that stands for a tree
+-- each argument in turn is a path at which the volume was changed; each change leads to a volume that represents a
+-- tree
 pub data AreDone (Does : List ℕ → Shown → Shown → Result Unit DosError → Type 0) : List (List ℕ) → Shown → Shown → Type 0 where
   none : {volume : Shown} → AreDone Does [] volume volume
   one_more : (words : List (List ℕ)) (word : List ℕ) {old between new : Shown}
       → AreDone Does words old between → Does (chars word) between new (Ok tt) → HasTree new.image → AreDone Does (words ++ word ∷ []) old new
 
--- the words in front are done, and the next one is refused in what they left: this error is told, and this word
+-- the arguments before this one are done, and this one is refused with this error
 pub record StopsAtWord (Does : List ℕ → Shown → Shown → Result Unit DosError → Type 0) (words : List (List ℕ)) (old new : Shown) (told : Told) : Type 0 where
   pub before : List (List ℕ)
   pub word : List ℕ
@@ -27,21 +28,22 @@ pub record StopsAtWord (Does : List ℕ → Shown → Shown → Result Unit DosE
   pub refused : Does (chars word) between new (Err told.error)
   pub path : string_bytes told.path ≡ word
 
--- all words are done, or it ends at one of them; for want of memory it may end anywhere
+-- all arguments are done, or one of them is refused; or memory ran out at any point
 abbrev pub EndsInTurn : (List ℕ → Shown → Shown → Result Unit DosError → Type 0) → List (List ℕ) → Shown → Shown → Result Unit InFault → Type 0
 EndsInTurn Does words old new (Ok _) = AreDone Does words old new
 EndsInTurn Does words old new (Err (Refused told)) = StopsAtWord Does words old new told
 EndsInTurn Does words old new (Err Memory) = ⊤
 EndsInTurn Does words old new (Err _) = ⊥
 
--- the change of one word is made, or refused: then the error is told, and the word
+-- the change of one argument is made; or refused with this error and this argument
 abbrev pub EndsAt : (Shown → Shown → Result Unit DosError → Type 0) → List ℕ → Shown → Shown → Result Unit InFault → Type 0
 EndsAt Does word old new (Ok _) = Does old new (Ok tt)
 EndsAt Does word old new (Err (Refused told)) = Does old new (Err told.error) × (string_bytes told.path ≡ word)
 EndsAt Does word old new (Err Memory) = ⊤
 EndsAt Does word old new (Err _) = ⊥
 
--- the words are read first: one of them has a letter that no byte stands for, and is told, and nothing is changed; or it ends so
+-- the arguments are read first: one of them has a letter past U+00FF and is reported, and nothing changes; or the
+-- change ends like this
 abbrev pub ReadsFirst : List (List ℕ) → (Shown → Shown → Result Unit InFault → Type 0) → Shown → Shown → Result Unit InFault → Type 0
 ReadsFirst words Ends old new (Err (Letter text)) = (new ≡ old) × Contains words (string_bytes text) × IsForeign (string_bytes text)
 ReadsFirst words Ends old new result = Ends old new result

@@ -1,7 +1,7 @@
-//! Files and directories of the host, put into a directory.
+//! Files and directories of the host, put into a directory of a volume.
 
 ghost use Rattle.std.specs.Prelude.{OnOk};
-ghost use Rattle.ados_tree.specs.Keys.{HasDirectory};
+ghost use Rattle.ados_model.specs.Keys.{HasDirectory};
 ghost use Rattle.files_in.specs.Progress.{IsProgress};
 ghost use Rattle.files_in.specs.Put.{KeepsKeys};
 
@@ -15,24 +15,23 @@ use adf_block::layout::BLOCK_BYTES;
 use adf_text::Uaem;
 use adf_transfer::NotPut;
 use ados_data::blocks_of;
+use ados_model::DosError;
 use ados_name::{Date3, Name};
-use ados_packet::DosError;
 use ados_volume::Volume;
 use host_trees::{HostEntry, HostKind, PassedOver, host_tree};
 use std::alloc::Global;
 use std::rt::Files;
 
-/// How files are put: by force also in place of those that are there, and at which moment.
+/// How files are put: whether existing ones are replaced, and the time stamp.
 #[derive(Clone, Copy)]
 pub(crate) struct How {
     pub force: bool,
     pub moment: Date3,
 }
 
-/// Puts the files and directories that words name into a directory, each with all that is in it. The answer is what was
-/// passed over.
+/// Puts files and directories of the host, with everything below them, into a directory. It returns what was skipped.
 ///
-/// A directory that is there is entered, and keeps what is told of it.
+/// An existing directory is used, and keeps its metadata.
 pub(crate) fn add<R: Files>(
     rt: &R,
     alloc: Global,
@@ -54,7 +53,7 @@ pub(crate) fn add<R: Files>(
     Ok(tree.passed_over)
 }
 
-/// Refuses a file or a directory whose name is none of an Amiga's.
+/// Refuses a file or directory whose name cannot be a name on a volume.
 fn refuse_names(alloc: Global, entries: &[HostEntry]) -> Result<(), InFault> {
     for entry in entries {
         entry_name(alloc, entry)?;
@@ -62,8 +61,8 @@ fn refuse_names(alloc: Global, entries: &[HostEntry]) -> Result<(), InFault> {
     Ok(())
 }
 
-/// Puts files and directories, each into the one that it was found in or else into the top one. Directories that are made
-/// are noted last, since what is put into one sets its date.
+/// Puts files and directories, each into the directory that was made for its own, or into the top one. Metadata of new
+/// directories is set last, because each entry put into a directory sets its date.
 fn put_entries<R: Files>(
     rt: &R,
     alloc: Global,
@@ -85,7 +84,7 @@ fn put_entries<R: Files>(
 
 /// Puts one file or directory.
 ///
-/// Error: 203 of a second one whose name is the same in one directory, and those of putting it, told of its path.
+/// Errors, with its path: 203 for a second one with the same name in one directory, and those of putting it.
 fn put_entry<R: Files>(
     rt: &R,
     alloc: Global,
@@ -118,7 +117,7 @@ fn put_entry<R: Files>(
     }
 }
 
-/// A file or directory of the host, the directory that it goes into, its name there, and what is noted of it.
+/// A file or directory of the host, its directory on the volume, its name there, and its metadata.
 #[derive(Clone, Copy)]
 struct Item<'a> {
     entry: &'a HostEntry,
@@ -127,7 +126,7 @@ struct Item<'a> {
     noted: Uaem,
 }
 
-/// Makes or enters a directory.
+/// Makes a directory, or uses the existing one.
 fn put_directory(
     alloc: Global,
     volume: &mut Volume,
@@ -181,18 +180,18 @@ fn put_host_file<R: Files>(
     }
 }
 
-/// How many bytes are read of a file: one more than the volume has, which are too many for it.
+/// The most bytes read of a file: one more than the volume has, which is too many.
 fn most_bytes(volume: &Volume) -> usize {
     volume.image().blocks() as usize * BLOCK_BYTES as usize + 1
 }
 
-/// How many blocks a file of this length needs beyond those of the bytes that were read of it.
+/// The number of blocks that a file of this length needs in addition to those for the bytes read.
 fn unread_blocks(volume: &Volume, bytes: &[u8], length: u64) -> u64 {
     let format = volume.image().format();
     blocks_of(format, length).saturating_sub(blocks_of(format, bytes.len() as u64))
 }
 
-/// Why a file or directory of the host was not put; `more` blocks are needed for what was not read.
+/// Why a file or directory of the host was not put. `more` is the number of blocks for bytes that were not read.
 fn not_put(alloc: Global, entry: &HostEntry, fault: NotPut, more: u64) -> InFault {
     match fault {
         NotPut::Refused(error) => refused(alloc, entry.path.as_str(), error),

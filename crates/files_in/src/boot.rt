@@ -1,6 +1,7 @@
-//! The boot block: the first two blocks of an image, from which a machine starts.
+//! The boot block: the first two blocks of an image, with the code that a machine starts.
 
 ghost use Rattle.std.specs.Prelude.{◌≡◌, ◌<◌, ◌≤◌, ℕ, length, option_copied, slice_index};
+ghost use Rattle.adf_block.specs.Layout.{block_bytes};
 ghost use Rattle.adf_block.specs.Image.{block_count, byte_at, long};
 ghost use Rattle.adf_block.specs.Frame.{OnlyBlock, OnlyLong};
 ghost use Rattle.adf_block.specs.Boot.{boot_sum};
@@ -10,17 +11,17 @@ use adf_block::Image;
 use adf_block::layout::{BLOCK_BYTES, BOOT_BLOCKS, BOOT_SUM, KIND};
 use thiserror::Error;
 
-/// The bytes are more than the two boot blocks have.
+/// The bytes do not fit into the two boot blocks.
 #[derive(Clone, Copy, Debug, PartialEq, Eq, Error)]
 #[error("a boot block has at most 1024 bytes, and these are {length}")]
 pub struct LongBoot {
     pub length: usize,
 }
 
-/// Puts a boot block on an image: these bytes with zeros behind them, the kind of the disk in place of the first four, and
-/// the right sum. Without bytes there is none: zeros behind the kind.
+/// Installs a boot block: these bytes, then zeros. The first four bytes become the kind of the disk, and the checksum
+/// is set. Without bytes, the boot block is removed: only zeros follow the kind.
 ///
-/// Nothing behind byte 1,023 is changed, and where the bytes are too many nothing is.
+/// Nothing after byte 1,023 changes. If there are more than 1,024 bytes, nothing changes at all.
 pub fn boot_image(image: &mut Image, code: Option<&[u8]>) -> Result<(), LongBoot>
     ensures { Boots (option_copied code.entry) image.old image.new result }
 {
@@ -40,10 +41,10 @@ pub fn boot_image(image: &mut Image, code: Option<&[u8]>) -> Result<(), LongBoot
     }
 }
 
-/// The bytes of the boot blocks.
+/// Bytes in the boot blocks.
 const MOST_BYTES: usize = BOOT_BLOCKS as usize * BLOCK_BYTES as usize;
 
-/// Puts code behind the kind of the disk, and zeros behind the code.
+/// Writes code after the DOS type, then zeros.
 fn put_code(image: &mut Image, code: &[u8])
     requires { length code.now ≤ 1024 }
     ensures { HoldsCode 4 code.now image.old image.new }
@@ -56,18 +57,18 @@ fn put_code(image: &mut Image, code: &[u8])
     image.set_long(0, KIND, kind);
 }
 
-/// Puts bytes in place of a block, with zeros behind them.
+/// Replaces a block by these bytes, then zeros.
 fn put_block(image: &mut Image, b: u32, bytes: &[u8])
     requires inside { b < block_count image.old }
-    requires room { length bytes.now ≤ 512 }
-    ensures byte { (k : ℕ) → k < 512 → byte_at image.new b k ≡ slice_index bytes.now k }
+    requires room { length bytes.now ≤ block_bytes }
+    ensures byte { (k : ℕ) → k < block_bytes → byte_at image.new b k ≡ slice_index bytes.now k }
     ensures rest { OnlyBlock b image.old image.new }
 {
     image.clear(b);
     image.put_bytes(b, 0, bytes);
 }
 
-/// Sets the boot sum right.
+/// Sets the boot checksum.
 fn settle_boot(image: &mut Image)
     ensures sum { long image.new 0 1 ≡ boot_sum image.new }
     ensures rest { OnlyLong 0 1 image.old image.new }

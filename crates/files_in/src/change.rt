@@ -1,4 +1,4 @@
-//! The changes of a volume that commands ask for.
+//! The changes of a volume by commands.
 
 ghost use Rattle.files_in.specs.Commands.{ChangesVolume, without_answer};
 
@@ -13,9 +13,9 @@ use host_trees::PassedOver;
 use std::alloc::Global;
 use std::rt::Files;
 
-/// Makes a change whole; the moment is that of all that is changed. The answer is what `add` passed over.
+/// Makes a change with this time stamp. For `add`, it returns what was skipped.
 ///
-/// After a fault the volume may be changed in part, and its image is not to be written.
+/// After a fault the volume may be changed in part, and its image must not be written.
 pub fn change_volume<R: Files>(
     rt: &R,
     alloc: Global,
@@ -40,7 +40,7 @@ pub fn change_volume<R: Files>(
     }
 }
 
-/// Makes a change that takes nothing from the host.
+/// Makes a change that reads nothing from the host.
 fn change_entries(
     alloc: Global,
     volume: &mut Volume,

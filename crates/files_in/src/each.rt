@@ -1,4 +1,4 @@
-//! Paths that are changed one after another.
+//! Paths that are changed one after the other.
 
 ghost use Rattle.std.specs.Prelude.{All, map};
 ghost use Rattle.std.specs.Str.{chars};
@@ -9,21 +9,21 @@ ghost use Rattle.files_in.specs.Words.{IsSpelled};
 use crate::fault::InFault;
 use crate::paths::{delete_all_at, delete_at, make_at};
 use crate::words::{Word, words_of};
+use ados_model::DosError;
 use ados_name::Date3;
-use ados_packet::DosError;
 use ados_volume::Volume;
 use std::alloc::Global;
 
-/// What is done at each path.
+/// The change at each path.
 #[derive(Clone, Copy)]
 pub(crate) enum Each {
-    /// A directory is made.
+    /// Make a directory.
     Make,
-    /// The entry is deleted, with `all` with what lies below it, with `force` also what is protected from it.
+    /// Delete the entry; with `all` everything below it too, with `force` protected entries too.
     Delete { all: bool, force: bool },
 }
 
-/// Changes the volume at each of these paths, one after another, up to the first that is refused.
+/// Changes the volume at each of these paths in turn, up to the first refusal.
 pub(crate) fn change_each(
     alloc: Global,
     volume: &mut Volume,
@@ -60,7 +60,7 @@ fn change_words(
     Ok(())
 }
 
-/// Changes the volume at the path that a word spells.
+/// Changes the volume at the path of an argument.
 fn change_word(
     alloc: Global,
     volume: &mut Volume,

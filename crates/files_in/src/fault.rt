@@ -4,38 +4,38 @@ ghost use Rattle.files_in.specs.Words.{IsRefusal};
 
 use adf_text::UaemFault;
 use adf_transfer::Refused;
-use ados_packet::DosError;
+use ados_model::DosError;
 use host_trees::WalkFault;
 use std::alloc::{AllocError, AllocFailed, Global};
 use std::{error, fmt};
 use thiserror::Error;
 
-/// Why a change was not made. The volume may be changed in part, so that its image is not to be written.
+/// Why a change was not made. The volume may be changed in part, so its image must not be written.
 #[derive(Debug, Drop, Error)]
 pub enum InFault {
-    /// Any error of AmigaDOS but 221.
+    /// Any error of AmigaDOS other than 221.
     #[error("{0}")]
     Refused(Refused),
-    /// 221: a file or a directory needs so many blocks more, and so many are free.
+    /// Error 221: a file or directory needs this many more blocks, and this many are free.
     #[error("disk is full: {needed} blocks are needed and {free} are free")]
     NoRoom {
         path: String,
         needed: u64,
         free: u32,
     },
-    /// A word has a letter past U+00FF.
+    /// An argument has a letter past U+00FF.
     #[error("'{0}' has a letter that no byte of an Amiga's text stands for")]
     Letter(String),
-    /// A word is no protection bits.
+    /// An argument is not a set of protection bits.
     #[error("'{0}' is no protection: some of the letters hsparwed, or eight places with a letter or a dash each")]
     Bits(String),
-    /// Files of the host were not gone through.
+    /// The walk over files of the host failed.
     #[error("{0}")]
     Host(WalkFault),
     /// A file of the host cannot be read.
     #[error("'{0}' cannot be read")]
     Read(String),
-    /// A file beside another does not tell what an Amiga knows of that one.
+    /// A note beside a file cannot be read.
     #[error("'{path}' {fault}")]
     Note {
         path: String,
@@ -76,7 +76,7 @@ impl From<WalkFault> for InFault {
     }
 }
 
-/// What is wrong with a file beside another.
+/// The fault of a note.
 #[derive(Clone, Copy, Debug)]
 pub struct NoteFault(pub UaemFault);
 
@@ -105,7 +105,7 @@ impl fmt::Display for NoteFault {
 
 impl error::Error for NoteFault {}
 
-/// An error of AmigaDOS, told of a path.
+/// An error of AmigaDOS, with a path.
 pub(crate) fn refused(alloc: Global, path: &str, error: DosError) -> InFault
     ensures { IsRefusal error path.now result }
 {

@@ -1,18 +1,18 @@
-//! What files of the host say: their names, their bytes, and what is noted beside them.
+//! What is read of host files: their names, their bytes and their notes.
 
 use crate::fault::{InFault, NoteFault, refused};
-use adf_host::{BoundedFault, read_bounded};
+use adf_io::{InputFault, read_bounded};
 use adf_text::{LettersFault, Uaem, UaemFault, host_name_bytes, read_uaem};
+use ados_model::DosError;
 use ados_name::{Comment, Name, Protect};
-use ados_packet::DosError;
 use host_trees::HostEntry;
 use std::alloc::Global;
 use std::fs;
 use std::rt::Files;
 
-/// The name that the name of a host's file stands for.
+/// The entry's name for a host file's name.
 ///
-/// Error: 210, told of its path, of what is no name.
+/// Error: 210, with the host path, for a text that is not a name.
 pub(crate) fn entry_name(alloc: Global, entry: &HostEntry) -> Result<Name, InFault> {
     let bytes = match host_name_bytes(alloc, entry.name.as_str()) {
         Ok(bytes) => bytes,
@@ -27,10 +27,11 @@ pub(crate) fn entry_name(alloc: Global, entry: &HostEntry) -> Result<Name, InFau
     }
 }
 
-/// The most bytes that are read of a file beside another: more than any such line has.
+/// The most bytes read of a note: more than the longest line.
 const MOST_NOTED: usize = 4_096;
 
-/// What is noted of a file or directory of the host: by the file beside it, or else its time, no bits and no comment.
+/// The metadata of a file or directory of the host: from its note, or else its time stamp, no protection bits and no
+/// comment.
 pub(crate) fn noted_of<R: Files>(
     rt: &R,
     alloc: Global,
@@ -57,7 +58,7 @@ pub(crate) fn noted_of<R: Files>(
     }
 }
 
-/// The bytes of a file of the host, or so many of them where it has more.
+/// The bytes of a host file, at most this many.
 pub(crate) fn read_host<R: Files>(
     rt: &R,
     alloc: Global,
@@ -69,7 +70,7 @@ pub(crate) fn read_host<R: Files>(
     };
     match read_bounded(alloc, &mut file, most) {
         Ok(bytes) => Ok(bytes),
-        Err(BoundedFault::Memory) => Err(InFault::Memory),
-        Err(BoundedFault::Read) => Err(InFault::Read(String::from_str(alloc, path)?)),
+        Err(InputFault::Memory) => Err(InFault::Memory),
+        Err(_) => Err(InFault::Read(String::from_str(alloc, path)?)),
     }
 }

@@ -1,5 +1,5 @@
-//! What a command changes in a volume that is in memory: its entries and what is told of them, files of the host that
-//! are put in, and the boot block of an image.
+//! Changes of a volume in memory by commands: entries and their metadata, files of the host that are put in, and the
+//! boot block of an image.
 #![tactic(auto)]
 
 mod adding;

@@ -1,11 +1,11 @@
-//! Changes of what stands at a path from the root.
+//! Changes of the entry at a path from the root.
 
 ghost use Rattle.std.specs.Prelude.{◌≡◌, IfOk, Result, false, true};
-ghost use Rattle.ados_tree.specs.Tree.{Tree};
-ghost use Rattle.ados_tree.specs.Stands.{Stands};
-ghost use Rattle.ados_tree.specs.Change.{renamed};
-ghost use Rattle.ados_tree.specs.Keys.{HasDirectory, HasKey};
-ghost use Rattle.ados_tree.specs.Tree.{IsUnused};
+ghost use Rattle.ados_model.specs.Tree.{Tree};
+ghost use Rattle.ados_model.specs.Stands.{Stands};
+ghost use Rattle.ados_model.specs.Change.{renamed};
+ghost use Rattle.ados_model.specs.Keys.{HasDirectory, HasKey};
+ghost use Rattle.ados_model.specs.Tree.{IsUnused};
 ghost use Rattle.adf_transfer.specs.Changes.{Changes};
 ghost use Rattle.files_in.specs.Commands.{Comments, Deletes, MakesAt, Moves, Protects, Relabels};
 ghost use Rattle.files_in.specs.Paths.{entry_move_refusal, move_fault, object_at};
@@ -13,14 +13,14 @@ ghost use Rattle.files_in.specs.Paths.{entry_move_refusal, move_fault, object_at
 use adf_transfer::{
     comment, delete, delete_all, locate, make_directory, move_entry, place, protect, relabel,
 };
+use ados_model::DosError;
 use ados_name::{Comment, Date3, Name, Protect};
-use ados_packet::DosError;
 use ados_volume::Volume;
 use std::alloc::Global;
 
-/// Makes a directory, and answers its key.
+/// Makes a directory and returns its key.
 ///
-/// Errors: those of a place (204, 205, 210, 212), and 203 and 221.
+/// Errors: those of a place (204, 205, 210, 212), 203 and 221.
 pub(crate) fn make_at(volume: &mut Volume, path: &[u8], moment: Date3) -> Result<u32, DosError>
     ensures done { MakesAt moment path.now volume.old volume.new result }
     ensures unused { IfOk result (λ key. (t : Tree) → Stands volume.old.image t → IsUnused t key) }
@@ -31,7 +31,7 @@ pub(crate) fn make_at(volume: &mut Volume, path: &[u8], moment: Date3) -> Result
 
 /// Deletes a file or an empty directory.
 ///
-/// Errors: those of a walk (204, 205, 212), and 212, 216 and 222.
+/// Errors: those of a walk (204, 205, 212), 212, 216 and 222.
 pub(crate) fn delete_at(
     volume: &mut Volume,
     path: &[u8],
@@ -44,9 +44,9 @@ pub(crate) fn delete_at(
     delete(volume, key, force, moment)
 }
 
-/// Deletes an entry with all that lies below it.
+/// Deletes an entry with everything below it.
 ///
-/// Errors: those of a walk (204, 205, 212), and 212, 222 and 103.
+/// Errors: those of a walk (204, 205, 212), 212, 222 and 103.
 pub(crate) fn delete_all_at(
     alloc: Global,
     volume: &mut Volume,
@@ -60,7 +60,7 @@ pub(crate) fn delete_all_at(
     delete_all(alloc, volume, key, force, moment)
 }
 
-/// Why an entry is not moved, told of its old path or of its new one.
+/// Why an entry is not moved, and whether this is about its old or its new path.
 #[derive(Clone, Copy)]
 pub(crate) enum MoveFault {
     Old(DosError),
@@ -69,7 +69,8 @@ pub(crate) enum MoveFault {
 
 /// Moves an entry to another place.
 ///
-/// Errors: of the old path those of a walk (204, 205, 212), 212 and 202; of the new one those of a place, and 203.
+/// Errors for the old path: those of a walk (204, 205, 212), 212 and 202. Errors for the new one: those of a place,
+/// and 203.
 pub(crate) fn move_at(
     volume: &mut Volume,
     old: &[u8],
@@ -88,7 +89,7 @@ pub(crate) fn move_at(
     }
 }
 
-/// Moves an entry into a directory, under a name.
+/// Moves an entry into a directory under a name.
 fn move_found(
     volume: &mut Volume,
     key: u32,
@@ -105,7 +106,7 @@ fn move_found(
     }
 }
 
-/// Of which path an error of a move is told: that another entry has the name, of the new one.
+/// The path that an error of a move is about. It is the new one if another entry has the name.
 fn move_fault(error: DosError) -> MoveFault
     ensures { result ≡ move_fault error }
 {
@@ -117,7 +118,7 @@ fn move_fault(error: DosError) -> MoveFault
 
 /// Sets the low eight protection bits of an entry.
 ///
-/// Errors: those of a walk (204, 205, 212), and 212 of the root.
+/// Errors: those of a walk (204, 205, 212), and 212 for the root.
 pub(crate) fn protect_at(
     volume: &mut Volume,
     path: &[u8],
@@ -132,7 +133,7 @@ pub(crate) fn protect_at(
 
 /// Sets the comment of an entry.
 ///
-/// Errors: those of a walk (204, 205, 212), 220 of more than 79 bytes, and 212 of the root.
+/// Errors: those of a walk (204, 205, 212), 220 for more than 79 bytes, and 212 for the root.
 pub(crate) fn comment_at(
     volume: &mut Volume,
     path: &[u8],
@@ -148,9 +149,9 @@ pub(crate) fn comment_at(
     comment(volume, key, &text, moment)
 }
 
-/// Gives the volume another name.
+/// Renames the volume.
 ///
-/// Error: 210 of what is no name.
+/// Error: 210 for a text that is not a name.
 pub(crate) fn relabel_as(volume: &mut Volume, name: &[u8], moment: Date3) -> Result<(), DosError>
     ensures { Relabels moment name.now volume.old volume.new result }
 {
@@ -163,7 +164,7 @@ pub(crate) fn relabel_as(volume: &mut Volume, name: &[u8], moment: Date3) -> Res
 
 /// The directory at a path.
 ///
-/// Errors: those of a walk (204, 205, 212), and 212 of a file.
+/// Errors: those of a walk (204, 205, 212), and 212 for a file.
 pub(crate) fn directory_at(volume: &mut Volume, path: &[u8]) -> Result<u32, DosError>
     ensures directory { IfOk result (HasDirectory volume.old.image) }
     ensures same { volume.new ≡ volume.old }

@@ -1,7 +1,7 @@
-//! How far files and directories of the host were put into a volume.
+//! The progress of putting files and directories of the host into a volume.
 
 ghost use Rattle.std.specs.Prelude.{◌≡◌, List, ℕ, IfOk, OnOk};
-ghost use Rattle.ados_tree.specs.Keys.{HasDirectory, HasEntryKey};
+ghost use Rattle.ados_model.specs.Keys.{HasDirectory, HasEntryKey};
 ghost use Rattle.files_in.specs.Progress.{IsProgress};
 ghost use Rattle.files_in.specs.Put.{KeepsKeys};
 
@@ -11,14 +11,14 @@ use ados_name::Date3;
 use ados_volume::Volume;
 use std::alloc::{AllocError, Global};
 
-/// What was put so far.
+/// The files and directories put so far.
 #[derive(Drop)]
 pub(crate) struct Progress {
-    /// For each file or directory of the host in turn: the directory that it is now, or that it was put into.
+    /// For each file or directory of the host, in order: its directory on the volume, or the one that it was put into.
     dirs: Vec<u32>,
-    /// Of each block whether it is the header of what was put or entered.
+    /// For each block, whether it is the header of an entry that was put or used.
     is_put: Vec<bool>,
-    /// The directories that were made, and what is noted of them.
+    /// The new directories, and their metadata.
     made: Vec<Made>,
 }
 
@@ -30,7 +30,7 @@ struct Made {
 }
 
 impl Progress {
-    /// Nothing, on a volume of so many blocks.
+    /// No progress, for a volume of `blocks` blocks.
     pub fn new(alloc: Global, blocks: u32) -> Result<Progress, AllocError>
         ensures { IfOk result (λ progress. (image : List ℕ) → IsProgress image progress) }
     {
@@ -41,7 +41,7 @@ impl Progress {
         })
     }
 
-    /// The directory for what was found in the host's directory at this place of the list; else the top one.
+    /// The directory on the volume for the host directory with this index; the top one if there is none.
     pub fn directory(&self, parent: Option<usize>, top: u32) -> u32
         ensures { (image : List ℕ) → HasDirectory image top → IsProgress image self.now → HasDirectory image result }
     {
@@ -51,7 +51,7 @@ impl Progress {
         }
     }
 
-    /// Whether this is an object that was put or entered.
+    /// Whether this object was put or used.
     pub fn has_put(&self, key: Option<u32>) -> bool {
         match key {
             Some(key) => self.is_put.get(key as usize).copied().unwrap_or(false),
@@ -59,7 +59,7 @@ impl Progress {
         }
     }
 
-    /// An object was put or entered, and more that is found in it on the host goes into this directory.
+    /// Notes an object that was put or used, and the directory for its own entries.
     pub fn push(&mut self, key: u32, dir: u32) -> Result<(), AllocError>
         ensures { OnOk result ((image : List ℕ) → HasDirectory image dir → IsProgress image self.old → IsProgress image self.new) }
     {
@@ -68,7 +68,7 @@ impl Progress {
         Ok(())
     }
 
-    /// A directory was made, and is to be noted.
+    /// Notes a new directory, whose metadata is set later.
     pub fn push_made(&mut self, key: u32, noted: Uaem) -> Result<(), AllocError>
         ensures { OnOk result ((image : List ℕ) → HasDirectory image key → HasEntryKey image key → IsProgress image self.old → IsProgress image self.new) }
     {
@@ -87,7 +87,7 @@ impl Progress {
         }
     }
 
-    /// Sets what is noted of the directories that were made.
+    /// Sets the metadata of the new directories.
     pub fn note_directories(self, volume: &mut Volume, moment: Date3)
         requires { IsProgress volume.old.image self }
         ensures { KeepsKeys volume.old.image volume.new.image }

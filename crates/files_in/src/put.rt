@@ -1,22 +1,21 @@
-//! One file or directory that is put into a directory.
+//! One file or directory put into a directory.
 
 ghost use Rattle.std.specs.Prelude.{◌≡◌, [], length, None, IfOk, OnOk, IsTrue};
-ghost use Rattle.ados_tree.specs.Tree.{Tree};
-ghost use Rattle.ados_tree.specs.Tree.Content.{Directory};
-ghost use Rattle.ados_tree.specs.Stands.{Stands};
-ghost use Rattle.ados_tree.specs.Change.{made};
-ghost use Rattle.ados_tree.specs.Keys.{HasDirectory, HasEntryKey};
-ghost use Rattle.ados_tree.specs.Walk.{child_of};
+ghost use Rattle.ados_model.specs.Tree.{Tree};
+ghost use Rattle.ados_model.specs.Tree.Content.{Directory};
+ghost use Rattle.ados_model.specs.Stands.{Stands};
+ghost use Rattle.ados_model.specs.Change.{made, child_of};
+ghost use Rattle.ados_model.specs.Keys.{HasDirectory, HasEntryKey};
 ghost use Rattle.adf_transfer.specs.Changes.{Changes};
 ghost use Rattle.files_in.specs.Put.{KeepsKeys, child_before, enter_refusal, entered, new_refusal, noted, put, put_refusal};
 
 use adf_text::Uaem;
 use adf_transfer::{NewFile, NotPut, add_file, free_blocks, make_directory, replace_file};
+use ados_model::DosError;
 use ados_name::{Date3, Name};
-use ados_packet::DosError;
 use ados_volume::Volume;
 
-/// What a file is to be, by its bytes and what is noted of it.
+/// The new file for these bytes and this metadata.
 pub(crate) fn noted_file<'a>(bytes: &'a [u8], noted: &Uaem) -> NewFile<'a>
     ensures bytes { result.bytes.now ≡ bytes.now }
     ensures date { result.date ≡ noted.now.date }
@@ -31,10 +30,10 @@ pub(crate) fn noted_file<'a>(bytes: &'a [u8], noted: &Uaem) -> NewFile<'a>
     }
 }
 
-/// Puts a file under a name into a directory, and answers its key: a new one, or by force in place of the one that is
-/// there.
+/// Puts a file into a directory and returns its key: a new file, or with `force` in place of the existing one.
 ///
-/// Errors: 203 where an entry has the name, or by force 212 of a directory, and 222 and 223 where the bits deny it; 221.
+/// Errors: 203 if an entry has the name; with `force` 212 for a directory, and 222 and 223 if protection bits deny it;
+/// 221.
 pub(crate) fn put_file(
     volume: &mut Volume,
     dir: u32,
@@ -58,16 +57,16 @@ pub(crate) fn put_file(
     }
 }
 
-/// A directory of a name in another, and whether it was made.
+/// A directory in another one, and whether it is new.
 #[derive(Clone, Copy)]
 pub(crate) struct Entered {
     pub key: u32,
     pub is_new: bool,
 }
 
-/// The directory of this name in another: the one that is there, or a new one.
+/// The directory with this name in another one: the existing one, or a new one.
 ///
-/// Errors: where a file has the name 203, or by force 212; 221 where no block is free.
+/// Errors: 203 if a file has the name, with `force` 212; 221 if no block is free.
 pub(crate) fn enter_directory(
     volume: &mut Volume,
     dir: u32,
@@ -96,7 +95,7 @@ pub(crate) fn enter_directory(
     }
 }
 
-/// A new directory.
+/// Makes a new directory.
 fn new_directory(
     volume: &mut Volume,
     dir: u32,
@@ -122,7 +121,7 @@ fn new_directory(
     }
 }
 
-/// Sets what is noted of a directory, once nothing more is put into it.
+/// Sets the metadata of a directory after everything was put into it.
 pub(crate) fn note_directory(volume: &mut Volume, key: u32, note: &Uaem, moment: Date3)
     requires { HasEntryKey volume.old.image key }
     ensures noted { (t : Tree) → Stands volume.old.image t → Stands volume.new.image (noted moment key note.now t) }

@@ -1,4 +1,4 @@
-//! Changes that a command asks for by one or two words.
+//! Changes by one or two arguments.
 
 ghost use Rattle.std.specs.Prelude.{◌∷◌, []};
 ghost use Rattle.std.specs.Str.{chars};
@@ -12,7 +12,7 @@ use ados_name::Date3;
 use ados_volume::Volume;
 use std::alloc::Global;
 
-/// Moves the entry at a path to another place. An error is told of the path that it is about.
+/// Moves the entry at a path to another place. An error has the path that it is about.
 pub(crate) fn rename(
     alloc: Global,
     volume: &mut Volume,
@@ -36,7 +36,7 @@ pub(crate) fn rename(
     }
 }
 
-/// The fault of a move, told of the word that it is about.
+/// The fault of a move, with the argument that it is about.
 fn refused_move(alloc: Global, from: &Word<'_>, to: &Word<'_>, fault: MoveFault) -> InFault
     ensures { IsMoveRefusal from.now.text.now to.now.text.now fault result }
 {
@@ -98,7 +98,7 @@ pub(crate) fn set_comment(
     }
 }
 
-/// Gives the volume another name.
+/// Renames the volume.
 pub(crate) fn set_name(
     alloc: Global,
     volume: &mut Volume,

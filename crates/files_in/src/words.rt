@@ -1,4 +1,4 @@
-//! Words of the command line, as bytes of an Amiga's text.
+//! Arguments as bytes of an Amiga's text.
 
 ghost use Rattle.std.specs.Prelude.{◌≡◌, IfErr, IfOk, OnOk, All, map};
 ghost use Rattle.std.specs.Str.{chars};
@@ -8,11 +8,11 @@ ghost use Rattle.files_in.specs.Words.{IsBitsFault, IsLetterFault, IsLetterFault
 
 use crate::fault::{InFault, refused};
 use adf_text::{LettersFault, letter_bytes, letters_come_back, protection_of_letters};
+use ados_model::DosError;
 use ados_name::Protect;
-use ados_packet::DosError;
 use std::alloc::Global;
 
-/// A word, and the bytes that its letters stand for.
+/// An argument, and the bytes of its letters.
 #[derive(Drop)]
 pub(crate) struct Word<'a> {
     text: &'a str,
@@ -20,7 +20,7 @@ pub(crate) struct Word<'a> {
 }
 
 impl<'a> Word<'a> {
-    /// A word without a letter past U+00FF.
+    /// An argument without a letter past U+00FF.
     pub fn new(alloc: Global, text: &'a str) -> Result<Word<'a>, InFault>
         ensures same { IfOk result (λ word. word.text.now ≡ text.now) }
         ensures spelled { IfOk result IsSpelled }
@@ -35,7 +35,7 @@ impl<'a> Word<'a> {
         }
     }
 
-    /// The bytes that its letters stand for.
+    /// The bytes of its letters.
     pub fn bytes(&self) -> &[u8]
         requires { IsSpelled self.now }
         ensures { result.now ≡ chars self.now.text.now }
@@ -44,14 +44,14 @@ impl<'a> Word<'a> {
         self.bytes.as_slice()
     }
 
-    /// An error of AmigaDOS, told of this word.
+    /// An error of AmigaDOS, with this argument.
     pub fn refused(&self, alloc: Global, error: DosError) -> InFault
         ensures { IsRefusal error self.now.text.now result }
     {
         refused(alloc, self.text, error)
     }
 
-    /// The protection bits that the word spells.
+    /// The protection bits for the argument's letters.
     pub fn protection(&self, alloc: Global) -> Result<Protect, InFault>
         requires { IsSpelled self.now }
         ensures letters { OnOk result (AreLetters (chars self.now.text.now)) }
@@ -65,7 +65,7 @@ impl<'a> Word<'a> {
     }
 }
 
-/// That these are the bytes that the letters of a text stand for.
+/// The bytes are those of the text's letters.
 fn are_bytes_of(bytes: &[u8], text: &str)
     requires { letters bytes.now ≡ text.now }
     ensures { bytes.now ≡ chars text.now }
@@ -73,7 +73,7 @@ fn are_bytes_of(bytes: &[u8], text: &str)
     letters_come_back();
 }
 
-/// Words without a letter past U+00FF.
+/// Arguments without a letter past U+00FF.
 pub(crate) fn words_of<'a>(alloc: Global, texts: &[&'a str]) -> Result<Vec<Word<'a>>, InFault>
     ensures texts { IfOk result (λ words. map (λ word. word.text.now) words.items ≡ map (λ text. text.now) texts.now) }
     ensures spelled { IfOk result (λ words. All IsSpelled words.items) }

@@ -1,8 +1,8 @@
 -- The items of one entry.
 use Rattle.std.proofs.Common.{◌≡◌, Bool, false, true, List, [], ◌∷◌, ◌++◌, Some, sym, ap, ◌∙◌, subst, append_assoc}
-use Rattle.ados_packet.specs.declared.info.FileInfo.{FileInfo}
-use Rattle.ados_tree.specs.Tree.{Node, Tree}
-use Rattle.ados_volume.specs.Examined.{file_info}
+use Rattle.ados_model.specs.declared.answer.FileInfo.{FileInfo}
+use Rattle.ados_model.specs.Tree.{Node, Tree}
+use Rattle.ados_model.specs.Objects.{file_info}
 use Rattle.host_trees.specs.declared.writing.HostItem.{HostItem}
 use Rattle.host_trees.specs.Notes.{note_of}
 use Rattle.adf_transfer.specs.Located.{Located}
@@ -13,11 +13,11 @@ module _ (t : Tree) (notes : Bool) (e : Located) (node : Node) (there : t.nodes 
   own : IsItem t e node item
   own = record { path = path; date = date ∙ ap (λ (info : FileInfo). info.date) is; content = holds }
 
-  -- it goes out alone
+  -- the entry without a note
   pub alone : (old new : List HostItem) → notes ≡ false → new ≡ old ++ item ∷ [] → (more : List HostItem) × (new ≡ old ++ more) × GoesOut t notes e more
   alone old new off grown = (item ∷ [], grown, (node, there, subst (λ (b : Bool). AreItems t b e node (item ∷ [])) (sym off) own))
 
-  -- it goes out with its note
+  -- the entry with its note
   pub with_note : (note : HostItem) → note.path ≡ note_of (host_path e.path) → note.date ≡ told.date → HasLine (noted told) note.content
       → (old mid new : List HostItem) → notes ≡ true → mid ≡ old ++ item ∷ [] → new ≡ mid ++ note ∷ [] → (more : List HostItem) × (new ≡ old ++ more) × GoesOut t notes e more
   with_note note beside same line old mid new on first second = (

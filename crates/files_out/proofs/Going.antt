@@ -1,9 +1,9 @@
--- What goes out for some entries, and then for others.
+-- The items for some entries, then for others.
 use Rattle.std.proofs.Common.{◌≡◌, ◌≢◌, ℕ, ◌+◌, ◌<◌, Bool, List, [], ◌∷◌, ◌++◌, length, get_or, map, take, flat_map, if◌then◌else◌, refl, sym, ap, ◌∙◌, subst, append_assoc, eq-eqb}
 use Rattle.std.proofs.lemmas.Bool.{ne_eqb}
 use Rattle.std.proofs.lemmas.Grind.{flat_map-append}
 use Rattle.std.proofs.lemmas.List.{append-nil, map-append, take_more}
-use Rattle.ados_tree.specs.Tree.{Tree, entries, name_of, root}
+use Rattle.ados_model.specs.Tree.{Tree, entries, name_of, root}
 use Rattle.host_trees.specs.declared.writing.HostItem.{HostItem}
 use Rattle.adf_transfer.specs.Located.{Located}
 use Rattle.adf_transfer.specs.Below.{AreBelow, located, slash}
@@ -22,7 +22,7 @@ module _ (t : Tree) (notes : Bool) where
   each_one : (e : Located) (items : List HostItem) → GoesOut t notes e items → EachGoesOut t notes (e ∷ []) items
   each_one e items g = subst (EachGoesOut t notes (e ∷ [])) (append-nil items) (entry items g none)
 
-  -- behind others stand the items of these entries
+  -- the items of these entries follow the others
   pub record Adds (es : List Located) (old new : List HostItem) : Type 0 where
     pub more : List HostItem
     pub grown : new ≡ old ++ more
@@ -41,7 +41,7 @@ module _ (t : Tree) (notes : Bool) where
     each = each_append es fs a.more b.more a.each b.each;
   }
 
-  -- one more of the entries behind a front
+  -- one more of the entries after a prefix
   pub adds_next : (front : List ℕ) (es : List Located) (i : ℕ) (e : Located) (old new newer : List HostItem) → i < length es → e ≡ get_or es i e
       → Adds (map (behind front) (take i es)) old new → Adds (behind front e ∷ []) new newer → Adds (map (behind front) (take (i + 1) es)) old newer
   adds_next front es i e old new newer inside is a b =
@@ -49,7 +49,7 @@ module _ (t : Tree) (notes : Bool) where
       ap (map (behind front)) (take_more es i e inside ∙ ap (λ (f : Located). take i es ++ f ∷ []) (sym is)) ∙ map-append (behind front) (take i es) (e ∷ []) in
       subst (λ (fs : List Located). Adds fs old newer) (sym parts) (adds_more (map (behind front) (take i es)) (behind front e ∷ []) old new newer a b)
 
-  -- behind others stands all that goes out for these objects
+  -- the items for these objects follow the others
   pub record AddsAll (keys : List ℕ) (old new : List HostItem) : Type 0 where
     pub more : List HostItem
     pub grown : new ≡ old ++ more
@@ -75,7 +75,7 @@ module _ (t : Tree) (notes : Bool) where
   same_behind (e ∷ es) = ap (λ (fs : List Located). e ∷ fs) (same_behind es)
 
   module _ (key : ℕ) (es : List Located) (below : AreBelow t [] (entries t key) es) (old new : List HostItem) where
-    -- of the root, all in it
+    -- for the root, all its entries
     pub adds_root : key ≡ root t → Adds (map (behind []) es) old new → AddsAll (key ∷ []) old new
     adds_root is a =
         let in_it : flat_map (tops t) (key ∷ []) ≡ entries t key = append-nil (tops t key) ∙ ap (λ (b : Bool). if b then entries t key else key ∷ []) (eq-eqb key (root t) is) in
@@ -89,7 +89,7 @@ module _ (t : Tree) (notes : Bool) where
           };
         }
 
-    -- of an entry, itself and all below it
+    -- for an entry, itself and everything below it
     pub adds_entry : key ≢ root t → Adds (located t [] key ∷ map (behind (name_of t key ++ slash)) es) old new → AddsAll (key ∷ []) old new
     adds_entry other a =
         let itself : flat_map (tops t) (key ∷ []) ≡ key ∷ [] = append-nil (tops t key) ∙ ap (λ (b : Bool). if b then entries t key else key ∷ []) (ne_eqb key (root t) other) in

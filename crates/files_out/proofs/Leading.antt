@@ -1,13 +1,13 @@
--- Where words lead, and why they lead to nothing.
+-- The objects of path arguments, and their faults.
 use Rattle.std.proofs.Common.{◌≡◌, ℕ, ◌+◌, ◌<◌, ◌≤◌, ◌==◌, inl, inr, false, true, Bor, Result, Err, IfOk, OnOk, List, [], ◌∷◌, ◌++◌, length, get_or, map, take, All, Option, Some, None, Ok, refl, sym, ap, ap₂, ◌∙◌, subst, arith, Fits, w8}
 use Rattle.std.specs.Str.{chars}
 use Rattle.std.specs.Io.KnownBytes.{Keeps}
 use Rattle.std.proofs.lemmas.Bool.{false≢true, ne_eqb}
 use Rattle.std.proofs.lemmas.List.{get_or-map, length-map, map-append, take_more}
 use Rattle.std.proofs.lemmas.List.Elements.{All-from_get_or}
-use Rattle.ados_packet.specs.declared.dos_error.DosError.{DosError}
-use Rattle.ados_tree.specs.Tree.{Tree}
-use Rattle.ados_tree.specs.declared.path_fault.WalkFault.TheVariants.{ObjectNotFound}
+use Rattle.ados_model.specs.declared.dos_error.DosError.{DosError}
+use Rattle.ados_model.specs.Tree.{Tree}
+use Rattle.ados_model.specs.declared.dos_error.WalkFault.TheVariants.{ObjectNotFound}
 use Rattle.adf_text.specs.Letters.{IsByte}
 use Rattle.adf_transfer.specs.Paths.{StopsAt}
 use Rattle.files_out.specs.declared.fault.OutFault.{OutFault}
@@ -18,15 +18,15 @@ use Rattle.files_out.specs.Printing.{IsPrintFault}
 pub All-bytes : (bytes : List ℕ) → ((k : ℕ) → Fits w8 (get_or bytes k 0)) → All IsByte bytes
 All-bytes bytes fit = All-from_get_or IsByte bytes 0 (λ k inside. let fits = fit k in omega arith)
 
--- the text of a word
+-- the text of an argument
 abbrev pub text_of : Bor (List ℕ) → List ℕ
 text_of word = word.now
 
--- in place of a word that is not there
+-- a default for an argument that does not exist
 abbrev pub no_word : Bor (List ℕ)
 no_word = record { ref_ptr = (0, 0); now = [] }
 
--- what follows for an Ok, of its value and else
+-- a consequence for the value of a success
 pub if_ok : {T E : Type 0} (r : Result T E) (P Q : T → Type 0) → ((v : T) → P v → Q v) → IfOk r P → IfOk r Q
 if_ok (Ok v) P Q f h = f v h
 if_ok (Err e) P Q f h = tt
@@ -35,7 +35,7 @@ pub on_ok : {T E : Type 0} (r : Result T E) (P Q : Type 0) → (P → Q) → OnO
 on_ok (Ok v) P Q f h = f h
 on_ok (Err e) P Q f h = tt
 
--- a list that is not empty, and one that is
+-- a list that is not empty, and an empty one
 pub some_items : {X : Type 0} (xs : List X) → (length xs == 0) ≡ false → 0 < length xs
 some_items [] h = absurd (false≢true (sym h))
 some_items (x ∷ xs) h = omega arith
@@ -53,7 +53,7 @@ module _ (t : Tree) where
   asked_some f [] keys h lead = absurd (false≢true (sym h))
   asked_some f (word ∷ words) keys h lead = lead
 
-  -- a refusal with the error of the step at which the walk stops
+  -- a refusal with the error of the step where the walk stops
   pub refused_word : (word : List ℕ) (error : DosError) (at : ℕ) (fault : OutFault) → IsRefusal error word fault
       → StopsAt t (chars word) ObjectNotFound (record { at = at; error = error }) → IsWordFault t word fault
   refused_word word error at (Refused refused) r stops =
@@ -64,14 +64,14 @@ module _ (t : Tree) where
   refused_word word error at Memory r stops = tt
 
   module _ {X : Type 0} (f : X → List ℕ) (words : List X) (i : ℕ) (d : X) (inside : i < length words) where
-    -- one word more leads to its object
+    -- one more argument leads to its object
     pub lead_more : (keys : List ℕ) (key : ℕ) → LeadTo t (map f (take i words)) keys → LeadsTo t (f (get_or words i d)) key → LeadTo t (map f (take (i + 1) words)) (keys ++ key ∷ [])
     lead_more keys key before here =
         ap (λ (ws : List X). map (led t) (map f ws)) (take_more words i d inside)
         ∙ ap (map (led t)) (map-append f (take i words) (get_or words i d ∷ [])) ∙ map-append (led t) (map f (take i words)) (f (get_or words i d) ∷ [])
         ∙ ap₂ (λ rs ss. rs ++ ss) before (ap (λ r. r ∷ []) here) ∙ sym (map-append Ok keys (key ∷ []))
 
-    -- one word leads to nothing
+    -- one argument leads nowhere
     pub some_fault : (fault : OutFault) → IsWordFault t (f (get_or words i d)) fault → IsFaultOfSome t (map f words) fault
     some_fault fault h = inr (i, f (get_or words i d), omega (arith, inside, length-map words f), get_or-map f words i d (f (get_or words i d)) inside, h)
 

@@ -1,4 +1,4 @@
--- Why all below an entry goes out under its own path, and each path with its names.
+-- Everything below an entry has its path after the entry's, and each path consists of its names.
 pub mod Names
 pub mod Under
 pub mod Entries

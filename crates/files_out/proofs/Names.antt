@@ -1,4 +1,4 @@
--- Paths cut into their names.
+-- Paths split into names.
 use Rattle.std.proofs.Common.{◌≡◌, ℕ, ◌+◌, ◌-◌, ◌<◌, ◌≤◌, zero-le, ◌⊎◌, inl, inr, Bool, true, false, Option, None, Some, unwrap_or, List, [], ◌∷◌, ◌++◌, length, map, take, drop, get_or, All, refl, sym, ap, ◌∙◌, subst, arith}
 use Rattle.std.specs.List.{after_first, before_first, join_with_byte, onto_first, position_or_len}
 use Rattle.std.proofs.lemmas.Bool.{false_from_ne_true, ne_eqb}
@@ -11,7 +11,7 @@ use Rattle.ados_name.specs.Name.{IsName, is_slash}
 use Rattle.adf_text.specs.HostNames.{host_name}
 use Rattle.files_out.specs.Items.{host_path, names_in}
 
--- the first slash that was found, and what stands before and behind it
+-- the first slash, and the bytes before and after it
 module _ (xs : List ℕ) where
   slash_found : (r : Option ℕ) → IsFirstByte is_slash xs r → position_or_len is_slash xs ≡ unwrap_or r (length xs)
   slash_found None none =
@@ -45,7 +45,7 @@ names_cons (x ∷ xs) = go (is_slash x) refl (names_cons xs)
 onto_append : (x : ℕ) (first : List ℕ) (rest names more : List (List ℕ)) → names ≡ first ∷ rest → onto_first x (names ++ more) ≡ onto_first x names ++ more
 onto_append x first rest names more e = subst (λ (ns : List (List ℕ)). onto_first x (ns ++ more) ≡ onto_first x ns ++ more) (sym e) refl
 
--- a slash between two paths divides their names
+-- a slash between two paths separates their names
 pub names_append : (xs ys : List ℕ) → names_in (xs ++ 47 ∷ ys) ≡ names_in xs ++ names_in ys
 names_append [] ys = slice_split-cons_yes is_slash 47 ys refl
 names_append (x ∷ xs) ys = go (is_slash x) refl (names_append xs ys)
@@ -59,11 +59,11 @@ names_append (x ∷ xs) ys = go (is_slash x) refl (names_append xs ys)
         slice_split-cons_no is_slash x (xs ++ 47 ∷ ys) e ∙ ap (onto_first x) inner ∙ onto_append x n.0 n.1 (names_in xs) (names_in ys) n.2
         ∙ ap (λ (ns : List (List ℕ)). ns ++ names_in ys) (sym (slice_split-cons_no is_slash x xs e))
 
--- a name is a path of one name
+-- a name is a path with one name
 pub names_one : (name : List ℕ) → IsName name → names_in name ≡ name ∷ []
 names_one name is = slice_split_none is_slash name (λ k d l. ne_eqb (get_or name k d) 47 (is.plain k d l).no_slash)
 
--- what the rest of a path adds to its front on the host
+-- what the rest of a path adds to the host path of its prefix
 pub tail : List ℕ → List ℕ
 tail [] = []
 tail (c ∷ cs) = 47 ∷ host_path (c ∷ cs)
@@ -78,11 +78,11 @@ unfolding tail
 tail_some [] l = absurd (omega arith)
 tail_some (c ∷ cs) l = refl
 
--- what is left behind the first name is shorter
+-- the rest after the first name is shorter
 pub shorter : (xs : List ℕ) → 0 < length xs → length (after_first is_slash xs) < length xs
 shorter xs some = omega (arith, some, length-drop (position_or_len is_slash xs + 1) xs)
 
--- a path that is cut behind its first name
+-- a path cut after its first name
 pub record IsCut (path first rest : List ℕ) : Type 0 where
   pub name : IsName first
   pub host : host_path path ≡ host_name first ++ tail rest
@@ -133,6 +133,6 @@ module _ (path : List ℕ) (names : All IsName (names_in path)) where
         others = λ some. absurd (omega (arith, some, ap length none));
       }
 
-  -- it is cut behind its first name, at a slash or at its end
+  -- the path is cut after its first name, at a slash or at its end
   pub is_cut : IsCut path (before_first is_slash path) (after_first is_slash path)
   is_cut = elim (lt_or_le (position_or_len is_slash path) (length path)) [ inl l ↦ with_slash l | inr l ↦ without_slash l ]

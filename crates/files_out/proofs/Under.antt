@@ -1,11 +1,11 @@
--- All below an entry, as paths behind its own.
+-- Everything below an entry, with the entry's path as a prefix.
 use Rattle.std.proofs.Common.{◌≡◌, ℕ, ◌<◌, List, [], ◌∷◌, ◌++◌, length, get_or, map, All, Contains, IsSome, sym, ap, ap₂, ◌∙◌, subst, append_assoc, is_some, false}
 use Rattle.std.proofs.lemmas.List.{append-nil, get_or_default, map-append}
 use Rattle.std.proofs.lemmas.List.Elements.{All-append, All-cons, All-nil}
-use Rattle.ados_chain.proofs.Lists.{Contains-here, Contains-later}
+use Rattle.ados_model.proofs.KeyLists.{Contains-here, Contains-later}
 use Rattle.ados_name.specs.Name.{IsName}
-use Rattle.ados_tree.specs.Tree.{Proper, Tree, entries, name_in, name_of}
-use Rattle.ados_tree.proofs.Nodes.{entry_node, some_in}
+use Rattle.ados_model.specs.Tree.{Proper, Tree, entries, name_in, name_of}
+use Rattle.ados_model.proofs.Nodes.{entry_node, some_in}
 use Rattle.adf_transfer.specs.Located.{Located}
 use Rattle.adf_transfer.specs.Below.{AreBelow, located, slash}
 use Rattle.adf_transfer.specs.Below.AreBelow.{none, entry}
@@ -18,14 +18,14 @@ module _ (t : Tree) where
   pub below_none : (front : List ℕ) → AreBelow t front [] []
   below_none front = none
 
-  -- the entries of a directory and of another, one after another
+  -- everything below two lists of entries, one after the other
   pub below_append : (front ks ls : List ℕ) (es fs : List Located) → AreBelow t front ks es → AreBelow t front ls fs → AreBelow t front (ks ++ ls) (es ++ fs)
   below_append front [] ls [] fs none b = b
   below_append front [] ls (_ ∷ _) fs a b = elim a [ ]
   below_append front (key ∷ ks) ls _ fs (entry {inner = inner} {others = others} i o) b =
       subst (λ (es : List Located). AreBelow t front (key ∷ (ks ++ ls)) (located t front key ∷ es)) (sym (append_assoc inner others fs)) (entry i (below_append front ks ls others fs o b))
 
-  -- the same entries with a front before their paths
+  -- the same entries with a prefix before their paths
   pub below_behind : (pre front keys : List ℕ) (es : List Located) → AreBelow t front keys es → AreBelow t (pre ++ front) keys (map (behind pre) es)
   below_behind pre front [] [] none = none
   below_behind pre front [] (_ ∷ _) a = elim a [ ]
@@ -42,7 +42,7 @@ module _ (t : Tree) where
       parts : map (behind pre) (located t front key ∷ (inner ++ others)) ≡ located t (pre ++ front) key ∷ (map (behind pre) inner ++ map (behind pre) others)
       parts = ap₂ (λ (e : Located) (es : List Located). e ∷ es) same (map-append (behind pre) inner others)
 
-  -- an entry with all below it
+  -- an entry with everything below it
   pub below_top : (key : ℕ) (es : List Located) → AreBelow t [] (entries t key) es → AreBelow t [] (key ∷ []) (located t [] key ∷ map (behind (name_of t key ++ slash)) es)
   below_top key es b =
       subst (λ (fs : List Located). AreBelow t [] (key ∷ []) (located t [] key ∷ fs)) (append-nil (map (behind (name_of t key ++ slash)) es))
@@ -52,7 +52,7 @@ module _ (t : Tree) where
     named : (key : ℕ) → IsSome (t.nodes key) → IsName (name_of t key)
     named key there = let n = some_in (t.nodes key) there in subst IsName (sym (ap name_in n.1)) (proper.name key n.0 n.1)
 
-    -- the names in the paths of what lies below a directory, where its own path has only names
+    -- paths below a directory consist of names if the directory's own path does
     below_named : (pre front keys : List ℕ) (es : List Located) → ((name : List ℕ) → IsName name → All IsName (names_in (pre ++ (front ++ name))))
         → ((key : ℕ) → Contains keys key → IsSome (t.nodes key)) → AreBelow t front keys es → All (HasNames pre) es
     below_named pre front [] [] fit there none = All-nil (HasNames pre)
@@ -79,14 +79,14 @@ module _ (t : Tree) where
             subst (All IsName) (sym parts) (All-append IsName (names_in (pre ++ (front ++ name_of t key))) (names_in name) own (subst (All IsName) (sym (names_one name is)) (All-cons IsName name [] is (All-nil IsName))))
 
     module _ (key : ℕ) (es : List Located) (b : AreBelow t [] (entries t key) es) where
-      -- of what lies below an entry or the root
+      -- the same for everything below an entry or the root
       pub names_below : (pre : List ℕ) → ((name : List ℕ) → IsName name → All IsName (names_in (pre ++ name))) → All (HasNames pre) es
       names_below pre fit = below_named pre [] (entries t key) es fit (λ k m. let n = entry_node t proper key k m in ap is_some n.1) b
 
       pub there_below : (k : ℕ) (d : Located) → k < length es → IsSome (t.nodes (get_or es k d).key)
       there_below k d l = below_there t proper key false es b (get_or es k d) k l (get_or_default es k d (get_or es k d) l)
 
--- a name, alone and behind another with a slash
+-- a name, alone and after another name with a slash
 pub fit_alone : (name : List ℕ) → IsName name → All IsName (names_in name)
 fit_alone name is = subst (All IsName) (sym (names_one name is)) (All-cons IsName name [] is (All-nil IsName))
 

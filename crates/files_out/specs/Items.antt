@@ -1,11 +1,11 @@
--- The files and directories of the host that go out for entries of a tree.
+-- The host files and directories for entries of a tree.
 use Rattle.std.specs.Prelude.{◌≡◌, ℕ, ◌==◌, Bool, true, false, if◌then◌else◌, List, [], ◌∷◌, ◌++◌, map, flat_map, Some, ⊤}
 use Rattle.std.specs.List.{join_with_byte, slice_split}
 use Rattle.ados_name.specs.Name.{is_slash}
-use Rattle.ados_packet.specs.declared.info.FileInfo.{FileInfo}
-use Rattle.ados_tree.specs.Tree.{Content, Node, Tree, entries, root}
-use Rattle.ados_tree.specs.Tree.Content.{Directory, File}
-use Rattle.ados_volume.specs.Examined.{file_info}
+use Rattle.ados_model.specs.declared.answer.FileInfo.{FileInfo}
+use Rattle.ados_model.specs.Tree.{Content, Node, Tree, entries, root}
+use Rattle.ados_model.specs.Tree.Content.{Directory, File}
+use Rattle.ados_model.specs.Objects.{file_info}
 use Rattle.adf_text.specs.declared.uaem.Uaem.{Uaem}
 use Rattle.adf_text.specs.HostNames.{host_name}
 use Rattle.adf_text.specs.Uaem.{IsLineOf}
@@ -21,38 +21,38 @@ use Rattle.files_out.specs.Words.{AreAsked}
 abbrev pub names_in : List ℕ → List (List ℕ)
 names_in path = slice_split is_slash path
 
--- its path on the host: each name as a name of the host's files
+-- its host path: each name as a host file's name
 abbrev pub host_path : List ℕ → List ℕ
 host_path path = join_with_byte 47 (map host_name (names_in path))
 
--- what is written for a node: a directory, or all bytes of a file
+-- the item's content for a node: a directory, or all bytes of a file
 abbrev pub Holds : Content → Written → Type 0
 Holds (Directory keys) written.Directory = ⊤
 Holds (File bytes) (written.File v) = v.items ≡ bytes
 Holds content other = ⊥
 
--- what a note tells of an entry
+-- the contents of an entry's note
 abbrev pub noted : FileInfo → Uaem
 noted told = record { protect = told.protection; date = told.date; comment = told.comment }
 
--- a file of that line
+-- a file with the line of this note
 abbrev pub HasLine : Uaem → Written → Type 0
 HasLine noted (written.File v) = IsLineOf noted v.items
 HasLine noted written.Directory = ⊥
 
--- an entry's own item: at its path, with its date, and what the node holds
+-- the item of an entry: at its path, with its date and its content
 pub record IsItem (t : Tree) (e : Located) (node : Node) (item : HostItem) : Type 0 where
   pub path : item.path ≡ host_path e.path
   pub date : item.date ≡ node.date
   pub content : Holds node.content item.content
 
--- the item of its note: beside it, with the same date, and the line of what is told of it
+-- the item of an entry's note: beside it, with the same date, and the line of the note
 pub record IsNote (t : Tree) (e : Located) (node : Node) (item : HostItem) : Type 0 where
   pub path : item.path ≡ note_of (host_path e.path)
   pub date : item.date ≡ node.date
   pub line : HasLine (noted (file_info t.format e.key node)) item.content
 
--- the items of an entry with this node, without notes or with them
+-- the items of an entry with this node, with or without its note
 abbrev pub AreItems : Tree → Bool → Located → Node → List HostItem → Type 0
 AreItems t false e node (item ∷ []) = IsItem t e node item
 AreItems t true e node (item ∷ note ∷ []) = IsItem t e node item × IsNote t e node note
@@ -62,22 +62,22 @@ AreItems t notes e node items = ⊥
 abbrev pub GoesOut : Tree → Bool → Located → List HostItem → Type 0
 GoesOut t notes e items = (node : Node) × (t.nodes e.key ≡ Some node) × AreItems t notes e node items
 
--- those of each of these entries, one after another
+-- the items of each of these entries, one after the other
 pub data EachGoesOut (t : Tree) (notes : Bool) : List Located → List HostItem → Type 0 where
   none : EachGoesOut t notes [] []
   entry : {e : Located} {es : List Located} (items : List HostItem) {others : List HostItem}
       → GoesOut t notes e items → EachGoesOut t notes es others → EachGoesOut t notes (e ∷ es) (items ++ others)
 
--- the entries that an object stands for: itself, but for the root those in it
+-- the entries for an object: itself, but for the root its entries
 abbrev pub tops : Tree → ℕ → List ℕ
 tops t key = if key == root t then entries t key else key ∷ []
 
--- all that goes out for these objects: the entries that they stand for with all that is below them, each with its items
+-- the items for these objects: those of their entries and of everything below them
 pub record AllGoOut (t : Tree) (notes : Bool) (keys : List ℕ) (items : List HostItem) : Type 0 where
   pub found : List Located
   pub below : AreBelow t [] (flat_map (tops t) keys) found
   pub each : EachGoesOut t notes found items
 
--- what goes out for the words of a command
+-- the items for the path arguments of a command
 abbrev pub AreOutgoing : Tree → Bool → List (List ℕ) → List HostItem → Type 0
 AreOutgoing t notes words items = (keys : List ℕ) × AreAsked t words keys × AllGoOut t notes keys items

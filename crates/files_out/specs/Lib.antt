@@ -1,4 +1,4 @@
--- What goes out of a volume, and why not. What only the calls inside speak of stands in steps.
+-- Output from a volume, and its faults. Definitions for steps are in `steps`.
 pub mod Words
 pub mod Printing
 pub mod Items

@@ -1,4 +1,4 @@
--- What is told of a damaged image once all that can be trusted of it is written.
+-- The report on a damaged image after everything that can be trusted was written.
 use Rattle.std.specs.Prelude.{◌≡◌, ℕ, Bool, true, false, ◌&&◌, List, [], ◌∷◌, ◌++◌, codes, decimal, if◌then◌else◌, ⊤}
 use Rattle.adf_salvage.specs.Salvaged.{Salvages}
 use Rattle.adf_salvage.specs.declared.salvaged.Salvaged.{Salvaged}
@@ -8,44 +8,44 @@ use Rattle.files_out.specs.declared.damaged.Rescue.{Rescue}
 use Rattle.files_out.specs.declared.fault.OutFault.{OutFault}
 use Rattle.files_out.specs.declared.fault.OutFault.TheVariants.{Host, Memory}
 
--- it was reached from the root, and is no broken file
+-- the entry was not recovered, and is no broken file
 abbrev pub is_sound : Bool → State → Bool
 is_sound found (Broken missing cut bytes) = false
 is_sound true state = false
 is_sound false state = true
 
--- `found` where no directory led to it
+-- `found ` for a recovered entry
 abbrev pub found_word : Bool → List ℕ
 found_word found = if found then codes "found " else []
 
--- the line of an entry; a directory that was reached has none
+-- the line of an entry; a directory that was not recovered has none
 abbrev pub rescue_line : Bool → State → List ℕ → List ℕ
 rescue_line true Directory path = codes "found " ++ path ++ codes "\n"
 rescue_line false Directory path = []
 rescue_line found (Whole bytes) path = found_word found ++ codes "whole " ++ path ++ codes "\n"
 rescue_line found (Broken missing cut bytes) path = found_word found ++ codes "broken " ++ decimal missing ++ codes " " ++ path ++ codes "\n"
 
--- one entry more is told of, at this path of the host
+-- the report has one more entry, at this host path
 pub record TellsAt (path : List ℕ) (entry : Salvaged) (old new : Rescue) : Type 0 where
   pub line : new.lines.items ≡ old.lines.items ++ rescue_line entry.found entry.state path
   pub sound : new.whole ≡ (old.whole && is_sound entry.found entry.state)
 
--- or at some path
+-- the report has one more entry, at some host path
 abbrev pub TellsOne : Salvaged → Rescue → Rescue → Type 0
 TellsOne entry old new = (path : List ℕ) × TellsAt path entry old new
 
--- these entries are told of, one after another
+-- the report has these entries, one after the other
 pub data AreRescued : List Salvaged → Rescue → Type 0 where
   none : {rescue : Rescue} → rescue.lines.items ≡ [] → rescue.whole ≡ true → AreRescued [] rescue
   one : {entries : List Salvaged} {entry : Salvaged} {old new : Rescue} → AreRescued entries old → TellsOne entry old new → AreRescued (entries ++ entry ∷ []) new
 
--- all that can be trusted of an image is told of
+-- the report has everything in an image that can be trusted
 pub record IsRescue (image : List ℕ) (rescue : Rescue) : Type 0 where
   pub entries : List Salvaged
   pub salvaged : Salvages image entries
   pub told : AreRescued entries rescue
 
--- why nothing is told: the host's files are not written, or there is no memory
+-- why there is no report: the host files cannot be written, or memory ran out
 abbrev pub IsRescueFault : OutFault → Type 0
 IsRescueFault (Host fault) = ⊤
 IsRescueFault Memory = ⊤

@@ -1,2 +1,2 @@
--- What only the calls inside speak of: entries under a directory's path.
+-- Definitions for steps: entries below the path of a directory.
 pub mod Behind

@@ -1,4 +1,4 @@
-//! What can be trusted of a damaged image, as files and directories of the host.
+//! What can be trusted in a damaged image, as files and directories of the host.
 ghost use Rattle.std.specs.Prelude.{◌≡◌, ◌≢◌, ◌≤◌, ◌++◌, All, IfErr, IfOk, IfSome, IsTrue, OnOk, length};
 ghost use Rattle.files_out.specs.Rescue.{is_sound, rescue_line, IsRescue, IsRescueFault, TellsAt, TellsOne};
 
@@ -17,28 +17,28 @@ use std::collections::BTreeSet;
 use std::rt::Files;
 use std::str::from_utf8;
 
-/// What is told of a damaged image once all is written.
+/// The report on a damaged image after everything was written.
 #[derive(Debug, Drop)]
 pub struct Rescue {
-    /// A line for each file, and for each directory that was found.
+    /// A line for each file, and for each recovered directory.
     pub lines: Vec<u8>,
-    /// The paths of the files that are cut short.
+    /// The paths of files that are cut short.
     pub cut: Vec<String>,
-    /// Whether all is whole.
+    /// Whether everything is whole.
     pub whole: bool,
 }
 
-/// The files and directories that are to be written, and what is told of them.
+/// The files and directories to write, and the report on them.
 #[derive(Drop)]
 struct Plan {
     items: Vec<HostItem>,
-    /// The paths of the directories among them.
+    /// The paths of the directories to write.
     directories: BTreeSet<Vec<u8>>,
     rescue: Rescue,
 }
 
-/// Writes all that can be trusted of an image below a directory of the host, and tells what that is. With `meta` each has
-/// its note beside it. Nothing is written where something of the host stands in the way.
+/// Writes everything in an image that can be trusted below a directory of the host, and reports on it. With `meta`, a
+/// note is written beside each entry. Nothing is written if an existing file or directory of the host is in the way.
 pub fn extract_damaged<R: Files>(
     rt: &R,
     alloc: Global,
@@ -60,7 +60,7 @@ where
     }
 }
 
-/// What is to be written of an image.
+/// The files and directories to write for an image.
 fn plan_of(alloc: Global, image: Image, meta: bool) -> Result<Plan, AllocError>
     ensures { IfOk result (λ plan. IsRescue image plan.rescue) }
 {
@@ -80,7 +80,7 @@ fn plan_of(alloc: Global, image: Image, meta: bool) -> Result<Plan, AllocError>
 }
 
 impl Rescue {
-    /// Tells of an entry that is written at a path of the host.
+    /// Reports on an entry that is written at a host path.
     fn tell(&mut self, alloc: Global, entry: &Salvaged, path: &str) -> Result<(), AllocError>
         ensures { OnOk result (TellsAt path.now entry.now self.old self.new) }
     {
@@ -94,7 +94,7 @@ impl Rescue {
 }
 
 impl Plan {
-    /// Adds an entry, and the directories on its way that are not there yet.
+    /// Adds an entry, and the directories on the way to it that were not added yet.
     fn add(&mut self, alloc: Global, entry: Salvaged, meta: bool) -> Result<(), AllocError>
         ensures { OnOk result (TellsOne entry self.old.rescue self.new.rescue) }
     {
@@ -104,7 +104,7 @@ impl Plan {
         self.add_entry(alloc, entry, host, meta)
     }
 
-    /// Adds an entry at a path of the host, and with `meta` its note.
+    /// Adds an entry at a host path, and with `meta` its note.
     fn add_entry(
         &mut self,
         alloc: Global,
@@ -153,7 +153,7 @@ impl Plan {
         Ok(())
     }
 
-    /// Adds a directory, unless it is there.
+    /// Adds a directory, unless it was added already.
     fn add_directory(
         &mut self,
         path: Vec<u8>,
@@ -187,7 +187,7 @@ impl Plan {
     }
 }
 
-/// Whether an entry is as it was: it was reached, and if it is a file, it is whole.
+/// Whether an entry is undamaged: it was not recovered, and a file is whole.
 fn is_sound(found: bool, state: &State) -> bool
     ensures { result ≡ is_sound found state.now }
 {
@@ -197,8 +197,8 @@ fn is_sound(found: bool, state: &State) -> bool
     }
 }
 
-/// Appends the line of an entry: `found` where no directory led to it, whether it is whole or how many of its blocks are
-/// missing, and its path. A directory that was reached has none.
+/// Appends the line of an entry: `found` if it was recovered, `whole` or the number of missing blocks, and its path. A
+/// directory that was not recovered has no line.
 fn push_line(
     alloc: Global,
     lines: &mut Vec<u8>,
@@ -218,7 +218,7 @@ fn push_line(
     lines.extend_from_slice(line.as_bytes())
 }
 
-/// The host's path of an entry, by its path or else by its name.
+/// The host path of an entry, by its path, or else by its name.
 fn rescue_path(alloc: Global, path: &[u8], name: &Name) -> Result<HostPath, AllocError> {
     match host_path_of(alloc, path)? {
         Some(host) => Ok(host),
@@ -226,7 +226,7 @@ fn rescue_path(alloc: Global, path: &[u8], name: &Name) -> Result<HostPath, Allo
     }
 }
 
-/// The host's path for names with a `/` between them, as far as they are names.
+/// The host path for names separated by `/`, or `None` if they are not names.
 fn host_path_of(alloc: Global, path: &[u8]) -> Result<Option<HostPath>, AllocError> {
     let mut host = None;
     let mut rest = path;
@@ -238,7 +238,8 @@ fn host_path_of(alloc: Global, path: &[u8]) -> Result<Option<HostPath>, AllocErr
     Ok(host)
 }
 
-/// The path of a name in the directory at a path. What stands behind the 30 bytes of a name is an ending of the host's name.
+/// The path of a name in the directory at a path. Everything after the 30 bytes of a name becomes an ending of the
+/// host name.
 fn with_name(
     alloc: Global,
     above: Option<HostPath>,
@@ -265,7 +266,7 @@ fn with_name(
 /// The most bytes of a name.
 const MOST_NAME: usize = 30;
 
-/// A text of two digits or `~` and more.
+/// A text of at least two characters, all of them digits or `~`.
 fn ending_of(text: &[u8]) -> Option<&str>
     ensures { IfSome result (λ ending. (2 ≤ length ending.now) × All (λ c. (c ≢ 0) × (c ≢ 47)) ending.now) }
 {
@@ -278,7 +279,7 @@ fn ending_of(text: &[u8]) -> Option<&str>
     }
 }
 
-/// Whether these are digits and `~` alone.
+/// Whether all of these are digits or `~`.
 fn is_ending(text: &[u8]) -> bool
     ensures { IsTrue result → All (λ c. (c ≢ 0) × (c ≢ 47)) text.now }
 {

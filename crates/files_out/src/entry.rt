@@ -1,9 +1,9 @@
-//! One entry as it goes out.
+//! The host files and directories for one entry.
 ghost use Rattle.std.specs.Prelude.{◌≡◌, ◌++◌, List, Some, IfOk, OnOk, All};
 ghost use Rattle.ados_name.specs.Name.{IsName};
-ghost use Rattle.ados_tree.specs.Tree.{Node, Tree};
-ghost use Rattle.ados_tree.specs.Stands.{Stands};
-ghost use Rattle.ados_tree.specs.Keys.{HasKey};
+ghost use Rattle.ados_model.specs.Tree.{Node, Tree};
+ghost use Rattle.ados_model.specs.Stands.{Stands};
+ghost use Rattle.ados_model.specs.Keys.{HasKey};
 ghost use Rattle.adf_text.specs.Uaem.{IsLineOf};
 ghost use Rattle.host_trees.specs.declared.writing.HostItem.{HostItem as Item};
 ghost use Rattle.files_out.specs.Items.{names_in, Holds, HasLine, GoesOut, noted};
@@ -11,12 +11,12 @@ ghost use Rattle.files_out.specs.Items.{names_in, Holds, HasLine, GoesOut, noted
 use crate::paths::host_path;
 use adf_text::{Uaem, uaem_line};
 use adf_transfer::read_file;
-use ados_packet::FileInfo;
+use ados_model::FileInfo;
 use ados_volume::Volume;
 use host_trees::{Content, HostItem, HostPath};
 use std::alloc::{AllocError, Global};
 
-/// Puts the item of an entry behind others, and where notes are wanted the note of it.
+/// Appends the item of an entry, and with notes the item of its note.
 pub(crate) fn push_entry(
     alloc: Global,
     volume: &Volume,
@@ -51,7 +51,7 @@ pub(crate) fn push_entry(
     Ok(())
 }
 
-/// What an object holds.
+/// The content of an object.
 fn content_of(alloc: Global, volume: &Volume, key: u32) -> Result<Content, AllocError>
     requires { HasKey volume.now.image key }
     ensures { IfOk result (λ content. (t : Tree) (node : Node) → Stands volume.now.image t → t.nodes key ≡ Some node → Holds node.content content) }
@@ -77,7 +77,7 @@ fn note_content(alloc: Global, told: &FileInfo) -> Result<Content, AllocError>
     Ok(Content::File(line))
 }
 
-/// The line that notes this.
+/// The line of a note.
 pub(crate) fn line_of(alloc: Global, noted: &Uaem) -> Result<Vec<u8>, AllocError>
     ensures { IfOk result (λ line. IsLineOf noted.now line.items) }
 {

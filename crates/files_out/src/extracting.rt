@@ -1,7 +1,7 @@
-//! Entries written as files and directories of the host.
+//! Entries written to files and directories of the host.
 ghost use Rattle.std.specs.Prelude.{◌≡◌, IfErr, map};
-ghost use Rattle.ados_tree.specs.Tree.{Tree};
-ghost use Rattle.ados_tree.specs.Stands.{Stands};
+ghost use Rattle.ados_model.specs.Tree.{Tree};
+ghost use Rattle.ados_model.specs.Stands.{Stands};
 ghost use Rattle.files_out.specs.Words.{IsExtractFault};
 
 use crate::fault::OutFault;
@@ -13,11 +13,11 @@ use host_trees::write_tree;
 use std::alloc::Global;
 use std::rt::Files;
 
-/// Writes the entries that the job names, each with all that is below it, below a directory of the host; without a path, or
-/// with one that names the root, all that is in the root. With `meta` each has its note beside it.
+/// Writes the entries of the job's paths, with everything below them, below a directory of the host. Without a path,
+/// or for the root, it writes all entries of the root. With `meta`, a note is written beside each.
 ///
-/// Nothing is written where a path leads nowhere, where something of the host stands in the way, or where two would have one
-/// path. The volume stays as it is.
+/// Nothing is written if a path leads nowhere, if an existing file or directory of the host is in the way, or if two
+/// entries would have one path. The volume does not change.
 pub fn extract<R: Files>(
     rt: &R,
     alloc: Global,

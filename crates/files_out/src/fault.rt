@@ -1,17 +1,17 @@
-//! Why nothing goes out, or not all.
+//! Why output from a volume failed.
 
 use adf_transfer::Refused;
 use host_trees::WriteFault;
 use std::alloc::{AllocError, AllocFailed};
 use thiserror::Error;
 
-/// Why what is asked for does not go out.
+/// Why output from a volume failed.
 #[derive(Debug, Drop, Error)]
 pub enum OutFault {
     /// A path leads to no object, or to one of the wrong type.
     #[error("{0}")]
     Refused(Refused),
-    /// A word with a letter past U+00FF.
+    /// An argument with a letter past U+00FF.
     #[error("'{0}' has a letter that no byte stands for")]
     Letter(String),
     #[error("{0}")]

@@ -1,8 +1,8 @@
-//! All that goes out for some objects.
+//! The host files and directories for some objects.
 ghost use Rattle.std.specs.Prelude.{◌≡◌, ◌++◌, [], ◌∷◌, List, map, IfOk, IfErr, OnOk, All};
-ghost use Rattle.ados_tree.specs.Tree.{Tree};
-ghost use Rattle.ados_tree.specs.Stands.{Stands};
-ghost use Rattle.ados_tree.specs.Keys.{HasKey};
+ghost use Rattle.ados_model.specs.Tree.{Tree};
+ghost use Rattle.ados_model.specs.Stands.{Stands};
+ghost use Rattle.ados_model.specs.Keys.{HasKey};
 ghost use Rattle.host_trees.specs.declared.writing.HostItem.{HostItem as Item};
 ghost use Rattle.files_out.specs.Items.{AllGoOut, AreOutgoing, EachGoesOut};
 ghost use Rattle.files_out.specs.Words.{IsFaultOfSome};
@@ -16,8 +16,8 @@ use ados_volume::Volume;
 use host_trees::HostItem;
 use std::alloc::{AllocError, Global};
 
-/// The files and directories of the host for what these words lead to: each entry with all that is below it, and for the root
-/// all that is in it, which is also meant without words. With `meta` the note of each entry stands behind it.
+/// The host files and directories for these path arguments: each entry with everything below it; for the root, or
+/// without arguments, all entries of the root. With `meta`, each entry is followed by its note.
 pub fn outgoing(
     alloc: Global,
     volume: &mut Volume,
@@ -38,8 +38,8 @@ pub fn outgoing(
     }
 }
 
-/// The host's files and directories for these objects, each entry with all that is below it, and for the root all that is in
-/// it. With `meta` the note of each entry stands behind it.
+/// The host files and directories for these objects: each entry with everything below it, and for the root all its
+/// entries. With `meta`, each entry is followed by its note.
 fn host_items(
     alloc: Global,
     volume: &Volume,
@@ -56,7 +56,7 @@ fn host_items(
     Ok(items)
 }
 
-/// Puts what goes out for an object behind others.
+/// Appends the items for an object.
 fn push_object(
     alloc: Global,
     volume: &Volume,
@@ -80,7 +80,7 @@ fn push_object(
     push_below(alloc, volume, &front, &below, meta, items)
 }
 
-/// Puts what goes out for these entries behind others, each under its path behind a front.
+/// Appends the items for these entries. Their paths follow a prefix.
 fn push_below(
     alloc: Global,
     volume: &Volume,

@@ -1,4 +1,4 @@
-//! What goes out of a volume: its entries as files and directories of the host, and the bytes of a file to a writer.
+//! Output from a volume: its entries to files and directories of the host, and the bytes of a file to a writer.
 #![tactic(auto)]
 
 mod damaged;

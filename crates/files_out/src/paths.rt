@@ -1,4 +1,4 @@
-//! The host's path of an entry.
+//! The host path of an entry.
 ghost use Rattle.std.specs.Prelude.{◌≡◌, IfOk, All};
 ghost use Rattle.std.specs.List.{before_first, after_first};
 ghost use Rattle.ados_name.specs.Name.{IsName, is_slash};
@@ -9,7 +9,7 @@ use bstr::ByteSlice;
 use host_trees::HostPath;
 use std::alloc::{AllocError, Global};
 
-/// The host's path of an entry: its names as names of the host's files.
+/// The host path of an entry: each name as a host file's name.
 pub(crate) fn host_path(alloc: Global, path: &[u8]) -> Result<HostPath, AllocError>
     requires { All IsName (names_in path.now) }
     ensures { IfOk result (λ host. host ≡ host_path path.now) }
@@ -24,7 +24,7 @@ pub(crate) fn host_path(alloc: Global, path: &[u8]) -> Result<HostPath, AllocErr
     Ok(host)
 }
 
-/// The first name of a path, and what stands behind its slash.
+/// The first name of a path, and the rest after its slash.
 pub(crate) fn split_name(path: &[u8]) -> (&[u8], &[u8])
     ensures name { result.0.now ≡ before_first is_slash path.now }
     ensures behind { result.1.now ≡ after_first is_slash path.now }

@@ -1,21 +1,21 @@
-//! The bytes of a file, written out.
+//! The bytes of a file, written to a writer.
 ghost use Rattle.std.specs.Prelude.{◌≡◌, OnOk, IfErr};
-ghost use Rattle.ados_tree.specs.Tree.{Tree};
-ghost use Rattle.ados_tree.specs.Stands.{Stands};
+ghost use Rattle.ados_model.specs.Tree.{Tree};
+ghost use Rattle.ados_model.specs.Stands.{Stands};
 ghost use Rattle.files_out.specs.Printing.{IsPrinted, IsPrintFault};
 
 use crate::fault::OutFault;
 use crate::words::{locate_word, refused};
 use adf_io::write_output;
 use adf_transfer::read_file;
-use ados_packet::DosError;
+use ados_model::DosError;
 use ados_volume::Volume;
 use std::alloc::Global;
 use std::io::Write;
 
-/// Writes the bytes of the file that a path leads to. The writer is not flushed.
+/// Writes the bytes of the file at a path. The writer is not flushed.
 ///
-/// Refused: 204, 205 and 212 of a path that leads nowhere, 212 of a directory.
+/// Errors: 204, 205 and 212 for a path that leads nowhere, 212 for a directory.
 pub fn print_file<W: Write>(
     alloc: Global,
     volume: &mut Volume,

@@ -1,22 +1,22 @@
-//! Paths as words of a command, and the objects that they lead to.
+//! Path arguments of a command, and their objects.
 ghost use Rattle.std.specs.Prelude.{◌≡◌, IfOk, IfErr, All, map};
-ghost use Rattle.ados_tree.specs.Tree.{Tree};
-ghost use Rattle.ados_tree.specs.Stands.{Stands};
-ghost use Rattle.ados_tree.specs.Keys.{HasKey};
+ghost use Rattle.ados_model.specs.Tree.{Tree};
+ghost use Rattle.ados_model.specs.Stands.{Stands};
+ghost use Rattle.ados_model.specs.Keys.{HasKey};
 ghost use Rattle.adf_text.specs.Letters.{letters};
 ghost use Rattle.files_out.specs.Words.{AreAsked, LeadsTo, LeadTo, IsWordFault, IsFaultOfSome, IsLetterFault, IsRefusal};
 
 use crate::fault::OutFault;
 use adf_text::{LettersFault, letter_bytes, letters_come_back};
 use adf_transfer::{Refused, locate};
-use ados_packet::DosError;
+use ados_model::DosError;
 use ados_volume::Volume;
 use std::alloc::Global;
 
-/// The object that a word leads to from the root, by the bytes of its letters.
+/// The object of a path argument, from the root. The bytes of the path are those of the argument's letters.
 ///
-/// Refused: 204 where a directory of the path is not there, 205 where the object is not or a parent of the root is asked for,
-/// 212 where a file stands in place of a directory.
+/// Errors: 204 if a directory of the path does not exist; 205 if the object does not, or for the parent of the root;
+/// 212 for a file in place of a directory.
 pub fn locate_word(alloc: Global, volume: &mut Volume, word: &str) -> Result<u32, OutFault>
     ensures leads { IfOk result (λ key. (t : Tree) → Stands volume.old.image t → LeadsTo t word.now key) }
     ensures fault { IfErr result (λ fault. (t : Tree) → Stands volume.old.image t → IsWordFault t word.now fault) }
@@ -30,7 +30,7 @@ pub fn locate_word(alloc: Global, volume: &mut Volume, word: &str) -> Result<u32
     locate_path(alloc, volume, &path, word)
 }
 
-/// The object that the bytes of a word's letters lead to.
+/// The object at these bytes of an argument's letters.
 fn locate_path(alloc: Global, volume: &mut Volume, path: &[u8], word: &str) -> Result<u32, OutFault>
     requires { letters path.now ≡ word.now }
     ensures leads { IfOk result (λ key. (t : Tree) → Stands volume.old.image t → LeadsTo t word.now key) }
@@ -45,7 +45,7 @@ fn locate_path(alloc: Global, volume: &mut Volume, path: &[u8], word: &str) -> R
     }
 }
 
-/// The objects that the words of a command lead to; without words the root.
+/// The objects of a command's path arguments; the root if there are none.
 pub(crate) fn asked_objects(
     alloc: Global,
     volume: &mut Volume,
@@ -62,7 +62,7 @@ pub(crate) fn asked_objects(
     locate_words(alloc, volume, words)
 }
 
-/// The objects that these words lead to.
+/// The objects of these path arguments.
 fn locate_words(alloc: Global, volume: &mut Volume, words: &[&str]) -> Result<Vec<u32>, OutFault>
     ensures lead { IfOk result (λ keys. (t : Tree) → Stands volume.old.image t → LeadTo t (map (λ word. word.now) words.now) keys.items) }
     ensures fault { IfErr result (λ fault. (t : Tree) → Stands volume.old.image t → IsFaultOfSome t (map (λ word. word.now) words.now) fault) }
@@ -80,7 +80,7 @@ fn locate_words(alloc: Global, volume: &mut Volume, words: &[&str]) -> Result<Ve
     Ok(keys)
 }
 
-/// The bytes that the letters of a word stand for.
+/// The bytes of an argument's letters.
 fn path_bytes(alloc: Global, word: &str) -> Result<Vec<u8>, OutFault>
     ensures ok { IfOk result (λ path. letters path.items ≡ word.now) }
     ensures fault { IfErr result (IsLetterFault word.now) }
@@ -92,7 +92,7 @@ fn path_bytes(alloc: Global, word: &str) -> Result<Vec<u8>, OutFault>
     }
 }
 
-/// The refusal of a word. Where there is no memory for the word, that is the fault.
+/// The refusal of an argument; out of memory if there is none for the argument.
 pub(crate) fn refused(alloc: Global, error: DosError, word: &str) -> OutFault
     ensures { IsRefusal error word.now result }
 {

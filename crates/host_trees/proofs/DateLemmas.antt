@@ -1,10 +1,10 @@
--- Dates and a host's times.
+-- Dates and times of a host.
 use Rattle.std.proofs.Common.{◌≡◌, ◌+◌, ◌*◌, ◌<◌, ◌≤◌, ⊎_elim, arith}
 use Rattle.std.proofs.lemmas.Bool.{cases_lt}
 use Rattle.ados_name.specs.declared.Date3.{Date3}
 use Rattle.host_trees.specs.Dates.{ticks_of, first_ticks, last_day, nanos_of, IsWithinDay, IsDateAt}
 
--- a count of ticks is of one date
+-- a number of ticks belongs to one date
 same_date : (d e : Date3) → IsWithinDay d → IsWithinDay e → ticks_of e ≡ ticks_of d → e ≡ d
 same_date d e is its same =
     let days : e.days ≡ d.days = omega (arith, same, is.minutes, is.ticks, its.minutes, its.ticks) in
@@ -12,7 +12,7 @@ same_date d e is its same =
     let ticks : e.ticks ≡ d.ticks = omega (arith, same, days, minutes) in
     λ i. record { days = days i; minutes = minutes i; ticks = ticks i }
 
--- the date of a date's time has as many ticks
+-- the date of a date's time has equally many ticks
 same_ticks : (d e : Date3) → IsWithinDay d → d.days < last_day → IsDateAt (nanos_of d) e → ticks_of e ≡ ticks_of d
 same_ticks d e is early at =
     let first : 20000000 * first_ticks ≤ nanos_of d = omega arith in

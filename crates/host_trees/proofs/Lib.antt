@@ -1,3 +1,3 @@
--- Lemmas on dates, and on paths below a directory.
+-- Lemmas about dates, and about paths below a directory.
 mod DateLemmas
 mod PathLemmas

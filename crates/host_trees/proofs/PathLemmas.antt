@@ -19,7 +19,7 @@ ending_plain =
     (All-cons IsPlain 101 (109 ∷ []) (λ e. omega (arith, e), λ e. omega (arith, e))
     (All-cons IsPlain 109 [] (λ e. omega (arith, e), λ e. omega (arith, e)) (All-nil IsPlain)))))
 
--- a text is no shorter one
+-- a text differs from a shorter one
 not_short : (name ending short : List ℕ) → length short ≤ 2 → 1 ≤ length name → 2 ≤ length ending → name ++ ending ≢ short
 not_short name ending short fits some long same = omega (arith, fits, some, long, ap length same, length-append name ending)
 
@@ -31,13 +31,13 @@ IsHostName-ended name ending long plain is = record {
   plain = All-append IsPlain name ending is.plain plain;
 }
 
--- a name with an ending is below a directory where the name is
+-- a name with an ending stays below a directory if the name does
 IsBelow-ended : (path ending : List ℕ) → 2 ≤ length ending → All IsPlain ending → IsBelow path → IsBelow (path ++ ending)
 IsBelow-ended path ending long plain (one is) = one (IsHostName-ended path ending long plain is)
 IsBelow-ended _ ending long plain (more {path} {name} outer is) =
     subst IsBelow (sym (append_assoc path (47 ∷ name) ending)) (more outer (IsHostName-ended name ending long plain is))
 
--- what is spelled so is below a directory
+-- a text of this form is below a directory
 pub IsBelow-child : (path name text : List ℕ) → IsBelow path → IsHostName name → text ≡ below path name → IsBelow text
 IsBelow-child path name text outer is spelled = subst IsBelow (sym spelled) (more outer is)
 

@@ -1,4 +1,4 @@
--- What is promised of names, paths and dates of a host's files.
+-- Definitions for names, paths and dates of host files.
 pub mod Dates
 pub mod Notes
 pub mod Paths

@@ -3,11 +3,11 @@ use Rattle.std.specs.Prelude.{ℕ, ◌==◌, List, ◌∷◌, ◌++◌, length, 
 use Rattle.std.specs.Path.{slash}
 use Rattle.adf_text.specs.HostNames.{IsHostName}
 
--- the path of a name in the directory at a path
+-- the path of a name in the directory at `path`
 abbrev pub below : List ℕ → List ℕ → List ℕ
 below path name = path ++ slash ∷ name
 
--- a path leads to something below where it begins: it is a name that a host's file can have, or such a name behind such a path
+-- a path that stays below its start: a possible name of a host file, or such a path followed by such a name
 pub data IsBelow : List ℕ → Type 0 where
   one : {name : List ℕ} → IsHostName name → IsBelow name
   more : {path name : List ℕ} → IsBelow path → IsHostName name → IsBelow (below path name)

@@ -1,4 +1,4 @@
-//! The times of a host's files as dates of entries, and the way back. A host's time is read as UTC.
+//! Times of host files as dates of entries, and the way back. Host times are UTC.
 ghost use Rattle.std.specs.Prelude.{◌≡◌, ◌+◌, ◌*◌, ◌/◌, ◌<◌};
 ghost use Rattle.std.specs.Time.{system_time_nanos};
 ghost use Rattle.host_trees.specs.Dates.{IsDateAt, IsWithinDay, nanos_of, DatesComeBack};
@@ -7,23 +7,23 @@ use ados_name::Date3;
 use std::io;
 use std::time::{Clock, Duration, SystemTime, UNIX_EPOCH};
 
-/// The days from 1 January 1970, with which a host's times begin, to 1 January 1978, with which the dates do.
+/// Days from 1 January 1970, the start of a host's times, to 1 January 1978, the start of dates.
 const DAYS_BEFORE: u64 = 2_922;
 
-/// The seconds of a day.
+/// Seconds in a day.
 const DAY_SECONDS: u64 = 86_400;
 
-/// The ticks of a second, of a minute and of a day.
+/// Ticks in a second, in a minute and in a day.
 const SECOND_TICKS: u64 = 50;
 
 const MINUTE_TICKS: u64 = 3_000;
 
 const DAY_TICKS: u64 = 4_320_000;
 
-/// The nanoseconds of a tick.
+/// Nanoseconds in a tick.
 const TICK_NANOS: u32 = 20_000_000;
 
-/// The time of a host's file for a date: that of its tick. A date past midnight or past the minute is counted on.
+/// The time of a host file for a date: the start of its tick. Minutes and ticks beyond a day or a minute are added.
 pub fn host_time(date: Date3) -> SystemTime
     ensures { system_time_nanos result ≡ nanos_of date }
 {
@@ -34,8 +34,8 @@ pub fn host_time(date: Date3) -> SystemTime
     UNIX_EPOCH + Duration::new(days + minutes + seconds, nanos)
 }
 
-/// The date of a host's time: the last tick that is not behind it. A time before 1978 is the first date of all, and one
-/// whose day has no number the last.
+/// The date of a host's time: the last tick that is not after it. A time before 1978 is the first date, one after the
+/// last day the last date.
 pub fn date_of_time(time: SystemTime) -> Date3
     ensures { IsDateAt (system_time_nanos time) result }
 {
@@ -66,7 +66,7 @@ const LAST: Date3 = Date3 {
     ticks: 2_999,
 };
 
-/// The date at so many seconds of a day, and so many nanoseconds behind them.
+/// The date at this many seconds and nanoseconds of a day.
 fn date_on(days: u32, seconds: u64, nanos: u32) -> Date3
     requires seconds { seconds < 86_400 }
     requires nanos { nanos < 1_000_000_000 }
@@ -81,12 +81,12 @@ fn date_on(days: u32, seconds: u64, nanos: u32) -> Date3
     }
 }
 
-/// What the host's clock says as a date.
+/// The time of the host's clock, as a date.
 pub fn moment_of<C: Clock>(clock: &C) -> io::Result<Date3> {
     Ok(date_of_time(SystemTime::now(clock)?))
 }
 
-/// A date within its day comes back from the time that it gives.
+/// A date with a valid time of day is read back from its host time.
 pub fn dates_come_back()
     ensures { DatesComeBack }
 {}

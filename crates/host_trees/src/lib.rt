@@ -1,4 +1,4 @@
-//! Files and directories of the host: gone through, and written below a directory.
+//! Files and directories of the host: walked, and written below a directory.
 #![tactic(auto)]
 
 mod dates;

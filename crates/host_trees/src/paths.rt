@@ -1,4 +1,4 @@
-//! Paths below a directory of the host, which lead nowhere else.
+//! Paths below a directory of the host. They never lead outside of it.
 ghost use Rattle.std.specs.Prelude.{◌≡◌, ◌≢◌, ◌≤◌, ◌++◌, All, IfOk, length};
 ghost use Rattle.std.specs.String.{string_bytes};
 ghost use Rattle.adf_text.specs.HostNames.{host_name};
@@ -10,7 +10,7 @@ use ados_name::Name;
 use std::alloc::{AllocError, Global};
 use std::marker::Model;
 
-/// Names of host files with `/` between them, none of which is `.` or `..` or has a `/` of its own. Contracts see its bytes.
+/// Names of host files, separated by `/`. None of them is `.` or `..` or contains a `/`. Contracts see the bytes.
 #[derive(Debug, Drop)]
 pub struct HostPath {
     text: String,
@@ -29,7 +29,7 @@ impl Model for HostPath {
 }
 
 impl HostPath {
-    /// The path of an entry in the directory itself, under the host's name for its name.
+    /// The path of an entry in the directory itself, under the entry's host name.
     pub fn of_name(alloc: Global, name: &Name) -> Result<HostPath, AllocError>
         ensures { IfOk result (λ path. path ≡ host_name name.now) }
     {
@@ -46,7 +46,7 @@ impl HostPath {
         Ok(HostPath { text })
     }
 
-    /// The path of a file in the same directory, whose name has this ending more.
+    /// The path of a file in the same directory whose name is this one with an ending.
     pub fn with_ending(&self, alloc: Global, ending: &str) -> Result<HostPath, AllocError>
         requires long { 2 ≤ length ending.now }
         requires plain { All (λ c. (c ≢ 0) × (c ≢ 47)) ending.now }
@@ -56,7 +56,7 @@ impl HostPath {
         Ok(HostPath { text })
     }
 
-    /// The path of the file that notes what an Amiga knows of the file at this path.
+    /// The path of the note that belongs to the file at this path.
     pub fn note(&self, alloc: Global) -> Result<HostPath, AllocError>
         ensures { IfOk result (λ path. path ≡ note_of self.now) }
     {
@@ -73,14 +73,14 @@ impl HostPath {
     }
 }
 
-/// The path of a host's file below a directory; an empty one is `.`.
+/// The path of a host file below a directory. An empty directory is `.`.
 pub fn target_path(alloc: Global, directory: &str, path: &HostPath) -> Result<String, AllocError>
     ensures { IfOk result (λ text. string_bytes text ≡ target directory.now path.now) }
 {
     format!(in alloc; "{}/{}", top_of(directory), path.as_str())
 }
 
-/// The path of a directory; an empty one is `.`.
+/// The path of a directory. An empty one is `.`.
 fn top_of(directory: &str) -> &str
     ensures { result.now ≡ top_of directory.now }
 {

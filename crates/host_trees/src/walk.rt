@@ -1,4 +1,4 @@
-//! Files and directories of the host, gone through.
+//! Walks over files and directories of the host.
 ghost use Rattle.std.specs.Prelude.{IsPermutation, IsSorted};
 ghost use Rattle.std.specs.String.{string_cmp};
 
@@ -14,12 +14,12 @@ use std::rt::Files;
 use std::{fmt, fs};
 use thiserror::Error;
 
-/// What the words of a command lead to on the host.
+/// The files and directories that the arguments of a command name.
 #[derive(Drop)]
 pub struct HostTree {
-    /// The files and directories, a directory before what is in it, and that in the order of the bytes of its names.
+    /// The files and directories: a directory before its entries, and these in the order of the bytes of their names.
     pub entries: Vec<HostEntry>,
-    /// What is there and is none of them.
+    /// What is skipped because it is neither a file nor a directory.
     pub passed_over: Vec<PassedOver>,
 }
 
@@ -29,12 +29,12 @@ pub struct HostEntry {
     pub path: String,
     /// The last name of the path.
     pub name: String,
-    /// The place in the list of the directory that it was found in; none for what a word names.
+    /// The index of its directory in the list; `None` for an argument.
     pub parent: Option<usize>,
     pub kind: HostKind,
-    /// When it was changed.
+    /// The time of its last change.
     pub date: Date3,
-    /// The path of the file that notes what an Amiga knows of it, if there is one.
+    /// The path of its note, if there is one.
     pub note: Option<String>,
 }
 
@@ -42,11 +42,11 @@ pub struct HostEntry {
 #[derive(Clone, Copy)]
 pub enum HostKind {
     Directory,
-    /// A regular file of so many bytes, or a link to one.
+    /// A regular file with this many bytes, or a link to one.
     File { length: u64 },
 }
 
-/// What is there on the host and is passed over.
+/// Something on the host that is skipped.
 #[derive(Drop)]
 pub struct PassedOver {
     pub path: String,
@@ -64,7 +64,7 @@ impl Display for PassedOver {
     }
 }
 
-/// Why something is passed over.
+/// Why something is skipped.
 #[derive(Clone, Copy, Debug, PartialEq, Eq, Error)]
 pub enum PassedWhy {
     #[error("is a symbolic link to a directory")]
@@ -77,7 +77,7 @@ pub enum PassedWhy {
     NoteOfNothing,
 }
 
-/// Why the host's files were not gone through.
+/// Why the walk over the host's files failed.
 #[derive(Debug, Drop, Error)]
 pub enum WalkFault {
     #[error("'{path}' cannot be read: {error}")]
@@ -102,29 +102,30 @@ impl<T: Drop> From<AllocFailed<T>> for WalkFault {
     }
 }
 
-/// How many files and directories are looked at: more than ten times as many as the blocks of the largest image.
+/// The most files and directories that are visited: more than ten times the blocks of the largest image.
 const MOST_LOOKS: usize = 1_048_576;
 
-/// What is to be looked at.
+/// A path still to be visited.
 #[derive(Drop)]
 struct Waiting {
     path: String,
-    /// The last name of the path; empty for `/` and for what ends in `.` or `..`, which stand for what is in them.
+    /// The last name of the path. It is empty for `/` and for paths that end in `.` or `..`: these stand for their
+    /// entries.
     name: String,
     parent: Option<usize>,
 }
 
-/// What stands at a path.
+/// What a path leads to.
 enum Look {
     File(Metadata),
     Directory(Metadata),
     Other(PassedWhy),
 }
 
-/// The files and directories that these words name, each with all that is in it.
+/// The files and directories that these arguments name, with everything below them.
 ///
-/// A symbolic link to a regular file is taken for that file. Any other link, and what is neither file nor directory, is
-/// passed over. A file whose name ends in `.uaem` belongs to the one beside it and is no entry.
+/// A symbolic link to a regular file counts as that file. Any other link, and anything that is neither a file nor a
+/// directory, is skipped. A file whose name ends in `.uaem` is the note of the file beside it, and not an entry.
 pub fn host_tree<R: Files>(rt: &R, alloc: Global, words: &[&str]) -> Result<HostTree, WalkFault> {
     let mut tree = HostTree {
         entries: Vec::new(alloc),
@@ -140,7 +141,7 @@ pub fn host_tree<R: Files>(rt: &R, alloc: Global, words: &[&str]) -> Result<Host
     Err(WalkFault::Many)
 }
 
-/// The words of a command, the first on top.
+/// The arguments of a command, the first on top.
 fn waiting_words(alloc: Global, words: &[&str]) -> Result<Vec<Waiting>, AllocError> {
     let mut waiting = Vec::new(alloc);
     for word in words.iter().rev() {
@@ -153,7 +154,7 @@ fn waiting_words(alloc: Global, words: &[&str]) -> Result<Vec<Waiting>, AllocErr
     Ok(waiting)
 }
 
-/// The name that a word gives to its entry; none where it is `/` or ends in `.` or `..`.
+/// The name of an argument's entry; empty if it is `/` or ends in `.` or `..`.
 fn name_of(word: &str) -> &str {
     let path = word.trim_end_matches('/');
     let last = match path.rsplit_once('/') {
@@ -166,7 +167,7 @@ fn name_of(word: &str) -> &str {
     }
 }
 
-/// Looks at one path: it becomes an entry, or what is in it waits too, or it is passed over.
+/// Visits one path. It becomes an entry, its own entries become pending, or it is skipped.
 fn visit<R: Files>(
     rt: &R,
     alloc: Global,
@@ -202,7 +203,7 @@ fn pass_over(next: Waiting, why: PassedWhy, tree: &mut HostTree) -> Result<(), W
     Ok(())
 }
 
-/// What stands at a path, with links followed to regular files alone.
+/// What a path leads to. Links are followed only to regular files.
 fn look_at<R: Files>(rt: &R, alloc: Global, path: &str) -> Result<Look, WalkFault> {
     let found = match fs::symlink_metadata(rt, path) {
         Ok(found) => found,
@@ -233,7 +234,7 @@ fn read_fault(alloc: Global, path: &str, error: Error) -> WalkFault {
     }
 }
 
-/// A regular file is an entry, if it notes nothing of the one beside it.
+/// A regular file becomes an entry unless it is the note of a file beside it.
 fn add_file<R: Files>(
     rt: &R,
     alloc: Global,
@@ -272,7 +273,7 @@ fn add_entry<R: Files>(
     Ok(())
 }
 
-/// The path of the regular file beside another that notes what an Amiga knows of it.
+/// The path of a file's note, if it is a regular file.
 fn note_beside<R: Files>(
     rt: &R,
     alloc: Global,
@@ -287,7 +288,7 @@ fn note_beside<R: Files>(
     }
 }
 
-/// When a file was changed. A time before 1970 is the first date of all.
+/// The time of a file's last change. A time before 1970 is the first date.
 fn date_of(found: &Metadata) -> Date3 {
     match found.modified() {
         Ok(time) => date_of_time(time),
@@ -299,7 +300,7 @@ fn date_of(found: &Metadata) -> Date3 {
     }
 }
 
-/// Puts what is in a directory on the stack, the first name on top.
+/// Pushes the entries of a directory on the stack, the first name on top.
 fn wait_for_names<R: Files>(
     rt: &R,
     alloc: Global,
@@ -324,7 +325,7 @@ fn wait_for_names<R: Files>(
     Ok(())
 }
 
-/// Puts names in the order of their bytes.
+/// Sorts names by their bytes.
 fn sort_names(names: &mut Vec<String>)
     ensures same { IsPermutation names.old.items names.new.items }
     ensures sorted { IsSorted string_cmp names.new.items }
@@ -332,7 +333,7 @@ fn sort_names(names: &mut Vec<String>)
     names.sort_unstable();
 }
 
-/// The names in a directory, in no order.
+/// The names in a directory, unsorted.
 fn names_in<R: Files>(rt: &R, alloc: Global, path: &str) -> Result<Vec<String>, Error> {
     let mut names = Vec::new(alloc);
     for entry in fs::read_dir(&(rt, alloc), path)? {

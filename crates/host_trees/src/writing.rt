@@ -15,12 +15,12 @@ use std::time::SystemTime;
 use std::{error, fmt, fs};
 use thiserror::Error;
 
-/// What is to be written below a directory of the host.
+/// A file or directory to write below a directory of the host.
 #[derive(Debug, Drop)]
 pub struct HostItem {
     pub path: HostPath,
     pub content: Content,
-    /// The time that it gets.
+    /// The time stamp that it gets.
     pub date: Date3,
 }
 
@@ -31,12 +31,12 @@ pub enum Content {
     File(Vec<u8>),
 }
 
-/// Why what was to be written is not, and where that was seen.
+/// Why the items were not written, and the path.
 #[derive(Debug, Drop)]
 pub struct WriteFault {
     pub path: String,
     pub why: WriteWhy,
-    /// How many of the items, from the first one on, were written before; of a refusal none.
+    /// The number of items that were written, in order from the first. It is 0 for a refusal.
     pub written: usize,
 }
 
@@ -88,7 +88,7 @@ impl From<Error> for WriteWhy {
     }
 }
 
-/// What stands at a path of the host, where a link is not followed.
+/// What exists at a host path. Links are not followed.
 #[derive(Clone, Copy)]
 pub(crate) enum Standing {
     Nothing,
@@ -98,11 +98,12 @@ pub(crate) enum Standing {
     Other,
 }
 
-/// Writes these items below a directory, which is made where it is not there. An item's directory stands before it.
+/// Writes these items below a directory, which is made if it does not exist. The directory of an item comes before the
+/// item.
 ///
-/// Before anything is written it refuses a file where one is there, but for regular files where `force` says so; anything
-/// where a symbolic link stands at its path or on the way below the directory, or the other kind at its path; and two items
-/// at one path. A file and a new directory get their time.
+/// It refuses before anything is written: an existing file, except a regular one with `force`; a symbolic link at an
+/// item's path or on the way to it; a file in place of a directory or the reverse; and two items with one path. Files
+/// and new directories get their time stamps.
 pub fn write_tree<R: Files>(
     rt: &R,
     alloc: Global,
@@ -121,7 +122,7 @@ where
     set_times(rt, alloc, made, items.len())
 }
 
-/// The fault of a path. Where there is no memory for the path, that is the fault.
+/// The fault of a path. If there is no memory for the path, the fault is out of memory.
 fn fault_at(alloc: Global, path: &str, why: WriteWhy, written: usize) -> WriteFault
     ensures { result.written ≡ written }
 {
@@ -135,7 +136,7 @@ fn fault_at(alloc: Global, path: &str, why: WriteWhy, written: usize) -> WriteFa
     }
 }
 
-/// Refuses two items at one path.
+/// Refuses two items with one path.
 fn refuse_twice(alloc: Global, directory: &str, items: &[HostItem]) -> Result<(), WriteFault>
     ensures { IfErr result (λ fault. fault.written ≡ 0) }
 {
@@ -150,7 +151,7 @@ fn refuse_twice(alloc: Global, directory: &str, items: &[HostItem]) -> Result<()
     }
 }
 
-/// A path that two items have.
+/// A path of two items, if there is one.
 fn first_twice(
     alloc: Global,
     directory: &str,
@@ -171,7 +172,7 @@ fn first_twice(
     Ok(None)
 }
 
-/// Refuses the items where something stands at the path of one, or on the way to it, that is to stay.
+/// Refuses the items if something at the path of one, or on the way to it, must not be replaced.
 fn refuse_what_stands<R: Files>(
     rt: &R,
     alloc: Global,
@@ -193,7 +194,7 @@ fn refuse_what_stands<R: Files>(
     Ok(())
 }
 
-/// Refuses a path on which, behind its front, anything but a directory stands on the way.
+/// Refuses a path if anything but a directory is on the way, after its first `front` bytes.
 fn refuse_way<R: Files>(rt: &R, alloc: Global, path: &str, front: usize) -> Result<(), WriteFault>
     ensures { IfErr result (λ fault. fault.written ≡ 0) }
 {
@@ -209,7 +210,7 @@ fn refuse_way<R: Files>(rt: &R, alloc: Global, path: &str, front: usize) -> Resu
     Ok(())
 }
 
-/// Refuses an item whose path something has that is to stay.
+/// Refuses an item if something at its path must not be replaced.
 fn refuse_item<R: Files>(
     rt: &R,
     path: &str,
@@ -222,7 +223,7 @@ fn refuse_item<R: Files>(
     }
 }
 
-/// What stands at a path.
+/// What exists at a path.
 fn standing_at<R: Files>(rt: &R, path: &str) -> Result<Standing, Error> {
     match fs::symlink_metadata(rt, path) {
         Ok(found) if found.is_symlink() => Ok(Standing::Link),
@@ -234,8 +235,8 @@ fn standing_at<R: Files>(rt: &R, path: &str) -> Result<Standing, Error> {
     }
 }
 
-/// Whether this may stand where an item is to be: nothing, a directory for a directory, and for a file, where it is to be
-/// replaced, a regular one.
+/// Whether an item may be written over this: nothing; a directory for a directory; with `force`, a regular file for a
+/// file.
 fn may_stand(standing: Standing, content: &Content, force: bool) -> Result<(), WriteWhy>
     ensures { IsOk result ↔ MayStand standing content.now force }
 {
@@ -250,7 +251,7 @@ fn may_stand(standing: Standing, content: &Content, force: bool) -> Result<(), W
     }
 }
 
-/// Makes the directory that all items are below.
+/// Makes the directory for all items.
 fn make_top<R: Files>(rt: &R, alloc: Global, directory: &str) -> Result<(), WriteFault>
     ensures { IfErr result (λ fault. fault.written ≡ 0) }
 {
@@ -260,7 +261,7 @@ fn make_top<R: Files>(rt: &R, alloc: Global, directory: &str) -> Result<(), Writ
     }
 }
 
-/// Writes the items in their order, and answers the paths of the directories that were made, with their times.
+/// Writes the items in order, and returns the paths of new directories with their time stamps.
 fn write_items<R: Files>(
     rt: &R,
     alloc: Global,
@@ -291,7 +292,7 @@ where
     Ok(made)
 }
 
-/// Writes an item, and answers whether it is a directory that was not there.
+/// Writes an item, and returns whether it is a new directory.
 fn write_item<R: Files>(
     rt: &R,
     alloc: Global,
@@ -312,7 +313,7 @@ where
     }
 }
 
-/// Makes a directory where none is, and answers whether none was.
+/// Makes a directory unless it exists, and returns whether it is new.
 fn make_directory<R: Files>(rt: &R, path: &str) -> Result<bool, WriteWhy> {
     match fs::create_dir(rt, path) {
         Ok(()) => Ok(true),
@@ -323,7 +324,7 @@ fn make_directory<R: Files>(rt: &R, path: &str) -> Result<bool, WriteWhy> {
     }
 }
 
-/// Writes a file of its own, or in place of a regular one. What is left of a new file that cannot be written whole goes.
+/// Writes a new file, or replaces a regular one. A new file that cannot be written whole is removed.
 fn write_file<R: Files>(
     rt: &R,
     alloc: Global,
@@ -350,7 +351,7 @@ where
     }
 }
 
-/// Replaces a regular file whole. A link that took its place meanwhile is not followed.
+/// Replaces a regular file whole. If a link has taken its place meanwhile, it is not followed.
 fn replace_regular<R: Files>(
     rt: &R,
     alloc: Global,
@@ -365,10 +366,10 @@ where
     if !found.is_file() {
         return Err(WriteWhy::NoFile);
     }
-    replace_found(rt, alloc, path, &found, bytes, Some(time)).map_err(WriteWhy::Replace)
+    replace_found(rt, alloc, path, &found, bytes, time).map_err(WriteWhy::Replace)
 }
 
-/// Writes the bytes of a new file, and sets its time.
+/// Writes the bytes of a new file, and sets its time stamp.
 fn fill_new<F: Write + OpenFile + Drop>(
     mut file: F,
     bytes: &[u8],
@@ -378,7 +379,7 @@ fn fill_new<F: Write + OpenFile + Drop>(
     file.set_times(FileTimes::new().set_modified(time))
 }
 
-/// Sets the times of directories, once nothing more is put into them.
+/// Sets the time stamps of directories, after everything in them was written.
 fn set_times<R: Files>(
     rt: &R,
     alloc: Global,

@@ -1,4 +1,4 @@
--- That an end which knows of the close shows a dead server.
+-- An end that knows of the close proves that the server has died.
 use Rattle.std.proofs.Common.{◌≡◌, ◌≢◌, ◌⊎◌, ◌||◌, ℕ, ◌+◌, ◌<◌, ◌≤◌, Bool, true, false, true≢false, List, [], ◌∷◌, map, length, get_or, Some, None, slice_get, inl, inr, sym, refl, ap, ◌∙◌, subst, ⊎_elim, arith}
 use Rattle.std.specs.Prelude.{Vec}
 use Rattle.std.specs.List.{list_any}
@@ -8,7 +8,8 @@ use Rattle.std.proofs.lemmas.Option.{slice_get_within, slice_get_cases}
 use native.Mathlib.Decide.{ℕ_discrete}
 use mathlib.Core.Logic.{dite}
 use Rattle.port_history.specs.declared.step.Reply.{Reply}
-use Rattle.port_history.specs.History.{Serving, Run, MeaningRun, last_server}
+use Rattle.port_history.specs.History.{Serving, Run, last_server}
+use Rattle.port_history.specs.Lawful.{MeaningRun}
 use Rattle.port_history.proofs.Closing.{run-dead}
 use Rattle.port_ends.specs.Ends.{ClientView, CloseMeansDeath, replies_to}
 use Rattle.port_ends.specs.steps.HandlerEnds.{AllHeard}
@@ -20,7 +21,7 @@ pub one_or_other : (a b : Bool) → (a || b) ≡ true → (a ≡ true) ⊎ (b �
 one_or_other true b e = inl refl
 one_or_other false b e = inr e
 
--- what holds of the first k holds of the next, where it holds of the k-th
+-- a property of the first k elements extends to the next, if the k-th element has it
 pub each_to : {X : Type 0} (P : X → Type 0) (xs : List X) (k : ℕ) (x : X) → slice_get xs k ≡ Some x → P x
     → ((j : ℕ) (y : X) → j < k → slice_get xs j ≡ Some y → P y) → (j : ℕ) (y : X) → j < k + 1 → slice_get xs j ≡ Some y → P y
 each_to P xs k x at here was j y less aty = dite (ℕ_discrete j k)
@@ -33,7 +34,7 @@ module _ {S Q M A : Type 0} (gives : S → Q → M → S → A → Type 0) (has_
   abbrev closes : M × A → Bool
   closes x = is_closing x.1
 
-  -- a server that gave a reply that closes has died
+  -- a server that gave a closing reply has died
   reply_kills : (k : ℕ) (old : S) (served : List (Serving Q M A)) (servers : List S) → Run gives old served servers
       → list_any closes (replies_to k served) ≡ true → has_died (last_server old servers) ≡ true
   reply_kills k old [] servers run any = absurd (true≢false (sym any))
@@ -47,7 +48,7 @@ module _ {S Q M A : Type 0} (gives : S → Q → M → S → A → Type 0) (has_
       (one_or_other (is_closing s.answer) (list_any closes (replies_to k served)) (ap (λ l. list_any closes l) (sym (packets_by_here (s.client, (s.moment, s.answer)) k sent e)) ∙ any)))
       (λ (n : s.client ≢ k). reply_kills k new served servers run.1 (ap (λ l. list_any closes l) (sym (packets_by_past (s.client, (s.moment, s.answer)) k sent n)) ∙ any))
 
-  -- the ends tell of the close only where the server has died, where they took what it sent to them
+  -- the ends know of the close only if the server has died, provided that they took replies sent to them
   pub close_means_death : (opening closing : S) (served : List (Serving Q M A)) (cs : List (ClientView Q M A)) (us : List (Vec (Reply A) Global))
       → MeaningRun gives opening served closing → length us ≡ length cs → AllHeard is_closing (has_died closing) cs
       → ((k : ℕ) (c : ClientView Q M A) (u : Vec (Reply A) Global) → slice_get cs k ≡ Some c → slice_get us k ≡ Some u → Left c (replies_to (k + 1) served) u.items)

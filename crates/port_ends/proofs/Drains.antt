@@ -1,8 +1,8 @@
--- Replies that are numbered as they are taken.
+-- Replies are numbered in the order in which they are taken.
 use Rattle.std.proofs.Common.{◌≡◌, ℕ, suc, ◌+◌, List, [], ◌∷◌, ◌++◌, length, sym, refl, ap, ◌∙◌, arith, append_assoc, length-append}
 use Rattle.std.proofs.lemmas.List.{map-append}
 use Rattle.port_history.specs.declared.step.Reply.{Reply}
-use Rattle.port_history.specs.History.{numbered}
+use Rattle.port_history.specs.Lawful.{numbered}
 use Rattle.port_ends.specs.Gathering.{answers}
 
 pub count_more : {X : Type 0} (past past' : List X) (e : X) (n : ℕ) → past' ≡ past ++ e ∷ [] → n ≡ length past → n + 1 ≡ length past'

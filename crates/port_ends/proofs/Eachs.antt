@@ -1,4 +1,4 @@
--- Lists of outlets that change one at a time.
+-- Lists of outlets in which one outlet changes at a time.
 use Rattle.std.proofs.Common.{◌≡◌, ◌≢◌, ℕ, zero, suc, ◌+◌, ◌<◌, ◌≤◌, ◌==◌, true, false, List, [], ◌∷◌, ◌++◌, length, set, take, length-append, Some, slice_get, sym, refl, ap, ◌∙◌, subst, arith, ⊎_elim, ◌⊎◌, inl, inr, append_assoc, append-nil}
 use Rattle.std.proofs.lemmas.List.{length-set, take_more_set, take-append-drop}
 use Rattle.std.proofs.lemmas.Option.{slice_get_within, slice_get-get_or, get_or_from_slice_get}
@@ -35,7 +35,7 @@ module _ {T : Type 0} where
   pub each_then : (R P Z : ℕ → OutView T → OutView T → Type 0) → ((k : ℕ) (a b c : OutView T) → R k a b → P k b c → Z k a c) → (xs ys zs : List (OutView T)) → Each R xs ys → Each P ys zs → Each Z xs zs
   each_then R P Z t xs ys zs h g = (g.0 ∙ h.0, λ k o e. let a = h.1 k o e in let b = g.1 k a.0 a.1 in (b.0, b.1, t k o a.0 b.0 a.2 b.2))
 
-  -- one more change, at i
+  -- one more change, at index i
   pub each_set : (R P : ℕ → OutView T → OutView T → Type 0) → ((k : ℕ) (a b c : OutView T) → R k a b → P k b c → R k a c) → (xs ys : List (OutView T)) (i : ℕ) (o p : OutView T)
       → Each R xs ys → i < length ys → o ≡ get_or ys i o → P i o p → Each R xs (set ys i p)
   each_set R P t xs ys i o p h within at step = (
@@ -49,7 +49,7 @@ module _ {T : Type 0} where
         (same_or_not k i),
   )
 
-  -- of the outlets before the i-th R holds, and the others are as they were
+  -- R relates the old and new outlets before index i; the others are unchanged
   abbrev pub DoneBelow : (OutView T → OutView T → Type 0) → ℕ → ℕ → OutView T → OutView T → Type 0
   DoneBelow R i k old new = (k < i → R old new) × (i ≤ k → new ≡ old)
 
@@ -72,7 +72,7 @@ module _ {T : Type 0} where
   pub all_done : (R : OutView T → OutView T → Type 0) (xs ys : List (OutView T)) (n : ℕ) → length ys ≤ n → Each (DoneBelow R n) xs ys → Each (λ _ o p. R o p) xs ys
   all_done R xs ys n whole h = (h.0, λ k o e. let a = h.1 k o e in let within = slice_get_within ys k a.0 a.1 in (a.0, a.1, a.2.0 (omega (arith, whole, within))))
 
-  -- the first of what waited was posted, in order
+  -- the first waiting replies were posted, in order
   abbrev pub Posts : OutView T → OutView T → Type 0
   Posts old new = (xs : List T) × (old.waiting ≡ xs ++ new.waiting) × (new.posted ≡ old.posted ++ xs)
 
@@ -94,7 +94,7 @@ module _ {T : Type 0} where
   gets_gets : (a b c : OutView T) → GetsRoom a b → GetsRoom b c → GetsRoom a c
   gets_gets a b c h g = (g.0 ∙ ap (λ (v : OutView T). record v { room = c.room }) h.0, omega (arith, h.1, g.1))
 
-  -- one outlet more has room
+  -- one more outlet has room
   pub each_gets : (xs ys : List (OutView T)) (i : ℕ) (o p : OutView T) → EachGetsRoom xs ys → i < length ys → o ≡ get_or ys i o → GetsRoom o p → EachGetsRoom xs (set ys i p)
   each_gets xs ys i o p h within at step = each_set (λ _ o p. GetsRoom o p) (λ _ o p. GetsRoom o p) (λ _ a b c. gets_gets a b c) xs ys i o p h within at step
 
@@ -116,7 +116,7 @@ module _ {T : Type 0} where
       let f = h.1.1 in
       (ap (λ v. v.ring) g.0 ∙ h.0, (h.1.0, (ap (λ v. v.looks) g.0 ∙ f.0, ap (λ v. v.posted) g.0 ∙ f.1, ap (λ v. v.waiting) g.0 ∙ f.2)), omega (arith, h.2, g.1))
 
-  -- what was offered to its ring stays offered where there is more room
+  -- a reply that was offered to its ring stays offered if the room grows
   pub each_offers_room : (xs ys zs : List (OutView T)) → EachOffers xs ys → EachGetsRoom ys zs → EachOffers xs zs
   each_offers_room xs ys zs h g = each_then (λ _ o p. Offers o p) (λ _ o p. GetsRoom o p) (λ _ o p. Offers o p) (λ _ a b c. offers_room a b c) xs ys zs h g
 
@@ -135,7 +135,7 @@ module _ {T : Type 0} where
         (a.0, a.1, (a.2, subst (λ (q : OutView T). P k o q) same b.2)),
   )
 
-  -- what was offered comes before all that is posted afterwards
+  -- replies offered first come before everything posted later
   pub each_offers_first : (xs ys zs : List (OutView T)) → EachOffers xs ys → EachStaysPosted ys zs → SameLooks ys zs → EachOffersFirst xs zs
   each_offers_first xs ys zs h s l =
       each_then (λ _ o p. Offers o p) (λ _ o p. StaysPosted o p × (p.looks ≡ o.looks)) (λ _ o p. OffersFirst o p) (λ _ a b c f g. offers_first a b c f g.0 g.1) xs ys zs h
@@ -144,7 +144,7 @@ module _ {T : Type 0} where
   pub looked_none : (xs : List (OutView T)) → EachLooked 0 xs xs
   looked_none xs = each_refl (λ _ o p. length o.looks + 0 ≤ length p.looks) (λ _ o. omega arith) xs
 
-  -- once more
+  -- one more look
   pub looked_more : (times : ℕ) (xs ys zs : List (OutView T)) → EachLooked times xs ys → EachOffersFirst ys zs → EachLooked (times + 1) xs zs
   looked_more times xs ys zs = each_then (λ _ o p. length o.looks + times ≤ length p.looks) (λ _ o p. OffersFirst o p) (λ _ o p. length o.looks + (times + 1) ≤ length p.looks)
       (λ k a b c l f. let e = ap (λ l. length l) f.2 ∙ length-append b.looks (f.0 ∷ []) in omega (arith, l, e)) xs ys zs
@@ -179,11 +179,11 @@ module _ {T : Type 0} where
   pub each_stays : (xs ys zs : List (OutView T)) → EachStaysPosted xs ys → EachStaysPosted ys zs → EachStaysPosted xs zs
   each_stays xs ys zs h g = each_then (λ _ o p. StaysPosted o p) (λ _ o p. StaysPosted o p) (λ _ o p. StaysPosted o p) (λ _ a b c. stays_stays a b c) xs ys zs h g
 
-  -- what was at this place before
+  -- the old outlet at this index
   pub before : (xs ys : List (OutView T)) (k : ℕ) (p : OutView T) → length ys ≡ length xs → slice_get ys k ≡ Some p → (o : OutView T) × (slice_get xs k ≡ Some o)
   before xs ys k p len at = let within = slice_get_within ys k p at in (get_or xs k p, slice_get-get_or xs k p (omega arith))
 
-  -- what is said of all that was sent to each client is said where that is posted
+  -- a statement on everything sent to each client also holds of what was posted
   pub posts_said : (f : ℕ → List T) (xs ys : List (OutView T)) → EachPosts xs ys
       → ((k : ℕ) (o : OutView T) → slice_get xs k ≡ Some o → all_of o ≡ f k) → (k : ℕ) (p : OutView T) → slice_get ys k ≡ Some p → all_of p ≡ f k
   posts_said f xs ys h was k p at =
@@ -192,7 +192,7 @@ module _ {T : Type 0} where
       let same : g.0 ≡ p = let e = g.1 in cc in
       posts_all o.0 p (subst (λ (q : OutView T). Posts o.0 q) same g.2.1) ∙ was k o.0 o.1
 
-  -- a reply was sent to one client
+  -- one client was sent a reply
   pub each_send : (xs : List (OutView T)) (client i : ℕ) (x : T) (o p : OutView T) → client ≡ i + 1 → i < length xs → o ≡ get_or xs i o
       → StaysPosted o p → all_of p ≡ all_of o ++ x ∷ [] → o.room ≤ p.room + 1 → p.looks ≡ o.looks → Each (SendsTo client x) xs (set xs i p)
   each_send xs client i x o p is within at stays sent room looks = (
@@ -229,7 +229,7 @@ module _ {T : Type 0} where
   pub has_room_less : (n m : ℕ) (xs : List (OutView T)) → m ≤ n → EachHasRoom n xs → EachHasRoom m xs
   has_room_less n m xs less room k o at = let r = room k o at in omega arith
 
-  -- one outlet more posted what fits: the count of those that wait so far, and in all
+  -- one more outlet posted what fits: the number of waiting replies so far, and in all
   pub waiting_step : (xs : List (OutView T)) (i n most : ℕ) (o p : OutView T) → n ≡ waiting_count (take i xs) → waiting_count xs ≤ most → i < length xs → o ≡ get_or xs i o → Offers o p
       → (n + length p.waiting ≡ waiting_count (take (i + 1) (set xs i p))) × (waiting_count (set xs i p) ≤ most)
   waiting_step xs i n most o p was few within at h =
@@ -244,7 +244,7 @@ module _ {T : Type 0} where
   pub waiting_take : (xs : List (OutView T)) (i : ℕ) → waiting_count (take i xs) ≤ waiting_count xs
   waiting_take xs i = sum_by-take-le (λ (x : OutView T). length x.waiting) xs i
 
-  -- the replies that wait are no more than those that were sent
+  -- no more replies wait than were sent
   pub waiting_few : (m : ℕ) (os : List (OutView T)) (sent : List (ℕ × T)) → ((k : ℕ) (o : OutView T) → slice_get os k ≡ Some o → all_of o ≡ packets_by (m + k + 1) sent)
       → waiting_count os ≤ total (put_lists (length os) m sent)
   waiting_few m [] sent each = omega arith

@@ -1,4 +1,4 @@
--- Lists that change at one place, and the lists of what is left.
+-- Lists that change at one place, and the lists of untaken replies.
 use Rattle.std.proofs.Common.{◌≡◌, ◌≢◌, ℕ, zero, suc, ◌+◌, ◌<◌, ◌≤◌, List, [], ◌∷◌, ◌++◌, length, set, Some, None, slice_get, sym, refl, ap, ◌∙◌, subst, arith, length-append, map, take, add-one, ⊎_elim}
 use Rattle.std.proofs.lemmas.List.{length-set, map-append, set-get_or}
 use Rattle.std.proofs.lemmas.Option.{slice_get_within, slice_get_read, slice_get_cases}
@@ -10,16 +10,16 @@ use Rattle.std.specs.declared.alloc.Global.{Global}
 use Rattle.std.specs.Prelude.{Vec}
 use Rattle.port_history.specs.declared.step.Reply.{Reply}
 use Rattle.port_ends.specs.Rings.{OutView, all_of}
-use Rattle.port_history.specs.History.{Serving, ClientLists, Lawful, MeaningRun, numbered, packets_by, packets_of, answers_to}
+use Rattle.port_history.specs.History.{Serving, packets_by, packets_of, answers_to}
+use Rattle.port_history.specs.Lawful.{ClientLists, Lawful, MeaningRun, numbered}
 use Rattle.port_ends.specs.steps.Rooms.{OnlyElement, SameFrom, Left}
 use Rattle.port_ends.specs.Gathering.{answers, lists_of, all_lists}
 use Rattle.port_ends.proofs.Moves.{get_end}
 use Rattle.port_ends.specs.steps.Rule.{total}
-use Rattle.port_ends.specs.Ends.{OfClients}
+use Rattle.port_ends.specs.Ends.{OfClients, ClientView, replies_to}
 use Rattle.port_ends.proofs.Packets.{of_clients_place, packets_by_append, packets_by_here, packets_by_past}
 use Rattle.port_ends.proofs.Drains.{numbered_answers}
 use Rattle.port_ends.specs.steps.QueueEnds.{TakeView}
-use Rattle.port_ends.specs.Ends.{ClientView, replies_to}
 
 module _ {X : Type 0} where
   pub at_place : (xs : List X) (k : ℕ) (x : X) → k < length xs → x ≡ get_or xs k x → slice_get xs k ≡ Some x
@@ -31,7 +31,7 @@ module _ {X : Type 0} where
   pub one_of : (xs : List X) (k : ℕ) (x y : X) → slice_get xs k ≡ Some x → slice_get xs k ≡ Some y → x ≡ y
   one_of xs k x y e f = cc
 
-  -- the element behind xs
+  -- the element after xs
   pub get_mid : (xs ys : List X) (x : X) → slice_get (xs ++ x ∷ ys) (length xs) ≡ Some x
   get_mid [] ys x = refl
   get_mid (z ∷ xs) ys x = get_mid xs ys x
@@ -47,7 +47,7 @@ module _ {X : Type 0} where
   nothing_left ys rest cs whole none = let a = length-append ys rest in let b = ap (λ l. length l) whole in omega arith
 
 module _ {C O R : Type 0} where
-  -- what was left of the first clients, and of one more
+  -- a property of the first clients and their lists, and of one more client
   pub done_more : (P : C → O → R → Type 0) (k : ℕ) (cs : List C) (os os' : List O) (rs rs' : List R) (x : C) → slice_get cs k ≡ Some x → SameFrom k os os' → OnlyElement k rs rs'
       → ((j : ℕ) (c : C) (o : O) → j < k → slice_get cs j ≡ Some c → slice_get os j ≡ Some o → (r : R) × (slice_get rs j ≡ Some r) × P c o r)
       → ((o : O) → slice_get os' k ≡ Some o → (r : R) × (slice_get rs' k ≡ Some r) × P x o r)
@@ -111,7 +111,7 @@ module _ {Q M A : Type 0} where
       (λ (e : x.client ≡ k). let l = ap (λ z. length z) (packets_by_here (x.client, (x.moment, x.answer)) k sent e) in omega arith)
       (λ (n : x.client ≢ k). let l = ap (λ z. length z) (packets_by_past (x.client, (x.moment, x.answer)) k sent n) in omega arith)
 
-  -- the replies that a client has not taken are no more than the served packets
+  -- a client has no more untaken replies than there are served packets
   pub untaken_few : (k : ℕ) (o : OutView (M × A)) (served : List (Serving Q M A)) (taken rest : List (M × A)) → all_of o ≡ replies_to k served → o.posted ≡ taken ++ rest → length rest + length o.waiting ≤ length served
   untaken_few k o served taken rest sent posted =
       let few = replies_few k served in
@@ -121,7 +121,7 @@ module _ {Q M A : Type 0} where
       let d = length-append taken rest in
       omega arith
 
-  -- the answers of a client's replies
+  -- the answers in a client's replies
   answers_replies : (k : ℕ) (xs : List (Serving Q M A)) → answers (replies_to k xs) ≡ answers_to k xs
   answers_replies k [] = refl
   answers_replies k (x ∷ xs) =
@@ -132,7 +132,7 @@ module _ {Q M A : Type 0} where
       (λ (e : x.client ≡ k). ap answers (packets_by_here (x.client, (x.moment, x.answer)) k sent e) ∙ (ap (λ l. x.answer ∷ l) ih ∙ sym (packets_by_here (x.client, x.answer) k plain e)))
       (λ (n : x.client ≢ k). ap answers (packets_by_past (x.client, (x.moment, x.answer)) k sent n) ∙ (ih ∙ sym (packets_by_past (x.client, x.answer) k plain n)))
 
-  -- what was taken and what is left are the answers to the served packets, numbered from 1
+  -- the taken replies, then the untaken ones, are the answers to the served packets, numbered from 1
   pub left_numbered : (k : ℕ) (c : ClientView Q M A) (served : List (Serving Q M A)) (untaken : List (Reply A)) → Left c (replies_to k served) untaken
       → numbered 1 (answers c.taken) ++ untaken ≡ numbered 1 (answers_to k served)
   left_numbered k c served untaken h =
@@ -156,7 +156,7 @@ module _ {Q M A : Type 0} where
       (λ (e : (length os ≤ k) × (slice_get os k ≡ None)). let far = e.0 in absurd (omega arith))
       (slice_get_cases os k).1
 
-  -- the lists at a place are those of the client there
+  -- the lists at an index are those of the client there
   lists_at : (cs : List (ClientView Q M A)) (us : List (Vec (Reply A) Global)) (place : ℕ) (lists : ClientLists Q A) → slice_get (all_lists cs us) place ≡ Some lists
       → (c : ClientView Q M A) × (u : Vec (Reply A) Global) × (slice_get cs place ≡ Some c) × (slice_get us place ≡ Some u) × (lists_of c u ≡ lists)
   lists_at [] us place lists e = cc

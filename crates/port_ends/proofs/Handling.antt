@@ -1,4 +1,4 @@
--- One more packet served keeps the lists of the handler together.
+-- The lists of the handler stay consistent when one more packet is served.
 use Rattle.std.proofs.Common.{◌≡◌, ◌≢◌, ℕ, ◌+◌, ◌≤◌, ◌==◌, if◌then◌else◌, List, [], ◌∷◌, ◌++◌, map, length, Some, slice_get, sym, refl, ap, ◌∙◌, subst, ⊎_elim, arith, append_assoc, append-nil, length-append}
 use Rattle.std.proofs.lemmas.List.{map-append, length-map}
 use Rattle.std.proofs.lemmas.Option.{slice_get_within}
@@ -51,7 +51,7 @@ module _ {Q M A : Type 0} where
   sent_clients n [] h = tt
   sent_clients n (x ∷ xs) h = (h.0, h.1, sent_clients n xs h.2)
 
-  -- the replies that wait are no more than the packets that were served
+  -- no more replies wait than packets were served
   pub waiting_served : (os : List (OutView (M × A))) (served : List (Serving Q M A)) → OfClients (length os) (packets_of served)
       → ((k : ℕ) (o : OutView (M × A)) → slice_get os k ≡ Some o → all_of o ≡ replies_to (k + 1) served)
       → waiting_count os ≤ length served
@@ -61,7 +61,7 @@ module _ {Q M A : Type 0} where
       let long : length (sent_of served) ≡ length served = length-map served (λ (s : Serving Q M A). (s.client, (s.moment, s.answer))) in
       subst (λ (n : ℕ). waiting_count os ≤ n) (whole ∙ long) few
 
-  -- a new client's outlet is empty, and nothing was served
+  -- a new client's outlet is empty, and no packet of it was served
   pub fresh_step : (served : List (Serving Q M A)) (os os' : List (OutView (M × A))) (o : OutView (M × A)) → served ≡ [] → os' ≡ os ++ o ∷ [] → o.posted ≡ [] → o.waiting ≡ []
       → ((k : ℕ) (p : OutView (M × A)) → slice_get os k ≡ Some p → all_of p ≡ replies_to (k + 1) served)
       → (k : ℕ) (p : OutView (M × A)) → slice_get os' k ≡ Some p → all_of p ≡ replies_to (k + 1) served
@@ -71,7 +71,7 @@ module _ {Q M A : Type 0} where
       (get_end os o x k (subst (λ (l : List (OutView (M × A))). slice_get l k ≡ Some x) longer at))
 
 module _ {T : Type 0} where
-  -- the last outlet's ring
+  -- the ring of the last outlet
   pub last_ring : (os os' : List (OutView T)) (o p : OutView T) → os' ≡ os ++ o ∷ [] → slice_get os' (length os) ≡ Some p → o ≡ p
   last_ring os os' o p longer at =
       ⊎_elim (λ (e : slice_get os (length os) ≡ Some p). let within = slice_get_within os (length os) p e in absurd (omega arith))
@@ -100,11 +100,11 @@ module _ {S Q M A : Type 0} where
       subst (λ (v : HandlerView S Q M A). Serves gives m a [] v) (sym is)
       (record { port = refl; mark = refl; opening = refl; served_more = sym (append-nil a.served); moments = tt; run = meaning_none gives a.server; rings = each_posts_stays a.outlets os posts })
 
-  -- what waited was offered to its rings, and nothing else changed
+  -- waiting replies were offered to their rings, and nothing else changed
   pub serves_offers : (gives : S → Q → M → S → A → Type 0) (m : M) (a b : HandlerView S Q M A) (os : List (OutView (M × A))) → b ≡ record a { outlets = os } → EachOffers a.outlets os → Serves gives m a [] b
   serves_offers gives m a b os is offers = serves_posts gives m a b os is (each_offers_posts a.outlets os offers)
 
-  -- one packet was served, and its reply sent
+  -- one packet was served, and its reply was sent
   pub serves_one : (gives : S → Q → M → S → A → Type 0) (q q' : TakeView Q) (d d' : DeskView S Q M A) (os os' : List (OutView (M × A))) (h : HandlerView S Q M A) (x : Serving Q M A)
       → handler_view q d os ≡ h → q'.port ≡ q.port → d'.opening ≡ d.opening → d'.mark ≡ d.mark → d'.served ≡ d.served ++ x ∷ [] → gives d.server x.packet x.moment d'.server x.answer
       → Each (SendsTo x.client (x.moment, x.answer)) os os' → Serves gives x.moment h (x ∷ []) (handler_view q' d' os')
@@ -156,7 +156,7 @@ module _ {S Q M A : Type 0} where
   )
 
 module _ {X : Type 0} where
-  -- what holds of each of xs, and of x behind them
+  -- a property of each of xs, and of x after them
   pub each_more : (P : X → Type 0) (xs xs' : List X) (x : X) → xs' ≡ xs ++ x ∷ [] → ((k : ℕ) (y : X) → slice_get xs k ≡ Some y → P y) → P x → (k : ℕ) (y : X) → slice_get xs' k ≡ Some y → P y
   each_more P xs xs' x is was here k y at =
       ⊎_elim (λ (e : slice_get xs k ≡ Some y). was k y e) (λ (e : (k ≡ length xs) × (x ≡ y)). subst P e.1 here) (get_end xs x y k (subst (λ (l : List X). slice_get l k ≡ Some y) is at))

@@ -1,7 +1,6 @@
--- Lemmas on the queue and its rule, on the closing mark, on what was served, on the rings, on the gathering of all ends, and on what the close tells.
+-- Lemmas on the queue and its rule, on served packets, on the rings, on gathering the ends, and on the close.
 pub mod Packets
 pub mod Moves
-pub mod Notices
 pub mod Runs
 pub mod Handling
 pub mod Eachs

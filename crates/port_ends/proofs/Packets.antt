@@ -47,7 +47,7 @@ module _ {Q : Type 0} where
   of_clients_more n [] h = tt
   of_clients_more n (x ∷ xs) h = (h.0, omega (arith, h.1), of_clients_more n xs h.2)
 
-  -- the first of xs behind ys is a client's
+  -- the first packet of xs, after ys, belongs to a client
   pub of_clients_at : (n : ℕ) (ys : List (ℕ × Q)) (x : ℕ × Q) (xs : List (ℕ × Q)) → OfClients n (ys ++ x ∷ xs) → (1 ≤ x.0) × (x.0 ≤ n)
   of_clients_at n [] x xs h = (h.0, h.1)
   of_clients_at n (y ∷ ys) x xs h = of_clients_at n ys x xs h.2
@@ -57,7 +57,7 @@ module _ {Q : Type 0} where
   of_clients_place n (x ∷ xs) h zero packet e = subst (λ (y : ℕ × Q). (1 ≤ y.0) × (y.0 ≤ n)) (let s : x ≡ packet = cc in s) (h.0, h.1)
   of_clients_place n (x ∷ xs) h (suc place) packet e = of_clients_place n xs h.2 place packet e
 
-  -- the lists of the clients m + 1 to m + n
+  -- the put lists of clients m + 1 to m + n
   abbrev pub put_lists : ℕ → ℕ → List (ℕ × Q) → List (List Q)
   put_lists zero m xs = []
   put_lists (suc n) m xs = packets_by (m + 1) xs ∷ put_lists n (m + 1) xs
@@ -93,7 +93,7 @@ module _ {Q : Type 0} where
       lists_none (suc n) m = let r = lists_none n (m + 1) in omega arith
   lists_total n (x ∷ xs) h = let ih = lists_total n xs h.2 in let a = h.0 in let b = h.1 in let add = lists_add n 0 x xs a (omega arith) in omega arith
 
-  -- all put lists together are as long as the list of all packets
+  -- all put lists together have the length of the list of all packets
   pub total_all : (n : ℕ) (xs : List (ℕ × Q)) (known : List (List Q)) → OfClients n xs → length known ≡ n → ArePutLists known xs → length xs ≡ total known
   total_all n xs known h len each =
       let same : known ≡ put_lists n 0 xs = is_put_lists n 0 xs known len (λ k put e. subst (λ (j : ℕ). put ≡ packets_by (j + 1) xs) (let z : k ≡ 0 + k = omega arith in z) (each k put e)) in

@@ -2,11 +2,11 @@
 use Rattle.std.proofs.Common.{◌≡◌, Bool, true, false, List, [], ◌∷◌, ◌++◌, sym, refl, subst, ap, ◌∙◌}
 use Rattle.std.proofs.lemmas.List.{map-append}
 use Rattle.port_ends.specs.declared.desk.Entry.{Entry}
-use Rattle.port_history.specs.History.{Serving, Run, MeaningRun, last_server}
-use Rattle.port_ends.specs.Ends.{AllAt}
+use Rattle.port_history.specs.History.{Serving, Run, last_server}
+use Rattle.port_history.specs.Lawful.{MeaningRun, AllAt}
 use Rattle.port_ends.specs.steps.Entries.{served_of}
 
--- what was not dead later was not dead before
+-- a server that is alive later was alive before
 pub still_alive : (a b : Bool) → (a ≡ true → b ≡ true) → b ≡ false → a ≡ b
 still_alive true b h e = sym (h refl)
 still_alive false b h e = sym e

@@ -1,4 +1,4 @@
--- What batches of the handler come to.
+-- The results of the handler's batches.
 use Rattle.std.specs.Prelude.{◌≡◌, ◌⊎◌, ℕ, Bool, true, false, List, length}
 use Rattle.port_history.specs.History.{ServerMeaning, Serving}
 use Rattle.port_ends.specs.declared.handler.ServeEnd.{ServeEnd}
@@ -7,23 +7,23 @@ use Rattle.port_ends.specs.Rings.{EachOffers}
 use Rattle.port_ends.specs.Ends.{HandlerView, Serves}
 
 module _ {S Q M A : Type 0} where
-  -- some packets, or none, were served at this moment
+  -- any number of packets, or none, were served at this time stamp
   abbrev pub ServesSome : ServerMeaning S Q M A → M → HandlerView S Q M A → HandlerView S Q M A → Type 0
   ServesSome gives moment old new = (xs : List (Serving Q M A)) × Serves gives moment old xs new
 
-  -- so many packets were served at this moment
+  -- this many packets were served at this time stamp
   abbrev pub ServesSoMany : ServerMeaning S Q M A → M → HandlerView S Q M A → ℕ → HandlerView S Q M A → Type 0
   ServesSoMany gives moment old count new = (xs : List (Serving Q M A)) × (length xs ≡ count) × Serves gives moment old xs new
 
-  -- what waited was offered to its rings, and nothing else changed
+  -- waiting replies were offered to their rings, and nothing else changed
   abbrev pub OnlyOffers : HandlerView S Q M A → HandlerView S Q M A → Type 0
   OnlyOffers old new = (new ≡ record old { outlets = new.outlets }) × EachOffers old.outlets new.outlets
 
--- batches end as closed where the server has died, and else as idle
+-- batches end as closed if the server has died, and otherwise as idle
 abbrev pub EndsAs : ServeEnd → Bool → Type 0
 EndsAs end died = ((end ≡ Closed) × (died ≡ true)) ⊎ ((end ≡ Idle) × (died ≡ false))
 
--- how many batches found nothing before the end: as closed the last one, as idle so many in a row
+-- the number of empty batches before the end: one if closed, the idle limit in a row if idle
 abbrev pub empty_batches : ServeEnd → ℕ → ℕ
 empty_batches Closed idle_limit = 1
 empty_batches Idle idle_limit = idle_limit

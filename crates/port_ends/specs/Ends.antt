@@ -1,62 +1,58 @@
--- What contracts see of a port's ends.
+-- The visible state of a port's ends.
 use Rattle.std.specs.Prelude.{◌≡◌, ◌⊎◌, ◌||◌, ℕ, ◌+◌, ◌≤◌, Bool, true, false, List, [], ◌∷◌, ◌++◌, length, map, Some, slice_get}
 use Rattle.std.specs.declared.alloc.Global.{Global}
-use Rattle.atomic_table.specs.Seated.{TableId}
 use Rattle.crossbeam_queue.specs.SegTies.{SegId}
 use Rattle.port_history.specs.declared.step.Reply.{Reply}
 use Rattle.port_history.specs.declared.step.PutRefused.{PutRefused}
 use Rattle.port_history.specs.declared.step.PutRefused.TheVariants.{Closed, NoRoom}
-use Rattle.port_history.specs.History.{ServerMeaning, Serving, MeaningRun, packets_by, packets_of}
+use Rattle.port_history.specs.History.{ServerMeaning, Serving, packets_by, packets_of}
+use Rattle.port_history.specs.Lawful.{MeaningRun, AllAt}
 use Rattle.port_ends.specs.Rings.{RingId, OutView, all_of, AreEmpty, EachStaysPosted, HavePlaces}
 
--- a client's end: its port, mark and ring, its number, its put list, its taken list with the moments, and whether it knows
--- of the close
+-- a client's end: its port, mark and ring, its number, its put list, its taken list with time stamps, and whether it
+-- knows of the close
 pub record ClientView (Q M A : Type 0) : Type 0 where
   pub port : SegId Global
-  pub mark : TableId
+  pub mark : ℕ
   pub ring : RingId
   pub number : ℕ
   pub put : List Q
   pub taken : List (M × A)
   pub knows : Bool
 
--- the handler's end: its port and mark, the opening server, what was served, the server now, for each client what was posted
--- and what waits, and whether the mark is known to be set
+-- the handler's end: its port and mark, the opening server, the served packets, the current server, the posted and
+-- waiting replies of each client, and whether it knows that the mark is set
 pub record HandlerView (S Q M A : Type 0) : Type 0 where
   pub port : SegId Global
-  pub mark : TableId
+  pub mark : ℕ
   pub opening : S
   pub served : List (Serving Q M A)
   pub server : S
   pub outlets : List (OutView (M × A))
   pub knows : Bool
 
--- each packet is one of the clients 1 to n
+-- each packet belongs to one of the clients 1 to n
 abbrev pub OfClients : {Q : Type 0} → ℕ → List (ℕ × Q) → Type 0
 OfClients n [] = Unit {0}
 OfClients n (packet ∷ packets) = (1 ≤ packet.0) × (packet.0 ≤ n) × OfClients n packets
 
--- all were served at this moment
-abbrev pub AllAt : {Q M A : Type 0} → M → List (Serving Q M A) → Type 0
-AllAt moment [] = Unit {0}
-AllAt moment (s ∷ served) = (s.moment ≡ moment) × AllAt moment served
-
 module _ {Q M A : Type 0} where
-  -- the replies to this client, in order, each with its moment
+  -- the replies to this client, in order, each with its time stamp
   abbrev pub replies_to : ℕ → List (Serving Q M A) → List (M × A)
   replies_to client served = packets_by client (map (λ s. (s.client, (s.moment, s.answer))) served)
 
-  -- a put was accepted: the packet is the last that was put, its number says how many were put, and this end knows of no close
+  -- a put was accepted: the packet is the last one put, its number is the count of puts, and this end knows of no close
   abbrev pub PutAccepted : ClientView Q M A → Q → ClientView Q M A → ℕ → Type 0
   PutAccepted old packet new number = (new ≡ record old { put = old.put ++ packet ∷ []; knows = false }) × (number ≡ length new.put)
 
-  -- a put was refused: the packet is handed back, as closed where this end knows of the close, and else for want of room
+  -- a put was refused: the packet is handed back, as `Closed` if this end knows of the close, otherwise as `NoRoom`
   abbrev pub PutIsRefused : ClientView Q M A → Q → ClientView Q M A → PutRefused Q → Type 0
   PutIsRefused old packet new refused =
       ((refused ≡ Closed packet) × (new ≡ record old { knows = true }))
       ⊎ ((refused ≡ NoRoom packet) × (new ≡ record old { knows = false }))
 
-  -- a reply was taken: its answer is the last that was taken, its number says how many were taken, and one that closes tells of the close
+  -- a reply was taken: its answer is the last one taken, its number is the count of takes, and after a closing reply
+  -- the end knows of the close
   abbrev pub TookReply : (A → Bool) → ClientView Q M A → ClientView Q M A → Reply A → Type 0
   TookReply is_closing old new reply =
       (moment : M)
@@ -67,11 +63,11 @@ module _ {Q M A : Type 0} where
   abbrev pub IsFresh : ClientView Q M A → Type 0
   IsFresh c = (c.put ≡ []) × (c.taken ≡ []) × (c.knows ≡ false)
 
-  -- of all clients
+  -- the same for all clients
   abbrev pub AreFresh : List (ClientView Q M A) → Type 0
   AreFresh cs = (k : ℕ) (c : ClientView Q M A) → slice_get cs k ≡ Some c → IsFresh c
 
-  -- where any of these ends knows of the close, the server has died
+  -- if any of these ends knows of the close, the server has died
   abbrev pub CloseMeansDeath : List (ClientView Q M A) → Bool → Type 0
   CloseMeansDeath cs died = (k : ℕ) (c : ClientView Q M A) → slice_get cs k ≡ Some c → c.knows ≡ true → died ≡ true
 
@@ -80,7 +76,7 @@ module _ {S Q M A : Type 0} where
   abbrev pub IsEndOf : HandlerView S Q M A → ℕ → ClientView Q M A → Type 0
   IsEndOf h k c = (c.port ≡ h.port) × (c.mark ≡ h.mark) × (c.number ≡ k + 1) × ((o : OutView (M × A)) → slice_get h.outlets k ≡ Some o → o.ring ≡ c.ring)
 
-  -- these are all clients' ends, in order
+  -- these are the ends of all clients, in order
   abbrev pub AreEnds : HandlerView S Q M A → List (ClientView Q M A) → Type 0
   AreEnds h cs = (length cs ≡ length h.outlets) × ((k : ℕ) (c : ClientView Q M A) → slice_get cs k ≡ Some c → IsEndOf h k c)
 
@@ -88,23 +84,23 @@ module _ {S Q M A : Type 0} where
   abbrev pub IsNew : S → HandlerView S Q M A → Type 0
   IsNew server h = (h.opening ≡ server) × (h.server ≡ server) × (h.served ≡ []) × (h.knows ≡ false)
 
-  -- a port over this server with so many clients and rings of so many places, where nothing was put, served or taken
+  -- a port over this server with this many clients and ring places; nothing was put, served or taken
   abbrev pub IsOpened : S → ℕ → ℕ → HandlerView S Q M A → List (ClientView Q M A) → Type 0
   IsOpened server clients ring h cs =
       IsNew server h × AreEmpty h.outlets × AreEnds h cs × AreFresh cs × (length cs ≡ clients) × HavePlaces ring h.outlets
 
-  -- what holds of a handler's end at every moment
+  -- the invariant of a handler's end
   pub record IsSound (gives : ServerMeaning S Q M A) (has_died : S → Bool) (h : HandlerView S Q M A) : Type 0 where
-    -- what was served is a run from the opening server, and the server stands where it ends
+    -- the served packets are a run from the opening server to the current one
     pub run : MeaningRun gives h.opening h.served h.server
-    -- the mark is known to be set exactly where the server has died
+    -- the mark is known to be set exactly if the server has died
     pub mark : h.knows ≡ has_died h.server
-    -- each client's replies, those posted and then those that wait, are the replies to its served packets
+    -- the posted replies of each client, then its waiting ones, are the replies to its served packets
     pub replies : (k : ℕ) (o : OutView (M × A)) → slice_get h.outlets k ≡ Some o → all_of o ≡ replies_to (k + 1) h.served
-    -- each served packet is one of these clients'
+    -- each served packet belongs to one of these clients
     pub clients : OfClients (length h.outlets) (packets_of h.served)
 
-  -- these packets were served at this moment, by the server as it was and then is; what was posted stays posted
+  -- these packets were served at this time stamp, from the old server to the new one; posted replies stay posted
   pub record Serves (gives : ServerMeaning S Q M A) (moment : M)
       (old : HandlerView S Q M A) (served : List (Serving Q M A)) (new : HandlerView S Q M A) : Type 0 where
     pub port : new.port ≡ old.port

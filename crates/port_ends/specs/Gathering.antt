@@ -1,21 +1,21 @@
--- What is left of a port when all its ends are in one hand.
+-- What remains of a port when all its ends are held at once.
 use Rattle.std.specs.Prelude.{List, [], ◌∷◌, map, Vec}
 use Rattle.std.specs.declared.alloc.Global.{Global}
 use Rattle.port_history.specs.declared.step.Reply.{Reply}
-use Rattle.port_history.specs.History.{ClientLists, numbered}
+use Rattle.port_history.specs.Lawful.{ClientLists, numbered}
 use Rattle.port_ends.specs.Ends.{ClientView}
 
 module _ {M A : Type 0} where
-  -- the answers of these replies
+  -- the answers in these replies
   abbrev pub answers : List (M × A) → List A
   answers replies = map (λ r. r.1) replies
 
 module _ {Q M A : Type 0} where
-  -- the lists of a client's end, with the replies that it has not taken
+  -- the lists of a client's end, with its untaken replies
   abbrev pub lists_of : ClientView Q M A → Vec (Reply A) Global → ClientLists Q A
   lists_of c untaken = record { put = c.put; taken = numbered 1 (answers c.taken); untaken = untaken.items }
 
-  -- of all clients' ends
+  -- the lists of all clients' ends
   abbrev pub all_lists : List (ClientView Q M A) → List (Vec (Reply A) Global) → List (ClientLists Q A)
   all_lists [] untaken = []
   all_lists (c ∷ cs) [] = []

@@ -1,4 +1,4 @@
--- What the contracts of a port's ends speak of; what only the calls inside speak of stands in steps.
+-- Definitions for the contracts of a port's ends. Definitions for steps are in `steps`.
 pub mod Rings
 pub mod Ends
 pub mod Batches

@@ -1,4 +1,5 @@
--- What only the calls inside speak of: the queue and its rule, the rings, the closing mark, the history of what was served, and the room for a gathering.
+-- Definitions for steps: the queue and its rule, the rings, the closing mark, the history of served packets, and the
+-- room for a gathering.
 pub mod Trails
 pub mod ClosingMark
 pub mod QueueEnds

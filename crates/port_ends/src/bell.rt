@@ -1,4 +1,4 @@
-//! How an end waits for what the other side does: it looks again a few times, then yields between its looks, then sleeps.
+//! How an end waits for the other side: it polls a few times, then yields between polls, then sleeps.
 ghost use Rattle.std.specs.Prelude.{◌≡◌, ◌<◌, ◌≤◌};
 ghost use Rattle.port_ends.specs.declared.bell.Rest.TheVariants.{Look, Sleep};
 
@@ -7,13 +7,13 @@ use std::sync::atomic::{AtomicU64, Ordering};
 use std::time::Duration;
 use std::{hint, thread};
 
-/// How many looks in vain are followed by another at once, and how many by a yield (this project's own choice: so many looks
-/// take some microseconds, in which a packet is mostly served).
+/// The number of polls in vain that are followed at once by another one, and the number that are followed by a yield.
+/// Both numbers are this project's own choice: the polls last some microseconds, in which most packets are served.
 const LOOKS: u64 = 64;
 
 const YIELDS: u64 = 64;
 
-/// What an end does between two looks, where the first was in vain.
+/// What an end does between two polls, if the first was in vain.
 #[derive(Clone, Copy, Debug, PartialEq, Eq)]
 pub enum Rest {
     Look,
@@ -22,7 +22,7 @@ pub enum Rest {
 }
 
 impl Rest {
-    /// The rest after so many looks in vain, one after another.
+    /// The rest after this many polls in vain, one after another.
     pub fn after(looks: u64) -> Rest
         ensures look { result ≡ Look → looks < 64 }
         ensures sleep { 128 ≤ looks → result ≡ Sleep }
@@ -37,7 +37,7 @@ impl Rest {
     }
 }
 
-/// How many milliseconds a nap takes at most.
+/// The longest nap, in milliseconds.
 const NAP: u64 = 1;
 
 const AWAKE: u64 = 0;
@@ -46,11 +46,11 @@ const SLEEPS: u64 = 1;
 
 const WANTS_ROOM: u64 = 2;
 
-/// Where one end sleeps until another rings.
+/// A place where one end sleeps until another rings.
 ///
-/// The end announces that it will sleep, then looks once more for what it waits for, and only then sleeps. The other side
-/// changes what is waited for first, and then rings: so either the look finds the change or the ring finds the sleeper.
-/// Where none is announced a ring is one load.
+/// The end announces that it will sleep, then polls once more, and only then sleeps. The other side first makes the
+/// change and then rings. So either the poll finds the change or the ring finds the sleeper. If no sleep is announced,
+/// a ring is one load.
 #[derive(Drop)]
 pub struct Bell {
     state: AtomicU64,
@@ -63,22 +63,22 @@ impl Bell {
         }
     }
 
-    /// Announces a sleep, which any ring ends.
+    /// Announces a sleep that any ring ends.
     pub fn announce(&self) {
         self.state.store(SLEEPS, Ordering::SeqCst);
     }
 
-    /// Announces a sleep that ends where a ring of replies gets room, too.
+    /// Announces a sleep that also ends when a reply ring gets room.
     pub fn announce_for_room(&self) {
         self.state.store(WANTS_ROOM, Ordering::SeqCst);
     }
 
-    /// Rests. A sleep ends with a ring after its announcement, and may end for no reason.
+    /// Rests. A sleep ends with a ring after its announcement, and may end without a reason.
     pub fn rest<R: Wait>(&self, rt: &R, rest: Rest) {
         self.rest_within(rt, rest, Duration::MAX);
     }
 
-    /// Rests, and sleeps for a millisecond at most.
+    /// Rests, and sleeps for at most a millisecond.
     pub fn nap<R: Wait>(&self, rt: &R, rest: Rest) {
         self.rest_within(rt, rest, Duration::from_millis(NAP));
     }
@@ -99,14 +99,14 @@ impl Bell {
         }
     }
 
-    /// Wakes who sleeps here.
+    /// Wakes the end that sleeps here.
     pub fn ring(&self) {
         if self.state.load(Ordering::SeqCst) != AWAKE {
             self.wake();
         }
     }
 
-    /// Wakes who sleeps here for room in a ring of replies.
+    /// Wakes the end that sleeps here until a reply ring has room.
     pub fn ring_for_room(&self) {
         if self.state.load(Ordering::SeqCst) == WANTS_ROOM {
             self.wake();

@@ -1,5 +1,5 @@
 //! A client's end of a port.
-ghost use Rattle.std.specs.Prelude.{◌≡◌, ◌++◌, [], length, true, false, IfSome, IfNone, MatchResult, ◌<◌, ◌^◌, List};
+ghost use Rattle.std.specs.Prelude.{◌≡◌, ◌++◌, [], length, true, false, IfSome, IfNone, IsTrue, MatchResult, ◌<◌, ◌^◌, List};
 ghost use Rattle.port_ends.specs.Rings.{all_of};
 ghost use Rattle.port_ends.specs.steps.Rooms.{RoomFits, Left};
 ghost use Rattle.port_ends.specs.Ends.{ClientView, PutAccepted, PutIsRefused, TookReply};
@@ -15,9 +15,9 @@ use port_history::{PutRefused, Reply, Server};
 use std::marker::Model;
 use std::sync::Wait;
 
-/// A client's end of a port. It may move to a thread of its own.
+/// A client's end of a port. It may move to another thread.
 ///
-/// It knows of the close once it has read the closing mark as set, or has taken a reply that closes; both are for good.
+/// It knows of the close once it has found the closing mark set or has taken a closing reply, and never forgets it.
 #[derive(Drop)]
 pub struct ClientEnd<S: Server> {
     queue: PutEnd<S::Request>,
@@ -65,7 +65,7 @@ impl<S: Server> ClientEnd<S> {
         self.queue.number()
     }
 
-    /// Whether this end knows of the close, after a look at the closing mark.
+    /// Returns whether this end knows of the close, after a look at the closing mark.
     pub fn is_shut(&mut self) -> bool
         ensures knows { result ≡ self.new.knows }
         ensures stays { self.old.knows ≡ true → self.new.knows ≡ true }
@@ -75,9 +75,10 @@ impl<S: Server> ClientEnd<S> {
         self.shut || marked
     }
 
-    /// Puts a packet, and answers its number, from 1.
+    /// Puts a packet, and returns its number, from 1.
     ///
-    /// A refusal hands the packet back, and changes no list. It is `Closed` exactly where this end knows of the close as the call ends, and `NoRoom` only where memory was refused or the count of puts stands at its last value.
+    /// A refusal hands the packet back, and changes no list. It is `Closed` exactly if this end knows of the close when
+    /// the call ends, and `NoRoom` only if memory ran out or the count of puts is at its maximum.
     pub fn put<R: Wait>(
         &mut self,
         rt: &R,
@@ -102,7 +103,7 @@ impl<S: Server> ClientEnd<S> {
         ensures none { IfNone result (self.new ≡ self.old) }
         ensures same { self.new ≡ record self.old { taken = self.new.taken; knows = self.new.knows } }
     {
-        // No reply is there: so many packets were never put.
+        // There is no reply: so many packets were never put.
         if self.count == u64::MAX {
             return None;
         }
@@ -118,9 +119,9 @@ impl<S: Server> ClientEnd<S> {
         })
     }
 
-    /// Takes the next reply as `take` does, with at most so many looks for it.
+    /// Takes the next reply as `take` does, with at most `looks` polls.
     ///
-    /// Between two looks it rests, and sleeps until a reply is posted or the server has died, for a millisecond at most.
+    /// It rests between two polls. It sleeps for at most a millisecond, until a reply is posted or the server has died.
     pub fn take_within<R: Wait>(&mut self, rt: &R, looks: u64) -> Option<Reply<S::Reply>>
         ensures some { IfSome result (λ reply. TookReply S.is_closing self.old self.new reply) }
         ensures none { IfNone result (self.new ≡ self.old) }
@@ -137,38 +138,37 @@ impl<S: Server> ClientEnd<S> {
         None
     }
 
-    /// Wakes the handler where it sleeps, for what it looks at beside the port.
+    /// Wakes a sleeping handler, so that it polls its other sources too.
     pub fn wake_handler(&self) {
         self.queue.bell().ring();
     }
 
-    // Announces that this end sleeps after its next look, where it rests so and the look is in vain.
+    // Announces that this end sleeps if `rest` is a sleep and the next poll is in vain.
     fn announce(&self, rest: Rest) {
         self.inlet.announce(rest);
     }
 
-    // Rests after a look in vain.
+    // Rests after a poll in vain.
     fn nap<R: Wait>(&self, rt: &R, rest: Rest) {
         self.inlet.nap(rt, rest);
     }
 
-    // How many packets were put.
+    // The number of packets put.
     pub(crate) fn put_count(&self) -> u64
         ensures { result ≡ length self.now.put }
     {
         self.queue.count()
     }
 
-    // Tells the handler's desk what this end knows of the close.
-    pub(crate) fn tell(&mut self, desk: &mut Desk<S>)
-        requires { self.old.mark ≡ desk.old.mark }
-        ensures same { (self.new ≡ self.old) × (desk.new ≡ desk.old) }
-        ensures heard { Heard S.is_closing (S.has_died desk.old.server) self.old }
+    // Looks at the closing mark. Returns whether the result is consistent with the mark of the handler's desk.
+    pub(crate) fn tell(&mut self, desk: &Desk<S>) -> bool
+        ensures same { self.new ≡ self.old }
+        ensures heard { IsTrue result → Heard S.is_closing (S.has_died desk.now.server) self.old }
     {
-        desk.hear(&mut self.mark);
+        desk.hear(&mut self.mark)
     }
 
-    // How many replies were posted and not taken, with both ends in one hand.
+    // The number of replies posted and not taken, with both ends at hand.
     pub(crate) fn count_beside(&mut self, outlet: &mut Outlet<(S::Moment, S::Reply)>) -> usize
         requires { outlet.old.ring ≡ self.old.ring }
         ensures same { (self.new ≡ self.old) × (outlet.new ≡ outlet.old) }
@@ -177,7 +177,7 @@ impl<S: Server> ClientEnd<S> {
         self.inlet.count_beside(outlet)
     }
 
-    // Gives the end up: the untaken replies go to `room`, and the queue's end is left.
+    // Gives up the end: its untaken replies move to `room`, and the queue's end remains.
     pub(crate) fn leave(
         self,
         outlet: &mut Outlet<(S::Moment, S::Reply)>,

@@ -1,101 +1,112 @@
-//! The mark that the handler sets as its server dies, and the two kinds of end at it.
-ghost use Rattle.std.specs.Prelude.{◌≡◌, true, false, IfOk};
+//! The mark that the handler sets when its server dies, and its two kinds of end.
+ghost use Rattle.std.specs.Prelude.{◌≡◌, true, false, IfOk, IsTrue};
 ghost use Rattle.port_ends.specs.steps.ClosingMark.{CloseView};
 
-use crate::notice::{Copies, Enters, Hears, Heeds, Looks, Mark, MarkSeat, Sets};
+use once_cell::race::{Note, OnceBox};
 use std::alloc::{AllocError, Global};
 use std::marker::Model;
 use std::sync::Arc;
 
-const OPEN: u64 = 0;
+/// The mark: a cell that can be set once. The byte in it has no meaning.
+type Mark = OnceBox<u8>;
 
-const CLOSED: u64 = 1;
-
-/// A reading end of the mark.
+/// A reading end of the mark. It knows of the close once its note knows a value.
 #[derive(Drop)]
 pub struct CloseReader {
     mark: Arc<Mark, Global>,
-    seat: MarkSeat,
+    note: Note<u8>,
 }
 
 impl Model for CloseReader {
-    ghost use Rattle.std.specs.Prelude.{◌≡◌, []};
+    ghost use Rattle.std.specs.Prelude.{◌≡◌, is_some};
     ghost use Rattle.std.specs.Arc.{arc_value};
-    ghost use Rattle.port_ends.specs.steps.ClosingMark.{CloseView, reader};
+    ghost use Rattle.once_cell.specs.Once.{cell_name};
+    ghost use Rattle.port_ends.specs.steps.ClosingMark.{CloseView};
 
     ghost Value = { CloseView };
 
-    ghost view = { λ m. record { mark = (arc_value m.mark).shared.table_id; knows = m.seat.me.0.knows } };
+    ghost view = { λ m. record { mark = cell_name (arc_value m.mark); knows = is_some m.note.known } };
 
-    ghost invariant = { λ m. ((arc_value m.mark).shared.table_id.words ≡ 1) × (m.seat.table_id ≡ (arc_value m.mark).shared.table_id)
-        × (m.seat.me ≡ (reader m.seat.me.0.knows, [])) };
+    ghost invariant = { λ m. m.note.cell ≡ cell_name (arc_value m.mark) };
 }
 
-/// The setting end of the mark.
+/// The setting end of the mark. It holds the box for the mark until it sets it.
 #[derive(Drop)]
 pub struct CloseSetter {
     mark: Arc<Mark, Global>,
-    seat: MarkSeat,
+    note: Note<u8>,
+    unset: Option<Box<u8>>,
 }
 
 impl Model for CloseSetter {
-    ghost use Rattle.std.specs.Prelude.{◌≡◌, []};
+    ghost use Rattle.std.specs.Prelude.{◌≡◌, is_some, not};
     ghost use Rattle.std.specs.Arc.{arc_value};
-    ghost use Rattle.port_ends.specs.steps.ClosingMark.{CloseView, setter};
+    ghost use Rattle.once_cell.specs.Once.{cell_name};
+    ghost use Rattle.port_ends.specs.steps.ClosingMark.{CloseView};
 
     ghost Value = { CloseView };
 
-    ghost view = { λ m. record { mark = (arc_value m.mark).shared.table_id; knows = m.seat.me.0.knows } };
+    ghost view = { λ m. record { mark = cell_name (arc_value m.mark); knows = is_some m.note.known } };
 
-    ghost invariant = { λ m. ((arc_value m.mark).shared.table_id.words ≡ 1) × (m.seat.table_id ≡ (arc_value m.mark).shared.table_id)
-        × (m.seat.me ≡ (setter m.seat.me.0.knows m.seat.me.0.heard, [])) };
+    ghost invariant = { λ m. (m.note.cell ≡ cell_name (arc_value m.mark)) × (is_some m.unset ≡ not (is_some m.note.known)) };
 }
 
 impl CloseReader {
-    /// Whether the mark is known to be set, after a look at it.
+    /// Looks at the mark. Returns whether it is known to be set.
     pub fn look(&mut self) -> bool
         ensures mark { self.new.mark ≡ self.old.mark }
         ensures knows { result ≡ self.new.knows }
         ensures stays { self.old.knows ≡ true → self.new.knows ≡ true }
     {
-        self.mark.shared.load::<Looks>(&mut self.seat, 0) == CLOSED
+        self.mark.get_as(&mut self.note).is_some()
+    }
+
+    /// Returns whether one more look finds the mark set. This end learns nothing from it.
+    pub fn finds_set(&mut self) -> bool
+        ensures same { self.new ≡ self.old }
+        ensures found { self.old.knows ≡ true → result ≡ true }
+    {
+        let mut note = self.note.again();
+        self.mark.get_as(&mut note).is_some()
     }
 }
 
 impl CloseSetter {
-    /// A mark that is not set.
+    /// Makes a mark that is not set.
     pub fn new(alloc: Global) -> Result<CloseSetter, AllocError>
         ensures { IfOk result (λ m. m.knows ≡ false) }
     {
-        let (mark, seat) = Mark::of_words(alloc, &[OPEN], &())?;
-        let mark = Arc::new(alloc, mark)?;
-        Ok(CloseSetter { mark, seat })
+        let unset = Some(Box::new(alloc, 0u8)?);
+        let mark = Arc::new(alloc, Mark::new(alloc))?;
+        let note = mark.note();
+        Ok(CloseSetter { mark, note, unset })
     }
 
-    /// A reading end of this mark, which knows of no close.
+    /// Makes a reading end of this mark, which knows of no close.
     pub fn reader(&self) -> Result<CloseReader, AllocError>
         ensures { IfOk result (λ m. (m.mark ≡ self.now.mark) × (m.knows ≡ false)) }
     {
         let mark = Arc::try_clone(&self.mark)?;
-        let (_, seat) = mark.shared.load_new_seat::<Enters>(0);
-        Ok(CloseReader { mark, seat })
+        let note = mark.note();
+        Ok(CloseReader { mark, note })
     }
 
-    /// Sets the mark. Nothing is wanted for it.
+    /// Sets the mark. It needs no memory.
     pub fn set(&mut self)
         ensures { self.new ≡ record { mark = self.old.mark; knows = true } }
     {
-        self.mark.shared.store::<Sets>(&mut self.seat, 0, CLOSED);
+        if let Some(unset) = self.unset.take() {
+            self.mark.get_or_init_as(move || unset, &mut self.note);
+        }
     }
 
-    /// Hears a reader of this mark: it knows of the close only where the mark was set.
-    pub fn hear(&mut self, reader: &mut CloseReader)
-        requires { reader.old.mark ≡ self.old.mark }
-        ensures same { (self.new ≡ self.old) × (reader.new ≡ reader.old) }
-        ensures set { reader.old.knows ≡ true → self.old.knows ≡ true }
+    /// Lets a reader look at this mark. Returns whether the result is consistent. It is inconsistent if the reader
+    /// finds the mark set and this end has not set it, which no run can show.
+    pub fn hear(&self, reader: &mut CloseReader) -> bool
+        ensures same { reader.new ≡ reader.old }
+        ensures set { IsTrue result → reader.old.knows ≡ true → self.now.knows ≡ true }
     {
-        let seat = reader.mark.shared.split_seat::<Copies>(&mut reader.seat);
-        self.mark.shared.join_seat::<Hears>(&mut self.seat, seat);
-        self.mark.shared.load::<Heeds>(&mut self.seat, 0);
+        let found = reader.finds_set();
+        !found || self.unset.is_none()
     }
 }

@@ -1,6 +1,7 @@
 //! The server with the history of what it served.
-ghost use Rattle.std.specs.Prelude.{◌≡◌, ◌<◌, [], ◌∷◌, ◌++◌, length, true, false, IfOk};
-ghost use Rattle.port_history.specs.History.{Serving, MeaningRun};
+ghost use Rattle.std.specs.Prelude.{◌≡◌, ◌<◌, [], ◌∷◌, ◌++◌, length, true, false, IfOk, IsTrue};
+ghost use Rattle.port_history.specs.History.{Serving};
+ghost use Rattle.port_history.specs.Lawful.{MeaningRun};
 
 use crate::closing_mark::{CloseReader, CloseSetter};
 use crate::trail::Trail;
@@ -9,7 +10,7 @@ use std::alloc::AllocError;
 use std::marker::Model;
 use std::snapshot::Snapshot;
 
-/// One packet that was served. It is kept in the history alone, and takes no bytes at run time.
+/// One served packet. It is in the history only, and takes no bytes at run time.
 #[derive(Drop)]
 pub struct Entry<S: Server> {
     pub client: usize,
@@ -18,7 +19,7 @@ pub struct Entry<S: Server> {
     pub answer: Snapshot<S::Reply>,
 }
 
-/// A server, the one that it opened with, and what was served in between.
+/// The server, the opening server, and the packets served in between.
 #[derive(Drop)]
 pub struct Desk<S: Server> {
     server: S,
@@ -30,7 +31,7 @@ pub struct Desk<S: Server> {
 
 impl<S: Server> Model for Desk<S> {
     ghost use Rattle.std.specs.Prelude.{◌≡◌, length};
-    ghost use Rattle.port_history.specs.History.{MeaningRun};
+    ghost use Rattle.port_history.specs.Lawful.{MeaningRun};
     ghost use Rattle.port_ends.specs.steps.Desks.{DeskView};
 
     ghost Value = { DeskView S S.Request S.Moment S.Reply };
@@ -69,30 +70,30 @@ impl<S: Server> Desk<S> {
         self.server
     }
 
-    /// How many packets were served.
+    /// The number of packets served.
     pub fn count(&self) -> u64
         ensures { result ≡ length self.now.served }
     {
         self.count
     }
 
-    /// A reading end of the closing mark.
+    /// Makes a reading end of the closing mark.
     pub fn reader(&self) -> Result<CloseReader, AllocError>
         ensures { IfOk result (λ m. (m.mark ≡ self.now.mark) × (m.knows ≡ false)) }
     {
         self.mark.reader()
     }
 
-    /// Hears what a reading end knows: its mark was set only where the server has died.
-    pub fn hear(&mut self, reader: &mut CloseReader)
-        requires { reader.old.mark ≡ self.old.mark }
-        ensures same { (self.new ≡ self.old) × (reader.new ≡ reader.old) }
-        ensures died { reader.old.knows ≡ true → S.has_died self.old.server ≡ true }
+    /// Lets a reading end look at the mark. Returns whether the result is consistent: then it knows of the close only
+    /// if the server has died.
+    pub fn hear(&self, reader: &mut CloseReader) -> bool
+        ensures same { reader.new ≡ reader.old }
+        ensures died { IsTrue result → reader.old.knows ≡ true → S.has_died self.now.server ≡ true }
     {
-        self.mark.hear(reader);
+        self.mark.hear(reader)
     }
 
-    /// What holds of every desk.
+    /// The invariant of a desk.
     pub fn witness(&self)
         ensures run { MeaningRun S.gives self.now.opening self.now.served self.now.server }
         ensures mark { self.now.knows ≡ S.has_died self.now.server }
@@ -100,7 +101,7 @@ impl<S: Server> Desk<S> {
         let _ = &self.server;
     }
 
-    /// Serves one packet of a client. Where the server has died the mark is set, before the answer goes out.
+    /// Serves one packet of a client. If the server has died, the mark is set before the answer is sent.
     pub fn serve(&mut self, client: usize, packet: S::Request, moment: S::Moment) -> S::Reply
         requires { length self.old.served < 18446744073709551615 }
         ensures kept { (self.new.opening ≡ self.old.opening) × (self.new.mark ≡ self.old.mark) }

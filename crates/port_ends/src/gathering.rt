@@ -1,12 +1,11 @@
-//! How a port's ends are gathered.
-ghost use Rattle.std.specs.Prelude.{◌≡◌, ℕ, ◌+◌, ◌<◌, ◌≤◌, ◌++◌, ◌∷◌, [], map, length, vec_capacity, Some, slice_get, IfOk, IfErr, IfSome};
-ghost use Rattle.port_history.specs.History.{Lawful};
-ghost use Rattle.port_ends.specs.Ends.{OfClients};
+//! Gathers the ends of a port.
+ghost use Rattle.std.specs.Prelude.{◌≡◌, ℕ, ◌+◌, ◌<◌, ◌≤◌, ◌++◌, ◌∷◌, [], map, length, vec_capacity, Some, slice_get, IfOk, IfErr, IfSome, IsTrue};
+ghost use Rattle.port_history.specs.Lawful.{Lawful};
+ghost use Rattle.port_ends.specs.Ends.{OfClients, AreEnds, CloseMeansDeath};
 ghost use Rattle.port_ends.specs.steps.Rule.{ArePutLists, total};
 ghost use Rattle.port_ends.specs.steps.Rooms.{OnlyElement, RoomsFit, HasRoomAt, AreOutletsOf, LeftAt, AllLeft};
 ghost use Rattle.port_ends.specs.steps.HandlerEnds.{AllHeard};
 ghost use Rattle.port_ends.specs.Gathering.{all_lists};
-ghost use Rattle.port_ends.specs.Ends.{AreEnds, CloseMeansDeath};
 
 use crate::client::ClientEnd;
 use crate::handler::HandlerEnd;
@@ -42,7 +41,7 @@ fn take_in_one<S: Server>(
     queue.gather_one(end);
 }
 
-// Takes the packets that are left, in the order of the queue.
+// Takes the remaining packets, in the order of the queue.
 fn take_rest<Q: Drop, R: Wait>(
     rt: &R,
     queue: &mut TakeEnd<Q>,
@@ -92,7 +91,8 @@ fn take_in<S: Server>(
     (queue, untaken)
 }
 
-/// What is left of a port: the server, the packets that were put and not served, each with its client's number and in the order of the port, and each client's untaken replies.
+/// What remains of a port: the server, the unserved packets, each with its client's number and in the order of the
+/// port, and each client's untaken replies.
 #[derive(Drop)]
 pub struct Gathered<S: Server> {
     pub server: S,
@@ -100,7 +100,7 @@ pub struct Gathered<S: Server> {
     pub untaken: Vec<Replies<S>>,
 }
 
-/// Ends that were not gathered, as they were.
+/// Ends that were not gathered, unchanged.
 #[derive(Drop)]
 pub struct GatherRefused<S: Server> {
     pub handler: HandlerEnd<S>,
@@ -114,7 +114,7 @@ fn room_for<A: Drop>(alloc: Global, count: usize) -> Option<Vec<Reply<A>>>
     Vec::with_capacity(alloc, count).ok()
 }
 
-// Room for each client's untaken replies. No end changes.
+// Reserves room for each client's untaken replies. No end changes.
 fn room_for_replies<S: Server>(
     alloc: Global,
     handler: &mut HandlerEnd<S>,
@@ -135,7 +135,7 @@ fn room_for_replies<S: Server>(
     Some(rooms)
 }
 
-// Room for the packets that were put and not served.
+// Reserves room for the packets that were put and not served.
 fn room_for_packets<S: Server>(
     alloc: Global,
     served: u64,
@@ -151,19 +151,21 @@ fn room_for_packets<S: Server>(
     Vec::with_capacity(alloc, puts.saturating_sub(served) as usize).ok()
 }
 
-// Hears what each client knows of the close. No end changes.
-fn hear_all<S: Server>(handler: &mut HandlerEnd<S>, clients: &mut Vec<ClientEnd<S>>)
-    requires { AreEnds handler.old clients.old.items }
-    ensures same { (handler.new ≡ handler.old) × (clients.new.items ≡ clients.old.items) }
-    ensures heard { AllHeard S.is_closing (S.has_died handler.old.server) clients.old.items }
+// Lets each client look at the closing mark once more. Returns whether all are consistent. No end changes.
+fn hear_all<S: Server>(handler: &HandlerEnd<S>, clients: &mut Vec<ClientEnd<S>>) -> bool
+    ensures same { clients.new.items ≡ clients.old.items }
+    ensures heard { IsTrue result → AllHeard S.is_closing (S.has_died handler.now.server) clients.old.items }
 {
     for k in 0..clients.len() {
         let client = &mut clients[k];
-        handler.hear(client);
+        if !handler.hear(client) {
+            return false;
+        }
     }
+    true
 }
 
-// Takes all ends in, once there is room.
+// Takes in all ends, after room was reserved.
 fn finish<S: Server, R: Wait>(
     rt: &R,
     handler: HandlerEnd<S>,
@@ -192,11 +194,13 @@ fn finish<S: Server, R: Wait>(
     }
 }
 
-/// Gathers all ends of one port, in order of client, once their threads have handed them back.
+/// Gathers all ends of one port, in order of client, after their threads have handed them back.
 ///
-/// Where an end knows of the close, the server that is handed back has died.
+/// If an end knows of the close, the returned server has died.
 ///
-/// All memory is got before the first change. A refusal is for want of it, and hands all ends back as they were, so that the call can be made again.
+/// All memory is reserved before the first change. A refusal means that memory ran out, or that an end finds the
+/// closing mark set and the handler's end has not set it, which no run can show. It hands all ends back unchanged, so
+/// the call can be repeated.
 pub fn gather<S: Server, R: Wait>(
     rt: &R,
     alloc: Global,
@@ -215,7 +219,9 @@ pub fn gather<S: Server, R: Wait>(
     let Some(untaken) = room_for_replies(alloc, &mut handler, &mut clients) else {
         return Err(GatherRefused { handler, clients });
     };
-    hear_all(&mut handler, &mut clients);
+    if !hear_all(&handler, &mut clients) {
+        return Err(GatherRefused { handler, clients });
+    }
     let Some(unanswered) = room_for_packets(alloc, handler.served_count(), &clients) else {
         return Err(GatherRefused { handler, clients });
     };

@@ -21,7 +21,7 @@ use std::alloc::{AllocError, Global};
 use std::marker::Model;
 use std::sync::Wait;
 
-/// How many packets `serve_until_closed` takes in a batch.
+/// The number of packets that `serve_until_closed` takes in a batch.
 const BATCH: usize = 64;
 
 /// Why the batches ended: the server has died, or there was nothing to serve.
@@ -37,7 +37,7 @@ pub enum ServeFault {
     NoMemory,
 }
 
-/// The handler's end of a port: it takes the packets, serves them one after another, and posts the replies.
+/// The handler's end of a port: it takes packets, serves them one after another, and posts the replies.
 #[derive(Drop)]
 pub struct HandlerEnd<S: Server> {
     queue: TakeEnd<S::Request>,
@@ -63,21 +63,22 @@ impl<S: Server> Model for HandlerEnd<S> {
 }
 
 impl<S: Server> HandlerEnd<S> {
-    /// What holds of every handler's end.
+    /// The invariant of a handler's end.
     pub fn witness(&self)
         ensures { IsSound S.gives S.has_died self.now }
     {
         self.desk.witness();
     }
 
-    /// The server as it is.
+    /// The current server.
     pub fn server(&self) -> &S
         ensures { result.now ≡ self.now.server }
     {
         self.desk.server()
     }
 
-    /// Posts of each client's waiting replies what its ring has places for, in order, and answers how many replies still wait, of all clients.
+    /// Posts each client's waiting replies into the free places of its ring, in order. Returns how many replies of all
+    /// clients still wait.
     pub fn post_waiting(&mut self) -> usize
         ensures same { self.new ≡ record self.old { outlets = self.new.outlets } }
         ensures offers { EachOffers self.old.outlets self.new.outlets }
@@ -87,9 +88,11 @@ impl<S: Server> HandlerEnd<S> {
         post_all(&mut self.outlets)
     }
 
-    /// Posts what waits, as `post_waiting` does, then takes at most `limit` packets, or fewer where a take finds nothing, and serves each at this moment. It answers how many.
+    /// Posts waiting replies, then takes at most `limit` packets, serves each at this time stamp, and returns their
+    /// number.
     ///
-    /// Where its ring is full, or other replies of its client still wait, a reply waits in the list beside that ring. `NoMemory` serves nothing; what was posted stays posted.
+    /// It takes fewer packets if a take finds none. A reply waits in the list beside its ring if the ring is full or
+    /// other replies of its client still wait. After `NoMemory` nothing was served; posted replies stay posted.
     pub fn serve_batch<R: Wait>(
         &mut self,
         rt: &R,
@@ -113,8 +116,8 @@ impl<S: Server> HandlerEnd<S> {
         Ok(served)
     }
 
-    /// Announces that the handler sleeps after its next look, where it rests so and the look is in vain. What it waits for has
-    /// to be looked at between this and `rest`.
+    /// Announces that the handler sleeps if `rest` is a sleep and the next poll is in vain. Poll everything that the
+    /// handler waits for between this call and `rest`.
     pub fn announce(&self, rest: Rest) {
         if rest != Rest::Sleep {
             return;
@@ -126,19 +129,22 @@ impl<S: Server> HandlerEnd<S> {
         }
     }
 
-    /// Wakes each client that sleeps, so that it looks for its reply once more.
+    /// Wakes each sleeping client, so that it polls for its reply once more.
     pub fn wake_clients(&self) {
         ring_all(&self.outlets);
     }
 
-    /// Rests after a look in vain. A sleep ends with a put, with a take that gives room to a reply that waits, or as a client wakes the handler.
+    /// Rests after a poll in vain. A sleep ends with a put, with a take that makes room for a waiting reply, or when a
+    /// client wakes the handler.
     pub fn rest<R: Wait>(&self, rt: &R, rest: Rest) {
         self.queue.bell().rest(rt, rest);
     }
 
-    /// Serves batches of 64 until the server has died and a batch found nothing, or until `idle_limit` batches in a row found nothing.
+    /// Serves batches of 64 packets until the server has died and a batch found none, or until `idle_limit` batches in
+    /// a row found none.
     ///
-    /// Between batches that found nothing it rests, and sleeps no longer than a millisecond. What earlier batches served stays served where a later one finds no memory.
+    /// Between empty batches it rests, and sleeps for at most a millisecond. If a later batch runs out of memory,
+    /// packets served earlier stay served.
     pub fn serve_until_closed<R: Wait>(
         &mut self,
         rt: &R,
@@ -171,12 +177,12 @@ impl<S: Server> HandlerEnd<S> {
         unreachable!()
     }
 
-    // Rests after a look in vain, and sleeps for a millisecond at most.
+    // Rests after a poll in vain, and sleeps for at most a millisecond.
     fn nap<R: Wait>(&self, rt: &R, rest: Rest) {
         self.queue.bell().nap(rt, rest);
     }
 
-    // Wakes each client that sleeps where the server has died, so that it finds the mark set.
+    // Wakes each sleeping client if the server has died, so that it finds the mark set.
     fn tell_death(&self) {
         if self.server().died() {
             self.wake_clients();
@@ -202,7 +208,7 @@ impl<S: Server> HandlerEnd<S> {
         true
     }
 
-    // Gets room for this many more replies to each client.
+    // Reserves room for this many more replies to each client.
     fn reserve(&mut self, more: usize) -> Result<(), AllocError>
         ensures same { self.new ≡ record self.old { outlets = self.new.outlets } }
         ensures same_outlets { EachGetsRoom self.old.outlets self.new.outlets }
@@ -246,7 +252,7 @@ impl<S: Server> HandlerEnd<S> {
         })
     }
 
-    // The end of one more client.
+    // Makes the end of one more client.
     pub(crate) fn add_client(
         &mut self,
         alloc: Global,
@@ -271,7 +277,7 @@ impl<S: Server> HandlerEnd<S> {
         self.desk.into_server()
     }
 
-    // How many replies the client k + 1 has not taken.
+    // The number of replies that client k + 1 has not taken.
     pub(crate) fn untaken(&mut self, k: usize, client: &mut ClientEnd<S>) -> usize
         requires place { k < length self.old.outlets }
         requires ring { (o : _) → slice_get self.old.outlets k ≡ Some o → o.ring ≡ client.old.ring }
@@ -284,23 +290,22 @@ impl<S: Server> HandlerEnd<S> {
         posted + outlet.waiting()
     }
 
-    // Hears what a client knows of the close.
-    pub(crate) fn hear(&mut self, client: &mut ClientEnd<S>)
-        requires { client.old.mark ≡ self.old.mark }
-        ensures same { (self.new ≡ self.old) × (client.new ≡ client.old) }
-        ensures heard { Heard S.is_closing (S.has_died self.old.server) client.old }
+    // Lets a client look at the closing mark. Returns whether the result is consistent.
+    pub(crate) fn hear(&self, client: &mut ClientEnd<S>) -> bool
+        ensures same { client.new ≡ client.old }
+        ensures heard { IsTrue result → Heard S.is_closing (S.has_died self.now.server) client.old }
     {
-        client.tell(&mut self.desk);
+        client.tell(&self.desk)
     }
 
-    // How many packets were served.
+    // The number of packets served.
     pub(crate) fn served_count(&self) -> u64
         ensures { result ≡ length self.now.served }
     {
         self.desk.count()
     }
 
-    // The parts, once the room for what is left is there.
+    // The parts of this end, after room for the rest was reserved.
     pub(crate) fn into_parts(self) -> (TakeEnd<S::Request>, Vec<Outlet<(S::Moment, S::Reply)>>, S)
         ensures queue { IsQueueOf self result.0 }
         ensures outlets { result.1.items ≡ self.outlets }

@@ -1,4 +1,5 @@
-//! The running port: each client puts packets to one queue and takes its replies from a ring of its own, and the handler serves what it finds in the queue.
+//! The running port: each client puts packets into one queue and takes its replies from its own ring, and the handler
+//! serves the packets of the queue.
 #![tactic(auto)]
 
 mod bell;
@@ -7,7 +8,6 @@ mod closing_mark;
 mod desk;
 mod gathering;
 mod handler;
-mod notice;
 mod open;
 mod outlets;
 mod queue;

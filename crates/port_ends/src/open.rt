@@ -1,4 +1,4 @@
-//! How a port is opened.
+//! Opens a port.
 ghost use Rattle.std.specs.Prelude.{◌≡◌, ◌<◌, false, length, MatchResult};
 ghost use Rattle.port_ends.specs.Ends.{IsOpened};
 
@@ -7,15 +7,16 @@ use crate::handler::HandlerEnd;
 use port_history::Server;
 use std::alloc::Global;
 
-/// A port that was not opened, for want of memory. It hands the server back.
+/// A port that was not opened because memory ran out. It hands the server back.
 #[derive(Drop)]
 pub struct OpenRefused<S> {
     pub server: S,
 }
 
-/// Opens a port over this server: the handler's end, and the ends of the clients 1, 2 and so on, each with a reply ring of `ring` places.
+/// Opens a port over this server: the handler's end, and the ends of clients 1, 2 and so on, each with a reply ring of
+/// `ring` places.
 ///
-/// The closing mark is made here, so that nothing is wanted as the server dies.
+/// The closing mark is made here, so that the server's death needs no memory.
 pub fn open_port<S: Server>(
     alloc: Global,
     server: S,

@@ -1,4 +1,4 @@
-//! All clients' outlets.
+//! The outlets of all clients.
 ghost use Rattle.std.specs.Prelude.{◌≡◌, ◌+◌, ◌<◌, ◌≤◌, ◌^◌, length, OnOk, IsFalse};
 ghost use Rattle.port_ends.specs.Rings.{Each, EachOffers, waiting_count};
 ghost use Rattle.port_ends.specs.steps.Sending.{EachGetsRoom, EachHasRoom, SendsTo};
@@ -6,7 +6,7 @@ ghost use Rattle.port_ends.specs.steps.Sending.{EachGetsRoom, EachHasRoom, Sends
 use crate::ring::Outlet;
 use std::alloc::AllocError;
 
-/// Sends a reply to the client of this number.
+/// Sends a reply to the client with this number.
 pub fn send_to<T: Drop>(outlets: &mut Vec<Outlet<T>>, client: usize, reply: T)
     requires client { (1 ≤ client) × (client ≤ length outlets.old.items) }
     requires room { EachHasRoom 1 outlets.old.items }
@@ -16,7 +16,7 @@ pub fn send_to<T: Drop>(outlets: &mut Vec<Outlet<T>>, client: usize, reply: T)
     outlet.send(reply);
 }
 
-/// Posts of each what fits, in order, and answers how many replies still wait.
+/// Posts of each outlet what fits, in order. Returns how many replies still wait.
 pub fn post_all<T: Drop>(outlets: &mut Vec<Outlet<T>>) -> usize
     requires few { waiting_count outlets.old.items < 2 ^ 64 }
     ensures offers { EachOffers outlets.old.items outlets.new.items }
@@ -43,14 +43,14 @@ pub fn any_waits<T: Drop>(outlets: &Vec<Outlet<T>>) -> bool
     false
 }
 
-/// Wakes each client that sleeps.
+/// Wakes each sleeping client.
 pub fn ring_all<T: Drop>(outlets: &Vec<Outlet<T>>) {
     for i in 0..outlets.len() {
         outlets[i].ring();
     }
 }
 
-/// Gets room in each for this many more to wait.
+/// Reserves room at each outlet for this many more waiting replies.
 pub fn reserve_all<T: Drop>(outlets: &mut Vec<Outlet<T>>, more: usize) -> Result<(), AllocError>
     ensures same { EachGetsRoom outlets.old.items outlets.new.items }
     ensures room { OnOk result (EachHasRoom more outlets.new.items) }

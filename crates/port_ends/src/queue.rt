@@ -51,19 +51,20 @@ impl<Q: Drop> PutEnd<Q> {
         self.number
     }
 
-    /// How many packets were put.
+    /// The number of packets put.
     pub fn count(&self) -> u64
         ensures { result ≡ length self.now.put }
     {
         self.count
     }
 
-    /// The bell that the handler sleeps at.
+    /// The bell at which the handler sleeps.
     pub fn bell(&self) -> &Bell {
         &self.port.bell
     }
 
-    /// Puts a packet, wakes the handler, and answers the packet's number. A refusal hands it back, and changes nothing.
+    /// Puts a packet, and wakes the handler. Returns the packet's number. A refusal hands the packet back and changes
+    /// nothing.
     pub fn put<R: Wait>(&mut self, rt: &R, packet: Q) -> Result<u64, Q>
         ensures put { MatchResult result (λ number. AddsPacket self.old packet self.new number) (λ back. HandsBack self.old packet self.new back) }
     {
@@ -106,7 +107,7 @@ impl<Q: Drop> Model for TakeEnd<Q> {
     ghost invariant = { λ e. IsSegPassOf (arc_value e.port).queue e.pass × IsTakePass e.clients e.pass.me.view.client };
 }
 
-/// A queue with no client yet.
+/// Makes a queue with no client yet.
 pub fn open_queue<Q: Drop>(alloc: Global) -> Result<TakeEnd<Q>, AllocError>
     ensures { IfOk result (λ e. (e.clients ≡ 0) × (e.taken ≡ []) × (e.known ≡ [])) }
 {
@@ -121,12 +122,12 @@ pub fn open_queue<Q: Drop>(alloc: Global) -> Result<TakeEnd<Q>, AllocError>
 }
 
 impl<Q: Drop> TakeEnd<Q> {
-    /// The bell that the handler sleeps at.
+    /// The bell at which the handler sleeps.
     pub fn bell(&self) -> &Bell {
         &self.port.bell
     }
 
-    /// The end of one more client.
+    /// Makes the end of one more client.
     pub fn add_client(&mut self) -> Result<PutEnd<Q>, AllocError>
         requires { self.old.clients < 18446744073709551615 }
         ensures ok { IfOk result (λ end. AddsPutEnd self.old self.new end) }
@@ -143,7 +144,7 @@ impl<Q: Drop> TakeEnd<Q> {
         })
     }
 
-    /// Takes the packet at the front. Where nothing waits, all that the gathered clients put was taken.
+    /// Takes the first packet. If none waits, everything that gathered clients put was taken.
     pub fn take<R: Wait>(&mut self, rt: &R) -> Option<(usize, Q)>
         ensures took { IfSome result (λ packet. TakesPacket self.old self.new packet) }
         ensures none { IfNone result (FindsNothing self.old self.new) }

@@ -1,7 +1,7 @@
 //! The two ends of a reply ring, with a list beside the sending end.
 ghost use Rattle.std.specs.Prelude.{◌≡◌, ◌+◌, ◌-◌, ◌<◌, ◌≤◌, [], ◌∷◌, ◌++◌, length, IfOk, OnOk, IfSome, IfNone, ◌^◌, List, vec_len, vec_capacity};
 ghost use Rattle.rtrb.specs.Ring.{ProducerLooked, known_free, known_items};
-ghost use Rattle.port_history.specs.History.{numbered};
+ghost use Rattle.port_history.specs.Lawful.{numbered};
 ghost use Rattle.port_ends.specs.Gathering.{answers};
 ghost use Rattle.port_ends.specs.Rings.{OutView, Offers, StaysPosted, all_of};
 ghost use Rattle.port_ends.specs.steps.Sending.{GetsRoom};
@@ -16,7 +16,7 @@ use std::collections::VecDeque;
 use std::marker::Model;
 use std::sync::{Arc, Wait};
 
-/// The sending end. What finds the ring full waits beside it.
+/// The sending end. Replies wait beside it while the ring is full.
 #[derive(Drop)]
 pub struct Outlet<T: Drop> {
     producer: Producer<T>,
@@ -61,7 +61,7 @@ impl<T: Drop> Model for Inlet<T> {
     ghost view = { λ i. record { ring = ring_of i.consumer.end; taken = received i.consumer } };
 }
 
-/// A ring with this many places.
+/// Makes a ring with this many places.
 pub fn open_ring<T: Drop>(alloc: Global, places: usize) -> Result<(Outlet<T>, Inlet<T>), AllocError>
     ensures { IfOk result (λ r. (r.0.ring ≡ r.1.ring) × (r.0.posted ≡ []) × (r.0.waiting ≡ []) × (r.1.taken ≡ []) × (r.0.places ≡ places)) }
 {
@@ -77,7 +77,8 @@ pub fn open_ring<T: Drop>(alloc: Global, places: usize) -> Result<(Outlet<T>, In
     Ok((outlet, Inlet { consumer, bell }))
 }
 
-// How many places of the ring are free, by a look at it, which is noted. Where nothing waits the ring is left alone, and what is known of it will do.
+// The number of free places of the ring, by a look at it, which is noted. If nothing waits, the ring is not looked at,
+// and the known number is used.
 fn look<T: Drop>(producer: &mut Producer<T>, waits: bool, looks: &mut Trail<usize>) -> usize
     ensures same { ProducerLooked producer.old producer.new }
     ensures found { result ≡ known_free producer.new }
@@ -94,7 +95,7 @@ fn look<T: Drop>(producer: &mut Producer<T>, waits: bool, looks: &mut Trail<usiz
 }
 
 impl<T: Drop> Outlet<T> {
-    /// Gets room for `more` to wait.
+    /// Reserves room for `more` waiting replies.
     pub fn reserve(&mut self, more: usize) -> Result<(), AllocError>
         ensures same { GetsRoom self.old self.new }
         ensures ok { OnOk result (more ≤ self.new.room) }
@@ -102,7 +103,7 @@ impl<T: Drop> Outlet<T> {
         self.waiting.reserve(more)
     }
 
-    /// Posts what fits, in order, wakes the receiving end, and answers how many still wait.
+    /// Posts what fits, in order, and wakes the receiving end. Returns how many replies still wait.
     pub fn post_waiting(&mut self) -> usize
         ensures offers { Offers self.old self.new }
         ensures count { result ≡ length self.new.waiting }
@@ -119,7 +120,7 @@ impl<T: Drop> Outlet<T> {
         self.waiting.len()
     }
 
-    /// Posts a reply and wakes the receiving end, or lets the reply wait behind those that wait.
+    /// Posts a reply and wakes the receiving end, or queues the reply after those that wait.
     pub fn send(&mut self, reply: T)
         requires { 0 < self.old.room }
         ensures posted { StaysPosted self.old self.new }
@@ -144,14 +145,14 @@ impl<T: Drop> Outlet<T> {
 }
 
 impl<T: Drop> Inlet<T> {
-    /// Announces that this end sleeps after its next look, where it rests so and the look is in vain.
+    /// Announces that this end sleeps if `rest` is a sleep and the next poll is in vain.
     pub fn announce(&self, rest: Rest) {
         if rest == Rest::Sleep {
             self.bell.announce();
         }
     }
 
-    /// Rests after a look in vain, and sleeps for a millisecond at most.
+    /// Rests after a poll in vain, and sleeps for at most a millisecond.
     pub fn nap<R: Wait>(&self, rt: &R, rest: Rest) {
         self.bell.nap(rt, rest);
     }
@@ -164,7 +165,7 @@ impl<T: Drop> Inlet<T> {
         self.consumer.pop().ok()
     }
 
-    /// How many were posted and not taken, with both ends in one hand.
+    /// The number of replies posted and not taken, with both ends at hand.
     pub fn count_beside(&mut self, outlet: &mut Outlet<T>) -> usize
         requires { outlet.old.ring ≡ self.old.ring }
         ensures same { (self.new ≡ self.old) × (outlet.new ≡ outlet.old) }
@@ -175,7 +176,7 @@ impl<T: Drop> Inlet<T> {
 }
 
 impl<T: Drop> Outlet<T> {
-    /// Wakes who sleeps at the receiving end.
+    /// Wakes the receiving end if it sleeps.
     pub fn ring(&self) {
         self.bell.ring();
     }
@@ -208,7 +209,7 @@ fn drain_ring<M: Drop, A: Drop>(
     }
 }
 
-// Takes the items that wait, and numbers them.
+// Takes the waiting items, and numbers them.
 fn drain_list<M: Drop, A: Drop>(
     waiting: &mut VecDeque<(M, A)>,
     number: u64,
@@ -229,7 +230,7 @@ fn drain_list<M: Drop, A: Drop>(
 }
 
 impl<M: Drop, A: Drop> Inlet<(M, A)> {
-    /// Takes all that was sent and not taken, with both ends in one hand. `count` replies were taken before.
+    /// Takes everything sent and not taken, with both ends at hand. `count` replies were taken before.
     pub fn drain(mut self, outlet: &mut Outlet<(M, A)>, count: u64, into: &mut Vec<Reply<A>>)
         requires ring { outlet.old.ring ≡ self.ring }
         requires empty { into.old.items ≡ [] }

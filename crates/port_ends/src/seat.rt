@@ -7,7 +7,7 @@ use crossbeam_queue::protocol::{Join, Lesson, Outcome, Protocol, Split};
 use crossbeam_queue::{RuledSegQueue, SegPass};
 use std::collections::LinkedList;
 
-/// What a pass of the port knows. No value of it is made.
+/// What a pass of the port knows. There is no value of it at run time.
 pub struct Seat<Q> {
     pub handles: bool,
     pub number: usize,
@@ -28,7 +28,7 @@ impl<Q> Protocol<(usize, Q), Seat<Q>> for PortLaw {
     ghost first = { handler 0 [] [] };
 }
 
-/// A new client's pass comes off the handler's.
+/// A new client's pass is split off the handler's.
 pub struct Opens;
 
 impl<Q> Split<Seat<Q>> for Opens {

@@ -6,14 +6,14 @@ use std::marker::Model;
 use std::mem;
 use std::snapshot::Snapshot;
 
-// No value of it is kept.
+// There is no value of it at run time.
 #[derive(Drop)]
 pub enum Past<E> {
     Start,
     Then(E, Snapshot<Past<E>>),
 }
 
-/// What happened so far. Contracts see it as a list, and it takes no bytes.
+/// The history so far. Contracts see it as a list. It takes no bytes.
 #[derive(Drop)]
 pub struct Trail<E> {
     past: Snapshot<Past<E>>,

@@ -1,9 +1,6 @@
--- A server that died stays dead, and its port stays closed.
+-- A dead server stays dead, and its port stays closed.
 use Rattle.std.proofs.Common.{◌≡◌, ℕ, zero, suc, ◌+◌, ◌≤◌, Bool, true, List, [], ◌∷◌, take, drop, slice_get, Some, arith, subst, MatchOption, refl, sym, ap, ◌∙◌}
-use Rattle.port_history.specs.Port.{ClientState, PortState, client_state}
-use Rattle.port_history.specs.Serving.{Serving, Run, last_server}
-use Rattle.port_history.specs.History.{Event, events_of, client_now, PutFits, served_by, server_by, served_count, PortHistory}
-use Rattle.port_history.specs.Closing.{ClosedOnceDead, PutsAreClosed}
+use Rattle.port_history.specs.History.{ClientState, PortState, client_state, Serving, Run, last_server, Event, events_of, client_now, PutFits, served_by, server_by, served_count, PortHistory, ClosedOnceDead, PutsAreClosed}
 use Rattle.port_history.specs.declared.step.Step.{Step}
 use Rattle.port_history.specs.declared.step.Step.TheVariants.{Put}
 use Rattle.port_history.specs.declared.step.PutRefused.TheVariants.{Closed}
@@ -20,14 +17,14 @@ slice_get-drop (x ∷ xs) (suc n) k =
 
 module _ {S Q M A : Type 0} (gives : S → Q → M → S → A → Type 0) (has_died : S → Bool)
     (stays_dead : (old new : S) (packet : Q) (moment : M) (answer : A) → gives old packet moment new answer → has_died old ≡ true → has_died new ≡ true) where
-  -- whatever a dead server serves leaves a dead server
+  -- a dead server is still dead after it serves packets
   pub run-dead : (old : S) (served : List (Serving Q M A)) (servers : List S) → Run gives old served servers → has_died old ≡ true → has_died (last_server old servers) ≡ true
   run-dead old [] [] run dead = dead
   run-dead old [] (new ∷ servers) run dead = elim run [ ]
   run-dead old (s ∷ served) [] run dead = elim run [ ]
   run-dead old (s ∷ served) (new ∷ servers) run dead = run-dead new served servers run.1 (stays_dead old new s.packet s.moment s.answer run.0 dead)
 
-  -- a server that is dead after some of the packets is dead after more of them
+  -- a server that is dead after some packets is dead after more packets
   pub dead_later : (old : S) (served : List (Serving Q M A)) (servers : List S) → Run gives old served servers → (i j : ℕ) → i ≤ j
       → has_died (last_server old (take i servers)) ≡ true → has_died (last_server old (take j servers)) ≡ true
   dead_later old [] [] run i j before dead = dead_nil i j dead
@@ -45,7 +42,7 @@ module _ {S Q M A : Type 0} (gives : S → Q → M → S → A → Type 0) (has_
   dead_later old (s ∷ served) (new ∷ servers) run (suc i) (suc j) before dead = dead_later new served servers run.1 i j (omega (arith, before)) dead
 
   module _ (opening : PortState S Q A) (steps : List (Step Q M)) (outcomes : List (Outcome Q A)) (closing : PortState S Q A) (h : PortHistory gives has_died opening steps outcomes closing) where
-    -- once the server has died, each put by a client is refused as closed
+    -- after the server's death, each put by a client is refused as closed
     closed_behind : (i j client : ℕ) (packet : Q) (outcome : Outcome Q A) (c : ClientState A) → i ≤ j
         → has_died (server_by (take i (events_of steps outcomes)) opening.server h.servers) ≡ true
         → slice_get (events_of steps outcomes) j ≡ Some (record { step = Put client packet; outcome = outcome })
@@ -59,12 +56,12 @@ module _ {S Q M A : Type 0} (gives : S → Q → M → S → A → Type 0) (has_
         (h.fits j (record { step = Put client packet; outcome = outcome }) at_j)
         in subst (λ b. PutFits b packet (client_now (served_by (take j events) h.served) (take j events) client c) outcome) still fits
 
-    -- once the server has died, its port is closed
+    -- after its server's death, a port is closed
     pub closed_after_death : ClosedOnceDead h
     closed_after_death count dead i client packet outcome c at_i found =
         closed_behind count (count + i) client packet outcome c (omega arith) dead (sym (slice_get-drop (events_of steps outcomes) count i) ∙ at_i) found
 
-    -- a port whose server has died is closed
+    -- a port with a dead server is closed
     pub dead-closed : has_died opening.server ≡ true → PutsAreClosed opening (events_of steps outcomes)
     dead-closed dead = closed_after_death 0 dead
 

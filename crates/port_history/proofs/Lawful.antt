@@ -1,4 +1,4 @@
--- What happens step by step at a port that was opened is lawful: a history and the lists of a port's ends say the same.
+-- The lists from a step-by-step history of an opened port are lawful.
 use Rattle.std.proofs.Common.{◌≡◌, ℕ, zero, suc, ◌+◌, ◌-◌, ◌<◌, ◌≤◌, cond, List, [], ◌∷◌, ◌++◌, length, take, drop, replicate, slice_get, Some, None, MatchOption, sym, ap, subst, ◌∙◌, refl, inl, inr, arith}
 use Rattle.std.specs.Prelude.{Bool, Option}
 use Rattle.std.specs.List.{filter_map, cons_option}
@@ -6,11 +6,9 @@ use Rattle.std.specs.Option.{option_map}
 use Rattle.std.proofs.lemmas.List.{take-append-drop, length-replicate}
 use Rattle.std.proofs.lemmas.Option.{none-some, same_Some, slice_get_within}
 use Rattle.std.proofs.lemmas.Bool.Decides.{eqb_tells}
-use Rattle.port_history.specs.Port.{ClientState, PortState, client_state, opening_port}
-use Rattle.port_history.specs.Serving.{Serving, packets_by, packets_of, answers_to}
+use Rattle.port_history.specs.History.{ClientState, PortState, client_state, opening_port, Serving, packets_by, packets_of, answers_to, Event, events_of, packet_accepted, accepted_in, taken_in, taken_count, client_now, OutcomeFits, PutFits, PortHistory, served_by, server_by}
 use Rattle.port_history.specs.Lawful.{numbered, ClientLists, Lawful}
 use Rattle.port_history.specs.Lists.{ListsOf}
-use Rattle.port_history.specs.History.{Event, events_of, packet_accepted, accepted_in, taken_in, taken_count, client_now, OutcomeFits, PutFits, PortHistory, served_by, server_by}
 use Rattle.port_history.specs.declared.step.Step.{Step}
 use Rattle.port_history.specs.declared.step.Step.TheVariants.{Put, Serve, Take}
 use Rattle.port_history.specs.declared.step.Outcome.{Outcome}
@@ -19,7 +17,7 @@ use Rattle.port_history.proofs.Numbers.{eq_false}
 use Rattle.port_history.proofs.Serving.{packets_by-append}
 use Rattle.port_history.proofs.Replies.{numbered-append, took_first}
 
--- a client by its place
+-- a client by its position
 pub client_at : {A : Type 0} (clients : List (ClientState A)) (place : ℕ) → client_state clients (place + 1) ≡ slice_get clients place
 client_at clients place =
     ap (λ b. cond b None (slice_get clients (place + 1 - 1))) (eq_false (place + 1) 0 (λ e. absurd (omega (arith, e))))
@@ -34,7 +32,7 @@ length-numbered : {A : Type 0} (n : ℕ) (xs : List A) → length (numbered n xs
 length-numbered n [] = refl
 length-numbered n (x ∷ xs) = ap suc (length-numbered (n + 1) xs)
 
--- what stands in a filtered list comes from the list
+-- an element of a filtered list comes from the list
 from_filter_map : {X Y : Type 0} (f : X → Option Y) (xs : List X) (place : ℕ) (y : Y) → slice_get (filter_map f xs) place ≡ Some y → (i : ℕ) × (x : X) × (slice_get xs i ≡ Some x) × (f x ≡ Some y)
 from_filter_map f [] place y at_place = absurd (none-some y at_place)
 from_filter_map {X} {Y} f (x ∷ xs) place y at_place = go (f x) refl place at_place (λ p. from_filter_map f xs p y)
@@ -65,7 +63,7 @@ module _ {S Q M A : Type 0} (gives : S → Q → M → S → A → Type 0) (has_
         in (omega (arith, w.1), omega (arith, w.1, within, length-replicate count fresh))
   ]
 
-  -- an accepted packet is one of the clients'
+  -- an accepted packet is from one of the clients
   accepted_known : (served : List (Serving Q M A)) (died : Bool) (before : List (Event Q M A)) (step : Step Q M) (outcome : Outcome Q A) (packet : ℕ × Q)
       → OutcomeFits (opening_port server count) served died before step outcome → packet_accepted step outcome ≡ Some packet → (1 ≤ packet.0) × (packet.0 ≤ count)
   accepted_known served died before (Put client q) (Accepted number) packet fits accepted = go (client_state (replicate count fresh) client) refl fits
@@ -83,7 +81,7 @@ module _ {S Q M A : Type 0} (gives : S → Q → M → S → A → Type 0) (has_
   accepted_known served died before (Serve moment) outcome packet fits accepted = absurd (none-some packet accepted)
   accepted_known served died before (Take client) outcome packet fits accepted = absurd (none-some packet accepted)
 
-  -- the packets served and those that wait are the accepted ones
+  -- the served packets and the waiting ones are the accepted ones
   all_accepted : packets_of h.served ++ closing.waiting ≡ accepted_in events
   all_accepted =
       ap (λ l. l ++ closing.waiting) h.in_order ∙ ap (λ l. take (length h.served) (accepted_in events) ++ l) h.closing_waiting

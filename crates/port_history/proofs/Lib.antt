@@ -1,4 +1,5 @@
--- Lemmas on runs and on what events count, and then why a dead port stays closed, replies come in order, a history is lawful, and lawful lists have one.
+-- Lemmas about runs and counts of events. A dead port stays closed, replies come in order, a history is lawful, and
+-- lawful lists have a history.
 pub mod Numbers
 pub mod Serving
 pub mod Events

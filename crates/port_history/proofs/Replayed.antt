@@ -1,5 +1,5 @@
--- Lists that are lawful have a history: first all puts, in the order in which their packets were served and then wait, then
--- the serves, then each client's takes.
+-- Lawful lists have a history: first all puts, in the order of the served and then the waiting packets; then the
+-- serves; then each client's takes.
 use Rattle.std.proofs.Common.{◌≡◌, ◌≢◌, ℕ, zero, suc, ◌+◌, ◌-◌, ◌<◌, ◌≤◌, Bool, false, cond, List, [], ◌∷◌, ◌++◌, map, length, take, drop, replicate, slice_get, Some, None, MatchOption, refl, sym, ap, subst, ◌∙◌, inl, arith, append_assoc, length-append}
 use Rattle.std.specs.Prelude.{Option}
 use Rattle.std.specs.Option.{option_map}
@@ -7,12 +7,10 @@ use Rattle.std.proofs.lemmas.List.{append-nil, take_all, length-map, length-repl
 use Rattle.std.proofs.lemmas.List.Elements.{filter_map-append}
 use Rattle.std.proofs.lemmas.Option.{none-some, same_Some, slice_get-map, slice_get_past, slice_get_within}
 use Rattle.std.proofs.Math.Seq.{take-append_seam, drop-append_seam}
-use Rattle.port_history.specs.Port.{ClientState, PortState, client_state, opening_port}
-use Rattle.port_history.specs.Serving.{Serving, packets_by, packets_of, answers_to, last_server}
+use Rattle.port_history.specs.History.{ClientState, PortState, client_state, opening_port, Serving, packets_by, packets_of, answers_to, last_server, Event, events_of, packet_accepted, moment_served, reply_taken, accepted_in, moments_in, taken_in, served_count, taken_count, queue, client_now, PutFits, take_outcome, OutcomeFits, served_by, server_by, PortHistory}
 use Rattle.port_history.specs.Lawful.{numbered, ClientLists, Lawful}
 use Rattle.port_history.specs.Lists.{ListsOf, HasHistory}
 use Rattle.port_history.specs.Laws.{ListsHaveAHistory}
-use Rattle.port_history.specs.History.{Event, events_of, packet_accepted, moment_served, reply_taken, accepted_in, moments_in, taken_in, served_count, taken_count, queue, client_now, PutFits, take_outcome, OutcomeFits, served_by, server_by, PortHistory}
 use Rattle.port_history.specs.declared.step.Step.{Step}
 use Rattle.port_history.specs.declared.step.Step.TheVariants.{Put, Serve, Take}
 use Rattle.port_history.specs.declared.step.Reply.{Reply}
@@ -22,7 +20,7 @@ use Rattle.port_history.proofs.Numbers.{eq_false}
 use Rattle.port_history.proofs.Serving.{packets_by-append, packets_by-own, packets_by-other}
 use Rattle.port_history.proofs.Lawful.{client_at, slice_get-replicate, history-lawful}
 
--- replies with their numbers, cut in two
+-- numbered replies, split in two
 module _ {A : Type 0} where
   answers-numbered : (n : ℕ) (answers : List A) → map (λ (r : Reply A). r.answer) (numbered n answers) ≡ answers
   answers-numbered n [] = refl
@@ -59,7 +57,7 @@ module _ {A : Type 0} where
       in let m : n + 1 + length front ≡ n + length (r ∷ front) = omega arith
       in numbers_behind (n + 1) front behind answers less ∙ ap (λ k. numbered k (map (λ (r : Reply A). r.answer) behind)) m
 
--- what is one client's, where all have one tag
+-- the values of one client in a list with one client
 module _ {X : Type 0} where
   abbrev tag : ℕ → List X → List (ℕ × X)
   tag client xs = map (λ x. (client, x)) xs
@@ -85,7 +83,7 @@ module _ {S Q M A : Type 0} (gives : S → Q → M → S → A → Type 0) (has_
   again [] = refl
   again (e ∷ events) = ap (λ l. e ∷ l) (again events)
 
-  -- packets that are put behind these ones
+  -- the puts of packets after these ones
   abbrev puts : List (ℕ × Q) → List (ℕ × Q) → List (Event Q M A)
   puts before [] = []
   puts before (p ∷ ps) = record { step = Put p.0 p.1; outcome = Accepted (0 + length (packets_by p.0 before) + 1) } ∷ puts (before ++ p ∷ []) ps
@@ -98,7 +96,7 @@ module _ {S Q M A : Type 0} (gives : S → Q → M → S → A → Type 0) (has_
   takes client [] = []
   takes client (reply ∷ replies) = record { step = Take client; outcome = Taken reply } ∷ takes client replies
 
-  -- the takes of clients from this number on
+  -- the takes of clients from this number
   abbrev all_takes : ℕ → List (ClientLists Q A) → List (Event Q M A)
   all_takes number [] = []
   all_takes number (c ∷ cs) = takes number c.taken ++ all_takes (suc number) cs
@@ -163,7 +161,7 @@ module _ {S Q M A : Type 0} (gives : S → Q → M → S → A → Type 0) (has_
       moments-append (takes number c.taken) (all_takes (suc number) cs) ∙ ap (λ l. l ++ moments_in (all_takes (suc number) cs)) (moments-takes number c.taken)
       ∙ moments-all_takes (suc number) cs
 
-  -- what a client takes among these clients
+  -- the replies that a client takes among these clients
   taken_by : (client number : ℕ) (c : ClientLists Q A) (cs : List (ClientLists Q A))
       → packets_by client (taken_in (all_takes number (c ∷ cs))) ≡ packets_by client (tag number c.taken) ++ packets_by client (taken_in (all_takes (suc number) cs))
   taken_by client number c cs =
@@ -208,7 +206,7 @@ module _ {S Q M A : Type 0} (gives : S → Q → M → S → A → Type 0) (has_
   abbrev Fits : List (Event Q M A) → Event Q M A → Type 0
   Fits before e = OutcomeFits start (served_by before served) (has_died (server_by before opening servers)) before e.step e.outcome
 
-  -- these events fit behind those
+  -- these events fit after those
   abbrev AllFit : List (Event Q M A) → List (Event Q M A) → Type 0
   AllFit before [] = Unit {0}
   AllFit before (e ∷ events) = Fits before e × AllFit (before ++ e ∷ []) events
@@ -306,7 +304,7 @@ module _ {S Q M A : Type 0} (gives : S → Q → M → S → A → Type 0) (has_
             (ap (λ l. l ++ (replies ++ left)) one ∙ append_assoc (packets_by client (taken_in before)) (reply ∷ []) (replies ++ left) ∙ is),
       )
 
-  -- a client that is there has taken the first of its replies
+  -- a client has taken the first of its replies
   record HasTaken (client : ℕ) (lists : ClientLists Q A) : Type 0 where
     there : client_state (replicate count fresh) client ≡ Some fresh
     replies : lists.taken ++ lists.untaken ≡ numbered 1 (answers_to client served)
@@ -401,7 +399,7 @@ module _ {S Q M A : Type 0} (gives : S → Q → M → S → A → Type 0) (has_
       in let so_many : length taken ≡ taken_count (place + 1) events = length-map lists.taken (λ r. r.answer) ∙ ap length (taken_is place lists at)
       in sym (drop-append_seam taken untaken) ∙ ap (drop (length taken)) all ∙ ap (λ n. drop n (answers_to (place + 1) served)) so_many
 
-  -- a client as its lists leave it
+  -- a client after its lists
   abbrev last_client : ClientLists Q A → ClientState A
   last_client lists = record { accepted = length lists.put; taken = length lists.taken; untaken = map (λ (r : Reply A). r.answer) lists.untaken }
 
@@ -498,7 +496,7 @@ module _ {S Q M A : Type 0} (gives : S → Q → M → S → A → Type 0) (has_
   }
 
 module _ {S Q M A : Type 0} (gives : S → Q → M → S → A → Type 0) (has_died : S → Bool) where
-  -- what comes from a history is lawful
+  -- lists from a history are lawful
   history_lawful : (opening : S) (clients : List (ClientLists Q A)) (served : List (Serving Q M A)) (unanswered : List (ℕ × Q)) (closing : S)
       → HasHistory gives has_died opening clients served unanswered closing → Lawful gives opening clients served unanswered closing
   history_lawful opening clients served unanswered closing h =

@@ -1,14 +1,12 @@
--- A client's replies come in the order of its packets, numbered on from those that it took.
+-- A client's replies come in the order of its packets, numbered from the first one not taken.
 use Rattle.std.proofs.Common.{◌≡◌, ℕ, zero, suc, ◌+◌, Bool, List, [], ◌∷◌, ◌++◌, length, take, drop, slice_get, Some, None, MatchOption, sym, ap, subst, ◌∙◌, refl, inl, inr, arith, append_assoc}
 use Rattle.std.specs.Prelude.{Option}
 use Rattle.std.proofs.lemmas.List.{append-nil, take_all, take-append-drop}
 use Rattle.std.proofs.lemmas.List.Elements.{filter_map-append}
 use Rattle.std.proofs.lemmas.Option.{none-some, same_Some}
 use Rattle.std.proofs.lemmas.Bool.Decides.{eqb_tells}
-use Rattle.port_history.specs.Port.{ClientState, PortState, client_state}
-use Rattle.port_history.specs.Serving.{Serving, packets_by, answers_to}
+use Rattle.port_history.specs.History.{ClientState, PortState, client_state, Serving, packets_by, answers_to, Event, events_of, reply_taken, taken_in, taken_count, served_count, served_by, server_by, take_outcome, OutcomeFits, PortHistory}
 use Rattle.port_history.specs.Lawful.{numbered}
-use Rattle.port_history.specs.History.{Event, events_of, reply_taken, taken_in, taken_count, served_count, served_by, server_by, take_outcome, OutcomeFits, PortHistory}
 use Rattle.port_history.specs.declared.step.Step.{Step}
 use Rattle.port_history.specs.declared.step.Step.TheVariants.{Put, Serve, Take}
 use Rattle.port_history.specs.declared.step.Reply.{Reply}
@@ -34,7 +32,7 @@ take-past (suc i) [] e = refl
 take-past zero (y ∷ ys) e = absurd (none-some y (sym e))
 take-past (suc i) (y ∷ ys) e = ap (λ l. y ∷ l) (take-past i ys e)
 
--- what was left of a list is left of a longer one
+-- the rest of a list is a prefix of the rest of a longer list
 pub drop-longer : {X : Type 0} (k : ℕ) (xs ys : List X) (x : X) (rest : List X) → drop k xs ≡ x ∷ rest → drop k (xs ++ ys) ≡ x ∷ (rest ++ ys)
 drop-longer zero xs ys x rest e = ap (λ l. l ++ ys) e
 drop-longer (suc k) [] ys x rest e = cc
@@ -45,12 +43,12 @@ length-take_of zero xs x rest e = refl
 length-take_of (suc k) [] x rest e = cc
 length-take_of (suc k) (z ∷ zs) x rest e = ap suc (length-take_of k zs x rest e)
 
--- the numbers go on
+-- the numbers continue
 pub numbered-append : {A : Type 0} (n : ℕ) (xs ys : List A) → numbered n (xs ++ ys) ≡ numbered n xs ++ numbered (n + length xs) ys
 numbered-append n [] ys = ap (λ k. numbered k ys) (omega arith)
 numbered-append n (x ∷ xs) ys = ap (λ l. record { number = n; answer = x } ∷ l) (numbered-append (n + 1) xs ys ∙ ap (λ k. numbered (n + 1) xs ++ numbered k ys) (omega arith))
 
--- a take that gave a reply found it first among those that were left
+-- a take with a reply took the first remaining one
 pub taken-first : {Q A : Type 0} (taken : ℕ) (left : List A) (reply : Reply A) → Taken reply ≡ take_outcome {Q = Q} taken left
     → (answer : A) × (rest : List A) × (left ≡ answer ∷ rest) × (reply ≡ record { number = taken + 1; answer = answer })
 taken-first taken [] reply e = cc
@@ -59,7 +57,7 @@ taken-first {Q} {A} taken (answer ∷ rest) reply e =
     in (answer, rest, refl, ap (λ p. p.1) (same_Some (0, reply) (0, record { number = taken + 1; answer = answer }) both))
 
 module _ {S Q M A : Type 0} (opening : PortState S Q A) (served : List (Serving Q M A)) (client : ℕ) (c : ClientState A) (found : client_state opening.clients client ≡ Some c) where
-  -- the replies for this client, those that were there and those to the packets that were served
+  -- the replies for this client: the old ones, then those to the served packets
   abbrev pub replies_for : List A
   replies_for = c.untaken ++ answers_to client served
 
@@ -95,7 +93,7 @@ module _ {S Q M A : Type 0} (opening : PortState S Q A) (served : List (Serving 
       length-push [] x = refl
       length-push (y ∷ ys) x = ap suc (length-push ys x)
 
-  -- what is left of the replies so far is left of all
+  -- the remaining replies so far are remaining replies of all
   left_of_all : (before : List (Event Q M A)) (k : ℕ) (answer : A) (rest : List A) → drop k (c.untaken ++ answers_to client (served_by before served)) ≡ answer ∷ rest
       → drop k replies_for ≡ answer ∷ (rest ++ answers_to client (drop (served_count before) served))
   left_of_all before k answer rest left =

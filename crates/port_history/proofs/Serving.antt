@@ -1,8 +1,8 @@
--- Lemmas on runs, and on what is a client's in a list.
+-- Lemmas about runs, and about a client's values in a list.
 use Rattle.std.proofs.Common.{◌≡◌, ◌≢◌, ℕ, suc, cond, List, [], ◌∷◌, ◌++◌, map, length, sym, ap, ◌∙◌, refl}
 use Rattle.std.proofs.lemmas.List.{map-append}
 use Rattle.std.proofs.lemmas.List.Elements.{filter-append}
-use Rattle.port_history.specs.Serving.{Serving, packets_by, answers_to, Run, last_server}
+use Rattle.port_history.specs.History.{Serving, packets_by, answers_to, Run, last_server}
 use Rattle.port_history.proofs.Numbers.{eq_true, eq_false}
 
 pub run-length : {S Q M A : Type 0} (gives : S → Q → M → S → A → Type 0) (old : S) (served : List (Serving Q M A)) (servers : List S) → Run gives old served servers → length servers ≡ length served
@@ -28,7 +28,7 @@ packets_by-append n xs ys = ap (map _) (filter-append _ xs ys) ∙ map-append _ 
 pub answers_to-append : {Q M A : Type 0} (n : ℕ) (xs ys : List (Serving Q M A)) → answers_to n (xs ++ ys) ≡ answers_to n xs ++ answers_to n ys
 answers_to-append n xs ys = ap (packets_by n) (map-append _ xs ys) ∙ packets_by-append n _ _
 
--- a list of one packet has it for its client, and for no other
+-- a list of one packet has it for its own client, and for no other
 pub packets_by-own : {Q : Type 0} (n number : ℕ) (x : Q) → number ≡ n → packets_by number ((n, x) ∷ []) ≡ x ∷ []
 packets_by-own {Q} n number x e = ap (λ b. map (λ (p : ℕ × Q). p.1) (cond b ((n, x) ∷ []) [])) (eq_true n number (sym e))
 

@@ -1,9 +1,8 @@
--- A port and what is served behind it, then its steps, one and in a history, and its death; at last the lists of its ends, and the laws.
-pub mod Port
-pub mod Serving
-pub mod Steps
+-- A port and what its server has served; its steps, one by one and as a history; its server's death; the lists of its
+-- ends; and the laws.
 pub mod History
-pub mod Closing
+pub mod Steps
+pub mod Codes
 pub mod Lawful
 pub mod Lists
 pub mod Laws

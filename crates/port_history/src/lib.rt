@@ -1,4 +1,5 @@
-//! What stands behind a message port: the trait of servers, the steps of a port with their outcomes, and what a history of a port is.
+//! The model of a message port: the trait of servers, the steps of a port with their outcomes, and what a history of a
+//! port is.
 #![tactic(auto)]
 
 mod laws;

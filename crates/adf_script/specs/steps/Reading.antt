@@ -1,10 +1,10 @@
--- What it is to read fields off the front of bytes.
+-- Fields at the start of bytes.
 use Rattle.std.specs.Prelude.{◌≡◌, ℕ, ℤ, List, [], ◌∷◌, ◌++◌, Option, MatchOption}
 use Rattle.ados_name.specs.declared.Date3.{Date3}
 use Rattle.adf_script.specs.Pieces.{IsSplit}
 use Rattle.adf_script.specs.Grammar.{Field, Value, Number, Signed, Text, LongText, Zeros, SpellsFields}
 
--- a text in quotes behind a space, and what stands behind it
+-- a text in quotes after a space, and the bytes after it
 abbrev pub IsQuoted : List ℕ → List ℕ → List ℕ → Type 0
 IsQuoted bytes text behind = (line : List ℕ) × (bytes ≡ 32 ∷ (34 ∷ line)) × IsSplit 34 line text behind
 
@@ -47,19 +47,19 @@ abbrev pub a_target : ℕ × ℤ × ℤ → List Field
 a_target target = Value target.0 ∷ Signed target.1 ∷ Signed target.2 ∷ []
 
 module _ {A : Type 0} (values : List (Option ℕ)) (kind : A → List Field) (bytes : List ℕ) where
-  -- whatever fields follow, none of this kind are spelled in front of them
+  -- the bytes do not start with fields of this kind
   abbrev pub ReadsNone : Type 0
   ReadsNone = (x : A) (fields : List Field) → SpellsFields values (kind x ++ fields) bytes → ⊥
 
-  -- these are, and what stands behind fields of this kind stands behind these
+  -- the bytes start with these fields, and no others of this kind; `behind` follows them
   pub record Reads (x : A) (behind : List ℕ) : Type 0 where
     pub spells : (fields : List Field) → SpellsFields values fields behind → SpellsFields values (kind x ++ fields) bytes
     pub goes_on : (y : A) (fields : List Field) → SpellsFields values (kind y ++ fields) bytes → SpellsFields values fields behind
 
-  -- no field of this kind is spelled to the end
+  -- the bytes are no fields of this kind
   abbrev pub SpellsNone : Type 0
   SpellsNone = (x : A) → SpellsFields values (kind x) bytes → ⊥
 
-  -- the fields to the end, where they are of this kind
+  -- the fields up to the end, if they are of this kind
   abbrev pub ReadsToEnd : Option A → Type 0
   ReadsToEnd found = MatchOption found SpellsNone (λ x. SpellsFields values (kind x) bytes)

@@ -1,8 +1,8 @@
--- The words that lines begin with, and the packets that each puts.
+-- The words at the start of lines, and the packets of each.
 use Rattle.std.specs.Prelude.{◌≡◌, ℕ, ℤ, List, Option, codes, MatchOption}
 use Rattle.ados_name.specs.declared.Date3.{Date3}
-use Rattle.ados_packet.specs.declared.packet.Packet.{Packet}
-use Rattle.ados_packet.specs.declared.packet.Packet.TheVariants as packet
+use Rattle.ados_model.specs.declared.packet.Packet.{Packet}
+use Rattle.ados_model.specs.declared.packet.Packet.TheVariants as packet
 use Rattle.adf_script.specs.declared.words.Word.{Word}
 use Rattle.adf_script.specs.declared.words.Word.TheVariants.{Die, Locate, RenameDisk, Free, Delete, Rename, Copy, Protect, MakeDir, Examine, Next, DiskInfo, Info, Comment, Parent, Date, Same, Read, Write, Update, Input, Output, End, Seek, Size, Other}
 use Rattle.adf_script.specs.Grammar.{form_of, SpellsFields}
@@ -35,7 +35,7 @@ spelling Seek = codes "seek"
 spelling Size = codes "size"
 spelling Other = codes "other"
 
--- a fact of each packet whose line begins with the word
+-- a fact about each packet whose line starts with the word
 abbrev pub EachOf : Word → (Packet → Type 0) → Type 0
 EachOf Die Fact = Fact packet.Die
 EachOf Locate Fact = (lock : ℕ) (path : List ℕ) (mode : ℤ) → Fact (packet.LocateObject lock path mode)
@@ -64,11 +64,11 @@ EachOf Seek Fact = (handle : ℕ) (offset mode : ℤ) → Fact (packet.Seek hand
 EachOf Size Fact = (handle : ℕ) (offset mode : ℤ) → Fact (packet.SetFileSize handle offset mode)
 EachOf Other Fact = (action : ℤ) → Fact (packet.Other action)
 
--- behind the word these bytes put no packet, where the replies before have these values
+-- after the word, these bytes are no packet, with these values of earlier replies
 abbrev pub PutsNone : Word → List (Option ℕ) → List ℕ → Type 0
 PutsNone word values rest = EachOf word (λ packet. SpellsFields values (form_of packet).1 rest → ⊥)
 
--- behind the word these bytes put the packet, where the replies before have these values; or they put none, where there is none
+-- after the word, these bytes are the packet, with these values of earlier replies; or they are none
 abbrev pub Puts : Word → List (Option ℕ) → List ℕ → Option Packet → Type 0
 Puts word values rest found =
     MatchOption found

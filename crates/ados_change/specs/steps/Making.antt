@@ -1,13 +1,13 @@
--- The block of an entry as it is made.
+-- The block of a new entry.
 use Rattle.std.specs.Prelude.{◌≡◌, ◌⊎◌, ℕ, ◌+◌, ◌/◌, ◌<◌, ◌≤◌, List, length}
-use Rattle.adf_block.specs.Image.{byte_at, block_sum}
-use Rattle.adf_block.specs.Fields.{primary_type, own_key, HasText, name_byte, parent_key, secondary_type, header_type, long_byte, own_key_long, sum_long, date_long, parent_long, secondary_type_long}
+use Rattle.adf_block.specs.Image.{byte_at, block_sum, primary_type, own_key, HasText, parent_key, secondary_type}
+use Rattle.adf_block.specs.Layout.{name_byte, header_type, long_byte, own_key_long, sum_long, date_long, parent_long, secondary_type_long, block_bytes}
 use Rattle.ados_name.specs.declared.Date3.{Date3}
-use Rattle.ados_tree.specs.Dates.{date_at}
-use Rattle.ados_tree.specs.Tree.{Content}
-use Rattle.ados_tree.specs.Stands.{type_of}
+use Rattle.ados_model.specs.Stands.{date_at, type_of}
+use Rattle.ados_model.specs.Tree.{Content}
 
--- the bytes of the fields that a new entry has, for a name of n bytes: type, own number, sum, date, name, directory and secondary type
+-- the bytes of a new entry's fields for a name with n bytes: primary type, own number, checksum, date, name, directory
+-- and secondary type
 abbrev pub IsNewField : ℕ → ℕ → Type 0
 IsNewField n i =
     (i / 4 < own_key_long + 1)
@@ -19,15 +19,15 @@ IsNewField n i =
 abbrev pub IsHeadField : ℕ → Type 0
 IsHeadField i = (i / 4 < own_key_long + 1) ⊎ (((long_byte date_long ≤ i) × (i < long_byte (date_long + 3))) ⊎ (i / 4 ≡ secondary_type_long))
 
--- a block with these fields; each further byte is 0
+-- a block with these fields; every other byte is 0
 pub record IsHead (image : List ℕ) (key : ℕ) (content : Content) (moment : Date3) : Type 0 where
   pub primary : primary_type image key ≡ header_type
   pub key_field : own_key image key ≡ key
   pub date : date_at image key date_long ≡ moment
   pub secondary : secondary_type image key ≡ type_of content
-  pub zeros : (i : ℕ) → i < 512 → ¬ IsHeadField i → byte_at image key i ≡ 0
+  pub zeros : (i : ℕ) → i < block_bytes → ¬ IsHeadField i → byte_at image key i ≡ 0
 
--- the block is that of an entry with this name, date and directory; each further byte is 0
+-- the block of an entry with this name, date and directory; every other byte is 0
 pub record IsNewEntry (image : List ℕ) (key dir : ℕ) (name : List ℕ) (content : Content) (moment : Date3) : Type 0 where
   pub primary : primary_type image key ≡ header_type
   pub key_field : own_key image key ≡ key
@@ -36,4 +36,4 @@ pub record IsNewEntry (image : List ℕ) (key dir : ℕ) (name : List ℕ) (cont
   pub named : HasText image key name_byte name
   pub parent : parent_key image key ≡ dir
   pub secondary : secondary_type image key ≡ type_of content
-  pub zeros : (i : ℕ) → i < 512 → ¬ IsNewField (length name) i → byte_at image key i ≡ 0
+  pub zeros : (i : ℕ) → i < block_bytes → ¬ IsNewField (length name) i → byte_at image key i ≡ 0

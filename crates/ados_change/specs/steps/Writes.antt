@@ -1,30 +1,30 @@
--- The steps of a change of entries: what each writes into one block.
+-- The bytes that each step of a change of entries writes into one block.
 use Rattle.std.specs.Prelude.{◌≡◌, ◌⊎◌, ℕ, ◌+◌, ◌/◌, ◌<◌, ◌≤◌, List, length}
-use Rattle.adf_block.specs.Image.{block_sum}
-use Rattle.adf_block.specs.Fields.{HasText, name_byte, parent_key, sum_long, parent_long}
+use Rattle.adf_block.specs.Image.{block_sum, HasText, parent_key}
+use Rattle.adf_block.specs.Layout.{name_byte, sum_long, parent_long}
 use Rattle.adf_block.specs.Frame.{SameBut}
 use Rattle.ados_name.specs.declared.Date3.{Date3}
-use Rattle.ados_tree.specs.Dates.{date_at}
+use Rattle.ados_model.specs.Stands.{date_at}
 
 -- the bytes of these longs
 abbrev pub AtLongs : (ℕ → ℕ → Type 0) → ℕ → ℕ → Type 0
 AtLongs At b i = At b (i / 4)
 
--- the longs of a date whose days stand in long i of a block, and of the block's sum
+-- the three longs of a date from long i of a block, and the block's checksum
 abbrev pub AtDate : ℕ → ℕ → ℕ → ℕ → Type 0
 AtDate block i b j = (b ≡ block) × ((j ≡ sum_long) ⊎ ((i ≤ j) × (j < i + 3)))
 
--- a date was put into a block, and the block's sum settled
+-- a date was written into a block, and its checksum is right
 pub record Dated (block i : ℕ) (moment : Date3) (old new : List ℕ) : Type 0 where
   pub rest : SameBut (AtLongs (AtDate block i)) old new
   pub date : date_at new block i ≡ moment
   pub summed : block_sum new block ≡ 0
 
--- the bytes of a name of n bytes, of the directory's number and of the sum
+-- the bytes of a name with n bytes, of the directory's number and of the checksum
 abbrev pub AtTitle : ℕ → ℕ → ℕ → ℕ → Type 0
 AtTitle key n b i = (b ≡ key) × ((i / 4 ≡ sum_long) ⊎ (((name_byte ≤ i) × (i < name_byte + 1 + n)) ⊎ (i / 4 ≡ parent_long)))
 
--- an entry got a name and a directory, and its sum was settled
+-- an entry got a name and a directory, and its checksum is right
 pub record Titled (key dir : ℕ) (name : List ℕ) (old new : List ℕ) : Type 0 where
   pub rest : SameBut (AtTitle key (length name)) old new
   pub named : HasText new key name_byte name

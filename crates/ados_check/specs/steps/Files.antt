@@ -1,22 +1,22 @@
--- What is known of a file before its check, and what the parts of the check find out.
+-- What is known of a file before its check, and the results of the parts of that check.
 use Rattle.std.specs.Prelude.{◌≡◌, ◌≢◌, ℕ, suc, ◌+◌, ◌*◌, ◌<◌, ◌≤◌, List, length, slice_index, Bool, false}
-use Rattle.adf_block.specs.Image.{long, block_sum}
-use Rattle.adf_block.specs.Chained.{Chained}
-use Rattle.adf_block.specs.Fields.{primary_type, pointer_count, sequence_number, held_count, next_data, pointer, file_size, next_extension, header_type, table_longs, ofs_room}
-use Rattle.ados_data.specs.File.{HasExtension, HasOfsData, pointer_block, data_blocks}
-use Rattle.ados_tree.specs.declared.role.Role.TheVariants.{Extension}
-use Rattle.ados_tree.specs.Faults.{InImage, IsDataAt, IsFile, IsOfs, IsPointer, Reached}
+use Rattle.adf_block.specs.Image.{long, block_sum, Chained, primary_type, pointer_count, sequence_number, held_count, pointer, file_size}
+use Rattle.adf_block.specs.Layout.{next_data, next_extension, header_type, table_longs, ofs_room}
+use Rattle.ados_model.specs.Stands.{HasExtension, HasOfsData}
+use Rattle.ados_model.specs.File.{pointer_block, data_blocks}
+use Rattle.ados_model.specs.declared.role.Role.TheVariants.{Extension}
+use Rattle.ados_model.specs.Faults.{InImage, IsDataAt, IsFile, IsOfs, IsPointer, Reached}
 use Rattle.ados_check.specs.Marks.{IsSoundData}
 
 -- pointer block q of the file has a pointer i
 abbrev pub HasPointer : List ℕ → ℕ → ℕ → ℕ → Type 0
 HasPointer image file q i = IsPointer image (pointer_block image file q) i
 
--- the data block that pointer i of pointer block q of the file names
+-- the data block in pointer i of pointer block q of the file
 abbrev pub pointed_block : List ℕ → ℕ → ℕ → ℕ → ℕ
 pointed_block image file q i = pointer image (pointer_block image file q) i
 
--- a file of which each block is reached, inside the image and right by itself, with so many extension blocks, all different
+-- a file whose blocks are all reached, inside the image and sound, with this many distinct extension blocks
 pub record IsReachedFile (image : List ℕ) (file : ℕ) : Type 0 where
   pub is_file : IsFile image file
   pub primary : primary_type image file ≡ header_type
@@ -30,14 +30,14 @@ pub record IsReachedFile (image : List ℕ) (file : ℕ) : Type 0 where
   pub data_inside : (q i : ℕ) → q ≤ extensions → HasPointer image file q i → InImage image (pointed_block image file q i)
   pub data_fields : IsOfs image → (q i : ℕ) → q ≤ extensions → HasPointer image file q i → IsSoundData image (pointed_block image file q i) file
 
--- the count of a pointer block: at most what a table has, as many where another block follows, and not 0 but in a header
+-- the count of a pointer block: at most 72, exactly 72 if another block follows, and positive unless it is the header
 pub record HasCount (image : List ℕ) (block : ℕ) (is_header : Bool) (count : ℕ) : Type 0 where
   pub counted : pointer_count image block ≡ count
   pub few : count ≤ table_longs
   pub full : long image block next_extension ≢ 0 → count ≡ table_longs
   pub some : is_header ≡ false → 0 < count
 
--- the header and extension blocks count so many data blocks, a full table in each but the last
+-- the header and the extension blocks have this many data pointers, 72 in each but the last
 pub record HasCounts (image : List ℕ) (file count : ℕ) : Type 0 where
   pub extensions : ℕ
   pub ends : pointer_block image file (suc extensions) ≡ 0
@@ -47,14 +47,14 @@ pub record HasCounts (image : List ℕ) (file count : ℕ) : Type 0 where
   pub few : pointer_count image (pointer_block image file extensions) ≤ table_longs
   pub some : 0 < extensions → 0 < pointer_count image (pointer_block image file extensions)
 
--- the block is the one at this place of the data blocks of some file, which are so many
+-- the block is the data block at this position of some file with this many data blocks
 pub record IsDataOf (image : List ℕ) (block place count : ℕ) : Type 0 where
   pub file : ℕ
   pub blocks : List ℕ
   pub at : IsDataAt image file blocks place block
   pub counted : length blocks ≡ count
 
--- an OFS data block that has its place, and holds as much as it may
+-- an OFS data block with the right sequence number and number of bytes
 pub record HasPlace (image : List ℕ) (block place count held : ℕ) : Type 0 where
   pub sequence : sequence_number image block ≡ place + 1
   pub holds : held_count image block ≡ held
@@ -62,7 +62,7 @@ pub record HasPlace (image : List ℕ) (block place count held : ℕ) : Type 0 w
   pub few : held ≤ ofs_room
   pub full : place + 1 < count → held ≡ ofs_room
 
--- the data blocks of an OFS file lead from one to the next, and have the fields of their places
+-- the data blocks of an OFS file link to each other in order, and have the fields of their positions
 pub record IsLinked (image : List ℕ) (file : ℕ) : Type 0 where
   pub chain : Chained image next_data (long image file next_data) (data_blocks image file)
   pub fields : (i : ℕ) → i < length (data_blocks image file) → HasOfsData image file (file_size image file) i (slice_index (data_blocks image file) i)

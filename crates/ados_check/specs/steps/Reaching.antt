@@ -1,9 +1,9 @@
--- How far a walk has come: which blocks are marked, and which of their places are left.
+-- The progress of a walk: the marked blocks, and the places that are left.
 use Rattle.std.specs.Prelude.{◌≡◌, ◌≢◌, ℕ, ◌+◌, ◌*◌, ◌≤◌, ◌⊎◌, List, length, sum_by, Contains, AllPairs, Option, Some, is_some, if◌then◌else◌}
 use Rattle.adf_block.specs.Image.{block_count, long}
-use Rattle.ados_tree.specs.declared.role.Role.{Role}
-use Rattle.ados_tree.specs.declared.role.Role.TheVariants.{Root}
-use Rattle.ados_tree.specs.Faults.{IsPlace, LeadsInside, Reached, root_of}
+use Rattle.ados_model.specs.declared.role.Role.{Role}
+use Rattle.ados_model.specs.declared.role.Role.TheVariants.{Root}
+use Rattle.ados_model.specs.Faults.{IsPlace, LeadsInside, Reached, root_of}
 use Rattle.ados_check.specs.declared.mark.Mark.{Mark}
 use Rattle.ados_check.specs.Marks.{mark_at, IsMarkedFor, IsSound}
 
@@ -11,7 +11,7 @@ use Rattle.ados_check.specs.Marks.{mark_at, IsMarkedFor, IsSound}
 abbrev pub root_mark : Mark
 root_mark = record { role = Root; holder = 0; long = 0 }
 
--- the long that a mark notes is a place that names the block, and is no longer left
+-- the long in a mark is a place that names the block, and it was visited
 pub record IsNoted (image : List ℕ) (marks : List (Option Mark)) (left : ℕ → ℕ → Type 0) (block : ℕ) (mark : Mark) : Type 0 where
   pub holder : Mark
   pub held : mark_at marks mark.holder ≡ Some holder
@@ -19,19 +19,19 @@ pub record IsNoted (image : List ℕ) (marks : List (Option Mark)) (left : ℕ �
   pub names : long image mark.holder mark.long ≡ block
   pub passed : ¬ left mark.holder mark.long
 
--- each place of a marked block that is not left names a block of the image
+-- each visited place of a marked block names a block inside the image
 abbrev pub PassedAreInside : List ℕ → List (Option Mark) → (ℕ → ℕ → Type 0) → Type 0
 PassedAreInside image marks left =
     (block i : ℕ) (mark : Mark) (next : Role) → mark_at marks block ≡ Some mark → IsPlace image block mark.role i next → ¬ left block i
     → LeadsInside image block i
 
--- each place of a marked block that is not left names a block that is marked for it
+-- each visited place of a marked block names a block that is marked with it
 abbrev pub PassedAreMarked : List ℕ → List (Option Mark) → (ℕ → ℕ → Type 0) → Type 0
 PassedAreMarked image marks left =
     (block i : ℕ) (mark : Mark) (next : Role) → mark_at marks block ≡ Some mark → IsPlace image block mark.role i next → ¬ left block i
     → IsMarkedFor marks (long image block i) next block i
 
--- the marked blocks are reached and sound, and each place of theirs that is not left names a block that is marked for it
+-- the marked blocks are reached and sound, and each of their visited places names a block that is marked with it
 pub record AreReachedBut (image : List ℕ) (marks : List (Option Mark)) (left : ℕ → ℕ → Type 0) : Type 0 where
   pub size : length marks ≡ block_count image
   pub root : mark_at marks (root_of image) ≡ Some root_mark
@@ -41,30 +41,30 @@ pub record AreReachedBut (image : List ℕ) (marks : List (Option Mark)) (left :
   pub inside : PassedAreInside image marks left
   pub marked : PassedAreMarked image marks left
 
--- how many blocks have no mark
+-- the number of blocks without a mark
 abbrev pub unmarked : List (Option Mark) → ℕ
 unmarked marks = sum_by (λ mark. if is_some mark then 0 else 1) marks
 
--- what is left of a walk, as a number: a block without a mark may still be marked, and gone through
+-- a bound on the remaining steps: each block without a mark may still become pending and be visited
 abbrev pub work : List (Option Mark) → List ℕ → ℕ
 work marks pending = 2 * unmarked marks + length pending
 
--- the pending blocks are marked, each stands once, and there is a cell for each block that may still be marked
+-- the pending blocks are marked and distinct, and there is room for all blocks without a mark
 pub record ArePending (image : List ℕ) (marks : List (Option Mark)) (pending : List ℕ) : Type 0 where
   pub marked : (block : ℕ) → Contains pending block → (mark : Mark) × (mark_at marks block ≡ Some mark)
   pub once : AllPairs (λ block other. block ≢ other) pending
   pub room : length pending + unmarked marks ≤ block_count image
 
--- between two blocks: the places of the pending ones are left
+-- between two blocks: the places of the pending blocks are left
 pub record IsBetween (image : List ℕ) (marks : List (Option Mark)) (pending : List ℕ) : Type 0 where
   pub but : AreReachedBut image marks (λ block i. Contains pending block)
   pub waiting : ArePending image marks pending
 
--- while a block is in hand, its places from a long on are left, and those of the pending ones
+-- while a block is visited: its places from a long on are left, and those of the pending blocks
 abbrev pub IsLeft : List ℕ → ℕ → ℕ → ℕ → ℕ → Type 0
 IsLeft pending hand from block i = Contains pending block ⊎ ((block ≡ hand) × (from ≤ i))
 
--- a block in hand, which is marked in its role, and its places below a long gone through
+-- a block being visited: it is marked with its role, and its places below a long are done
 pub record IsInHand (image : List ℕ) (marks : List (Option Mark)) (pending : List ℕ) (hand : ℕ) (role : Role) (from : ℕ) : Type 0 where
   pub mark : Mark
   pub held : mark_at marks hand ≡ Some mark

@@ -1,27 +1,27 @@
 -- Which bytes of a block an edit of its fields may change.
 use Rattle.std.specs.Prelude.{◌≡◌, ℕ, ◌/◌, ◌⊎◌, ◌<◌, ◌≤◌}
-use Rattle.adf_block.specs.Fields.{primary_type_long, own_key_long, sum_long, secondary_type_long, parent_long, ofs_data_byte}
+use Rattle.adf_block.specs.Layout.{primary_type_long, own_key_long, sum_long, secondary_type_long, parent_long, ofs_data_byte}
 use Rattle.adf_block.specs.declared.Format.{Format}
 use Rattle.adf_block.specs.declared.Format.TheVariants.{Ofs}
 
--- the bytes of long i of block b, or of its sum field
+-- the bytes of long i of block b, and of its checksum
 abbrev pub AtField : ℕ → ℕ → ℕ → ℕ → Type 0
 AtField b i c k = (c ≡ b) × ((k / 4 ≡ i) ⊎ (k / 4 ≡ sum_long))
 
--- the bytes of longs i and j of block b, or of its sum field
+-- the bytes of longs i and j of block b, and of its checksum
 abbrev pub AtFields : ℕ → ℕ → ℕ → ℕ → ℕ → Type 0
 AtFields b i j c k = (c ≡ b) × ((k / 4 ≡ i) ⊎ ((k / 4 ≡ j) ⊎ (k / 4 ≡ sum_long)))
 
--- the bytes of the fields of extension block b, but for its pointers and the next extension
+-- the bytes of extension block b's fields without its pointers and its link
 abbrev pub AtExtensionFields : ℕ → ℕ → ℕ → Type 0
 AtExtensionFields b c k =
     (c ≡ b) × ((k / 4 ≡ primary_type_long) ⊎ ((k / 4 ≡ own_key_long) ⊎ ((k / 4 ≡ sum_long)
     ⊎ ((k / 4 ≡ parent_long) ⊎ (k / 4 ≡ secondary_type_long)))))
 
--- the bytes of the fields of OFS data block b
+-- the bytes of OFS data block b's fields
 abbrev pub AtDataFields : Format → ℕ → ℕ → ℕ → Type 0
 AtDataFields format b c k = (format ≡ Ofs) × (c ≡ b) × (k < ofs_data_byte)
 
--- bytes low to high - 1 of data block b, and in OFS its sum field
+-- bytes low to high - 1 of data block b, and in OFS its checksum
 abbrev pub AtData : Format → ℕ → ℕ → ℕ → ℕ → ℕ → Type 0
 AtData format b low high c k = (c ≡ b) × (((low ≤ k) × (k < high)) ⊎ ((format ≡ Ofs) × (k / 4 ≡ sum_long)))

@@ -1,11 +1,12 @@
--- How far the links of a file's header and extension blocks were followed, and data blocks at their places.
+-- The progress along the links of a file's header and extension blocks; and data blocks at their positions.
 use Rattle.std.specs.Prelude.{◌≡◌, ◌≢◌, ℕ, ◌+◌, ◌<◌, ◌⊎◌, List, length, All, Contains, true}
 use Rattle.std.specs.Ordering.{nat_cmp}
 use Rattle.std.specs.BTreeSet.{BTreeSet, contains}
-use Rattle.adf_block.specs.Fields.{held_count, ofs_room}
-use Rattle.ados_tree.specs.Faults.{AreDistinct, FurtherAreInside, InImage, IsDataAt, LeadOn}
+use Rattle.adf_block.specs.Image.{held_count}
+use Rattle.adf_block.specs.Layout.{ofs_room}
+use Rattle.ados_model.specs.Faults.{AreDistinct, FurtherAreInside, InImage, IsDataAt, LeadOn}
 
--- the first blocks that the links reach, each once
+-- the first blocks along the links, each once
 pub record IsChain (image : List ℕ) (link : ℕ) (blocks : List ℕ) : Type 0 where
   pub not_empty : 0 < length blocks
   pub linked : LeadOn image link blocks
@@ -13,15 +14,15 @@ pub record IsChain (image : List ℕ) (link : ℕ) (blocks : List ℕ) : Type 0 
   pub once : AreDistinct blocks
   pub inside : All (InImage image) blocks
 
--- the set has exactly the blocks of the list
+-- the set has exactly the blocks in the list
 pub record HasMet (met : BTreeSet ℕ) (blocks : List ℕ) : Type 0 where
   pub listed : (block : ℕ) → contains nat_cmp met block ≡ true → Contains blocks block
   pub held : (block : ℕ) → Contains blocks block → contains nat_cmp met block ≡ true
 
--- place i of the data blocks of some file is a block
+-- the block is data block i of some file
 abbrev pub IsPlaced : List ℕ → List ℕ → ℕ → ℕ → Type 0
 IsPlaced image blocks i block = (file : ℕ) × IsDataAt image file blocks i block
 
--- it holds nothing, or others follow and it is not full
+-- the data block is empty, or is not full although others follow
 abbrev pub HoldsTooLittle : List ℕ → List ℕ → ℕ → ℕ → Type 0
 HoldsTooLittle image blocks i block = (held_count image block ≡ 0) ⊎ ((held_count image block ≢ ofs_room) × (i + 1 < length blocks))

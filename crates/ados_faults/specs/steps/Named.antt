@@ -1,18 +1,19 @@
--- What is known of the names of entries.
+-- Facts about the names of entries.
 use Rattle.std.specs.Prelude.{◌≡◌, ◌≢◌, ℕ, List}
-use Rattle.adf_block.specs.Fields.{text_at, name_byte}
+use Rattle.adf_block.specs.Whole.{text_at}
+use Rattle.adf_block.specs.Layout.{name_byte}
 use Rattle.ados_name.specs.Name.{slot}
-use Rattle.ados_tree.specs.declared.role.Role.TheVariants.{Entry}
-use Rattle.ados_tree.specs.Faults.{HasShortName, InImage, Reached}
+use Rattle.ados_model.specs.declared.role.Role.TheVariants.{Entry}
+use Rattle.ados_model.specs.Faults.{HasShortName, InImage, Reached}
 use Rattle.ados_check.specs.Entries.{upper_name}
 use Rattle.ados_faults.specs.declared.names.EntryName.{EntryName}
 
--- the name is short enough, and its slot another one
+-- the name is short enough, and has another slot than this chain
 pub record IsOfOtherSlot (image : List ℕ) (block chain : ℕ) : Type 0 where
   pub short : HasShortName image block
   pub wrong : slot (text_at image block name_byte) ≢ chain
 
--- the block is an entry of the directory, and that is its name
+-- the block is an entry of the directory, with this name
 pub record IsEntryName (image : List ℕ) (entry : EntryName) : Type 0 where
   pub inside : InImage image entry.block
   pub slot_of_chain : ℕ
@@ -20,7 +21,7 @@ pub record IsEntryName (image : List ℕ) (entry : EntryName) : Type 0 where
   pub short : HasShortName image entry.block
   pub spelt : entry.name ≡ upper_name image entry.block
 
--- two blocks of one directory with one name
+-- two blocks in one directory with the same name
 pub record AreDuplicates (entry other : EntryName) : Type 0 where
   pub dir : entry.dir ≡ other.dir
   pub name : entry.name ≡ other.name

@@ -1,12 +1,12 @@
--- Cells for the faults of an image that were found.
+-- Cells for the faults found in an image.
 use Rattle.std.specs.Prelude.{◌≡◌, ℕ, ◌+◌, ◌*◌, ◌<◌, List, Bool, true, false, length, slice_index_or, All}
 use Rattle.adf_block.specs.Image.{block_count}
-use Rattle.ados_tree.specs.declared.fault.FaultKind.{FaultKind}
-use Rattle.ados_tree.specs.Faults.{Shows}
-use Rattle.ados_tree.specs.declared.fault.VolumeFault.{VolumeFault}
+use Rattle.ados_model.specs.declared.fault.FaultKind.{FaultKind}
+use Rattle.ados_model.specs.Faults.{Shows}
+use Rattle.ados_model.specs.declared.fault.VolumeFault.{VolumeFault}
 use Rattle.ados_faults.specs.Listed.{ListsFaults, rank}
 
--- the cell of a kind of fault of a block
+-- the cell for a kind of fault and a block
 abbrev pub cell_of : FaultKind → ℕ → ℕ
 cell_of kind block = 17 * block + rank kind
 
@@ -18,7 +18,7 @@ IsNoted cells cell = slice_index_or cells cell false ≡ true
 abbrev pub HasNote : List Bool → Type 0
 HasNote cells = (cell : ℕ) × IsNoted cells cell
 
--- a cell for each kind of each block, and the image shows each fault that was found
+-- there is a cell for each kind and block, and the image shows each fault that was noted
 pub record AreNoted (image : List ℕ) (cells : List Bool) : Type 0 where
   pub size : length cells ≡ 17 * block_count image
   pub shown : (kind : FaultKind) (block : ℕ) → IsNoted cells (cell_of kind block) → Shows image kind block
@@ -27,7 +27,7 @@ pub record AreNoted (image : List ℕ) (cells : List Bool) : Type 0 where
 abbrev pub cell_at : VolumeFault → ℕ
 cell_at fault = cell_of fault.kind fault.block
 
--- the faults of the cells below one
+-- the faults of the cells below a bound
 pub record AreListed (image : List ℕ) (cells : List Bool) (most below : ℕ) (faults : List VolumeFault) : Type 0 where
   pub lists : ListsFaults image most faults
   pub cells_below : All (λ fault. cell_at fault < below) faults

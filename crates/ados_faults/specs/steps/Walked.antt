@@ -1,35 +1,35 @@
--- How far a walk has come past the faults of an image.
+-- The progress of a walk past the faults of an image.
 use Rattle.std.specs.Prelude.{◌≡◌, ℕ, ◌+◌, ◌-◌, ◌/◌, ◌⊎◌, List, length, All, Bool, Option, Some}
-use Rattle.adf_block.specs.Fields.{boot_blocks, first_page, page_bits}
+use Rattle.adf_block.specs.Layout.{boot_blocks, first_page, page_bits}
 use Rattle.adf_block.specs.Image.{HasFreeBit, block_count, long}
-use Rattle.ados_tree.specs.declared.role.Role.TheVariants.{Root}
-use Rattle.ados_tree.specs.Faults.{InImage, PlaceNames, Reached, root_of}
-use Rattle.ados_tree.specs.Rebuilt.{HasValidBitmap}
+use Rattle.ados_model.specs.declared.role.Role.TheVariants.{Root}
+use Rattle.ados_model.specs.Faults.{InImage, PlaceNames, Reached, root_of}
+use Rattle.ados_model.specs.Rebuilt.{HasValidBitmap}
 use Rattle.ados_check.specs.declared.mark.Mark.{Mark}
 use Rattle.ados_check.specs.Marks.{mark_at}
 use Rattle.ados_faults.specs.declared.walk.Step.{Step}
 use Rattle.ados_faults.specs.steps.Noted.{AreNoted}
 
--- the bitmap is valid, and a page that is in the image says that the block is free
+-- the bitmap is valid, and a bitmap block inside the image marks the block free
 pub record IsMarkedFree (image : List ℕ) (block : ℕ) : Type 0 where
   pub valid : HasValidBitmap image
   pub page : InImage image (long image (root_of image) (first_page + (block - boot_blocks) / page_bits))
   pub free : HasFreeBit image block
 
--- a block is reached in the role
+-- the block is reached in this role
 pub record IsStep (image : List ℕ) (step : Step) : Type 0 where
   pub inside : InImage image step.block
   pub reached : Reached image step.block step.role
 
--- the root in its role
+-- the root with its role
 abbrev pub root_step : ℕ → Step
 root_step root = record { block = root; role = Root }
 
--- the long that a mark notes is a place that names the block, unless that is the root
+-- the place in a mark names the block, unless the block is the root
 abbrev pub IsMet : List ℕ → ℕ → Mark → Type 0
 IsMet image block mark = (block ≡ root_of image) ⊎ PlaceNames image mark.holder mark.long block
 
--- all that was noted is shown, marks are those of places that name the blocks, and each step is reached
+-- each noted fault is shown, marks have places that name their blocks, and each step is reached
 pub record IsWalked (image : List ℕ) (cells : List Bool) (marks : List (Option Mark)) (steps : List Step) : Type 0 where
   pub noted : AreNoted image cells
   pub size : length marks ≡ block_count image

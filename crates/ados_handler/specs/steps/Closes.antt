@@ -1,46 +1,44 @@
--- A handler that died stays dead, and a reply that closes is given by one that died.
+-- A dead handler stays dead, and only a dead handler gives a reply that closes.
 use Rattle.std.proofs.Common.{◌≡◌, ℕ, ℤ, Bool, true, false, List, [], ◌∷◌, nat_eq, Some, None, Ok, Err, refl, sym, ap, ◌∙◌, subst, inl, inr, MatchOption}
 use Rattle.std.specs.Prelude.{Option, Result, ◌&&◌, ◌||◌, option_map}
 use Rattle.std.specs.Bool.{MatchBool}
 use Rattle.std.specs.Result.{result_err}
 use Rattle.std.proofs.lemmas.Option.{none-some, same_Some}
 use Rattle.ados_name.specs.declared.Date3.{Date3}
-use Rattle.ados_tree.specs.Tree.{Tree}
-use Rattle.ados_tree.specs.declared.path_fault.WalkFault.{WalkFault}
-use Rattle.ados_tree.specs.declared.path_fault.WalkFault.TheVariants as walks
-use Rattle.ados_tree.specs.declared.path_fault.PlaceFault.{PlaceFault}
-use Rattle.ados_tree.specs.declared.path_fault.PlaceFault.TheVariants as faults
-use Rattle.ados_packet.specs.declared.dos_error.DosError.{DosError}
-use Rattle.ados_packet.specs.declared.dos_error.DosError.TheVariants.{ActionNotKnown, CommentTooBig, DeleteProtected, DeviceNotMounted, DirectoryNotEmpty, DirectoryNotFound, DiskFull, InvalidComponentName, InvalidLock, NoFreeStore, NoMoreEntries, ObjectExists, ObjectInUse, ObjectNotFound, ObjectWrongType, ReadProtected, SeekError, WriteProtected}
-use Rattle.ados_packet.specs.Numbers.{error_number}
-use Rattle.ados_packet.specs.Packet.{action_of, failure_of}
-use Rattle.ados_packet.specs.declared.packet.Packet.{Packet}
-use Rattle.ados_packet.specs.declared.packet.Packet.TheVariants.{Die, LocateObject, RenameDisk, FreeLock, DeleteObject, RenameObject, CopyDir, SetProtect, CreateDir, ExamineObject, ExamineNext, DiskInfo, Info, SetComment, Parent, SetDate, SameLock, Read, Write, FindUpdate, FindInput, FindOutput, End, Seek, SetFileSize, Other}
-use Rattle.ados_packet.specs.declared.answer.Answer.{Answer}
-use Rattle.ados_packet.specs.declared.answer.Body.{Body}
-use Rattle.ados_handler.specs.Session.{Session}
-use Rattle.ados_handler.specs.Objects.{walk_error, place_error, found, placed}
-use Rattle.ados_handler.specs.Refusals.{refuse, first_refusal, refusal, refusals}
-use Rattle.ados_handler.specs.Success.{after, Success}
-use Rattle.ados_handler.specs.Meaning.{IsRefused, ServedOrNoMemory, is_closing, is_number, is_dos_true}
+use Rattle.ados_model.specs.Tree.{Tree}
+use Rattle.ados_model.specs.declared.dos_error.WalkFault.{WalkFault}
+use Rattle.ados_model.specs.declared.dos_error.WalkFault.TheVariants as walks
+use Rattle.ados_model.specs.declared.dos_error.PlaceFault.{PlaceFault}
+use Rattle.ados_model.specs.declared.dos_error.PlaceFault.TheVariants as faults
+use Rattle.ados_model.specs.declared.dos_error.DosError.{DosError}
+use Rattle.ados_model.specs.declared.dos_error.DosError.TheVariants.{ActionNotKnown, CommentTooBig, DeleteProtected, DeviceNotMounted, DirectoryNotEmpty, DirectoryNotFound, DiskFull, InvalidComponentName, InvalidLock, NoFreeStore, NoMoreEntries, ObjectExists, ObjectInUse, ObjectNotFound, ObjectWrongType, ReadProtected, SeekError, WriteProtected}
+use Rattle.ados_model.specs.Packet.{error_number, action_of, failure_of}
+use Rattle.ados_model.specs.declared.packet.Packet.{Packet}
+use Rattle.ados_model.specs.declared.packet.Packet.TheVariants.{Die, LocateObject, RenameDisk, FreeLock, DeleteObject, RenameObject, CopyDir, SetProtect, CreateDir, ExamineObject, ExamineNext, DiskInfo, Info, SetComment, Parent, SetDate, SameLock, Read, Write, FindUpdate, FindInput, FindOutput, End, Seek, SetFileSize, Other}
+use Rattle.ados_model.specs.declared.answer.Answer.{Answer}
+use Rattle.ados_model.specs.declared.answer.Body.{Body}
+use Rattle.ados_model.specs.Session.{Session, HandlerState}
+use Rattle.ados_model.specs.Objects.{walk_error, place_error, found, placed}
+use Rattle.ados_model.specs.Refusals.{refuse, first_refusal, refusal, refusals}
+use Rattle.ados_model.specs.Success.{after, Success}
+use Rattle.ados_model.specs.Meaning.{IsRefused, ServedOrNoMemory, is_closing, is_number, is_dos_true}
 use Rattle.ados_handler.specs.Closing.{ClosingIsDead, DeadStays}
-use Rattle.ados_handler.specs.Handler.{HandlerState}
 use Rattle.ados_handler.specs.Gives.{HandlerGives}
 
 true_false : true ≡ false → ⊥
 true_false e = subst (λ (b : Bool). MatchBool b (Unit {0}) ⊥) e tt
 
--- the error of a dead handler, and none else
+-- the error of a dead handler, and no other
 abbrev is_mount_error : DosError → Bool
 is_mount_error DeviceNotMounted = true
 is_mount_error _ = false
 
--- its number is its own
+-- no other error has its number
 by_number : (error : DosError) → nat_eq (error_number error) (error_number DeviceNotMounted) ≡ true → error ≡ DeviceNotMounted
 by_number DeviceNotMounted h = refl
 by_number _ h = absurd (true_false (sym h))
 
--- a check that never refuses with it
+-- a check that never refuses with this error
 abbrev IsOther : Option DosError → Type 0
 IsOther o = o ≡ Some DeviceNotMounted → ⊥
 
@@ -84,7 +82,7 @@ module _ (t : Tree) (s : Session) where
   no : (error : DosError) (b : Bool) → is_mount_error error ≡ false → IsOther (refuse error b)
   no error b apart = other_error error b apart
 
-  -- the last checks of DELETE_OBJECT, of RENAME_OBJECT and of FIND_OUTPUT
+  -- the last checks of DELETE_OBJECT, RENAME_OBJECT and FIND_OUTPUT
   undeletable : (type held full protected : Bool)
       → AreOther (refuse ObjectWrongType type ∷ refuse ObjectInUse held ∷ refuse DirectoryNotEmpty full ∷ refuse DeleteProtected protected ∷ [])
   unfolding AreOther
@@ -101,7 +99,7 @@ module _ (t : Tree) (s : Session) where
   unfolding AreOther
   unemptied delete write full = (no DeleteProtected delete refl, (no WriteProtected write refl, (no DiskFull full refl, tt)))
 
-  -- no row of a packet has that error
+  -- no packet's row has this error
   all_other : (packet : Packet) → AreOther (refusals t s packet)
   unfolding AreOther
   all_other Die = (no ObjectInUse _ refl, tt)
@@ -132,7 +130,7 @@ module _ (t : Tree) (s : Session) where
   all_other (SetFileSize handle offset mode) = (no InvalidLock _ refl, (no WriteProtected _ refl, (no SeekError _ refl, (no DiskFull _ refl, tt))))
   all_other (Other action) = ((λ e. other_error ActionNotKnown true refl e), tt)
 
-  -- so it is answered only where the handler has died
+  -- so only a dead handler returns it
   only_dead : (packet : Packet) → refusal t s packet ≡ Some DeviceNotMounted → s.died ≡ true
   only_dead packet e = go s.died e
     where
@@ -152,7 +150,7 @@ and_first : (a b : Bool) → a && b ≡ true → a ≡ true
 and_first true b h = refl
 and_first false b h = absurd (true_false (sym h))
 
--- a refusal doesn't look like a successful DIE
+-- a refusal does not look like a successful DIE
 refused_quiet : (packet : Packet) → is_number 5 (action_of packet) && is_dos_true (failure_of packet) ≡ false
 refused_quiet (Read handle buffer) = refl
 refused_quiet (Write handle bytes) = refl
@@ -160,7 +158,7 @@ refused_quiet (Seek handle offset mode) = refl
 refused_quiet (Other action) = and_false (is_number 5 action)
 refused_quiet _ = refl
 
--- of the served packets only DIE has its action
+-- of all served packets, only DIE has its action
 served_dies : (t : Tree) (s : Session) (packet : Packet) (now : Date3) (new_tree : Tree) (new_session : Session) (res1 : ℤ) (body : Body)
     → is_number 5 (action_of packet) ≡ true → Success t s packet now (after new_tree new_session res1 body) → new_session.died ≡ true
 served_dies t s Die now new_tree new_session res1 body h w = ap (λ r. r.session.died) w
@@ -191,7 +189,7 @@ closing_is_dead t new_tree s new_session packet now answer meaning closing = go 
         or_second true b e h = absurd (true_false e)
         or_second false b e h = h
 
--- what a dead handler serves is refused, and so leaves it dead
+-- a dead handler refuses each packet, and so stays dead
 pub dead_stays : DeadStays
 dead_stays t new_tree s new_session packet now answer meaning dead = go s.died dead meaning
   where

@@ -1,14 +1,15 @@
--- What a move of an object is refused with, behind its locks.
+-- The refusals of a move, after those of its locks.
 use Rattle.std.specs.Prelude.{ℕ, not, ◌==◌, ◌&&◌, if◌then◌else◌, List, [], ◌∷◌, Option, Result, Ok, Err}
-use Rattle.ados_tree.specs.Tree.{Tree, root}
-use Rattle.ados_tree.specs.Walk.{child_of}
-use Rattle.ados_packet.specs.declared.dos_error.DosError.{DosError}
-use Rattle.ados_packet.specs.declared.dos_error.DosError.TheVariants.{InvalidLock, ObjectExists, ObjectInUse, ObjectWrongType}
-use Rattle.ados_handler.specs.Session.{Session, is_held_exclusively, is_lock}
-use Rattle.ados_handler.specs.Objects.{found, is_under, place_result, placed, walk_result}
-use Rattle.ados_handler.specs.Refusals.{first_refusal, is_some_and, refuse}
+use Rattle.ados_model.specs.Tree.{Tree, root}
+use Rattle.ados_model.specs.Change.{child_of}
+use Rattle.ados_model.specs.declared.dos_error.DosError.{DosError}
+use Rattle.ados_model.specs.declared.dos_error.DosError.TheVariants.{InvalidLock, ObjectExists, ObjectInUse, ObjectWrongType}
+use Rattle.ados_model.specs.Session.{Session, is_held_exclusively, is_lock}
+use Rattle.ados_model.specs.Objects.{found, is_under, placed}
+use Rattle.ados_model.specs.Resolved.{place_result, walk_result}
+use Rattle.ados_model.specs.Refusals.{first_refusal, is_some_and, refuse}
 
--- two answers, or the error of the first that has one
+-- two values, or the first error
 abbrev pub both : {A B E : Type 0} → Result A E → Result B E → Result (A × B) E
 both (Ok a) (Ok b) = Ok (a, b)
 both (Ok a) (Err e) = Err e
@@ -20,7 +21,7 @@ source_and_place t s from_lock from to_lock to =
     if is_lock s from_lock && is_lock s to_lock then both (walk_result (found t s from_lock from)) (place_result (placed t s to_lock to))
     else Err InvalidLock
 
--- the refusals of a move, of an object into a directory under a name, and the first of them
+-- the refusals of a move of an object into a directory under a name, and the first of them
 abbrev pub move_refusals : Tree → Session → ℕ → ℕ → List ℕ → List (Option DosError)
 move_refusals t s key dir name =
     refuse ObjectWrongType (key == root t)

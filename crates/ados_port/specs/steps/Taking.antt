@@ -1,4 +1,4 @@
--- What a put and a take do to a client.
+-- The effect of a put and a take on a client.
 use Rattle.std.specs.Prelude.{◌≡◌, ℕ, ◌+◌, [], ◌∷◌}
 use Rattle.port_history.specs.declared.step.Reply.{Reply}
 use Rattle.ados_port.specs.declared.counts.Client.{Client}
@@ -7,10 +7,10 @@ use Rattle.ados_port.specs.declared.counts.Client.{Client}
 abbrev pub CountsOne : {A : Type 0} → Client A → Client A → ℕ → Type 0
 CountsOne old new number = (number ≡ old.accepted + 1) × (new.accepted ≡ number)
 
--- no reply is there, and none was taken
+-- there is no reply, and none was taken
 abbrev pub HasNoReply : {A : Type 0} → Client A → Client A → Type 0
 HasNoReply old new = (old.replies.items ≡ []) × (new.replies.items ≡ []) × (new.taken ≡ old.taken)
 
--- the first reply was handed out, and its number says how many were taken
+-- the first reply was handed out, and its number is the count of takes
 abbrev pub HandsOut : {A : Type 0} → Client A → Client A → Reply A → Type 0
 HandsOut old new reply = (old.replies.items ≡ reply.answer ∷ new.replies.items) × (new.taken ≡ old.taken + 1) × (reply.number ≡ old.taken + 1)

@@ -1,8 +1,8 @@
--- One step of a walk, as the program takes it.
+-- One step of a walk.
 use Rattle.std.specs.Prelude.{ℕ, Option, None, Some, Result, Ok, Err}
-use Rattle.ados_tree.specs.declared.path_fault.WalkFault.{WalkFault}
+use Rattle.ados_model.specs.declared.dos_error.WalkFault.{WalkFault}
 
--- the key that was found, or the fault where none was
+-- the found key, or the fault `missing` if there is none
 abbrev pub found_or : Result (Option ℕ) WalkFault → WalkFault → Result ℕ WalkFault
 found_or (Err fault) missing = Err fault
 found_or (Ok None) missing = Err missing

@@ -1,10 +1,10 @@
--- The places in the files that were read and written last.
+-- The cache of positions in files.
 use Rattle.std.specs.Prelude.{◌≢◌, ℕ, List, Contains}
 use Rattle.ados_data.specs.declared.place.Place.{Place}
 use Rattle.ados_data.specs.Place.{IsPlace}
-use Rattle.ados_tree.specs.Keys.{HasFileKey}
+use Rattle.ados_model.specs.Keys.{HasFileKey}
 
--- a file, and a place in it
+-- the key is a file, and the place is one in it
 pub record IsKnown (image : List ℕ) (file : ℕ) (place : Place) : Type 0 where
   pub is_file : HasFileKey image file
   pub place_is : IsPlace image file place
@@ -13,6 +13,6 @@ pub record IsKnown (image : List ℕ) (file : ℕ) (place : Place) : Type 0 wher
 abbrev pub AreKnown : List ℕ → List (ℕ × Place) → Type 0
 AreKnown image pairs = (file : ℕ) (place : Place) → Contains pairs (file, place) → IsKnown image file place
 
--- no pair is left of the file, and no pair is new
+-- the file has no pair, and no pair is new
 abbrev pub Drops : List (ℕ × Place) → ℕ → List (ℕ × Place) → Type 0
 Drops old file new = (f : ℕ) (place : Place) → Contains new (f, place) → Contains old (f, place) × (f ≢ file)

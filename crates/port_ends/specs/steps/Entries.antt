@@ -1,4 +1,4 @@
--- The history of a server, as what was served.
+-- The history of a server, as its served packets.
 use Rattle.std.specs.Prelude.{List, map}
 use Rattle.port_ends.specs.declared.desk.Entry.{Entry}
 use Rattle.port_history.specs.History.{Serving}

@@ -1,4 +1,4 @@
--- What the handler's end gives to one more client, what it hears of one, and what it leaves to a gathering.
+-- One more client's end, what it shows of the mark, and what the handler's end leaves to a gathering.
 use Rattle.std.specs.Prelude.{◌≡◌, ◌⊎◌, ℕ, Bool, true, List, [], ◌∷◌, ◌++◌, length, Some, slice_get}
 use Rattle.std.specs.List.{list_any}
 use Rattle.port_history.specs.History.{packets_of}
@@ -7,16 +7,16 @@ use Rattle.port_ends.specs.Ends.{ClientView, HandlerView, IsFresh, IsEndOf}
 use Rattle.port_ends.specs.steps.QueueEnds.{TakeView}
 
 module _ {Q M A : Type 0} where
-  -- this end knows of the close only where the server has died, or where a reply that it took closes
+  -- this end knows of the close only if the server has died or it took a closing reply
   abbrev pub Heard : (A → Bool) → Bool → ClientView Q M A → Type 0
   Heard is_closing died c = c.knows ≡ true → (died ≡ true) ⊎ (list_any (λ x. is_closing x.1) c.taken ≡ true)
 
-  -- of all clients
+  -- the same for all clients
   abbrev pub AllHeard : (A → Bool) → Bool → List (ClientView Q M A) → Type 0
   AllHeard is_closing died cs = (k : ℕ) (c : ClientView Q M A) → slice_get cs k ≡ Some c → Heard is_closing died c
 
 module _ {S Q M A : Type 0} where
-  -- this outlet was added as the last one: it is empty, and this client's, and its ring has so many places
+  -- this outlet was added as the last one: it is empty, it is this client's, and its ring has this many places
   abbrev pub AddsOutlet : ℕ → HandlerView S Q M A → HandlerView S Q M A → ClientView Q M A → OutView (M × A) → Type 0
   AddsOutlet ring old new end o =
       (new ≡ record old { outlets = old.outlets ++ o ∷ [] }) × (o.posted ≡ []) × (o.waiting ≡ []) × IsEndOf new (length old.outlets) end

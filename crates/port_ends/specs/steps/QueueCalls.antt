@@ -1,11 +1,11 @@
--- What the calls of the queue's ends do.
+-- The effect of the calls of the queue's ends.
 use Rattle.std.specs.Prelude.{◌≡◌, ℕ, ◌+◌, ◌≤◌, [], ◌∷◌, ◌++◌, length}
 use Rattle.port_ends.specs.Ends.{OfClients}
 use Rattle.port_ends.specs.steps.QueueEnds.{PutView, TakeView}
 use Rattle.port_ends.specs.steps.Rule.{ArePutLists, total}
 
 module _ {Q : Type 0} where
-  -- a packet was put: it is the last that was put, and its number says how many were put
+  -- a packet was put: it is the last one put, and its number is the count of puts
   abbrev pub AddsPacket : PutView Q → Q → PutView Q → ℕ → Type 0
   AddsPacket old packet new number = (new ≡ record old { put = old.put ++ packet ∷ [] }) × (number ≡ length new.put)
 
@@ -13,16 +13,16 @@ module _ {Q : Type 0} where
   abbrev pub HandsBack : PutView Q → Q → PutView Q → Q → Type 0
   HandsBack old packet new back = (back ≡ packet) × (new ≡ old)
 
-  -- one more client: its end has the next number, and put nothing
+  -- one more client: its end has the next number, and has put nothing
   abbrev pub AddsPutEnd : TakeView Q → TakeView Q → PutView Q → Type 0
   AddsPutEnd old new end = (end ≡ record { port = old.port; number = old.clients + 1; put = [] }) × (new ≡ record old { clients = old.clients + 1 })
 
-  -- a client's packet was taken; where all clients are gathered, no more was taken than they put
+  -- a client's packet was taken; if all clients are gathered, no more packets were taken than they put
   abbrev pub TakesPacket : TakeView Q → TakeView Q → ℕ × Q → Type 0
   TakesPacket old new packet =
       (new ≡ record old { taken = old.taken ++ packet ∷ [] })
       × (1 ≤ packet.0) × (packet.0 ≤ old.clients) × (length old.known ≡ old.clients → length new.taken ≤ total old.known)
 
-  -- nothing waits: what was taken is the clients', and all that those put who are gathered
+  -- nothing waits: the taken packets are the clients', and include everything that gathered clients put
   abbrev pub FindsNothing : TakeView Q → TakeView Q → Type 0
   FindsNothing old new = (new ≡ old) × OfClients old.clients old.taken × ArePutLists old.known old.taken

@@ -1,4 +1,4 @@
--- The ring that an end of a reply ring has, and the room of the list beside it.
+-- The ring of an end, and the room of the list beside it.
 use Rattle.std.specs.Prelude.{ℕ, ◌-◌}
 use Rattle.std.specs.VecDeque.{deque_capacity, deque_len}
 use Rattle.std.specs.declared.collections.VecDeque.{VecDeque}
@@ -10,6 +10,6 @@ use Rattle.port_ends.specs.Rings.{RingId}
 abbrev pub ring_of : {T P : Type 0} → End T Global P → RingId
 ring_of e = record { words = e.words; slots = e.slots; names = e.names; heap = e.heap }
 
--- how many more the list has room for
+-- how many more elements the list has room for
 abbrev pub room_in : {T : Type 0} → VecDeque T Global → ℕ
 room_in list = deque_capacity list - deque_len list

@@ -1,4 +1,4 @@
--- What contracts see of a client's end and of the handler's, by what they see of its parts.
+-- The visible state of a client's end and of the handler's end, composed from their parts.
 use Rattle.std.specs.Prelude.{◌||◌, Bool, List}
 use Rattle.port_ends.specs.Rings.{OutView}
 use Rattle.port_ends.specs.Ends.{ClientView, HandlerView}
@@ -7,7 +7,7 @@ use Rattle.port_ends.specs.steps.QueueEnds.{PutView, TakeView}
 use Rattle.port_ends.specs.steps.Sending.{InView}
 use Rattle.port_ends.specs.steps.Desks.{DeskView}
 
--- a client's end has its ends of the queue, of a ring and of the mark, and notes whether it took a reply that closes
+-- a client's end consists of its ends of the queue, of a ring and of the mark, and of a flag for a taken closing reply
 abbrev pub client_view : {Q M A : Type 0} → PutView Q → InView (M × A) → CloseView → Bool → ClientView Q M A
 client_view queue inlet mark shut = record {
   port = queue.port;
@@ -19,7 +19,8 @@ client_view queue inlet mark shut = record {
   knows = shut || mark.knows;
 }
 
--- the handler's end has its end of the queue, the server with its history and the mark, and the outlets of all clients
+-- the handler's end consists of its end of the queue, the server with its history and the mark, and the outlets of all
+-- clients
 abbrev pub handler_view : {S Q M A : Type 0} → TakeView Q → DeskView S Q M A → List (OutView (M × A)) → HandlerView S Q M A
 handler_view queue desk outlets = record {
   port = queue.port;

@@ -1,7 +1,7 @@
 use Rattle.std.proofs.Common.{ℕ, Bool, List, ap, sym, subst, ◌∙◌}
 use Rattle.adf_block.specs.Boot.{HasKind}
 use Rattle.adf_block.specs.Image.{block_count}
-use Rattle.ados_tree.specs.Accepted.{Accepts}
+use Rattle.ados_model.specs.Accepted.{Accepts}
 use Rattle.adf_archive.proofs.checking.accepted.Goals as goal
 
 pub returns : goal.returns

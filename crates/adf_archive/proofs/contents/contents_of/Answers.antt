@@ -1,7 +1,7 @@
 use Rattle.std.proofs.Common.{◌≡◌, ℕ, ◌<◌, List, [], length, get_or, IsSome, ap, sym, ◌∙◌, subst, arith}
-use Rattle.ados_packet.specs.declared.info.FileInfo.{FileInfo}
-use Rattle.ados_tree.specs.Tree.{entries, name_in, name_of, root}
-use Rattle.ados_tree.proofs.Nodes.{some_in}
+use Rattle.ados_model.specs.declared.answer.FileInfo.{FileInfo}
+use Rattle.ados_model.specs.Tree.{entries, name_in, name_of, root}
+use Rattle.ados_model.proofs.Nodes.{some_in}
 use Rattle.adf_transfer.specs.Located.{Located}
 use Rattle.adf_transfer.specs.Below.{AreBelow}
 use Rattle.adf_archive.specs.Report.{file_count}

@@ -1,6 +1,6 @@
 use Rattle.std.proofs.Common.{[], ◌∷◌, arith}
 use Rattle.std.proofs.lemmas.List.Elements.{All-cons, All-nil}
-use Rattle.ados_tree.specs.Faults.{Shows}
+use Rattle.ados_model.specs.Faults.{Shows}
 use Rattle.adf_archive.proofs.Shown.{many, shown_all}
 use Rattle.adf_archive.proofs.faults.one_told.Goals as goal
 

@@ -3,7 +3,7 @@ use Rattle.std.specs.String.{string_bytes}
 use Rattle.adf_archive.proofs.Chunks.{SoFar}
 use Rattle.adf_archive.proofs.running.check_each.Given as goal
 
--- so many images are told of
+-- this many images were reported
 abbrev pub invariant-loop-done : goal.invariant-loop-done
 invariant-loop-done g l = (l.done ≤ length l.paths) × SoFar g.C.Fn l.report l.form (map string_bytes l.paths) (g.W.Write.contents l.fn.writer) (g.W.Write.contents l.writer) l.done l.tally
 

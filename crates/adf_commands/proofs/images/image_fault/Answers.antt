@@ -5,5 +5,5 @@ use Rattle.adf_commands.proofs.images.image_fault.Goals as goal
 
 pub returns-in-Size : goal.returns-in-Size
 returns-in-Size c =
-    let shown = size_shown c.in-Size.fault in
-    (shown.0, (c.in-Size.fault, shown.1, ap₂ refused_line c.of_size.ensures.kind c.of_size.ensures.block))
+    let shown = size_shown c.in-Size.refused.fault in
+    (shown.0, (c.in-Size.refused.fault, shown.1, ap₂ refused_line c.of_size.ensures.kind c.of_size.ensures.block))

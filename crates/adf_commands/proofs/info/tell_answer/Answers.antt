@@ -1,9 +1,9 @@
 use Rattle.std.proofs.Common.{◌-◌, List, length, Some, refl, sym, ap, ◌∙◌}
 use Rattle.std.specs.Prelude.{slice_get}
-use Rattle.ados_packet.specs.declared.packet.Packet.{Packet}
-use Rattle.ados_packet.specs.declared.answer.Answer.{Answer}
+use Rattle.ados_model.specs.declared.packet.Packet.{Packet}
+use Rattle.ados_model.specs.declared.answer.Answer.{Answer}
 use Rattle.ados_port.specs.Outcome.{Outcome}
-use Rattle.ados_handler.specs.Handler.{HandlerState}
+use Rattle.ados_model.specs.Session.{HandlerState}
 use Rattle.adf_commands.specs.Texts.{IsInfoText}
 use Rattle.adf_commands.proofs.Answering.{info_told}
 use Rattle.adf_commands.proofs.Printing.{leaves_front}

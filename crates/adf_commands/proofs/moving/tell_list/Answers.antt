@@ -1,5 +1,5 @@
 use Rattle.std.proofs.Common.{ℕ, List, option_map, Bor, sym, subst}
-use Rattle.ados_tree.specs.Stands.{Stands}
+use Rattle.ados_model.specs.Stands.{Stands}
 use Rattle.ados_volume.specs.Shown.{Shown}
 use Rattle.adf_commands.specs.Texts.{BeginsListText, IsListText}
 use Rattle.adf_commands.proofs.Printing.{leaves_front, list_front, list_text, tells_unlisted}

@@ -1,9 +1,9 @@
 use Rattle.std.proofs.Common.{◌≡◌, ℕ, List, [], ◌∷◌, ◌++◌, Option, Some, IfSome, option_to_list, sym, ap, ap₂, ◌∙◌, subst}
 use Rattle.std.proofs.lemmas.List.Elements.{All-pop}
-use Rattle.ados_packet.specs.declared.info.FileInfo.{FileInfo}
-use Rattle.ados_tree.specs.Keys.{HasKey}
-use Rattle.ados_tree.specs.Tree.{name_in, name_of}
-use Rattle.ados_tree.proofs.Nodes.{some_in}
+use Rattle.ados_model.specs.declared.answer.FileInfo.{FileInfo}
+use Rattle.ados_model.specs.Keys.{HasKey}
+use Rattle.ados_model.specs.Tree.{name_in, name_of}
+use Rattle.ados_model.proofs.Nodes.{some_in}
 use Rattle.adf_listing.specs.steps.Fronting.{names_down}
 use Rattle.adf_listing.proofs.Fronting.{names_popped}
 use Rattle.adf_listing.proofs.front.front_of.Goals as goal

@@ -1,12 +1,12 @@
 use Rattle.std.proofs.Common.{◌≡◌, ◌++◌, All, vec_len}
-use Rattle.ados_tree.specs.Keys.{HasKey}
-use Rattle.ados_tree.specs.Stands.{Stands}
-use Rattle.ados_tree.specs.Tree.{Tree}
+use Rattle.ados_model.specs.Keys.{HasKey}
+use Rattle.ados_model.specs.Stands.{Stands}
+use Rattle.ados_model.specs.Tree.{Tree}
 use Rattle.adf_listing.specs.Listing.{front}
 use Rattle.adf_listing.specs.steps.Fronting.{names_down}
 use Rattle.adf_listing.proofs.front.front_of.Given as goal
 
--- the text, and then the names of the directories that are left
+-- the text, followed by the names of the remaining directories
 abbrev pub invariant-loop-key : goal.invariant-loop-key
 invariant-loop-key l = record {
   keys : All (HasKey l.volume.image) l.keys.items;

@@ -1,9 +1,9 @@
 use Rattle.std.proofs.Common.{◌≡◌, ℕ, suc, ◌-◌, ◌+◌, List, [], ◌∷◌, ◌++◌, None, Some, All, arith, refl, sym, ap, ◌∙◌}
 use Rattle.std.proofs.lemmas.List.Elements.{All-push, All-same}
 use Rattle.adf_block.specs.Image.{block_count}
-use Rattle.ados_tree.specs.Keys.{HasKey}
-use Rattle.ados_tree.specs.Tree.{parent_of}
-use Rattle.ados_tree.proofs.Standing.{count_same}
+use Rattle.ados_model.specs.Keys.{HasKey}
+use Rattle.ados_model.specs.Tree.{parent_of}
+use Rattle.ados_model.proofs.Standing.{count_same}
 use Rattle.adf_listing.specs.Listing.{front}
 use Rattle.adf_listing.specs.steps.Fronting.{names_down}
 use Rattle.adf_listing.proofs.Fronting.{climbs, nothing_above, nothing_deeper}

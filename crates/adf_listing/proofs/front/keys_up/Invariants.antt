@@ -1,12 +1,12 @@
 use Rattle.std.proofs.Common.{◌≡◌, ◌-◌, ◌++◌, All}
-use Rattle.ados_tree.specs.Keys.{HasKey}
-use Rattle.ados_tree.specs.Stands.{Stands}
-use Rattle.ados_tree.specs.Tree.{Tree}
+use Rattle.ados_model.specs.Keys.{HasKey}
+use Rattle.ados_model.specs.Stands.{Stands}
+use Rattle.ados_model.specs.Tree.{Tree}
 use Rattle.adf_listing.specs.Listing.{front}
 use Rattle.adf_listing.specs.steps.Fronting.{names_down}
 use Rattle.adf_listing.proofs.front.keys_up.Given as goal
 
--- the names of the directories so far, behind those of the ones above
+-- the names of the directories so far follow those of the ones above
 abbrev pub invariant-loop-depth : goal.invariant-loop-depth
 invariant-loop-depth l = record {
   key : HasKey l.volume.image l.key;

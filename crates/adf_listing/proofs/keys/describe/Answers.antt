@@ -1,6 +1,6 @@
 use Rattle.std.proofs.Common.{sym, ap, ◌∙◌}
-use Rattle.ados_packet.specs.declared.info.FileInfo.{FileInfo}
-use Rattle.ados_tree.proofs.Nodes.{some_in}
+use Rattle.ados_model.specs.declared.answer.FileInfo.{FileInfo}
+use Rattle.ados_model.proofs.Nodes.{some_in}
 use Rattle.adf_listing.proofs.Directories.{told_directory}
 use Rattle.adf_listing.proofs.keys.describe.Goals as goal
 

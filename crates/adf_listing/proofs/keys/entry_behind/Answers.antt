@@ -1,5 +1,5 @@
 use Rattle.std.proofs.Common.{sym, ◌∙◌}
-use Rattle.ados_tree.proofs.Listed.{next_has_key}
+use Rattle.ados_volume.proofs.Listed.{next_has_key}
 use Rattle.ados_volume.proofs.Ordered.{told_place}
 use Rattle.adf_listing.proofs.keys.entry_behind.Goals as goal
 

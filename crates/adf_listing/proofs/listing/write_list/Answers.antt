@@ -1,7 +1,7 @@
 use Rattle.std.proofs.Common.{◌≡◌, [], length, refl, ap, ◌∙◌, arith}
 use Rattle.std.proofs.lemmas.Result.{on_err_weaker}
-use Rattle.ados_tree.specs.Stands.{Stands}
-use Rattle.ados_tree.specs.Tree.{Tree}
+use Rattle.ados_model.specs.Stands.{Stands}
+use Rattle.ados_model.specs.Tree.{Tree}
 use Rattle.adf_script.specs.Streams.{Writes}
 use Rattle.adf_listing.specs.Fronts.{WritesFront, WritesFrontOf}
 use Rattle.adf_listing.specs.Listing.{BeginsList, IsList}

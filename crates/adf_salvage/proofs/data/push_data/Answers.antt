@@ -1,7 +1,7 @@
 use Rattle.std.proofs.Common.{◌≡◌, ◌<◌, ◌+◌, ◌/◌, ◌++◌, ℕ, suc, List, sym, ap, ◌∙◌, subst, arith, below_more}
 use Rattle.adf_block.specs.Image.{long}
-use Rattle.adf_block.specs.Fields.{next_data}
-use Rattle.ados_data.specs.File.{data_block, data_blocks}
+use Rattle.adf_block.specs.Layout.{next_data}
+use Rattle.ados_model.specs.File.{data_block, data_blocks}
 use Rattle.ados_data.proofs.Sizes.{in_extensions}
 use Rattle.adf_salvage.specs.steps.Parts.{HasData, IsDataBlock, data_needed, data_before}
 use Rattle.adf_salvage.proofs.OwnBlocks.{holder_there, holder_read, holder_below, file_below, before_below, decided, named_block, gathered_more, all_data, whole_data}

@@ -1,6 +1,6 @@
 use Rattle.std.proofs.Common.{◌≡◌, ℕ, ◌<◌, ◌∷◌, ◌++◌, map}
 use Rattle.std.specs.List.{range_with_len}
-use Rattle.ados_data.specs.File.{data_block, extension_blocks}
+use Rattle.ados_model.specs.File.{data_block, extension_blocks}
 use Rattle.adf_salvage.specs.steps.Parts.{IsDataBlock, data_before}
 use Rattle.adf_salvage.proofs.data.push_data.Given as goal
 

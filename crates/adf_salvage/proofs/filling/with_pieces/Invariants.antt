@@ -2,7 +2,7 @@ use Rattle.std.proofs.Common.{◌≡◌, ◌+◌, ◌*◌, ◌≤◌, ◌++◌, 
 use Rattle.adf_salvage.specs.Salvaged.{IsSalvaged, broken_total, headers_of}
 use Rattle.adf_salvage.proofs.filling.with_pieces.Given as goal
 
--- the entries before this one are told again
+-- the entries before this one have their bytes
 abbrev pub invariant-loop-entry : goal.invariant-loop-entry
 invariant-loop-entry l = record {
   all : l.yielded ++ l.entry-iterator.rest.items ≡ l.fn.entries.items;

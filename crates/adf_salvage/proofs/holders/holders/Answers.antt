@@ -1,5 +1,5 @@
 use Rattle.std.proofs.Common.{◌≡◌, ℕ, suc, sym, ap, ◌∙◌, arith}
-use Rattle.ados_data.specs.Cost.{extension_count}
+use Rattle.ados_model.specs.Tree.{extension_count}
 use Rattle.adf_salvage.specs.steps.Parts.{extensions_needed}
 use Rattle.adf_salvage.proofs.OwnBlocks.{all_holders}
 use Rattle.adf_salvage.proofs.holders.holders.Goals as goal

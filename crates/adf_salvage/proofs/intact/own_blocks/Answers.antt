@@ -1,5 +1,5 @@
 use Rattle.std.proofs.Common.{◌≡◌, ◌++◌, ℕ, List, sym, ap, ◌∙◌, subst, arith}
-use Rattle.ados_data.specs.File.{data_blocks}
+use Rattle.ados_model.specs.File.{data_blocks}
 use Rattle.adf_salvage.specs.Sound.{own_blocks}
 use Rattle.adf_salvage.specs.steps.Parts.{AreOnce}
 use Rattle.adf_salvage.proofs.SoundParts.{lawful_file, lawful_holders, lawful_data_blocks, lawful_once, lawful_few}

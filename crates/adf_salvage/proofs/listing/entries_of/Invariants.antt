@@ -1,10 +1,10 @@
 use Rattle.std.proofs.Common.{◌≡◌, All, map, take}
-use Rattle.ados_tree.specs.Tree.{Tree}
-use Rattle.ados_tree.specs.Stands.{Stands}
+use Rattle.ados_model.specs.Tree.{Tree}
+use Rattle.ados_model.specs.Stands.{Stands}
 use Rattle.adf_salvage.specs.Salvaged.{IsOfTree, located_of}
 use Rattle.adf_salvage.proofs.listing.entries_of.Given as goal
 
--- the entries before this one are told
+-- the entries before this one are described
 abbrev pub invariant-loop-entry : goal.invariant-loop-entry
 invariant-loop-entry l = record {
   located : map located_of l.found.items ≡ take l.entry-index l.below;

@@ -1,6 +1,6 @@
 use Rattle.std.proofs.Common.{◌≡◌, Some, refl, ap, ◌∙◌}
-use Rattle.ados_packet.specs.declared.info.FileInfo.{FileInfo}
-use Rattle.ados_tree.proofs.Nodes.{some_in}
+use Rattle.ados_model.specs.declared.answer.FileInfo.{FileInfo}
+use Rattle.ados_model.proofs.Nodes.{some_in}
 use Rattle.adf_salvage.proofs.listing.entry_of.Goals as goal
 
 pub returns-clause-told : goal.returns-clause-told

@@ -1,7 +1,7 @@
 use Rattle.std.proofs.Common.{◌≡◌, ℕ, [], false, All, map, get_or, sym, ◌∙◌, subst}
 use Rattle.std.proofs.lemmas.List.{get_or_default}
-use Rattle.ados_tree.specs.Stands.{Stands}
-use Rattle.ados_tree.specs.Tree.{Tree, entries}
+use Rattle.ados_model.specs.Stands.{Stands}
+use Rattle.ados_model.specs.Tree.{Tree, entries}
 use Rattle.adf_transfer.specs.Below.{AreBelow}
 use Rattle.adf_transfer.proofs.Denying.{below_there}
 use Rattle.adf_salvage.specs.Salvaged.{AreOfTree, IsOfTree, located_of}

@@ -1,7 +1,7 @@
 use Rattle.std.proofs.Common.{inl, inr, ℕ, ◌*◌, ◌≤◌, List, length, subst}
-use Rattle.ados_tree.specs.Stands.{Stands}
-use Rattle.ados_tree.specs.Tree.{Tree}
-use Rattle.ados_tree.proofs.NoFaults.{faults_have_no_tree}
+use Rattle.ados_model.specs.Stands.{Stands}
+use Rattle.ados_model.specs.Tree.{Tree}
+use Rattle.ados_model.proofs.NoFaults.{faults_have_no_tree}
 use Rattle.adf_salvage.specs.Salvaged.{AreOfTree, AreSalvaged, IsReadAs, Salvages, broken_total}
 use Rattle.adf_salvage.proofs.Answering.{both_ok, if_ok, same_tree}
 use Rattle.adf_salvage.proofs.salvaging.salvage.Goals as goal

@@ -1,4 +1,4 @@
-use Rattle.ados_port.specs.Port.{opening_port}
+use Rattle.ados_port.specs.History.{opening_port}
 use Rattle.std.specs.Prelude.{true, false}
 use Rattle.std.proofs.lemmas.Result.{on_ok_weaker}
 use Rattle.adf_script.proofs.Telling.{told_through}

@@ -8,7 +8,7 @@ use Rattle.adf_text.specs.Escapes.{escaped}
 use Rattle.adf_text.specs.ProtectionLetters.{protection_letters}
 use Rattle.adf_text.proofs.uaem.uaem_line.Goals as goal
 
--- the pieces of the line
+-- the parts of the line
 joined : (protection date comment line shown_protection shown_comment : List ℕ) → protection ≡ shown_protection → comment ≡ shown_comment
     → line ≡ protection ++ (32 ∷ (date ++ (32 ∷ (comment ++ 10 ∷ [])))) → line ≡ shown_protection ++ codes " " ++ date ++ codes " " ++ shown_comment ++ 10 ∷ []
 joined protection date comment line shown_protection shown_comment of_bits of_comment written = rw (← of_bits, ← of_comment) (simp append_assoc written)

@@ -22,7 +22,7 @@ none-in (Some x) P Q is holds = absurd (cc)
 some-in : {A : Type 0} (o : Option A) (x : A) (P : Type 0) (Q : A → Type 0) → o ≡ Some x → MatchOption o P Q → Q x
 some-in {A} o x P Q is holds = subst (λ (v : Option A). MatchOption v P Q) is holds
 
--- the letters of the file, of which each is a byte
+-- the letters of the file, each of which is a byte
 found : (file text items shown : List ℕ) → text ≡ file → IsUtf8 file → letters items ≡ text → shown ≡ items → All IsByte (chars text) → (letters shown ≡ file) × All IsByte shown
 found file text items shown is utf8 ok view small = (
   ap letters view ∙ ok ∙ is,

@@ -1,6 +1,6 @@
 use Rattle.std.proofs.Common.{◌≡◌, List, [], ◌++◌, sym, ap, ◌∙◌, subst, arith}
 use Rattle.std.proofs.lemmas.Grind.{common_steps}
-use Rattle.ados_tree.proofs.Standing.{count_same}
+use Rattle.ados_model.proofs.Standing.{count_same}
 use Rattle.adf_transfer.specs.Located.{Located}
 use Rattle.adf_transfer.specs.steps.Stack.{stacked}
 use Rattle.adf_transfer.proofs.Going.{IsGoing, going_ends, going_few, going_goes_on, going_starts, going_there}

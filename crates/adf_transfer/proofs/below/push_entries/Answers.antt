@@ -1,6 +1,6 @@
 use Rattle.std.proofs.Common.{◌∷◌, is_some, ap}
-use Rattle.ados_tree.specs.Tree.{entries}
-use Rattle.ados_tree.proofs.Nodes.{entry_node}
+use Rattle.ados_model.specs.Tree.{entries}
+use Rattle.ados_model.proofs.Nodes.{entry_node}
 use Rattle.adf_transfer.specs.Below.{located}
 use Rattle.adf_transfer.proofs.Taking.{last_is_in, pushed_more, taken_more}
 use Rattle.adf_transfer.proofs.below.push_entries.Goals as goal

@@ -1,10 +1,10 @@
 use Rattle.std.proofs.Common.{◌≡◌, ◌++◌, List, ℕ, map, reverse, vec_len}
-use Rattle.ados_tree.specs.Tree.{Tree, entries}
-use Rattle.ados_tree.specs.Stands.{Stands}
+use Rattle.ados_model.specs.Tree.{Tree, entries}
+use Rattle.ados_model.specs.Stands.{Stands}
 use Rattle.adf_transfer.specs.Below.{located}
 use Rattle.adf_transfer.proofs.below.push_entries.Given as goal
 
--- the last keys were taken off, and their entries stand on the stack
+-- the last keys were popped, and their entries are on the stack
 abbrev pub invariant-loop-key : goal.invariant-loop-key
 invariant-loop-key l =
     (t : Tree) → Stands l.volume.image t

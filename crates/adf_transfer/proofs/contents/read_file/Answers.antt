@@ -1,7 +1,7 @@
 use Rattle.std.proofs.Common.{◌≡◌, Option, Some, length, is_some, sym, ap, ◌∙◌}
-use Rattle.ados_packet.specs.declared.info.FileInfo.{FileInfo}
-use Rattle.ados_tree.specs.Tree.{Content, bytes_in, bytes_of, size_in}
-use Rattle.ados_tree.proofs.Nodes.{content_in}
+use Rattle.ados_model.specs.declared.answer.FileInfo.{FileInfo}
+use Rattle.ados_model.specs.Tree.{Content, bytes_in, bytes_of, size_in}
+use Rattle.ados_model.proofs.Nodes.{content_in}
 use Rattle.adf_transfer.proofs.Whole.{read_whole, written_back}
 use Rattle.adf_transfer.proofs.contents.read_file.Goals as goal
 

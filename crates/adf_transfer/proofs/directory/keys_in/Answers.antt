@@ -1,5 +1,5 @@
 use Rattle.std.proofs.Common.{arith, refl, sym, ◌∙◌, subst}
-use Rattle.ados_tree.proofs.Standing.{count_same}
+use Rattle.ados_model.proofs.Standing.{count_same}
 use Rattle.adf_transfer.proofs.Listing.{IsListed, listing_goes_on, listing_small}
 use Rattle.adf_transfer.proofs.directory.keys_in.Goals as goal
 

@@ -1,7 +1,7 @@
 use Rattle.std.proofs.Common.{◌-◌, vec_len}
 use Rattle.adf_block.specs.Image.{block_count}
-use Rattle.ados_tree.specs.Tree.{Tree}
-use Rattle.ados_tree.specs.Stands.{Stands}
+use Rattle.ados_model.specs.Tree.{Tree}
+use Rattle.ados_model.specs.Stands.{Stands}
 use Rattle.adf_transfer.proofs.Listing.{IsListed}
 use Rattle.adf_transfer.proofs.directory.keys_in.Given as goal
 

@@ -1,10 +1,10 @@
 use Rattle.std.proofs.Common.{◌≡◌, ◌≢◌, ◌==◌, false, true, not, [], refl, sym, ◌∙◌, ne_eqb}
 use Rattle.std.specs.Prelude.{◌&&◌}
-use Rattle.ados_name.specs.Protection.{denies_delete}
-use Rattle.ados_packet.specs.declared.dos_error.DosError.TheVariants.{DeleteProtected, DirectoryNotEmpty, ObjectWrongType}
-use Rattle.ados_tree.specs.Tree.{entries, root}
-use Rattle.ados_handler.specs.Objects.{protection_of}
-use Rattle.ados_handler.specs.Refusals.{is_empty}
+use Rattle.ados_name.specs.Name.{denies_delete}
+use Rattle.ados_model.specs.declared.dos_error.DosError.TheVariants.{DeleteProtected, DirectoryNotEmpty, ObjectWrongType}
+use Rattle.ados_model.specs.Tree.{entries, root}
+use Rattle.ados_model.specs.Objects.{protection_of}
+use Rattle.ados_model.specs.Refusals.{is_empty}
 use Rattle.ados_handler.proofs.Deleting.{can_remove}
 use Rattle.ados_handler.proofs.Placed.{passed}
 use Rattle.ados_handler.proofs.Reading.{from_not}

@@ -1,7 +1,7 @@
 use Rattle.std.proofs.Common.{◌≡◌, ℕ, suc, ◌-◌, ◌+◌, arith, None, Some, sym, ap, ◌∙◌}
 use Rattle.adf_block.specs.Image.{block_count}
-use Rattle.ados_tree.specs.Tree.{parent_of}
-use Rattle.ados_tree.proofs.Standing.{count_same}
+use Rattle.ados_model.specs.Tree.{parent_of}
+use Rattle.ados_model.proofs.Standing.{count_same}
 use Rattle.ados_handler.proofs.Climbing.{climbs, ends, meets, met}
 use Rattle.adf_transfer.proofs.entries.is_under.Goals as goal
 

@@ -1,11 +1,11 @@
 use Rattle.std.proofs.Common.{◌≡◌, false, [], is_some, rules, sym, ap, ◌∙◌, subst, arith, le-ltb, lt-ltb}
 use Rattle.ados_name.specs.Name.{IsName}
-use Rattle.ados_packet.specs.declared.dos_error.DosError.TheVariants.{DiskFull, ObjectExists}
-use Rattle.ados_tree.specs.Tree.{free as free_of}
-use Rattle.ados_tree.specs.Stands.{Stands}
-use Rattle.ados_tree.specs.Walk.{child_of}
+use Rattle.ados_model.specs.declared.dos_error.DosError.TheVariants.{DiskFull, ObjectExists}
+use Rattle.ados_model.specs.Tree.{free as free_of}
+use Rattle.ados_model.specs.Stands.{Stands}
+use Rattle.ados_model.specs.Change.{child_of}
 use Rattle.ados_volume.specs.Shown.{Shown}
-use Rattle.ados_handler.specs.Objects.{lacks}
+use Rattle.ados_model.specs.Objects.{lacks}
 use Rattle.ados_change.proofs.Making.{unused}
 use Rattle.ados_handler.proofs.FreeBlock.{none_free_lacks}
 use Rattle.ados_handler.proofs.Holding.{true_false}

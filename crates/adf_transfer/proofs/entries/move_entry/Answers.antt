@@ -1,13 +1,13 @@
 use Rattle.std.proofs.Common.{◌≢◌, ◌==◌, [], rules, sym, ◌∙◌, subst, ne_eqb}
 use Rattle.ados_name.specs.Name.{IsName}
-use Rattle.ados_packet.specs.declared.dos_error.DosError.TheVariants.{ObjectExists, ObjectInUse, ObjectWrongType}
-use Rattle.ados_tree.specs.Tree.{root}
-use Rattle.ados_tree.specs.Stands.{Stands}
+use Rattle.ados_model.specs.declared.dos_error.DosError.TheVariants.{ObjectExists, ObjectInUse, ObjectWrongType}
+use Rattle.ados_model.specs.Tree.{root}
+use Rattle.ados_model.specs.Stands.{Stands}
 use Rattle.ados_volume.specs.Shown.{Shown}
 use Rattle.ados_handler.proofs.Placed.{passed}
 use Rattle.adf_transfer.proofs.Moving.{can_move}
 use Rattle.adf_transfer.proofs.Rows.{stops}
-use Rattle.ados_tree.proofs.Keeping.{same_keeps}
+use Rattle.ados_change.proofs.Keeping.{same_keeps}
 use Rattle.adf_transfer.proofs.Turns.{kept_as_it_was, kept_looked}
 use Rattle.adf_transfer.proofs.entries.move_entry.Goals as goal
 

@@ -1,8 +1,8 @@
 use Rattle.std.proofs.Common.{◌≢◌, ◌==◌, ◌+◌, ◌*◌, ◌/◌, ◌%◌, ℕ, [], sym, ◌∙◌, subst, ne_eqb}
-use Rattle.ados_packet.specs.declared.dos_error.DosError.TheVariants.{ObjectWrongType}
-use Rattle.ados_tree.specs.Tree.{root}
-use Rattle.ados_tree.specs.Stands.{Stands}
-use Rattle.ados_tree.specs.Change.{with_protection}
+use Rattle.ados_model.specs.declared.dos_error.DosError.TheVariants.{ObjectWrongType}
+use Rattle.ados_model.specs.Tree.{root}
+use Rattle.ados_model.specs.Stands.{Stands}
+use Rattle.ados_model.specs.Change.{with_protection}
 use Rattle.ados_handler.proofs.Placed.{passed}
 use Rattle.adf_transfer.proofs.fields.protect.Goals as goal
 

@@ -1,7 +1,7 @@
 use Rattle.std.proofs.Common.{sym, ap, ◌∙◌}
-use Rattle.ados_packet.specs.declared.info.FileInfo.{FileInfo}
-use Rattle.ados_tree.proofs.Nodes.{some_in}
-use Rattle.ados_handler.specs.Objects.{protection_in}
+use Rattle.ados_model.specs.declared.answer.FileInfo.{FileInfo}
+use Rattle.ados_model.proofs.Nodes.{some_in}
+use Rattle.ados_model.specs.Objects.{protection_in}
 use Rattle.adf_transfer.proofs.fields.protection_in.Goals as goal
 
 pub returns : goal.returns

@@ -1,9 +1,9 @@
 use Rattle.std.proofs.Common.{List, ℕ, Err, sym, ap, ◌∙◌}
-use Rattle.ados_name.specs.Path.{steps}
-use Rattle.ados_packet.specs.declared.dos_error.DosError.{DosError}
-use Rattle.ados_tree.specs.Tree.{root}
-use Rattle.ados_tree.specs.Walk.{walk_steps}
-use Rattle.ados_tree.specs.declared.path_fault.WalkFault.TheVariants.{DirectoryNotFound}
+use Rattle.ados_name.specs.Name.{steps}
+use Rattle.ados_model.specs.declared.dos_error.DosError.{DosError}
+use Rattle.ados_model.specs.Tree.{root}
+use Rattle.ados_model.specs.Change.{walk_steps}
+use Rattle.ados_model.specs.declared.dos_error.WalkFault.TheVariants.{DirectoryNotFound}
 use Rattle.adf_transfer.proofs.Walks.{no_place}
 use Rattle.adf_transfer.proofs.paths.place.Goals as goal
 

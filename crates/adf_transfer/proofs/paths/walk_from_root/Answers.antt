@@ -1,9 +1,9 @@
 use Rattle.std.proofs.Common.{ℕ, Option, Ok, sym, ap, ◌∙◌, subst}
-use Rattle.ados_name.specs.Path.{steps}
+use Rattle.ados_name.specs.Name.{steps}
 use Rattle.ados_name.specs.StepView.{step_of}
-use Rattle.ados_tree.specs.Stands.{Stands}
-use Rattle.ados_tree.specs.Keys.{HasKey}
-use Rattle.ados_tree.specs.Walk.{missing_before}
+use Rattle.ados_model.specs.Stands.{Stands}
+use Rattle.ados_model.specs.Keys.{HasKey}
+use Rattle.ados_model.specs.Change.{missing_before}
 use Rattle.ados_volume.specs.Shown.{Shown}
 use Rattle.ados_volume.specs.steps.PathStep.{found_or}
 use Rattle.adf_transfer.proofs.Walks.{HasCome, comes_on}

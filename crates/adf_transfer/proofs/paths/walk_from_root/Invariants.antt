@@ -1,8 +1,8 @@
 use Rattle.std.proofs.Common.{◌≡◌}
-use Rattle.ados_name.specs.Path.{steps}
-use Rattle.ados_tree.specs.Tree.{Tree}
-use Rattle.ados_tree.specs.Stands.{Stands}
-use Rattle.ados_tree.specs.Keys.{HasKey}
+use Rattle.ados_name.specs.Name.{steps}
+use Rattle.ados_model.specs.Tree.{Tree}
+use Rattle.ados_model.specs.Stands.{Stands}
+use Rattle.ados_model.specs.Keys.{HasKey}
 use Rattle.adf_transfer.proofs.Walks.{HasCome}
 use Rattle.adf_transfer.proofs.paths.walk_from_root.Given as goal
 

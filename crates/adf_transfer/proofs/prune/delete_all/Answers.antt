@@ -1,5 +1,5 @@
 use Rattle.std.proofs.Common.{[], refl, sym, ◌∙◌, subst}
-use Rattle.ados_tree.specs.Tree.{entries}
+use Rattle.ados_model.specs.Tree.{entries}
 use Rattle.adf_transfer.specs.Below.{AreBelow}
 use Rattle.adf_transfer.specs.InTurn.KeepsInTurn.{none}
 use Rattle.adf_transfer.proofs.prune.delete_all.Goals as goal

@@ -1,10 +1,10 @@
 use Rattle.std.proofs.Common.{◌≡◌, ℕ, ◌<◌, false, get_or}
-use Rattle.ados_tree.specs.Tree.{Tree}
-use Rattle.ados_tree.specs.Stands.{Stands}
+use Rattle.ados_model.specs.Tree.{Tree}
+use Rattle.ados_model.specs.Stands.{Stands}
 use Rattle.adf_transfer.specs.Located.{Located}
 use Rattle.adf_transfer.proofs.Denying.{denies}
 use Rattle.adf_transfer.proofs.prune.is_any_denied.Given as goal
 
--- the bits of those before allow it
+-- the protection bits of those before allow it
 abbrev pub invariant-loop-entry : goal.invariant-loop-entry
 invariant-loop-entry l = (t : Tree) → Stands l.volume.image t → (i : ℕ) → i < l.entry-index → (d : Located) → denies t l.force (get_or l.below i d).key ≡ false

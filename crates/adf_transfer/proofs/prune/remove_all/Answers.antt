@@ -1,10 +1,10 @@
 use Rattle.std.proofs.Common.{◌≡◌, ℕ, List, [], Some, refl, sym, ◌∙◌, subst, arith}
 use Rattle.std.proofs.lemmas.Grind.{common_steps}
-use Rattle.ados_tree.specs.Tree.{Tree, Proper, parent_of}
-use Rattle.ados_tree.specs.Stands.{Stands}
-use Rattle.ados_tree.specs.Change.{removed}
-use Rattle.ados_tree.specs.Keys.{HasEntryKey}
-use Rattle.ados_tree.proofs.Nodes.{some_in}
+use Rattle.ados_model.specs.Tree.{Tree, Proper, parent_of}
+use Rattle.ados_model.specs.Stands.{Stands}
+use Rattle.ados_model.specs.Change.{removed}
+use Rattle.ados_model.specs.Keys.{HasEntryKey}
+use Rattle.ados_model.proofs.Nodes.{some_in}
 use Rattle.ados_change.specs.Conditions.{CanRemove}
 use Rattle.ados_handler.proofs.Unlisting.{parent_there}
 use Rattle.adf_transfer.specs.Located.{Located}

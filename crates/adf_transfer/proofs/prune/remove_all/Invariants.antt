@@ -1,6 +1,6 @@
 use Rattle.std.proofs.Common.{◌≡◌, vec_len}
-use Rattle.ados_tree.specs.Tree.{Tree}
-use Rattle.ados_tree.specs.Stands.{Stands}
+use Rattle.ados_model.specs.Tree.{Tree}
+use Rattle.ados_model.specs.Stands.{Stands}
 use Rattle.adf_transfer.specs.InTurn.{KeepsInTurn}
 use Rattle.adf_transfer.proofs.Going.{keys_of}
 use Rattle.adf_transfer.proofs.Pruning.{IsPruning}

@@ -1,13 +1,11 @@
 use Rattle.std.proofs.Common.{◌+◌, ◌≤◌, ℕ, Option, [], length, is_some, rules, sym, ap, ◌∙◌, subst, le-ltb}
-use Rattle.ados_data.specs.Cost.{block_cost}
+use Rattle.ados_model.specs.Tree.{block_cost, free as free_of, Tree}
 use Rattle.ados_name.specs.Name.{IsName}
-use Rattle.ados_packet.specs.declared.dos_error.DosError.{DosError}
-use Rattle.ados_packet.specs.declared.dos_error.DosError.TheVariants.{ObjectExists}
-use Rattle.ados_tree.specs.Tree.{free as free_of, Tree}
-use Rattle.ados_tree.specs.Tree.Content.{File}
-use Rattle.ados_tree.specs.Stands.{Stands}
-use Rattle.ados_tree.specs.Change.{made}
-use Rattle.ados_tree.specs.Walk.{child_of}
+use Rattle.ados_model.specs.declared.dos_error.DosError.{DosError}
+use Rattle.ados_model.specs.declared.dos_error.DosError.TheVariants.{ObjectExists}
+use Rattle.ados_model.specs.Tree.Content.{File}
+use Rattle.ados_model.specs.Stands.{Stands}
+use Rattle.ados_model.specs.Change.{made, child_of}
 use Rattle.ados_volume.specs.Shown.{Shown}
 use Rattle.ados_change.proofs.Making.{unused}
 use Rattle.ados_handler.proofs.FreeBlock.{none_free_lacks}

@@ -1,15 +1,15 @@
 use Rattle.std.proofs.Common.{◌≡◌, ℕ, List, Some, is_some, ap, subst, arith}
-use Rattle.ados_tree.specs.Tree.{Node, Tree, size_of}
-use Rattle.ados_tree.specs.Stands.{Stands}
-use Rattle.ados_tree.specs.Keys.{HasFileKey}
-use Rattle.ados_tree.proofs.Nodes.{content_in}
-use Rattle.ados_packet.specs.declared.info.FileInfo.{FileInfo}
-use Rattle.ados_volume.specs.Examined.{file_info}
+use Rattle.ados_model.specs.Tree.{Node, Tree, size_of}
+use Rattle.ados_model.specs.Stands.{Stands}
+use Rattle.ados_model.specs.Keys.{HasFileKey}
+use Rattle.ados_model.proofs.Nodes.{content_in}
+use Rattle.ados_model.specs.declared.answer.FileInfo.{FileInfo}
+use Rattle.ados_model.specs.Objects.{file_info}
 use Rattle.adf_transfer.proofs.Filling.{is_cut, is_not_cut}
 use Rattle.adf_transfer.proofs.Rooms.{size_told}
 use Rattle.adf_transfer.proofs.put.cut_behind.Goals as goal
 
--- the size that is told of a file
+-- the size in a file's description
 told : (image : List ℕ) (key : ℕ) → HasFileKey image key → (t : Tree) → Stands image t → (info : FileInfo) → ((node : Node) → t.nodes key ≡ Some node → info ≡ file_info t.format key node) → info.size ≡ size_of t key
 told image key file t s info is = let n = content_in (t.nodes key) _ (file t s).1 in size_told t key n.0 info n.1 (is n.0 n.1)
 

@@ -1,5 +1,5 @@
-use Rattle.ados_tree.specs.Tree.{Node}
-use Rattle.ados_tree.specs.Change.{with_comment, with_protection}
+use Rattle.ados_model.specs.Tree.{Node}
+use Rattle.ados_model.specs.Change.{with_comment, with_protection}
 use Rattle.adf_transfer.proofs.Filling.{IsEntry, after_change, entry_changed}
 use Rattle.adf_transfer.specs.InTurn.KeepsInTurn.{none, one_more}
 use Rattle.adf_transfer.proofs.put.describe.Goals as goal

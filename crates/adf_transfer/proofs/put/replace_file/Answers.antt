@@ -1,12 +1,12 @@
 use Rattle.std.proofs.Common.{◌≡◌, ℕ, Bool, Option, None, false, true, not, List, [], ◌∷◌, length, refl, sym, ap, ◌∙◌}
 use Rattle.std.specs.Prelude.{◌&&◌}
-use Rattle.ados_name.specs.Protection.{denies_delete, denies_write}
-use Rattle.ados_packet.specs.declared.dos_error.DosError.{DosError}
-use Rattle.ados_packet.specs.declared.dos_error.DosError.TheVariants.{DeleteProtected, ObjectWrongType, WriteProtected}
-use Rattle.ados_tree.specs.Tree.{free as free_of, Tree}
-use Rattle.ados_tree.specs.Walk.{is_file}
-use Rattle.ados_handler.specs.Objects.{protection_of}
-use Rattle.ados_handler.specs.Refusals.{first_refusal, refuse}
+use Rattle.ados_name.specs.Name.{denies_delete, denies_write}
+use Rattle.ados_model.specs.declared.dos_error.DosError.{DosError}
+use Rattle.ados_model.specs.declared.dos_error.DosError.TheVariants.{DeleteProtected, ObjectWrongType, WriteProtected}
+use Rattle.ados_model.specs.Tree.{free as free_of, Tree}
+use Rattle.ados_model.specs.Change.{is_file}
+use Rattle.ados_model.specs.Objects.{protection_of}
+use Rattle.ados_model.specs.Refusals.{first_refusal, refuse}
 use Rattle.ados_handler.proofs.Placed.{passed}
 use Rattle.adf_transfer.specs.declared.put.NotPut.{NotPut}
 use Rattle.adf_transfer.specs.Refusals.{more_blocks, or_no_room}
@@ -15,15 +15,15 @@ use Rattle.adf_transfer.proofs.Rows.{stops}
 use Rattle.adf_transfer.specs.InTurn.KeepsInTurn.{none}
 use Rattle.adf_transfer.proofs.put.replace_file.Goals as goal
 
--- the bits of the file, and what they refuse
+-- the protection bits of the file, and their refusals
 abbrev bits_refuse : ℕ → Bool → Tree → List (Option DosError)
 bits_refuse key force t = refuse DeleteProtected (not force && denies_delete (protection_of t key)) ∷ refuse WriteProtected (not force && denies_write (protection_of t key)) ∷ []
 
--- a file is no directory
+-- a file is not a directory
 a_file : (key : ℕ) (force : Bool) (t : Tree) → is_file t key ≡ true → first_refusal (refuse ObjectWrongType (not (is_file t key)) ∷ bits_refuse key force t) ≡ first_refusal (bits_refuse key force t)
 a_file key force t file = passed ObjectWrongType (not (is_file t key)) (bits_refuse key force t) (ap not file)
 
--- the refusal of a file whose bits allow it is that of its room
+-- a file whose protection bits allow it is refused only if too few blocks are free
 abbrev room_of : ℕ → ℕ → Tree → Option DosError → Option NotPut
 room_of key size t error = or_no_room error (more_blocks t key size) (free_of t)
 

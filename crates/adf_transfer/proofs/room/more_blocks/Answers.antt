@@ -1,10 +1,9 @@
 use Rattle.std.proofs.Common.{◌≡◌, ℕ, ◌-◌, ap, ap₂, ◌∙◌}
 use Rattle.adf_block.specs.declared.Format.{Format}
-use Rattle.ados_data.specs.Cost.{block_cost}
-use Rattle.ados_data.specs.File.{format_of}
-use Rattle.ados_tree.specs.Tree.{size_of}
-use Rattle.ados_tree.proofs.Nodes.{some_in}
-use Rattle.ados_tree.proofs.Writable.{format_is}
+use Rattle.ados_model.specs.Tree.{block_cost, size_of}
+use Rattle.adf_block.specs.Image.{format_of}
+use Rattle.ados_model.proofs.Nodes.{some_in}
+use Rattle.ados_change.proofs.Writable.{format_is}
 use Rattle.adf_transfer.proofs.Rooms.{size_told}
 use Rattle.adf_transfer.proofs.room.more_blocks.Goals as goal
 

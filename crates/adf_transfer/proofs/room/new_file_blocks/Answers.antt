@@ -1,12 +1,12 @@
 use Rattle.std.proofs.Common.{ℕ, ◌+◌, ◌<◌, ◌^◌, ap, ◌∙◌, arith}
 use Rattle.adf_block.specs.declared.Format.{Format}
 use Rattle.adf_block.specs.declared.Format.TheVariants.{Ofs, Ffs}
-use Rattle.ados_data.specs.Cost.{block_cost}
-use Rattle.ados_data.specs.File.{format_of}
-use Rattle.ados_tree.proofs.Writable.{format_is}
+use Rattle.ados_model.specs.Tree.{block_cost}
+use Rattle.adf_block.specs.Image.{format_of}
+use Rattle.ados_change.proofs.Writable.{format_is}
 use Rattle.adf_transfer.proofs.room.new_file_blocks.Goals as goal
 
--- what a machine can hold takes few blocks
+-- a size below 2^64 needs fewer than 2^64 blocks
 cost_small : (format : Format) (size : ℕ) → size < 2 ^ 64 → 1 + block_cost format size < 2 ^ 64
 cost_small Ofs size small = omega arith
 cost_small Ffs size small = omega arith

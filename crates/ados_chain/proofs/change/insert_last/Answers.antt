@@ -1,12 +1,12 @@
 use Rattle.std.proofs.Common.{◌≡◌, ◌<◌, ◌+◌, ℕ, List, Contains, sym, ap, ◌∙◌, subst}
-use Rattle.adf_block.specs.Fields.{first_slot}
+use Rattle.adf_block.specs.Layout.{first_slot}
 use Rattle.ados_chain.specs.Chains.{slot_at}
 use Rattle.ados_chain.specs.Relinks.{Relinks, link_block, link_long}
 use Rattle.ados_chain.proofs.Changes.{slot_at-small, inserted}
 use Rattle.ados_chain.proofs.Found.{block_inside, long_is, block_apart, leads_to_end, listed_same}
 use Rattle.ados_chain.proofs.change.insert_last.Goals as goal
 
--- the slot of the entry is one of the table
+-- the slot of the entry is below 72
 small : (image : List ℕ) (key s : ℕ) → s ≡ slot_at image key → s < 72
 small image key s e = subst (λ (t : ℕ). t < 72) (sym e) (slot_at-small image key)
 

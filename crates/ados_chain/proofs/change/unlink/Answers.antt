@@ -1,17 +1,17 @@
 use Rattle.std.proofs.Common.{◌≡◌, ◌<◌, ◌+◌, ◌++◌, ◌∷◌, ℕ, List, Contains, sym, ap, ◌∙◌, subst}
 use Rattle.adf_block.specs.Image.{long}
-use Rattle.adf_block.specs.Fields.{next_in_chain, first_slot}
+use Rattle.adf_block.specs.Layout.{next_in_chain, first_slot}
 use Rattle.ados_chain.specs.Chains.{IsEntryBlock, slot_at}
 use Rattle.ados_chain.specs.Relinks.{Relinks, CanUnlink, link_long}
 use Rattle.ados_chain.proofs.Changes.{slot_at-small, unlinked}
 use Rattle.ados_chain.proofs.Found.{block_inside, long_is, block_apart, listed_same, in_own_slot, entry_follows}
 use Rattle.ados_chain.proofs.change.unlink.Goals as goal
 
--- the slot of the entry is one of the table
+-- the slot of the entry is below 72
 small : (image : List ℕ) (key s : ℕ) → s ≡ slot_at image key → s < 72
 small image key s e = subst (λ (t : ℕ). t < 72) (sym e) (slot_at-small image key)
 
--- what is known of the entry
+-- the entry may be an entry
 entry_of : (image : List ℕ) (dir key : ℕ) → CanUnlink image dir key → IsEntryBlock image dir key
 entry_of image dir key r = r.lawful.entry r.listed.0 key r.listed.1 r.listed.2
 

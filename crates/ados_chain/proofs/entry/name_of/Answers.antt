@@ -1,14 +1,14 @@
 use Rattle.std.proofs.Common.{◌≡◌, ◌↔◌, ◌-◌, ◌+◌, ℕ, List, take, drop, slice_index, Option, Result, Ok, Err, refl, sym, ◌∙◌, subst, arith}
 use Rattle.std.specs.Prelude.{MatchOption, IfOk, IsOk}
 use Rattle.std.specs.Result.{result_ok}
-use Rattle.adf_block.specs.Fields.{name_byte}
+use Rattle.adf_block.specs.Layout.{name_byte}
 use Rattle.ados_name.specs.declared.name.Name.{Name}
-use Rattle.ados_name.specs.declared.name.NameFault.{NameFault}
+use Rattle.ados_name.specs.declared.NameFault.{NameFault}
 use Rattle.ados_name.specs.Name.{IsName}
 use Rattle.ados_chain.proofs.Framing.{name-short, name_byte-read, name-read}
 use Rattle.ados_chain.proofs.entry.name_of.Goals as goal
 
--- a name that was made of a text is the text, and none is made of a text that is no name
+-- a name made from a text is the text; a text that is not a name makes none
 made : (r : Result Name NameFault) (o : Option Name) (text name : List ℕ) → o ≡ result_ok r → text ≡ name → IfOk r (λ n. n ≡ text) → IsOk r ↔ IsName text → MatchOption o (¬ IsName name) (λ n. n ≡ name × IsName name)
 made r o text name e same ok valid = subst (λ (p : Option Name). MatchOption p (¬ IsName name) (λ n. n ≡ name × IsName name)) (sym e) (go r ok valid)
   where

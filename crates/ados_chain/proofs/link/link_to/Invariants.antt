@@ -1,4 +1,5 @@
--- The link stands behind a front of the chain that does not have the entry; the walk takes as many steps as the rest is long.
+-- The link follows entries of the chain that are not the wanted one. The walk takes as many steps as there are entries
+-- left.
 use Rattle.std.proofs.Common.{ℕ, List}
 use Rattle.adf_block.specs.Image.{block_count}
 use Rattle.ados_chain.specs.Chains.{LawfulChains}

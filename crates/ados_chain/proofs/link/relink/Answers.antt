@@ -1,5 +1,5 @@
 use Rattle.std.proofs.Common.{◌<◌, inl, inr, ◌∙◌, arith}
-use Rattle.adf_block.specs.Fields.{sum_long, next_in_chain}
+use Rattle.adf_block.specs.Layout.{sum_long, next_in_chain}
 use Rattle.adf_block.specs.Frame.{AtLong}
 use Rattle.adf_block.proofs.Frames.{same_trans, same_weaken, other_block_sum, block_from_long}
 use Rattle.ados_chain.specs.Relinks.{AtLinks}

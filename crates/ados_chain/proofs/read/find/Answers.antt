@@ -7,7 +7,7 @@ use Rattle.ados_chain.proofs.Changes.{slot-small}
 use Rattle.ados_chain.proofs.Walks.{SearchedOn, key_in, steps_fall, searched_more, searched_all, found_here}
 use Rattle.ados_chain.proofs.read.find.Goals as goal
 
--- the key that is looked at is an entry
+-- the key at the walk's position is an entry
 entry_of : (image : List ℕ) (dir : ℕ) (name : List ℕ) (key : ℕ) (chains : ℕ → List ℕ) → LawfulChains image dir chains → SearchedOn image name (chains (slot name)) key → (key ≡ 0 → ⊥) → IsEntryBlock image dir key
 entry_of image dir name key chains h w n = h.entry (slot name) key (slot-small name) (key_in image dir chains h (slot name) (slot-small name) key w.front w.rest w.stands n)
 

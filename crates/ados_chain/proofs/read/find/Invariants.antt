@@ -1,4 +1,4 @@
--- The entries before the key have other names; the walk takes as many steps as the rest is long.
+-- The entries before the key have other names. The walk takes as many steps as there are entries left.
 use Rattle.std.proofs.Common.{ℕ, List}
 use Rattle.adf_block.specs.Image.{block_count}
 use Rattle.ados_name.specs.Name.{slot}

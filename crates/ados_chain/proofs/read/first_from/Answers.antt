@@ -1,6 +1,6 @@
 use Rattle.std.proofs.Common.{◌≡◌, ◌-◌, ℕ, Some, ap, sym, ◌∙◌, subst, arith}
-use Rattle.adf_block.specs.Chained.{Chained}
-use Rattle.adf_block.specs.Fields.{next_in_chain}
+use Rattle.adf_block.specs.Image.{Chained}
+use Rattle.adf_block.specs.Layout.{next_in_chain}
 use Rattle.ados_chain.specs.Chains.{chains_from}
 use Rattle.ados_chain.specs.Look.{first_left}
 use Rattle.ados_chain.proofs.Order.{first-here, first-later, first-all}

@@ -1,11 +1,11 @@
 use Rattle.std.proofs.Common.{◌≡◌, ℕ, List, length, take, ap, ◌∙◌, sym, subst, arith}
 use Rattle.std.proofs.lemmas.Bool.{false≢true}
 use Rattle.std.proofs.lemmas.List.{length-take}
-use Rattle.ados_data.specs.Cost.{data_count, extension_count}
-use Rattle.ados_data.specs.File.{format_of, data_blocks, extension_blocks, contents}
-use Rattle.ados_tree.specs.Tree.{bytes_of}
-use Rattle.ados_tree.specs.Stands.{Stands}
-use Rattle.ados_tree.specs.Change.{rewritten}
+use Rattle.ados_model.specs.Tree.{data_count, extension_count, bytes_of}
+use Rattle.adf_block.specs.Image.{format_of}
+use Rattle.ados_model.specs.File.{data_blocks, extension_blocks, contents}
+use Rattle.ados_model.specs.Stands.{Stands}
+use Rattle.ados_model.specs.Change.{rewritten}
 use Rattle.ados_change.proofs.Calls.{of_cut}
 use Rattle.ados_change.proofs.Relaid.{IsRewritten}
 use Rattle.ados_change.proofs.Renewed.{bytes_in, size_in, mid_writable, same_contents, header_stamped, stands_rewritten, keeps_rest, inside_mid, marks_mid}
@@ -21,7 +21,7 @@ cut-requires-clause-shorter c =
     let size = size_in c.args.image.now c.requires.tree.0 c.requires.tree.1 c.args.file c.requires.file in
     omega (arith, same, size, c.requires.shorter c.requires.tree.0 c.requires.tree.1)
 
--- the file is rewritten, in its first blocks
+-- the file is rewritten in its first blocks
 cut_short : (c : goal.Else-prove-2) → IsRewritten c.stamp.new.image c.args.file (data_blocks c.stamp.new.image c.args.file) (extension_blocks c.stamp.new.image c.args.file) c.cut.new.image (data_blocks c.cut.new.image c.args.file) (extension_blocks c.cut.new.image c.args.file) (contents c.cut.new.image c.args.file)
 cut_short c =
     let e = c.cut.ensures in

@@ -1,11 +1,11 @@
 use Rattle.std.proofs.Common.{◌≡◌, ◌≢◌, ℕ, ◌+◌, ◌-◌, ◌++◌, List, length, replicate, ap, ◌∙◌, subst, refl, arith}
 use Rattle.std.proofs.lemmas.List.{length-append, length-replicate}
-use Rattle.adf_block.specs.Image.{free_bit_count}
-use Rattle.ados_data.specs.Cost.{block_cost}
-use Rattle.ados_data.specs.File.{format_of, data_blocks, extension_blocks, contents}
-use Rattle.ados_tree.specs.Tree.{bytes_of}
-use Rattle.ados_tree.specs.Stands.{Stands}
-use Rattle.ados_tree.specs.Change.{rewritten}
+use Rattle.adf_block.specs.Whole.{free_bit_count}
+use Rattle.ados_model.specs.Tree.{block_cost, bytes_of}
+use Rattle.adf_block.specs.Image.{format_of}
+use Rattle.ados_model.specs.File.{data_blocks, extension_blocks, contents}
+use Rattle.ados_model.specs.Stands.{Stands}
+use Rattle.ados_model.specs.Change.{rewritten}
 use Rattle.ados_change.proofs.Calls.{of_gains}
 use Rattle.ados_change.proofs.Relaid.{IsRewritten}
 use Rattle.ados_change.proofs.Renewed.{bytes_in, size_in, room_enough, lacks_room, mid_writable, below_mid, same_contents, same_place, same_room, stands_rewritten, keeps_rest}
@@ -51,7 +51,7 @@ grown_length c =
       c.requires.longer c.requires.tree.0 c.requires.tree.1,
     )
 
--- the file is rewritten, in as many blocks more as it needs
+-- the file is rewritten, with as many more blocks as it needs
 grown_long : (c : goal.After-extend_near) → IsRewritten c.stamp.new.image c.args.file (data_blocks c.stamp.new.image c.args.file) (extension_blocks c.stamp.new.image c.args.file) c.extend_near.new.image (data_blocks c.extend_near.new.image c.args.file) (extension_blocks c.extend_near.new.image c.args.file) (contents c.extend_near.new.image c.args.file)
 grown_long c =
     let e = c.extend_near.ensures in
@@ -59,7 +59,7 @@ grown_long c =
     of_gains c.stamp.new.image c.extend_near.new.image c.args.file
     (mid_writable c.args.moment c.args.image.now c.stamp.new.image c.args.file c.requires.tree c.requires.file c.stamp.ensures) e.writable e.format e.leaves e.gains e.blocks e.extensions balance
 
--- so it does not have the bytes that it had
+-- so its bytes are other than before
 not_as_long : (c : goal.After-extend_near) → contents c.extend_near.new.image c.args.file ≢ contents c.stamp.new.image c.args.file
 not_as_long c same =
     let before = ap length (same_contents c.args.moment c.args.image.now c.stamp.new.image c.args.file c.requires.tree c.requires.file c.stamp.ensures) in

@@ -2,20 +2,20 @@ use Rattle.std.proofs.Common.{◌≡◌, ◌≢◌, ℕ, ◌+◌, ◌≤◌, ◌
 use Rattle.std.proofs.lemmas.Bool.{eqb-false, ltb-true}
 use Rattle.std.proofs.lemmas.List.{length-append, length-take, length-drop}
 use Rattle.ados_name.specs.declared.Date3.{Date3}
-use Rattle.adf_block.specs.Image.{free_bit_count}
-use Rattle.ados_data.specs.Cost.{block_cost}
-use Rattle.ados_data.specs.File.{format_of, data_blocks, extension_blocks, contents, overlaid}
+use Rattle.adf_block.specs.Whole.{free_bit_count}
+use Rattle.ados_model.specs.Tree.{block_cost, Tree, bytes_of, size_of}
+use Rattle.adf_block.specs.Image.{format_of}
+use Rattle.ados_model.specs.File.{data_blocks, extension_blocks, contents}
+use Rattle.ados_model.specs.Change.{overlaid, rewritten, written}
 use Rattle.ados_data.specs.Changing.{HasFree}
-use Rattle.ados_tree.specs.Tree.{Tree, bytes_of, size_of}
-use Rattle.ados_tree.specs.Stands.{Stands}
-use Rattle.ados_tree.specs.Change.{rewritten, written}
+use Rattle.ados_model.specs.Stands.{Stands}
 use Rattle.ados_change.specs.Renewed.{NeedsMore}
 use Rattle.ados_change.proofs.Calls.{of_gains}
 use Rattle.ados_change.proofs.Relaid.{IsRewritten}
 use Rattle.ados_change.proofs.Renewed.{bytes_in, size_in, room_enough, lacks_room, mid_writable, below_mid, same_contents, same_place, same_room, stands_rewritten, keeps_rest}
 use Rattle.ados_change.proofs.content.write.Goals as goal
 
--- with no bytes nothing is written, and none more are needed
+-- no bytes: nothing is written, and no blocks are needed
 none_written : (image : List ℕ) (moment : Date3) (file pos : ℕ) (bytes : List ℕ) (t : Tree) → length bytes ≡ 0 → Stands image t → Stands image (written moment file pos bytes t)
 none_written image moment file pos [] t e s = s
 none_written image moment file pos (x ∷ xs) t e s = absurd (omega (arith, e))
@@ -25,7 +25,7 @@ none_needed file pos n t e l more =
     let same : max (size_of t file) (pos + n) ≡ size_of t file = omega (arith, e, l) in
     omega (arith, ltb-true _ _ more, ap (block_cost t.format) same)
 
--- some bytes are laid over those of the file
+-- some bytes are written over those of the file
 some_written : (moment : Date3) (file pos : ℕ) (bytes : List ℕ) (t : Tree) → length bytes ≢ 0 → rewritten moment file (overlaid (bytes_of t file) pos bytes) t ≡ written moment file pos bytes t
 some_written moment file pos [] t n = absurd (n refl)
 some_written moment file pos (x ∷ xs) t n = refl
@@ -70,7 +70,7 @@ write_near-bound-requires-clause-free c =
     subst (HasFree c.stamp.new.image c.args.file) size
     (same_room c.args.moment c.args.image.now c.stamp.new.image c.args.file c.requires.tree c.requires.file c.stamp.ensures c.max-size.result c.if-not-has_room.ensures)
 
--- the length of a list over which another was laid
+-- the length of a list with another written over it
 length-overlaid : (xs : List ℕ) (pos : ℕ) (ys : List ℕ) → pos ≤ length xs → length (overlaid xs pos ys) ≡ max (length xs) (pos + length ys)
 length-overlaid xs pos ys l =
     omega (
@@ -82,7 +82,7 @@ length-overlaid xs pos ys l =
       length-drop (pos + length ys) xs,
     )
 
--- the file is rewritten, in as many blocks more as it needs
+-- the file is rewritten, with as many more blocks as it needs
 written_over : (c : goal.Else-prove-2) → IsRewritten c.stamp.new.image c.args.file (data_blocks c.stamp.new.image c.args.file) (extension_blocks c.stamp.new.image c.args.file) c.write_near-bound.new.image (data_blocks c.write_near-bound.new.image c.args.file) (extension_blocks c.write_near-bound.new.image c.args.file) (contents c.write_near-bound.new.image c.args.file)
 written_over c =
     let e = c.write_near-bound.ensures in

@@ -1,6 +1,6 @@
 use Rattle.std.proofs.Common.{subst, sym}
-use Rattle.ados_tree.specs.NewBlocks.{KeepsRest}
-use Rattle.ados_tree.proofs.Keeping.{same_keeps}
+use Rattle.ados_change.specs.NewBlocks.{KeepsRest}
+use Rattle.ados_change.proofs.Keeping.{same_keeps}
 use Rattle.ados_change.proofs.Created.{created, created_below, created_keeps, insertable, pages_of_standing, room}
 use Rattle.ados_change.proofs.entry_made.create.Goals as goal
 

@@ -1,7 +1,8 @@
 use Rattle.std.proofs.Common.{◌≡◌, ◌≢◌, sym, ◌∙◌}
-use Rattle.adf_block.specs.Fields.{file_type, secondary_type}
-use Rattle.ados_tree.specs.Change.{shortened}
-use Rattle.ados_tree.proofs.Keeping.{same_keeps}
+use Rattle.adf_block.specs.Layout.{file_type}
+use Rattle.adf_block.specs.Image.{secondary_type}
+use Rattle.ados_model.specs.Change.{shortened}
+use Rattle.ados_change.proofs.Keeping.{same_keeps}
 use Rattle.ados_change.proofs.Emptier.{cut_to_nothing, entry_cut, is_file, kept_as_is, key_inside}
 use Rattle.ados_change.proofs.entry_removed.empty.Goals as goal
 

@@ -1,8 +1,8 @@
 use Rattle.std.proofs.Common.{ℕ, ◌+◌, length, refl, subst}
 use Rattle.adf_block.specs.Frame.{SameBut}
-use Rattle.ados_tree.specs.Tree.{root}
-use Rattle.ados_tree.specs.Faults.{root_of}
-use Rattle.ados_tree.proofs.Standing.{root_is}
+use Rattle.ados_model.specs.Tree.{root}
+use Rattle.ados_model.specs.Faults.{root_of}
+use Rattle.ados_model.proofs.Standing.{root_is}
 use Rattle.ados_change.specs.Places.{Restamped}
 use Rattle.ados_change.specs.FieldTold.{named}
 use Rattle.ados_change.proofs.Summing.{restamped}

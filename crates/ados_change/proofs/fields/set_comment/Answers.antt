@@ -1,7 +1,7 @@
 use Rattle.std.proofs.Common.{◌+◌, length}
-use Rattle.ados_tree.specs.Faults.{root_of}
-use Rattle.ados_tree.proofs.Nodes.{some_in}
-use Rattle.ados_tree.proofs.Standing.{root_is}
+use Rattle.ados_model.specs.Faults.{root_of}
+use Rattle.ados_model.proofs.Nodes.{some_in}
+use Rattle.ados_model.proofs.Standing.{root_is}
 use Rattle.ados_change.specs.FieldTold.{commented}
 use Rattle.ados_change.proofs.Summing.{restamped}
 use Rattle.ados_change.proofs.Cases.{comment_case, changed_node, keeps_restamped}

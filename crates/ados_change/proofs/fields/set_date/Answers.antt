@@ -1,6 +1,6 @@
-use Rattle.ados_tree.specs.Faults.{root_of}
-use Rattle.ados_tree.proofs.Nodes.{some_in}
-use Rattle.ados_tree.proofs.Standing.{root_is}
+use Rattle.ados_model.specs.Faults.{root_of}
+use Rattle.ados_model.proofs.Nodes.{some_in}
+use Rattle.ados_model.proofs.Standing.{root_is}
 use Rattle.ados_change.specs.FieldTold.{dated}
 use Rattle.ados_change.proofs.Summing.{restamped}
 use Rattle.ados_change.proofs.Cases.{date_case, keeps_restamped}

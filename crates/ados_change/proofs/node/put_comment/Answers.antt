@@ -1,7 +1,7 @@
 use Rattle.std.proofs.Common.{◌+◌, List, ℕ, length, subst}
-use Rattle.adf_block.specs.Fields.{HasText}
+use Rattle.adf_block.specs.Image.{HasText}
 use Rattle.adf_block.specs.Frame.{SameBut}
-use Rattle.ados_tree.proofs.Nodes.{some_in}
+use Rattle.ados_model.proofs.Nodes.{some_in}
 use Rattle.ados_change.specs.Places.{Summed}
 use Rattle.ados_change.proofs.Cases.{comment_case, commented_stands, kept_changed}
 use Rattle.ados_change.proofs.node.put_comment.Goals as goal

@@ -1,9 +1,8 @@
 use Rattle.std.proofs.Common.{ℕ, ◌+◌, List, length, refl, ap, sym, subst, ◌∙◌}
-use Rattle.adf_block.specs.Image.{block_sum}
-use Rattle.adf_block.specs.Fields.{HasText}
+use Rattle.adf_block.specs.Image.{block_sum, HasText}
 use Rattle.adf_block.specs.Frame.{SameBut}
-use Rattle.ados_tree.specs.Tree.{root}
-use Rattle.ados_tree.proofs.Standing.{root_is}
+use Rattle.ados_model.specs.Tree.{root}
+use Rattle.ados_model.proofs.Standing.{root_is}
 use Rattle.ados_change.specs.Places.{Summed}
 use Rattle.ados_change.proofs.Cases.{name_case, named_stands, kept_changed}
 use Rattle.ados_change.proofs.node.put_disk_name.Goals as goal

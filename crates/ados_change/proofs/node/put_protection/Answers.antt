@@ -1,5 +1,5 @@
 use Rattle.std.proofs.Common.{◌∙◌}
-use Rattle.ados_tree.proofs.Nodes.{some_in}
+use Rattle.ados_model.proofs.Nodes.{some_in}
 use Rattle.ados_change.proofs.Cases.{bits_case, protected_stands, kept_changed}
 use Rattle.ados_change.proofs.node.put_protection.Goals as goal
 

@@ -1,4 +1,4 @@
-use Rattle.ados_tree.proofs.Nodes.{some_in}
+use Rattle.ados_model.proofs.Nodes.{some_in}
 use Rattle.ados_change.proofs.Cases.{date_case, dated_stands, kept_changed}
 use Rattle.ados_change.proofs.node.touch.Goals as goal
 

@@ -1,14 +1,15 @@
 use Rattle.std.proofs.Common.{◌≡◌, Bool, true, false, MatchBool, length, sym, ap, ap₂, ◌∙◌, arith}
-use Rattle.ados_data.specs.Cost.{block_cost}
-use Rattle.ados_data.specs.File.{format_of, contents}
-use Rattle.ados_tree.proofs.Writable.{lawful_pages}
+use Rattle.ados_model.specs.Tree.{block_cost}
+use Rattle.adf_block.specs.Image.{format_of}
+use Rattle.ados_model.specs.File.{contents}
+use Rattle.ados_change.proofs.Writable.{lawful_pages}
 use Rattle.ados_change.proofs.Renewed.{size_in}
 use Rattle.ados_change.proofs.space.has_room.Goals as goal
 
 pub has_free-requires-clause-pages : goal.has_free-requires-clause-pages
 has_free-requires-clause-pages c = lawful_pages c.args.image.now c.requires.tree.0 c.requires.tree.1
 
--- a test of one fact is one of another that comes to the same
+-- a test of one fact is a test of an equivalent one
 told : (b : Bool) (P Q : Type 0) → MatchBool b P (¬ P) → (P → Q) → (Q → P) → MatchBool b Q (¬ Q)
 told true P Q h on back = on h
 told false P Q h on back = λ q. h (back q)

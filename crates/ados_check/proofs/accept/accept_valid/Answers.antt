@@ -1,5 +1,5 @@
 use Rattle.std.proofs.Common.{List, ℕ, ap, subst}
-use Rattle.adf_block.specs.Image.{IsImage}
+use Rattle.adf_block.specs.Whole.{IsImage}
 use Rattle.ados_check.specs.Laws.{AreInUse}
 use Rattle.ados_check.specs.Source.{SourceView}
 use Rattle.ados_check.proofs.accept.accept_valid.Goals as goal

@@ -4,15 +4,15 @@ use Rattle.std.proofs.lemmas.Nat.{pow_below}
 use Rattle.adf_block.specs.Image.{long}
 use Rattle.ados_map.specs.Pages.{map_long, page_block, page_of, pages_of}
 use Rattle.ados_map.proofs.BitLemmas.{marked-is}
-use Rattle.ados_tree.specs.Faults.{root_of}
+use Rattle.ados_model.specs.Faults.{root_of}
 use Rattle.ados_check.specs.Source.{Tells}
 use Rattle.ados_check.proofs.bitmap.is_free.Goals as goal
 
--- the long of the root that was read is the page of the block's bit
+-- the long read from the root is the bitmap block of the block's bit
 page_read : (image : List ℕ) (root page block : ℕ) → root ≡ root_of image → page ≡ long image root (79 + page_of block) → page ≡ page_block image (page_of block)
 page_read image root page block at read = read ∙ ap (λ (b : ℕ). long image b (79 + page_of block)) at
 
--- a one shifted by less than its width
+-- 1 shifted by fewer than 32 bits
 shifted : (i : ℕ) → i < 32 → 1 * 2 ^ i % 4294967296 ≡ 2 ^ i
 shifted i lt = omega (arith, pow_below i 32 lt)
 

@@ -1,9 +1,9 @@
 use Rattle.std.proofs.Common.{◌≡◌, ◌<◌, ◌≤◌, ◌+◌, ◌-◌, ◌/◌, ◌%◌, ℕ, suc, ◌∷◌, take, slice_index, refl, sym, ap, ◌∙◌, subst, arith, below_more}
 use Rattle.std.specs.List.{sum_by}
-use Rattle.adf_block.specs.Image.{long}
-use Rattle.adf_block.specs.Fields.{held_count, next_data}
-use Rattle.ados_tree.specs.declared.fault.FaultKind.TheVariants.{BadCount, BadPointer}
-use Rattle.ados_tree.specs.Faults.{HasBadPointer}
+use Rattle.adf_block.specs.Image.{long, held_count}
+use Rattle.adf_block.specs.Layout.{next_data}
+use Rattle.ados_model.specs.declared.fault.FaultKind.TheVariants.{BadCount, BadPointer}
+use Rattle.ados_model.specs.Faults.{HasBadPointer}
 use Rattle.ados_check.proofs.Shown.{shown}
 use Rattle.ados_check.proofs.Headers.{header_inside}
 use Rattle.ados_check.proofs.Pointed.{blocks_upto, holder_within}

@@ -1,6 +1,6 @@
 use Rattle.std.proofs.Common.{sym, ◌∙◌, arith}
-use Rattle.ados_tree.specs.declared.fault.FaultKind.TheVariants.{BadCount}
-use Rattle.ados_tree.specs.Faults.HasBadCount.{held_not_full, held_none, held_over}
+use Rattle.ados_model.specs.declared.fault.FaultKind.TheVariants.{BadCount}
+use Rattle.ados_model.specs.Faults.HasBadCount.{held_not_full, held_none, held_over}
 use Rattle.ados_check.proofs.Shown.{shown}
 use Rattle.ados_check.proofs.chain.held_in.Goals as goal
 

@@ -1,6 +1,6 @@
 use Rattle.std.proofs.Common.{refl, sym, ◌∙◌, arith}
-use Rattle.ados_tree.specs.declared.fault.FaultKind.TheVariants.{BadCount}
-use Rattle.ados_tree.specs.Faults.HasBadCount.{wrong_size}
+use Rattle.ados_model.specs.declared.fault.FaultKind.TheVariants.{BadCount}
+use Rattle.ados_model.specs.Faults.HasBadCount.{wrong_size}
 use Rattle.ados_check.proofs.Shown.{shown}
 use Rattle.ados_check.proofs.Pointed.{length-blocks_upto, are_data_blocks}
 use Rattle.ados_check.proofs.FilesTold.{holder_told}

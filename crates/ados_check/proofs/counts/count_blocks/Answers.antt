@@ -1,5 +1,5 @@
 use Rattle.std.proofs.Common.{◌⊎◌, ℕ, ◌==◌, IsTrue, sym, subst, arith}
-use Rattle.ados_tree.specs.Faults.{HasPointers, IsExtension}
+use Rattle.ados_model.specs.Faults.{HasPointers, IsExtension}
 use Rattle.ados_check.proofs.Headers.{within, has_pointers, first_or_extension, few_extensions}
 use Rattle.ados_check.proofs.FilesTold.{holder_told}
 use Rattle.ados_check.proofs.counts.count_blocks.Goals as goal

@@ -1,5 +1,5 @@
 use Rattle.std.proofs.Common.{◌∙◌}
-use Rattle.ados_tree.specs.Faults.HasBadParent.{entry_parent}
+use Rattle.ados_model.specs.Faults.HasBadParent.{entry_parent}
 use Rattle.ados_check.proofs.looks.look_entry.Goals as goal
 
 pub returns-then-long-dir : goal.returns-then-long-dir

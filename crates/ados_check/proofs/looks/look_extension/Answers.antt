@@ -1,5 +1,5 @@
 use Rattle.std.proofs.Common.{◌∙◌}
-use Rattle.ados_tree.specs.Faults.HasBadParent.{extension_file}
+use Rattle.ados_model.specs.Faults.HasBadParent.{extension_file}
 use Rattle.ados_check.proofs.looks.look_extension.Goals as goal
 
 pub returns-then-long-file : goal.returns-then-long-file

@@ -1,7 +1,7 @@
 use Rattle.std.proofs.Common.{ℕ, sym, subst}
-use Rattle.ados_tree.specs.declared.role.Role.TheVariants.{Root}
-use Rattle.ados_tree.specs.Faults.{Reached}
-use Rattle.ados_tree.specs.Faults.Reached.{start}
+use Rattle.ados_model.specs.declared.role.Role.TheVariants.{Root}
+use Rattle.ados_model.specs.Faults.{Reached}
+use Rattle.ados_model.specs.Faults.Reached.{start}
 use Rattle.ados_check.proofs.looks.look_root.Goals as goal
 
 pub returns-then-not-has_sum : goal.returns-then-not-has_sum

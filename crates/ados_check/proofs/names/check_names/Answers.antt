@@ -1,6 +1,6 @@
 use Rattle.std.proofs.Common.{◌+◌, inl, sym, ◌∙◌, subst, arith}
 use Rattle.std.proofs.lemmas.Bool.{not-true, not-false}
-use Rattle.ados_tree.specs.declared.fault.FaultKind.TheVariants.{DuplicateName}
+use Rattle.ados_model.specs.declared.fault.FaultKind.TheVariants.{DuplicateName}
 use Rattle.ados_check.proofs.Shown.{shown}
 use Rattle.ados_check.proofs.Entered.{AreEntered, entered_none, entered_twice, entered_more, all_unlike}
 use Rattle.ados_check.proofs.FilesTold.{entry_told}

@@ -1,8 +1,9 @@
 use Rattle.std.proofs.Common.{◌≡◌, ◌-◌, sym, ◌∙◌, arith}
-use Rattle.adf_block.specs.Fields.{secondary_type, file_type}
-use Rattle.ados_tree.specs.declared.role.Role.{Role}
-use Rattle.ados_tree.specs.declared.role.Role.TheVariants.{Entry, Extension, Data}
-use Rattle.ados_tree.specs.Faults.{IsPlace}
+use Rattle.adf_block.specs.Image.{secondary_type}
+use Rattle.adf_block.specs.Layout.{file_type}
+use Rattle.ados_model.specs.declared.role.Role.{Role}
+use Rattle.ados_model.specs.declared.role.Role.TheVariants.{Entry, Extension, Data}
+use Rattle.ados_model.specs.Faults.{IsPlace}
 use Rattle.ados_check.proofs.PlaceLemmas.{is_only, of_entry, next_place, child_place, pointer_place, first_place}
 use Rattle.ados_check.proofs.PlaceLemmas.OfEntry.{of_next, of_child, of_pointer, of_extension}
 use Rattle.ados_check.proofs.places.entry_place.Goals as goal

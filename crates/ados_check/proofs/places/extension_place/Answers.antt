@@ -1,7 +1,7 @@
 use Rattle.std.proofs.Common.{◌∙◌, arith}
-use Rattle.ados_tree.specs.declared.role.Role.{Role}
-use Rattle.ados_tree.specs.declared.role.Role.TheVariants.{Extension, Data}
-use Rattle.ados_tree.specs.Faults.{IsPlace}
+use Rattle.ados_model.specs.declared.role.Role.{Role}
+use Rattle.ados_model.specs.declared.role.Role.TheVariants.{Extension, Data}
+use Rattle.ados_model.specs.Faults.{IsPlace}
 use Rattle.ados_check.proofs.PlaceLemmas.{is_only, of_extension_block, data_place, further_place}
 use Rattle.ados_check.proofs.PlaceLemmas.OfExtension.{of_data, of_further}
 use Rattle.ados_check.proofs.places.extension_place.Goals as goal

@@ -1,8 +1,8 @@
 use Rattle.std.proofs.Common.{◌<◌, ◌-◌, ◌∙◌, arith}
 use Rattle.adf_block.specs.Image.{block_count, page_count}
-use Rattle.ados_tree.specs.declared.role.Role.{Role}
-use Rattle.ados_tree.specs.declared.role.Role.TheVariants.{Root, Page, Entry}
-use Rattle.ados_tree.specs.Faults.{IsPlace}
+use Rattle.ados_model.specs.declared.role.Role.{Role}
+use Rattle.ados_model.specs.declared.role.Role.TheVariants.{Root, Page, Entry}
+use Rattle.ados_model.specs.Faults.{IsPlace}
 use Rattle.ados_check.proofs.PlaceLemmas.{is_only, of_root, page_place, slot_place}
 use Rattle.ados_check.proofs.PlaceLemmas.OfRoot.{of_page, of_slot}
 use Rattle.ados_check.proofs.places.root_place.Goals as goal

@@ -1,6 +1,6 @@
 use Rattle.std.proofs.Common.{List, ℕ, Option, Result, Ok, Err, MatchResult}
-use Rattle.ados_tree.specs.declared.fault.VolumeFault.{VolumeFault}
-use Rattle.ados_tree.specs.Accepted.{IsRefusal}
+use Rattle.ados_model.specs.declared.fault.VolumeFault.{VolumeFault}
+use Rattle.ados_model.specs.Accepted.{IsRefusal}
 use Rattle.ados_check.specs.declared.mark.Mark.{Mark}
 use Rattle.ados_check.specs.Marks.{AreUnlike, IsChecked}
 use Rattle.ados_check.proofs.sound.check_sound.Goals as goal

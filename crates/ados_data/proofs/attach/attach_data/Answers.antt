@@ -1,6 +1,6 @@
 use Rattle.std.proofs.Common.{◌≡◌, ◌≢◌, ◌<◌, ◌-◌, ◌%◌, inl, inr, ℕ, sym, ap, ◌∙◌, arith}
 use Rattle.std.proofs.lemmas.Bool.{cases_eq}
-use Rattle.adf_block.specs.Fields.{first_pointer}
+use Rattle.adf_block.specs.Layout.{first_pointer}
 use Rattle.adf_block.specs.Image.{block_sum}
 use Rattle.adf_block.proofs.Frames.{same_long, same_sum}
 use Rattle.ados_data.specs.steps.Edits.{AtDataFields}
@@ -14,13 +14,13 @@ make_data-requires-clause-settled c = empty_sum c.args.image.now c.args.b c.requ
 
 pub returns : goal.returns
 returns c =
-    -- the new block, after its fields were set
+    -- the new block, with its fields set
     let link_free = λ (n : ℕ) (l : n < 128). same_long (AtLink c.args.format c.args.count c.args.last) c.make_data.new.image c.link_data.new.image c.link_data.ensures.rest c.args.b n l (λ k e at. (c.requires.last_apart at.1).2 (sym at.2.0)) in
     let other = λ (n : ℕ) (l : n < 128).
     beside_field c.args.file 4 c.set_fields.new.image c.set_field.new.image c.set_field.ensures.rest c.args.b n l (λ z. absurd (c.requires.apart.1 z))
     ∙ beside_fields c.args.holder (first_pointer - c.args.count % 72) 2 c.link_data.new.image c.set_fields.new.image c.set_fields.ensures.rest c.args.b n l (λ z. absurd (c.requires.apart.0 z))
     ∙ link_free n l in
-    -- sums, before the pointer block's fields were set and after
+    -- the sums before and after the pointer block's fields were set
     let before = λ (x : ℕ) (ne : x ≢ c.args.b) (free : 0 < c.args.count → c.args.last ≢ x).
     same_sum (AtLink c.args.format c.args.count c.args.last) c.make_data.new.image c.link_data.new.image c.link_data.ensures.rest x (λ k l at. free at.1 (sym at.2.0))
     ∙ same_sum (AtDataFields c.args.format c.args.b) c.args.image.now c.make_data.new.image c.make_data.ensures.rest x (λ k l at. ne at.1) in

@@ -1,5 +1,5 @@
 use Rattle.std.proofs.Common.{◌≡◌, ◌≢◌, ◌<◌, ◌/◌, ◌⊎◌, inl, inr, ℕ, sym, ◌∙◌, arith}
-use Rattle.adf_block.specs.Fields.{secondary_type_long, parent_long, next_extension}
+use Rattle.adf_block.specs.Layout.{secondary_type_long, parent_long, next_extension}
 use Rattle.adf_block.proofs.Frames.{same_long, same_sum}
 use Rattle.ados_data.specs.steps.Edits.{AtExtensionFields}
 use Rattle.ados_data.proofs.Beside.{beside_field, sum_beside_field, empty_long}

@@ -1,5 +1,5 @@
 use Rattle.std.proofs.Common.{◌/◌, ℕ, length, sym, ap, ◌∙◌, arith}
-use Rattle.ados_data.specs.File.{data_blocks, extension_blocks, contents}
+use Rattle.ados_model.specs.File.{data_blocks, extension_blocks, contents}
 use Rattle.ados_data.proofs.Appending.{appended_call, room_of, file_inside, last_apart, new_apart}
 use Rattle.ados_data.proofs.Bounds.{below_stays}
 use Rattle.ados_data.proofs.grow.append.Goals as goal

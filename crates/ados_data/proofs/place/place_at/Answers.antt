@@ -1,25 +1,25 @@
 use Rattle.std.proofs.Common.{◌≤◌, ◌/◌, ℕ, length, min, ap, ap₂, ◌∙◌, arith}
-use Rattle.ados_data.specs.Cost.{data_size}
-use Rattle.ados_data.specs.File.{extension_blocks}
+use Rattle.ados_model.specs.Tree.{data_size}
+use Rattle.ados_model.specs.File.{extension_blocks}
 use Rattle.ados_data.proofs.Placed.{last_place}
-use Rattle.ados_data.proofs.Places.{header_inside, header_is}
+use Rattle.ados_data.proofs.Places.{header_is}
 use Rattle.ados_data.proofs.place.place_at.Goals as goal
 
 pub long-requires-clause-block : goal.long-requires-clause-block
-long-requires-clause-block c = header_inside c.args.image.now c.args.file c.requires.lawful 0 (omega arith)
+long-requires-clause-block c = c.requires.readable.headers_inside 0 (omega arith)
 
 pub pointer_block-block-requires-clause-within : goal.pointer_block-block-requires-clause-within
 pointer_block-block-requires-clause-within c =
-    let last = last_place c.args.image.now c.args.file c.requires.lawful c.format-format.result c.long.result c.data_count.result c.extension_count-last.result c.format-format.ensures c.long.ensures c.data_count.ensures c.extension_count-last.ensures in
+    let last = last_place c.args.image.now c.args.file c.format-format.result c.long.result c.data_count.result c.extension_count-last.result c.format-format.ensures c.long.ensures c.data_count.ensures c.extension_count-last.ensures in
     omega (arith, c.min-index.ensures, last)
 
 pub returns-clause-place : goal.returns-clause-place
 returns-clause-place c =
-    let last = last_place c.args.image.now c.args.file c.requires.lawful c.format-format.result c.long.result c.data_count.result c.extension_count-last.result c.format-format.ensures c.long.ensures c.data_count.ensures c.extension_count-last.ensures in
+    let last = last_place c.args.image.now c.args.file c.format-format.result c.long.result c.data_count.result c.extension_count-last.result c.format-format.ensures c.long.ensures c.data_count.ensures c.extension_count-last.ensures in
     let within : c.min-index.result ≤ length (extension_blocks c.args.image.now c.args.file) = omega (arith, c.min-index.ensures, last) in
-    record { within = within; block_is = c.pointer_block-block.ensures ∙ header_is c.args.image.now c.args.file c.requires.lawful c.min-index.result within }
+    record { within = within; block_is = c.pointer_block-block.ensures ∙ header_is c.args.image.now c.args.file c.min-index.result within }
 
 pub returns-clause-index : goal.returns-clause-index
 returns-clause-index c =
-    let last = last_place c.args.image.now c.args.file c.requires.lawful c.format-format.result c.long.result c.data_count.result c.extension_count-last.result c.format-format.ensures c.long.ensures c.data_count.ensures c.extension_count-last.ensures in
+    let last = last_place c.args.image.now c.args.file c.format-format.result c.long.result c.data_count.result c.extension_count-last.result c.format-format.ensures c.long.ensures c.data_count.ensures c.extension_count-last.ensures in
     c.min-index.ensures ∙ ap₂ (λ (room last : ℕ). min (c.args.pos / room / 72) last) (c.data_size.ensures ∙ ap data_size c.format-format.ensures) last

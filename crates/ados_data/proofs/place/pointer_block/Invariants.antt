@@ -1,5 +1,5 @@
 use Rattle.std.proofs.Common.{◌≡◌}
-use Rattle.ados_data.specs.File.{pointer_block}
+use Rattle.ados_model.specs.File.{pointer_block}
 use Rattle.ados_data.proofs.place.pointer_block.Given as goal
 
 abbrev pub invariant-loop-passed : goal.invariant-loop-passed

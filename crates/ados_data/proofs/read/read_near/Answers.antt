@@ -1,39 +1,52 @@
-use Rattle.std.proofs.Common.{◌≡◌, ◌-◌, ◌+◌, ◌/◌, ◌%◌, ◌<◌, ◌≤◌, ℕ, List, take, drop, length, refl, ap, ap₂, ◌∙◌, arith}
+use Rattle.std.proofs.Common.{◌≡◌, ◌-◌, ◌+◌, ◌/◌, ◌%◌, ◌<◌, ◌≤◌, ℕ, List, take, drop, length, refl, sym, ap, ap₂, ◌∙◌, subst, arith}
 use borrow.Rule.Slice.PartMut.{put_mid}
 use Rattle.adf_block.specs.declared.Format.{Format}
-use Rattle.adf_block.specs.Image.{bytes_at}
-use Rattle.ados_data.specs.Cost.{data_size, data_start}
-use Rattle.ados_data.specs.File.{pointer_block, contents, format_of}
-use Rattle.ados_data.proofs.Places.{header_inside}
+use Rattle.adf_block.specs.Image.{bytes_at, format_of}
+use Rattle.ados_model.specs.Tree.{data_size, data_start}
+use Rattle.ados_model.specs.File.{extension_blocks, pointer_block, contents}
+use Rattle.ados_data.proofs.Places.{size_is, byte_within, holder_of}
 use Rattle.ados_data.proofs.Walking.{holder_inside, block_inside, block_is, on_to_next, on_in_same, part_copied}
 use Rattle.ados_data.proofs.Sizes.{few_bytes, part_bounds}
 use Rattle.ados_data.proofs.read.read_near.Goals as goal
 
 pub long-size-requires-clause-block : goal.long-size-requires-clause-block
-long-size-requires-clause-block c = header_inside c.args.image.now c.args.file c.requires.lawful 0 (omega arith)
+long-size-requires-clause-block c = c.requires.readable.headers_inside 0 (omega arith)
+
+pub returns-then-size-pos-clause-count : goal.returns-then-size-pos-clause-count
+returns-then-size-pos-clause-count c = omega (arith, c.if-size-pos.true, c.long-size.ensures, size_is c.args.image.now c.args.file)
+
+pub pointer_block-holder-requires-clause-within : goal.pointer_block-holder-requires-clause-within
+pointer_block-holder-requires-clause-within c =
+    let within : c.args.pos < length (contents c.args.image.now c.args.file) = omega (arith, c.if-size-pos.false, c.long-size.ensures, size_is c.args.image.now c.args.file) in
+    let room : c.data_size-room.result ≡ data_size (format_of c.args.image.now) = c.data_size-room.ensures ∙ ap data_size c.format-format.ensures in
+    subst (λ (n : ℕ). c.args.pos / n / 72 ≤ length (extension_blocks c.args.image.now c.args.file)) (sym room)
+    (holder_of c.args.image.now c.args.file (c.args.pos / data_size (format_of c.args.image.now)) (byte_within c.args.image.now c.args.file c.args.pos within))
+
+pub returns-clause-count : goal.returns-clause-count
+returns-clause-count c = omega (arith, c.min-count.ensures, c.long-size.ensures, size_is c.args.image.now c.args.file)
 
 pub data_block-requires : goal.data_block-requires
 data_block-requires c =
     let room : c.data_size-room.result ≡ data_size (format_of c.args.image.now) = c.data_size-room.ensures ∙ ap data_size c.format-format.ensures in
-    let within : c.args.pos + c.loop-done.done < length (contents c.args.image.now c.args.file) = omega (arith, c.min-count.ensures, c.long-size.ensures, c.requires.lawful.holds.size, c.loop-done-test.true) in
-    holder_inside c.args.image.now c.args.file c.requires.lawful c.data_size-room.result room (c.args.pos + c.loop-done.done) c.loop-done.holder within c.loop-done.invariant.holder
+    let within : c.args.pos + c.loop-done.done < length (contents c.args.image.now c.args.file) = omega (arith, c.min-count.ensures, c.long-size.ensures, size_is c.args.image.now c.args.file, c.loop-done-test.true) in
+    holder_inside c.args.image.now c.args.file c.requires.readable c.data_size-room.result room (c.args.pos + c.loop-done.done) c.loop-done.holder within c.loop-done.invariant.holder
 
 pub data_in-found-requires : goal.data_in-found-requires
 data_in-found-requires c =
     let room : c.data_size-room.result ≡ data_size (format_of c.args.image.now) = c.data_size-room.ensures ∙ ap data_size c.format-format.ensures in
-    let within : c.args.pos + c.loop-done.done < length (contents c.args.image.now c.args.file) = omega (arith, c.min-count.ensures, c.long-size.ensures, c.requires.lawful.holds.size, c.loop-done-test.true) in
-    block_inside c.args.image.now c.args.file c.requires.lawful c.data_size-room.result room (c.args.pos + c.loop-done.done) c.loop-done.holder c.data_block.result within c.loop-done.invariant.holder c.data_block.ensures
+    let within : c.args.pos + c.loop-done.done < length (contents c.args.image.now c.args.file) = omega (arith, c.min-count.ensures, c.long-size.ensures, size_is c.args.image.now c.args.file, c.loop-done-test.true) in
+    block_inside c.args.image.now c.args.file c.requires.readable c.data_size-room.result room (c.args.pos + c.loop-done.done) c.loop-done.holder c.data_block.result within c.loop-done.invariant.holder c.data_block.ensures
 
 pub long-holder-requires-clause-block : goal.long-holder-requires-clause-block
 long-holder-requires-clause-block c =
     let room : c.data_size-room.result ≡ data_size (format_of c.args.image.now) = c.data_size-room.ensures ∙ ap data_size c.format-format.ensures in
-    let within : c.args.pos + c.loop-done.done < length (contents c.args.image.now c.args.file) = omega (arith, c.min-count.ensures, c.long-size.ensures, c.requires.lawful.holds.size, c.loop-done-test.true) in
-    holder_inside c.args.image.now c.args.file c.requires.lawful c.data_size-room.result room (c.args.pos + c.loop-done.done) c.loop-done.holder within c.loop-done.invariant.holder
+    let within : c.args.pos + c.loop-done.done < length (contents c.args.image.now c.args.file) = omega (arith, c.min-count.ensures, c.long-size.ensures, size_is c.args.image.now c.args.file, c.loop-done-test.true) in
+    holder_inside c.args.image.now c.args.file c.requires.readable c.data_size-room.result room (c.args.pos + c.loop-done.done) c.loop-done.holder within c.loop-done.invariant.holder
 
 pub loop-done-preserved-then-at-part-eq0 : goal.loop-done-preserved-then-at-part-eq0
 loop-done-preserved-then-at-part-eq0 c =
     let room : c.data_size-room.result ≡ data_size (format_of c.args.image.now) = c.data_size-room.ensures ∙ ap data_size c.format-format.ensures in
-    let within : c.args.pos + c.loop-done.done < length (contents c.args.image.now c.args.file) = omega (arith, c.min-count.ensures, c.long-size.ensures, c.requires.lawful.holds.size, c.loop-done-test.true) in
+    let within : c.args.pos + c.loop-done.done < length (contents c.args.image.now c.args.file) = omega (arith, c.min-count.ensures, c.long-size.ensures, size_is c.args.image.now c.args.file, c.loop-done-test.true) in
     let bounds : (0 < c.min-part.result) × ((c.args.pos + c.loop-done.done) % c.data_size-room.result + c.min-part.result ≤ c.data_size-room.result) × (c.loop-done.done + c.min-part.result ≤ c.min-count.result) =
     part_bounds c.data_size-room.result (c.args.pos + c.loop-done.done) c.loop-done.done c.min-count.result c.min-part.result (omega (arith, room, few_bytes (format_of c.args.image.now))) c.loop-done-test.true c.min-part.ensures in
     let next : c.args.pos + c.loop-done.done + c.min-part.result ≡ c.args.pos + (c.loop-done.done + c.min-part.result) = omega arith in
@@ -43,13 +56,13 @@ loop-done-preserved-then-at-part-eq0 c =
     c.data_in-found.ensures.bytes ∙ ap (λ (f : Format). bytes_at c.args.image.now c.data_block.result (data_start f) (data_size f)) c.format-format.ensures in
     record {
       below = bounds.2;
-      holder = on_to_next c.args.image.now c.args.file c.requires.lawful c.data_size-room.result room (c.args.pos + c.loop-done.done) c.min-part.result c.loop-done.holder c.long-holder.result bounds.0 bounds.1 c.if-at-part-eq0.true c.loop-done.invariant.holder c.long-holder.ensures
+      holder = on_to_next c.args.image.now c.args.file c.requires.readable c.data_size-room.result room (c.args.pos + c.loop-done.done) c.min-part.result c.loop-done.holder c.long-holder.result bounds.0 bounds.1 c.if-at-part-eq0.true c.loop-done.invariant.holder c.long-holder.ensures
           ∙ ap (λ (n : ℕ). pointer_block c.args.image.now c.args.file (n / c.data_size-room.result / 72)) next;
       filled = ap (λ (n : ℕ). put_mid c.loop-done.done n c.loop-done.buffer c.copy_from_slice.new.self) part
-          ∙ part_copied c.args.image.now c.args.file c.requires.lawful c.data_size-room.result room c.args.pos c.loop-done.done c.min-part.result (c.args.pos + c.loop-done.done) ((c.args.pos + c.loop-done.done) % c.data_size-room.result) c.data_block.result c.loop-done.buffer c.args.buffer.now c.copy_from_slice.new.self
-          refl refl bounds.1 (omega (arith, bounds.2, c.min-count.ensures, c.long-size.ensures, c.requires.lawful.holds.size)) (omega (arith, bounds.2, c.min-count.ensures))
-          (block_is c.args.image.now c.args.file c.requires.lawful c.data_size-room.result room (c.args.pos + c.loop-done.done) c.loop-done.holder c.data_block.result c.loop-done.invariant.holder c.data_block.ensures)
-          (block_inside c.args.image.now c.args.file c.requires.lawful c.data_size-room.result room (c.args.pos + c.loop-done.done) c.loop-done.holder c.data_block.result within c.loop-done.invariant.holder c.data_block.ensures)
+          ∙ part_copied c.args.image.now c.args.file c.requires.readable c.data_size-room.result room c.args.pos c.loop-done.done c.min-part.result (c.args.pos + c.loop-done.done) ((c.args.pos + c.loop-done.done) % c.data_size-room.result) c.data_block.result c.loop-done.buffer c.args.buffer.now c.copy_from_slice.new.self
+          refl refl bounds.1 (omega (arith, bounds.2, c.min-count.ensures, c.long-size.ensures, size_is c.args.image.now c.args.file)) (omega (arith, bounds.2, c.min-count.ensures))
+          (block_is c.args.image.now c.args.file c.requires.readable c.data_size-room.result room (c.args.pos + c.loop-done.done) c.loop-done.holder c.data_block.result c.loop-done.invariant.holder c.data_block.ensures)
+          (block_inside c.args.image.now c.args.file c.requires.readable c.data_size-room.result room (c.args.pos + c.loop-done.done) c.loop-done.holder c.data_block.result within c.loop-done.invariant.holder c.data_block.ensures)
           c.loop-done.invariant.filled
           (c.copy_from_slice.ensures.after ∙ ap₂ (λ (n : ℕ) (xs : List ℕ). take n (drop ((c.args.pos + c.loop-done.done) % c.data_size-room.result) xs)) taken found);
     }
@@ -57,7 +70,7 @@ loop-done-preserved-then-at-part-eq0 c =
 pub loop-done-preserved : goal.loop-done-preserved
 loop-done-preserved c =
     let room : c.data_size-room.result ≡ data_size (format_of c.args.image.now) = c.data_size-room.ensures ∙ ap data_size c.format-format.ensures in
-    let within : c.args.pos + c.loop-done.done < length (contents c.args.image.now c.args.file) = omega (arith, c.min-count.ensures, c.long-size.ensures, c.requires.lawful.holds.size, c.loop-done-test.true) in
+    let within : c.args.pos + c.loop-done.done < length (contents c.args.image.now c.args.file) = omega (arith, c.min-count.ensures, c.long-size.ensures, size_is c.args.image.now c.args.file, c.loop-done-test.true) in
     let bounds : (0 < c.min-part.result) × ((c.args.pos + c.loop-done.done) % c.data_size-room.result + c.min-part.result ≤ c.data_size-room.result) × (c.loop-done.done + c.min-part.result ≤ c.min-count.result) =
     part_bounds c.data_size-room.result (c.args.pos + c.loop-done.done) c.loop-done.done c.min-count.result c.min-part.result (omega (arith, room, few_bytes (format_of c.args.image.now))) c.loop-done-test.true c.min-part.ensures in
     let next : c.args.pos + c.loop-done.done + c.min-part.result ≡ c.args.pos + (c.loop-done.done + c.min-part.result) = omega arith in
@@ -67,13 +80,13 @@ loop-done-preserved c =
     c.data_in-found.ensures.bytes ∙ ap (λ (f : Format). bytes_at c.args.image.now c.data_block.result (data_start f) (data_size f)) c.format-format.ensures in
     record {
       below = bounds.2;
-      holder = on_in_same c.args.image.now c.args.file c.requires.lawful c.data_size-room.result room (c.args.pos + c.loop-done.done) c.min-part.result c.loop-done.holder bounds.1 c.if-at-part-eq0.false c.loop-done.invariant.holder
+      holder = on_in_same c.args.image.now c.args.file c.requires.readable c.data_size-room.result room (c.args.pos + c.loop-done.done) c.min-part.result c.loop-done.holder bounds.1 c.if-at-part-eq0.false c.loop-done.invariant.holder
           ∙ ap (λ (n : ℕ). pointer_block c.args.image.now c.args.file (n / c.data_size-room.result / 72)) next;
       filled = ap (λ (n : ℕ). put_mid c.loop-done.done n c.loop-done.buffer c.copy_from_slice.new.self) part
-          ∙ part_copied c.args.image.now c.args.file c.requires.lawful c.data_size-room.result room c.args.pos c.loop-done.done c.min-part.result (c.args.pos + c.loop-done.done) ((c.args.pos + c.loop-done.done) % c.data_size-room.result) c.data_block.result c.loop-done.buffer c.args.buffer.now c.copy_from_slice.new.self
-          refl refl bounds.1 (omega (arith, bounds.2, c.min-count.ensures, c.long-size.ensures, c.requires.lawful.holds.size)) (omega (arith, bounds.2, c.min-count.ensures))
-          (block_is c.args.image.now c.args.file c.requires.lawful c.data_size-room.result room (c.args.pos + c.loop-done.done) c.loop-done.holder c.data_block.result c.loop-done.invariant.holder c.data_block.ensures)
-          (block_inside c.args.image.now c.args.file c.requires.lawful c.data_size-room.result room (c.args.pos + c.loop-done.done) c.loop-done.holder c.data_block.result within c.loop-done.invariant.holder c.data_block.ensures)
+          ∙ part_copied c.args.image.now c.args.file c.requires.readable c.data_size-room.result room c.args.pos c.loop-done.done c.min-part.result (c.args.pos + c.loop-done.done) ((c.args.pos + c.loop-done.done) % c.data_size-room.result) c.data_block.result c.loop-done.buffer c.args.buffer.now c.copy_from_slice.new.self
+          refl refl bounds.1 (omega (arith, bounds.2, c.min-count.ensures, c.long-size.ensures, size_is c.args.image.now c.args.file)) (omega (arith, bounds.2, c.min-count.ensures))
+          (block_is c.args.image.now c.args.file c.requires.readable c.data_size-room.result room (c.args.pos + c.loop-done.done) c.loop-done.holder c.data_block.result c.loop-done.invariant.holder c.data_block.ensures)
+          (block_inside c.args.image.now c.args.file c.requires.readable c.data_size-room.result room (c.args.pos + c.loop-done.done) c.loop-done.holder c.data_block.result within c.loop-done.invariant.holder c.data_block.ensures)
           c.loop-done.invariant.filled
           (c.copy_from_slice.ensures.after ∙ ap₂ (λ (n : ℕ) (xs : List ℕ). take n (drop ((c.args.pos + c.loop-done.done) % c.data_size-room.result) xs)) taken found);
     }

@@ -1,6 +1,6 @@
 use Rattle.std.proofs.Common.{◌≡◌, ◌≢◌, ◌<◌, ◌-◌, ◌*◌, ◌/◌, inl, inr, ℕ, sym, ap, ◌∙◌, arith}
 use Rattle.std.proofs.lemmas.Bool.{cases_eq}
-use Rattle.adf_block.specs.Fields.{pointer_count_long, size_long, next_extension, next_data}
+use Rattle.adf_block.specs.Layout.{pointer_count_long, size_long, next_extension, next_data}
 use Rattle.adf_block.specs.Image.{block_sum}
 use Rattle.adf_block.proofs.Frames.{same_long, same_sum}
 use Rattle.ados_data.specs.steps.Blocks.{AtEnd}
@@ -17,7 +17,7 @@ returns c =
     let file = c.args.file in
     let holder = c.args.holder in
     let last = c.args.last in
-    -- sums, before the pointer block's fields were set and after
+    -- the sums before and after the pointer block's fields were set
     let before = λ (x : ℕ) (free : 0 < c.args.count → c.args.last ≢ x).
     same_sum (AtEnd c.args.format c.args.count c.args.last) c.args.image.now c.end_data.new.image c.end_data.ensures.rest x (λ k l at. free at.1 (sym at.2.0)) in
     let at_holder = λ (z : block_sum c.args.image.now c.args.holder ≡ 0).

@@ -1,29 +1,32 @@
 use Rattle.std.proofs.Common.{◌≡◌, ◌≤◌, ◌-◌, ◌+◌, ◌/◌, ◌%◌, ◌∷◌, suc, ℕ, length, slice_index, refl, sym, ap, ◌∙◌, subst, arith}
-use Rattle.adf_block.specs.Fields.{first_pointer}
+use Rattle.adf_block.specs.Layout.{first_pointer}
 use Rattle.adf_block.specs.declared.Format.{Format}
-use Rattle.adf_block.specs.Image.{block_count, long, IsInside}
-use Rattle.ados_data.specs.Cost.{data_count, extension_count}
-use Rattle.ados_data.specs.File.{contents, data_blocks, extension_blocks, pointer_block, format_of}
+use Rattle.adf_block.specs.Image.{block_count, long, IsInside, format_of}
+use Rattle.ados_model.specs.Tree.{data_count, extension_count}
+use Rattle.ados_model.specs.File.{contents, data_blocks, extension_blocks, pointer_block}
 use Rattle.ados_data.specs.steps.Blocks.{IsResized}
-use Rattle.ados_data.proofs.Places.{header_inside}
+use Rattle.ados_data.proofs.Places.{readable}
 use Rattle.ados_data.proofs.Cutting.{Cutting, cutting_begun, holder_is_inside, last_inside, last_apart, entered_row, dropped, holder_in, block_inside, few, fewer, rows, is_cut}
 use Rattle.ados_data.proofs.Summed.{summed_after}
 use Rattle.ados_data.proofs.shorten.cut.Goals as goal
 
 pub long-old-requires-clause-block : goal.long-old-requires-clause-block
-long-old-requires-clause-block c = header_inside c.args.image.now c.args.file c.requires.writable.lawful 0 (omega arith)
+long-old-requires-clause-block c = (readable c.args.image.now c.args.file c.requires.writable.lawful).headers_inside 0 (omega arith)
+
+pub pointer_block-holder-requires-clause-readable : goal.pointer_block-holder-requires-clause-readable
+pointer_block-holder-requires-clause-readable c = readable c.args.image.now c.args.file c.requires.writable.lawful
 
 pub pointer_block-holder-requires-clause-within : goal.pointer_block-holder-requires-clause-within
 pointer_block-holder-requires-clause-within c = omega (arith, c.extension_count.ensures, fewer c.args.image.now c.args.file c.args.size c.data_count-count.result c.requires.writable (omega (arith, c.blocks-2.ensures.count, c.blocks-2.ensures.size), omega (arith, c.blocks-2.ensures.count, c.blocks-2.ensures.size)) (omega (arith, c.requires.shorter, c.if-size-old.false, c.long-old.ensures, c.requires.writable.lawful.holds.size)) (c.data_count-count.ensures ∙ ap (λ (f : Format). data_count f c.args.size) c.format-format.ensures))
 
 pub long-next-requires-clause-block : goal.long-next-requires-clause-block
-long-next-requires-clause-block c = omega (arith, (c.pointer_block-holder.ensures ∙ ap (pointer_block c.args.image.now c.args.file) c.extension_count.ensures), header_inside c.args.image.now c.args.file c.requires.writable.lawful (extension_count c.data_count-count.result) (fewer c.args.image.now c.args.file c.args.size c.data_count-count.result c.requires.writable (omega (arith, c.blocks-2.ensures.count, c.blocks-2.ensures.size), omega (arith, c.blocks-2.ensures.count, c.blocks-2.ensures.size)) (omega (arith, c.requires.shorter, c.if-size-old.false, c.long-old.ensures, c.requires.writable.lawful.holds.size)) (c.data_count-count.ensures ∙ ap (λ (f : Format). data_count f c.args.size) c.format-format.ensures)))
+long-next-requires-clause-block c = omega (arith, (c.pointer_block-holder.ensures ∙ ap (pointer_block c.args.image.now c.args.file) c.extension_count.ensures), (readable c.args.image.now c.args.file c.requires.writable.lawful).headers_inside (extension_count c.data_count-count.result) (fewer c.args.image.now c.args.file c.args.size c.data_count-count.result c.requires.writable (omega (arith, c.blocks-2.ensures.count, c.blocks-2.ensures.size), omega (arith, c.blocks-2.ensures.count, c.blocks-2.ensures.size)) (omega (arith, c.requires.shorter, c.if-size-old.false, c.long-old.ensures, c.requires.writable.lawful.holds.size)) (c.data_count-count.ensures ∙ ap (λ (f : Format). data_count f c.args.size) c.format-format.ensures)))
 
 pub data_block-last-requires : goal.data_block-last-requires
-data_block-last-requires c = omega (arith, (c.pointer_block-holder.ensures ∙ ap (pointer_block c.args.image.now c.args.file) c.extension_count.ensures), header_inside c.args.image.now c.args.file c.requires.writable.lawful (extension_count c.data_count-count.result) (fewer c.args.image.now c.args.file c.args.size c.data_count-count.result c.requires.writable (omega (arith, c.blocks-2.ensures.count, c.blocks-2.ensures.size), omega (arith, c.blocks-2.ensures.count, c.blocks-2.ensures.size)) (omega (arith, c.requires.shorter, c.if-size-old.false, c.long-old.ensures, c.requires.writable.lawful.holds.size)) (c.data_count-count.ensures ∙ ap (λ (f : Format). data_count f c.args.size) c.format-format.ensures)))
+data_block-last-requires c = omega (arith, (c.pointer_block-holder.ensures ∙ ap (pointer_block c.args.image.now c.args.file) c.extension_count.ensures), (readable c.args.image.now c.args.file c.requires.writable.lawful).headers_inside (extension_count c.data_count-count.result) (fewer c.args.image.now c.args.file c.args.size c.data_count-count.result c.requires.writable (omega (arith, c.blocks-2.ensures.count, c.blocks-2.ensures.size), omega (arith, c.blocks-2.ensures.count, c.blocks-2.ensures.size)) (omega (arith, c.requires.shorter, c.if-size-old.false, c.long-old.ensures, c.requires.writable.lawful.holds.size)) (c.data_count-count.ensures ∙ ap (λ (f : Format). data_count f c.args.size) c.format-format.ensures)))
 
 pub resize-requires-clause-file : goal.resize-requires-clause-file
-resize-requires-clause-file c = header_inside c.args.image.now c.args.file c.requires.writable.lawful 0 (omega arith)
+resize-requires-clause-file c = (readable c.args.image.now c.args.file c.requires.writable.lawful).headers_inside 0 (omega arith)
 
 pub resize-requires-clause-holder : goal.resize-requires-clause-holder
 resize-requires-clause-holder c = holder_is_inside c.args.image.now c.args.file c.args.size c.data_count-count.result c.requires.writable (omega (arith, c.blocks-2.ensures.count, c.blocks-2.ensures.size), omega (arith, c.blocks-2.ensures.count, c.blocks-2.ensures.size)) (omega (arith, c.requires.shorter, c.if-size-old.false, c.long-old.ensures, c.requires.writable.lawful.holds.size)) (c.data_count-count.ensures ∙ ap (λ (f : Format). data_count f c.args.size) c.format-format.ensures) c.pointer_block-holder.result c.data_block-last.result c.long-next.result (c.pointer_block-holder.ensures ∙ ap (pointer_block c.args.image.now c.args.file) c.extension_count.ensures) (c.data_block-last.ensures ∙ ap (λ (n : ℕ). long c.args.image.now c.pointer_block-holder.result (first_pointer - n % 72)) c.saturating_sub.ensures) c.long-next.ensures

@@ -1,11 +1,15 @@
 use Rattle.std.proofs.Common.{◌/◌, List, length, ◌≡◌, ◌+◌, ◌-◌, ℕ, take, drop, ap, ◌∙◌, arith, ◌∷◌, slice_index}
-use Rattle.ados_data.specs.File.{data_blocks, extension_blocks}
+use Rattle.ados_model.specs.File.{data_blocks, extension_blocks}
+use Rattle.ados_data.proofs.Places.{readable}
 use Rattle.ados_data.proofs.Leaving.{leaves_both}
 use Rattle.ados_data.proofs.Overlaying.{size_below, bounds, holder_is_inside, block_is_inside, turn, written_more, size_kept, keeps_on, holder_inside_new, holder_next, holder_same}
 use Rattle.ados_data.proofs.write.overlay.Goals as goal
 
 pub overflow_add-at : goal.overflow_add-at
 overflow_add-at c = omega (arith, c.requires.within, c.loop-done-test.true, size_below c.args.image.now c.args.file c.requires.writable.lawful c.blocks-2.ensures.image)
+
+pub pointer_block-holder-requires-clause-readable : goal.pointer_block-holder-requires-clause-readable
+pointer_block-holder-requires-clause-readable c = readable c.args.image.now c.args.file c.requires.writable.lawful
 
 pub data_block-block-requires : goal.data_block-block-requires
 data_block-block-requires c = holder_is_inside c.args.image.now c.loop-done.image c.format-format.result c.args.file c.args.pos c.args.bytes.now c.loop-done.done c.min-part.result c.data_size-room.result c.loop-done.holder c.loop-done.invariant.writable c.loop-done.invariant.size_ok c.loop-done.invariant.same_format c.data_size-room.ensures c.requires.within c.loop-done-test.true c.loop-done.invariant.written c.min-part.ensures (c.loop-done.invariant.holder c.loop-done-test.true)

@@ -1,6 +1,6 @@
 use Rattle.std.proofs.Common.{◌≡◌, ℕ, List, length, take, ap, ◌∙◌, arith, ◌/◌, sym, subst}
-use Rattle.ados_data.specs.File.{contents, format_of}
-use Rattle.ados_data.specs.File.{data_blocks, extension_blocks}
+use Rattle.ados_model.specs.File.{contents, data_blocks, extension_blocks}
+use Rattle.adf_block.specs.Image.{format_of}
 use Rattle.ados_data.specs.Others.{Gains}
 use Rattle.ados_data.proofs.Leaving.{leaves_both, beside_gains, gains_kept}
 use Rattle.ados_data.proofs.Overlaid.{length-overlaid}

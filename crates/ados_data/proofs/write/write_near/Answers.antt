@@ -1,5 +1,5 @@
 use Rattle.std.proofs.Common.{max, ◌+◌, ◌-◌, length, ◌∙◌, arith}
-use Rattle.ados_data.specs.File.{contents}
+use Rattle.ados_model.specs.File.{contents}
 use Rattle.ados_data.proofs.Overlaid.{overlaid_zeros}
 use Rattle.ados_data.proofs.Fitting.{size_fits}
 use Rattle.ados_data.proofs.Summed.{summed_after}

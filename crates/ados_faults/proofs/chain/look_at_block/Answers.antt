@@ -1,5 +1,5 @@
-use Rattle.ados_tree.specs.Faults.HasBadCount.{held_none, held_not_full, held_over}
-use Rattle.ados_tree.specs.Faults.HasBadPointer.{further_data}
+use Rattle.ados_model.specs.Faults.HasBadCount.{held_none, held_not_full, held_over}
+use Rattle.ados_model.specs.Faults.HasBadPointer.{further_data}
 use Rattle.std.proofs.Common.{inl, inr}
 use Rattle.ados_faults.proofs.chain.look_at_block.Goals as goal
 

@@ -1,5 +1,5 @@
 use Rattle.std.proofs.Common.{◌≡◌, ◌++◌}
-use Rattle.ados_tree.specs.Faults.{first_pointers}
+use Rattle.ados_model.specs.Faults.{first_pointers}
 use Rattle.ados_faults.proofs.file_blocks.add_pointers.Given as goal
 
 abbrev pub invariant-loop-i : goal.invariant-loop-i

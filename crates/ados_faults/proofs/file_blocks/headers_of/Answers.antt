@@ -1,6 +1,6 @@
 use Rattle.std.proofs.Common.{ℕ, ◌∙◌, subst}
-use Rattle.adf_block.specs.Fields.{next_extension}
-use Rattle.ados_tree.specs.Faults.{LinkedOnce}
+use Rattle.adf_block.specs.Layout.{next_extension}
+use Rattle.ados_model.specs.Faults.{LinkedOnce}
 use Rattle.ados_faults.proofs.file_blocks.headers_of.Goals as goal
 
 pub returns-then-not-more-clause-linked : goal.returns-then-not-more-clause-linked

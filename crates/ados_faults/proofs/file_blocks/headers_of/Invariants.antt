@@ -1,5 +1,5 @@
 use Rattle.std.proofs.Common.{◌≡◌, slice_index}
-use Rattle.adf_block.specs.Fields.{next_extension}
+use Rattle.adf_block.specs.Layout.{next_extension}
 use Rattle.ados_faults.specs.steps.Chain.{HasMet, IsChain}
 use Rattle.ados_faults.proofs.file_blocks.headers_of.Given as goal
 

@@ -1,5 +1,5 @@
 use Rattle.std.proofs.Common.{◌≡◌, take, flat_map}
-use Rattle.ados_tree.specs.Faults.{pointers_of}
+use Rattle.ados_model.specs.Faults.{pointers_of}
 use Rattle.ados_faults.proofs.file_blocks.pointed_blocks.Given as goal
 
 abbrev pub invariant-loop-header : goal.invariant-loop-header

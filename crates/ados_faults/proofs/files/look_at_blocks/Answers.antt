@@ -1,4 +1,4 @@
-use Rattle.ados_tree.specs.Faults.HasBadCount.{wrong_size}
+use Rattle.ados_model.specs.Faults.HasBadCount.{wrong_size}
 use Rattle.ados_faults.proofs.files.look_at_blocks.Goals as goal
 
 pub note_if-requires-clause-shown : goal.note_if-requires-clause-shown

@@ -1,6 +1,6 @@
 use Rattle.std.proofs.Common.{subst}
-use Rattle.ados_tree.specs.declared.role.Role.{Role}
-use Rattle.ados_tree.specs.Faults.{Reached}
+use Rattle.ados_model.specs.declared.role.Role.{Role}
+use Rattle.ados_model.specs.Faults.{Reached}
 use Rattle.ados_check.proofs.ReachLemmas.{reached_root}
 use Rattle.ados_faults.proofs.looks.look.Goals as goal
 

@@ -1,5 +1,5 @@
 use Rattle.std.proofs.Common.{sym, ◌∙◌}
-use Rattle.ados_tree.specs.Faults.HasBadParent.{data_file}
+use Rattle.ados_model.specs.Faults.HasBadParent.{data_file}
 use Rattle.ados_faults.proofs.looks.look_data.Goals as goal
 
 pub note_if-requires-3-clause-shown : goal.note_if-requires-3-clause-shown

@@ -1,4 +1,4 @@
-use Rattle.ados_tree.specs.Faults.HasBadParent.{entry_parent}
+use Rattle.ados_model.specs.Faults.HasBadParent.{entry_parent}
 use Rattle.ados_faults.proofs.looks.look_entry.Goals as goal
 
 pub note_if-requires-4-clause-shown : goal.note_if-requires-4-clause-shown

@@ -1,4 +1,4 @@
-use Rattle.ados_tree.specs.Faults.HasBadParent.{extension_file}
+use Rattle.ados_model.specs.Faults.HasBadParent.{extension_file}
 use Rattle.ados_faults.proofs.looks.look_extension.Goals as goal
 
 pub note_if-requires-5-clause-shown : goal.note_if-requires-5-clause-shown

@@ -1,5 +1,5 @@
 use Rattle.std.proofs.Common.{sym, ◌∙◌, subst, arith}
-use Rattle.ados_tree.specs.Stands.{Stands}
+use Rattle.ados_model.specs.Stands.{Stands}
 use Rattle.ados_handler.proofs.Resizing.{full_or_grown, needs_no_more, resized_same, resized_shorter}
 use Rattle.ados_handler.proofs.set_size.resize.Goals as goal
 

@@ -7,7 +7,7 @@ use Rattle.ados_map.specs.Bits.{free_bit}
 use Rattle.ados_map.proofs.BitLemmas.{mark, marked-at, bit-mark, free_bit-inside, free_bit-past, masked_below, masked_above}
 use Rattle.ados_map.proofs.bits.free_bits.Goals as goal
 
--- the bit of a block of the volume
+-- the bit of a block inside the volume
 inside : (image : List ℕ) (w i v : ℕ) → v ≡ long image (page_block image (w / 127)) (1 + w % 127) → i < 32 → 2 + 32 * w + i < block_count image → bit_at v i ≡ free_bit image (2 + 32 * w + i)
 inside image w i v is lt within =
     bit-mark v i

@@ -8,7 +8,7 @@ use Rattle.ados_map.specs.Bits.{free_bit, IsFreeBits}
 use Rattle.ados_map.proofs.BitLemmas.{free_bit-none, free_bit-some, free_bit-within}
 use Rattle.ados_map.proofs.reading.first_free.Goals as goal
 
--- the place of the lowest bit, where no lower map long has one
+-- the lowest set bit of a long is the lowest free block, if the longs before it are 0
 lowest : (image : List ℕ) (w bits : ℕ) → ((k : ℕ) → IsInside (block_count image) k → k < 2 + 32 * w → has_free_bit image k ≡ false)
     → IsFreeBits image w bits → bits ≢ 0 → bits < 2 ^ 32 → IsLowestFree image (2 + 32 * w + trailing_zeros w32 bits)
 lowest image w bits before is some fits =
@@ -28,7 +28,7 @@ lowest image w bits before is some fits =
       ];
     }
 
--- no bit of one more map long
+-- one more long without a free block
 none_more : (image : List ℕ) (w bits : ℕ) → ((k : ℕ) → IsInside (block_count image) k → k < 2 + 32 * w → has_free_bit image k ≡ false)
     → IsFreeBits image w bits → bits ≡ 0 → (k : ℕ) → IsInside (block_count image) k → k < 2 + 32 * (w + 1) → has_free_bit image k ≡ false
 none_more image w bits before is none k inside lt = elim (cases_lt k (2 + 32 * w)) [

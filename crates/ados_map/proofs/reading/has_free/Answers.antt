@@ -1,7 +1,7 @@
 use Rattle.std.proofs.Common.{◌≡◌, ◌≤◌, ℕ, leb, MatchBool, inl, inr, ◌∙◌, arith}
 use Rattle.std.specs.Int.Count.{ones-le}
 use Rattle.std.proofs.lemmas.Bool.Decides.{leb_tells}
-use Rattle.adf_block.specs.Image.{free_bit_count}
+use Rattle.adf_block.specs.Whole.{free_bit_count}
 use Rattle.ados_map.proofs.Counting.{free_before-below, free_before-more, free_before-all, free_before-le}
 use Rattle.ados_map.proofs.reading.has_free.Goals as goal
 
@@ -19,7 +19,7 @@ loop-w-preserved c =
 pub returns-then-needed-found : goal.returns-then-needed-found
 returns-then-needed-found c = omega (arith, c.if-needed-found.true, c.loop-w.invariant.counted, free_before-le c.args.image.now c.loop-w.w)
 
--- what a test of order tells of a fact that is that order
+-- a comparison as the fact that it decides
 told : (a b n : ℕ) → b ≡ n → MatchBool (leb a b) (a ≤ n) (¬ (a ≤ n))
 told a b n e = elim (leb_tells a b) [
   | inl h ↦ rw h.0 (omega (arith, h.1, e))

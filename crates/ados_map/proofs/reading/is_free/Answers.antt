@@ -6,7 +6,7 @@ use Rattle.ados_map.specs.Pages.{map_long}
 use Rattle.ados_map.proofs.BitLemmas.{marked-is}
 use Rattle.ados_map.proofs.reading.is_free.Goals as goal
 
--- a one shifted by less than its width
+-- 1 shifted by fewer than 32 bits
 shifted : (i : ℕ) → i < 32 → 1 * 2 ^ i % 4294967296 ≡ 2 ^ i
 shifted i lt = omega (arith, pow_below i 32 lt)
 

@@ -1,7 +1,7 @@
 use Rattle.std.proofs.Common.{◌≡◌, Bool, List, [], ◌∷◌, ◌++◌, length, drop, arith, refl, sym, ap, subst, ◌∙◌, append_assoc}
 use Rattle.std.proofs.lemmas.List.{append-nil}
-use Rattle.port_history.specs.Port.{PortState}
-use Rattle.port_history.specs.History.{PortHistory, FirstAreServed, events_of, queue}
+use Rattle.port_history.specs.History.{PortState, PortHistory, events_of, queue}
+use Rattle.port_history.specs.Steps.{FirstAreServed}
 use Rattle.port_history.specs.declared.step.Step.{Step}
 use Rattle.port_history.specs.declared.step.Outcome.{Outcome}
 use Rattle.port_history.proofs.Closing.{dead-closed, dead-closing}
@@ -26,7 +26,7 @@ no_items : {A : Type 0} (xs : List A) → length xs ≡ 0 → xs ≡ []
 no_items [] e = refl
 no_items (x ∷ xs) e = absurd (omega (arith, e))
 
--- the steps done are all of them
+-- all steps are done
 whole_history : {S Q M A : Type 0} (gives : S → Q → M → S → A → Type 0) (has_died : S → Bool) (opening : PortState S Q A) (done rest steps : List (Step Q M)) (outcomes : List (Outcome Q A)) (closing : PortState S Q A)
     → done ++ rest ≡ steps → length rest ≡ 0 → PortHistory gives has_died opening done outcomes closing → PortHistory gives has_died opening steps outcomes closing
 whole_history gives has_died opening done rest steps outcomes closing split none h =

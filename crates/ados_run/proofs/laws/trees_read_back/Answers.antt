@@ -1,5 +1,5 @@
 use Rattle.std.proofs.Common.{inl, inr}
-use Rattle.ados_tree.proofs.NoFaults.{faults_have_no_tree}
+use Rattle.ados_model.proofs.NoFaults.{faults_have_no_tree}
 use Rattle.ados_run.proofs.laws.trees_read_back.Goals as goal
 
 pub returns : goal.returns

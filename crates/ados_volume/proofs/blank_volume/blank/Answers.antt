@@ -1,5 +1,5 @@
-use Rattle.ados_tree.specs.Blank.{blank_tree}
-use Rattle.ados_tree.proofs.Blank.{blank_stands}
+use Rattle.ados_model.specs.Blank.{blank_tree}
+use Rattle.ados_model.proofs.Blank.{blank_stands}
 use Rattle.ados_volume.proofs.blank_volume.blank.Goals as goal
 
 pub standing-requires : goal.standing-requires

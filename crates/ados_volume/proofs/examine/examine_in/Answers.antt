@@ -1,10 +1,10 @@
 use Rattle.std.proofs.Common.{◌≡◌, ℕ, ℤ, Option, Some, None, refl, ap, ◌∙◌, w32, to_z, of_z}
-use Rattle.ados_tree.specs.Tree.{Content}
-use Rattle.ados_tree.specs.Tree.Content.{Directory, File}
-use Rattle.ados_volume.specs.Examined.{entry_type}
+use Rattle.ados_model.specs.Tree.{Content}
+use Rattle.ados_model.specs.Tree.Content.{Directory, File}
+use Rattle.ados_model.specs.Objects.{entry_type}
 use Rattle.ados_volume.proofs.examine.examine_in.Goals as goal
 
--- a type keeps its sign in 32 bits
+-- a type is unchanged by a conversion to 32 bits and back
 kept_type : (parent : Option ℕ) (content : Content) → to_z w32 (of_z w32 (entry_type parent content)) ≡ entry_type parent content
 kept_type None content = refl
 kept_type (Some dir) (Directory keys) = refl

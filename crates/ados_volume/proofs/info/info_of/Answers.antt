@@ -1,12 +1,11 @@
 use Rattle.std.proofs.Common.{◌≡◌, ℕ, ◌+◌, ◌-◌, ◌≤◌, Bool, true, false, cond, sym, ap, ap₂, ◌∙◌, arith}
 use Rattle.adf_block.specs.Image.{block_count, has_free_bit}
 use Rattle.adf_block.proofs.Totals.{total-bound}
-use Rattle.ados_data.specs.Cost.{data_size}
-use Rattle.ados_tree.specs.Tree.{free}
-use Rattle.ados_tree.specs.Stands.{format_byte}
-use Rattle.ados_tree.proofs.Standing.{count_same}
-use Rattle.ados_tree.proofs.Counting.{free_bits_count}
-use Rattle.ados_tree.proofs.Writable.{lawful_pages, format_is}
+use Rattle.ados_model.specs.Tree.{data_size, free}
+use Rattle.ados_model.specs.Stands.{format_byte}
+use Rattle.ados_model.proofs.Standing.{count_same}
+use Rattle.ados_model.proofs.Counting.{free_bits_count}
+use Rattle.ados_change.proofs.Writable.{lawful_pages, format_is}
 use Rattle.ados_volume.proofs.info.info_of.Goals as goal
 
 pub count_free-requires : goal.count_free-requires

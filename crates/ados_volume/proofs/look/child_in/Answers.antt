@@ -1,4 +1,4 @@
-use Rattle.ados_tree.specs.Stands.{in_slot}
+use Rattle.ados_model.specs.Stands.{in_slot}
 use Rattle.ados_volume.proofs.Looking.{chains_of, child_is}
 use Rattle.ados_volume.proofs.look.child_in.Goals as goal
 

@@ -1,5 +1,5 @@
 use Rattle.std.proofs.Common.{refl, ◌∙◌}
-use Rattle.ados_tree.specs.Stands.{in_slot}
+use Rattle.ados_model.specs.Stands.{in_slot}
 use Rattle.ados_volume.proofs.Looking.{chains_of, next_is}
 use Rattle.ados_volume.proofs.Ordered.{entry_place}
 use Rattle.ados_volume.proofs.look.next_in.Goals as goal

@@ -1,9 +1,9 @@
-use Rattle.ados_tree.specs.Keys.{HasDirectory}
+use Rattle.ados_model.specs.Keys.{HasDirectory}
 use Rattle.files_in.specs.Progress.{IsProgress}
 use Rattle.files_in.specs.Put.{KeepsKeys}
 use Rattle.files_in.proofs.adding.put_entries.Given as goal
 
--- every directory and entry is one still, the top directory too, and what was noted is there
+-- every directory and entry is still one, the top directory too, and what is to be done later is valid
 abbrev pub invariant-loop-entry : goal.invariant-loop-entry
 invariant-loop-entry g l = record {
   top : HasDirectory l.volume.image l.fn.top;

@@ -1,5 +1,5 @@
 use Rattle.std.proofs.Common.{sym, subst}
-use Rattle.ados_tree.specs.Keys.{HasDirectory}
+use Rattle.ados_model.specs.Keys.{HasDirectory}
 use Rattle.ados_volume.specs.Shown.{Shown}
 use Rattle.files_in.proofs.adding.put_entry.Goals as goal
 

@@ -1,5 +1,5 @@
 use Rattle.std.proofs.Common.{sym, ◌∙◌}
-use Rattle.ados_tree.specs.Change.{removed}
+use Rattle.ados_model.specs.Change.{removed}
 use Rattle.adf_transfer.specs.Refusals.{delete_refusal}
 use Rattle.files_in.specs.Paths.{object_at}
 use Rattle.files_in.proofs.Finding.{at_found, changed_from}

@@ -1,6 +1,6 @@
 use Rattle.std.proofs.Common.{◌≡◌, Ok, sym, ◌∙◌, subst}
-use Rattle.ados_tree.specs.Change.{renamed}
-use Rattle.ados_tree.specs.Stands.{Stands}
+use Rattle.ados_model.specs.Change.{renamed}
+use Rattle.ados_model.specs.Stands.{Stands}
 use Rattle.ados_volume.specs.Shown.{Shown}
 use Rattle.files_in.specs.Paths.{both_ends, entry_move_refusal, move_ends, object_at, place_at}
 use Rattle.files_in.proofs.Finding.{at_found, changed_from}

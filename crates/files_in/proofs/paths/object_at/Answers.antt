@@ -1,8 +1,8 @@
 use Rattle.std.proofs.Common.{Err, sym, ap, ◌∙◌}
-use Rattle.ados_packet.specs.declared.dos_error.DosError.{DosError}
-use Rattle.ados_tree.specs.declared.path_fault.WalkFault.{WalkFault}
+use Rattle.ados_model.specs.declared.dos_error.DosError.{DosError}
+use Rattle.ados_model.specs.declared.dos_error.WalkFault.{WalkFault}
 use Rattle.std.proofs.Common.{ℕ, Result}
-use Rattle.ados_handler.specs.Objects.{walk_result}
+use Rattle.ados_model.specs.Resolved.{walk_result}
 use Rattle.files_in.proofs.paths.object_at.Goals as goal
 
 pub returns-in-Err-clause-object : goal.returns-in-Err-clause-object

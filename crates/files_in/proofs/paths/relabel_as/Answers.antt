@@ -1,8 +1,8 @@
 use Rattle.std.proofs.Common.{ℕ, List, [], not, ap, refl, subst}
-use Rattle.ados_packet.specs.declared.dos_error.DosError.TheVariants.{InvalidComponentName}
-use Rattle.ados_tree.specs.Change.{disk_renamed}
-use Rattle.ados_tree.specs.Stands.{Stands}
-use Rattle.ados_handler.specs.Refusals.{is_name}
+use Rattle.ados_model.specs.declared.dos_error.DosError.TheVariants.{InvalidComponentName}
+use Rattle.ados_model.specs.Change.{disk_renamed}
+use Rattle.ados_model.specs.Stands.{Stands}
+use Rattle.ados_model.specs.Refusals.{is_name}
 use Rattle.ados_handler.proofs.DiskNamed.{is_named}
 use Rattle.ados_handler.proofs.Placed.{passed}
 use Rattle.files_in.proofs.paths.relabel_as.Goals as goal

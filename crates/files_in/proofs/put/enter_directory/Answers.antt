@@ -1,10 +1,9 @@
 use Rattle.std.proofs.Common.{◌≡◌, [], Some, None, sym, ◌∙◌, subst}
-use Rattle.ados_tree.specs.Keys.{HasKey}
-use Rattle.ados_tree.specs.Stands.{Stands}
-use Rattle.ados_tree.specs.Change.{made}
-use Rattle.ados_tree.specs.Tree.{Tree}
-use Rattle.ados_tree.specs.Tree.Content.{Directory}
-use Rattle.ados_tree.specs.Walk.{child_of}
+use Rattle.ados_model.specs.Keys.{HasKey}
+use Rattle.ados_model.specs.Stands.{Stands}
+use Rattle.ados_model.specs.Change.{made, child_of}
+use Rattle.ados_model.specs.Tree.{Tree}
+use Rattle.ados_model.specs.Tree.Content.{Directory}
 use Rattle.ados_volume.specs.Shown.{Shown}
 use Rattle.files_in.specs.Put.{enter_refusal, entered, new_refusal}
 use Rattle.files_in.specs.declared.put.Entered.{Entered}

@@ -1,4 +1,4 @@
-use Rattle.ados_tree.specs.Change.{with_comment, with_protection}
+use Rattle.ados_model.specs.Change.{with_comment, with_protection}
 use Rattle.files_in.specs.Put.{noted}
 use Rattle.files_in.proofs.Keeping.{keeps_keys, keeps_noted, keeps_protection, keeps_told}
 use Rattle.files_in.proofs.put.note_directory.Goals as goal

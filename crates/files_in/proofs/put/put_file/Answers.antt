@@ -1,8 +1,8 @@
 use Rattle.std.proofs.Common.{◌≡◌, ℕ, false, length, Some, None, sym, ◌∙◌, subst}
-use Rattle.ados_tree.specs.Keys.{HasKey, HasTree}
-use Rattle.ados_tree.specs.Stands.{Stands}
-use Rattle.ados_tree.specs.Tree.{Tree}
-use Rattle.ados_tree.specs.Walk.{child_of}
+use Rattle.ados_model.specs.Keys.{HasKey, HasTree}
+use Rattle.ados_model.specs.Stands.{Stands}
+use Rattle.ados_model.specs.Tree.{Tree}
+use Rattle.ados_model.specs.Change.{child_of}
 use Rattle.ados_volume.specs.Shown.{Shown}
 use Rattle.adf_transfer.specs.Changes.{added}
 use Rattle.adf_transfer.specs.Refusals.{add_refusal}

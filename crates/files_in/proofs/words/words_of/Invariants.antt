@@ -3,7 +3,7 @@ use Rattle.std.specs.Prelude.{All}
 use Rattle.files_in.specs.Words.{IsSpelled}
 use Rattle.files_in.proofs.words.words_of.Given as goal
 
--- these are the words of the texts before this one
+-- these are the arguments before this one
 abbrev pub invariant-loop-text : goal.invariant-loop-text
 invariant-loop-text l = record {
   texts : map (λ word. word.text.now) l.words.items ≡ map (λ text. text.now) (take l.text-index l.texts);

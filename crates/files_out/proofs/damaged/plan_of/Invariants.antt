@@ -1,6 +1,6 @@
 use Rattle.files_out.specs.Rescue.{AreRescued}
 use Rattle.files_out.proofs.damaged.plan_of.Given as goal
 
--- the entries before this one are told of
+-- the report has the entries before this one
 abbrev pub invariant-loop-entry : goal.invariant-loop-entry
 invariant-loop-entry l = AreRescued l.yielded l.plan.rescue

@@ -1,5 +1,5 @@
 use Rattle.std.proofs.Common.{refl, ap, ◌∙◌}
-use Rattle.ados_tree.proofs.Nodes.{some_in}
+use Rattle.ados_model.proofs.Nodes.{some_in}
 use Rattle.host_trees.specs.declared.writing.HostItem.{HostItem}
 use Rattle.host_trees.specs.Notes.{note_of}
 use Rattle.files_out.proofs.Entries.{alone, with_note}

@@ -1,11 +1,11 @@
 use Rattle.std.proofs.Common.{map, take}
-use Rattle.ados_tree.specs.Tree.{Tree}
-use Rattle.ados_tree.specs.Stands.{Stands}
+use Rattle.ados_model.specs.Tree.{Tree}
+use Rattle.ados_model.specs.Stands.{Stands}
 use Rattle.files_out.specs.steps.Behind.{behind}
 use Rattle.files_out.proofs.Going.{Adds}
 use Rattle.files_out.proofs.items.push_below.Given as goal
 
--- the entries before this one have gone out
+-- the items for the entries before this one are there
 abbrev pub invariant-loop-entry : goal.invariant-loop-entry
 invariant-loop-entry l =
     (t : Tree) → Stands l.volume.image t → Adds t l.meta (map (behind l.front) (take l.entry-index l.below)) l.initial.items.items l.items.items

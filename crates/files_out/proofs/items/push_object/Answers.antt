@@ -1,9 +1,9 @@
 use Rattle.std.proofs.Common.{◌≡◌, ℕ, ◌<◌, ◌++◌, [], ◌∷◌, List, length, get_or, map, All, IsSome, sym, ap, ap₂, ◌∙◌, subst}
 use Rattle.ados_name.specs.Name.{IsName}
-use Rattle.ados_packet.specs.declared.info.FileInfo.{FileInfo}
-use Rattle.ados_tree.specs.Tree.{Tree, name_in, name_of}
-use Rattle.ados_tree.specs.Stands.{Stands}
-use Rattle.ados_tree.proofs.Nodes.{some_in}
+use Rattle.ados_model.specs.declared.answer.FileInfo.{FileInfo}
+use Rattle.ados_model.specs.Tree.{Tree, name_in, name_of}
+use Rattle.ados_model.specs.Stands.{Stands}
+use Rattle.ados_model.proofs.Nodes.{some_in}
 use Rattle.host_trees.specs.declared.writing.HostItem.{HostItem}
 use Rattle.adf_transfer.specs.Located.{Located}
 use Rattle.adf_transfer.specs.Below.{located, slash}

@@ -4,7 +4,7 @@ use Rattle.files_out.specs.Items.{host_path, names_in}
 use Rattle.files_out.proofs.Names.{tail}
 use Rattle.files_out.proofs.paths.host_path.Given as goal
 
--- the host's path of the front, and what the rest adds to it
+-- the host path of the prefix, and what the rest adds to it
 abbrev pub invariant-loop-rest : goal.invariant-loop-rest
 invariant-loop-rest l = record {
   whole : host_path l.path ≡ l.host ++ tail l.rest;

@@ -1,6 +1,6 @@
 use Rattle.std.proofs.Common.{map, sym, ◌∙◌}
-use Rattle.ados_tree.specs.Tree.{Tree}
-use Rattle.ados_tree.specs.Stands.{Stands}
+use Rattle.ados_model.specs.Tree.{Tree}
+use Rattle.ados_model.specs.Stands.{Stands}
 use Rattle.files_out.specs.Words.{AreAsked, LeadTo}
 use Rattle.files_out.proofs.Leading.{asked_some, if_ok, text_of}
 use Rattle.files_out.proofs.words.asked_objects.Goals as goal

@@ -1,6 +1,6 @@
 use Rattle.std.proofs.Common.{◌≡◌, ℕ, List, Ok, sym, ap, ◌∙◌, subst}
 use Rattle.std.specs.Str.{chars}
-use Rattle.ados_tree.specs.declared.path_fault.WalkFault.TheVariants.{ObjectNotFound}
+use Rattle.ados_model.specs.declared.dos_error.WalkFault.TheVariants.{ObjectNotFound}
 use Rattle.adf_transfer.specs.Paths.{Leads, StopsAt}
 use Rattle.files_out.proofs.Leading.{All-bytes, refused_word}
 use Rattle.files_out.proofs.words.locate_path.Goals as goal

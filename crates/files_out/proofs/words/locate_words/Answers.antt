@@ -1,7 +1,7 @@
 use Rattle.std.proofs.Common.{◌+◌, All, map, take, sym, ◌∙◌, subst, arith}
 use Rattle.std.proofs.lemmas.List.Elements.{All-push}
-use Rattle.ados_tree.specs.Stands.{Stands}
-use Rattle.ados_tree.specs.Keys.{HasKey}
+use Rattle.ados_model.specs.Stands.{Stands}
+use Rattle.ados_model.specs.Keys.{HasKey}
 use Rattle.ados_volume.specs.Shown.{Shown}
 use Rattle.files_out.specs.Words.{LeadTo}
 use Rattle.files_out.proofs.Leading.{lead_more, no_word, some_fault, text_of}

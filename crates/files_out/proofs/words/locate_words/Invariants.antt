@@ -1,11 +1,11 @@
 use Rattle.std.proofs.Common.{◌≡◌, All, map, take}
-use Rattle.ados_tree.specs.Tree.{Tree}
-use Rattle.ados_tree.specs.Stands.{Stands}
-use Rattle.ados_tree.specs.Keys.{HasKey}
+use Rattle.ados_model.specs.Tree.{Tree}
+use Rattle.ados_model.specs.Stands.{Stands}
+use Rattle.ados_model.specs.Keys.{HasKey}
 use Rattle.files_out.specs.Words.{LeadTo}
 use Rattle.files_out.proofs.words.locate_words.Given as goal
 
--- the words before this one lead to these objects
+-- the arguments before this one lead to these objects
 abbrev pub invariant-loop-word : goal.invariant-loop-word
 invariant-loop-word l = record {
   same : l.volume ≡ l.initial.volume;

@@ -4,27 +4,20 @@ use Rattle.port_ends.specs.steps.HandlerEnds.{AllHeard}
 use Rattle.port_ends.specs.steps.Rooms.{RoomsFit}
 use Rattle.port_ends.proofs.gathering.gather.Goals as goal
 
-pub hear_all-requires : goal.hear_all-requires
-hear_all-requires g c =
-    let s = c.room_for_replies.ensures.same in
-    subst (λ h. AreEnds h c.room_for_replies.new.clients.items) (sym s.0) (subst (λ l. AreEnds c.args.handler l) (sym s.1) c.requires)
-
 pub finish-requires-clause-ends : goal.finish-requires-clause-ends
 finish-requires-clause-ends g c =
     let s = c.room_for_replies.ensures.same in
     let e = c.hear_all.ensures.same in
-    subst (λ h. AreEnds h c.hear_all.new.clients.items) (sym (e.0 ∙ s.0)) (subst (λ l. AreEnds c.args.handler l) (sym (e.1 ∙ s.1)) c.requires)
+    subst (λ h. AreEnds h c.hear_all.new.clients.items) (sym s.0) (subst (λ l. AreEnds c.args.handler l) (sym (e ∙ s.1)) c.requires)
 
 pub finish-requires-clause-rooms : goal.finish-requires-clause-rooms
 finish-requires-clause-rooms g c =
     let s = c.room_for_replies.ensures.same in
     let e = c.hear_all.ensures.same in
-    subst (λ h. RoomsFit c.hear_all.new.clients.items h.outlets c.in-Some.untaken.items) (sym (e.0 ∙ s.0))
-    (subst (λ l. RoomsFit l c.args.handler.outlets c.in-Some.untaken.items) (sym (e.1 ∙ s.1)) c.in-Some.ensures.rooms)
+    subst (λ h. RoomsFit c.hear_all.new.clients.items h.outlets c.in-Some.untaken.items) (sym s.0)
+    (subst (λ l. RoomsFit l c.args.handler.outlets c.in-Some.untaken.items) (sym (e ∙ s.1)) c.in-Some.ensures.rooms)
 
 pub finish-requires-clause-heard : goal.finish-requires-clause-heard
 finish-requires-clause-heard g c =
-    let e = c.hear_all.ensures.same in
-    let closing = g.S.Server.is_closing in
-    subst (λ h. AllHeard closing (g.S.Server.has_died h.server) c.hear_all.new.clients.items) (sym e.0)
-    (subst (λ l. AllHeard closing (g.S.Server.has_died c.room_for_replies.new.handler.server) l) (sym e.1) c.hear_all.ensures.heard)
+    subst (λ l. AllHeard g.S.Server.is_closing (g.S.Server.has_died c.room_for_replies.new.handler.server) l) (sym c.hear_all.ensures.same)
+    (c.hear_all.ensures.heard c.if-not-hear_all.false)

@@ -4,7 +4,6 @@ use Rattle.port_ends.proofs.gathering.hear_all.Given as goal
 
 abbrev pub invariant-loop-k : goal.invariant-loop-k
 invariant-loop-k g l = record {
-  handler : l.handler ≡ l.fn.handler;
   clients : l.clients.items ≡ l.fn.clients.items;
-  heard : (j : ℕ) (c : _) → j < l.k → slice_get l.fn.clients.items j ≡ Some c → Heard g.S.Server.is_closing (g.S.Server.has_died l.fn.handler.server) c;
+  heard : (j : ℕ) (c : _) → j < l.k → slice_get l.fn.clients.items j ≡ Some c → Heard g.S.Server.is_closing (g.S.Server.has_died l.handler.server) c;
 }

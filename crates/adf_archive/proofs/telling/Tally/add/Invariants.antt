@@ -2,6 +2,6 @@ use Rattle.std.proofs.Common.{◌≡◌, take}
 use Rattle.adf_archive.specs.Status.{tallied}
 use Rattle.adf_archive.proofs.telling.Tally.add.Given as goal
 
--- what the reports before this one come to
+-- the status of the reports before this one
 abbrev pub invariant-loop-report : goal.invariant-loop-report
 invariant-loop-report l = l.self ≡ tallied l.fn.self (take l.report-index l.reports)

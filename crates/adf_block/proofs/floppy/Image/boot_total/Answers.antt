@@ -6,12 +6,12 @@ use Rattle.adf_block.proofs.Totals.{total-more}
 use Rattle.adf_block.proofs.floppy.Image.boot_total.Goals.{then-k-ne-BOOT_SUM, else-k-ne-BOOT_SUM}
 use Rattle.adf_block.proofs.floppy.Image.boot_total.Goals as goal
 
--- the boot sum's own long counts for nothing
+-- the checksum's own long counts as 0
 own : (image : List ℕ) (k : ℕ) → k ≡ 1 → boot_long image k ≡ 0
 unfolding boot_long
 own image k e = rw e refl
 
--- any other long counts
+-- any other long counts as it is
 other : (image : List ℕ) (k : ℕ) → k ≢ 1 → boot_long image k ≡ long image (k / 128) (k % 128)
 unfolding boot_long
 other image k ne = grind (arith, nat_tests)

@@ -5,11 +5,11 @@ use Rattle.adf_block.proofs.Bytes.{with_number, length-with_number, number-with_
 use Rattle.adf_block.proofs.Frames.{only-with_number, other_long}
 use Rattle.adf_block.proofs.floppy.Image.set_long.Goals as goal
 
--- there are four bytes where the long stands
+-- the four bytes of the long are inside the image
 room : (n b i : ℕ) → b < n / 512 → i < 128 → 512 * b + 4 * i + 4 ≤ n
 room n b i inside place = omega arith
 
--- the image that is left has the long's bytes written over
+-- the resulting image has the bytes of v at the long's position
 left : (len b i v : ℕ) (now xs buf ys : List ℕ) → len ≡ length xs → xs ≡ now → buf ≡ now → 512 * b + 4 * i + 4 ≤ length now
     → ys ≡ with_number buf (b * 512 + i * 4) v → take len (ys ++ drop (length ys) xs) ≡ with_number now (512 * b + 4 * i) v
 left len b i v now xs buf ys whole view before fits written =

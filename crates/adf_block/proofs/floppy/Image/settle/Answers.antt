@@ -3,7 +3,7 @@ use Rattle.adf_block.specs.Image.{total, long, block_sum}
 use Rattle.adf_block.proofs.Totals.{total-one}
 use Rattle.adf_block.proofs.floppy.Image.settle.Goals as goal
 
--- the new total, where x stands in place of y and makes up for the others
+-- the new total is 0: x replaces y and balances the other longs
 made_up : (s t u x y : ℕ) → u + y ≡ t + x → s ≡ t % 2 ^ 32 → (x + (s + (2 ^ 32 - y)) % 2 ^ 32) % 2 ^ 32 ≡ 0 → y < 2 ^ 32 → u % 2 ^ 32 ≡ 0
 made_up s t u x y moved was up fits = omega arith
 

@@ -1,4 +1,4 @@
--- What a handle holds says the same to every thread, as a desk may go to any.
+-- The contents of a handle are the same for every thread, because a desk can be sent to any.
 use mir.Raw.{raw}
 use base.Shift.{Keyless}
 use denote.Memory.{lone}

@@ -1,4 +1,4 @@
--- `closed` puts null and the allocator together.
+-- `closed` makes a handle of null and the allocator.
 use Rattle.std.proofs.Common.{◌≡◌, List, [], ◌∷◌, ◌++◌, refl, sym, ap, ◌∙◌, subst, lit<}
 use mir.Val.{Val, vptr, vcons, vnil, has_ty}
 use base.Logic.{SProp, ent, emp, id⊢}

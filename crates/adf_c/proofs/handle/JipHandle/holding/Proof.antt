@@ -1,4 +1,4 @@
--- `holding` hands the box over.
+-- `holding` passes the box on.
 use Rattle.std.proofs.Common.{◌≡◌, List, [], ◌∷◌, ◌++◌, refl, sym, ap, ◌∙◌, subst, lit<}
 use mir.Val.{Val, vptr, vcons, vnil, has_ty}
 use base.Logic.{SProp, ent, emp, id⊢}

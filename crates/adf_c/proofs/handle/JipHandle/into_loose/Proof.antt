@@ -1,4 +1,4 @@
--- `into_loose` tells a box from none by the pointer.
+-- `into_loose` distinguishes a box from none by the pointer.
 use Rattle.std.proofs.Common.{◌≡◌, List, [], ◌∷◌, ◌++◌, refl, sym, ap, ◌∙◌, subst, lit<}
 use mir.Val.{Val, vptr, vcons, vnil, has_ty}
 use base.Logic.{SProp, ent, emp, id⊢}

@@ -2,13 +2,13 @@ use Rattle.std.proofs.Common.{◌≡◌, ℕ, ℤ, List, [], ◌∷◌, ◌++◌
 use Rattle.std.specs.Prelude.{codes, decimal}
 use Rattle.std.specs.Fmt.{signed_decimal}
 use Rattle.std.specs.String.{string_bytes}
-use Rattle.ados_packet.specs.Numbers.{error_number}
-use Rattle.ados_packet.specs.declared.dos_error.DosError.{DosError}
-use Rattle.ados_packet.specs.declared.dos_error.DosError.TheVariants as errors
+use Rattle.ados_model.specs.Packet.{error_number}
+use Rattle.ados_model.specs.declared.dos_error.DosError.{DosError}
+use Rattle.ados_model.specs.declared.dos_error.DosError.TheVariants as errors
 use Rattle.adf_script.specs.Text.{spaced}
 use Rattle.adf_commands.proofs.refusal.DosRefusal.line.Goals as goal
 
--- the number of an error as an `i32` shows it
+-- the number of an error as an `i32`
 shown_number : (error : DosError) → signed_decimal (to_z w32 (of_z w32 (pos (error_number error)))) ≡ decimal (error_number error)
 shown_number errors.NoFreeStore = refl
 shown_number errors.ObjectInUse = refl

@@ -1,7 +1,7 @@
 use Rattle.std.proofs.Common.{◌≡◌, ℕ, List, ◌++◌, sym, ap, ap₂, ◌∙◌}
-use Rattle.ados_packet.specs.declared.info.FileInfo.{FileInfo}
-use Rattle.ados_tree.specs.Tree.{name_in, name_of}
-use Rattle.ados_tree.proofs.Nodes.{some_in}
+use Rattle.ados_model.specs.declared.answer.FileInfo.{FileInfo}
+use Rattle.ados_model.specs.Tree.{name_in, name_of}
+use Rattle.ados_model.proofs.Nodes.{some_in}
 use Rattle.adf_transfer.proofs.below.Below.behind.Goals as goal
 
 pub returns : goal.returns

@@ -1,7 +1,7 @@
 use Rattle.std.proofs.Common.{◌≡◌, ◌<◌, ℕ, length, None, Some, sym, ◌∙◌, subst, arith}
 use Rattle.std.proofs.lemmas.Option.{same_Some}
 use Rattle.adf_block.specs.Image.{long}
-use Rattle.ados_tree.specs.Faults.{InImage, Reached, IsUsedTwice}
+use Rattle.ados_model.specs.Faults.{InImage, Reached, IsUsedTwice}
 use Rattle.ados_check.specs.Marks.{IsSound, mark_at}
 use Rattle.ados_check.proofs.MarkLemmas.{marked_within, mark_read, some_is, none_is}
 use Rattle.ados_check.proofs.Moves.{skipped, took_at, took_unplaced, reached_next, points_outside, used_twice}

@@ -2,8 +2,8 @@ use Rattle.std.proofs.Common.{◌≡◌, ◌-◌, ◌<◌, ℕ, List, length, sl
 use Rattle.std.proofs.lemmas.Bool.{false≢true}
 use Rattle.std.proofs.lemmas.List.{get_or_default}
 use Rattle.adf_block.specs.Image.{long}
-use Rattle.adf_block.specs.Fields.{next_extension}
-use Rattle.ados_tree.specs.Faults.{last_link}
+use Rattle.adf_block.specs.Layout.{next_extension}
+use Rattle.ados_model.specs.Faults.{last_link}
 use Rattle.ados_faults.specs.steps.Chain.{IsChain}
 use Rattle.ados_faults.proofs.Linking.{chain_whole, chain_more, head_kept}
 use Rattle.ados_faults.proofs.file_blocks.Headers.go_on.Goals as goal

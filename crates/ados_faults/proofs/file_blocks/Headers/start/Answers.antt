@@ -1,5 +1,5 @@
 use Rattle.std.proofs.Common.{List, ℕ, [], ◌∷◌, ◌++◌, slice_index, sym, ap, ◌∙◌, subst}
-use Rattle.adf_block.specs.Fields.{next_extension}
+use Rattle.adf_block.specs.Layout.{next_extension}
 use Rattle.ados_faults.specs.steps.Chain.{HasMet, IsChain}
 use Rattle.ados_faults.proofs.Linking.{chain_start, met_none}
 use Rattle.ados_faults.proofs.file_blocks.Headers.start.Goals as goal

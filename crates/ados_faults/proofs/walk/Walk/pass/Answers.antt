@@ -1,8 +1,8 @@
 use Rattle.std.proofs.Common.{ℕ, sym, subst, ◌∙◌}
 use Rattle.std.proofs.lemmas.Bool.{false≢true}
-use Rattle.ados_tree.specs.Faults.{InImage, Reached}
-use Rattle.ados_tree.specs.Faults.HasBadPointer.{outside}
-use Rattle.ados_tree.specs.Faults.Reached.{named}
+use Rattle.ados_model.specs.Faults.{InImage, Reached}
+use Rattle.ados_model.specs.Faults.HasBadPointer.{outside}
+use Rattle.ados_model.specs.Faults.Reached.{named}
 use Rattle.ados_faults.proofs.walk.Walk.pass.Goals as goal
 
 pub note-requires-clause-shown : goal.note-requires-clause-shown

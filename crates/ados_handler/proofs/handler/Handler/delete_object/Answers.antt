@@ -1,15 +1,14 @@
 use Rattle.std.proofs.Common.{◌≡◌, ◌≢◌, [], ◌∷◌, sym, ap, ◌∙◌, subst, refl}
-use Rattle.ados_tree.specs.Tree.{entries, root}
-use Rattle.ados_tree.specs.Stands.{Stands}
-use Rattle.ados_tree.specs.NewBlocks.{KeepsRest}
-use Rattle.ados_tree.specs.Change.{removed}
-use Rattle.ados_tree.proofs.Nodes.{some_in}
-use Rattle.ados_packet.specs.declared.dos_error.DosError.TheVariants.{DeleteProtected}
-use Rattle.ados_packet.specs.declared.packet.Packet.TheVariants.{DeleteObject}
-use Rattle.ados_packet.specs.declared.results.Results.{Results}
-use Rattle.ados_handler.specs.Session.{Session, is_held}
-use Rattle.ados_handler.specs.Refusals.{first_refusal, is_empty, refuse}
-use Rattle.ados_handler.specs.Handler.{HandlerState}
+use Rattle.ados_model.specs.Tree.{entries, root}
+use Rattle.ados_model.specs.Stands.{Stands}
+use Rattle.ados_change.specs.NewBlocks.{KeepsRest}
+use Rattle.ados_model.specs.Change.{removed}
+use Rattle.ados_model.proofs.Nodes.{some_in}
+use Rattle.ados_model.specs.declared.dos_error.DosError.TheVariants.{DeleteProtected}
+use Rattle.ados_model.specs.declared.packet.Packet.TheVariants.{DeleteObject}
+use Rattle.ados_model.specs.declared.results.Results.{Results}
+use Rattle.ados_model.specs.Session.{Session, is_held, HandlerState}
+use Rattle.ados_model.specs.Refusals.{first_refusal, is_empty, refuse}
 use Rattle.ados_handler.specs.Gives.{IsSoundHandler}
 use Rattle.ados_handler.specs.steps.Methods.{MethodMeans, answer_to}
 use Rattle.ados_handler.proofs.Reading.{from_not}

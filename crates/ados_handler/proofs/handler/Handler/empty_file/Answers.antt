@@ -1,7 +1,6 @@
 use Rattle.std.proofs.Common.{true, sym, ap, ◌∙◌, subst}
-use Rattle.ados_tree.specs.Stands.{Stands}
-use Rattle.ados_handler.specs.Session.{is_in_use}
-use Rattle.ados_handler.specs.Handler.{HandlerState}
+use Rattle.ados_model.specs.Stands.{Stands}
+use Rattle.ados_model.specs.Session.{is_in_use, HandlerState}
 use Rattle.ados_handler.proofs.Emptying.{emptied_opens, emptied_sound}
 use Rattle.ados_handler.proofs.handler.Handler.empty_file.Goals as goal
 

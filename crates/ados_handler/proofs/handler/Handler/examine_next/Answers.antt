@@ -1,11 +1,11 @@
 use Rattle.std.proofs.Common.{sym, ap, ◌∙◌, subst}
 use Rattle.std.specs.Prelude.{is_some}
-use Rattle.ados_tree.specs.Stands.{Stands}
-use Rattle.ados_packet.specs.declared.packet.Packet.TheVariants.{ExamineNext}
-use Rattle.ados_handler.specs.Handler.{HandlerState}
+use Rattle.ados_model.specs.Stands.{Stands}
+use Rattle.ados_model.specs.declared.packet.Packet.TheVariants.{ExamineNext}
+use Rattle.ados_model.specs.Session.{HandlerState}
 use Rattle.ados_handler.specs.steps.Methods.{MethodMeans}
 use Rattle.ados_handler.proofs.Leaving.{leaves_all}
-use Rattle.ados_tree.proofs.Listed.{next_node}
+use Rattle.ados_volume.proofs.Listed.{next_node}
 use Rattle.ados_handler.proofs.NextEntry.{next_means}
 use Rattle.ados_handler.proofs.handler.Handler.examine_next.Goals as goal
 

@@ -1,7 +1,7 @@
 use Rattle.std.proofs.Common.{sym, subst}
-use Rattle.ados_tree.specs.Keys.{HasFileKey}
-use Rattle.ados_tree.specs.Stands.{Stands}
-use Rattle.ados_handler.specs.Handler.{HandlerState}
+use Rattle.ados_model.specs.Keys.{HasFileKey}
+use Rattle.ados_model.specs.Stands.{Stands}
+use Rattle.ados_model.specs.Session.{HandlerState}
 use Rattle.ados_handler.proofs.HandleFiles.{file_is_key, protection_told}
 use Rattle.ados_handler.proofs.handler.Handler.file_protection.Goals as goal
 

@@ -1,5 +1,5 @@
 use Rattle.std.proofs.Common.{sym, ap, ◌∙◌}
-use Rattle.ados_handler.specs.Handler.{HandlerState}
+use Rattle.ados_model.specs.Session.{HandlerState}
 use Rattle.ados_handler.proofs.Opening.{input_gives}
 use Rattle.ados_handler.proofs.handler.Handler.find_input.Goals as goal
 

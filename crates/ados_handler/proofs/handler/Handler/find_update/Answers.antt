@@ -1,9 +1,8 @@
 use Rattle.std.proofs.Common.{refl, sym, ap, ◌∙◌, subst}
-use Rattle.ados_tree.specs.Stands.{Stands}
+use Rattle.ados_model.specs.Stands.{Stands}
 use Rattle.ados_volume.specs.Shown.{Shown}
-use Rattle.ados_handler.specs.Session.{Session}
-use Rattle.ados_handler.specs.Handler.{HandlerState}
-use Rattle.ados_packet.specs.declared.packet.Packet.TheVariants.{FindUpdate}
+use Rattle.ados_model.specs.Session.{Session, HandlerState}
+use Rattle.ados_model.specs.declared.packet.Packet.TheVariants.{FindUpdate}
 use Rattle.ados_handler.proofs.Moving.{refused_gives}
 use Rattle.ados_handler.proofs.Placed.{place_refused}
 use Rattle.ados_handler.proofs.Spotted.{update_opens, update_makes}

@@ -1,5 +1,5 @@
 use Rattle.std.proofs.Common.{nat_eq, ap, ◌∙◌, rules}
-use Rattle.ados_handler.specs.Session.{is_held}
+use Rattle.ados_model.specs.Session.{is_held}
 use Rattle.ados_handler.proofs.HeldObjects.{by_lock, by_handle}
 use Rattle.ados_handler.proofs.handler.Handler.is_held.Goals as goal
 

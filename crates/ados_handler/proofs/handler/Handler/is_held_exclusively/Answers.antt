@@ -1,6 +1,6 @@
 use Rattle.std.proofs.Common.{nat_eq, ap, ◌∙◌, rules}
 use Rattle.std.specs.Prelude.{◌&&◌}
-use Rattle.ados_handler.specs.Session.{is_held_exclusively}
+use Rattle.ados_model.specs.Session.{is_held_exclusively}
 use Rattle.ados_handler.proofs.HeldObjects.{by_lock, by_handle}
 use Rattle.ados_handler.proofs.handler.Handler.is_held_exclusively.Goals as goal
 

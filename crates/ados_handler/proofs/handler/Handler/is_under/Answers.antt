@@ -1,10 +1,10 @@
 use Rattle.std.proofs.Common.{◌≡◌, ℕ, suc, ◌-◌, ◌+◌, arith, None, Some, sym, ap, ◌∙◌, subst}
 use Rattle.adf_block.specs.Image.{block_count}
-use Rattle.ados_tree.specs.Tree.{parent_of}
-use Rattle.ados_tree.specs.Keys.{HasKey}
-use Rattle.ados_tree.specs.Stands.{Stands}
-use Rattle.ados_tree.proofs.Standing.{count_same}
-use Rattle.ados_handler.specs.Handler.{HandlerState}
+use Rattle.ados_model.specs.Tree.{parent_of}
+use Rattle.ados_model.specs.Keys.{HasKey}
+use Rattle.ados_model.specs.Stands.{Stands}
+use Rattle.ados_model.proofs.Standing.{count_same}
+use Rattle.ados_model.specs.Session.{HandlerState}
 use Rattle.ados_handler.proofs.Climbing.{climbs, ends, meets, met}
 use Rattle.ados_handler.proofs.handler.Handler.is_under.Goals as goal
 

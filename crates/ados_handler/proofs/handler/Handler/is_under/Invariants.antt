@@ -1,12 +1,12 @@
 use Rattle.std.proofs.Common.{◌≡◌, ◌-◌}
-use Rattle.ados_tree.specs.Tree.{Tree}
-use Rattle.ados_tree.specs.Stands.{Stands}
-use Rattle.ados_tree.specs.Keys.{HasKey}
-use Rattle.ados_handler.specs.Objects.{is_under}
+use Rattle.ados_model.specs.Tree.{Tree}
+use Rattle.ados_model.specs.Stands.{Stands}
+use Rattle.ados_model.specs.Keys.{HasKey}
+use Rattle.ados_model.specs.Objects.{is_under}
 use Rattle.ados_handler.proofs.Climbing.{meets}
 use Rattle.ados_handler.proofs.handler.Handler.is_under.Given as goal
 
--- the key is met from here on where it is met at all
+-- from here on the key is met exactly if it is met at all
 abbrev pub invariant-loop-step : goal.invariant-loop-step
 invariant-loop-step l = record {
   key : HasKey l.fn.self.image l.key;

@@ -1,13 +1,12 @@
 use Rattle.std.proofs.Common.{◌≡◌, ℕ, List, Some, sym, ap, ◌∙◌, subst, refl}
 use Rattle.ados_name.specs.Name.{IsName, first_fault}
-use Rattle.ados_tree.specs.Stands.{Stands}
-use Rattle.ados_tree.specs.NewBlocks.{KeepsRest}
-use Rattle.ados_tree.specs.Change.{disk_renamed}
-use Rattle.ados_packet.specs.declared.dos_error.DosError.TheVariants.{InvalidComponentName}
-use Rattle.ados_packet.specs.declared.packet.Packet.TheVariants.{RenameDisk}
-use Rattle.ados_packet.specs.declared.results.Results.{Results}
-use Rattle.ados_handler.specs.Session.{Session}
-use Rattle.ados_handler.specs.Handler.{HandlerState}
+use Rattle.ados_model.specs.Stands.{Stands}
+use Rattle.ados_change.specs.NewBlocks.{KeepsRest}
+use Rattle.ados_model.specs.Change.{disk_renamed}
+use Rattle.ados_model.specs.declared.dos_error.DosError.TheVariants.{InvalidComponentName}
+use Rattle.ados_model.specs.declared.packet.Packet.TheVariants.{RenameDisk}
+use Rattle.ados_model.specs.declared.results.Results.{Results}
+use Rattle.ados_model.specs.Session.{Session, HandlerState}
 use Rattle.ados_handler.specs.Gives.{IsSoundHandler}
 use Rattle.ados_handler.specs.steps.Methods.{MethodMeans}
 use Rattle.ados_handler.proofs.Telling.{rename_disk_keeps}

@@ -1,17 +1,16 @@
 use Rattle.std.proofs.Common.{◌≡◌, pos, None, rules, sym, ap, ◌∙◌, subst, refl}
 use Rattle.ados_name.specs.Name.{IsName}
-use Rattle.ados_tree.specs.Tree.{Tree}
-use Rattle.ados_tree.specs.Stands.{Stands}
-use Rattle.ados_tree.specs.Keys.{HasDirectory, HasKey}
-use Rattle.ados_tree.specs.NewBlocks.{KeepsRest}
-use Rattle.ados_tree.specs.Change.{renamed}
-use Rattle.ados_packet.specs.Numbers.{error_number}
-use Rattle.ados_packet.specs.declared.packet.Packet.{Packet}
-use Rattle.ados_packet.specs.declared.packet.Packet.TheVariants.{RenameObject}
-use Rattle.ados_packet.specs.declared.results.Results.{Results}
-use Rattle.ados_packet.specs.declared.answer.Body.TheVariants.{Empty}
-use Rattle.ados_handler.specs.Session.{Session}
-use Rattle.ados_handler.specs.Handler.{HandlerState}
+use Rattle.ados_model.specs.Tree.{Tree}
+use Rattle.ados_model.specs.Stands.{Stands}
+use Rattle.ados_model.specs.Keys.{HasDirectory, HasKey}
+use Rattle.ados_change.specs.NewBlocks.{KeepsRest}
+use Rattle.ados_model.specs.Change.{renamed}
+use Rattle.ados_model.specs.Packet.{error_number}
+use Rattle.ados_model.specs.declared.packet.Packet.{Packet}
+use Rattle.ados_model.specs.declared.packet.Packet.TheVariants.{RenameObject}
+use Rattle.ados_model.specs.declared.results.Results.{Results}
+use Rattle.ados_model.specs.declared.answer.Body.TheVariants.{Empty}
+use Rattle.ados_model.specs.Session.{Session, HandlerState}
 use Rattle.ados_handler.specs.Gives.{IsSoundHandler}
 use Rattle.ados_handler.specs.steps.Methods.{MethodMeans}
 use Rattle.ados_handler.specs.steps.Moves.{move_refusal}

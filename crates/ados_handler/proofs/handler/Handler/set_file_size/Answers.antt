@@ -1,11 +1,10 @@
 use Rattle.std.proofs.Common.{ℤ, w32, sym, ap, ap₂, ◌∙◌, subst}
 use Rattle.std.proofs.lemmas.Int.{to_z-of_z}
-use Rattle.ados_name.specs.Protection.{denies_write}
-use Rattle.ados_tree.specs.Stands.{Stands}
-use Rattle.ados_packet.specs.declared.packet.Packet.TheVariants.{SetFileSize}
-use Rattle.ados_handler.specs.Session.{Session}
-use Rattle.ados_handler.specs.Objects.{is_bad_target, seek_target, target_number}
-use Rattle.ados_handler.specs.Handler.{HandlerState}
+use Rattle.ados_name.specs.Name.{denies_write}
+use Rattle.ados_model.specs.Stands.{Stands}
+use Rattle.ados_model.specs.declared.packet.Packet.TheVariants.{SetFileSize}
+use Rattle.ados_model.specs.Session.{Session, HandlerState}
+use Rattle.ados_model.specs.Objects.{is_bad_target, seek_target, target_number}
 use Rattle.ados_handler.specs.Gives.{IsSoundHandler}
 use Rattle.ados_handler.proofs.Meant.{sound_after}
 use Rattle.ados_handler.proofs.Rewriting.{set_file_size_keeps}

@@ -1,12 +1,11 @@
 use Rattle.std.proofs.Common.{◌≡◌, ◌≢◌, sym, ap, ◌∙◌, subst, refl}
-use Rattle.ados_tree.specs.Tree.{root}
-use Rattle.ados_tree.specs.Stands.{Stands}
-use Rattle.ados_tree.specs.NewBlocks.{KeepsRest}
-use Rattle.ados_tree.specs.Change.{with_protection}
-use Rattle.ados_packet.specs.declared.packet.Packet.TheVariants.{SetProtect}
-use Rattle.ados_packet.specs.declared.results.Results.{Results}
-use Rattle.ados_handler.specs.Session.{Session}
-use Rattle.ados_handler.specs.Handler.{HandlerState}
+use Rattle.ados_model.specs.Tree.{root}
+use Rattle.ados_model.specs.Stands.{Stands}
+use Rattle.ados_change.specs.NewBlocks.{KeepsRest}
+use Rattle.ados_model.specs.Change.{with_protection}
+use Rattle.ados_model.specs.declared.packet.Packet.TheVariants.{SetProtect}
+use Rattle.ados_model.specs.declared.results.Results.{Results}
+use Rattle.ados_model.specs.Session.{Session, HandlerState}
 use Rattle.ados_handler.specs.Gives.{IsSoundHandler}
 use Rattle.ados_handler.specs.steps.Methods.{MethodMeans}
 use Rattle.ados_handler.proofs.Telling.{set_protect_keeps}

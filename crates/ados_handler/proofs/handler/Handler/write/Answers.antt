@@ -1,9 +1,9 @@
 use Rattle.std.proofs.Common.{sym, ap, ◌∙◌, subst}
-use Rattle.ados_name.specs.Protection.{denies_write}
-use Rattle.ados_tree.specs.Stands.{Stands}
-use Rattle.ados_packet.specs.declared.packet.Packet.TheVariants.{Write}
+use Rattle.ados_name.specs.Name.{denies_write}
+use Rattle.ados_model.specs.Stands.{Stands}
+use Rattle.ados_model.specs.declared.packet.Packet.TheVariants.{Write}
 use Rattle.ados_volume.specs.Shown.{Shown}
-use Rattle.ados_handler.specs.Handler.{HandlerState}
+use Rattle.ados_model.specs.Session.{HandlerState}
 use Rattle.ados_handler.specs.Gives.{IsSoundHandler}
 use Rattle.ados_handler.proofs.Meant.{sound_after}
 use Rattle.ados_handler.proofs.Rewriting.{write_keeps}

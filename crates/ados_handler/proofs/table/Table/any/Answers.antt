@@ -6,7 +6,7 @@ use Rattle.std.proofs.lemmas.Fn.{says_at}
 use Rattle.ados_handler.proofs.Tables.{values_are}
 use Rattle.ados_handler.proofs.table.Table.any.Goals as goal
 
--- the first entry that is left, and the others
+-- the first remaining entry, and the others
 first_then : {X : Type 0} (passes : X → Bool) (b : Bool) (first : ℕ × X) (left rest : List (ℕ × X)) → left ≡ first ∷ rest → b ≡ passes first.1
     → list_any passes (map (λ e. e.1) left) ≡ (b || list_any passes (map (λ e. e.1) rest))
 first_then {X} passes b first left rest split is =

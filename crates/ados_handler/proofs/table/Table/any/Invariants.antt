@@ -5,7 +5,7 @@ use Rattle.std.specs.List.{list_any}
 use Rattle.ados_handler.specs.steps.Table.{IsTestBy}
 use Rattle.ados_handler.proofs.table.Table.any.Given as goal
 
--- what a test finds among the values that are left is what it finds among all
+-- a test of the remaining values has the same result as a test of all values
 abbrev pub invariant-loop-value : goal.invariant-loop-value
 invariant-loop-value g l =
     (goal.iterator-loop-value g).can_next l.value-iterator

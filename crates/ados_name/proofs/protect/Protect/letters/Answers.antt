@@ -1,11 +1,12 @@
 use Rattle.std.proofs.Common.{◌≡◌, ℕ, ◌==◌, ◌^◌, Bool, not, ◌∷◌, [], ap, ◌∙◌}
 use Rattle.std.specs.Prelude.{if◌then◌else◌}
 use Rattle.std.specs.Int.RustNames.{bit_and}
-use Rattle.ados_name.specs.Protection.{is_set, letter_or_dash}
+use Rattle.ados_name.specs.Name.{is_set}
+use Rattle.ados_name.specs.Protection.{letter_or_dash}
 use Rattle.ados_name.proofs.ProtectionLemmas.{mask-bit}
 use Rattle.ados_name.proofs.protect.Protect.letters.Goals as goal
 
--- a letter is shown where the bit is set, and the others where it is clear
+-- a letter shown for a set bit, and a letter shown for a clear bit
 module _ (bits number letter shown : ℕ) (has : Bool) (found : has ≡ (bit_and bits (2 ^ number) == 2 ^ number)) where
   where_set : shown ≡ (if has then letter else 45) → shown ≡ letter_or_dash (is_set bits number) letter
   where_set is = is ∙ ap (λ b. if b then letter else 45) (found ∙ mask-bit bits number)

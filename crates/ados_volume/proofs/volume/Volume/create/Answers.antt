@@ -1,8 +1,8 @@
 use Rattle.std.proofs.Common.{ℕ, List, sym, subst}
 use Rattle.ados_map.specs.Pages.{IsLowestFree, NoneFree, NoneFreeBelow}
-use Rattle.ados_tree.specs.Tree.{Tree}
-use Rattle.ados_tree.specs.Stands.{Stands}
-use Rattle.ados_tree.specs.Change.{made}
+use Rattle.ados_model.specs.Tree.{Tree}
+use Rattle.ados_model.specs.Stands.{Stands}
+use Rattle.ados_model.specs.Change.{made}
 use Rattle.ados_change.specs.Kinds.{Makes, content_of}
 use Rattle.ados_change.proofs.Making.{unused}
 use Rattle.ados_volume.specs.Refused.{RefusesEntry}

@@ -1,12 +1,13 @@
 use Rattle.std.proofs.Common.{ℕ, List, refl, sym, subst}
 use Rattle.ados_map.specs.Pages.{NoneFreeBelow}
-use Rattle.ados_tree.specs.Tree.{Tree}
-use Rattle.ados_tree.specs.Stands.{Stands}
-use Rattle.ados_tree.specs.Change.{grown}
+use Rattle.ados_data.proofs.Places.{readable}
+use Rattle.ados_model.specs.Tree.{Tree}
+use Rattle.ados_model.specs.Stands.{Stands}
+use Rattle.ados_model.specs.Change.{grown}
 use Rattle.ados_change.specs.Renewed.{Grows}
 use Rattle.ados_volume.specs.Refused.{RefusesGrowth}
 use Rattle.ados_volume.specs.Shown.{Shown}
-use Rattle.ados_tree.specs.Keys.{HasFileKey}
+use Rattle.ados_model.specs.Keys.{HasFileKey}
 use Rattle.ados_change.proofs.Renewed.{file_writable}
 use Rattle.ados_volume.specs.steps.Cache.{AreChildren}
 use Rattle.ados_volume.specs.steps.Listed.{AreListed}
@@ -16,10 +17,10 @@ use Rattle.ados_volume.proofs.Refilled.{refuses, still_shown, rewritten_stay}
 use Rattle.ados_volume.proofs.Known.{known_carried, grown_lasts}
 use Rattle.ados_volume.proofs.volume.Volume.grow.Goals as goal
 
-pub place_at-place-requires-clause-lawful : goal.place_at-place-requires-clause-lawful
-place_at-place-requires-clause-lawful c =
+pub place_at-place-requires-clause-readable : goal.place_at-place-requires-clause-readable
+place_at-place-requires-clause-readable c =
     let key = subst (λ (w : Shown). HasFileKey w.image c.args.key) (sym c.self.view_is) c.requires.file in
-    (file_writable c.self.inside.image c.args.key c.self.invariant.0.0.0.0 key).lawful
+    readable c.self.inside.image c.args.key (file_writable c.self.inside.image c.args.key c.self.invariant.0.0.0.0 key).lawful
 
 pub place_at-place-requires-clause-near : goal.place_at-place-requires-clause-near
 place_at-place-requires-clause-near c = c.of.ensures c.self.inside.image c.self.invariant.1

@@ -1,7 +1,7 @@
 use Rattle.std.proofs.Common.{◌≡◌, ℕ, List, Option, Some, None, IfSome, sym, subst}
-use Rattle.ados_tree.specs.Tree.{Tree, parent_of}
-use Rattle.ados_tree.specs.Stands.{Stands}
-use Rattle.ados_tree.specs.Keys.{HasKey}
+use Rattle.ados_model.specs.Tree.{Tree, parent_of}
+use Rattle.ados_model.specs.Stands.{Stands}
+use Rattle.ados_model.specs.Keys.{HasKey}
 use Rattle.ados_volume.proofs.Walking.{parent_node}
 use Rattle.ados_volume.proofs.volume.Volume.parent.Goals as goal
 

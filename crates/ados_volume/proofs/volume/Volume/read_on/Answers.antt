@@ -1,20 +1,21 @@
 use Rattle.std.proofs.Common.{ℕ, ◌-◌, ◌++◌, min, List, length, take, drop, sym, subst, ap, ◌∙◌}
-use Rattle.ados_tree.specs.Keys.{HasFileKey}
-use Rattle.ados_tree.specs.Stands.{Stands}
+use Rattle.ados_data.proofs.Places.{readable}
+use Rattle.ados_model.specs.Keys.{HasFileKey}
+use Rattle.ados_model.specs.Stands.{Stands}
 use Rattle.ados_change.proofs.Renewed.{bytes_in, file_writable}
 use Rattle.ados_volume.specs.Shown.{Shown}
 use Rattle.ados_volume.proofs.volume.Volume.read_on.Goals as goal
 
-pub place_at-place-requires-clause-lawful : goal.place_at-place-requires-clause-lawful
-place_at-place-requires-clause-lawful c =
-    (file_writable c.self.inside.image c.args.key c.self.invariant.0.0.0.0 (subst (λ (w : Shown). HasFileKey w.image c.args.key) (sym c.self.view_is) c.requires)).lawful
+pub place_at-place-requires-clause-readable : goal.place_at-place-requires-clause-readable
+place_at-place-requires-clause-readable c =
+    readable c.self.inside.image c.args.key (file_writable c.self.inside.image c.args.key c.self.invariant.0.0.0.0 (subst (λ (w : Shown). HasFileKey w.image c.args.key) (sym c.self.view_is) c.requires)).lawful
 
 pub place_at-place-requires-clause-near : goal.place_at-place-requires-clause-near
 place_at-place-requires-clause-near c = c.of.ensures c.self.inside.image c.self.invariant.1
 
-pub read_near-requires-clause-lawful : goal.read_near-requires-clause-lawful
-read_near-requires-clause-lawful c =
-    (file_writable c.self.inside.image c.args.key c.self.invariant.0.0.0.0 (subst (λ (w : Shown). HasFileKey w.image c.args.key) (sym c.self.view_is) c.requires)).lawful
+pub read_near-requires-clause-readable : goal.read_near-requires-clause-readable
+read_near-requires-clause-readable c =
+    readable c.self.inside.image c.args.key (file_writable c.self.inside.image c.args.key c.self.invariant.0.0.0.0 (subst (λ (w : Shown). HasFileKey w.image c.args.key) (sym c.self.view_is) c.requires)).lawful
 
 pub invariant_of-self : goal.invariant_of-self
 invariant_of-self c = (

@@ -1,6 +1,6 @@
 use Rattle.std.proofs.Common.{sym, subst}
-use Rattle.ados_tree.specs.Stands.{Stands}
-use Rattle.ados_tree.specs.Change.{removed}
+use Rattle.ados_model.specs.Stands.{Stands}
+use Rattle.ados_model.specs.Change.{removed}
 use Rattle.ados_volume.specs.Shown.{Shown}
 use Rattle.ados_volume.proofs.Bounds.{below_boot}
 use Rattle.ados_volume.proofs.Moved.{removed_stays, has_parent, forgotten_carried}

@@ -1,6 +1,6 @@
 use Rattle.std.proofs.Common.{sym, subst}
-use Rattle.ados_tree.specs.Stands.{Stands}
-use Rattle.ados_tree.specs.Change.{renamed}
+use Rattle.ados_model.specs.Stands.{Stands}
+use Rattle.ados_model.specs.Change.{renamed}
 use Rattle.ados_volume.specs.Shown.{Shown}
 use Rattle.ados_volume.proofs.Bounds.{below_kept}
 use Rattle.ados_volume.proofs.Moved.{renamed_stays, has_parent, forgotten_carried}

@@ -1,12 +1,12 @@
 use Rattle.std.proofs.Common.{◌+◌, length, refl, sym, subst}
-use Rattle.adf_block.specs.Fields.{name_byte}
-use Rattle.ados_tree.specs.Tree.{root}
-use Rattle.ados_tree.specs.Stands.{Stands}
-use Rattle.ados_tree.specs.Change.{disk_renamed}
+use Rattle.adf_block.specs.Layout.{name_byte}
+use Rattle.ados_model.specs.Tree.{root}
+use Rattle.ados_model.specs.Stands.{Stands}
+use Rattle.ados_model.specs.Change.{disk_renamed}
 use Rattle.ados_volume.specs.Shown.{Shown}
 use Rattle.ados_change.proofs.Retells.{entry_not_root}
-use Rattle.ados_tree.specs.Faults.{root_of}
-use Rattle.ados_tree.proofs.Writable.{root_serves}
+use Rattle.ados_model.specs.Faults.{root_of}
+use Rattle.ados_change.proofs.Writable.{root_serves}
 use Rattle.ados_volume.proofs.Bounds.{below_restamped}
 use Rattle.ados_volume.proofs.Children.{all_carried, changed_stay}
 use Rattle.ados_volume.proofs.Known.{changed_last, known_carried}

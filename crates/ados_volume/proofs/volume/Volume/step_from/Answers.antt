@@ -1,8 +1,8 @@
 use Rattle.std.proofs.Common.{◌≡◌, ℕ, List, Option, Some, None, IfSome, sym, subst}
-use Rattle.ados_tree.specs.Tree.{Tree}
-use Rattle.ados_tree.specs.Stands.{Stands}
-use Rattle.ados_tree.specs.Walk.{child_of}
-use Rattle.ados_tree.specs.Keys.{HasKey}
+use Rattle.ados_model.specs.Tree.{Tree}
+use Rattle.ados_model.specs.Stands.{Stands}
+use Rattle.ados_model.specs.Change.{child_of}
+use Rattle.ados_model.specs.Keys.{HasKey}
 use Rattle.ados_volume.proofs.Walking.{child_node, parent_node}
 use Rattle.ados_volume.proofs.volume.Volume.step_from.Goals as goal
 

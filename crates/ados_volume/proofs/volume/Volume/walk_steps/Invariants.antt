@@ -1,8 +1,8 @@
 use Rattle.std.proofs.Common.{◌≡◌}
-use Rattle.ados_tree.specs.Tree.{Tree}
-use Rattle.ados_tree.specs.Stands.{Stands}
-use Rattle.ados_tree.specs.Walk.{walk_steps}
-use Rattle.ados_tree.specs.Keys.{HasKey}
+use Rattle.ados_model.specs.Tree.{Tree}
+use Rattle.ados_model.specs.Stands.{Stands}
+use Rattle.ados_model.specs.Change.{walk_steps}
+use Rattle.ados_model.specs.Keys.{HasKey}
 use Rattle.ados_volume.proofs.volume.Volume.walk_steps.Given as goal
 
 abbrev pub invariant-loop-step : goal.invariant-loop-step

@@ -1,5 +1,5 @@
 use Rattle.std.proofs.lemmas.List.Elements.{All-weaker}
-use Rattle.ados_tree.specs.Keys.{HasEntryKey}
+use Rattle.ados_model.specs.Keys.{HasEntryKey}
 use Rattle.files_in.specs.declared.progress.Made.{Made}
 use Rattle.files_in.proofs.Keeping.{keeps_both, keeps_same}
 use Rattle.files_in.proofs.progress.Progress.note_directories.Goals as goal

@@ -1,9 +1,9 @@
 use Rattle.std.specs.Prelude.{All}
-use Rattle.ados_tree.specs.Keys.{HasEntryKey}
+use Rattle.ados_model.specs.Keys.{HasEntryKey}
 use Rattle.files_in.specs.Put.{KeepsKeys}
 use Rattle.files_in.proofs.progress.Progress.note_directories.Given as goal
 
--- each directory that was made is an entry still, and every entry and directory of the volume is one
+-- each new directory is still an entry, and every entry and directory of the volume is still one
 abbrev pub invariant-loop-made : goal.invariant-loop-made
 invariant-loop-made l = record {
   made : All (λ made. HasEntryKey l.volume.image made.key) l.fn.self.made.items;

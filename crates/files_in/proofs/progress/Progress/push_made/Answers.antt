@@ -1,7 +1,7 @@
 use Rattle.std.proofs.Common.{List, [], ◌∷◌, sym, subst}
 use Rattle.std.specs.Prelude.{All}
 use Rattle.std.proofs.lemmas.List.Elements.{All-append, All-cons, All-nil}
-use Rattle.ados_tree.specs.Keys.{HasEntryKey}
+use Rattle.ados_model.specs.Keys.{HasEntryKey}
 use Rattle.files_in.specs.declared.progress.Made.{Made}
 use Rattle.files_in.proofs.progress.Progress.push_made.Goals as goal
 

@@ -1,0 +1,48 @@
+//! The bytes of a new file.
+use adf_block::Image;
+use adf_io::{store_image, write_output};
+use std::io::{Error, ErrorKind, Result as IoResult, Write};
+
+/// The contents of a new file.
+#[derive(Clone, Copy)]
+pub(crate) enum NewBytes<'a> {
+    Image(&'a Image),
+    Bytes(&'a [u8]),
+}
+
+impl NewBytes<'_> {
+    /// Writes all bytes: an image by `store_image`.
+    pub(crate) fn put<W: Write>(self, writer: &mut W) -> Result<(), Error> {
+        let mut noted = Noted {
+            writer,
+            fault: None,
+        };
+        let stored = match self {
+            NewBytes::Image(image) => store_image(image, &mut noted),
+            NewBytes::Bytes(bytes) => write_output(bytes, &mut noted),
+        };
+        match stored {
+            Ok(()) => Ok(()),
+            Err(_) => Err(noted.fault.unwrap_or(Error::from(ErrorKind::WriteZero))),
+        }
+    }
+}
+
+/// A writer that notes the error of its last write.
+#[derive(Drop)]
+struct Noted<'a, W> {
+    writer: &'a mut W,
+    fault: Option<Error>,
+}
+
+impl<W: Write> Write for Noted<'_, W> {
+    fn write(&mut self, bytes: &[u8]) -> IoResult<usize> {
+        let wrote = self.writer.write(bytes);
+        self.fault = wrote.err();
+        wrote
+    }
+
+    fn flush(&mut self) -> IoResult<()> {
+        self.writer.flush()
+    }
+}

@@ -1,0 +1,2 @@
+-- Definitions for steps: single reads.
+pub mod Reads

@@ -1,0 +1,176 @@
+-- An image that represents a tree has lawful bitmap blocks, and each of its files can be changed.
+use Rattle.std.proofs.Common.{◌≡◌, ◌≢◌, ℕ, zero, suc, ◌+◌, ◌<◌, ◌≤◌, ◌==◌, Bool, true, false, List, ◌∷◌, length, slice_index, Some, refl, sym, ap, ◌∙◌, subst, arith, eq-eqb, ne_eqb}
+use Rattle.adf_block.specs.declared.Format.{Format}
+use Rattle.adf_block.specs.declared.Format.TheVariants.{Ofs, Ffs}
+use Rattle.adf_block.specs.Image.{IsInside, block_count, byte_at, root_key, long, has_free_bit, format_of}
+use Rattle.adf_block.proofs.Blocks.{byte-bytes_at}
+use Rattle.ados_map.specs.Pages.{LawfulPages, page_block, pages_of}
+use Rattle.ados_model.specs.Tree.{data_count, Content, Node, Tree, size_of}
+use Rattle.ados_model.specs.Stands.{HasFile, Duty, HasDuty, Stands, format_byte}
+use Rattle.ados_model.specs.File.{IsLawful, AreApart, data_blocks, extension_blocks, contents}
+use Rattle.ados_data.specs.Changing.{IsInUse, LawfulMap, IsWritable, WritableFile}
+use Rattle.ados_data.proofs.Spelled.{data_blocks_are, extension_blocks_are, contents_are}
+use Rattle.ados_model.specs.Tree.Content.{Directory, File}
+use Rattle.ados_model.proofs.Standing.{count_same, root_is, slice_get-index}
+
+module _ (image : List ℕ) (t : Tree) (s : Stands image t) where
+  pub inside : (block : ℕ) (duty : Duty) → HasDuty t s.layout block duty → IsInside (block_count image) block
+  inside block duty h = let i = s.fits.inside block duty h in (i.0, omega (arith, i.1, count_same image t s))
+
+  pub key_serves : (key : ℕ) (node : Node) → t.nodes key ≡ Some node → HasDuty t s.layout key Duty.Key
+  key_serves key node e = rw e refl
+
+  pub root_serves : HasDuty t s.layout (root_key (block_count image)) Duty.Key
+  root_serves = key_serves _ s.proper.root_node.0 (ap t.nodes (root_is image t s) ∙ s.proper.root_node.1)
+
+  -- a block with a use is not marked free
+  pub named_used : (block : ℕ) (duty : Duty) → HasDuty t s.layout block duty → has_free_bit image block ≡ false
+  named_used block duty h = go (has_free_bit image block) refl
+    where
+      go : (b : Bool) → has_free_bit image block ≡ b → b ≡ false
+      go true e = absurd (s.marked_free block (s.fits.inside block duty h) e (duty, h))
+      go false e = refl
+
+  -- ---- bitmap blocks
+
+  page_is : (p : ℕ) → p < length s.layout.pages → page_block image p ≡ slice_index s.layout.pages p
+  page_is p l = ap (λ (b : ℕ). long image b (79 + p)) (root_is image t s) ∙ s.root_fields.pages p l
+
+  page_within : (p : ℕ) → p < pages_of image → p < length s.layout.pages
+  page_within p l = omega (arith, l, s.fits.pages, count_same image t s)
+
+  pub page_serves : (p : ℕ) → p < pages_of image → HasDuty t s.layout (page_block image p) (Duty.Page p)
+  page_serves p l = slice_get-index s.layout.pages p (page_within p l) ∙ ap Some (sym (page_is p (page_within p l)))
+
+  -- a block with another use is no bitmap block
+  pub beside_pages : (block : ℕ) (duty : Duty) → HasDuty t s.layout block duty → ((p : ℕ) → duty ≢ Duty.Page p) → (p : ℕ) → p < pages_of image → block ≢ page_block image p
+  beside_pages block duty h other p l e =
+      other p (s.fits.one_duty block duty (Duty.Page p) h (page_serves p l ∙ ap Some (sym e)))
+
+  pub lawful_pages : LawfulPages image
+  lawful_pages = record {
+    inside = λ p l. inside (page_block image p) (Duty.Page p) (page_serves p l);
+    apart = λ p q l m e.
+        let also : HasDuty t s.layout (page_block image p) (Duty.Page q) = page_serves q m ∙ ap Some (sym e) in
+        let same = s.fits.one_duty (page_block image p) (Duty.Page p) (Duty.Page q) (page_serves p l) also in
+        cc same;
+    beside_root = λ p l e. beside_pages _ Duty.Key root_serves (λ q z. cc z) p l (sym e);
+  }
+
+  pub lawful_map : LawfulMap image
+  lawful_map = record {
+    pages = lawful_pages;
+    root_marked = named_used _ Duty.Key root_serves;
+    pages_marked = λ p l. named_used _ (Duty.Page p) (page_serves p l);
+  }
+
+  -- ---- files
+
+  pub format_is : format_of image ≡ t.format
+  format_is =
+      let fourth : byte_at image 0 3 ≡ format_byte t.format = sym (byte-bytes_at image 0 0 4 3 (omega arith)) ∙ ap (λ (xs : List ℕ). slice_index xs 3) s.boot in
+      go t.format fourth
+    where
+      go : (f : Format) → byte_at image 0 3 ≡ format_byte f → format_of image ≡ f
+      go Ofs e = let is : (byte_at image 0 3 == 0) ≡ true = eq-eqb (byte_at image 0 3) 0 e in rw is refl
+      go Ffs e = let is : (byte_at image 0 3 == 0) ≡ false = ne_eqb (byte_at image 0 3) 0 (omega (arith, e)) in rw is refl
+
+  module _ (file : ℕ) (node : Node) (bytes : List ℕ) (e : t.nodes file ≡ Some node) (c : node.content ≡ File bytes) where
+    header_duty : ℕ → Duty
+    header_duty zero = Duty.Key
+    header_duty (suc q) = Duty.Extension file q
+
+    header_serves : (q : ℕ) → q ≤ length (s.layout.extensions file) → HasDuty t s.layout (slice_index (file ∷ s.layout.extensions file) q) (header_duty q)
+    unfolding header_duty
+    header_serves zero l = key_serves file node e
+    header_serves (suc q) l = slice_get-index (s.layout.extensions file) q (omega (arith, l))
+
+    data_serves : (i : ℕ) → i < length (s.layout.file_data file) → HasDuty t s.layout (slice_index (s.layout.file_data file) i) (Duty.Data file i)
+    data_serves i l = slice_get-index (s.layout.file_data file) i l
+
+    duties_apart : (p q : ℕ) → p < q → header_duty p ≢ header_duty q
+    unfolding header_duty
+    duties_apart p zero l e = omega (arith, l)
+    duties_apart zero (suc q) l e = cc e
+    duties_apart (suc p) (suc q) l e = let same : p ≡ q = cc e in omega (arith, same, l)
+
+    data_apart : (q i : ℕ) → header_duty q ≢ Duty.Data file i
+    unfolding header_duty
+    data_apart zero i e = cc e
+    data_apart (suc q) i e = cc e
+
+    header_no_page : (q p : ℕ) → header_duty q ≢ Duty.Page p
+    unfolding header_duty
+    header_no_page zero p e = cc e
+    header_no_page (suc q) p e = cc e
+
+    blocks_apart : AreApart (block_count image) file (s.layout.file_data file) (s.layout.extensions file)
+    blocks_apart = record {
+      headers_inside = λ q l. inside _ (header_duty q) (header_serves q l);
+      data_inside = λ i l. inside _ (Duty.Data file i) (data_serves i l);
+      headers_once = λ p q l m same. duties_apart p q l (s.fits.one_duty _ (header_duty p) (header_duty q) (header_serves p (omega (arith, l, m))) (subst (λ (b : ℕ). HasDuty t s.layout b (header_duty q)) (sym same) (header_serves q m)));
+      data_once = λ i j l m same.
+          let duty = s.fits.one_duty _ (Duty.Data file i) (Duty.Data file j) (data_serves i (omega (arith, l, m))) (subst (λ (b : ℕ). HasDuty t s.layout b (Duty.Data file j)) (sym same) (data_serves j m)) in
+          let places : i ≡ j = cc duty in omega (arith, places, l);
+      apart = λ q i l m same. data_apart q i (s.fits.one_duty _ (header_duty q) (Duty.Data file i) (header_serves q l) (subst (λ (b : ℕ). HasDuty t s.layout b (Duty.Data file i)) (sym same) (data_serves i m)));
+    }
+
+    pub is_lawful : IsLawful image file (s.layout.file_data file) (s.layout.extensions file) bytes
+    is_lawful =
+        let size_is : size_of t file ≡ length bytes = rw e (rw c refl) in
+        record {
+          holds = subst (λ (f : Format). HasFile image f file (s.layout.file_data file) (s.layout.extensions file) bytes) (sym format_is) (s.files file node bytes e c);
+          data_fits = s.fits.file_data file ∙ ap (data_count t.format) size_is ∙ ap (λ (f : Format). data_count f (length bytes)) (sym format_is);
+          extensions_fit = s.fits.extensions file;
+          places = blocks_apart;
+        }
+
+    -- the lists of the layout are the lists in the image
+    pub data_is : data_blocks image file ≡ s.layout.file_data file
+    data_is = data_blocks_are image file (s.layout.file_data file) (s.layout.extensions file) bytes is_lawful
+
+    pub extensions_is : extension_blocks image file ≡ s.layout.extensions file
+    extensions_is = extension_blocks_are image file (s.layout.file_data file) (s.layout.extensions file) bytes is_lawful
+
+    pub bytes_is : contents image file ≡ bytes
+    bytes_is = contents_are image file (s.layout.file_data file) (s.layout.extensions file) bytes is_lawful
+
+    -- a file is not the root
+    pub file_not_root : file ≢ root_key (block_count image)
+    file_not_root same =
+        let at : t.nodes file ≡ Some s.proper.root_node.0 = ap t.nodes (same ∙ root_is image t s) ∙ s.proper.root_node.1 in
+        let one : node ≡ s.proper.root_node.0 = cc (e, at) in
+        let kind : Content.File bytes ≡ Directory s.proper.root_node.2.keys = sym c ∙ ap (λ (a : Node). a.content) one ∙ s.proper.root_node.2.directory in
+        cc kind
+
+    header_used : (q : ℕ) → q ≤ length (s.layout.extensions file) → IsInUse image (slice_index (file ∷ s.layout.extensions file) q)
+    header_used q l = record {
+      marked = named_used _ (header_duty q) (header_serves q l);
+      beside_root = not_root q l;
+      beside_pages = beside_pages _ (header_duty q) (header_serves q l) (header_no_page q);
+    }
+      where
+        not_root : (q : ℕ) → q ≤ length (s.layout.extensions file) → slice_index (file ∷ s.layout.extensions file) q ≢ root_key (block_count image)
+        not_root zero l same = file_not_root same
+        not_root (suc q) l same =
+            let duty : Duty.Extension file q ≡ Duty.Key = s.fits.one_duty _ (Duty.Extension file q) Duty.Key (slice_get-index (s.layout.extensions file) q (omega (arith, l))) (subst (λ (b : ℕ). HasDuty t s.layout b Duty.Key) (sym same) root_serves) in
+            cc duty
+
+    data_used : (i : ℕ) → i < length (s.layout.file_data file) → IsInUse image (slice_index (s.layout.file_data file) i)
+    data_used i l = record {
+      marked = named_used _ (Duty.Data file i) (data_serves i l);
+      beside_root = λ same.
+          let duty : Duty.Data file i ≡ Duty.Key = s.fits.one_duty _ (Duty.Data file i) Duty.Key (data_serves i l) (subst (λ (b : ℕ). HasDuty t s.layout b Duty.Key) (sym same) root_serves) in
+          cc duty;
+      beside_pages = beside_pages _ (Duty.Data file i) (data_serves i l) (λ p z. cc z);
+    }
+
+    pub is_writable : IsWritable image file (s.layout.file_data file) (s.layout.extensions file) bytes
+    is_writable = record { lawful = is_lawful; map = lawful_map; headers_used = header_used; data_used = data_used }
+
+    -- each file can be changed
+    pub writable : WritableFile image file
+    writable =
+        subst (λ (xs : List ℕ). IsWritable image file xs (extension_blocks image file) (contents image file)) (sym data_is)
+        (subst (λ (xs : List ℕ). IsWritable image file (s.layout.file_data file) xs (contents image file)) (sym extensions_is)
+        (subst (λ (xs : List ℕ). IsWritable image file (s.layout.file_data file) (s.layout.extensions file) xs) (sym bytes_is) is_writable))

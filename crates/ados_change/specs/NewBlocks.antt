@@ -1,0 +1,52 @@
+-- How a change of an image allocates blocks, and what it leaves untouched otherwise.
+use Rattle.std.specs.Prelude.{◌≡◌, ℕ, ◌<◌, List, [], ◌∷◌, length, slice_index}
+use Rattle.adf_block.specs.Image.{byte_at, HasFreeBit}
+use Rattle.adf_block.specs.Layout.{pointer_count_long, next_data, sum_long, protection_long, size_long, date_long, next_in_chain, next_extension, block_bytes}
+use Rattle.ados_model.specs.File.{data_blocks, extension_blocks}
+use Rattle.ados_model.specs.declared.role.Role.{Role}
+use Rattle.ados_model.specs.Faults.{InImage, IsFile, Reached}
+use Rattle.ados_model.specs.Keys.{HasEntryKey, HasFileKey}
+use Rattle.ados_model.specs.Kept.{InLongs, IsField, Kept, NamesFirstData, date_longs, one_long}
+use Rattle.ados_change.specs.Untold.{KeepsUntold}
+
+-- a block that was free and is now in use: it was allocated
+pub record IsTaken (old new : List ℕ) (block : ℕ) : Type 0 where
+  pub inside : InImage old block
+  pub was_free : HasFreeBit old block
+  pub in_use : ¬ HasFreeBit new block
+
+-- the allocated blocks of a list are in rising order
+abbrev pub TakenRise : List ℕ → List ℕ → List ℕ → Type 0
+TakenRise old new blocks =
+    (i j : ℕ) → i < j → j < length blocks → IsTaken old new (slice_index blocks i) → IsTaken old new (slice_index blocks j) → slice_index blocks i < slice_index blocks j
+
+-- allocated blocks are below all blocks still free, and rise in each list of a file; their bytes outside fields are 0;
+-- the header of a new file has the number of its first data block, or 0
+pub record TakesLowest (old new : List ℕ) : Type 0 where
+  pub lowest : (block other : ℕ) → IsTaken old new block → InImage old other → HasFreeBit old other → HasFreeBit new other → block < other
+  pub zero_else : (block i : ℕ) (role : Role) → IsTaken old new block → Reached new block role → i < block_bytes → ¬ IsField new block role i → byte_at new block i ≡ 0
+  pub first : (block : ℕ) → IsTaken old new block → IsFile new block → NamesFirstData new block
+  pub data_rise : (file : ℕ) → HasFileKey new file → TakenRise old new (data_blocks new file)
+  pub extensions_rise : (file : ℕ) → HasFileKey new file → TakenRise old new (extension_blocks new file)
+
+-- no block is allocated: each free block is still free
+abbrev pub TakesNone : List ℕ → List ℕ → Type 0
+TakesNone old new = (block : ℕ) → InImage old block → HasFreeBit old block → HasFreeBit new block
+
+-- byte i is in a field that is written when an entry is removed: the count, size, first data and extension block,
+-- protection bits, date, next in chain or checksum
+abbrev pub IsLeftField : ℕ → Type 0
+IsLeftField i =
+    InLongs (one_long pointer_count_long ∷ (next_data, sum_long) ∷ (protection_long, size_long) ∷ date_longs date_long ∷ one_long next_in_chain ∷ one_long next_extension ∷ []) i
+
+-- a block that is free afterwards has the bytes that it had before, except for those fields of a removed entry
+abbrev pub KeepsFreed : List ℕ → List ℕ → Type 0
+KeepsFreed old new = (block i : ℕ) → InImage old block → HasFreeBit new block → ¬ (HasEntryKey old block × IsLeftField i) → i < block_bytes → byte_at new block i ≡ byte_at old block i
+
+-- bytes in no field and bytes that no tree determines are unchanged; allocated blocks are the lowest free ones and are
+-- 0 outside their fields; blocks free afterwards keep their bytes
+pub record KeepsRest (old new : List ℕ) : Type 0 where
+  pub kept : Kept old new
+  pub lowest : TakesLowest old new
+  pub freed : KeepsFreed old new
+  pub untold : KeepsUntold old new

@@ -1,0 +1,112 @@
+-- Lists of keys without duplicates.
+use Rattle.std.proofs.Common.{◌≡◌, ◌≢◌, ℕ, zero, suc, ◌<◌, ◌≤◌, ◌⊎◌, inl, inr, Bool, true, false, cond, eqb, ◌==◌, not, List, [], ◌∷◌, ◌++◌, length, get_or, filter, AllPairs, Contains, refl, sym, ap, ap₂, ◌∙◌, subst, arith, eq-eqb}
+use Rattle.std.proofs.lemmas.Bool.{ne_eqb, cases_eq}
+use Rattle.std.proofs.lemmas.Bool.Decides.{Decides-eqb}
+use Rattle.std.proofs.lemmas.List.Elements.{Contains-append_left, Contains-append_right, filter-append}
+use Rattle.std.proofs.lemmas.Map.Made.{IsDistinct-from_AllPairs}
+use Rattle.std.proofs.lemmas.Map.Steps.{length-le_from_distinct_below}
+use Rattle.std.specs.List.{list_any}
+
+pub Contains-here : (x : ℕ) (xs : List ℕ) → Contains (x ∷ xs) x
+Contains-here x xs = (0, omega arith, refl)
+
+pub Contains-later : (y : ℕ) (xs : List ℕ) (x : ℕ) → Contains xs x → Contains (y ∷ xs) x
+Contains-later y xs x m = (suc m.0, omega (arith, m.1), m.2)
+
+pub Contains-cases : (y : ℕ) (xs : List ℕ) (x : ℕ) → Contains (y ∷ xs) x → (y ≡ x) ⊎ Contains xs x
+Contains-cases y xs x (zero, l, e) = inl e
+Contains-cases y xs x (suc k, l, e) = inr (k, omega arith, e)
+
+pub Contains-nil : (x : ℕ) → ¬ Contains [] x
+Contains-nil x m = absurd (omega (arith, m.1))
+
+-- a list split at one of its elements
+pub Contains-split : (xs : List ℕ) (x : ℕ) → Contains xs x → (front : List ℕ) × (back : List ℕ) × (xs ≡ front ++ x ∷ back)
+Contains-split [] x m = absurd (Contains-nil x m)
+Contains-split (y ∷ ys) x m = go (Contains-cases y ys x m) (Contains-split ys x)
+  where
+    go : (y ≡ x) ⊎ Contains ys x → (Contains ys x → (front : List ℕ) × (back : List ℕ) × (ys ≡ front ++ x ∷ back)) → (front : List ℕ) × (back : List ℕ) × (y ∷ ys ≡ front ++ x ∷ back)
+    go (inl e) below = ([], ys, ap (λ (z : ℕ). z ∷ ys) e)
+    go (inr n) below = let r = below n in (y ∷ r.0, r.1, ap (λ (zs : List ℕ). y ∷ zs) r.2)
+
+-- no duplicates
+abbrev pub Once : List ℕ → Type 0
+Once xs = AllPairs (λ j k. j ≢ k) xs
+
+pub Once-tail : (x : ℕ) (xs : List ℕ) → Once (x ∷ xs) → Once xs
+Once-tail x xs h i j d l m = h (suc i) (suc j) d (omega arith) (omega arith)
+
+pub Once-head : (x : ℕ) (xs : List ℕ) → Once (x ∷ xs) → ¬ Contains xs x
+Once-head x xs h m = h 0 (suc m.0) x (omega arith) (omega (arith, m.1)) (sym m.2)
+
+-- a key occurs neither after itself nor before itself
+pub Once-behind : (xs : List ℕ) (x : ℕ) (ys : List ℕ) → Once (xs ++ x ∷ ys) → ¬ Contains ys x
+Once-behind [] x ys h = Once-head x ys h
+Once-behind (z ∷ zs) x ys h = Once-behind zs x ys (Once-tail z (zs ++ x ∷ ys) h)
+
+pub Once-before : (xs : List ℕ) (x : ℕ) (ys : List ℕ) → Once (xs ++ x ∷ ys) → ¬ Contains xs x
+Once-before [] x ys h m = Contains-nil x m
+Once-before (z ∷ zs) x ys h m =
+    elim (Contains-cases z zs x m) [
+      | inl e ↦ Once-head z (zs ++ x ∷ ys) h (subst (Contains (zs ++ x ∷ ys)) (sym e) (Contains-append_right zs (x ∷ ys) x (Contains-here x ys)))
+      | inr n ↦ Once-before zs x ys (Once-tail z (zs ++ x ∷ ys) h) n
+    ]
+
+pub Once-front : (xs ys : List ℕ) → Once (xs ++ ys) → Once xs
+Once-front [] ys h i j d l m = absurd (omega arith)
+Once-front (x ∷ xs) ys h zero zero d l m = absurd (omega arith)
+Once-front (x ∷ xs) ys h (suc i) zero d l m = absurd (omega arith)
+Once-front (x ∷ xs) ys h zero (suc j) d l m = λ e. Once-head x (xs ++ ys) h (Contains-append_left xs ys x (j, omega arith, at_default xs j x d (omega arith) ∙ sym e))
+  where
+    at_default : (zs : List ℕ) (k c e : ℕ) → k < length zs → get_or zs k c ≡ get_or zs k e
+    at_default [] k c e l = absurd (omega arith)
+    at_default (z ∷ zs) zero c e l = refl
+    at_default (z ∷ zs) (suc k) c e l = at_default zs k c e (omega arith)
+Once-front (x ∷ xs) ys h (suc i) (suc j) d l m = Once-front xs ys (Once-tail x (xs ++ ys) h) i j d (omega arith) (omega arith)
+
+-- a key before is not a key after
+pub Once-apart : (xs ys : List ℕ) (x : ℕ) → Once (xs ++ ys) → Contains xs x → ¬ Contains ys x
+Once-apart [] ys x h m n = absurd (Contains-nil x m)
+Once-apart (z ∷ zs) ys x h m n =
+    elim (Contains-cases z zs x m) [
+      | inl e ↦ Once-head z (zs ++ ys) h (subst (Contains (zs ++ ys)) (sym e) (Contains-append_right zs ys x n))
+      | inr r ↦ Once-apart zs ys x (Once-tail z (zs ++ ys) h) r n
+    ]
+
+-- a list of numbers below n without duplicates has at most n elements
+pub length-once : (xs : List ℕ) (n : ℕ) → Once xs → ((x : ℕ) → Contains xs x → x < n) → length xs ≤ n
+length-once xs n h small = length-le_from_distinct_below xs n (IsDistinct-from_AllPairs Decides-eqb xs h) (λ q any. small q (found xs q any))
+  where
+    found : (ys : List ℕ) (q : ℕ) → list_any (eqb q) ys ≡ true → Contains ys q
+    found [] q e = absurd (cc e)
+    found (y ∷ ys) q e =
+        elim (cases_eq q y) [
+          | inl same ↦ subst (λ (z : ℕ). Contains (z ∷ ys) q) same (Contains-here q ys)
+          | inr other ↦ Contains-later y ys q (found ys q (rw (ne_eqb q y other) at e))
+        ]
+
+-- the test for the keys that `without` keeps
+abbrev pub is_not : ℕ → ℕ → Bool
+is_not key other = not (other == key)
+
+pub filter-absent : (key : ℕ) (xs : List ℕ) → ¬ Contains xs key → filter (is_not key) xs ≡ xs
+filter-absent key [] h = refl
+filter-absent key (x ∷ xs) h =
+    rw (ne_eqb x key (λ e. h (subst (λ (z : ℕ). Contains (x ∷ xs) z) e (Contains-here x xs))))
+    (ap (λ (ys : List ℕ). x ∷ ys) (filter-absent key xs (λ m. h (Contains-later x xs key m))))
+
+pub filter-once : (key : ℕ) (xs ys : List ℕ) → Once (xs ++ key ∷ ys) → filter (is_not key) (xs ++ key ∷ ys) ≡ xs ++ ys
+filter-once key xs ys h =
+    filter-append (is_not key) xs (key ∷ ys)
+    ∙ ap₂ (λ (ys zs : List ℕ). ys ++ zs) (filter-absent key xs (Once-before xs key ys h)) (here ∙ filter-absent key ys (Once-behind xs key ys h))
+  where
+    here : filter (is_not key) (key ∷ ys) ≡ filter (is_not key) ys
+    here = rw (eq-eqb key key refl) refl
+
+pub Contains-filter : (key : ℕ) (xs : List ℕ) (x : ℕ) → Contains (filter (is_not key) xs) x → Contains xs x
+Contains-filter key [] x m = m
+Contains-filter key (y ∷ ys) x m = go (is_not key y) (Contains-filter key ys x) m
+  where
+    go : (b : Bool) → (Contains (filter (is_not key) ys) x → Contains ys x) → Contains (cond b (y ∷ filter (is_not key) ys) (filter (is_not key) ys)) x → Contains (y ∷ ys) x
+    go true below m = elim (Contains-cases y (filter (is_not key) ys) x m) [ inl e ↦ subst (λ (z : ℕ). Contains (y ∷ ys) z) e (Contains-here y ys) | inr n ↦ Contains-later y ys x (below n) ]
+    go false below m = Contains-later y ys x (below m)

@@ -1,0 +1,168 @@
+-- A volume as a tree, without blocks, and the number of blocks that it needs.
+use Rattle.std.specs.Prelude.{ℕ, ◌+◌, ◌-◌, ◌/◌, ◌==◌, if◌then◌else◌, List, [], ◌∷◌, Option, Some, None, ◌≡◌, ◌≢◌, ◌≤◌, ◌↔◌, length, Contains, AllPairs, is_some, option_map, option_and_then, cond, Bool, nat_lt}
+use Rattle.adf_block.specs.declared.layout.TheConstants.{FFS_ROOM}
+use Rattle.adf_block.specs.Layout.{table_longs, ofs_data_byte, ofs_room, boot_blocks}
+use Rattle.adf_block.specs.declared.Format.{Format}
+use Rattle.adf_block.specs.declared.Format.TheVariants.{Ofs, Ffs}
+use Rattle.adf_block.specs.Image.{root_key, page_count, IsInside, IsSize, total}
+use Rattle.ados_name.specs.declared.Date3.{Date3}
+use Rattle.ados_name.specs.Name.{Same, slot, IsName, IsComment}
+
+-- bytes of a file in one data block
+abbrev pub data_size : Format → ℕ
+data_size Ofs = ofs_room
+data_size Ffs = FFS_ROOM
+
+-- bytes of a data block before its data
+abbrev pub data_start : Format → ℕ
+data_start Ofs = ofs_data_byte
+data_start Ffs = 0
+
+-- the number of data blocks of a file of this size
+abbrev pub data_count : Format → ℕ → ℕ
+data_count format size = (size + data_size format - 1) / data_size format
+
+-- the number of extension blocks of a file with d data blocks; 72 pointers are in the header
+abbrev pub extension_count : ℕ → ℕ
+extension_count d = (d + (table_longs - 1)) / table_longs - 1
+
+-- the number of data and extension blocks of a file of this size
+abbrev pub block_cost : Format → ℕ → ℕ
+block_cost format size = data_count format size + extension_count (data_count format size)
+
+-- the keys after the first occurrence of a key, or none if the list does not have it
+abbrev pub behind : ℕ → List ℕ → Option (List ℕ)
+behind key [] = None
+behind key (k ∷ ks) = if k == key then Some ks else behind key ks
+
+-- the content of a node: a directory has the keys of its entries in order, a file has its bytes
+pub data Content : Type 0 where
+  Directory : List ℕ → Content
+  File : List ℕ → Content
+
+-- a directory or a file; only the root has no parent
+pub record Node : Type 0 where
+  pub name : List ℕ
+  pub parent : Option ℕ
+  pub protection : ℕ
+  pub date : Date3
+  pub comment : List ℕ
+  pub content : Content
+
+-- a volume: its nodes by key, and the bytes of its lost blocks by number; the date of the root is that of its node
+pub record Tree : Type 0 where
+  pub blocks : ℕ
+  pub format : Format
+  pub disk_date : Date3
+  pub creation_date : Date3
+  pub nodes : ℕ → Option Node
+  pub lost : ℕ → Option (List ℕ)
+
+-- the key of the root
+abbrev pub root : Tree → ℕ
+root t = root_key t.blocks
+
+-- the content of a key's node
+abbrev pub content_at : Tree → ℕ → Option Content
+content_at t key = option_map (λ node. node.content) (t.nodes key)
+
+-- the keys in a directory
+abbrev pub entries_in : Option Content → List ℕ
+entries_in (Some (Directory keys)) = keys
+entries_in _ = []
+
+-- the entries of a directory; a file has none
+abbrev pub entries : Tree → ℕ → List ℕ
+entries t key = entries_in (content_at t key)
+
+-- the number of bytes of a file, 0 for a directory
+abbrev pub size_in : Option Content → ℕ
+size_in (Some (File bytes)) = length bytes
+size_in _ = 0
+
+-- the size of a file; a directory has size 0
+abbrev pub size_of : Tree → ℕ → ℕ
+size_of t key = size_in (content_at t key)
+
+-- the bytes of a file
+abbrev pub bytes_in : Option Content → List ℕ
+bytes_in (Some (File bytes)) = bytes
+bytes_in _ = []
+
+-- the bytes of a file; a directory has none
+abbrev pub bytes_of : Tree → ℕ → List ℕ
+bytes_of t key = bytes_in (content_at t key)
+
+-- the name of a node, empty if there is no node
+abbrev pub name_in : Option Node → List ℕ
+name_in (Some node) = node.name
+name_in None = []
+
+-- the name of a node
+abbrev pub name_of : Tree → ℕ → List ℕ
+name_of t key = name_in (t.nodes key)
+
+-- the directory of a node
+abbrev pub parent_of : Tree → ℕ → Option ℕ
+parent_of t key = option_and_then (λ node. node.parent) (t.nodes key)
+
+-- the chain of parents leads from the key to the root
+pub data LeadsToRoot (t : Tree) : ℕ → Type 0 where
+  at_root : {key : ℕ} → key ≡ root t → LeadsToRoot t key
+  by_parent : {key dir : ℕ} → parent_of t key ≡ Some dir → LeadsToRoot t dir → LeadsToRoot t key
+
+-- the root is a directory with no parent, protection 0 and no comment
+pub record IsRoot (node : Node) : Type 0 where
+  pub no_parent : node.parent ≡ None
+  pub no_protection : node.protection ≡ 0
+  pub no_comment : node.comment ≡ []
+  pub keys : List ℕ
+  pub directory : node.content ≡ Directory keys
+
+-- the nodes form one tree, and its lists are in order
+pub record Proper (t : Tree) : Type 0 where
+  pub size : IsSize t.blocks
+  -- a key is the number of a block inside the volume
+  pub inside : (key : ℕ) (node : Node) → t.nodes key ≡ Some node → IsInside t.blocks key
+  pub root_node : (node : Node) × (t.nodes (root t) ≡ Some node) × IsRoot node
+  -- a node is in its parent's list exactly once, and in no other list
+  pub listed : (dir key : ℕ) → Contains (entries t dir) key ↔ (parent_of t key ≡ Some dir)
+  pub once : (dir : ℕ) → AllPairs (λ j k. j ≢ k) (entries t dir)
+  -- two entries of a directory with the same name are the same entry
+  pub unlike : (dir j k : ℕ) → Contains (entries t dir) j → Contains (entries t dir) k → Same (name_of t j) (name_of t k) → j ≡ k
+  pub rising : (dir : ℕ) → AllPairs (λ j k. slot (name_of t j) ≤ slot (name_of t k)) (entries t dir)
+  pub rooted : (key : ℕ) (node : Node) → t.nodes key ≡ Some node → LeadsToRoot t key
+  pub name : (key : ℕ) (node : Node) → t.nodes key ≡ Some node → IsName node.name
+  pub comment : (key : ℕ) (node : Node) → t.nodes key ≡ Some node → IsComment node.comment
+
+-- the number of blocks of a node
+abbrev pub cost_in : Format → Option Content → ℕ
+cost_in format None = 0
+cost_in format (Some (Directory keys)) = 1
+cost_in format (Some (File bytes)) =
+    let d = data_count format (length bytes) in
+    1 + d + extension_count d
+
+-- the number of blocks of a key's node
+abbrev pub cost_of : Tree → ℕ → ℕ
+cost_of t key = cost_in t.format (content_at t key)
+
+-- the number of blocks of all nodes, the bitmap and the lost blocks
+abbrev pub used : Tree → ℕ
+used t =
+    total (cost_of t) t.blocks
+    + page_count t.blocks
+    + total (λ block. cond (is_some (t.lost block)) 1 0) t.blocks
+
+-- the number of free blocks
+abbrev pub free : Tree → ℕ
+free t = t.blocks - boot_blocks - used t
+
+-- for this size the file needs more new blocks than are free
+abbrev pub needs_more : Tree → ℕ → ℕ → Bool
+needs_more t file size = nat_lt (free t + block_cost t.format (size_of t file)) (block_cost t.format size)
+
+-- a block of the volume that is no node's key
+pub record IsUnused (t : Tree) (key : ℕ) : Type 0 where
+  pub inside : IsInside t.blocks key
+  pub no_node : t.nodes key ≡ None

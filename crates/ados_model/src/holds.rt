@@ -1,0 +1,17 @@
+//! Locks and handles.
+
+/// A lock: a hold on an object, shared or exclusive.
+#[derive(Clone, Copy, Debug, PartialEq, Eq)]
+pub struct LockHold {
+    pub key: u32,
+    pub exclusive: bool,
+}
+
+/// A file handle: a hold on a file, with a position.
+#[derive(Clone, Copy, Debug, PartialEq, Eq)]
+pub struct HandleHold {
+    pub key: u32,
+    /// In bytes from the start of the file.
+    pub position: u32,
+    pub exclusive: bool,
+}

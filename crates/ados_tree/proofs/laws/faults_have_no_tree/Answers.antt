@@ -1,5 +1,0 @@
-use Rattle.ados_tree.proofs.NoFaults.{faults_have_no_tree}
-use Rattle.ados_tree.proofs.laws.faults_have_no_tree.Goals as goal
-
-pub returns : goal.returns
-returns c = faults_have_no_tree

@@ -1,5 +1,0 @@
-use Rattle.ados_tree.proofs.OneTree.{one_tree}
-use Rattle.ados_tree.proofs.laws.one_tree.Goals as goal
-
-pub returns : goal.returns
-returns c = one_tree
