@@ -11,7 +11,7 @@
 #include <sys/stat.h>
 #include <unistd.h>
 
-/* Whether the path still names this file: who had it locked may have put another in its place. */
+/* Whether the path still names this file. A process that had it locked may have replaced it. */
 static bool is_named(int held, const char *path) {
     struct stat here, there;
     return fstat(held, &here) == 0 && stat(path, &there) == 0 && here.st_dev == there.st_dev && here.st_ino == there.st_ino;
@@ -69,19 +69,19 @@ static int write_all(int to, const uint8_t *bytes, size_t length) {
     return 0;
 }
 
-/* Gives a new file the bytes, and the owner and the rights of the one that is held, on the disk and locked. */
+/* Gives a new file the bytes, and the owner and mode of the locked one. It is synced to disk and locked. */
 static int fill(int to, int held, const uint8_t *bytes, size_t length) {
     struct stat stat;
     if (fstat(held, &stat) != 0) return errno;
     const int error = write_all(to, bytes, length);
     if (error != 0) return error;
-    /* Another's file stays theirs where the host lets it; where it does not, the bytes still count. */
+    /* The new file keeps the owner if the host allows it. Otherwise this process owns it. */
     if (fchown(to, stat.st_uid, stat.st_gid) != 0 && errno != EPERM) return errno;
     if (fchmod(to, stat.st_mode & 0777) != 0 || fsync(to) != 0 || flock(to, LOCK_EX | LOCK_NB) != 0) return errno;
     return 0;
 }
 
-/* Brings the folder's entries to the disk. Some kinds of file systems cannot, and need not. */
+/* Syncs the folder to disk. Some file systems cannot, and need not. */
 static void settle_folder(const char *path) {
     char folder[PATH_MAX];
     memcpy(folder, path, strlen(path) + 1);

@@ -5,10 +5,10 @@
 static const char digits[] = "0123456789ABCDEF";
 static const char protection[] = "hsparwed";
 
-/* Letters in front stand where their bit is set, those behind where it is clear. */
+/* The first letters are shown for set bits, the last ones for clear bits. */
 enum { SHOWN_WHERE_CLEAR = 0x0F, LOW_BITS = 0xFF };
 
-/* Takes the byte of the letter that UTF-8 begins with; -1 where it begins with none up to U+00FF. */
+/* Takes the byte of the first UTF-8 letter; -1 if there is none up to U+00FF. */
 static int take_letter(const char **text, const char *end) {
     const unsigned char first = (unsigned char)*(*text)++;
     if (first < 0x80) return first;
@@ -17,7 +17,7 @@ static int take_letter(const char **text, const char *end) {
     return (second & 0xC0) == 0x80 ? (first & 3) << 6 | (second & 0x3F) : -1;
 }
 
-/* Puts the UTF-8 of a byte's letter, and answers where it ends. */
+/* Appends the UTF-8 of a byte's letter, and returns its end. */
 static char *put_letter(char *text, uint8_t byte) {
     if (byte < 0x80) {
         *text++ = (char)byte;
@@ -35,7 +35,7 @@ static int digit_value(char letter) {
     return -1;
 }
 
-/* Takes a letter's byte, or that of an escape. */
+/* Takes the byte of a letter or of an escape. */
 static int take_byte(const char **text, const char *end) {
     const char *at = *text;
     if (*at == '%' && end - at > 2 && digit_value(at[1]) >= 0 && digit_value(at[2]) >= 0) {

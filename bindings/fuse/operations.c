@@ -1,7 +1,7 @@
-/* adf_mount: an image as a directory of Linux. Each operation is packets to the handler of the library for C.
+/* adf_mount: an image as a directory of Linux. Each operation sends packets to the handler of the library for C.
  *
- * Each object that the kernel knows is a node with a shared lock on it, so that it is found again wherever it is moved and
- * under whichever spelling of its name. The kernel's number of a node is its address. */
+ * Each object that the kernel knows is a node with a shared lock on it. So it is found again after a move, and under
+ * any spelling of its name. The kernel's number of a node is its address. */
 #define FUSE_USE_VERSION 35
 #include "image_file.h"
 #include "names.h"
@@ -44,7 +44,7 @@ struct open_file {
     bool is_changed; /* since the image was saved */
 };
 
-/* The entries of a directory, as they were when its reading began. */
+/* The entries of a directory when its reading began. */
 struct listing {
     struct node *node;
     jip_entry *entries;
@@ -67,7 +67,7 @@ static struct volume {
 
 /* ---- Errors ---- */
 
-/* The errno nearest to a DOS error; `other` where a directory stands in the way of a file, or a name is too long. */
+/* The errno nearest to a DOS error. `other` is for a directory in place of a file, or a name that is too long. */
 static const struct error_row {
     int32_t error;
     int number;
@@ -128,7 +128,7 @@ static int32_t ask(jip_packet *packet, jip_answer *answer) {
     return status == JIP_NO_MEMORY ? JIP_ERROR_NO_FREE_STORE : JIP_ERROR_INVALID_COMPONENT_NAME;
 }
 
-/* Puts a name where the functions of the header take a text that ends in a zero. */
+/* Puts a name where the functions of the header expect a text that ends in a zero. */
 static void put_name(jip_packet *packet, const struct name *name) {
     packet->path = name->bytes;
     packet->path_length = name->length;
@@ -208,8 +208,8 @@ static int32_t seek(uint32_t handle, int32_t offset) {
     return ask(&packet, &answer);
 }
 
-/* Serves a packet on a file that is open. Whoever has opened a file goes on though its protection has changed since: the bits
-   that deny are lifted for the packet. */
+/* Serves a packet on an open file. Access to an open file continues even if its protection has changed since: the bits
+   that deny are cleared for the packet. */
 static int32_t ask_on_open(uint32_t lock, jip_packet *packet, jip_answer *answer) {
     jip_entry before;
     int32_t error = ask(packet, answer);
@@ -242,7 +242,7 @@ static fuse_ino_t number_of_node(const struct node *node) {
 
 static struct node *known_node(uint32_t key) { return key < volume.node_room ? volume.nodes[key] : NULL; }
 
-/* A new node for an object, which has this lock from now on; NULL where there is no memory. */
+/* A new node for an object, which has this lock from now on; NULL if memory runs out. */
 static struct node *new_node(const jip_entry *entry, uint32_t lock) {
     if (entry->key >= volume.node_room) {
         const size_t room = 2 * ((size_t)entry->key + 1);
@@ -261,7 +261,7 @@ static struct node *new_node(const jip_entry *entry, uint32_t lock) {
     return node;
 }
 
-/* The object is no longer there, or no longer held: the node stays for who still knows it. */
+/* The object no longer exists, or is no longer locked. The node stays for those who still know it. */
 static void lose(struct node *node) {
     volume.nodes[node->key] = NULL;
     node->is_gone = true;
@@ -276,7 +276,7 @@ static void drop_if_unused(struct node *node) {
     free(node);
 }
 
-/* What an entry of a directory is. A file that is kept hidden is not there. */
+/* Describes an entry of a directory. A hidden file does not exist. */
 static int32_t look_at(const struct node *directory, const struct name *name, jip_entry *entry) {
     uint32_t lock;
     int32_t error = locate(directory->lock, name, &lock);
@@ -287,7 +287,7 @@ static int32_t look_at(const struct node *directory, const struct name *name, ji
     return error == 0 && node != NULL && node->hidden.length > 0 ? JIP_ERROR_OBJECT_NOT_FOUND : error;
 }
 
-/* The node of an entry, with what it is. One that was not known has no use yet. */
+/* The node of an entry, with its description. A new node has no use yet. */
 static int32_t find_node(const struct node *directory, const struct name *name, struct node **node, jip_entry *entry) {
     uint32_t lock;
     int32_t error = locate(directory->lock, name, &lock);
@@ -305,14 +305,14 @@ static int32_t find_node(const struct node *directory, const struct name *name, 
     return error;
 }
 
-/* ---- What the kernel is told of an object ---- */
+/* ---- Attributes for the kernel ---- */
 
 static uint32_t bits_of_mode(uint32_t bits, mode_t mode) {
     const uint32_t denied = (~mode >> 6 & 7) << 1;
     return (bits & ~(uint32_t)LOW_FOUR) | denied | ((denied & DENIES_WRITE) != 0 ? (uint32_t)DENIES_DELETE : 0U);
 }
 
-/* The owner's rights are the bits r, w and e. Everyone else reads and runs what the owner does, and writes nothing. */
+/* The owner's rights are the bits r, w and e. Everyone else may read and run what the owner may, and write nothing. */
 static mode_t mode_of(const jip_entry *entry) {
     const mode_t owner = ~entry->protection >> 1 & 7, others = owner & 5;
     return (entry->entry_type == JIP_FILE ? S_IFREG : S_IFDIR) | owner << 6 | others << 3 | others;
@@ -332,7 +332,7 @@ static struct stat stat_of(const jip_entry *entry) {
     return stat;
 }
 
-/* Nothing is kept by the kernel, since a name in another spelling may have led to the same object. */
+/* The kernel caches nothing, because another spelling of a name may have led to the same object. */
 static struct fuse_entry_param told(struct node *node, const jip_entry *entry) {
     node->lookups++;
     return (struct fuse_entry_param){.ino = number_of_node(node), .attr = stat_of(entry)};
@@ -345,7 +345,7 @@ static void unlook(struct node *node, uint64_t count) {
 
 /* ---- Saving ---- */
 
-/* Deletes the files that are kept hidden, as their handles never will. Answers an errno. */
+/* Deletes the hidden files, whose handles will never do so. Returns an errno. */
 static int delete_hidden(void) {
     for (size_t key = 0; key < volume.node_room; key++) {
         const struct node *const node = volume.nodes[key];
@@ -362,7 +362,7 @@ static int delete_hidden(void) {
     return 0;
 }
 
-/* Takes the files that are kept hidden out of the bytes that are to be saved: to who looks, they are deleted. */
+/* Removes the hidden files from the bytes to be saved: for everyone else they are deleted. */
 static int without_hidden(void) {
     jip_fault fault;
     jip_handle copy = JIP_CLOSED;
@@ -375,7 +375,7 @@ static int without_hidden(void) {
     return error;
 }
 
-/* Replaces the image's file, if the image has changed since. Answers 0 or an errno. */
+/* Replaces the image's file if the image has changed since. Returns 0 or an errno. */
 static int save(void) {
     const uint64_t changes = jip_changes(&volume.handle);
     if (volume.is_read_only || changes == volume.saved) return 0;
@@ -398,7 +398,7 @@ static int save_file(struct open_file *file) {
 
 /* ---- Operations on names ---- */
 
-/* Reads the name, and answers an error for the kernel where no entry of the directory can have it. */
+/* Reads the name. If no entry of the directory can have it, it replies an error to the kernel. */
 static bool is_refused(fuse_req_t request, const struct node *directory, const char *host, struct name *name) {
     int error = directory->is_gone ? ENOENT : name_of_host(host, name);
     if (error != 0) (void)fuse_reply_err(request, error);
@@ -457,7 +457,8 @@ static void make_directory(fuse_req_t request, fuse_ino_t parent, const char *ho
     reply_node(request, directory, &name);
 }
 
-/* Deletes an object that no file handle holds. A node's lock on it is given up before, and taken again where it stays. */
+/* Deletes an object without open file handles. A node's lock on it is freed before, and taken again if the object
+   stays. */
 static int32_t delete_closed(const struct node *directory, const struct name *name, uint32_t key) {
     struct node *const node = known_node(key);
     if (node != NULL) free_lock(node->lock);
@@ -466,7 +467,7 @@ static int32_t delete_closed(const struct node *directory, const struct name *na
     return error;
 }
 
-/* Keeps a file that is open under a hidden name in the root until it is closed. */
+/* Keeps an open file under a hidden name in the root until it is closed. */
 static int32_t hide(const struct node *directory, const struct name *name, struct node *node, uint32_t protection) {
     static uint32_t tries = 0;
     if ((protection & DENIES_DELETE) != 0) return JIP_ERROR_DELETE_PROTECTED;
@@ -485,7 +486,7 @@ static int32_t hide(const struct node *directory, const struct name *name, struc
     return error;
 }
 
-/* Deletes an entry that is or is not to be a directory. Answers an errno. */
+/* Deletes an entry, which has to be a directory or must not be one. Returns an errno. */
 static int remove_entry(const struct node *directory, const struct name *name, bool is_directory) {
     jip_entry entry;
     const int32_t fault = look_at(directory, name, &entry);
@@ -508,7 +509,7 @@ static void remove_directory(fuse_req_t request, fuse_ino_t parent, const char *
     (void)fuse_reply_err(request, remove_entry(node_of(parent), &name, true));
 }
 
-/* Moves an entry. What has the new name is deleted, where it is another object. Answers an errno. */
+/* Moves an entry. Another object with the new name is deleted. Returns an errno. */
 static int move_entry(const struct node *from, const struct name *name, const struct node *to, const struct name *new_name,
                       bool may_replace) {
     jip_entry entry, there;
@@ -540,8 +541,8 @@ static void rename_entry(fuse_req_t request, fuse_ino_t parent, const char *host
 
 static struct open_file *file_of(const struct fuse_file_info *info) { return (struct open_file *)(uintptr_t)info->fh; } // NOLINT
 
-/* Opens a file, and empties it where the flags say so. The kernel keeps no pages of it, which would be written page by page
-   and not as the caller wrote them. Answers an errno. */
+/* Opens a file, and empties it if the flags say so. The kernel caches no pages of it: it would write them page by page,
+   and not as the caller did. Returns an errno. */
 static int open_node(struct node *node, int flags, struct fuse_file_info *info) {
     jip_entry entry;
     if (node->is_directory) return number_of(JIP_ERROR_OBJECT_WRONG_TYPE, true);
@@ -569,7 +570,7 @@ static int open_node(struct node *node, int flags, struct fuse_file_info *info) 
     return 0;
 }
 
-/* Closes a file. One that was kept hidden goes with its last handle. */
+/* Closes a file. A hidden one is deleted with its last handle. */
 static void close_file(struct open_file *file) {
     struct node *const node = file->node;
     end(file->handle);
@@ -592,7 +593,7 @@ static void open_file(fuse_req_t request, fuse_ino_t number, struct fuse_file_in
     }
 }
 
-/* Makes a file of a mode, if there is none. Answers an errno. */
+/* Makes a file with a mode, if it does not exist. Returns an errno. */
 static int make_file(const struct node *directory, const struct name *name, mode_t mode, bool *is_made) {
     jip_packet packet;
     jip_answer answer;
@@ -614,7 +615,7 @@ static int make_file(const struct node *directory, const struct name *name, mode
     return 0;
 }
 
-/* Who makes a file may write to it whatever its mode. */
+/* The maker of a file may write to it whatever its mode. */
 static int open_made(struct node *node, const jip_entry *entry, struct fuse_file_info *info) {
     (void)protect(node->lock, 0);
     const int error = open_node(node, info->flags, info);
@@ -678,7 +679,7 @@ static void read_file(fuse_req_t request, fuse_ino_t number, size_t size, off_t 
         jip_read(&packet, now(), file->handle, room, size);
         error = ask_on_open(file->node->lock, &packet, &answer);
     } else if (error == JIP_ERROR_SEEK_ERROR) {
-        error = 0; /* behind the end there are no bytes */
+        error = 0; /* there are no bytes after the end */
     }
     if (error != 0) {
         reply_error(request, error);
@@ -688,8 +689,8 @@ static void read_file(fuse_req_t request, fuse_ino_t number, size_t size, off_t 
     free(room);
 }
 
-/* Writes bytes at a place, all or none. Behind the end the file first gets its whole new size, so that what is between is
-   zeros, and a disk that is too full refuses that. Answers an errno. */
+/* Writes bytes at a position, all or none. If they start after the end, the file first gets its whole new size, with
+   zeros between, and a disk that is too full refuses that. Returns an errno. */
 static int write_at(struct open_file *file, const char *bytes, size_t size, off_t offset) {
     jip_packet packet;
     jip_answer answer;
@@ -738,7 +739,7 @@ static void release(fuse_req_t request, fuse_ino_t number, struct fuse_file_info
 
 /* ---- Directories ---- */
 
-/* Reads the entries of a directory, without the files that are kept hidden. */
+/* Reads the entries of a directory, without hidden files. */
 static int32_t read_entries(struct listing *listing) {
     uint32_t key = listing->node->key;
     size_t room = 0;
@@ -783,7 +784,8 @@ static void release_directory(fuse_req_t request, fuse_ino_t number, struct fuse
     (void)fuse_reply_err(request, 0);
 }
 
-/* Puts one entry with its attributes where it fits, and answers how many bytes it takes; 0 where it is gone meanwhile. */
+/* Adds one entry with its attributes if it fits, and returns the number of bytes used; 0 if the entry is gone
+   meanwhile. */
 static size_t put_entry(fuse_req_t request, const struct listing *listing, size_t place, char *at, size_t room) {
     char host[HOST_NAME_ROOM];
     struct name name;
@@ -842,7 +844,7 @@ static void get_attributes(fuse_req_t request, fuse_ino_t number, struct fuse_fi
     reply_attributes(request, node_of(number));
 }
 
-/* Sets a file's size: through the file that is open, or as one who opens it for this. Answers an errno. */
+/* Sets the size of a file: through its open handle, or by opening it. Returns an errno. */
 static int set_size(struct node *node, off_t size, const struct fuse_file_info *info) {
     struct fuse_file_info opened = {.flags = O_WRONLY};
     if (size > INT32_MAX) return EFBIG;
@@ -875,7 +877,7 @@ static bool is_other_owner(const struct stat *stat, int what) {
     return is_other_user || ((what & FUSE_SET_ATTR_GID) != 0 && stat->st_gid != getgid());
 }
 
-/* The root has no protection and no date of its own that a packet sets: both are taken as set. */
+/* No packet sets the protection or the date of the root: setting them succeeds without effect. */
 static void set_attributes(fuse_req_t request, fuse_ino_t number, struct stat *stat, int what, struct fuse_file_info *info) {
     struct node *const node = node_of(number);
     int error = node->is_gone ? ENOENT : is_other_owner(stat, what) ? EPERM : 0;
@@ -928,7 +930,7 @@ static void get_room(fuse_req_t request, fuse_ino_t number) {
 
 /* ---- Extended attributes ---- */
 
-/* Answers text that is asked for with so much room, or how long it is where none is given. */
+/* Replies with a text for this much room, or with its length if there is none. */
 static void reply_text(fuse_req_t request, const char *text, size_t length, size_t room) {
     if (room == 0) {
         (void)fuse_reply_xattr(request, length);
@@ -939,7 +941,7 @@ static void reply_text(fuse_req_t request, const char *text, size_t length, size
     }
 }
 
-/* What stands at the root is fixed, so it has none of these attributes. */
+/* The root's metadata is fixed, so it has none of these attributes. */
 static bool has_none(fuse_req_t request, const struct node *node, int error, jip_entry *entry) {
     if (node->is_gone) {
         error = ENOENT;
@@ -976,7 +978,7 @@ static void list_extended(fuse_req_t request, fuse_ino_t number, size_t room) {
     }
 }
 
-/* Answers an errno. */
+/* Returns an errno. */
 static int set_comment(const struct node *node, const char *letters, size_t length) {
     uint8_t comment[JIP_COMMENT_BYTES];
     jip_packet packet;
@@ -1008,7 +1010,7 @@ static void set_extended(fuse_req_t request, fuse_ino_t number, const char *name
     (void)fuse_reply_err(request, error);
 }
 
-/* Without a protection of its own an object denies nothing. */
+/* Without protection bits, an object denies nothing. */
 static void remove_extended(fuse_req_t request, fuse_ino_t number, const char *name) {
     const struct node *const node = node_of(number);
     jip_entry entry;
@@ -1022,7 +1024,7 @@ static void remove_extended(fuse_req_t request, fuse_ino_t number, const char *n
     (void)fuse_reply_err(request, error);
 }
 
-/* ---- What there is none of ---- */
+/* ---- Unsupported operations ---- */
 
 static void make_link(fuse_req_t request, fuse_ino_t number, fuse_ino_t parent, const char *name) {
     (void)number;
@@ -1104,7 +1106,7 @@ static int tell_refused(const char *path, jip_fault fault) {
     return STATUS_IMAGE;
 }
 
-/* Holds, reads and opens the image. Answers a status. */
+/* Locks, reads and opens the image. Returns a status. */
 static int open_image(const char *path) {
     jip_fault fault = {0, 0};
     jip_packet packet;
@@ -1127,7 +1129,7 @@ static int open_image(const char *path) {
     return STATUS_DONE;
 }
 
-/* Serves the kernel until the directory is unmounted, and saves. Answers a status. */
+/* Serves the kernel until the directory is unmounted, and saves. Returns a status. */
 static int serve(struct fuse_args *args, const char *directory, bool stays) {
     struct fuse_session *const session = fuse_session_new(args, &operations, sizeof operations, NULL);
     if (session == NULL) return STATUS_WORDS;
@@ -1144,7 +1146,7 @@ static int serve(struct fuse_args *args, const char *directory, bool stays) {
     return status;
 }
 
-/* Names the image as what is mounted. */
+/* Shows the image as the source of the mount. */
 static int add_source(struct fuse_args *args) {
     char source[PATH_MAX + 8];
     char *joined = NULL;

@@ -1,5 +1,5 @@
-/* A tour: an image is opened, or a blank one made; a directory is made, a file written and read back, the root listed, and the
- * image saved.
+/* A tour of the library. It opens an image or makes a blank one, makes a directory, writes a file and reads it back. Then
+ * it lists the root and saves the image.
  *
  *   cc tour.c $(pkg-config --cflags --libs jiponuwha) -o tour && ./tour floppy.adf
  */
@@ -9,7 +9,7 @@
 
 static const jip_date START = {0, 0, 0};
 
-/* Serves a packet; a packet that is refused ends the program with its DOS error. */
+/* Serves a packet and returns its answer. If it is refused, the program prints the DOS error and exits with status 1. */
 static jip_answer serve(jip_handle *handle, const jip_packet *packet) {
     jip_answer answer;
     int32_t status = jip_serve(handle, packet, &answer);
@@ -20,7 +20,7 @@ static jip_answer serve(jip_handle *handle, const jip_packet *packet) {
     return answer;
 }
 
-/* Opens the image that a file has; where there is no file, a blank one. */
+/* Opens the image in a file, or a blank image if the file does not exist. */
 static int open_image(jip_handle *handle, const char *path) {
     enum { MOST_BYTES = JIP_MOST_BLOCKS * JIP_BLOCK_BYTES };
     jip_fault fault = {JIP_FAULT_NONE, 0};
@@ -35,7 +35,7 @@ static int open_image(jip_handle *handle, const char *path) {
     return status == JIP_DONE;
 }
 
-/* Makes a directory, if it is not there. A lock on it is given, and has to be freed. */
+/* Makes a directory, unless it exists. The answer has a lock on it, which has to be freed. */
 static void make_directory(jip_handle *handle, const char *name) {
     jip_packet packet;
     jip_answer made;
@@ -67,7 +67,7 @@ static void print_file(jip_handle *handle, const char *name) {
     serve(handle, &packet);
 }
 
-/* Each entry leads to the next by its key; the key of the root itself leads to the first. */
+/* The key of each entry gets the next one. The root's own key gets the first. */
 static void list_root(jip_handle *handle) {
     jip_packet packet;
     jip_answer answer;

@@ -1,0 +1,69 @@
+"""Read and change the files and directories of Amiga floppy images (`.adf` files).
+
+    import jiponuwha as jip
+
+    with jip.open("work.adf") as floppy:
+        for path, entry in floppy.walk():
+            print(path, entry.size, entry.comment)
+        data = floppy["S/startup-sequence"].read()
+        floppy["Docs/new"] = b"text"
+        floppy.save()
+
+The package calls the shared library `libjiponuwha.so.1`, and knows nothing of an image's layout itself. Names and paths
+are `str` with letters of ISO 8859-1, or `bytes`.
+
+A refusal by the volume raises a DosError, with the error number of AmigaDOS in `dos`. A failure of the host raises a plain
+OSError. A refused call changes nothing, unless its text says otherwise.
+"""
+from __future__ import annotations
+
+from ._errors import (
+    DirectoryNotEmpty,
+    DiskFull,
+    DosError,
+    InvalidName,
+    NotAnImage,
+    ObjectExists,
+    ObjectInUse,
+    ObjectNotFound,
+    Protected,
+    WrongType,
+)
+from ._file import File
+from ._library import version
+from ._numbers import DOUBLE_DENSITY, HIGH_DENSITY, EntryType, Error, FaultKind, Format
+from ._path import Path
+from ._values import Date, Entry, Fault, Info
+from ._volume import Volume, check, create, open
+
+__version__ = version()
+
+__all__ = [
+    "DOUBLE_DENSITY",
+    "HIGH_DENSITY",
+    "Date",
+    "DirectoryNotEmpty",
+    "DiskFull",
+    "DosError",
+    "Entry",
+    "EntryType",
+    "Error",
+    "Fault",
+    "FaultKind",
+    "File",
+    "Format",
+    "Info",
+    "InvalidName",
+    "NotAnImage",
+    "ObjectExists",
+    "ObjectInUse",
+    "ObjectNotFound",
+    "Path",
+    "Protected",
+    "Volume",
+    "WrongType",
+    "check",
+    "create",
+    "open",
+    "version",
+]

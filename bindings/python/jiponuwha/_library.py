@@ -1,0 +1,171 @@
+"""The shared library, loaded by ctypes, with the structs and functions of jiponuwha.h.
+
+The library is the file that the environment variable JIPONUWHA_LIBRARY names. Without it, the library is next to this
+module, or else in the system's library path.
+"""
+from __future__ import annotations
+
+import ctypes
+import os
+from pathlib import Path as HostPath
+from typing import Any
+
+from ._numbers import FaultKind
+
+NAME = "libjiponuwha.so.1"
+# The version of the header that this package was written for. The library has the same major version, and is not older.
+WRITTEN_FOR = (1, 0)
+
+
+class CHandle(ctypes.Structure):
+    _fields_ = [("behind", ctypes.c_void_p)]
+
+
+class CDate(ctypes.Structure):
+    _fields_ = [("days", ctypes.c_uint32), ("minutes", ctypes.c_uint32), ("ticks", ctypes.c_uint32)]
+
+
+class CFault(ctypes.Structure):
+    _fields_ = [("kind", ctypes.c_int32), ("block", ctypes.c_uint32)]
+
+
+class CPacket(ctypes.Structure):
+    _fields_ = [
+        ("action", ctypes.c_int32),
+        ("lock", ctypes.c_uint32),
+        ("to_lock", ctypes.c_uint32),
+        ("handle", ctypes.c_uint32),
+        ("key", ctypes.c_uint32),
+        ("bits", ctypes.c_uint32),
+        ("offset", ctypes.c_int32),
+        ("mode", ctypes.c_int32),
+        ("date", CDate),
+        ("moment", CDate),
+        ("path", ctypes.c_char_p),
+        ("path_length", ctypes.c_size_t),
+        ("text", ctypes.c_char_p),
+        ("text_length", ctypes.c_size_t),
+        ("buffer", ctypes.c_void_p),
+        ("buffer_length", ctypes.c_size_t),
+    ]
+
+
+class CEntry(ctypes.Structure):
+    _fields_ = [
+        ("key", ctypes.c_uint32),
+        ("entry_type", ctypes.c_int32),
+        ("protection", ctypes.c_uint32),
+        ("size", ctypes.c_uint32),
+        ("blocks", ctypes.c_uint32),
+        ("date", CDate),
+        ("name_length", ctypes.c_uint32),
+        ("comment_length", ctypes.c_uint32),
+        ("name", ctypes.c_uint8 * 32),
+        ("comment", ctypes.c_uint8 * 80),
+    ]
+
+
+class CDisk(ctypes.Structure):
+    _fields_ = [
+        ("state", ctypes.c_uint32),
+        ("blocks", ctypes.c_uint32),
+        ("used", ctypes.c_uint32),
+        ("bytes_per_block", ctypes.c_uint32),
+        ("disk_type", ctypes.c_uint32),
+    ]
+
+
+class CAnswer(ctypes.Structure):
+    _fields_ = [
+        ("res1", ctypes.c_int32),
+        ("res2", ctypes.c_int32),
+        ("handle", ctypes.c_uint32),
+        ("entry", CEntry),
+        ("disk", CDisk),
+    ]
+
+
+# The structs, by their names in the header without `jip_`.
+STRUCTS: dict[str, type[ctypes.Structure]] = {
+    "handle": CHandle,
+    "date": CDate,
+    "fault": CFault,
+    "packet": CPacket,
+    "entry": CEntry,
+    "disk": CDisk,
+    "answer": CAnswer,
+}
+
+Visitor = ctypes.CFUNCTYPE(
+    ctypes.c_int32, ctypes.c_void_p, ctypes.POINTER(ctypes.c_char), ctypes.c_size_t, ctypes.POINTER(CEntry)
+)
+
+_HANDLE = ctypes.POINTER(CHandle)
+_SIZE = ctypes.POINTER(ctypes.c_size_t)
+_FAULT = ctypes.POINTER(CFault)
+_PATH = (ctypes.c_char_p, ctypes.c_size_t)
+# The functions that this package calls: the type of the result, and the types of the arguments.
+FUNCTIONS: dict[str, tuple[Any, list[Any]]] = {
+    "jip_version": (ctypes.c_char_p, []),
+    "jip_error_text": (ctypes.c_char_p, [ctypes.c_int32]),
+    "jip_fault_text": (ctypes.c_char_p, [ctypes.c_int32]),
+    "jip_open": (ctypes.c_int32, [ctypes.c_char_p, ctypes.c_size_t, _HANDLE, _FAULT]),
+    "jip_blank": (
+        ctypes.c_int32,
+        [ctypes.c_int32, ctypes.c_uint32, ctypes.c_char_p, ctypes.c_size_t, CDate, _HANDLE],
+    ),
+    "jip_close": (ctypes.c_int32, [_HANDLE]),
+    "jip_serve": (ctypes.c_int32, [_HANDLE, ctypes.POINTER(CPacket), ctypes.POINTER(CAnswer)]),
+    "jip_image_length": (ctypes.c_size_t, [_HANDLE]),
+    "jip_copy_image": (ctypes.c_int32, [_HANDLE, ctypes.c_void_p, ctypes.c_size_t]),
+    "jip_changes": (ctypes.c_uint64, [_HANDLE]),
+    "jip_read_file": (ctypes.c_int32, [_HANDLE, *_PATH, ctypes.c_void_p, ctypes.c_size_t, _SIZE]),
+    "jip_write_file": (ctypes.c_int32, [_HANDLE, CDate, *_PATH, ctypes.c_char_p, ctypes.c_size_t]),
+    "jip_walk": (ctypes.c_int32, [_HANDLE, Visitor, ctypes.c_void_p]),
+    "jip_reach": (
+        ctypes.c_int32,
+        [_HANDLE, *_PATH, ctypes.POINTER(ctypes.c_uint32), ctypes.POINTER(ctypes.c_void_p), _SIZE],
+    ),
+    "jip_load": (ctypes.c_int32, [ctypes.c_char_p, _HANDLE, _FAULT]),
+    "jip_store": (ctypes.c_int32, [_HANDLE, ctypes.c_char_p]),
+}
+
+
+def _found() -> ctypes.CDLL:
+    beside = HostPath(__file__).with_name(NAME)
+    file = os.environ.get("JIPONUWHA_LIBRARY") or (str(beside) if beside.exists() else NAME)
+    try:
+        return ctypes.CDLL(file, use_errno=True)
+    except OSError as fault:
+        raise ImportError(f"{fault}: JIPONUWHA_LIBRARY may name the file of the library") from fault
+
+
+def _loaded() -> ctypes.CDLL:
+    """Returns the library with its functions declared. A version that this package cannot use raises ImportError."""
+    found = _found()
+    for name, (result, arguments) in FUNCTIONS.items():
+        function = getattr(found, name)
+        function.restype, function.argtypes = result, arguments
+    said = found.jip_version().decode("ascii")
+    major, minor = (int(it) for it in said.split(".")[:2])
+    if major != WRITTEN_FOR[0] or minor < WRITTEN_FOR[1]:
+        raise ImportError(f"{NAME} is of version {said}, and not of {WRITTEN_FOR[0]}.{WRITTEN_FOR[1]} or later")
+    return found
+
+
+library = _loaded()
+
+
+def version() -> str:
+    """Returns the version of the library, such as `1.0.0`."""
+    return str(library.jip_version().decode("ascii"))
+
+
+def error_text(number: int) -> str:
+    """Returns the message for an error number of AmigaDOS or a status of the library."""
+    return str(library.jip_error_text(number).decode("ascii"))
+
+
+def fault_text(kind: FaultKind) -> str:
+    """Returns the message for a fault of an image."""
+    return str(library.jip_fault_text(kind).decode("ascii"))
