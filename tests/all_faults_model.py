@@ -1,10 +1,10 @@
 #!/usr/bin/env python3
-"""Every fault that an image shows, a line `KIND BLOCK` each, by block and then by kind.
+"""Prints every fault of an image as a line `KIND BLOCK`, sorted by block and then by kind.
 
     tests/all_faults_model.py IMAGE
 
-It goes by the definition `Shows` of crates/ados_tree/specs/Faults.antt alone: first all pairs of a block and a role that are
-reached, then each rule over all of them. `more` stands at the end where there are over 1,000.
+It follows only the definition `Shows` of crates/ados_model/specs/Faults.antt. It first computes all reachable pairs of a block and
+a role, then applies each rule to all of them. If there are more than 1,000 faults, the last line is `more`.
 """
 from __future__ import annotations
 
@@ -26,7 +26,7 @@ MOST = 1000
 
 
 class Role(NamedTuple):
-    """What a block is for: the root, a page of the bitmap, an entry of a directory in a slot, or a data block or an extension
+    """The role of a block: the root, a bitmap block, an entry of a directory in a slot, or a data block or an extension
     block of a file."""
 
     what: str
@@ -35,7 +35,7 @@ class Role(NamedTuple):
 
 
 class Model(Image):
-    """An image, what is reached in it, and what it shows."""
+    """An image, the blocks reached in it, and its faults."""
 
     def __init__(self, data: bytes) -> None:
         super().__init__(data)
@@ -43,7 +43,7 @@ class Model(Image):
         self.ofs = data[3] == 0
         self.found: Set[Tuple[int, int]] = set()
         self.reached: Set[Tuple[int, Role]] = set()
-        self.places: List[Tuple[int, int, int]] = []  # (holder, long, block that is named)
+        self.places: List[Tuple[int, int, int]] = []  # (holder, long, named block)
         self.reach()
 
     def inside(self, block: int) -> bool:
@@ -53,10 +53,10 @@ class Model(Image):
         return sum(self.long(block, at) for at in range(128)) % 2**32
 
     def length(self, block: int, offset: int) -> int:
-        """The number that stands before a text."""
+        """The length byte before a text."""
         return self.data[512 * block + offset]
 
-    # ---- which blocks are reached
+    # ---- the reached blocks
 
     def pages(self) -> int:
         return (self.blocks - 2 + 4063) // 4064
@@ -82,7 +82,7 @@ class Model(Image):
                 yield 126, Role("extension", file)
 
     def file_of(self, block: int, role: Role) -> Optional[int]:
-        """The file whose data this header or extension block names."""
+        """The file of the data blocks in this header or extension block."""
         if role.what == "entry" and self.long(block, 127) == FILE:
             return block
         return role.holder if role.what == "extension" else None
@@ -191,7 +191,7 @@ class Model(Image):
         return [self.long(block, 77 - at) for at in range(count)] if count <= 72 else []
 
     def headers_of(self, file: int) -> List[int]:
-        """The header of a file and its extension blocks, up to the first that is none or that was met before."""
+        """The header of a file and its extension blocks, up to the first one that is invalid or was visited before."""
         headers = [file]
         while True:
             link = self.long(headers[-1], 126)
@@ -244,7 +244,7 @@ def slot_of(text: bytes) -> int:
 
 
 def lines_of(image: bytes) -> List[str]:
-    """The faults of an image, a line each, and `more` where there are more than are told."""
+    """The faults of an image, one line each, and `more` if there are more than are listed."""
     found = Model(image).all_faults()
     return [f"{KINDS[kind]} {block}" for block, kind in found[:MOST]] + ["more"] * (len(found) > MOST)
 

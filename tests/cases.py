@@ -1,40 +1,39 @@
 #!/usr/bin/env python3
-"""Cases of the built program, each a folder of texts in tests/cases.
+"""Runs the cases of the built program. Each case is a directory of text files in tests/cases.
 
     tests/cases.py [PROGRAM [NAME..]]
 
-Each case runs in a fresh folder. A line says how it went, and the last line is `N passed, M failed`; the status is 1 where one
-failed. Without a name all cases run, without a program the one of this repository.
+Each case runs in a fresh folder. Without a name all cases run.
 
-The files of a case are texts. In each of them `\\xHH` stands for a byte.
+The files of a case are texts. In each of them `\\xHH` stands for one byte.
 
-`about`   What the case shows. Each case has it.
-`script`, `script2` ..  The scripts of client 1, 2 .. A field `x*600` is a quoted text of 600 x. A line `*A..B LINE ; LINE` stands for its
-          lines once for each n from A to B. In them `{n}` is n, `{n:04}` is n in four digits, and `{r}` is the number of the reply
-          before this round. A number may follow in the braces, as in `{r+1}`.
-`image`   What image.adf is drawn from. The first line has the words of `blank` without the file. Then each line is a row:
+`about`   What the case tests. Each case has this file.
+`script`, `script2` ..  The scripts of client 1, 2 .. A field `x*600` is a quoted text of 600 x. A line `*A..B LINE ; LINE` repeats its
+          lines for each n from A to B. In them `{n}` is n, `{n:04}` is n in four digits, and `{r}` is the number of the last reply
+          before this round. The braces may add a number, as in `{r+1}`.
+`image`   How to make image.adf. The first line has the arguments of `blank` without the file. Each further line is a row:
           `long BLOCK LONG VALUE`, `byte BLOCK OFFSET VALUE`, `text BLOCK OFFSET "TEXT"` write big-endian longs, bytes and texts,
-          and the BLOCK and LONG of a `long` may each be a range `A-B`;
+          and the BLOCK and the LONG of a `long` may each be a range `A-B`;
           `fill BLOCK BYTE` and `zero BLOCK` write a whole block; `copy FROM TO` copies one;
-          `sum BLOCK LONG` sets this long so that the longs of the block add up to 0;
-          `cut BYTES` and `grow BYTES` make the file this long, shorter or longer by zeros;
-          `script` puts the packets of the indented lines that follow, none of which may be refused;
-          `save NAME` writes the image to a file, and `load NAME` goes on with the bytes of one;
-          `blank WORDS` goes on with another blank image.
+          `sum BLOCK LONG` sets this long so that the sum of the longs of the block is 0;
+          `cut BYTES` and `grow BYTES` set the size of the file, and `grow` appends zeros;
+          `script` sends the packets of the indented lines that follow, and each of them must succeed;
+          `save NAME` writes the image to a file, and `load NAME` continues with the bytes of a file;
+          `blank ARGUMENTS` continues with a new blank image.
           Empty lines and lines that begin with `#` are skipped.
-`args`    Commands of the program, one a line, quoted as in a shell. Without it the program runs
-          `serve --out after.adf image.adf script ..` where there is an `image`, an `after` or a `script2`, and then `check after.adf`,
-          which has to print `ok`. In that case image.adf is a blank FFS floppy `Work` if there is no `image`.
-          Else the program reads `script` from standard input.
-`wanted`  What the commands print together. A field `+` stands for any positive number, `?` for anything, and `A|B` for A or B.
-          In a field `00*599` is 599 times the two digits before the star. A line `*A..B` is as in a script. A last line `status N`
-          says how the last command ends, if not with 0. Each other command ends with 0.
-`faults`  Lines, each of which has to stand in what the commands print on standard error.
-`after`   Rows that hold of after.adf behind the commands: `long`, `byte` and `text` as above; `same BLOCK`, `same BLOCK-BLOCK` and
-          `same all [but BLOCK..]` name blocks with the bytes that image.adf had before; `like NAME` says that a whole file is the same.
-          The rows behind `file NAME` hold of that file.
-`rows`    In place of the others but `about`, a table of scripts that the program reads from standard input, each alone. A line is
-          `STATUS|SCRIPT|OUTPUT`, and `~` stands for a line feed.
+`args`    Commands of the program, one per line, quoted as in a shell. Without this file and with an `image`, an `after` or a
+          `script2`, the program runs `serve --out after.adf image.adf script ..` and then `check after.adf`, which must print `ok`.
+          In that case image.adf is a blank FFS floppy `Work` if there is no `image`.
+          Otherwise the program reads `script` from standard input.
+`wanted`  The expected output of all commands. A field `+` matches any positive number, `?` any field, and `A|B` A or B.
+          `00*599` in a field is the two digits before the star 599 times. A line `*A..B` is as in a script. A last line `status N`
+          is the exit status of the last command, which is 0 otherwise. Each other command must exit with 0.
+`faults`  Lines that the standard error of the commands must contain.
+`after`   Rows that must hold for after.adf after the commands: `long`, `byte` and `text` as above. `same BLOCK`,
+          `same BLOCK-BLOCK` and `same all [but BLOCK..]` name blocks that are equal to those of image.adf before the commands.
+          `like NAME` names a file with the same bytes. The rows after `file NAME` apply to that file.
+`rows`    A table of scripts, used with `about` alone. The program runs once for each line and reads its script from standard
+          input. A line is `STATUS|SCRIPT|OUTPUT`, and `~` stands for a line feed.
 """
 from __future__ import annotations
 
@@ -42,7 +41,6 @@ import multiprocessing
 import os
 import re
 import shlex
-import subprocess
 import sys
 from functools import partial
 from pathlib import Path
@@ -50,7 +48,7 @@ from typing import Callable, Dict, List, Optional, Sequence, Tuple, Union
 
 sys.dont_write_bytecode = True
 
-from harness import BLOCK, TOP, Failed, Ran, Report, Room, program_of
+from harness import BLOCK, TOP, Failed, Ran, Report, Room, fault_in, in_memory, program_of
 
 IMAGE = "image.adf"
 AFTER = "after.adf"
@@ -65,12 +63,12 @@ REPLY = re.compile(r"[0-9]+\.([0-9]+) ")
 Bytes = Union[bytes, bytearray]
 
 
-class Wrong(Exception):
-    """What is wrong with a case: it differs from what is wanted, or it is not written as a case has to be."""
+class Wrong(Failed):
+    """What is wrong with a case: a difference from the expected result, or a wrong form of the case."""
 
 
 class Folder(Room):
-    """The room in which a case runs. All its texts have one character a byte, and its files plain names."""
+    """The room in which a case runs. Its texts have one character for each byte, and its files have plain names."""
 
     def write(self, name: str, data: bytes = b"") -> None:
         super().write(plain(name), data)
@@ -84,19 +82,19 @@ class Folder(Room):
         return self.run(*map(as_word, words), input=script.encode("latin-1"))
 
     def make(self, words: Sequence[str]) -> str:
-        """What a command of the set-up prints: it has to succeed."""
+        """The output of a command of the set-up, which has to succeed."""
         return text_of(self.done(*map(as_word, words)))
 
 
 def plain(name: str) -> str:
-    """A name of a file in the folder itself."""
+    """The name of a file in the directory of the case."""
     if not re.fullmatch(r"[\w.-]+", name) or name.startswith("."):
         raise Wrong(f"{name!r} is no name of a file")
     return name
 
 
 def as_word(text: str) -> str:
-    """The word of a command line with the bytes of a text."""
+    """The argument with the bytes of a text."""
     return os.fsdecode(text.encode("latin-1"))
 
 
@@ -105,7 +103,7 @@ def text_of(data: bytes) -> str:
 
 
 def shown(text: str) -> str:
-    """A text as it is printed in a line: its end is cut off where it is long."""
+    """A text for a message, cut off if it is long."""
     line = text.encode("latin-1").decode("utf-8", "backslashreplace").replace("\n", "\\n")
     return repr(line if len(line) <= 160 else line[:150] + " ...")
 
@@ -116,18 +114,18 @@ def read_text(path: Path) -> str:
 
 
 def reply_in_script(line: str, last: int) -> int:
-    """The number of the last reply behind a line of a script."""
+    """The number of the last reply after a line of a script."""
     return last if line == "" or line.startswith("#") else last + 1
 
 
 def reply_in_wanted(line: str, last: int) -> int:
-    """The number of the reply that a line tells of."""
+    """The number of the reply in a line."""
     told = REPLY.match(line)
     return int(told[1]) if told else last
 
 
 def counted(line: str, n: int, r: int) -> str:
-    """A line of a round with its numbers."""
+    """A line of a round, with its numbers."""
 
     def digits(it: re.Match[str]) -> str:
         value = (n if it[1] == "n" else r) + int(it[2] or 0)
@@ -137,7 +135,7 @@ def counted(line: str, n: int, r: int) -> str:
 
 
 def unrolled(text: str, reply: Callable[[str, int], int]) -> List[str]:
-    """The lines of a text, those of `*A..B` once for each round."""
+    """The lines of a text; those of `*A..B` once for each round."""
     lines: List[str] = []
     last = 0
     for line in text.split("\n"):
@@ -153,7 +151,7 @@ def unrolled(text: str, reply: Callable[[str, int], int]) -> List[str]:
 
 
 def lengthened(line: str) -> str:
-    """A line with each `x*600` outside of quotes as a quoted text."""
+    """A line in which each `x*600` outside quotes is a quoted text."""
     parts = line.split('"')
     parts[::2] = [LONG_TEXT.sub(lambda it: '"' + it[1] * int(it[2]) + '"', it) for it in parts[::2]]
     return '"'.join(parts)
@@ -181,7 +179,7 @@ def numbers(words: Sequence[str], count: int) -> List[int]:
 
 
 def between(word: str) -> range:
-    """The numbers from A to B of the word `A-B`, or the one number of a word without a dash."""
+    """The numbers from A to B of the word `A-B`, or the single number of a word without a dash."""
     first, _, last = word.partition("-")
     every = range(number(first), number(last or first) + 1)
     if not every:
@@ -203,7 +201,7 @@ def name_of(words: Sequence[str]) -> str:
 
 
 def words_of(row: str) -> List[str]:
-    """The words of a row or of a command."""
+    """The words of a row, or the arguments of a command."""
     try:
         return shlex.split(lengthened(row))
     except ValueError as fault:
@@ -211,7 +209,7 @@ def words_of(row: str) -> List[str]:
 
 
 def place(image: Bytes, block: int, offset: int, size: int) -> int:
-    """Where bytes of a block stand in an image."""
+    """The position of a block's bytes in an image."""
     at = BLOCK * block + offset
     if block < 0 or offset < 0 or offset + size > BLOCK or at + size > len(image):
         raise Wrong(f"block {block} has no {size} bytes from {offset} on")
@@ -224,7 +222,7 @@ def long_at(image: Bytes, block: int, at: int) -> int:
 
 
 class Drawing:
-    """An image that is drawn row by row."""
+    """An image, drawn row by row."""
 
     def __init__(self, room: Folder) -> None:
         self.room = room
@@ -315,14 +313,14 @@ class Drawing:
 
 
 def draw(room: Folder, text: str) -> None:
-    """Draws image.adf by the lines of an `image`."""
+    """Draws image.adf from the lines of an `image`."""
     lines = text.split("\n")
     room.make(["blank", *words_of(lines[0]), IMAGE])
     Drawing(room).draw(lines[1:])
 
 
 class Looking:
-    """An image that is looked at row by row."""
+    """An image, checked row by row."""
 
     def __init__(self, room: Folder, before: bytes) -> None:
         self.room = room
@@ -409,7 +407,7 @@ def is_line(wanted: str, found: str) -> bool:
 
 
 def difference(wanted: str, found: str) -> str:
-    """How two lines differ: long ones from a little before the first difference on."""
+    """The difference of two lines. Long lines are shown from shortly before the first difference."""
     equal = len(os.path.commonprefix([wanted, found]))
     start = equal - 20 if equal > 100 else 0
     where = f" from character {start + 1} on" if start else ""
@@ -471,7 +469,7 @@ class Case:
             Looking(room, before).look(self.texts["after"].split("\n"))
 
     def commands(self) -> List[List[str]]:
-        """The words of each command: those of `args`, or of the one that runs the scripts."""
+        """The arguments of each command: those of `args`, or those of the one that runs the scripts."""
         if "args" in self.texts:
             commands = [words_of(it) for it in self.texts["args"].split("\n") if it.strip() and not it.startswith("#")]
             if not commands:
@@ -484,7 +482,7 @@ class Case:
         return [[]]
 
     def compare(self, ran: List[Ran], commands: List[List[str]]) -> None:
-        """Compares what the commands printed and how they ended with what is wanted."""
+        """Compares the output and the status of the commands with the expected ones."""
         wanted = wanted_lines(self.texts["wanted"])
         status = 0
         ending = re.fullmatch(r"status ([0-9]+)", wanted[-2]) if len(wanted) > 1 and wanted[-1] == "" else None
@@ -531,22 +529,15 @@ def run_rows(room: Folder, text: str) -> None:
         raise Wrong("there is no row")
 
 
-def memory() -> Optional[str]:
-    """A folder in memory, if there is one: the program brings each image to the disk, which may be slow."""
-    return "/dev/shm" if "TMPDIR" not in os.environ and os.access("/dev/shm", os.W_OK) else None
-
-
 def fault_of(program: Path, folder: Path) -> Optional[str]:
-    """What is wrong with the case of a folder, if anything is."""
-    try:
+    """What is wrong with the case in a directory, or None."""
+
+    def run() -> None:
         case = Case(folder)
-        with Folder(program, memory()) as room:
+        with Folder(program, inside=in_memory()) as room:
             case.run(room)
-    except (Wrong, Failed) as wrong:
-        return str(wrong)
-    except (OSError, ValueError, subprocess.SubprocessError) as fault:
-        return f"it was cut short: {fault}"
-    return None
+
+    return fault_in(run)
 
 
 def main(words: List[str]) -> int:

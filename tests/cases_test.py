@@ -1,9 +1,7 @@
 #!/usr/bin/env python3
-"""Shows that the runner of the cases refuses what differs: on a copy of a case that passes, one thing is changed at a time.
+"""Tests that the runner of the cases reports differences. It changes one thing at a time in a copy of a passing case.
 
     tests/cases_test.py [PROGRAM]
-
-A line says how each change went, and the last line is `N passed, M failed`; the status is 1 where one failed.
 """
 from __future__ import annotations
 
@@ -15,11 +13,11 @@ from typing import Dict, List, Optional, Tuple
 sys.dont_write_bytecode = True
 
 import cases
-from harness import Report, Room, program_of
+from harness import Room, try_all
 
 Texts = Dict[str, str]
 
-# A case with an image that is drawn, a script of each of two clients, rows of each kind, and every kind of field.
+# A case with a drawn image, a script for each of two clients, rows of each kind, and every kind of field.
 SERVED: Texts = {
     "about": "Two clients, a drawn image and its bytes.\n",
     "image": "--ffs Work\n# the packets of a client, and bytes of a block that nothing names\nscript\n  mkdir 0 \"d\"\nlong 9 1 0x12345678\nbyte 9 8 255\n"
@@ -30,7 +28,7 @@ SERVED: Texts = {
     "after": "long 9 1 0x12345678\nbyte 9 8 255\ntext 9 9 \"a b\"\nsame 0-1\nsame 10\nsame 12\nlong 880 127 1\nlong 20-21 3-5 7\nlong 20-21 6-127 0\n",
 }
 
-# A case of commands over a second blank image, whose last one is refused.
+# A case with commands over a second blank image; the last one is refused.
 COMMANDS: Texts = {
     "about": "A directory is made, and not made again.\n",
     "image": "--blocks 32 Other\nblank --blocks 16 Work\nsave base.adf\nlong 8 5 1\nsave broken.adf\nsum 8 5\n",
@@ -47,7 +45,7 @@ READ: Texts = {
     "wanted": "1.1 -1 0\n1.2 -1 0\n1.3 300 0 00*300\n1 fault line 4\nstatus 3\n",
 }
 
-# A refusal that is told on standard error.
+# A refusal reported on standard error.
 TOLD: Texts = {
     "about": "A name that is none is told.\n",
     "args": "blank a/b none.adf\n",
@@ -60,7 +58,7 @@ ROWS: Texts = {
     "rows": "# a remark\n0||\n0|other 5|1.1 0 209~\n3|other 5~foo~|1.1 0 209~1 fault line 2~\n3|rename-disk x*256|1 fault line 1~\n",
 }
 
-# What is changed: the case, its file, and what stands in place of what, or nothing where the file goes.
+# The changes: the case, its file, and the old and new text, or nothing to remove the file.
 Change = Tuple[Texts, str, str, Optional[str]]
 
 CHANGES: List[Change] = [
@@ -155,34 +153,30 @@ CHANGES: List[Change] = [
     (ROWS, "rows", "", None),
 ]
 
-# Files with which a case is none.
+# Files that make a case invalid.
 ADDED: List[Tuple[Texts, str]] = [(SERVED, "afterwards"), (SERVED, "script4"), (ROWS, "wanted"), (READ, "rows")]
 
 
-class Tried:
-    """The changes that are tried, and the report of them."""
-
-    def __init__(self, room: Room, report: Report) -> None:
-        self.room = room
-        self.report = report
+class Tried(Room):
+    """The room for the changes to try."""
 
     def fault(self, texts: Texts, program: Optional[Path] = None) -> Optional[str]:
-        """What is wrong with a case of these texts."""
-        with Room(program or self.room.program) as folder:
+        """What is wrong with a case with these texts."""
+        with Room(program or self.program) as folder:
             for name, text in texts.items():
                 folder.write(name, text.encode())
             return cases.fault_of(folder.program, folder.top)
 
     def refuses(self, name: str, texts: Texts, part: str = "", program: Optional[Path] = None) -> None:
-        """The case fails, with a text that has this part."""
+        """The case fails, and the message contains this part."""
         fault = self.fault(texts, program)
         passes = f"it passes where {part or 'a fault'!r} is expected"
         self.report.expect(name, fault is not None and part in fault, passes if fault is None else f"{fault!r} has no {part!r}")
 
     def wrapped(self, name: str, command: str) -> Path:
-        """A program that does this with its words before it is the real one."""
-        path = self.room.top / name
-        path.write_text(f'#!/bin/sh\n{command}\nexec {shlex.quote(str(self.room.program))} "$@"\n', encoding="utf-8")
+        """A program that does this with its arguments before it runs the real one."""
+        path = self.top / name
+        path.write_text(f'#!/bin/sh\n{command}\nexec {shlex.quote(str(self.program))} "$@"\n', encoding="utf-8")
         path.chmod(0o755)
         return path
 
@@ -196,7 +190,7 @@ def changed(texts: Texts, name: str, old: str, new: Optional[str]) -> Texts:
     return {**others, name: texts[name].replace(old, new)}
 
 
-def try_all(tried: Tried) -> None:
+def changes(tried: Tried) -> None:
     named = [("served", SERVED), ("commands", COMMANDS), ("read", READ), ("told", TOLD), ("rows", ROWS)]
     for name, texts in named:
         tried.report.hold(f"{name}: as it stands", tried.fault(texts))
@@ -215,12 +209,5 @@ def try_all(tried: Tried) -> None:
     tried.refuses("a command before the last that fails", COMMANDS, "wanted status 0, found 2", failing)
 
 
-def main(words: List[str]) -> int:
-    program, report = program_of(words), Report()
-    with Room(program) as room:
-        try_all(Tried(room, report))
-    return report.end()
-
-
 if __name__ == "__main__":
-    sys.exit(main(sys.argv[1:]))
+    sys.exit(try_all(sys.argv[1:], Tried, changes))

@@ -1,11 +1,8 @@
 #!/usr/bin/env python3
-"""Runs the built program with each of its commands on real files, and holds its output, its texts and its exit status
-against what is expected.
+"""Runs each command of the built program on real files, and compares its output, its messages and its exit status with the
+expected ones. tests/cases tests scripts on standard input.
 
     tests/commands.py [PROGRAM]
-
-It prints a line for each check, and at last `N passed, M failed`; the status is 1 where one failed. Without a word the program
-is that of this repository, built first if need be. Scripts on standard input are tried by tests/cases.
 """
 from __future__ import annotations
 
@@ -21,16 +18,16 @@ from typing import Callable, Dict, List, NamedTuple, Optional, Sequence, Set, Tu
 
 sys.dont_write_bytecode = True
 
-from harness import BLOCK, TOP, Image, Ran, Report, Room, fault_of, program_of, run
+from harness import BLOCK, TOP, Image, Ran, Room, fault_of, run, try_all
 
 COMMANDS = "blank info check list print extract add mkdir delete rename protect comment relabel boot serve".split()
-# The commands that take an image beside `info`, `check`, `list` and `serve`, with words for it.
+# The commands for an image other than `info`, `check`, `list` and `serve`, with arguments.
 ON_IMAGES = [
     *("print IMAGE x", "extract IMAGE", "add IMAGE x", "mkdir IMAGE x", "delete IMAGE x", "rename IMAGE x y"),
     *("protect IMAGE x rwed", "comment IMAGE x y", "relabel IMAGE x", "boot IMAGE"),
 ]
 AT = "--days 1 --minutes 0 --ticks 0"
-# An entry of `list` that has its date from there.
+# An entry of `list`, from its date on.
 MADE = "     dir ---rwed 1978-01-02 00:00:00.00 "
 WRITTEN = "1.1 -1 0\n1.2 1 0\n1.3 -1 0\n"
 UNWRITTEN = "standard output cannot be written"
@@ -40,7 +37,7 @@ HELD = "another command works on it"
 
 
 class Row(NamedTuple):
-    """A run of the program, and what is wanted of it."""
+    """A run of the program, and the expected result."""
 
     name: str
     words: List[str]
@@ -50,27 +47,23 @@ class Row(NamedTuple):
 
 
 def row(name: str, words: Union[str, Sequence[str]], status: int = 0, output: Union[str, bytes] = b"", *parts: str) -> Row:
-    """A row whose words may stand in one text, as in a shell."""
+    """A row whose arguments may be one text, as in a shell."""
     separate = shlex.split(words) if isinstance(words, str) else list(words)
     return Row(name, separate, status, output.encode() if isinstance(output, str) else output, parts)
 
 
 def wrong(name: str, words: Union[str, Sequence[str]], *parts: str) -> Row:
-    """A row with wrong words: the texts have these parts."""
+    """A row with wrong arguments: the messages contain these parts."""
     return row(name, words, 1, b"", *parts)
 
 
 def lacking(name: str, words: Union[str, Sequence[str]], *parts: str) -> Row:
-    """A row with a file that cannot be had: the texts have these parts."""
+    """A row with a file that cannot be used: the messages contain these parts."""
     return row(name, words, 2, b"", *parts)
 
 
 class Commands(Room):
-    """The room in which the commands are tried, with what is told of them."""
-
-    def __init__(self, program: Path, report: Report) -> None:
-        super().__init__(program)
-        self.report = report
+    """The room for the commands."""
 
     def rows(self, *rows: Row) -> None:
         for it in rows:
@@ -84,8 +77,8 @@ class Commands(Room):
 
 
 def drawn(blank: bytes, longs: str, sums: str = "") -> bytes:
-    """An image in which each long `BLOCK.LONG=VALUE` is written, and then each `BLOCK.LONG` of `sums` is settled: all longs
-    of its block add up to 0."""
+    """An image with each long `BLOCK.LONG=VALUE` written, then each checksum `BLOCK.LONG` of `sums` set: all longs of
+    its block add up to 0."""
     image = Image(blank)
     for it in longs.split():
         place, _, value = it.partition("=")
@@ -98,7 +91,7 @@ def drawn(blank: bytes, longs: str, sums: str = "") -> bytes:
 
 
 def poked(blank: bytes, block: int, long: int, written: bytes) -> bytes:
-    """An image with these bytes over those from this long on."""
+    """An image with these bytes written from this long."""
     at = BLOCK * block + 4 * long
     return blank[:at] + written + blank[at + len(written) :]
 
@@ -107,7 +100,7 @@ def poked(blank: bytes, block: int, long: int, written: bytes) -> bytes:
 
 
 def blank_images(tried: Commands) -> None:
-    """Blank images, and what is told of them. The other parts take ofs.adf and ffs.adf."""
+    """Blank images, and the reports on them. The other parts use ofs.adf and ffs.adf."""
     tried.rows(
         row("blank", "blank Work ofs.adf"),
         row("check of blank", "check ofs.adf", 0, "ok\n"),
@@ -131,14 +124,14 @@ def blank_images(tried: Commands) -> None:
 
 
 def moments(tried: Commands) -> None:
-    """The dates of a blank image stand at the longs 105, 118 and 121 of its root, which is block 8 of 16."""
+    """The dates of a blank image are at the longs 105, 118 and 121 of its root, which is block 8 of 16."""
     tried.rows(row("blank with a moment", "blank --blocks 16 --days 1 --minutes 2 --ticks 3 Work moment.adf"))
     image = Image(tried.content("moment.adf"))
     for long in (105, 118, 121):
         tried.report.same(f"the moment at long {long}", [image.long(8, long + it) for it in range(3)], [1, 2, 3])
 
 
-# ---- Wrong words: the text says which word is wrong, and what is expected ----
+# ---- Wrong arguments: the message says which one is wrong, and what is expected ----
 
 
 def wrong_words(tried: Commands) -> None:
@@ -189,7 +182,7 @@ def wrong_numbers(tried: Commands) -> None:
 
 
 def wrong_words_for_files(tried: Commands) -> None:
-    """Words of the commands that move files: what is missing, and what is too much."""
+    """Arguments of the commands that move files: missing ones and extra ones."""
     for command in ("list", "extract", "print", "add", "mkdir", "delete", "rename", "protect", "comment", "relabel", "boot"):
         tried.rows(
             wrong(f"{command} without an image", [command], "IMAGE", "Usage"),
@@ -219,7 +212,7 @@ PAST_BYTES = [
 
 
 def words_too_many_and_wrong_letters(tried: Commands) -> None:
-    """A word too many, letters of bits that are none, and letters that stand for no byte."""
+    """An extra argument, letters that are no protection bits, and letters that are no bytes."""
     for words in FULL_OF_WORDS:
         tried.rows(wrong(f"a word too many: {words}", f"{words} much", "'much'", "Usage"))
     for letters in ("rwedx", "rr", "RWED", "-----rwe-", "----dewr"):
@@ -283,7 +276,7 @@ def faulty_scripts(tried: Commands) -> None:
 
 
 def turns(tried: Commands) -> None:
-    """How often a put is tried."""
+    """The number of tries for a put."""
     tried.write("wrong", b"what\n")
     told, faulty = "1.1 no room\n", "1 fault line 1\n2.1 no room\n"
     tries = "ran out of tries"
@@ -304,7 +297,7 @@ def many_clients(tried: Commands) -> None:
     tried.rows(row("eight clients with 500 packets each", ["serve", "ffs.adf", *scripts], 0, wanted))
 
 
-# ---- Growths of memory that are refused ----
+# ---- Refused growths of memory ----
 
 
 class Growths:
@@ -321,7 +314,7 @@ class Growths:
         tried.done("blank", "--ffs", "Play", "play.adf")
         replies = b"1.1 -1 0\n" + b"".join(b"2.%d 0 209\n" % it for it in range(1, 41))
         no_memory = b"there is not enough memory\n"
-        # How a serve of `names` and `asks` may end, in a word. The first two write the image play.adf, the others none.
+        # How a serve of `names` and `asks` may end, as a word. The first two write the image play.adf, the others none.
         self.endings: Dict[Ran, str] = {
             Ran(0, replies + b"2.41 1 0\n", b""): "whole",
             Ran(0, replies + b"2.41 0 103\n", b""): "lock",
@@ -339,18 +332,19 @@ class Growths:
         return run(words).status == 0
 
     def serve(self, threads: str, first: int, count: int, *words: str) -> Ran:
-        """Serves with so many growths of these threads refused, from this one on. Each try of a put lets other processes go
-        first, so that many of them may take minutes where the machine is busy."""
+        """Serves with this many growths of these threads refused, from this one. Each try of a put yields to other
+        processes, so many tries may take minutes on a busy machine."""
         shim = {"LD_PRELOAD": str(self.shim), "COUNTED": "counted", "THREADS": threads, "REFUSED": str(first), "RUN": str(count)}
         return run([str(self.tried.program), "serve", *words], env=shim, longest=LONGEST_OF_GROWTHS)
 
     def forty(self, first: int, count: int) -> Ran:
-        """Serves forty packets, with so many growths of their client's thread refused from this one on."""
+        """Serves forty packets, with this many growths of their client's thread refused, from this one."""
         return self.serve("others", first, count, "--turns", str(self.TRIES), "ffs.adf", "forty")
 
     def try_puts(self) -> None:
-        """A put finds no room where memory is refused. With `--turns N` it is tried N times: it goes through N - 1 refusals
-        one after another, and not through N. Which growth of the client's thread is one of a put is looked for first."""
+        """A put finds no room if memory is refused. With `--turns N` it is tried N times: it succeeds after N - 1
+        refusals in a row, and fails after N. First it finds out which growth of the client's thread belongs to a
+        put."""
         whole = [b"1.%d 0 209\n" % it for it in range(1, 41)]
         for growth in range(1, 301):
             ran = self.forty(growth, self.TRIES)
@@ -369,15 +363,15 @@ class Growths:
         return self.serve(threads, refused, 1, "--out", "grown.adf", "ffs.adf", "names", "asks")
 
     def ending(self, ran: Ran) -> Optional[str]:
-        """What became of it, if that is one of the endings."""
+        """The ending of a run, if it is one of these."""
         ending = self.endings.get(ran)
         written = self.tried.content("grown.adf") if os.path.exists("grown.adf") else None
         wanted = self.tried.content("play.adf") if ending in ("whole", "lock") else None
         return ending if written == wanted else None
 
     def try_each(self, threads: str, wanted: Set[str], spared: Set[str]) -> None:
-        """Refuses each growth of these threads in turn: each of the endings that are wanted comes, one that is spared may come,
-        and no other does."""
+        """Refuses each growth of these threads in turn. Each of the wanted endings occurs, a spared one may, and no
+        other does."""
         self.both(threads, 0)
         number = int.from_bytes(self.tried.content("counted"), sys.byteorder)
         endings: Set[str] = set()
@@ -395,13 +389,14 @@ class Growths:
 
 
 def growths(tried: Commands) -> None:
-    """Each growth of a `serve` with two clients is refused in turn: on the first thread those of the words, of the image, of
-    the port, of both threads, of a lock and of what is gathered and written; on the others those of what is put and told. All
-    goes as with memory to spare, or a lock is refused and nothing else; or the command ends with a text, and writes no image.
-    How the threads take turns says whether one of the others' growths is a put's, which is tried again."""
+    """Each growth of a `serve` with two clients is refused in turn. On the first thread these are the growths for the
+    arguments, the image, the port, both threads, a lock, the gathering and the output; on the other threads those
+    for puts and output lines. Each time the run is as with enough memory, or a lock is refused and nothing else, or
+    the command ends with a message and writes no image. The order of the threads decides whether a growth on another
+    thread is that of a put, which is repeated."""
     refused = Growths(tried)
     if not refused.built():
-        tried.report.skip("growths that are refused", "there is no cc")
+        tried.report.lacks("growths that are refused", "cc")
         return
     before = tried.content("ffs.adf")
     refused.try_puts()
@@ -414,7 +409,7 @@ def growths(tried: Commands) -> None:
 
 
 def directories(tried: Commands) -> None:
-    """Directories that are made and listed. The parts behind this one take moved.adf."""
+    """Directories that are made and listed. The later parts use moved.adf."""
     shutil.copy("ffs.adf", "moved.adf")
     head, last = "Volume Work\n", f"{MADE}d/é/f\n"
     every = f"{head}{MADE}d\n{MADE}d/é\n{last}"
@@ -488,11 +483,11 @@ def boot_blocks(tried: Commands) -> None:
     tried.stays("a boot block that is none changes nothing", "moved.adf", before)
 
 
-# ---- Files that cannot be had ----
+# ---- Files that cannot be used ----
 
 
 def held_images(tried: Commands) -> None:
-    """An image that another command holds."""
+    """An image that another command has locked."""
     with open("moved.adf", "rb") as held:
         fcntl.flock(held, fcntl.LOCK_EX)
         tried.rows(
@@ -536,7 +531,8 @@ def missing_files(tried: Commands) -> None:
 
 
 def first_faults(tried: Commands) -> None:
-    """The first fault in the order of the words counts: the words, the image and its check, the scripts one by one."""
+    """The first fault counts, in the order of the arguments: the arguments, the image and its check, the scripts one by
+    one."""
     serve = "serve --out none.out"
     image, script = "refused NotWholeBlocks 0\n", "'none.b' cannot be read"
     tried.rows(
@@ -550,9 +546,10 @@ def first_faults(tried: Commands) -> None:
 
 DISK = "-1 0 82 1758 2 512 444f5301\nboot "
 LOST = "-1 0 82 1758 3 512 444f5301\nboot no\n"
-# The sum of 444F5301, 4E754E75 and 80000000 is 12C4A177, the carry brought round; two map bits past the volume's end are set.
+# The sum of 444F5301, 4E754E75 and 80000000 is 12C4A177, with the carry added back; two bitmap bits past the volume's
+# end are set.
 BOOT_CODE = "0.1=0xED3B5E88 0.3=0x4E754E75 1.127=0x80000000 881.0=0x0000C037 881.55=0xFFFFFFFF"
-# Images that are accepted: what `check` and `info` print of each, its longs, and its sums.
+# Accepted images: the output of `check` and `info` for each, its longs, and its checksums.
 ACCEPTED = [
     ("info-of-blank", "ok\n", DISK + "no\n", "", ""),
     ("a lost block", "ok\n", LOST, "881.1=0xFFFFFFF7", "881.0"),
@@ -565,8 +562,8 @@ ACCEPTED = [
 # A directory `A` with a file `f` of 600 bytes in it.
 LEVELS = """880.12=2 881.1=0xFFFFFFF0 2.0=2 2.1=2 2.17=3 2.108=0x01410000 2.125=880 2.127=2
     3.0=2 3.1=3 3.2=2 3.4=4 3.76=5 3.77=4 3.81=600 3.108=0x01660000 3.125=2 3.127=0xFFFFFFFD"""
-# Directories `A` and `DP`, in one chain, `B`, and one whose name is the byte E4, with dates at the edges of the civil ones and
-# with all bits of protection.
+# Directories `A` and `DP` in one hash chain, `B`, and one with the name byte E4, with dates at the limits of the
+# calendar and all protection bits.
 DATES = """880.12=10 880.13=12 880.31=13 881.1=0xFFFFF0FF
     10.0=2 10.1=10 10.80=15 10.105=8035 10.106=61 10.107=125 10.108=0x01410000 10.124=11 10.125=880 10.127=2
     11.0=2 11.1=11 11.80=112 11.105=2929974 11.106=1439 11.107=2999 11.108=0x02445000 11.125=880 11.127=2
@@ -585,7 +582,7 @@ LISTED_DATES = """Volume Work
 
 
 def accepted_images(tried: Commands) -> None:
-    """What `check`, `info` and `list` print of each. No command changes its image."""
+    """The output of `check`, `info` and `list` for each. No command changes its image."""
     blank = tried.content("ffs.adf")
     for name, checked, told, longs, sums in ACCEPTED:
         image = drawn(blank, longs, sums)
@@ -605,7 +602,7 @@ def accepted_images(tried: Commands) -> None:
 
 
 def refused_images(tried: Commands) -> None:
-    """Images that are refused, by each command that takes one."""
+    """Refused images, with each command that reads one."""
     blank = tried.content("ffs.adf")
     for name, image, told in (
         ("empty.adf", b"", "TooFewBlocks 0"),
@@ -630,7 +627,8 @@ def refused_images(tried: Commands) -> None:
 
 
 def stale_image(tried: Commands) -> None:
-    """An image whose root says that its bitmap is not valid: L78 of the root becomes 0, and its sum grows by that."""
+    """An image whose root says that its bitmap is not valid: long 78 of the root becomes 0, and its checksum grows by
+    1."""
     image = poked(poked(tried.content("ffs.adf"), 880, 78, bytes(4)), 880, 5, b"\x90\xa8\x8c\xd2")
     tried.write("stale.adf", image)
     tried.rows(row("check of an image that is not validated", "check stale.adf", 0, "ok validated\n"))
@@ -640,11 +638,11 @@ def stale_image(tried: Commands) -> None:
     tried.stays("what serve wrote is validated", "valid.adf", tried.content("ffs.adf"))
 
 
-# ---- Standard output that takes nothing ----
+# ---- Standard output that cannot be written ----
 
 
 def prints_to(descriptor: int) -> Callable[[], None]:
-    """For `before` of a run: it has this descriptor as its standard output."""
+    """For `before` of a run: this descriptor becomes its standard output."""
 
     def put() -> None:
         os.dup2(descriptor, 1)
@@ -675,7 +673,7 @@ def refused_output(tried: Commands) -> None:
 
 
 PARTS: List[Callable[[Commands], None]] = [
-    *(moments, wrong_words, wrong_numbers, wrong_words_for_files, words_too_many_and_wrong_letters, refused_names),
+    *(blank_images, moments, wrong_words, wrong_numbers, wrong_words_for_files, words_too_many_and_wrong_letters, refused_names),
     *(clients, faulty_scripts, turns, growths, many_clients),
     *(directories, refused_changes, changes_beside, boot_blocks),
     *(held_images, missing_files, first_faults),
@@ -683,17 +681,5 @@ PARTS: List[Callable[[Commands], None]] = [
 ]
 
 
-def main(words: List[str]) -> int:
-    report = Report()
-    with Commands(program_of(words), report) as tried:
-        report.part("blank images", partial(blank_images, tried))
-        if os.path.exists("ffs.adf"):
-            for it in PARTS:
-                report.part(it.__name__.replace("_", " "), partial(it, tried))
-        else:
-            report.hold("a blank image to go on with", "there is none, and no more is tried")
-    return report.end()
-
-
 if __name__ == "__main__":
-    sys.exit(main(sys.argv[1:]))
+    sys.exit(try_all(sys.argv[1:], Commands, *PARTS))

@@ -1,10 +1,7 @@
 #!/usr/bin/env python3
-"""Files in and out of images by the built program, on real files of the host.
+"""Tests how the built program copies real files of the host into images and out of them.
 
     tests/files.py [PROGRAM]
-
-It prints a line for each check, and at last `N passed, M failed`; the status is 1 where one failed. Without a word it tries
-the program of this repository.
 """
 from __future__ import annotations
 
@@ -18,7 +15,6 @@ import shutil
 import stat
 import subprocess
 import sys
-from functools import partial
 from typing import Callable, Dict, List, NamedTuple, Optional, Sequence, Set, Tuple
 
 sys.dont_write_bytecode = True
@@ -33,12 +29,12 @@ HELD = {"ofs": 488, "ffs": 512}
 # Memory that is enough for any image.
 HALF_A_GIBIBYTE = 1 << 29
 EXISTS = "object already exists"
-# The names that lead to a file or a directory.
+# The names on the way to a file or a directory.
 Place = Tuple[bytes, ...]
 
 
 class Note(NamedTuple):
-    """What a file beside another one tells of it: bits of protection, a date in ticks, and a comment."""
+    """The contents of a note: protection bits, a date in ticks, and a comment."""
 
     bits: int
     ticks: int
@@ -49,7 +45,7 @@ class Note(NamedTuple):
 
 
 class Entry(NamedTuple):
-    """A file, or a directory where `data` is None, with what is to be told of it."""
+    """A file, or a directory if `data` is None, with its metadata."""
 
     data: Optional[bytes]
     ticks: int
@@ -63,23 +59,16 @@ Tree = Dict[Place, Entry]
 
 
 def refuses(
-    room: Room,
-    report: Report,
-    name: str,
-    words: Sequence[str],
-    line: Optional[bytes],
-    *parts: str,
-    status: int = 3,
-    image: str = "image.adf",
+    room: Room, name: str, words: Sequence[str], line: Optional[bytes], *parts: str, status: int = 3, image: str = "image.adf"
 ) -> None:
-    """A command that is refused prints its line and changes no byte of the image, nor a file beside it."""
+    """A refused command prints its line and changes no byte of the image. It leaves no file beside it."""
     before, beside = room.content(image), sorted(os.listdir("."))
     fault = fault_of(room.run(*words), status, line, *parts)
     if not fault and room.content(image) != before:
         fault = "the image's file has changed"
     if not fault and sorted(os.listdir(".")) != beside:
         fault = f"the directory has other files: {sorted(os.listdir('.'))}"
-    report.hold(name, fault)
+    room.report.hold(name, fault)
 
 
 def blank(room: Room, kind: str = "ffs", size: Sequence[str] = (), file: str = "image.adf") -> None:
@@ -90,7 +79,7 @@ def blank(room: Room, kind: str = "ffs", size: Sequence[str] = (), file: str = "
 
 
 def escaped(text: bytes, marks: bytes) -> str:
-    """The letters of a text, those that no host has and these marks by their digits."""
+    """The letters of a text; those that no host has and these marks as escapes."""
     return "".join(f"%{it:02X}" if it < 0x20 or 0x7F <= it <= 0x9F or it in marks else chr(it) for it in text)
 
 
@@ -109,7 +98,7 @@ def letters(bits: int) -> str:
 
 
 def civil(ticks: int) -> str:
-    """The text of a date so many ticks after midnight of the first day."""
+    """The text of a date, this many ticks after the start of the first day."""
     day = datetime.datetime(1978, 1, 1) + datetime.timedelta(seconds=ticks // 50)
     return f"{day:%Y-%m-%d %H:%M:%S}.{ticks % 50 * 2:02}"
 
@@ -122,8 +111,8 @@ def nanoseconds(ticks: int) -> int:
 
 
 class Drawn:
-    """A tree of 500 files in 40 directories five deep: names of all bytes that a name may have, empty files, and files whose
-    sizes lie at the edges of data and extension blocks."""
+    """A tree of 500 files in 40 directories five deep: names with all possible bytes, empty files, and files with sizes
+    at the limits of data and extension blocks."""
 
     def __init__(self, kind: str, seed: str) -> None:
         self.random = random.Random(seed)
@@ -140,7 +129,7 @@ class Drawn:
         assert max(map(len, self.tree)) >= 5 and sum(it.data is None for it in self.tree.values()) == 40
 
     def name(self, front: Place) -> bytes:
-        """A name that nothing has in this directory."""
+        """A name that is free in this directory."""
         taken = self.taken.setdefault(front, set())
         while True:
             drawn = self.names.pop() if self.names else bytes(self.random.choice(self.plain) for _ in range(self.random.randint(1, 30)))
@@ -157,7 +146,7 @@ class Drawn:
         return Note(self.random.randrange(256), self.date(), comment) if self.random.random() < 0.6 else None
 
     def draw_directories(self) -> List[Place]:
-        """The root and 40 directories, the first ones below each other."""
+        """The root and 40 directories, the first ones each inside the one before."""
         fronts: List[Place] = [()]
         while len(fronts) < 41:
             higher = [it for it in fronts if len(it) < 5]
@@ -179,7 +168,7 @@ def host_path(top: str, place: Place) -> str:
 
 
 def put_tree(room: Room, top: str, tree: Tree) -> None:
-    """Makes the host's files of a tree, each with its note where it has one."""
+    """Makes the host files of a tree, each with its note if it has one."""
     os.mkdir(top)
     for place, entry in tree.items():
         at = host_path(top, place)
@@ -196,7 +185,7 @@ def put_tree(room: Room, top: str, tree: Tree) -> None:
 
 
 def differs(room: Room, top: str, tree: Tree, noted: bool) -> Optional[str]:
-    """What of the host's files is not that of the tree: a path, its bytes, its time or its note; None where nothing is."""
+    """How the host files differ from the tree: a path, its bytes, its time or its note; None if they do not."""
     wanted: Dict[str, Tuple[Optional[bytes], Optional[int]]] = {}
     for place, entry in tree.items():
         at = host_path("", place)
@@ -226,119 +215,119 @@ def entries_of(top: str) -> List[str]:
     return [os.path.join(top, it) for it in sorted(os.listdir(top)) if not it.endswith(".uaem")]
 
 
-def whole_tree(room: Room, report: Report, kind: str, size: str) -> None:
+def whole_tree(room: Room, kind: str, size: str) -> None:
     label, tree = f"a tree, {kind} {size}", Drawn(kind, f"{kind} {size}").tree
     flags = ["--hd"] if size == "hd" else []
     put_tree(room, "in", tree)
     blank(room, kind, flags)
-    report.check(f"{label}: goes in", room.run("add", "image.adf", *entries_of("in")))
-    report.check(f"{label}: is accepted", room.run("check", "image.adf"), 0, b"ok\n")
-    report.check(f"{label}: comes out", room.run("extract", "--to", "out", "image.adf"))
-    report.hold(f"{label}: bytes and times", differs(room, "out", tree, False))
-    report.check(f"{label}: comes out with notes", room.run("extract", "--meta", "--to", "noted", "image.adf"))
-    report.hold(f"{label}: bytes, times and notes", differs(room, "noted", tree, True))
+    room.succeeds(f"{label}: goes in", "add", "image.adf", *entries_of("in"))
+    room.succeeds(f"{label}: is accepted", "check", "image.adf", output=b"ok\n")
+    room.succeeds(f"{label}: comes out", "extract", "--to", "out", "image.adf")
+    room.report.hold(f"{label}: bytes and times", differs(room, "out", tree, False))
+    room.succeeds(f"{label}: comes out with notes", "extract", "--meta", "--to", "noted", "image.adf")
+    room.report.hold(f"{label}: bytes, times and notes", differs(room, "noted", tree, True))
     blank(room, kind, flags, "again.adf")
-    report.check(f"{label}: goes in again", room.run("add", "again.adf", *entries_of("noted")))
-    report.check(f"{label}: comes out again", room.run("extract", "--meta", "--to", "third", "again.adf"))
-    report.hold(f"{label}: all the same", differs(room, "third", tree, True))
+    room.succeeds(f"{label}: goes in again", "add", "again.adf", *entries_of("noted"))
+    room.succeeds(f"{label}: comes out again", "extract", "--meta", "--to", "third", "again.adf")
+    room.report.hold(f"{label}: all the same", differs(room, "third", tree, True))
 
 
-def whole_trees(outer: Room, report: Report) -> None:
+def whole_trees(outer: Room) -> None:
     for kind in ("ofs", "ffs"):
         for size in ("dd", "hd"):
-            with Room(outer.program) as room:
-                whole_tree(room, report, kind, size)
+            with Room(outer.program, outer.report) as room:
+                whole_tree(room, kind, size)
 
 
 # ---- paths and fields
 
 
-def long_path(room: Room, report: Report) -> None:
-    """A path past the 255 bytes of a packet's text."""
+def long_path(room: Room) -> None:
+    """A path longer than the 255 bytes of a packet's text."""
     front = ""
     for depth in range(11):
         front += ("/" if front else "") + chr(ord("a") + depth) * 30
         ran = room.run("mkdir", "image.adf", front)
-    report.check("a path of 340 bytes: made", ran)
+    room.report.check("a path of 340 bytes: made", ran)
     room.write("file", b"deep")
-    report.check("a path of 340 bytes: added to", room.run("add", "--to", front, "image.adf", "file"))
-    report.check("a path of 340 bytes: printed", room.run("print", "image.adf", f"{front}/FILE"), 0, b"deep")
-    report.check("a path of 340 bytes: taken out", room.run("extract", "--to", "deep", "image.adf", f"{front}/file"))
-    report.expect("a path of 340 bytes: under its own name", room.content("deep/file") == b"deep", "other bytes")
-    report.check("a path of 340 bytes: deleted", room.run("delete", "image.adf", f"{front}/file"))
+    room.succeeds("a path of 340 bytes: added to", "add", "--to", front, "image.adf", "file")
+    room.succeeds("a path of 340 bytes: printed", "print", "image.adf", f"{front}/FILE", output=b"deep")
+    room.succeeds("a path of 340 bytes: taken out", "extract", "--to", "deep", "image.adf", f"{front}/file")
+    room.report.expect("a path of 340 bytes: under its own name", room.content("deep/file") == b"deep", "other bytes")
+    room.succeeds("a path of 340 bytes: deleted", "delete", "image.adf", f"{front}/file")
 
 
-def paths(room: Room, report: Report) -> None:
+def paths(room: Room) -> None:
     """Long paths, and names with marks of their own."""
     blank(room)
-    long_path(room, report)
+    long_path(room)
     for name in ('say "hi"', "100%", ".", "..", "%41", "caf\u00e9", "a.b.c"):
         ran = room.run("mkdir", "image.adf", name)
         listed = room.run("list", "--letters", "image.adf", name)
-        report.hold(f"a name {name!r}: made and listed", fault_of(ran) or fault_of(listed, 0, None))
-    refuses(room, report, "a letter past U+00FF in a word", ["mkdir", "image.adf", "\u0142"], b"", "\u0142", status=1)
+        room.report.hold(f"a name {name!r}: made and listed", fault_of(ran) or fault_of(listed, 0, None))
+    refuses(room, "a letter past U+00FF in a word", ["mkdir", "image.adf", "\u0142"], b"", "\u0142", status=1)
     room.write("\u0142ysy", b"x")
     refused = "refused 210 \u0142ysy\n".encode()
-    refuses(room, report, "a letter past U+00FF in a host file", ["add", "image.adf", "\u0142ysy"], refused, "")
+    refuses(room, "a letter past U+00FF in a host file", ["add", "image.adf", "\u0142ysy"], refused, "")
     ran = room.run("print", "image.adf", "nowhere//x")
-    report.check("up from a directory", ran, 3, b"refused 204 nowhere//x\n", "directory not found")
-    report.check("behind the colon", room.run("list", "image.adf", "Any:" + "a" * 30), 0, None)
-    report.check("above the root", room.run("print", "image.adf", "/x"), 3, b"refused 205 /x\n", "object not found")
+    room.report.check("up from a directory", ran, 3, b"refused 204 nowhere//x\n", "directory not found")
+    room.succeeds("behind the colon", "list", "image.adf", "Any:" + "a" * 30, output=None)
+    room.report.check("above the root", room.run("print", "image.adf", "/x"), 3, b"refused 205 /x\n", "object not found")
 
 
-def listed_fields(room: Room, report: Report) -> None:
-    """Protection, comments, names and dates, seen by what `list` prints."""
+def listed_fields(room: Room) -> None:
+    """Protection, comments, names and dates, as `list` prints them."""
     moment = ["--days", "1", "--minutes", "61", "--ticks", "101"]
-    report.check("mkdir of two", room.run("mkdir", *moment, "image.adf", "S", "S/Inner"))
+    room.succeeds("mkdir of two", "mkdir", *moment, "image.adf", "S", "S/Inner")
     room.write("startup", b"echo\n")
     os.utime("startup", ns=(0, nanoseconds(DAY * 2 + 7)))
-    report.check("add to a directory", room.run("add", "--to", "s", *moment, "image.adf", "startup"))
-    report.check("protect", room.run("protect", "image.adf", "S/startup", "-s--rwed"))
-    report.check("protect by some letters", room.run("protect", "image.adf", "S/Inner", "rwed"))
-    report.check("comment", room.run("comment", "image.adf", "S/startup", "caf\u00e9"))
-    report.check("rename", room.run("rename", "image.adf", "S/Inner", "Outer"))
-    report.check("relabel", room.run("relabel", "image.adf", "Caf\u00e9"))
-    report.check("list --letters", room.run("list", "--letters", "image.adf"), 0, None)
+    room.succeeds("add to a directory", "add", "--to", "s", *moment, "image.adf", "startup")
+    room.succeeds("protect", "protect", "image.adf", "S/startup", "-s--rwed")
+    room.succeeds("protect by some letters", "protect", "image.adf", "S/Inner", "rwed")
+    room.succeeds("comment", "comment", "image.adf", "S/startup", "caf\u00e9")
+    room.succeeds("rename", "rename", "image.adf", "S/Inner", "Outer")
+    room.succeeds("relabel", "relabel", "image.adf", "Caf\u00e9")
+    room.succeeds("list --letters", "list", "--letters", "image.adf", output=None)
     listed = room.run("list", "image.adf").output
     volume, file = b"Volume Caf\xe9\n", b"       5 s--rwed 1978-01-03 00:00:00.14 S/startup\n"
-    report.expect("list: the volume's bytes", listed.startswith(volume), listed[:40])
-    report.expect("list: bits and date", file in listed, listed)
-    report.expect("list: moved", b" Outer\n" in listed, listed)
-    report.check("list of a directory", room.run("list", "image.adf", "S"), 0, volume + file)
-    report.check("extract with notes", room.run("extract", "--meta", "--to", "out", "image.adf", "S/startup"))
+    room.report.expect("list: the volume's bytes", listed.startswith(volume), listed[:40])
+    room.report.expect("list: bits and date", file in listed, listed)
+    room.report.expect("list: moved", b" Outer\n" in listed, listed)
+    room.succeeds("list of a directory", "list", "image.adf", "S", output=volume + file)
+    room.succeeds("extract with notes", "extract", "--meta", "--to", "out", "image.adf", "S/startup")
     note = room.content("out/startup.uaem")
     wanted = "-s--rwed 1978-01-03 00:00:00.14 caf\u00e9\n".encode()
-    report.same("a note's bits, date and comment", note, wanted)
+    room.report.same("a note's bits, date and comment", note, wanted)
 
 
-def boot_blocks(room: Room, report: Report) -> None:
-    report.check("boot", room.run("boot", "image.adf"))
-    report.check("no boot block", room.run("info", "image.adf"), 0, b"-1 0 82 1758 6 488 444f5300\nboot no\n")
+def boot_blocks(room: Room) -> None:
+    room.succeeds("boot", "boot", "image.adf")
+    room.succeeds("no boot block", "info", "image.adf", output=b"-1 0 82 1758 6 488 444f5300\nboot no\n")
     room.write("code", b"DOS\x01....\x00\x00\x03\x70" + b"\x4e\x75" * 100)
     before, code = room.content("image.adf"), room.content("code")
-    report.check("boot with code", room.run("boot", "image.adf", "code"))
+    room.succeeds("boot with code", "boot", "image.adf", "code")
     after = room.content("image.adf")
     has_code = after[:4] == b"DOS\0" and after[8:212] == code[8:] and not any(after[212:1024])
-    report.expect("boot: what stays", after[1024:] == before[1024:] and has_code, "other bytes")
-    report.check("boot: it boots", room.run("info", "image.adf"), 0, b"-1 0 82 1758 6 488 444f5300\nboot yes\n")
+    room.report.expect("boot: what stays", after[1024:] == before[1024:] and has_code, "other bytes")
+    room.succeeds("boot: it boots", "info", "image.adf", output=b"-1 0 82 1758 6 488 444f5300\nboot yes\n")
     room.write("long", bytes(1025))
     ran = room.run("boot", "image.adf", "long")
     is_refused = ran.status in (2, 3) and ran.texts != b"" and room.content("image.adf") == after
-    report.expect("boot: a file of 1,025 bytes", is_refused, ran)
-    report.check("boot again without code", room.run("boot", "image.adf"))
-    report.expect("boot: zeros", room.content("image.adf")[:1024] == b"DOS\0" + bytes(1020), "other bytes")
+    room.report.expect("boot: a file of 1,025 bytes", is_refused, ran)
+    room.succeeds("boot again without code", "boot", "image.adf")
+    room.report.expect("boot: zeros", room.content("image.adf")[:1024] == b"DOS\0" + bytes(1020), "other bytes")
 
 
-def fields(room: Room, report: Report) -> None:
+def fields(room: Room) -> None:
     blank(room, "ofs")
-    listed_fields(room, report)
-    boot_blocks(room, report)
+    listed_fields(room)
+    boot_blocks(room)
 
 
-# ---- what is refused
+# ---- refusals
 
-# A volume has the directory `d`, in it `other`, and `file`, which may not be deleted. The commands, the word behind `refused`
-# and its number, and a part of what is told.
+# A volume has the directory `d` with `other`, and `file`, which is protected against deletion. The commands, the number
+# and path after `refused`, and a part of the message.
 REFUSED: List[Tuple[str, List[str], str, str]] = [
     ("203: a directory that is there", ["mkdir", "image.adf", "new", "D"], "203 D", EXISTS),
     ("203: a file that is there", ["add", "image.adf", "other", "file"], "203 file", EXISTS),
@@ -359,106 +348,106 @@ REFUSED: List[Tuple[str, List[str], str, str]] = [
 ]
 
 
-def refusals(room: Room, report: Report) -> None:
-    """Each refusal prints its number and its path, and changes nothing; of several words all are done, or none."""
+def refusals(room: Room) -> None:
+    """Each refusal prints its number and its path, and changes nothing; of several arguments all are done, or none."""
     blank(room)
     room.write("file", b"12345")
     room.write("other", b"abc")
     for words in (["mkdir", "image.adf", "d", "d/e"], ["add", "image.adf", "file"], ["protect", "image.adf", "file", "rwe"]):
-        report.check(f"made: {' '.join(words)}", room.run(*words))
-    report.check("made: add --to d image.adf other", room.run("add", "--to", "d", "image.adf", "other"))
+        room.succeeds(f"made: {' '.join(words)}", *words)
+    room.succeeds("made: add --to d image.adf other", "add", "--to", "d", "image.adf", "other")
     for name, words, refused, told in REFUSED:
-        refuses(room, report, name, words, f"refused {refused}\n".encode(), told)
-    refuses(room, report, "letters that are none", ["protect", "image.adf", "file", "rwx"], b"", "rwx", status=1)
-    report.check("deleted by force", room.run("delete", "--force", "image.adf", "file"))
-    report.check("deleted with all", room.run("delete", "--all", "image.adf", "d"))
-    report.check("nothing is left", room.run("list", "image.adf"), 0, b"Volume Work\n")
-    report.check("all blocks are free again", room.run("info", "image.adf"), 0, b"-1 0 82 1758 2 512 444f5301\nboot no\n")
+        refuses(room, name, words, f"refused {refused}\n".encode(), told)
+    refuses(room, "letters that are none", ["protect", "image.adf", "file", "rwx"], b"", "rwx", status=1)
+    room.succeeds("deleted by force", "delete", "--force", "image.adf", "file")
+    room.succeeds("deleted with all", "delete", "--all", "image.adf", "d")
+    room.succeeds("nothing is left", "list", "image.adf", output=b"Volume Work\n")
+    room.succeeds("all blocks are free again", "info", "image.adf", output=b"-1 0 82 1758 2 512 444f5301\nboot no\n")
     os.mkdir("two")
     room.write("two/A", b"1")
     room.write("two/a", b"2")
-    refuses(room, report, "203: two names that are one", ["add", "image.adf", "two"], b"refused 203 two/a\n", EXISTS)
+    refuses(room, "203: two names that are one", ["add", "image.adf", "two"], b"refused 203 two/a\n", EXISTS)
     os.mkdir("names")
     name = "names/" + "n" * 31
     room.write(name, b"1")
-    refuses(room, report, "210: a host name of 31 letters", ["add", "image.adf", "names"], f"refused 210 {name}\n".encode(), "")
+    refuses(room, "210: a host name of 31 letters", ["add", "image.adf", "names"], f"refused 210 {name}\n".encode(), "")
 
 
-# ---- what is replaced, and what stands in the way
+# ---- replaced files, and obstacles
 
 
-def replaced(room: Room, report: Report) -> None:
-    """`--force` replaces files and enters directories; `--out` leaves the image; the mode of the file stays."""
+def replaced(room: Room) -> None:
+    """`--force` replaces files and uses existing directories; `--out` leaves the image; the mode of the file stays."""
     os.mkdir("d")
     room.write("d/f", b"x" * 3000)
-    report.check("add a directory", room.run("add", "image.adf", "d"))
+    room.succeeds("add a directory", "add", "image.adf", "d")
     room.write("d/f", b"short")
     room.write("d/g", b"new")
-    refuses(room, report, "203 without force", ["add", "image.adf", "d"], None, EXISTS)
+    refuses(room, "203 without force", ["add", "image.adf", "d"], None, EXISTS)
     os.chmod("image.adf", 0o640)
-    report.check("add by force", room.run("add", "--force", "image.adf", "d"))
-    report.expect("the mode stays", stat.S_IMODE(os.stat("image.adf").st_mode) == 0o640, "another mode")
-    report.check("what was replaced", room.run("print", "image.adf", "d/f"), 0, b"short")
-    report.check("what is new", room.run("print", "image.adf", "d/g"), 0, b"new")
-    report.check("accepted", room.run("check", "image.adf"), 0, b"ok\n")
+    room.succeeds("add by force", "add", "--force", "image.adf", "d")
+    room.report.expect("the mode stays", stat.S_IMODE(os.stat("image.adf").st_mode) == 0o640, "another mode")
+    room.succeeds("what was replaced", "print", "image.adf", "d/f", output=b"short")
+    room.succeeds("what is new", "print", "image.adf", "d/g", output=b"new")
+    room.succeeds("accepted", "check", "image.adf", output=b"ok\n")
     before = room.content("image.adf")
-    report.check("--out", room.run("delete", "--all", "--out", "after.adf", "image.adf", "d"))
-    report.expect("--out: the image stays", room.content("image.adf") == before, "it has changed")
-    report.check("--out: the other file", room.run("list", "after.adf"), 0, b"Volume Work\n")
+    room.succeeds("--out", "delete", "--all", "--out", "after.adf", "image.adf", "d")
+    room.report.expect("--out: the image stays", room.content("image.adf") == before, "it has changed")
+    room.succeeds("--out: the other file", "list", "after.adf", output=b"Volume Work\n")
 
 
-def targets(room: Room, report: Report) -> None:
-    """Links, what cannot be written, and an image that is held."""
+def targets(room: Room) -> None:
+    """Links, files that cannot be written, and a locked image."""
     os.symlink("image.adf", "link.adf")
-    report.check("through a link", room.run("mkdir", "link.adf", "e"))
-    report.expect("the link stays", os.path.islink("link.adf"), "it is a file")
-    report.check("the linked image has changed", room.run("list", "image.adf", "e"), 0, b"Volume Work\n")
+    room.succeeds("through a link", "mkdir", "link.adf", "e")
+    room.report.expect("the link stays", os.path.islink("link.adf"), "it is a file")
+    room.succeeds("the linked image has changed", "list", "image.adf", "e", output=b"Volume Work\n")
     for name, target, told in (
         ("a full device", "/dev/full", "/dev/full"),
         ("a directory as target", "d", "'d'"),
         ("a target nowhere", "no/where.adf", "no/where.adf"),
     ):
-        refuses(room, report, name, ["mkdir", "--out", target, "image.adf", "n"], b"", told, status=2)
+        refuses(room, name, ["mkdir", "--out", target, "image.adf", "n"], b"", told, status=2)
     with open("image.adf", "rb") as held:
         fcntl.flock(held, fcntl.LOCK_EX)
-        refuses(room, report, "held by another", ["mkdir", "image.adf", "n"], b"", "image.adf", status=2)
-    report.check("held no longer", room.run("mkdir", "image.adf", "n"))
+        refuses(room, "held by another", ["mkdir", "image.adf", "n"], b"", "image.adf", status=2)
+    room.succeeds("held no longer", "mkdir", "image.adf", "n")
 
 
-def at_once(room: Room, report: Report) -> None:
-    """Commands that change one image at the same time: each is done, or says that it is not."""
+def at_once(room: Room) -> None:
+    """Commands that change one image at the same time: each succeeds, or says that it does not."""
     turns = range(8)
     began = [subprocess.Popen([str(room.program), "mkdir", "image.adf", f"at once {it}"], stderr=subprocess.DEVNULL) for it in turns]
     ended = [it.wait() for it in began]
     listed = room.run("list", "image.adf").output
     made = [it for it in turns if f"at once {it}\n".encode() in listed]
     is_told = made == [it for it in turns if ended[it] == 0] and set(ended) <= {0, 2}
-    report.expect("eight at once", is_told, f"{ended}, made {made}")
-    report.check("accepted after eight", room.run("check", "image.adf"), 0, b"ok\n")
+    room.report.expect("eight at once", is_told, f"{ended}, made {made}")
+    room.succeeds("accepted after eight", "check", "image.adf", output=b"ok\n")
 
 
-def replacing(room: Room, report: Report) -> None:
+def replacing(room: Room) -> None:
     blank(room)
-    replaced(room, report)
-    targets(room, report)
-    at_once(room, report)
+    replaced(room)
+    targets(room)
+    at_once(room)
     more = set(os.listdir(".")) - {"d", "image.adf", "after.adf", "link.adf"}
-    report.expect("no file is left beside", not more, more)
+    room.report.expect("no file is left beside", not more, more)
 
 
 def below(top: str) -> Dict[str, List[str]]:
-    """What stands in a directory and those below it."""
+    """The contents of a directory and of those below it."""
     return {folder: sorted([*directories, *files]) for folder, directories, files in os.walk(top)}
 
 
-def stays(room: Room, report: Report, what: str, make: Callable[[], None]) -> None:
-    """What is made stands in the way of what is taken out: it stays, and nothing is written."""
+def stays(room: Room, what: str, make: Callable[[], None]) -> None:
+    """An obstacle for `extract` stays, and nothing is written."""
     os.mkdir("out")
     make()
     before = below("out")
     ran = room.run("extract", *([] if what == "a file" else ["--force"]), "--to", "out", "image.adf")
     is_kept = before == below("out") and not os.path.exists("elsewhere/g")
-    report.hold(f"{what} in the way", fault_of(ran, 2, b"", "out/") or (None if is_kept else "something was written"))
+    room.report.hold(f"{what} in the way", fault_of(ran, 2, b"", "out/") or (None if is_kept else "something was written"))
     shutil.rmtree("out")
     shutil.rmtree("elsewhere", ignore_errors=True)
 
@@ -468,89 +457,88 @@ def link_to_directory() -> None:
     os.symlink("../elsewhere", "out/d")
 
 
-def taken_out(room: Room, report: Report) -> None:
+def taken_out(room: Room) -> None:
     os.mkdir("out")
     room.write("out/f", b"old")
-    report.check("a file that is replaced", room.run("extract", "--force", "--to", "out", "image.adf"))
-    report.expect("its bytes", room.content("out/f") == b"1" and room.content("out/d/g") == b"2", "others")
+    room.succeeds("a file that is replaced", "extract", "--force", "--to", "out", "image.adf")
+    room.report.expect("its bytes", room.content("out/f") == b"1" and room.content("out/d/g") == b"2", "others")
     shutil.rmtree("out")
-    report.check("only one entry", room.run("extract", "--to", "out", "image.adf", "d"))
-    report.same("under its own name", os.listdir("out"), ["d"])
+    room.succeeds("only one entry", "extract", "--to", "out", "image.adf", "d")
+    room.report.same("under its own name", os.listdir("out"), ["d"])
     words = ["extract", "--to", "none", "image.adf", "f", "nothing"]
-    refuses(room, report, "an entry that is not there", words, b"refused 205 nothing\n", "object not found")
-    report.expect("then nothing is written", not os.path.exists("none"), "there is 'none'")
+    refuses(room, "an entry that is not there", words, b"refused 205 nothing\n", "object not found")
+    room.report.expect("then nothing is written", not os.path.exists("none"), "there is 'none'")
 
 
-def links_and_pipes(room: Room, report: Report) -> None:
-    """What goes in of a directory with more than files and directories."""
+def links_and_pipes(room: Room) -> None:
+    """What `add` puts in of a directory with more than files and directories."""
     os.symlink("f", "src/to-file")
     os.symlink("d", "src/to-directory")
     os.mkfifo("src/pipe")
     blank(room, file="links.adf")
-    report.check("links and pipes", room.run("add", "links.adf", "src"), 0, b"", "to-directory", "pipe")
-    report.check("a link to a file is its file", room.run("print", "links.adf", "src/to-file"), 0, b"1")
+    room.report.check("links and pipes", room.run("add", "links.adf", "src"), 0, b"", "to-directory", "pipe")
+    room.succeeds("a link to a file is its file", "print", "links.adf", "src/to-file", output=b"1")
     listed = room.run("list", "links.adf").output
-    report.expect("what is passed over", b"to-directory" not in listed and b"pipe" not in listed, listed)
+    room.report.expect("what is passed over", b"to-directory" not in listed and b"pipe" not in listed, listed)
 
 
-def in_the_way(room: Room, report: Report) -> None:
-    """What stands where something is to be written stays, and then nothing is written at all."""
+def in_the_way(room: Room) -> None:
+    """An existing file in the way stays, and nothing at all is written."""
     blank(room)
     os.makedirs("src/d")
     room.write("src/f", b"1")
     room.write("src/d/g", b"2")
-    report.check("added", room.run("add", "image.adf", "src/f", "src/d"))
-    stays(room, report, "a file", lambda: room.write("out/f", b"old"))
-    stays(room, report, "a directory", lambda: os.mkdir("out/f"))
-    stays(room, report, "a link", lambda: os.symlink("elsewhere", "out/f"))
-    stays(room, report, "a link to a directory", link_to_directory)
-    stays(room, report, "a file for a directory", lambda: room.write("out/d", b"old"))
-    taken_out(room, report)
-    links_and_pipes(room, report)
+    room.succeeds("added", "add", "image.adf", "src/f", "src/d")
+    stays(room, "a file", lambda: room.write("out/f", b"old"))
+    stays(room, "a directory", lambda: os.mkdir("out/f"))
+    stays(room, "a link", lambda: os.symlink("elsewhere", "out/f"))
+    stays(room, "a link to a directory", link_to_directory)
+    stays(room, "a file for a directory", lambda: room.write("out/d", b"old"))
+    taken_out(room)
+    links_and_pipes(room)
 
 
 # ---- full disks, streams and the pages
 
 
-def full_disks(room: Room, report: Report) -> None:
-    """A file of four blocks and its header where 0 to 9 blocks are free, in both kinds."""
+def full_disks(room: Room) -> None:
+    """A file of four blocks and its header, with 0 to 9 blocks free, in both formats."""
     for kind in ("ofs", "ffs"):
         room.write("four", bytes(4 * HELD[kind]))
         for free in range(10):
             name = f"{kind}, {free} free"
             blank(room, kind, ["--blocks", "30"])
-            # A root, a bitmap page and two boot blocks, and a header for the filler.
+            # A root, a bitmap block and two boot blocks, and a header for the filler.
             room.write("filler", bytes((30 - 4 - 1 - free) * HELD[kind]))
             filled = fault_of(room.run("add", "image.adf", "filler"))
             if filled:
-                report.hold(f"{name}: filled", filled)
+                room.report.hold(f"{name}: filled", filled)
             elif free < 5:
-                refuses(room, report, name, ["add", "image.adf", "four"], b"refused 221 four\n", "disk is full", "5", str(free))
+                refuses(room, name, ["add", "image.adf", "four"], b"refused 221 four\n", "disk is full", "5", str(free))
             else:
-                report.check(name, room.run("add", "image.adf", "four"))
-                report.check(f"{name}: accepted", room.run("check", "image.adf"), 0, b"ok\n")
+                room.succeeds(name, "add", "image.adf", "four")
+                room.succeeds(f"{name}: accepted", "check", "image.adf", output=b"ok\n")
 
 
-def bad_input(room: Room, report: Report) -> None:
-    """No command reads more of a file than the largest image has bytes, and one."""
+def bad_input(room: Room) -> None:
+    """No command keeps more of a file than the size of the largest image, and each stops reading an endless device."""
     room.write("short", b"x")
-    refuses(room, report, "too short", ["mkdir", "short", "n"], b"refused NotWholeBlocks 0\n", image="short")
+    refuses(room, "too short", ["mkdir", "short", "n"], b"refused NotWholeBlocks 0\n", image="short")
     for words in (["check"], ["list"], ["info"], ["extract"], ["print"], ["mkdir", "--out", "x"]):
         more = ["x"] if words[0] in ("print", "mkdir") else []
         ran = room.run(*words, "/dev/zero", *more, before=limited(resource.RLIMIT_AS, HALF_A_GIBIBYTE))
-        told = ["not whole blocks of 512 bytes"] if words[0] == "check" else []
-        report.check(f"a device that never ends: {words[0]}", ran, 3, b"refused NotWholeBlocks 0\n", *told)
+        room.report.check(f"a device that never ends: {words[0]}", ran, 2, b"", "'/dev/zero' gave no end within 2,097,152 reads")
 
 
-def manual(room: Room, report: Report) -> None:
-    """The page for `man` has every command and every option that the program's help has, and the page of commands has them too."""
+def manual(room: Room) -> None:
+    """The page for `man` has every command and option of the program's help, and so has the page of commands."""
 
     def help_of(*words: str) -> str:
         return room.run(*words, "--help").texts.decode()
 
     listed = help_of().partition("Commands:")[2].partition("Options:")[0]
     commands: List[str] = re.findall(r"(?m)^  ([a-z]+)(?: |$)", listed)
-    report.expect("help: there are commands", {"blank", "extract", "add", "serve"} <= {*commands}, commands)
+    room.report.expect("help: there are commands", {"blank", "extract", "add", "serve"} <= {*commands}, commands)
     page = (TOP / "docs/adf_serve.1").read_text(encoding="utf-8")
     told = (TOP / "docs/COMMANDS.md").read_text(encoding="utf-8")
     for command in commands:
@@ -560,15 +548,15 @@ def manual(room: Room, report: Report) -> None:
         options = sorted({*re.findall(r"(?m)^ +(?:-\w, )?--([a-z]+)", shown)} - {"help"})
         lacking = [it for it in options if f"Fl -{it}" not in page or f"--{it}" not in told]
         known = re.search(rf"(?m)^\.Cm {command}$", page) and re.search(rf"(?m)^\| `{command}[ `]", told)
-        report.hold(f"pages: {command}", f"without {lacking}" if lacking else None if known else "it is not there")
-        report.expect(f"help of {command}: an example", f"adf_serve {command} " in shown, "there is none")
+        room.report.hold(f"pages: {command}", f"without {lacking}" if lacking else None if known else "it is not there")
+        room.report.expect(f"help of {command}: an example", f"adf_serve {command} " in shown, "there is none")
 
 
 def main(words: List[str]) -> int:
     program, report = program_of(words), Report()
     for part in (whole_trees, paths, fields, refusals, replacing, in_the_way, full_disks, bad_input, manual):
-        with Room(program) as room:
-            report.part(part.__name__, partial(part, room, report))
+        with Room(program, report) as room:
+            room.part(part)
     return report.end()
 
 

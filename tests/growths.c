@@ -1,12 +1,12 @@
-/* A shim before the C library's malloc and realloc that refuses growths of memory.
+/* A shim for the C library's malloc and realloc that refuses growths of memory.
  *
- * REFUSED   the number, from 1, of the first growth that is refused; without it none is
- * RUN       how many one after another, 1 if left out
- * THREADS   `first` or `others`: only growths on the first thread, or on all others, count
- * COUNTED   a file that takes the number of growths that counted, as eight bytes
- * EACH      a file for three such numbers: of the growths, each of which is then refused in a child process that goes on
- *           from there to its end; of the children that ended with status 0; and of those that ended with out of memory as
- *           their error. What any other child wrote goes to standard error. It is for programs of one thread */
+ * REFUSED   the number, from 1, of the first refused growth; by default no growth is refused
+ * RUN       the number of consecutive refused growths, by default 1
+ * THREADS   `first` or `others`: counts only the growths of the first thread, or of all others
+ * COUNTED   an output file for the number of counted growths, as eight bytes
+ * EACH      an output file for three such numbers. At each growth a child process is forked in which it is refused. The
+ *           numbers count the growths, the children that ended with status 0, and those that reported out of memory. The
+ *           output of any other child goes to standard error. EACH is for programs of one thread */
 #define _GNU_SOURCE
 #include <dlfcn.h>
 #include <fcntl.h>
@@ -18,7 +18,7 @@
 #include <sys/wait.h>
 #include <unistd.h>
 
-/* How many seconds a child has, and how much of what it writes is looked at. */
+/* The time limit of a child in seconds, and the number of its output bytes that are examined. */
 enum { SECONDS = 60, TEXT = 4096 };
 
 struct counts {
@@ -37,7 +37,7 @@ static long number_in(const char *name, long without)
     return text ? atol(text) : without;
 }
 
-/* The counts are kept in a file, since a program may end by _exit. */
+/* Keeps the counts in a mapped file, since a program may end by _exit. */
 static void keep_in(const char *path, size_t bytes)
 {
     int file = open(path, O_RDWR | O_CREAT | O_TRUNC | O_CLOEXEC, 0600);
@@ -66,7 +66,7 @@ static void start(void)
     *(void **)&real_malloc = dlsym(RTLD_NEXT, "malloc");
 }
 
-/* Whether a text has a line that begins with `error: ` and names out of memory. */
+/* Returns whether a line of the text begins with `error: ` and reports out of memory. */
 static int is_out_of_memory(const char *text)
 {
     static const char *const names[] = {"AllocError", "AllocFailed", "NoMemory"};
@@ -77,7 +77,7 @@ static int is_out_of_memory(const char *text)
     return 0;
 }
 
-/* Counts how a child ended, and writes what it told where that is neither a success nor out of memory. */
+/* Counts how a child ended. Prints the output of a child that ended neither with success nor with out of memory. */
 static void count_ended(long number, int status)
 {
     char text[TEXT + 1];
@@ -92,7 +92,7 @@ static void count_ended(long number, int status)
                 WIFSIGNALED(status) ? WTERMSIG(status) : WEXITSTATUS(status), text);
 }
 
-/* Begins a child in which this growth is refused, and waits for its end. Whether this is the child. */
+/* Forks a child in which this growth is refused, and waits for its end. Returns whether this process is the child. */
 static int is_child(long number)
 {
     int status = -1;

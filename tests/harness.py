@@ -1,10 +1,12 @@
-"""What the tests in Python share: the program that is tried, a room of their own for it, and what is told of each check.
+"""Shared code of the tests in Python: the tested program, a temporary directory for it, and the report of each check.
 
-A test prints a line for each check, `ok    NAME` or `FAIL  NAME: FAULT`, names what it skips, and ends with
-`N passed, M failed`. A fault is a text that says what is wrong, or None.
+A test prints a line for each check, `ok    NAME` or `FAIL  NAME: FAULT`, reports what it skips, and ends with `N passed, M
+failed`. Its status is 1 if a check failed or none passed. Its first argument is the program to test; the default is that of
+this repository. A fault is a text that describes the error, or None.
 """
 from __future__ import annotations
 
+import fcntl
 import os
 import re
 import resource
@@ -13,6 +15,7 @@ import signal
 import subprocess
 import sys
 import tempfile
+from functools import partial
 from pathlib import Path
 from types import TracebackType
 from typing import Callable, Dict, List, Mapping, NamedTuple, Optional, Sequence, Tuple, Type, TypeVar, Union
@@ -21,41 +24,54 @@ TOP = Path(__file__).resolve().parent.parent
 BLOCK = 512
 # How long a run may take, in seconds.
 LONGEST = 300
-# The same moment for all commands that note one.
+# The same time stamp for all commands that record one.
 MOMENT = ["--days", "9000", "--minutes", "61", "--ticks", "7"]
 AnyRoom = TypeVar("AnyRoom", bound="Room")
+# A function to run in the process of a command before it, and variables to add to its environment.
+Before = Optional[Callable[[], None]]
+Variables = Optional[Mapping[str, str]]
 
 
 class Failed(Exception):
-    """A command that has to succeed does not."""
+    """A command that has to succeed fails."""
 
 
 class Ran(NamedTuple):
-    """How a run ended: its status, what it printed, and its texts on standard error."""
+    """How a run ended: its status, its output, and its messages on standard error."""
 
     status: int
     output: bytes
     texts: bytes
 
     def __str__(self) -> str:
-        return f"status {self.status}, printed {self.output[-300:]!r}, told {self.texts[-300:]!r}"
+        return f"status {self.status}, printed {self.output[-300:]!r}, on standard error {self.texts[-300:]!r}"
 
 
 def fault_of(ran: Ran, status: int = 0, output: Optional[bytes] = b"", *parts: str) -> Optional[str]:
-    """What is wrong with a run: another status than is wanted, another output where one is wanted, or texts without one of
-    these parts. Without parts there may be no texts."""
+    """What is wrong with a run: another status or output than expected, or messages without one of these parts. Without
+    parts there may be no messages."""
     if ran.status != status:
-        return f"status {ran.status} where {status} is expected; it told {ran.texts[:300]!r}"
+        return f"status {ran.status} where {status} is expected; on standard error {ran.texts[:300]!r}"
     if output is not None and ran.output != output:
         return f"printed {ran.output[:300]!r} where {output[:300]!r} is expected"
     if not parts and ran.texts:
-        return f"told {ran.texts[:300]!r}"
+        return f"{ran.texts[:300]!r} on standard error"
     lacking = [it for it in parts if it.encode() not in ran.texts]
-    return f"told {ran.texts[:300]!r} without {lacking[0]!r}" if lacking else None
+    return f"{ran.texts[:300]!r} on standard error, without {lacking[0]!r}" if lacking else None
+
+
+def fault_in(part: Callable[[], Optional[str]]) -> Optional[str]:
+    """What is wrong with a part that must run to its end: the fault that it returns, or the error that ended it."""
+    try:
+        return part()
+    except Failed as failed:
+        return str(failed)
+    except Exception as fault:
+        return f"it was cut short: {fault!r}"
 
 
 class Report:
-    """Tells of each check, and counts what passed and what failed."""
+    """Reports each check, and counts what passed and what failed."""
 
     def __init__(self) -> None:
         self.passed = self.failed = 0
@@ -69,61 +85,81 @@ class Report:
             print(f"FAIL  {name}: {fault}", flush=True)
 
     def expect(self, name: str, holds: bool, said: object = "it does not hold") -> None:
-        """Something is to hold. Where it does not, this is said."""
+        """Something has to hold. If it does not, this is the message."""
         self.hold(name, None if holds else str(said))
 
     def same(self, name: str, found: object, wanted: object) -> None:
         self.hold(name, None if found == wanted else f"{str(found)[:300]} where {str(wanted)[:300]} is expected")
 
     def check(self, name: str, ran: Ran, status: int = 0, output: Optional[bytes] = b"", *parts: str) -> None:
-        """A run is as it is wanted, as `fault_of` has it."""
+        """A run has the expected result, as in `fault_of`."""
         self.hold(name, fault_of(ran, status, output, *parts))
 
-    def part(self, name: str, part: Callable[[], None]) -> None:
-        """Runs some of the checks. Where they do not come to their end, that is a failure of this name."""
-        try:
-            part()
-        except Exception as fault:
-            self.hold(name, f"it was cut short: {fault!r}")
+    def succeeds(self, name: str, command: Sequence[str], before: Before = None, env: Variables = None) -> None:
+        """A command of the machine succeeds, without a time limit: its status is 0, and standard error is empty."""
+        ran = run(command, before=before, env=env, longest=None)
+        self.expect(name, ran.status == 0 and not ran.texts, ran)
+
+    def ends(self, name: str, part: Callable[[], Optional[str]]) -> None:
+        """A part that is one check: it runs to its end, and returns no fault."""
+        self.hold(name, fault_in(part))
 
     def skip(self, name: str, why: str) -> None:
         print(f"skip  {name}: {why}", flush=True)
 
+    def lacks(self, name: str, what: str) -> None:
+        """Skips a check because the machine has no such tool."""
+        self.skip(name, f"there is no {what}")
+
     def end(self) -> int:
-        """Prints the last line. The status of the whole is 1 where a check failed, or where none passed."""
+        """Prints the last line. The status of the whole is 1 if a check failed or none passed."""
         print(f"{self.passed} passed, {self.failed} failed", flush=True)
         return 0 if self.passed and not self.failed else 1
 
 
 def run(
-    command: Sequence[str],
-    input: bytes = b"",
-    before: Optional[Callable[[], None]] = None,
-    env: Optional[Mapping[str, str]] = None,
-    longest: Optional[float] = LONGEST,
+    command: Sequence[str], input: bytes = b"", before: Before = None, env: Variables = None, longest: Optional[float] = LONGEST
 ) -> Ran:
-    """Runs a command: `before` is done in its process first, and `env` is added to its environment."""
-    ran = subprocess.run(
-        command,
-        input=input or None,
-        stdin=None if input else subprocess.DEVNULL,
-        stdout=subprocess.PIPE,
-        stderr=subprocess.PIPE,
-        preexec_fn=before,
-        env={**os.environ, **(env or {})},
-        timeout=longest,
-    )
+    """Runs a command. `before` runs in its process first, and `env` is added to its environment. A missing command has
+    the status 127, as in a shell."""
+    try:
+        ran = subprocess.run(
+            command,
+            input=input or None,
+            stdin=None if input else subprocess.DEVNULL,
+            capture_output=True,
+            preexec_fn=before,
+            env={**os.environ, **(env or {})},
+            timeout=longest,
+        )
+    except OSError as fault:
+        return Ran(127, b"", str(fault).encode())
     return Ran(ran.returncode, ran.stdout, ran.stderr)
 
 
+def done(command: Sequence[str], env: Variables = None) -> bytes:
+    """The output of a command, which has to end with status 0."""
+    ran = run(command, env=env)
+    if ran.status != 0:
+        raise Failed(f"{' '.join(command)}: {ran}")
+    return ran.output
+
+
+def wait_until_free(image: str) -> None:
+    """Waits until no process has locked the image. A mount has it locked until the image is saved."""
+    with open(image, "rb") as file:
+        fcntl.flock(file, fcntl.LOCK_EX)
+
+
 class Room:
-    """A temporary directory with the program that is tried in it. Within `with` it is the current directory; then it is gone.
+    """A temporary directory with the program to test in it, and the report. Within `with` it is the current directory;
+    then it is removed.
 
     Names of files are those of the current directory.
     """
 
-    def __init__(self, program: Path, inside: Optional[str] = None) -> None:
-        self.program = program
+    def __init__(self, program: Path, report: Optional[Report] = None, inside: Optional[str] = None) -> None:
+        self.program, self.report = program, report or Report()
         self.top = Path(tempfile.mkdtemp(dir=inside)).resolve()
         self.outside = os.getcwd()
 
@@ -135,23 +171,23 @@ class Room:
         os.chdir(self.outside)
         shutil.rmtree(self.top, ignore_errors=True)
 
-    def run(
-        self,
-        *words: str,
-        input: bytes = b"",
-        front: Sequence[str] = (),
-        before: Optional[Callable[[], None]] = None,
-        env: Optional[Mapping[str, str]] = None,
-    ) -> Ran:
-        """Runs the program on these words, behind a command `front` that runs it."""
+    def run(self, *words: str, input: bytes = b"", front: Sequence[str] = (), before: Before = None, env: Variables = None) -> Ran:
+        """Runs the program with these arguments, after a command `front` that runs it."""
         return run([*front, str(self.program), *words], input, before, env)
 
+    def succeeds(self, name: str, *words: str, output: Optional[bytes] = b"") -> None:
+        """The program succeeds with these arguments: it prints this output, and nothing on standard error."""
+        self.report.check(name, self.run(*words), 0, output)
+
+    def part(self: AnyRoom, part: Callable[[AnyRoom], None]) -> None:
+        """Runs some of the checks. A part that does not run to its end is a failed check with the part's name."""
+        fault = fault_in(partial(part, self))
+        if fault:
+            self.report.hold(part.__name__.replace("_", " "), fault)
+
     def done(self, *words: str) -> bytes:
-        """What the program prints on these words, which it has to take."""
-        ran = self.run(*words)
-        if ran.status != 0:
-            raise Failed(f"{' '.join(words)}: {fault_of(ran)}")
-        return ran.output
+        """The output of the program with these arguments, which have to succeed."""
+        return done([str(self.program), *words])
 
     def write(self, name: str, data: bytes = b"") -> None:
         Path(name).write_bytes(data)
@@ -160,12 +196,32 @@ class Room:
         return Path(name).read_bytes()
 
 
+def try_all(words: Sequence[str], kind: Type[AnyRoom], *parts: Callable[[AnyRoom], None]) -> int:
+    """Tests a program, as `program_of` finds it, with these parts in one room of that kind. Returns the status of the
+    test."""
+    report = Report()
+    with kind(program_of(words), report) as tried:
+        for it in parts:
+            tried.part(it)
+    return report.end()
+
+
+def in_memory() -> Optional[str]:
+    """A directory in memory for a room, if there is one: the program flushes each image to the disk, which may be slow."""
+    return "/dev/shm" if "TMPDIR" not in os.environ and os.access("/dev/shm", os.W_OK) else None
+
+
+def built_program(words: Sequence[str]) -> Path:
+    """The program that the first command line argument names, or that of this repository. It may not be built."""
+    return Path(words[0] if words else TOP / "crates/adf_serve/out/adf_serve").absolute()
+
+
 def program_of(words: Sequence[str]) -> Path:
-    """The program that the first of the words behind the command names, or that of this repository, which is made if need be."""
+    """The program that the first command line argument names, or that of this repository, which is built if necessary."""
     if words:
         program = Path(words[0]).absolute()
     else:
-        # (which says itself what is wrong)
+        # (which reports by itself what is wrong)
         named = subprocess.run([str(TOP / "tools" / "program")], stdout=subprocess.PIPE)
         if named.returncode != 0:
             sys.exit(2)
@@ -177,7 +233,7 @@ def program_of(words: Sequence[str]) -> Path:
 
 
 class Image:
-    """The bytes of an image, whose longs are read and written."""
+    """The bytes of an image, with its longs."""
 
     def __init__(self, data: Union[bytes, bytearray]) -> None:
         self.data = bytearray(data)
@@ -192,23 +248,23 @@ class Image:
         self.data[start : start + 4] = (value % 2**32).to_bytes(4, "big")
 
     def settle(self, block: int, at: int = 5) -> None:
-        """Writes the long with which all longs of the block add up to 0."""
+        """Sets the checksum of the block: all its longs add up to 0."""
         self.put(block, at, 0)
         self.put(block, at, -sum(self.long(block, it) for it in range(BLOCK // 4)))
 
     def text(self, block: int, offset: int) -> bytes:
-        """The bytes behind their number, as a name or a comment stands in a block."""
+        """The bytes after their number, as a name or a comment is stored in a block."""
         start = BLOCK * block + offset + 1
         return bytes(self.data[start : start + self.data[start - 1]])
 
 
 def upper(name: bytes) -> bytes:
-    """A name in upper case, of which only the letters of ASCII have one."""
+    """A name in upper case; only ASCII letters change."""
     return bytes(it - 32 if 97 <= it <= 122 else it for it in name)
 
 
 def limited(what: int, most: int) -> Callable[[], None]:
-    """For `before` of a run: the host gives it no more of something than this, where `what` is one of resource.RLIMIT_*."""
+    """For `before` of a run: the host limits a resource to this, where `what` is one of resource.RLIMIT_*."""
 
     def limit() -> None:
         signal.signal(signal.SIGXFSZ, signal.SIG_IGN)
@@ -221,7 +277,8 @@ def limited(what: int, most: int) -> Callable[[], None]:
 
 
 class Call(NamedTuple):
-    """A call of the host: its name, its number among those of this name in its process, what it is about, and its answer."""
+    """A call of the host: its name, its number among those of this name in its process, its arguments, and its
+    result."""
 
     name: str
     number: int
@@ -233,7 +290,7 @@ CALL = re.compile(r"(\d+) +(\w+)\((.*)\) += (-?\d+|\?)")
 
 
 def has_strace(fault: str) -> bool:
-    """Whether `strace` is here, and may put such a fault in the calls of a program."""
+    """Whether `strace` is installed, and can inject such a fault into the calls of a program."""
     if not shutil.which("strace"):
         return False
     words = [*injected(f"fsync:{fault}"), "true"]
@@ -241,14 +298,14 @@ def has_strace(fault: str) -> bool:
 
 
 def injected(*faults: str) -> List[str]:
-    """A command that runs another one, whose calls meet these faults: each is `CALLS:FAULT`, as strace has them."""
+    """A command that runs another one and injects these faults: each is `CALLS:FAULT`, in the form of strace."""
     options = [it for fault in faults for it in ("-e", f"inject={fault}")]
     names = ",".join(it.partition(":")[0] for it in faults)
     return ["strace", "-f", "-qq", "-o", "/dev/null", "-e", f"trace={names}", *options]
 
 
 def traced(room: Room, words: Sequence[str], names: Sequence[str]) -> List[Call]:
-    """The calls of these names, as far as the host has them, in a run that meets no faults."""
+    """The calls with these names, as far as the host has them, in a run without faults."""
     room.run(*words, front=["strace", "-f", "-y", "-s", "0", "-o", "trace", "-e", "trace=" + ",".join(f"?{it}" for it in names)])
     lines = room.content("trace").decode(errors="replace").splitlines()
     os.remove("trace")

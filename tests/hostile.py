@@ -1,18 +1,21 @@
 #!/usr/bin/env python3
-"""The program against others: who changes names in a directory while it works there, and who made a disk to do harm.
+"""Tests the program against attackers: a process that swaps files in its directory, endless input, and an image made to exhaust
+resources.
 
     tests/hostile.py [PROGRAM]
 
-As root it works on files of another user. A process of that user puts a link in the place of a file as soon as it is
-there, or once the program has read it: no file that the link leads to may change in any way. Where `strace` is there it makes
-the program wait at the call in question, so that the swap always comes in time; without it the swap is only tried for some
-seconds. Owners, groups and modes that are to stay are looked at as well.
+The program runs as root on files of another user. A process of that user replaces a file by a link, either as soon as the file
+exists or after the program has read it. The target of the link must not change. If `strace` is installed, it delays the program
+at the relevant call, so that the swap always comes in time. Otherwise the test only tries the swap for some seconds. The test
+also checks that owners, groups and modes are kept.
 
-Floppies are drawn of headers alone, which claim huge files over the same blocks. What is taken out of them is bounded, and so
-is the memory that this takes.
+Endless streams, and files as long as a disk, take the place of images and scripts. With little memory the program must end
+soon.
 
-It prints a line for each check, and at last `N passed, M failed`; the status is 1 where one failed. What cannot be tried
-here is named. Without a word it tries the program of this repository.
+The made floppies consist of headers only, which claim huge files over the same blocks. The size of their salvaged files and the
+memory that the salvage uses must be bounded.
+
+The test reports the checks that it skips on this machine.
 """
 from __future__ import annotations
 
@@ -24,22 +27,23 @@ import stat
 import subprocess
 import sys
 import time
-from functools import partial
 from pathlib import Path
 from typing import Callable, List, NamedTuple, NoReturn, Optional, Sequence, Tuple
 
 sys.dont_write_bytecode = True
 
-from harness import BLOCK, MOMENT, Image, Report, Room, has_strace, injected, limited, program_of, traced
+from harness import BLOCK, MOMENT, Image, Report, Room, has_strace, injected, limited, traced, try_all
 
-# A user that is not root, and two groups, by numbers that need no name.
+# A user other than root, and two groups, by numbers that need no name.
 OTHER, GROUP, SECOND = 65_534, 65_534, 65_533
-# How long a call is held up, in microseconds, and how long a swap is tried without that, in seconds.
+# How long a call is delayed, in microseconds, and how long a swap is tried without that, in seconds.
 DELAY, BOUND = 300_000, 4.0
+# Bytes in the largest image, and the longest time for reading an endless stream, in seconds.
+LARGEST, SOON = 101_602 * BLOCK, 30.0
 
 
 class Known(NamedTuple):
-    """What must not change of a file: what it is and whose, and its bytes."""
+    """What must not change in a file: its kind and owner, and its bytes."""
 
     mode: int
     user: int
@@ -57,7 +61,7 @@ def as_other() -> None:
 
 
 def has_other() -> bool:
-    """Whether there is another user here, whom this process can be."""
+    """Whether there is another user here that this process can become."""
     if os.geteuid() != 0:
         return False
     process = os.fork()
@@ -71,14 +75,15 @@ def has_other() -> bool:
 
 
 class Shared(Room):
-    """A room of this user with a directory of the other in it, the program, and a file of this user that nobody may change."""
+    """A room of this user with a directory of the other user in it, the program, and a file of this user that nobody
+    may change."""
 
-    def __init__(self, program: Path) -> None:
-        super().__init__(program)
+    def __init__(self, program: Path, report: Report) -> None:
+        super().__init__(program, report)
         self.owner = OTHER if has_other() else None
 
     def set_up(self) -> None:
-        """Puts into it what the other user may read, and what all checks begin with."""
+        """Puts the files into it that the other user may read and all checks start from."""
         os.chmod(self.top, 0o755)
         self.program = Path(shutil.copy(self.program, self.top / "program"))
         self.program.chmod(0o755)
@@ -87,25 +92,25 @@ class Shared(Room):
         self.done("add", *MOMENT, "--out", "full.adf", "empty.adf", "one")
         self.empty, self.full = self.content("empty.adf"), self.content("full.adf")
         self.write("script", b'mkdir 0 "made"\n')
-        # Who may be another user finds both files in a directory where names are theirs to change.
+        # If this process can become another user, both files are in a directory where that user may change names.
         os.mkdir("theirs")
         self.give("theirs")
         self.refresh()
 
     def give(self, path: str) -> None:
-        """Makes a file or a directory that of the other user, where there is one."""
+        """Gives a file or a directory to the other user, if there is one."""
         if self.owner is not None:
             os.chown(path, self.owner, self.owner)
 
     def put(self, path: str, data: bytes, mode: int = 0o644) -> None:
-        """A new file of these bytes and this mode."""
+        """A new file with these bytes and this mode."""
         if os.path.lexists(path):
             os.remove(path)
         self.write(path, data)
         os.chmod(path, mode)
 
     def refresh(self) -> None:
-        """All as it was before a check."""
+        """Restores everything to the state before a check."""
         for it in os.listdir("theirs"):
             path = f"theirs/{it}"
             if os.path.isdir(path) and not os.path.islink(path):
@@ -126,14 +131,15 @@ class Shared(Room):
         return Known(found.st_mode, found.st_uid, found.st_gid, found.st_mtime_ns, found.st_ino, self.content(path))
 
     def number_of(self, words: Sequence[str], call: str, path: str) -> int:
-        """Which call of this name is the first about this file, in a run of these words. All is then as it was before."""
+        """The number of the first call with this name about this file, in a run with these arguments. Everything is
+        then as before."""
         calls = traced(self, words, [call])
         number = next(it.number for it in calls if f"<{os.path.realpath(path)}>" in it.about)
         self.refresh()
         return number
 
     def keeps_reads(self) -> bool:
-        """Whether the host notes here when a file was read."""
+        """Whether the host records here when a file was read."""
         self.write("read", b"read")
         os.utime("read", ns=(0, os.stat("read").st_mtime_ns))
         self.content("read")
@@ -146,7 +152,8 @@ class Shared(Room):
 
 
 def held_up(call: str, number: int) -> List[str]:
-    """A command that runs another and holds up this call of it, by its number among those of one name, once it is done."""
+    """A command that runs another and delays one of its calls, by its number among those of one name, after the call is
+    done."""
     return injected(f"{call}:delay_exit={DELAY}:when={number}")
 
 
@@ -164,7 +171,8 @@ def when_read(path: str) -> None:
 
 
 class Swap:
-    """A process, of the other user where there is one, that waits for something and then changes names in the directory."""
+    """A process, of the other user if there is one, that waits for something and then changes names in the
+    directory."""
 
     def __init__(self, room: Shared, wait: Callable[[], None], change: Callable[[], None]) -> None:
         ready, told = os.pipe()
@@ -189,7 +197,7 @@ class Swap:
             os._exit(1)
 
     def end(self) -> bool:
-        """Ends it, and tells whether it had made its change."""
+        """Ends it, and returns whether it had made its change."""
         found, status = os.waitpid(self.process, os.WNOHANG)
         if found == 0:
             os.kill(self.process, signal.SIGKILL)
@@ -205,7 +213,7 @@ def put_link(room: Shared, target: str, place: str) -> Callable[[], None]:
 
 
 class Writing(NamedTuple):
-    """A command that writes a file in place of one of the other user, and the file beside in which its new bytes are gathered."""
+    """A command that replaces a file of the other user, and the file beside it with the new bytes."""
 
     name: str
     words: List[str]
@@ -227,7 +235,7 @@ WRITINGS = [
 
 
 def given_away(room: Shared, writing: Writing, strace: bool) -> Optional[str]:
-    """What is wrong once a link was put in the place of the file beside: the file that it leads to has changed."""
+    """What is wrong after a link was put in the place of the file beside: the file that it leads to has changed."""
     room.refresh()
     front = held_up("write", room.number_of(writing.words, "write", writing.beside)) if strace else []
     before = room.known("victim")
@@ -242,23 +250,23 @@ def given_away(room: Shared, writing: Writing, strace: bool) -> Optional[str]:
     return None
 
 
-def links_beside(room: Shared, report: Report, strace: bool) -> None:
+def links_beside(room: Shared, strace: bool) -> None:
     for writing in WRITINGS:
         title = f"a link in the place of the file beside, {writing.name}"
         if strace:
-            report.hold(title, given_away(room, writing, True))
+            room.report.hold(title, given_away(room, writing, True))
         else:
-            report.skip(title, "no strace, so that the link may come too late")
+            room.report.skip(title, "no strace, so that the link may come too late")
     ends = time.monotonic() + BOUND
     fault: Optional[str] = None
     turns = 0
     while fault is None and time.monotonic() < ends:
         fault = given_away(room, CHANGE, False)
         turns += 1
-    report.hold("a link in the place of the file beside, again and again", fault and f"in turn {turns}: {fault}")
+    room.report.hold("a link in the place of the file beside, again and again", fault and f"in turn {turns}: {fault}")
 
 
-# The commands that hold a file which is there from their start to their end: the image of the other user.
+# The commands that lock an existing file from start to end: the image of the other user.
 PLACE = "theirs/image.adf"
 HOLDS = [
     ("a change", CHANGE.words),
@@ -268,7 +276,7 @@ HOLDS = [
 
 
 def swapped_after(room: Shared, words: List[str], number: int, change: Callable[[], None]) -> Optional[str]:
-    """What is wrong once a file that is held was swapped: another one has changed, or the fault is not told."""
+    """What is wrong after a locked file was swapped: another one has changed, or the fault is not reported."""
     before = room.known("victim.adf")
     swap = Swap(room, lambda: when_read(PLACE), change)
     ran = room.run(*words, front=held_up("read", number))
@@ -282,21 +290,21 @@ def swapped_after(room: Shared, words: List[str], number: int, change: Callable[
     return f"{left} is left" if left else None
 
 
-def others_in_place(room: Shared, report: Report) -> None:
-    """Another file takes the place of one that is held."""
+def others_in_place(room: Shared) -> None:
+    """Another file takes the place of a locked one."""
     for name, words in HOLDS:
         room.refresh()
         number = room.number_of(words, "read", PLACE)
         fault = swapped_after(room, words, number, put_link(room, "victim.adf", PLACE))
-        report.hold(f"a link in the place of a held file, {name}", fault)
+        room.report.hold(f"a link in the place of a held file, {name}", fault)
         room.refresh()
         fault = swapped_after(room, words, number, lambda: os.rename("theirs/other.adf", PLACE))
         if fault is None and room.content(PLACE) != room.empty:
             fault = "it was written over"
-        report.hold(f"another file in the place of a held one, {name}", fault)
+        room.report.hold(f"another file in the place of a held one, {name}", fault)
         room.refresh()
         fault = swapped_after(room, words, number, lambda: os.remove(PLACE))
-        report.hold(f"a held file is removed, {name}", fault or ("it is there again" if os.path.exists(PLACE) else None))
+        room.report.hold(f"a held file is removed, {name}", fault or ("it is there again" if os.path.exists(PLACE) else None))
 
 
 # ---- owners, groups and modes
@@ -311,7 +319,7 @@ def kept_of(path: str, user: int, group: int, mode: int) -> Optional[str]:
 def fault_of_owner(
     room: Room, words: Sequence[str], path: str, wanted: Tuple[int, int, int], before: Optional[Callable[[], None]] = None
 ) -> Optional[str]:
-    """What is wrong once a file was replaced, whose user, group and mode are to be these."""
+    """What is wrong after a file was replaced; its user, group and mode have to be these."""
     old = room.content(path)
     ran = room.run(*words, before=before)
     if ran.status != 0 or room.content(path) == old:
@@ -319,19 +327,19 @@ def fault_of_owner(
     return kept_of(path, *wanted)
 
 
-def modes(room: Shared, report: Report) -> None:
-    """Who may read, write and run a file stays; nothing else does."""
+def modes(room: Shared) -> None:
+    """The rights to read, write and run a file stay; all other bits are cleared."""
     here = os.stat(PLACE)
     for writing, path in ((CHANGE, PLACE), (NEW_VOLUME, PLACE), (TAKES_OUT, "theirs/out/one")):
         for mode in (0o6755, 0o1644, 0o640, 0o777):
             room.refresh()
             os.chmod(path, mode)
             fault = fault_of_owner(room, writing.words, path, (here.st_uid, here.st_gid, mode & 0o777))
-            report.hold(f"mode {mode:04o} of a file that is replaced, {writing.name}", fault)
+            room.report.hold(f"mode {mode:04o} of a file that is replaced, {writing.name}", fault)
 
 
-def owners(room: Shared, report: Report) -> None:
-    """Owner and group stay where the process may set them."""
+def owners(room: Shared) -> None:
+    """Owner and group stay if the process may set them."""
     for name, user, group, mode, after, before in (
         ("root leaves a file to its owner", 12_345, 23_456, 0o640, 12_345, None),
         ("the group of one's own file", OTHER, SECOND, 0o664, OTHER, as_other),
@@ -340,18 +348,40 @@ def owners(room: Shared, report: Report) -> None:
         room.refresh()
         os.chown(PLACE, user, group)
         os.chmod(PLACE, mode)
-        report.hold(name, fault_of_owner(room, CHANGE.words, PLACE, (after, group, mode), before))
+        room.report.hold(name, fault_of_owner(room, CHANGE.words, PLACE, (after, group, mode), before))
 
 
-# ---- disks that were made to do harm
+# ---- endless input
+
+
+def endless(room: Shared) -> None:
+    """Images and scripts without an end, or as long as a disk."""
+    little = limited(resource.RLIMIT_AS, MEMORY + 3 * LARGEST)
+    said = "'/dev/zero' gave no end within 2,097,152 reads"
+    for words in (["list", "/dev/zero"], ["mkdir", "--out", "x", "/dev/zero", "n"], ["serve", "empty.adf", "/dev/zero"]):
+        began = time.monotonic()
+        room.report.check(f"{words[0]} of a device without an end", room.run(*words, before=little), 2, b"", said)
+        room.report.expect(f"{words[0]}: soon", time.monotonic() - began < SOON, f"{time.monotonic() - began} seconds")
+    with open("/dev/zero", "rb") as zeros:
+        ran = subprocess.run([str(room.program)], stdin=zeros, capture_output=True, preexec_fn=little, timeout=2 * SOON)
+    found = (ran.returncode, ran.stdout, ran.stderr)
+    room.report.same("standard input without an end", found, (2, b"", b"adf_serve: standard input does not end\n"))
+    room.write("sparse")
+    os.truncate("sparse", 2**40)
+    room.report.check("an image of a terabyte", room.run("list", "sparse", before=little), 3, b"refused TooManyBlocks 0\n")
+    room.report.check("a script of a terabyte", room.run("serve", "empty.adf", "sparse", before=little), 3, b"1 fault line 0\n")
+    os.remove("sparse")
+
+
+# ---- harmful disks
 
 SLOTS, FILE = 72, 0xFFFFFFFD
-# What taking out may have in memory beside the image.
+# The memory that a rescue may use in addition to the image.
 MEMORY = 64 << 20
 
 
 def put_header(image: Image, block: int, size: int, pointers: Sequence[int]) -> None:
-    """Draws the header of a file over a block, sound by itself: its size is this, its first data blocks are these."""
+    """Draws the header of a file over a block, sound by itself: with this size and these first data blocks."""
     image.data[block * BLOCK : (block + 1) * BLOCK] = bytes(BLOCK)
     for at, value in ((0, 2), (1, block), (2, len(pointers)), (81, size), (125, image.blocks // 2), (127, FILE)):
         image.put(block, at, value)
@@ -364,13 +394,13 @@ def put_header(image: Image, block: int, size: int, pointers: Sequence[int]) -> 
 
 
 def refused(image: Image) -> bytes:
-    """The image with a wrong sum of its root, so that it is refused."""
+    """The image with a wrong checksum in its root, so that it is refused."""
     image.data[len(image.data) // 2 + 20] ^= 1
     return bytes(image.data)
 
 
 def drawn(blank: bytes, size_of: Callable[[int], int], pointers_of: Callable[[int], Sequence[int]]) -> bytes:
-    """A blank image that is refused, with a header over each block but those of the volume itself."""
+    """A blank image that is refused, with a header in each block other than those of the volume itself."""
     image = Image(blank)
     root = image.blocks // 2
     for block in range(2, image.blocks):
@@ -379,8 +409,8 @@ def drawn(blank: bytes, size_of: Callable[[int], int], pointers_of: Callable[[in
     return refused(image)
 
 
-def taken_out(room: Room, report: Report, name: str, image: bytes) -> None:
-    """Takes all out of an image, with no more memory than there may be, and looks at what that gives."""
+def taken_out(room: Room, name: str, image: bytes) -> None:
+    """Rescues an image with limited memory, and checks the result."""
     room.write("bomb.adf", image)
     most = len(image) + MEMORY
     words = [str(room.program), "extract", "--damaged", "--to", "bomb", "bomb.adf"]
@@ -393,14 +423,14 @@ def taken_out(room: Room, report: Report, name: str, image: bytes) -> None:
     headers = len(image) // BLOCK - 4
     told, said = room.content("lines").count(b"found broken "), room.content("texts")
     is_told = (began.returncode, told) == (3, headers)
-    report.expect(f"{name}: every file is told", is_told, f"status {began.returncode}, {told} of {headers}; {said[:200]!r}")
-    report.expect(f"{name}: at most four times the image", sum(sizes) <= 4 * len(image), f"{sum(sizes)} bytes were written")
-    report.expect(f"{name}: what is cut short is told", b" is cut short" in said, "nothing was told")
+    room.report.expect(f"{name}: every file is told", is_told, f"status {began.returncode}, {told} of {headers}; {said[:200]!r}")
+    room.report.expect(f"{name}: at most four times the image", sum(sizes) <= 4 * len(image), f"{sum(sizes)} bytes were written")
+    room.report.expect(f"{name}: what is cut short is told", b" is cut short" in said, "nothing was told")
     peak = used.ru_maxrss * 1024
-    report.expect(f"{name}: memory for the image and 64 MB", peak <= most, f"{peak} bytes")
+    room.report.expect(f"{name}: memory for the image and 64 MB", peak <= most, f"{peak} bytes")
 
 
-def floppies(room: Room, report: Report) -> None:
+def floppies(room: Room) -> None:
     """Headers that share one list of blocks."""
     shared = range(100, 100 + SLOTS)
     kinds: List[Tuple[str, List[str]]] = [("a floppy", []), ("a floppy of twice the bytes", ["--hd"])]
@@ -409,14 +439,14 @@ def floppies(room: Room, report: Report) -> None:
         blank = room.content("blank.adf")
         for size in (0x7FFFFFFF, 0xFFFFFFFF):
             name = f"{title} of headers that claim {size:x} bytes"
-            taken_out(room, report, name, drawn(blank, lambda _: size, lambda _: shared))
+            taken_out(room, name, drawn(blank, lambda _: size, lambda _: shared))
         name = f"{title} of headers that claim a block more each"
         image = drawn(blank, lambda block: BLOCK * (1 + block % SLOTS), lambda block: shared[: 1 + block % SLOTS])
-        taken_out(room, report, name, image)
+        taken_out(room, name, image)
 
 
-def holes(room: Shared, report: Report) -> None:
-    """A file ends behind the last of its blocks that is there, and zeros stand before that where one is missing."""
+def holes(room: Shared) -> None:
+    """A file ends after its last existing block, with zeros for missing blocks before that."""
     cases: List[Tuple[str, List[int], bytes]] = [
         ("the first", [900], b"a"),
         ("the third", [0, 0, 902], b"\0\0c"),
@@ -433,35 +463,29 @@ def holes(room: Shared, report: Report) -> None:
         wanted = b"".join(bytes([it]) * BLOCK for it in parts)
         found = room.content("hole/lost+found/f1000")
         shutil.rmtree("hole", ignore_errors=True)
-        report.expect(f"a file of which {name} of 60 blocks is there", (ran.status, found) == (3, wanted), f"{ran}, {len(found)} bytes")
+        room.report.expect(f"a file of which {name} of 60 blocks is there", (ran.status, found) == (3, wanted), f"{ran}, {len(found)} bytes")
 
 
-def checks(room: Shared, report: Report) -> None:
+def checks(room: Shared) -> None:
     room.set_up()
     strace = has_strace("delay_exit=1")
-    floppies(room, report)
-    holes(room, report)
-    modes(room, report)
+    endless(room)
+    floppies(room)
+    holes(room)
+    modes(room)
     if room.owner is None:
         why = "this is not root" if os.geteuid() != 0 else "there is no second user here"
-        report.skip("links in the place of the file beside", why)
-        report.skip("owners and groups that stay", why)
+        room.report.skip("links in the place of the file beside", why)
+        room.report.skip("owners and groups that stay", why)
     else:
-        owners(room, report)
-        links_beside(room, report, strace)
+        owners(room)
+        links_beside(room, strace)
     if strace and room.keeps_reads():
-        others_in_place(room, report)
+        others_in_place(room)
     else:
         why = "the host does not note reads here" if strace else "there is no strace here"
-        report.skip("other files in the place of those that are held", why)
-
-
-def main(words: List[str]) -> int:
-    program, report = program_of(words), Report()
-    with Shared(program) as room:
-        report.part("the checks", partial(checks, room, report))
-    return report.end()
+        room.report.skip("other files in the place of those that are held", why)
 
 
 if __name__ == "__main__":
-    sys.exit(main(sys.argv[1:]))
+    sys.exit(try_all(sys.argv[1:], Shared, checks))

@@ -1,15 +1,12 @@
 #!/usr/bin/env python3
-"""Commands that change an image, stopped at each call of the host that writes.
+"""Tests commands that change an image, stopped at each system call that writes.
 
     tests/kills.py [PROGRAM]
 
-Each command runs on copies of one image. A call of the host fails, or the program is killed there: afterwards the image's
-file is the old one or the new one, whole; after a failure it is the old one, the status is 2, a text says why, and no file
-is left beside it. The calls are those that `strace` sees; without it the files of a limited size, the names that are taken
-and the targets that cannot be written are tried alone.
-
-It prints a line for each check, and at last `N passed, M failed`; the status is 1 where one failed. Without a word it tries
-the program of this repository.
+Each command runs on copies of one image. At one system call the call fails or the program is killed. Afterwards the file of the
+image must be the complete old one or the complete new one. After a failed call it must be the old one, the status must be 2, a
+message must say why, and no temporary file may be left. `strace` injects the failures. Without it only size limits, existing
+names and unwritable targets are tested.
 """
 from __future__ import annotations
 
@@ -20,14 +17,13 @@ import resource
 import shutil
 import subprocess
 import sys
-from functools import partial
 from typing import Dict, Iterator, List, Optional, Sequence, Tuple
 
 sys.dont_write_bytecode = True
 
-from harness import MOMENT, Call, Ran, Report, Room, has_strace, injected, limited, program_of, traced
+from harness import MOMENT, Call, Ran, Room, has_strace, injected, limited, traced, try_all
 
-# Calls of the host that hold a file, or change one or its names; those that open are looked at one by one.
+# Calls of the host that lock a file, or change one or its names; those that open are checked one by one.
 WRITES = """flock write pwrite64 writev pwritev fsync fdatasync ftruncate fallocate sendfile copy_file_range fchmod chmod fchmodat rename
 renameat renameat2 link linkat unlink unlinkat symlink symlinkat mkdir mkdirat""".split()
 OPENS = "open openat creat".split()
@@ -35,15 +31,16 @@ OPENS = "open openat creat".split()
 HARMLESS = "chown fchown lchown fchownat utimensat".split()
 READS = "read pread64 readv preadv".split()
 IMAGE = "image.adf"
-# An image's file that is none, over which one is written.
+# An image's file that is invalid, and is overwritten.
 OTHER = bytes(512 * 20)
 
 
 class Change:
-    """A command, the file that it writes, and what that file is before and after it."""
+    """A command, the file that it writes, and the file's contents before and after it."""
 
     def __init__(self, room: Room, name: str, words: Sequence[str], target: str = IMAGE) -> None:
-        self.room, self.name, self.words, self.target = room, name, words, target
+        self.room, self.report = room, room.report
+        self.name, self.words, self.target = name, words, target
         self.old = self.now()
         self.beside = sorted(os.listdir("."))
         room.done(*words)
@@ -65,17 +62,23 @@ class Change:
         return self.room.content(self.target) if os.path.exists(self.target) else None
 
     def run(self, *faults: str) -> Ran:
-        """Runs the command, whose calls meet these faults."""
+        """Runs the command with these faults in its calls."""
         return self.room.run(*self.words, front=injected(*faults) if faults else ())
 
     def is_done(self, ran: Ran) -> bool:
         return ran.status == 0 and self.now() == self.new
 
+    def hold(self, name: str, fault: Optional[str]) -> None:
+        """Reports a check of this command. The directory must be as before."""
+        self.report.hold(f"{self.name}: {name}", fault)
+        self.restore()
+
     def left(self) -> List[str]:
         return [it for it in sorted(os.listdir(".")) if it not in self.beside and it != self.target]
 
     def fault_of(self, ran: Ran, harmless: bool = False) -> Optional[str]:
-        """What is wrong after a call that failed: all is as before and is told, or, where that call does no harm, all is done."""
+        """What is wrong after a failed call: everything has to be as before, with a message; or, if that call does no
+        harm, everything is done."""
         if self.left():
             return f"{self.left()} is left"
         if harmless and ran.status == 0:
@@ -87,7 +90,8 @@ class Change:
         return None if ran.texts.strip() else "it told nothing"
 
     def fault_of_kill(self) -> Optional[str]:
-        """What is wrong after a kill: the file is neither the old one nor the new one, or the command does not go on from there."""
+        """What is wrong after a kill: the file is neither the old one nor the new one, or the command cannot be
+        repeated."""
         if self.now() not in (self.old, self.new):
             return "the file is neither the old one nor the new one"
         if self.now() == self.old:
@@ -101,7 +105,7 @@ class Change:
 
 
 def put_files(room: Room) -> None:
-    """The image that all commands change, and what they read."""
+    """The image that all commands change, and the files that they read."""
     room.done("blank", "--ffs", "Work", IMAGE)
     os.mkdir("host")
     room.write("host/one", b"1" * 3000)
@@ -117,7 +121,7 @@ def put_files(room: Room) -> None:
 
 
 def changes(room: Room) -> Iterator[Change]:
-    """The commands, one after another, each over the image that is made for all of them."""
+    """The commands, one after the other, each over a fresh copy of the image."""
     put_files(room)
     yield Change(room, "mkdir", ["mkdir", *MOMENT, IMAGE, "new"])
     yield Change(room, "add of two files", ["add", *MOMENT, IMAGE, "host/one", "host/two"])
@@ -137,8 +141,8 @@ def changes(room: Room) -> Iterator[Change]:
 
 
 def writes_of(change: Change) -> List[Tuple[Call, bool]]:
-    """The calls that write, each with whether it may fail without harm. After the file has its place only the names of its
-    directory are brought to the disk."""
+    """The calls that write, each with whether it may fail without harm. After the file has its place, only the names in
+    its directory are synced to disk."""
     writes: List[Tuple[Call, bool]] = []
     placed = False
     for call in traced(change.room, change.words, [*WRITES, *OPENS, *HARMLESS]):
@@ -164,54 +168,48 @@ def reads_of(change: Change) -> Iterator[Tuple[str, Call]]:
             yield os.path.basename(path), calls[at]
 
 
-def at_a_write(change: Change, report: Report, call: Call, harmless: bool) -> None:
+def at_a_write(change: Change, call: Call, harmless: bool) -> None:
     """The call fails in two ways, the program is killed there, or the call is interrupted."""
     name, when = call.name, f"when={call.number}"
-    place = f"{change.name}: {name} {call.number}"
+    place = f"{name} {call.number}"
     for error in ("ENOSPC", "EIO"):
         ran = change.run(f"{name}:error={error}:{when}")
-        report.hold(f"{place} fails with {error}", change.fault_of(ran, harmless))
-        change.restore()
+        change.hold(f"{place} fails with {error}", change.fault_of(ran, harmless))
     change.run(f"{name}:signal=SIGKILL:{when}")
-    report.hold(f"{place} is the last", change.fault_of_kill())
-    change.restore()
+    change.hold(f"{place} is the last", change.fault_of_kill())
     if name in ("write", "pwrite64", "fsync"):
         ran = change.run(f"{name}:error=EINTR:{when}")
-        report.expect(f"{place} is interrupted", change.is_done(ran), f"status {ran.status}, {ran.texts[:200]!r}")
-        change.restore()
+        change.hold(f"{place} is interrupted", None if change.is_done(ran) else str(ran))
 
 
-def at_each_call(change: Change, report: Report) -> None:
-    """The command where each of its calls fails, and where the program is killed at each that writes."""
+def at_each_call(change: Change) -> None:
+    """The command with each of its calls failing, and with the program killed at each that writes."""
     writes = writes_of(change)
     for file, call in reads_of(change):
         ran = change.run(f"{call.name}:error=EIO:when={call.number}")
-        report.hold(f"{change.name}: '{file}' cannot be read, {call.name} {call.number}", change.fault_of(ran))
-        change.restore()
+        change.hold(f"'{file}' cannot be read, {call.name} {call.number}", change.fault_of(ran))
     first = [call.name for call, harmless in writes if not harmless]
     is_synced = bool({"fsync", "fdatasync"} & {*first}) and first[-1].startswith("rename")
-    report.expect(f"{change.name}: the new bytes are on the disk before they have their place", is_synced, first)
+    change.report.expect(f"{change.name}: the new bytes are on the disk before they have their place", is_synced, first)
     for call, harmless in writes:
-        at_a_write(change, report, call, harmless)
-    # The file beside cannot be taken away, since the program ends there.
+        at_a_write(change, call, harmless)
+    # The file beside cannot be removed, because the program ends there.
     change.run("write:error=ENOSPC:when=1", "unlink,unlinkat:signal=SIGKILL:when=1")
-    report.hold(f"{change.name}: is killed as it tidies up", change.fault_of_kill())
-    change.restore()
+    change.hold("is killed as it tidies up", change.fault_of_kill())
 
 
-# ---- what needs no strace
+# ---- tests that need no strace
 
 
-def limits(change: Change, report: Report) -> None:
-    """The host takes only the first bytes of a file."""
+def limits(change: Change) -> None:
+    """The host accepts only the first bytes of a file."""
     for most in (0, 1, 512, 8_192, len(change.new) // 2, len(change.new) - 1):
         ran = change.room.run(*change.words, before=limited(resource.RLIMIT_FSIZE, most))
-        report.hold(f"{change.name}: only {most} bytes are taken", change.fault_of(ran))
-        change.restore()
+        change.hold(f"only {most} bytes are taken", change.fault_of(ran))
 
 
-def tree_in_part(room: Room, report: Report) -> None:
-    """A file that cannot be written whole does not stay where a tree is taken out, and an old one stays whole."""
+def tree_in_part(room: Room) -> None:
+    """A file that cannot be written whole does not stay in an extracted tree, and an old one stays whole."""
     # (in a folder of its own, since the checks of a change look at all that stands beside its file)
     os.mkdir("tree")
     os.chdir("tree")
@@ -222,17 +220,17 @@ def tree_in_part(room: Room, report: Report) -> None:
     taken, told = limited(resource.RLIMIT_FSIZE, 1_000), b"one file or directory was written before it"
     ran = room.run("extract", "--to", "out", "part.adf", before=taken)
     is_whole = ran.status == 2 and told in ran.texts and os.listdir("out/d") == []
-    report.expect("extract: only 1000 bytes of a file are taken", is_whole, ran)
+    room.report.expect("extract: only 1000 bytes of a file are taken", is_whole, ran)
     room.write("out/d/f", b"old")
     ran = room.run("extract", "--force", "--to", "out", "part.adf", before=taken)
     is_whole = ran.status == 2 and os.listdir("out/d") == ["f"] and room.content("out/d/f") == b"old"
-    report.expect("extract --force: only 1000 bytes of a file are taken", is_whole, ran)
+    room.report.expect("extract --force: only 1000 bytes of a file are taken", is_whole, ran)
     os.chdir("..")
     shutil.rmtree("tree")
 
 
-def killed_in_time(change: Change, report: Report) -> None:
-    """The program is killed at some moment."""
+def killed_in_time(change: Change) -> None:
+    """The program is killed at a random time."""
     faults = []
     for turn in range(20):
         words = [str(change.room.program), *change.words]
@@ -244,35 +242,35 @@ def killed_in_time(change: Change, report: Report) -> None:
             began.wait()
         faults.append(change.fault_of_kill())
         change.restore()
-    report.hold(f"{change.name}: is killed after 0 to 19 milliseconds", next(filter(None, faults), None))
+    change.hold("is killed after 0 to 19 milliseconds", next(filter(None, faults), None))
 
 
-def taken_names(change: Change, report: Report) -> None:
-    """A file that has the name for the one beside stays as it is, also a link to one."""
+def taken_names(change: Change) -> None:
+    """A file with the name for the file beside is unchanged, and so is a link to one."""
     room = change.room
     room.write("elsewhere", b"kept")
-    # Which names the program takes is seen where each of them is taken.
+    # The names that the program uses are seen when each of them is taken.
     names = [f".adf_serve-{it}.new" for it in range(1_000)]
     os.symlink("elsewhere", names[0])
     room.write(names[1], b"kept")
     os.mkdir(names[2])
     ran = change.run()
-    report.expect("names that are taken: it is done", change.is_done(ran), ran)
+    change.report.expect("names that are taken: it is done", change.is_done(ran), ran)
     is_kept = os.path.islink(names[0]) and room.content("elsewhere") == room.content(names[1]) == b"kept" and os.listdir(names[2]) == []
-    report.expect("names that are taken: they stay", is_kept and not os.path.exists(names[3]), "one has changed")
+    change.report.expect("names that are taken: they stay", is_kept and not os.path.exists(names[3]), "one has changed")
     assert change.old is not None
     room.write(change.target, change.old)
     for it in names[3:]:
         room.write(it, b"kept")
     ran = change.run()
-    report.expect("a thousand names that are taken", ran.status == 2 and ran.texts != b"" and change.now() == change.old, ran)
-    report.expect("a thousand names: they stay", all(room.content(it) == b"kept" for it in names[3:]), "one has changed")
+    change.report.expect("a thousand names that are taken", ran.status == 2 and ran.texts != b"" and change.now() == change.old, ran)
+    change.report.expect("a thousand names: they stay", all(room.content(it) == b"kept" for it in names[3:]), "one has changed")
     os.rmdir(names[2])
     change.restore()
 
 
-def targets(change: Change, report: Report) -> None:
-    """What cannot be written is told by its name, and nothing has changed."""
+def targets(change: Change) -> None:
+    """A target that cannot be written is reported by its name, and nothing has changed."""
     os.mkdir("directory")
     os.symlink("nowhere", "lost")
     before = sorted(os.listdir("."))
@@ -282,39 +280,39 @@ def targets(change: Change, report: Report) -> None:
             fault = None if ran.status == 2 and target.encode() in ran.texts else str(ran)
             if sorted(os.listdir(".")) != before or change.now() != change.old:
                 fault = "something has changed"
-            report.hold(f"{words[0]}: '{target}' cannot be written", fault)
+            change.report.hold(f"{words[0]}: '{target}' cannot be written", fault)
     os.rmdir("directory")
     os.remove("lost")
 
 
-def straight(room: Room, report: Report) -> None:
-    """What is no file is written as it stands."""
+def straight(room: Room) -> None:
+    """A target that is not a file is written directly."""
     ran = room.run("blank", "--ffs", "Work", "/dev/null")
-    report.expect("a device is written straight", ran.status == 0 and not os.path.isfile("/dev/null"), ran)
+    room.report.expect("a device is written straight", ran.status == 0 and not os.path.isfile("/dev/null"), ran)
     os.mkfifo("pipe")
     with open("read", "wb") as taken:
         reader = subprocess.Popen(["cat", "pipe"], stdout=taken)
         ran = room.run("blank", "--ffs", "Work", "pipe")
         reader.wait()
-    report.expect("a pipe is written straight", ran.status == 0 and os.path.getsize("read") == 901_120, ran)
+    room.report.expect("a pipe is written straight", ran.status == 0 and os.path.getsize("read") == 901_120, ran)
     os.remove("pipe")
     os.remove("read")
 
 
-def denied(change: Change, report: Report) -> None:
-    """What the host does not let this user write."""
+def denied(change: Change) -> None:
+    """Targets that the host does not let this user write."""
     os.chmod(".", 0o555)
     ran = change.run()
     os.chmod(".", 0o755)
-    report.hold("a directory that takes no files", change.fault_of(ran))
+    change.report.hold("a directory that takes no files", change.fault_of(ran))
     os.chmod(IMAGE, 0o444)
     ran = change.run()
     os.chmod(IMAGE, 0o644)
-    report.hold("a file that may not be written", change.fault_of(ran))
+    change.report.hold("a file that may not be written", change.fault_of(ran))
 
 
-def held_by_another(change: Change, report: Report) -> None:
-    """No command writes over an image that another command holds, whichever way it is named."""
+def held_by_another(change: Change) -> None:
+    """No command overwrites an image that another command has locked, by whatever name."""
     room = change.room
     os.link(IMAGE, "hard.adf")
     os.symlink(IMAGE, "soft.adf")
@@ -332,40 +330,32 @@ def held_by_another(change: Change, report: Report) -> None:
         ):
             ran = room.run(*words)
             is_kept = room.content(IMAGE) == room.content("hard.adf") == change.old
-            report.expect(f"held by another: {' '.join(words)}", ran.status == 2 and ran.texts != b"" and is_kept, ran)
-        ran = room.run("list", IMAGE)
-        report.expect("held by another: it can be read", ran.status == 0, ran)
+            change.report.expect(f"held by another: {' '.join(words)}", ran.status == 2 and ran.texts != b"" and is_kept, ran)
+        room.succeeds("held by another: it can be read", "list", IMAGE, output=None)
     for it in ("hard.adf", "soft.adf", "good.adf"):
         os.remove(it)
     room.write("other.adf", OTHER)
     change.restore()
 
 
-def checks(room: Room, report: Report) -> None:
+def checks(room: Room) -> None:
     stops = has_strace("error=EIO")
     if not stops:
-        report.skip("a fault at each call", "there is no strace here")
+        room.report.lacks("a fault at each call", "strace")
     for place, change in enumerate(changes(room)):
-        limits(change, report)
-        killed_in_time(change, report)
+        limits(change)
+        killed_in_time(change)
         if stops:
-            at_each_call(change, report)
+            at_each_call(change)
         if place == 0:
-            tree_in_part(room, report)
-            taken_names(change, report)
-            targets(change, report)
-            straight(room, report)
+            tree_in_part(room)
+            taken_names(change)
+            targets(change)
+            straight(room)
             if os.geteuid() != 0:
-                denied(change, report)
-            held_by_another(change, report)
-
-
-def main(words: List[str]) -> int:
-    program, report = program_of(words), Report()
-    with Room(program) as room:
-        report.part("the checks", partial(checks, room, report))
-    return report.end()
+                denied(change)
+            held_by_another(change)
 
 
 if __name__ == "__main__":
-    sys.exit(main(sys.argv[1:]))
+    sys.exit(try_all(sys.argv[1:], Room, checks))

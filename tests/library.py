@@ -1,9 +1,8 @@
 #!/usr/bin/env python3
-"""Builds the tests and examples of the library for C with what the machine has, and runs them.
+"""Builds the tests and examples of the C library and the first program of docs/LIBRARY.md with the compilers of this machine,
+and runs them.
 
-    tests/library.py [PROGRAM]     the program `adf_serve` to compare with; without one, that of this repository where it is built
-
-It prints a line for each check, names what it skipped, and ends with `N passed, M failed`; the status is 1 where one failed.
+    tests/library.py [PROGRAM]     the program `adf_serve` to compare with; the default is that of this repository, if it is built
 """
 from __future__ import annotations
 
@@ -13,37 +12,38 @@ import shutil
 import sys
 from functools import partial
 from pathlib import Path
-from typing import List, Mapping, Optional, Sequence, Tuple
+from typing import List, Optional, Sequence, Tuple
 
 sys.dont_write_bytecode = True
 
-from harness import TOP, Ran, Report, Room, fault_of, run
+from harness import TOP, Report, Room, built_program, fault_of, run
+from walk import LIBRARY, code_of, first_floppy, first_program, link_lines, page_of, walk
 
 TESTS, EXAMPLES = TOP / "tests" / "c", TOP / "examples" / "c"
 HEADER = TOP / "bindings/c/jiponuwha.h"
-PACKET = TOP / "crates/ados_packet/specs/Numbers.antt"
+PACKET = TOP / "crates/ados_model/specs/Packet.antt"
 FAULTS, STATUS, CALLS = (TOP / f"crates/adf_c/specs/{it}.antt" for it in ("Faults", "Status", "Calls"))
 BUILT = TOP / "crates/adf_c/out/libadf_c.a"
 STRICT = ["-Wall", "-Wextra", "-Wpedantic", "-Werror"]
-# Constants of the header, each with the file and the line of the definition that says its number.
+# Constants of the header, each with the file and the line of the definition that has its number.
 STATED = """
-DOSTRUE = -1|ados_packet/specs/Packet|dos_true = negsuc 0
-DOSFALSE = 0|ados_packet/specs/Packet|dos_false = pos 0
-EXCLUSIVE_LOCK = -1|ados_handler/specs/Objects|is_exclusive_mode (negsuc zero) = true
-SHARED_LOCK = -2|ados_handler/specs/Objects|is_exclusive_mode _ = false
-OFFSET_BEGINNING = -1|ados_handler/specs/Objects|seek_base position size (negsuc zero) = Some 0
-OFFSET_CURRENT = 0|ados_handler/specs/Objects|seek_base position size (pos zero) = Some position
-OFFSET_END = 1|ados_handler/specs/Objects|seek_base position size (pos (suc zero)) = Some size
-ROOT = 1|ados_volume/specs/Examined|entry_type None content = pos 1
-DIRECTORY = 2|ados_volume/specs/Examined|entry_type (Some dir) (Directory keys) = pos 2
-FILE = -3|ados_volume/specs/Examined|entry_type (Some dir) (File bytes) = negsuc 2
-VALIDATED = 82|ados_volume/specs/Info|state = 82;
-NAME_BYTES = 30|ados_name/specs/Name|pub short : length name ≤ 30
-COMMENT_BYTES = 79|ados_name/specs/Name|pub short : length comment ≤ 79
-PATH_BYTES = 255|ados_name/specs/Path|pub short : length path ≤ 255
-BLOCK_BYTES = 512|adf_block/specs/Layout|block_bytes = 512
-FEWEST_BLOCKS = 16|adf_block/specs/Layout|fewest_blocks = 16
-MOST_BLOCKS = 101602|adf_block/specs/Layout|most_blocks = 101602
+DOSTRUE = -1|ados_model/specs/Packet.antt|dos_true = negsuc 0
+DOSFALSE = 0|ados_model/specs/Packet.antt|dos_false = pos 0
+EXCLUSIVE_LOCK = -1|ados_model/specs/Objects.antt|is_exclusive_mode (negsuc zero) = true
+SHARED_LOCK = -2|ados_model/specs/Objects.antt|is_exclusive_mode _ = false
+OFFSET_BEGINNING = -1|ados_model/specs/Objects.antt|seek_base position size (negsuc zero) = Some 0
+OFFSET_CURRENT = 0|ados_model/specs/Objects.antt|seek_base position size (pos zero) = Some position
+OFFSET_END = 1|ados_model/specs/Objects.antt|seek_base position size (pos (suc zero)) = Some size
+ROOT = 1|ados_model/specs/Objects.antt|entry_type None content = pos 1
+DIRECTORY = 2|ados_model/specs/Objects.antt|entry_type (Some dir) (Directory keys) = pos 2
+FILE = -3|ados_model/specs/Objects.antt|entry_type (Some dir) (File bytes) = negsuc 2
+VALIDATED = 82|ados_model/specs/Objects.antt|state = 82;
+NAME_BYTES = 30|ados_name/specs/Name.antt|pub short : length name ≤ 30
+COMMENT_BYTES = 79|ados_name/specs/Name.antt|pub short : length comment ≤ 79
+PATH_BYTES = 255|ados_name/specs/Path.antt|pub short : length path ≤ 255
+BLOCK_BYTES = 512|adf_block/src/layout.rt|pub const BLOCK_BYTES: u32 = 512;
+FEWEST_BLOCKS = 16|adf_block/src/layout.rt|pub const FEWEST_BLOCKS: u32 = 16;
+MOST_BLOCKS = 101602|adf_block/src/layout.rt|pub const MOST_BLOCKS: u32 = 101_602;
 """
 # What the example of a handler prints.
 HANDLED = b"""1006: -1 0
@@ -55,12 +55,6 @@ HANDLED = b"""1006: -1 0
 hello has 8 bytes
 999: 0 209
 """
-CMAKE = """cmake_minimum_required(VERSION 3.10)
-project(tour C)
-find_package(jiponuwha REQUIRED)
-add_executable(tour {})
-target_link_libraries(tour jiponuwha::jiponuwha)
-"""
 
 
 # ---- The header's numbers, which need no compiler ----
@@ -69,7 +63,7 @@ Numbers = List[Tuple[str, str]]
 
 
 def spelled(name: str) -> str:
-    """The name of a number as the header spells it."""
+    """The name of a number in the header's spelling."""
     divided = re.sub(r"([a-z])([A-Z])", r"\1_\2", name).replace("ADos", "A_Dos").upper()
     joined = re.sub(r"^(FIND|DIRECTORY)_(UPDATE|INPUT|OUTPUT|NOT_FOUND)$", r"\1\2", divided)
     return re.sub(r"^DIRECTORYNOT", "DIR_NOT", joined)
@@ -92,29 +86,31 @@ def declares(constant: str) -> bool:
 
 
 def other_than(declared: Numbers, proved: Numbers) -> Optional[str]:
-    """What is wrong where the header's constants are not the proved numbers."""
+    """What is wrong if the header's constants are not the proved numbers."""
     if not proved:
         return "no proved numbers"
     return None if declared == proved else f"only one has each of {sorted(set(declared) ^ set(proved))}"
 
 
 def undeclared(proved: Numbers) -> Optional[str]:
-    """What is wrong where proved numbers are no constants of the header."""
+    """What is wrong if proved numbers are missing in the header."""
     lacking = [f"no JIP_{name} = {number}" for name, number in proved if not declares(f"{name} = {number}")]
     return "; ".join(lacking) or (None if proved else "no proved numbers")
 
 
 def unstated() -> Optional[str]:
-    """What is wrong where the header lacks one of the other constants, or the definition does not say its line."""
+    """What is wrong if the header lacks another constant, or the definition does not have its line."""
     faults = []
     for constant, file, wanted in (it.split("|") for it in STATED.split("\n") if it):
-        lines = (TOP / f"crates/{file}.antt").read_text().split("\n")
+        lines = (TOP / f"crates/{file}").read_text().split("\n")
         faults += [] if declares(constant) else [f"no JIP_{constant}"]
-        faults += [] if wanted in (it.lstrip(" ") for it in lines) else [f"no line '{wanted}' in crates/{file}.antt"]
+        faults += [] if wanted in (it.lstrip(" ") for it in lines) else [f"no line '{wanted}' in crates/{file}"]
     return "; ".join(faults) or None
 
 
-def numbers(report: Report) -> None:
+def numbers(tried: Library) -> None:
+    """The numbers in the header."""
+    report = tried.report
     actions = declared_numbers("JIP_ACTION_")
     report.hold("the numbers of actions", other_than(actions, proved_numbers(PACKET, "action_number")))
     errors = proved_numbers(PACKET, "error_number")
@@ -133,56 +129,38 @@ def numbers(report: Report) -> None:
 # ---- The library in C and C++ ----
 
 
-def run_built(command: Sequence[str], env: Optional[Mapping[str, str]] = None) -> Ran:
-    """Runs a command, which may be a program that could not be built."""
-    try:
-        return run(command, env=env, longest=None)
-    except OSError as fault:
-        return Ran(127, b"", str(fault).encode())
-
-
 class Library(Room):
-    """The room in which the library is put, below `here`, and in which programs are built over it."""
-
-    def __init__(self, program: Path, report: Report) -> None:
-        super().__init__(program)
-        self.report = report
-
-    def lacks(self, name: str, what: str) -> None:
-        self.report.skip(name, f"there is no {what}")
-
-    def succeeds(self, name: str, command: Sequence[str], env: Optional[Mapping[str, str]] = None) -> None:
-        ran = run_built(command, env)
-        self.report.expect(name, ran.status == 0, ran)
+    """The room for the library, below `here`, and for programs that use it."""
 
     def passes(self, name: str, command: Sequence[str]) -> None:
         """The command succeeds, and its last line is `N passed, 0 failed`."""
-        ran = run_built(command)
+        ran = run(command, longest=None)
         passed = ran.status == 0 and re.search(rb"(^|\n)[1-9][0-9]* passed, 0 failed\n?$", ran.output) is not None
         self.report.expect(name, passed, ran)
 
     def build(self, compiler: str, name: str, *flags: str) -> None:
-        """Builds a test or an example, whose source has the name up to a dash."""
+        """Builds a test or an example. The name up to a dash is that of its source."""
         source = f"{name.partition('-')[0]}.c"
         place = TESTS if (TESTS / source).exists() else EXAMPLES
         words = [compiler, "-std=c11", "-O1", "-g", *STRICT, "-Ihere/include", str(place / source), *flags]
-        self.succeeds(f"{compiler} {name}", [*words, "-Lhere/lib", "-ljiponuwha", "-lpthread", "-o", f"{compiler}-{name}"])
+        self.report.succeeds(f"{compiler} {name}", [*words, "-Lhere/lib", "-ljiponuwha", "-lpthread", "-o", f"{compiler}-{name}"])
 
 
 def put_in_place(tried: Library) -> bool:
-    """Whether the library is put below `here`. It is taken as it stands. Where it is not built, but all that it stands on was
-    built by the gate, it is built."""
-    tools = [it for it in ("ar", "rt") if not shutil.which(it)]
+    """Whether the library is below `here`. An existing one is used. If it is not built, but the gate built everything
+    below it, it is built."""
+    report = tried.report
+    tools = [it for it in ("ar", "rt", os.environ.get("CC") or "cc") if not shutil.which(it)]
     if not tools and not BUILT.is_file():
-        run_built([str(TOP / "tools/gate_libraries")])
+        run([str(TOP / "tools/gate_libraries")], longest=None)
         if (TOP / "crates/ados_handler/out/rlib/stamp").is_file():
             run(["timeout", "900", "rt", "lib"], before=partial(os.chdir, TOP / "crates/adf_c"), longest=None)
     if tools:
-        tried.lacks("the library", tools[0])
+        report.lacks("the library", tools[0])
     elif not BUILT.is_file():
-        tried.lacks("the library", "crates/adf_c/out/libadf_c.a (bindings/c/build.sh builds it)")
+        report.lacks("the library", "crates/adf_c/out/libadf_c.a (bindings/c/build.sh builds it)")
     else:
-        tried.succeeds("the library is put in its place", [str(TOP / "bindings/c/build.sh"), "--built", "here"])
+        report.succeeds("the library is put in its place", [str(TOP / "bindings/c/build.sh"), "--built", "here"])
     return Path("here/lib/libjiponuwha.a").exists()
 
 
@@ -191,7 +169,7 @@ def tests(tried: Library, compiler: str) -> None:
     tried.write("empty.c", b"int main(void) { return 0; }\n")
     sanitized = run([compiler, "-fsanitize=address,undefined", "empty.c", "-o", "empty"]).status == 0
     if not sanitized:
-        tried.lacks(f"{compiler} with sanitizers", "library of them")
+        tried.report.lacks(f"{compiler} with sanitizers", "library of them")
     for name in ("cases", "calls", "threads"):
         tried.build(compiler, name)
         tried.passes(f"{compiler} {name} runs", [f"./{compiler}-{name}"])
@@ -205,20 +183,33 @@ def tests(tried: Library, compiler: str) -> None:
 
 def examples(tried: Library, compiler: str) -> None:
     """The examples in C with this compiler."""
+    report = tried.report
     for name in ("tour", "handler", "drawn"):
         tried.build(compiler, name)
     shared = [compiler, "-shared", "-fPIC", *STRICT, "-std=c11", "-Ihere/include", str(EXAMPLES / "tour.c"), "-Wl,-z,text"]
-    tried.succeeds(f"{compiler} shared library", [*shared, "-Lhere/lib", "-ljiponuwha", "-o", f"{compiler}-tour.so"])
+    report.succeeds(f"{compiler} shared library", [*shared, "-Lhere/lib", "-ljiponuwha", "-o", f"{compiler}-tour.so"])
     Path("tour.adf").unlink(missing_ok=True)
-    tried.succeeds(f"{compiler} tour runs", [f"./{compiler}-tour", "tour.adf"])
-    tried.succeeds(f"{compiler} tour runs on the image that it saved", [f"./{compiler}-tour", "tour.adf"])
-    tried.report.check(f"{compiler} handler runs", run_built([f"./{compiler}-handler"]), 0, HANDLED)
+    for name in ("tour runs", "tour runs on the image that it saved"):
+        report.succeeds(f"{compiler} {name}", [f"./{compiler}-tour", "tour.adf"])
+    report.check(f"{compiler} handler runs", run([f"./{compiler}-handler"]), 0, HANDLED)
+
+
+def program_of_page(tried: Library, compiler: str) -> None:
+    """The first program of docs/LIBRARY.md, built as the page says and run on the page's floppy."""
+    page, front = page_of(LIBRARY), ["env", "-C", f"{compiler}-first"]
+    os.mkdir(front[-1])
+    tried.write(f"{front[-1]}/first.c", first_program(page))
+    lines = link_lines(page, tried.top / "here", f"{compiler} -std=c11 -Wall -Wextra -Werror")
+    tried.report.succeeds(f"{compiler} LIBRARY.md: the first program", [*front, "bash", "-e", "-c", lines])
+    os.symlink(tried.program, f"{front[-1]}/adf_serve")
+    first_floppy(front)
+    walk(tried.report, f"{compiler} LIBRARY.md", page, front)
 
 
 def drawn(tried: Library, compiler: str, kind: str, seed: int) -> Optional[str]:
-    """What is wrong where a random client does not do as the program does with its script."""
+    """What is wrong if a random client differs from the program with its script."""
     blank = tried.run("blank", *(["--ffs"] if kind == "ffs" else []), "Work", "floppy.adf")
-    client = run_built([f"./{compiler}-drawn", str(seed), "floppy.adf", "script", "wanted", "mine.adf"])
+    client = run([f"./{compiler}-drawn", str(seed), "floppy.adf", "script", "wanted", "mine.adf"])
     fault = fault_of(blank) or fault_of(client, 0, None)
     if fault:
         return fault
@@ -228,54 +219,67 @@ def drawn(tried: Library, compiler: str, kind: str, seed: int) -> Optional[str]:
     return fault or (None if same else "the images differ")
 
 
+def beside_program(tried: Library, compiler: str) -> None:
+    """The tests that need the program adf_serve."""
+    if not os.access(tried.program, os.X_OK):
+        tried.report.lacks("the random client", "program adf_serve")
+        return
+    for seed in range(1, 6):
+        for kind in ("ffs", "ofs"):
+            tried.report.hold(f"{compiler} drawn {kind} {seed}", drawn(tried, compiler, kind, seed))
+    if shutil.which("pkg-config"):
+        program_of_page(tried, compiler)
+    else:
+        tried.report.lacks(f"{compiler} LIBRARY.md: the first program", "pkg-config")
+
+
 def by_compilers(tried: Library) -> None:
+    """The tests of the library with each compiler."""
+    report = tried.report
     for compiler in ("gcc", "clang"):
-        if not shutil.which(compiler):
-            tried.lacks(f"C by {compiler}", compiler)
-            continue
-        tests(tried, compiler)
-        examples(tried, compiler)
-        if not os.access(tried.program, os.X_OK):
-            tried.lacks("the random client", "program adf_serve")
-            continue
-        for seed in range(1, 6):
-            for kind in ("ffs", "ofs"):
-                tried.report.hold(f"{compiler} drawn {kind} {seed}", drawn(tried, compiler, kind, seed))
+        if shutil.which(compiler):
+            tests(tried, compiler)
+            examples(tried, compiler)
+            beside_program(tried, compiler)
+        else:
+            report.lacks(f"C by {compiler}", compiler)
     for compiler in ("g++", "clang++"):
         if not shutil.which(compiler):
-            tried.lacks(f"C++ by {compiler}", compiler)
+            report.lacks(f"C++ by {compiler}", compiler)
             continue
         words = [compiler, "-std=c++11", *STRICT, "-Ihere/include", str(TESTS / "header.cc")]
-        tried.succeeds(f"{compiler} header", [*words, "-Lhere/lib", "-ljiponuwha", "-o", f"{compiler}-header"])
+        report.succeeds(f"{compiler} header", [*words, "-Lhere/lib", "-ljiponuwha", "-o", f"{compiler}-header"])
         tried.passes(f"{compiler} header runs", [f"./{compiler}-header"])
     if not shutil.which("valgrind"):
-        tried.lacks("runs under valgrind", "valgrind")
+        report.lacks("runs under valgrind", "valgrind")
 
 
 def by_builders(tried: Library) -> None:
     """The files by which others find the library."""
+    report = tried.report
     if shutil.which("pkg-config"):
         found = {"PKG_CONFIG_PATH": "here/lib/pkgconfig"}
-        tried.succeeds("pkg-config", ["pkg-config", "--exists", "jiponuwha"], found)
+        report.succeeds("pkg-config", ["pkg-config", "--exists", "jiponuwha"], env=found)
     else:
-        tried.lacks("the pkg-config file", "pkg-config")
+        report.lacks("the pkg-config file", "pkg-config")
     if shutil.which("cmake") and shutil.which("gcc"):
+        page = page_of(LIBRARY)
         os.mkdir("cmake")
-        tried.write("cmake/CMakeLists.txt", CMAKE.format(EXAMPLES / "tour.c").encode())
-        tried.succeeds("cmake", ["cmake", "-S", "cmake", "-B", "cmake/built", f"-DCMAKE_PREFIX_PATH={tried.top}/here"])
-        tried.succeeds("cmake builds", ["cmake", "--build", "cmake/built"])
+        tried.write("cmake/CMakeLists.txt", code_of(page, "cmake")[0].encode())
+        tried.write("cmake/first.c", first_program(page))
+        report.succeeds("cmake", ["cmake", "-S", "cmake", "-B", "cmake/built", f"-DCMAKE_PREFIX_PATH={tried.top}/here"])
+        report.succeeds("cmake builds", ["cmake", "--build", "cmake/built"])
     else:
-        tried.lacks("the CMake file", "cmake")
+        report.lacks("the CMake file", "cmake")
 
 
 def main(words: List[str]) -> int:
     report = Report()
-    program = Path(words[0] if words else TOP / "crates/adf_serve/out/adf_serve").absolute()
-    with Library(program, report) as tried:
-        report.part("the header's numbers", partial(numbers, report))
+    with Library(built_program(words), report) as tried:
+        tried.part(numbers)
         if put_in_place(tried):
-            report.part("the library by compilers", partial(by_compilers, tried))
-            report.part("the library by builders", partial(by_builders, tried))
+            tried.part(by_compilers)
+            tried.part(by_builders)
     return report.end()
 
 

@@ -1,11 +1,12 @@
 #!/usr/bin/env python3
-"""Clients of a mounted image, for tests/mount.
+"""Clients of a mounted image, for tests/mount.py.
 
-    tests/mount_client.py shadow MOUNTED SHADOW STEPS SEED   does the same random operations in two directories, and compares them
-    tests/mount_client.py kill ADF_MOUNT ADF_SERVE IMAGE DIR ROUNDS SEED   kills the mount at random moments, and looks at the file
-    tests/mount_client.py cases MOUNTED   tries what POSIX says of files that are open, renamed or do not fit
+    tests/mount_client.py shadow MOUNTED SHADOW STEPS SEED   does the same random operations in two directories and compares them
+    tests/mount_client.py kill ADF_MOUNT ADF_SERVE IMAGE DIR ROUNDS SEED   kills the mount at random times and checks the file
+    tests/mount_client.py cases MOUNTED   tests the POSIX rules for open files, renames and a full disk
+    tests/mount_client.py same MOUNTED SHADOW   compares two directories
 
-Each prints what is wrong, and ends with status 1 then.
+Each prints the errors that it finds, and then exits with status 1.
 """
 from __future__ import annotations
 
@@ -25,19 +26,19 @@ sys.dont_write_bytecode = True
 from harness import Room, fault_of
 
 RENAME_NOREPLACE = 1
-DATES_SET = 946_684_800  # dates that are set lie before the year 2000
+DATES_SET = 946_684_800  # dates that are set are before the year 2000
 C = ctypes.CDLL(None, use_errno=True)
 Result = TypeVar("Result")
 
 
 def rename_new(old: str, new: str) -> None:
-    """Renames where nothing has the new name."""
+    """Renames to a name that is free."""
     if C.renameat2(-100, os.fsencode(old), -100, os.fsencode(new), RENAME_NOREPLACE) != 0:
         raise OSError(ctypes.get_errno(), os.strerror(ctypes.get_errno()))
 
 
 class Found(NamedTuple):
-    """What stands at a path: the bytes of a file, what its user may do, and its date where that was set."""
+    """What is at a path: the bytes of a file, its user's rights, and its date if that was set."""
 
     data: Optional[bytes]
     mode: int
@@ -76,13 +77,13 @@ def same_trees(mounted: str, shadow: str) -> Optional[str]:
 
 
 class Shadow:
-    """One random client. Each operation is done in the mounted directory first; where the disk is full it is not done in
-    the shadow, and else both are to end alike."""
+    """One random client. Each operation is done in the mounted directory first. If the disk is full, it is not done in
+    the shadow; otherwise both have to end alike."""
 
     def __init__(self, mounted: str, shadow: str, seed: int) -> None:
         self.mounted, self.shadow = mounted, shadow
         self.random = random.Random(seed)
-        self.open: List[List[int]] = []  # pairs of descriptors of one file
+        self.open: List[List[int]] = []  # pairs of descriptors for one file
         self.full = 0
 
     def name(self) -> str:
@@ -93,12 +94,12 @@ class Shadow:
         return "/".join(self.name() for _ in range(depth))
 
     def spelled(self, path: str) -> str:
-        """A spelling of the path: upper and lower case are one in the letters of ASCII."""
+        """A spelling of the path: upper and lower case are the same for ASCII letters."""
         return "".join(it.upper() if it.isascii() and self.random.random() < 0.2 else it for it in path)
 
     def in_turn(self, what: str, here: Callable[[], Result], there: Callable[[], Result]) -> Optional[List[Result]]:
-        """Does something in the mounted directory, and in the shadow unless the disk is full: both end alike. Answers what
-        both give, or None where they failed."""
+        """Does something in the mounted directory, and in the shadow unless the disk is full: both end alike. Returns
+        both results, or None if they failed."""
         errors: List[int] = []
         results: List[Result] = []
         for action in (here, there):
@@ -132,7 +133,7 @@ class Shadow:
         return os.path.isdir(os.path.join(self.shadow, path))
 
     def is_protected(self, path: str) -> bool:
-        """Whether an object denies to be written and deleted, which nobody passes over here but root in the shadow."""
+        """Whether protection denies writing and deleting an object. Only root in the shadow ignores it."""
         try:
             return os.lstat(os.path.join(self.shadow, path)).st_mode & 0o200 == 0
         except OSError:
@@ -250,7 +251,7 @@ class Shadow:
 def shadow(mounted: str, other: str, steps: str, seed: str) -> Optional[str]:
     client = Shadow(mounted, other, int(seed))
     fault = client.run(int(steps))
-    print(f"      the disk was full {client.full} times", file=sys.stderr)
+    print(f"      the disk was full {client.full} times")
     return f"seed {seed}: {fault}" if fault else None
 
 
@@ -262,10 +263,11 @@ Step = Callable[[], None]
 
 
 class Killed:
-    """One mount that is killed while a client changes it, a step and a save at a time. The disk is never full: a file that was
-    cut when it was opened, and then found no room, would be a state between two steps."""
+    """One mount that is killed while a client changes it, one step and one save at a time. The disk is never full: a
+    file that was emptied by its opening and then found no room would be a state between two steps."""
 
-    # Where the files have more bytes than this, one is deleted. A step adds 60,000 at most, and a floppy has room for both.
+    # If the files have more bytes than this, one is deleted. A step adds at most 60,000, and a floppy has room for
+    # both.
     MANY = 600_000
 
     def __init__(self, adf_mount: str, room: Room, image: str, place: str, chance: random.Random) -> None:
@@ -291,7 +293,7 @@ class Killed:
         return os.path.join(self.place, name)
 
     def write(self, name: str, mode: str, data: bytes) -> None:
-        """Writes a file, and saves it: by its close where it is a new one, or else by itself."""
+        """Writes a file and saves it: a new one by its close, any other by itself."""
         with open(self.at(name), mode) as file:
             file.write(data)
             file.flush()
@@ -313,7 +315,7 @@ class Killed:
         self.settle()
 
     def next_step(self, state: State) -> Tuple[Step, State]:
-        """What is done next, as a function, and the state after it."""
+        """The next step, as a function, and the state after it."""
         after, names = dict(state), sorted(state)
         kind = self.random.choice(["write", "write", "write", "part", "delete", "move"]) if names else "write"
         if sum(map(len, state.values())) > self.MANY:
@@ -334,7 +336,7 @@ class Killed:
         return lambda: self.move(name, moved), after
 
     def work(self) -> None:
-        """Changes until the mount is gone."""
+        """Makes changes until the mount is gone."""
         try:
             while True:
                 step, after = self.next_step(self.states[-1])
@@ -378,18 +380,18 @@ def kill(adf_mount: str, adf_serve: str, image: str, place: str, rounds: str, se
             fault = killed.round()
             if fault:
                 return f"seed {seed}, round {count}: {fault}"
-    print(f"      killed {rounds} times, behind {killed.saves} saves", file=sys.stderr)
+    print(f"      killed {rounds} times, behind {killed.saves} saves")
     return None if killed.saves else "nothing was saved before a kill"
 
 
-# ---- what POSIX says
+# ---- POSIX rules
 
-# An action, and the number of the error with which it is to end, or 0.
+# An action, and the number of the error that it has to end with, or 0.
 Attempt = Tuple[int, Callable[[], object]]
 
 
 def end_so(*attempts: Attempt) -> bool:
-    """Whether each action ends as it is to, one after another."""
+    """Whether each action ends as expected, one after the other."""
     for number, action in attempts:
         try:
             action()
@@ -574,7 +576,7 @@ CASES = [kept_when_unlinked, kept_when_renamed, kept_when_directory_goes, mode_o
 
 
 def clear() -> None:
-    """Nothing is left in the current directory."""
+    """The current directory is empty."""
     for folder, folders, files in os.walk(".", topdown=False):
         for name in files:
             os.unlink(os.path.join(folder, name))
@@ -583,8 +585,8 @@ def clear() -> None:
 
 
 def cases(top: str) -> Optional[str]:
-    """What is wrong in the first case that fails. Each has the mounted directory for its current one, with nothing in it, and
-    tells whether all is as POSIX says."""
+    """What is wrong in the first case that fails. Each case has the mounted directory as its current one, empty, and
+    returns whether everything is as in POSIX."""
     os.chdir(top)
     for case in CASES:
         if not case():
@@ -594,7 +596,7 @@ def cases(top: str) -> Optional[str]:
 
 
 def main(words: List[str]) -> int:
-    clients: Dict[str, Callable[..., Optional[str]]] = {"shadow": shadow, "kill": kill, "cases": cases}
+    clients: Dict[str, Callable[..., Optional[str]]] = {"shadow": shadow, "kill": kill, "cases": cases, "same": same_trees}
     wrong = clients[words[0]](*words[1:])
     if wrong:
         print(wrong)

@@ -1,4 +1,4 @@
-/* What the test programs share: checks that are counted, and packets in one call each. */
+/* Functions that the test programs share: they count checks, and send a packet in one call. */
 #ifndef ASKING_H
 #define ASKING_H
 
@@ -8,7 +8,7 @@
 
 static int passed, failed;
 
-/* Counts a check of a case, and tells of one that fails. */
+/* Counts a check of a case, and reports a failed one. */
 static inline void expect(const char *name, int holds, int line) {
     if (holds) {
         passed++;
@@ -32,7 +32,7 @@ static inline int summed_up(void) {
 
 static jip_date now = {0, 0, 0};
 
-/* Serves a packet. The library is not to refuse it; what it comes to is the caller's to look at. */
+/* Serves a packet, and returns its answer. The status has to be JIP_DONE; the caller checks the two results. */
 static inline jip_answer asked(jip_handle *h, const jip_packet *packet) {
     jip_answer answer;
     memset(&answer, 0, sizeof answer);
@@ -98,7 +98,7 @@ static inline jip_answer set_size(jip_handle *h, uint32_t file, int32_t offset, 
 }
 static inline jip_answer other(jip_handle *h, int32_t action) { ASK(h, jip_begin(&p, action, now)); }
 
-/* A file of so many bytes, with no handle left on it. */
+/* Makes a file with this many bytes, and closes it. */
 static inline void make_file(jip_handle *h, const char *name, size_t length) {
     char *bytes = (char *)calloc(length + 1, 1);
     uint32_t file = find_output(h, name).handle;
@@ -107,7 +107,7 @@ static inline void make_file(jip_handle *h, const char *name, size_t length) {
     free(bytes);
 }
 
-/* A directory with no lock left on it. */
+/* Makes a directory, and frees its lock. */
 static inline void make_directory(jip_handle *h, const char *name) {
     RESULTS(name, free_lock(h, (uint32_t)create_dir(h, name).res1), JIP_DOSTRUE, 0);
 }
@@ -116,7 +116,7 @@ static inline int is_named(jip_answer answer, const char *name) {
     return answer.res2 == 0 && answer.entry.name_length == strlen(name) && strcmp((const char *)answer.entry.name, name) == 0;
 }
 
-/* The image, which the caller frees. */
+/* Returns a copy of the image. The caller frees it. */
 static inline uint8_t *image_of(jip_handle *h, size_t *length) {
     *length = jip_image_length(h);
     uint8_t *bytes = (uint8_t *)calloc(*length + 1, 1);

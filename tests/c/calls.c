@@ -1,4 +1,4 @@
-/* What each call of the library takes and refuses, images that are opened and copied, and the count of changes. */
+/* Tests which arguments each call of the library refuses, opening and copying images, and the count of changes. */
 #include "asking.h"
 
 static void wrong_arguments(void) {
@@ -42,7 +42,7 @@ static void wrong_arguments(void) {
     EXPECT("close", jip_close(&closed) == JIP_DONE && jip_close(&h) == JIP_DONE && h.behind == NULL && jip_close(&h) == JIP_DONE);
 }
 
-/* What is not aligned, and what overlaps that a call writes. */
+/* Unaligned pointers, and outputs that overlap. */
 static void places(void) {
     static union { jip_packet packet; jip_answer answer; uint8_t bytes[512]; } room;
     static uint8_t copy[901120];
@@ -78,7 +78,7 @@ static void places(void) {
     jip_close(&h);
 }
 
-/* What WRITE reads may lie where nothing can be written. */
+/* The bytes of a WRITE may be in read-only memory. */
 static void constant_bytes(void) {
     static const char constant[] = "constant";
     jip_handle h = blank(JIP_OFS, JIP_DOUBLE_DENSITY);
@@ -97,7 +97,7 @@ static int is_refused(const uint8_t *bytes, size_t length, int32_t kind, uint32_
     return jip_open(bytes, length, &h, &fault) == JIP_NOT_AN_IMAGE && fault.kind == kind && fault.block == block && h.behind == NULL;
 }
 
-/* An image is opened, changed and opened again; one that is damaged is refused. */
+/* Opens an image, changes it, and opens the result. A damaged image is refused. */
 static void images(void) {
     jip_handle h = blank(JIP_FFS, JIP_DOUBLE_DENSITY), again = JIP_CLOSED;
     jip_fault fault = {JIP_FAULT_NONE, 0};
@@ -145,7 +145,7 @@ static void changes(void) {
     jip_close(&h);
 }
 
-/* The copy that a caller keeps is brought up to date, and only the blocks that differ are told. */
+/* The caller's copy is updated, and only the blocks that differ are listed. */
 static void changed_blocks(void) {
     static uint32_t numbers[1760];
     jip_handle h = blank(JIP_FFS, JIP_DOUBLE_DENSITY), closed = JIP_CLOSED;

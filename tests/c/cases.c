@@ -1,7 +1,7 @@
-/* The worked cases of packets, as a C program sees them. */
+/* Worked cases of packets, sent by a C program. */
 #include "asking.h"
 
-/* The root lists these names and no others, in this order. */
+/* Checks that the root has exactly these names, in this order. */
 static int lists(jip_handle *h, const char *const *names) {
     jip_answer entry = examine(h, 0);
     for (; *names != NULL; names++) {

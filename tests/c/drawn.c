@@ -1,5 +1,6 @@
-/* A client that draws packets at random: it writes each as a line of a script, serves it, and prints what the program `adf_serve`
- * is to print of that line. It keeps a copy of the image up to date meanwhile, by the blocks that changed. Then it writes the image.
+/* A client that draws packets at random. It writes each as a line of a script, serves it, and prints what the program
+ * `adf_serve` has to print for that line. Meanwhile it updates a copy of the image by the changed blocks. At the end it
+ * writes the image.
  *
  *   drawn SEED IMAGE SCRIPT WANTED AFTER     reads the image, and writes the other three files
  */
@@ -19,7 +20,7 @@ static const char *name(void) {
     return names[drawn(sizeof names / sizeof *names)];
 }
 
-/* What the answer comes to, as the program prints it. */
+/* Prints the answer as the program prints it. */
 static void tell(const jip_answer *answer, const jip_packet *packet) {
     fprintf(wanted, "1.%d %d %d", number, (int)answer->res1, (int)answer->res2);
     if (packet->action == JIP_ACTION_READ && answer->res1 > 0) {
@@ -62,7 +63,7 @@ static void draw_object(jip_packet *p) {
     }
 }
 
-/* The same of a packet on a file. */
+/* The same for a packet on a file. */
 static void draw_file(jip_packet *p) {
     static char buffer[6000];
     uint32_t file = 1 + drawn(4), lock = drawn(3), length = drawn(8) == 0 ? drawn(6000) : drawn(40);
@@ -85,7 +86,7 @@ static void draw_file(jip_packet *p) {
     }
 }
 
-/* Brings the copy up to date. Where the count of changes is the same no block differs, and each block that is told does. */
+/* Updates the copy. While the count of changes is the same, no block differs; and each listed block does. */
 static void follow(jip_handle *h, uint8_t *copy, size_t length) {
     static uint32_t numbers[JIP_MOST_BLOCKS];
     static uint64_t before;

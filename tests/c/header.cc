@@ -1,4 +1,4 @@
-// The header from C++: a packet is served, and the image is copied.
+// Tests the header from C++: serves a packet, and copies the image.
 #include <jiponuwha.h>
 #include <cstdio>
 #include <vector>

@@ -1,4 +1,4 @@
-/* Two handles on two threads, each opened, used and closed on its own; and one that goes from thread to thread. */
+/* Tests two handles on two threads, each opened, used and closed on its thread; and one handle that changes threads. */
 #include "asking.h"
 #include <pthread.h>
 
@@ -14,7 +14,7 @@ static int32_t ask(struct work *work, const jip_packet *packet, jip_answer *answ
     return answer->res2;
 }
 
-/* Makes 200 files of its own, and looks at what each has. */
+/* Makes 200 files on a handle of this thread, and checks each. */
 static void *serve_files(void *at) {
     struct work *work = at;
     jip_packet packet;
@@ -44,7 +44,7 @@ static void *serve_files(void *at) {
     return NULL;
 }
 
-/* Makes a directory by a handle that another thread opened. */
+/* Makes a directory with a handle that another thread opened. */
 static void *make_one(void *at) {
     struct work *work = at;
     jip_packet packet;

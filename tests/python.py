@@ -1,0 +1,175 @@
+#!/usr/bin/env python3
+"""Tests the Python package: its own suite over the shared library, its types, and its wheel in an empty environment.
+
+    tests/python.py
+
+It prints a line for each check, reports what it skipped, and ends with `N passed, M failed`. The status is 1 if a check failed.
+It proves nothing, and uses the built library.
+"""
+from __future__ import annotations
+
+import importlib.util
+import os
+import re
+import shutil
+import sys
+import zipfile
+from functools import partial
+from pathlib import Path
+from typing import List, Optional
+
+sys.dont_write_bytecode = True
+
+from harness import TOP, Ran, Report, run
+from shared import LIBRARY, PAGE, Place, put_in_place, version
+
+PACKAGE = TOP / "bindings" / "python"
+WHEEL = str(TOP / "tools" / "wheel")
+# Makes the floppy that the code of docs/LIBRARY.md reads and changes.
+WORK = """import jiponuwha as jip
+with jip.create("Work", "work.adf") as floppy:
+    floppy.mkdir("S")
+    floppy.mkdir("Docs")
+    floppy["S/startup-sequence"] = b"echo hello"
+    floppy.save()
+"""
+# Checks the floppy afterwards.
+LEFT = """import jiponuwha as jip
+with jip.open("work.adf") as floppy:
+    assert floppy["Docs/new"].read() == b"text"
+"""
+# Prints the names that the package exports, and those of its classes.
+NAMES = """import jiponuwha as jip
+for name in jip.__all__:
+    print(name)
+for kind in (jip.Volume, jip.Path, jip.File):
+    for name in vars(kind):
+        if not name.startswith("_"):
+            print(name)
+"""
+
+
+def suite_fault(ran: Ran) -> Optional[str]:
+    """Returns the failure of a run of the suite, if any."""
+    tried = re.search(rb"(?m)^Ran ([0-9]+) tests", ran.texts)
+    if ran.status == 0 and tried and int(tried[1]) > 20 and b"Exception ignored" not in ran.texts:
+        return None
+    return f"status {ran.status}, printed {ran.texts[-1500:].decode(errors='replace')}"
+
+
+def run_suite(tried: Place, name: str, python: str, library: Optional[str]) -> None:
+    """Runs the suite below `suite`. It uses the installed package, or that of the repository."""
+    found = {"JIPONUWHA_LIBRARY": library or "", "PYTHONPATH": str(PACKAGE) if library else ""}
+    words = [python, "-X", "dev", "-m", "unittest", "discover", "-s", "tests", "-t", "."]
+    ran = run(words, before=partial(os.chdir, tried.top / "suite"), env={**found, "PYTHONDONTWRITEBYTECODE": "1"}, longest=None)
+    tried.report.hold(name, suite_fault(ran))
+
+
+def suite(tried: Place) -> None:
+    """Runs the suite with the package of the repository, next to its header and elsewhere."""
+    library = str(tried.top / LIBRARY)
+    shutil.copytree(PACKAGE / "tests", "suite/tests")
+    run_suite(tried, "the suite, away from the repository", sys.executable, library)
+    here = {"JIPONUWHA_LIBRARY": library, "PYTHONDONTWRITEBYTECODE": "1"}
+    words = [sys.executable, "-m", "unittest", "discover", "-s", "tests", "-t", "."]
+    tried.report.hold("the suite beside the header", suite_fault(run(words, before=partial(os.chdir, PACKAGE), env=here, longest=None)))
+    lost = run([sys.executable, "-c", "import jiponuwha"], env={"PYTHONPATH": str(PACKAGE), "JIPONUWHA_LIBRARY": "/none"})
+    said = lost.status == 1 and b"ImportError" in lost.texts and b"JIPONUWHA_LIBRARY" in lost.texts
+    tried.report.expect("without the library it says what is missing", said, lost)
+
+
+def types(tried: Place) -> None:
+    """Checks with mypy that the package and its suite are fully typed."""
+    if shutil.which("mypy"):
+        words = ["mypy"]
+    elif importlib.util.find_spec("mypy"):
+        words = [sys.executable, "-m", "mypy"]
+    else:
+        tried.report.skip("the types", "there is no mypy")
+        return
+    where = ["--cache-dir", str(tried.top / "mypy"), "--python-version", "3.11", "jiponuwha", "tests"]
+    ran = run([*words, "--strict", *where], before=partial(os.chdir, PACKAGE), longest=None)
+    tried.report.expect("mypy --strict", ran.status == 0, ran)
+    tried.runs("mypy --strict of the tool", [*words, "--strict", "--cache-dir", "mypy", "--python-version", "3.11", WHEEL])
+
+
+def names(tried: Place) -> None:
+    """Checks that docs/LIBRARY.md lists each name of the package."""
+    found = {"PYTHONPATH": str(PACKAGE), "JIPONUWHA_LIBRARY": str(tried.top / LIBRARY), "PYTHONDONTWRITEBYTECODE": "1"}
+    given = run([sys.executable, "-c", NAMES], env=found).output.decode().split()
+    page = PAGE.read_text()
+    lacking = sorted({it for it in given if not re.search(rf"`[^`]*\b{it}\b[^`]*`", page)})
+    tried.report.expect("docs/LIBRARY.md has each name of the package", bool(given) and not lacking, lacking)
+
+
+# ---- The wheel ----
+
+
+def pack(tried: Place) -> Optional[Path]:
+    """Makes a wheel with the built library."""
+    tried.runs("a wheel is packed", [sys.executable, WHEEL, "here", "wheels"])
+    tried.runs("and packed again", [sys.executable, WHEEL, "here", "again"])
+    found = sorted(Path("wheels").iterdir())
+    if len(found) != 1:
+        return None
+    wheel = found[0].resolve()
+    tried.report.same("it has the same bytes", wheel.read_bytes(), Path("again", wheel.name).read_bytes())
+    inside = set(zipfile.ZipFile(wheel).namelist())
+    info = f"jiponuwha-{'.'.join(version())}.dist-info"
+    wanted = {"jiponuwha/__init__.py", "jiponuwha/py.typed", "jiponuwha/libjiponuwha.so.1"}
+    wanted |= {f"{info}/{it}" for it in ("METADATA", "WHEEL", "RECORD")}
+    tried.report.expect("it has the package, the library and what is said of them", wanted <= inside, sorted(inside))
+    return wheel
+
+
+def page_lines() -> List[str]:
+    """Returns the Python code of docs/LIBRARY.md."""
+    return re.findall(r"(?ms)^```python\n(.*?)^```$", PAGE.read_text())
+
+
+def installed(tried: Place, python: str) -> None:
+    """Returns the files that the wheel installs into an empty environment."""
+    plain = {"PYTHONPATH": "", "JIPONUWHA_LIBRARY": "", "PYTHONDONTWRITEBYTECODE": "1"}
+    run_suite(tried, "the suite over what is installed", python, None)
+    lines = page_lines()
+    tried.report.expect("docs/LIBRARY.md has Python", bool(lines))
+    for at, program in enumerate(lines):
+        name = f"the Python of docs/LIBRARY.md, {at + 1}"
+        tried.write("page.py", program.encode())
+        if tried.runs(f"{name}: a floppy", [python, "-c", WORK], plain):
+            tried.runs(f"{name}: it runs", [python, "-X", "dev", "page.py"], plain)
+            tried.runs(f"{name}: the floppy is changed", [python, "-c", LEFT], plain)
+
+
+def wheel(tried: Place) -> None:
+    packed = pack(tried)
+    if packed is None:
+        return
+    if not importlib.util.find_spec("venv") or not importlib.util.find_spec("ensurepip"):
+        tried.report.skip("an empty environment", "there is no venv, or no ensurepip (Debian: python3-venv)")
+        return
+    if not tried.runs("an empty environment", [sys.executable, "-m", "venv", "empty"]):
+        return
+    python = str(tried.top / "empty/bin/python")
+    words = [python, "-m", "pip", "--isolated", "--disable-pip-version-check", "install", "--no-index", str(packed)]
+    if tried.runs("the wheel is installed without a network", words):
+        installed(tried, python)
+
+
+def main() -> int:
+    report = Report()
+    written_for = re.search(r"WRITTEN_FOR = \((\d+), (\d+)\)", (PACKAGE / "jiponuwha/_library.py").read_text())
+    report.same("the package is for the version of the header", written_for and list(written_for.groups()), version()[:2])
+    if sys.version_info < (3, 11):
+        report.skip("the package", f"this is Python {sys.version.split()[0]}, and not 3.11 or later")
+        return report.end()
+    with Place(report) as tried:
+        report.ends("the types", partial(types, tried))
+        if put_in_place(tried):
+            for name, part in (("the suite", suite), ("the names", names), ("the wheel", wheel)):
+                report.ends(name, partial(part, tried))
+    return report.end()
+
+
+if __name__ == "__main__":
+    sys.exit(main())

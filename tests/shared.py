@@ -1,0 +1,283 @@
+#!/usr/bin/env python3
+"""Tests the shared C library and its C functions over packets: the exported symbols, whole files, and the examples of the
+header and of docs/LIBRARY.md.
+
+    tests/shared.py
+
+It prints a line for each check, reports what it skipped, and ends with `N passed, M failed`. The status is 1 if a check failed.
+It proves nothing, and uses the built library.
+"""
+from __future__ import annotations
+
+import os
+import platform
+import re
+import shutil
+import sys
+from functools import partial
+from pathlib import Path
+from typing import Callable, Dict, List, Mapping, Optional, Sequence, Set
+
+sys.dont_write_bytecode = True
+
+from harness import TOP, Report, Room, run
+
+C = TOP / "bindings" / "c"
+HEADER, AMIGA = C / "jiponuwha.h", C / "jiponuwha_amiga.h"
+SYMBOLS, TEXTS = C / "jiponuwha.map", C / "src" / "texts.c"
+PAGE = TOP / "docs" / "LIBRARY.md"
+WORDS = TOP / "crates/adf_transfer/src/refused.rt"
+BUILT = TOP / "crates/adf_c/out/libadf_c.a"
+STRICT = ["-Wall", "-Wextra", "-Wpedantic", "-Wconversion", "-Werror"]
+STANDARDS = {"gcc": "c11", "clang": "c11", "g++": "c++17", "clang++": "c++17"}
+LIBRARY = "here/lib/libjiponuwha.so.1"
+SHARED = [LIBRARY, "-Wl,-rpath,$ORIGIN/here/lib"]
+STATIC = ["here/lib/libjiponuwha.a"]
+CMAKE = """cmake_minimum_required(VERSION 3.10)
+project(whole C)
+find_package(jiponuwha REQUIRED)
+add_executable(whole {})
+target_link_libraries(whole jiponuwha::shared)
+"""
+# Makes work.adf with the file Docs/hello, and checks the results of the examples.
+WORK = """#include <jiponuwha.h>
+int main(int count, char **words) {
+    const jip_date now = {4383, 0, 0};
+    jip_handle h = JIP_CLOSED;
+    jip_fault fault;
+    jip_packet packet;
+    jip_answer answer;
+    char text[8];
+    size_t length;
+    if (count > 1)
+        return jip_load(words[1], &h, &fault) != JIP_DONE ||
+               jip_read_file(&h, words[2], JIP_TO_ZERO, text, sizeof text, &length) != JIP_DONE || length != 5;
+    jip_blank(JIP_FFS, JIP_DOUBLE_DENSITY, "Work", 4, now, &h);
+    jip_create_dir(&packet, now, 0, "Docs");
+    if (jip_serve(&h, &packet, &answer) != JIP_DONE) return 1;
+    return jip_write_file(&h, now, "Docs/hello", JIP_TO_ZERO, "hello", 5) != JIP_DONE || jip_store(&h, "work.adf") != JIP_DONE;
+}
+"""
+
+
+class Place(Room):
+    """A temporary directory with the library, in `here`, and the programs that use it."""
+
+    def __init__(self, report: Report) -> None:
+        super().__init__(TOP / "crates/adf_serve/out/adf_serve", report)
+
+    def runs(self, name: str, command: Sequence[str], env: Optional[Mapping[str, str]] = None) -> bool:
+        """Returns whether a command of this machine succeeds."""
+        ran = run(command, env=env, longest=None)
+        self.report.expect(name, ran.status == 0, ran)
+        return ran.status == 0
+
+    def passes(self, name: str, command: Sequence[str]) -> None:
+        """Checks that a command succeeds, and that its last line is `N passed, 0 failed`."""
+        ran = run(command, longest=None)
+        passed = ran.status == 0 and re.search(rb"(^|\n)[1-9][0-9]* passed, 0 failed\n?$", ran.output) is not None
+        self.report.expect(name, passed, ran)
+
+    def compile(self, compiler: str, source: Path, to: str, *flags: str) -> bool:
+        """Builds a program. Returns whether that succeeded."""
+        words = [compiler, f"-std={STANDARDS[compiler]}", "-O1", "-g", *STRICT, "-Ihere/include", str(source), "-o", to]
+        return self.runs(f"{to} is built", [*words, *flags])
+
+
+def put_in_place(tried: Place) -> bool:
+    """Installs the built library in `here`. Returns whether that succeeded."""
+    lacking = [it for it in ("ar", "rt", os.environ.get("CC") or "cc") if not shutil.which(it)]
+    if lacking:
+        tried.report.skip("the library", f"there is no {lacking[0]}")
+    elif not BUILT.is_file():
+        tried.report.skip("the library", "there is no crates/adf_c/out/libadf_c.a (bindings/c/build.sh builds it)")
+    else:
+        return tried.runs("the library is put in its place", [str(C / "build.sh"), "--built", "here"])
+    return False
+
+
+# ---- Exported symbols ----
+
+
+def header_text() -> str:
+    """Returns the two headers without their comments."""
+    return re.sub(r"/\*.*?\*/", "", HEADER.read_text() + AMIGA.read_text(), flags=re.S)
+
+
+def declared() -> Set[str]:
+    """Returns the functions that the headers declare and do not define."""
+    return set(re.findall(r"(?m)^(?!static)[a-z0-9_]+[a-z0-9_ ]* \*?(jip_[a-z_]+)\([^)]*\);", header_text()))
+
+
+def listed() -> Set[str]:
+    """Returns the symbols of the list."""
+    return set(re.findall(r"(?m)^ *(jip_[a-z_]+);$", SYMBOLS.read_text()))
+
+
+def version() -> List[str]:
+    """Returns the numbers of the header's version."""
+    return re.findall(r"(?m)^#define JIP_VERSION_(?:MAJOR|MINOR|PATCH) (\d+)$", HEADER.read_text())
+
+
+def camel_case(name: str) -> str:
+    """Converts the name of an error in the header to its name in Rattle."""
+    return "".join(it.capitalize() for it in name.split("_")).replace("DirNot", "DirectoryNot")
+
+
+def quick_start() -> str:
+    """Returns the program in the first comment of the header."""
+    found = re.search(r"(?ms)^ \*     #include.*?^ \*     \}$", HEADER.read_text())
+    return "".join(f"{it[7:]}\n" for it in found[0].splitlines()) if found else ""
+
+
+def texts(report: Report) -> None:
+    """Compares the library's messages for errors with those of the program."""
+    words: Dict[str, str] = dict(re.findall(r'DosError::(\w+) => "(.*)",', WORDS.read_text()))
+    rows = re.findall(r'\{JIP_ERROR_([A-Z_]+), "(.*)"\},', TEXTS.read_text())
+    report.same("errors have the program's words", {camel_case(name): text for name, text in rows}, words)
+    errors = re.findall(r"JIP_ERROR_([A-Z_]+) = ", HEADER.read_text())
+    faults = re.findall(r"JIP_FAULT_([A-Z_]+) = ", HEADER.read_text())
+    report.same("each error has words", sorted(name for name, _ in rows), sorted(errors))
+    named = re.findall(r"\{JIP_FAULT_([A-Z_]+), ", TEXTS.read_text())
+    report.same("each fault has words", sorted(named), sorted(faults))
+
+
+def lists(report: Report) -> None:
+    report.same("the list has the functions of the headers", listed(), declared())
+    nodes = re.findall(r"(?m)^JIPONUWHA_([0-9.]+) \{$", SYMBOLS.read_text())
+    report.expect("the list has the header's version", bool(nodes) and nodes[-1] == ".".join(version()[:2]), nodes)
+    lines = quick_start().count("\n")
+    report.expect("the header begins with a quick start of at most 20 lines", 0 < lines <= 20, lines)
+
+
+def symbols(tried: Place) -> None:
+    """Checks that the built library exports the symbols of the list, and nothing else."""
+    if not shutil.which("nm") or not shutil.which("readelf"):
+        tried.report.skip("the symbols", "there is no nm, or no readelf")
+        return
+    ran = run(["nm", "-D", "--defined-only", LIBRARY])
+    found = {it.split()[2].partition("@")[0] for it in ran.output.decode().splitlines() if it.split()[1] != "A"}
+    tried.report.same("the library exports the symbols of the list", found, listed())
+    dynamic = run(["readelf", "-d", LIBRARY]).output.decode()
+    tried.report.expect("its soname", "soname: [libjiponuwha.so.1]" in dynamic, dynamic)
+    needed = re.findall(r"\(NEEDED\).*\[(.*)\]", dynamic)
+    tried.report.same("it needs the C library alone", needed, ["libc.so.6"])
+    tried.report.expect("it is position-independent", "TEXTREL" not in dynamic, dynamic)
+
+
+# ---- Clients ----
+
+
+def clients(tried: Place, compiler: str) -> None:
+    """Runs the tests in C or C++ with this compiler: plain, with sanitizers, and under valgrind."""
+    source = TOP / "tests" / "c" / ("floppy.cc" if compiler.endswith("++") else "whole.c")
+    name = f"{compiler}-{source.stem}"
+    if tried.compile(compiler, source, name, *SHARED):
+        tried.passes(f"{name} runs", [f"./{name}"])
+        if shutil.which("valgrind"):
+            tried.passes(f"{name} under valgrind", ["valgrind", "-q", "--error-exitcode=9", "--leak-check=full", f"./{name}"])
+    if tried.compile(compiler, source, f"{name}-static", *STATIC):
+        tried.passes(f"{name}-static runs", [f"./{name}-static"])
+    tried.write("empty.c", b"int main(void) { return 0; }\n")
+    if run([compiler, "-fsanitize=address,undefined", "empty.c", "-o", "empty"]).status != 0:
+        tried.report.skip(f"{compiler} with sanitizers", "there is no library of them")
+        return
+    sanitized = ["-fsanitize=address,undefined", "-fno-sanitize-recover=all"]
+    if tried.compile(compiler, source, f"{name}-sanitized", *SHARED, *sanitized):
+        tried.passes(f"{name}-sanitized runs", [f"./{name}-sanitized"])
+
+
+def sanitized_library(tried: Place) -> None:
+    """Runs the tests with the C code of the library under sanitizers too."""
+    flags = "-fsanitize=address,undefined -fno-sanitize-recover=all"
+    if run(["gcc", *flags.split(), "empty.c", "-o", "empty"]).status != 0:
+        tried.report.skip("a sanitized library", "there is no library of them")
+        return
+    built = tried.runs("a sanitized library", [str(C / "build.sh"), "--built", "sane"], {"CC": "gcc", "CFLAGS": flags})
+    source = TOP / "tests" / "c" / "whole.c"
+    if built and tried.compile("gcc", source, "sane-whole", "sane/lib/libjiponuwha.a", *flags.split()):
+        tried.passes("the tests over it", ["./sane-whole"])
+
+
+def refused_growths(tried: Place) -> None:
+    """Refuses each growth of memory in turn."""
+    if platform.libc_ver()[0] != "glibc":
+        tried.report.skip("refused growths", "the C library is not glibc")
+        return
+    for name, library in (("refused", SHARED), ("refused-static", STATIC)):
+        if tried.compile("gcc", TOP / "tests" / "c" / "refused.c", name, *library):
+            tried.passes(f"{name} runs", [f"./{name}"])
+
+
+def compilers(tried: Place) -> None:
+    for compiler in STANDARDS:
+        if shutil.which(compiler):
+            clients(tried, compiler)
+        else:
+            tried.report.skip(f"clients by {compiler}", f"there is no {compiler}")
+    if shutil.which("gcc"):
+        sanitized_library(tried)
+        refused_growths(tried)
+    if not shutil.which("valgrind"):
+        tried.report.skip("runs under valgrind", "there is no valgrind")
+
+
+# ---- Examples ----
+
+
+def examples(tried: Place, compiler: str) -> None:
+    """Runs the programs of the header and of the page unchanged."""
+    tried.write("work.c", WORK.encode())
+    tried.write("start.c", quick_start().encode())
+    programs = re.findall(r"(?ms)^```c\n(.*?)^```$", PAGE.read_text())
+    whole = [it for it in programs if "int main(" in it]
+    tried.report.expect("docs/LIBRARY.md has programs", len(whole) > 0)
+    for at, program in enumerate(whole):
+        tried.write(f"page-{at}.c", program.encode())
+    tried.compile(compiler, Path("work.c"), "work", *SHARED)
+    for name in ["start", *(f"page-{at}" for at in range(len(whole)))]:
+        if tried.compile(compiler, Path(f"{name}.c"), name, *SHARED):
+            tried.runs(f"{name} has its floppy", ["./work"])
+            tried.runs(f"{name} runs", [f"./{name}"])
+            if name == "start":
+                tried.runs("the quick start copies a file", ["./work", "work.adf", "Docs/copy"])
+
+
+def builders(tried: Place) -> None:
+    """Builds programs that find the shared library by pkg-config and by CMake."""
+    source = str(TOP / "tests" / "c" / "whole.c")
+    if shutil.which("pkg-config"):
+        found = {"PKG_CONFIG_PATH": "here/lib/pkgconfig"}
+        flags = run(["pkg-config", "--cflags", "--libs", "jiponuwha-shared"], env=found).output.decode().split()
+        if tried.runs("built by pkg-config", ["gcc", "-std=c11", source, "-o", "by-pkg-config", *flags]):
+            tried.passes("it runs", ["./by-pkg-config"])
+        said = [run(["pkg-config", "--modversion", it], env=found).output.decode().strip() for it in ("jiponuwha", "jiponuwha-shared")]
+        tried.report.same("pkg-config says the header's version", said, [".".join(version())] * 2)
+    else:
+        tried.report.skip("the pkg-config file", "there is no pkg-config")
+    if shutil.which("cmake"):
+        os.mkdir("cmake")
+        tried.write("cmake/CMakeLists.txt", CMAKE.format(source).encode())
+        words = ["cmake", "-S", "cmake", "-B", "cmake/built", f"-DCMAKE_PREFIX_PATH={tried.top}/here"]
+        if tried.runs("cmake", words) and tried.runs("built by cmake", ["cmake", "--build", "cmake/built"]):
+            tried.passes("it runs", ["cmake/built/whole"])
+    else:
+        tried.report.skip("the CMake file", "there is no cmake")
+
+
+def main() -> int:
+    report = Report()
+    with Place(report) as tried:
+        report.ends("the texts", partial(texts, report))
+        report.ends("the lists", partial(lists, report))
+        if put_in_place(tried):
+            parts: Dict[str, Callable[[], None]] = {"the symbols": partial(symbols, tried), "clients": partial(compilers, tried)}
+            if shutil.which("gcc"):
+                parts = {**parts, "examples": partial(examples, tried, "gcc"), "builders": partial(builders, tried)}
+            for name, part in parts.items():
+                report.ends(name, part)
+    return report.end()
+
+
+if __name__ == "__main__":
+    sys.exit(main())
