@@ -1,12 +1,12 @@
 #!/usr/bin/env python3
-"""Lists the public calls of each crate with their clauses, a page a crate in docs/contracts.
+"""Lists the public calls of each crate with their clauses, one page per crate in docs/contracts.
 
     tools/contracts.py           writes the pages
-    tools/contracts.py --check   exits 1 where a page is not what the sources make, and names it
+    tools/contracts.py --check   prints each page that differs from the sources, and exits with 1 then
 
 A public call is a function that the crate's lib.rt or main.rt exports by `pub use` or `pub mod`, a method of an exported type,
-or a member of an exported trait. The sources are laid out as rustfmt does it: items of a file begin in its first column, and
-members of an `impl` or a trait in the fifth.
+or a member of an exported trait. The sources must have the layout of rustfmt: items of a file begin in the first
+column, and members of an `impl` or a trait in the fifth.
 """
 from __future__ import annotations
 
@@ -26,7 +26,7 @@ USE = re.compile(r"^pub use (\w+)(?:::(\w+)|::\{([^}]*)\});", re.M)
 
 @dataclass(frozen=True)
 class Call:
-    """A public call, or the members of a trait that only contracts see."""
+    """A public call, or the ghost members of a trait."""
 
     owner: str
     name: str
@@ -35,7 +35,7 @@ class Call:
     text: str
 
     def markdown(self, crate: str) -> str:
-        """What the page of its crate has of it."""
+        """The text of this call on the page of its crate."""
         link = f"[{self.file}](../../crates/{crate}/src/{self.file})"
         head = f"**`{self.name}`**, {link}" + (f": {self.doc}" if self.doc else "")
         return f"{head}\n\n```rust\n{self.text}\n```\n"
@@ -43,7 +43,7 @@ class Call:
 
 @dataclass
 class Exports:
-    """What a crate exports: its own names in their order, the modules that are public, and names of other crates."""
+    """The exports of a crate: its own names in order, its public modules, and names of other crates."""
 
     names: list[str]
     modules: set[str]
@@ -51,7 +51,7 @@ class Exports:
 
 
 def exports_of(root: Path) -> Exports:
-    """What the lib.rt or main.rt of a crate exports."""
+    """Returns the exports of the lib.rt or main.rt of a crate."""
     text = re.sub(r"//[^\n]*", "", root.read_text())
     found = Exports([], set(re.findall(r"^pub mod (\w+);", text, re.M)), {})
     for module, one, several in USE.findall(text):
@@ -66,7 +66,8 @@ def exports_of(root: Path) -> Exports:
 
 
 def end_of_head(text: str, start: int) -> int:
-    """Where the head of a function ends, before its body or the semicolon: a brace behind a clause's name is the clause's."""
+    """Returns the end of a function's head, before its body or the semicolon. A brace after a clause's name belongs to
+    the clause."""
     depth = 0
     for mark in MARKS.finditer(text, start):
         at, sign = mark.start(), mark[0]
@@ -77,7 +78,7 @@ def end_of_head(text: str, start: int) -> int:
 
 
 def doc_above(lines: list[str], at: int) -> str:
-    """The first sentence of the comment above a line."""
+    """Returns the first sentence of the comment above a line."""
     at -= 1
     while at >= 0 and lines[at].lstrip().startswith("#["):
         at -= 1
@@ -91,7 +92,7 @@ def doc_above(lines: list[str], at: int) -> str:
 
 
 def owner_of(header: str) -> str:
-    """The type or trait whose members an `impl` or `trait` has, or nothing where it is an impl of a trait."""
+    """Returns the type or trait of an `impl` or `trait` header, or nothing for an impl of a trait."""
     header = re.sub(r"\bwhere\b.*", "", header, flags=re.S).replace("->", "")
     while re.search(r"<[^<>]*>", header):
         header = re.sub(r"<[^<>]*>", "", header)
@@ -100,7 +101,7 @@ def owner_of(header: str) -> str:
 
 
 def ghosts_of(lines: list[str], at: int) -> str:
-    """The head of a trait, and its members that only contracts see."""
+    """Returns the head of a trait and its ghost members."""
     shown, inside = [lines[at]], False
     for line in lines[at + 1 :]:
         if line.startswith("}"):
@@ -113,7 +114,7 @@ def ghosts_of(lines: list[str], at: int) -> str:
 
 
 def calls_of(file: Path, exports: Exports) -> list[Call]:
-    """The public calls in a file."""
+    """Returns the public calls in a file."""
     text = file.read_text()
     lines = text.split("\n")
     starts = [0]
@@ -143,7 +144,7 @@ def calls_of(file: Path, exports: Exports) -> list[Call]:
 
 
 def page_of(crate: Path) -> str:
-    """The page of a crate, or nothing where it has no public call."""
+    """Returns the page of a crate, or nothing if the crate has no public call."""
     root = crate / "src/lib.rt" if (crate / "src/lib.rt").is_file() else crate / "src/main.rt"
     exports = exports_of(root)
     calls = [call for file in sorted((crate / "src").glob("*.rt")) for call in calls_of(file, exports)]
@@ -158,7 +159,7 @@ def page_of(crate: Path) -> str:
 
 
 def main(arguments: list[str]) -> int:
-    """Writes or checks the pages, and answers the exit status."""
+    """Writes or checks the pages, and returns the exit status."""
     if arguments not in ([], ["--check"]):
         print(__doc__)
         return 0 if arguments in (["-h"], ["--help"]) else 1

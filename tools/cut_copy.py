@@ -1,7 +1,7 @@
-"""A copy of the repository cut to some crates and what they stand on, over which the kit's gate proves just these.
+"""Copies some crates and their dependencies, so that the kit's gate proves only these.
 
-./prove and tools/wrong_bodies are the commands over it. What `rt ci` proved in such a copy it keeps for the gate: the key of a
-kept proof covers neither edits nor where the files stand.
+./prove and tools/wrong_bodies use this module. The gate reuses the proofs that `rt ci` made in such a copy, since the key of a
+kept proof covers neither the edits nor the path of the files.
 """
 import re
 import shutil
@@ -10,18 +10,18 @@ from pathlib import Path
 
 TOP = Path(__file__).resolve().parent.parent
 PARTS = ("src", "specs", "proofs")
-# What `rt ci` runs a program on, and compares.
+# The files that `rt ci` uses as input and expected output of a program.
 RUN = ("args", "status", "stdin", "stdout")
 
 
 def needed(names: list[str]) -> list[str]:
-    """These crates and all that they stand on, lowest first."""
+    """Returns these crates and all their dependencies, lowest first."""
     ran = subprocess.run([str(TOP / "tools/sources"), "needed", *names], check=True, stdout=subprocess.PIPE, text=True)
     return ran.stdout.split()
 
 
 def copy_crates(names: list[str], to: Path) -> None:
-    """Copies these crates without their edits, and of crates.txt the lines that are theirs."""
+    """Copies these crates without their edits, and copies their lines of crates.txt."""
     for name in names:
         for part in PARTS:
             if (TOP / "crates" / name / part).is_dir():

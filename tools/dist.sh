@@ -1,13 +1,13 @@
 #!/usr/bin/env bash
-# Packs what was built here into one archive for machines of this kind: the program, the library for C with its header, the
-# mount, pages for `man`, completions, the pages on how to use them, the notices of what is linked into them, the commit and
-# the gate that it stands on, and the sums of its files.
+# Packs the built files into one archive for machines of this type: the program, the C library with its header, the Python
+# package as a wheel, the mount, manual pages, completions, the guides, the notices of the linked code, the commit with its gate
+# result, and the checksums of the files.
 #
 #   tools/dist.sh [TO]
 #
-# TO is the archive to write, out/jiponuwha-COMMIT-KIND.tar.gz if it is left out. Nothing is proved or built but the mount: run
-# `./prove` or `./test` before; a program that is not proved is not packed. GATE is a file with what `./test` printed, out/test.log if it is
-# left out. LIBRARY names another folder with the library, as bindings/c/build.sh makes it, and PROGRAM another program.
+# TO is the archive to write. Its default is out/jiponuwha-COMMIT-KIND.tar.gz. The script builds only the mount, and packs only a
+# proved program, so run `./prove` or `./test` first. GATE is a file with the output of `./test`, by default out/test.log. LIBRARY
+# is another directory with the library, as bindings/c/build.sh makes it. PROGRAM is another program.
 set -euo pipefail
 top=$(cd "$(dirname "$0")/.." && pwd)
 room=$(mktemp -d)
@@ -22,21 +22,26 @@ name=jiponuwha-$commit-$kind
 to=$(realpath -m "${1:-$top/out/$name.tar.gz}")
 dist=$room/$name
 
-# need FILE WHAT: the file is to be there.
+# need FILE WHAT: fails if the file does not exist.
 need() { [ -e "$1" ] || { echo "dist.sh: there is no $1; $2" >&2; exit 2; }; }
 
-# The library, which pkg-config finds wherever it is unpacked.
+# The library, with a pkg-config file that works wherever the archive is unpacked.
 library() {
     mkdir -p "$dist/lib" "$dist/include"
     if [ -n "${LIBRARY:-}" ]; then
         cp -r "$LIBRARY/lib/." "$dist/lib/"
         cp -r "$LIBRARY/include/." "$dist/include/"
+        mkdir -p "$dist/share"
+        [ ! -d "$LIBRARY/share/jiponuwha" ] || cp -r "$LIBRARY/share/jiponuwha" "$dist/share/"
     else
         "$top/bindings/c/build.sh" --built "$dist"
     fi
     # shellcheck disable=SC2016 # pkg-config reads the name
-    sed 's|@PREFIX@|${pcfiledir}/../..|' "$top/bindings/c/jiponuwha.pc.in" >"$dist/lib/pkgconfig/jiponuwha.pc"
+    sed -i 's|^prefix=.*|prefix=${pcfiledir}/../..|' "$dist"/lib/pkgconfig/*.pc
 }
+
+# The Python package, as a wheel with the library in it.
+package() { "$top/tools/wheel" "$dist" "$dist/share/jiponuwha" >/dev/null; }
 
 pages() {
     local page
@@ -54,7 +59,7 @@ completions() {
     cp "$room/completions/fish/"* "$dist/share/fish/vendor_completions.d/"
 }
 
-# The crates of the kit that the program and the library stand on, with those below them.
+# The crates of the kit that the program and the library use, with their dependencies.
 kit_crates() {
     awk '
         /^[[:space:]]*(#|$)/ { next }
@@ -77,7 +82,7 @@ kit_crates() {
         done | sort -u
 }
 
-# Each crate's licences and notices under its own name.
+# The licences and notices of each crate, under its own name.
 notices() {
     local crate file
     while read -r crate; do
@@ -102,6 +107,7 @@ need "$program" './prove makes it'
 mkdir -p "$dist/bin" "$(dirname "$to")"
 install -m 755 "$program" "$dist/bin/adf_serve"
 library
+package
 "$top/bindings/fuse/build.sh" "$dist/bin/adf_mount" "$dist"
 pages
 completions

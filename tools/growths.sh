@@ -1,12 +1,12 @@
 #!/usr/bin/env bash
-# Refuses each growth of memory in turn while the tests of `cases` run, and tells how they then end.
+# Refuses each growth of memory in turn while the tests of `cases` run, and reports how they end.
 #
 #   tools/growths.sh [TEST..]
 #
-# The tests are these, or those with `refused` in their names, of the program crates/cases/out/cases_tests, which `rt ci`
-# leaves. Each is run once with the shim tests/growths.c, which needs `cc`: at each growth a child process goes on with that
-# one refused. A child that passes, or ends with out of memory as its error, is well; what any other writes is printed, and
-# its test has failed. Without `cc` it says so, and each test is run with nothing refused.
+# The default tests are those of crates/cases/out/cases_tests, a program that `rt ci` builds, with `refused` in their names. Each
+# test runs once with the shim tests/growths.c, which needs `cc`. At each growth the shim forks a child process in which that
+# growth is refused. A child must pass, or report out of memory. The test fails at any other end of a child, and prints its
+# output. Without `cc` the script reports that, and runs each test with no growth refused.
 set -euo pipefail
 top=$(cd "$(dirname "$0")/.." && pwd)
 tests=$top/crates/cases/out/cases_tests

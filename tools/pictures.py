@@ -3,7 +3,7 @@
 
     tools/pictures.py           draws docs/crates.svg from crates.txt
     tools/pictures.py IMAGE     draws docs/floppy.svg from the image of a floppy that `check` accepts
-    tools/pictures.py --check   exits 1 where docs/crates.svg is not what crates.txt makes
+    tools/pictures.py --check   exits with 1 if docs/crates.svg differs from crates.txt
 
 The image of docs/floppy.svg was made by these commands:
 
@@ -34,7 +34,7 @@ CRATES = TOP / "docs/crates.svg"
 FLOPPY = TOP / "docs/floppy.svg"
 WIDTH = 800
 
-# The disk, by the table in `adf_block::layout`: numbers of longs in a block, types, and counts.
+# The format of the disk, from `adf_block::layout`: indices of longs in a block, types, and counts.
 BLOCK_BYTES = 512
 BOOT_BLOCKS = 2
 POINTER_COUNT = 2
@@ -48,7 +48,7 @@ DIRECTORY_TYPE, FILE_TYPE = 2, 0xFFFFFFFD
 LONG_BITS, MAP_LONGS = 32, 127
 CYLINDERS, SIDES = 80, 2
 
-# Each role of a block: its colour, and what the legend says of one block and of several.
+# The roles of a block: the colour, and the text of the legend for one block and for several.
 ROLES = {
     "boot": ("#8250df", "boot block", "boot blocks"),
     "root": ("#cf222e", "root block", "root blocks"),
@@ -60,7 +60,7 @@ ROLES = {
     "lost": ("#6e7781", "used block that nothing names", "used blocks that nothing names"),
     "free": ("#e2e6ec", "free block", "free blocks"),
 }
-# The roles whose blocks the legend names by their numbers.
+# The roles whose block numbers the legend lists.
 NAMED = ("boot", "root", "bitmap")
 
 STYLE = """<style>
@@ -74,7 +74,7 @@ text { font: 13px -apple-system, "Segoe UI", "DejaVu Sans", Helvetica, Arial, sa
 
 
 def picture(height: int, title: str, parts: list[str]) -> str:
-    """An SVG file of the common width, on a background of its own."""
+    """Returns an SVG file of the common width with a background."""
     head = [
         f'<svg xmlns="http://www.w3.org/2000/svg" viewBox="0 0 {WIDTH} {height}" width="{WIDTH}" height="{height}" role="img">',
         f"<title>{escape(title)}</title>",
@@ -85,7 +85,7 @@ def picture(height: int, title: str, parts: list[str]) -> str:
 
 
 def label(x: float, y: float, said: str, look: str = "") -> str:
-    """A text; `look` is its class."""
+    """Returns a text element. `look` is its class."""
     return f'<text x="{x:g}" y="{y:g}"' + (f' class="{look}"' if look else "") + f">{escape(said)}</text>"
 
 
@@ -93,7 +93,7 @@ def label(x: float, y: float, said: str, look: str = "") -> str:
 
 
 class Floppy:
-    """The image of a floppy, whose blocks have roles."""
+    """The image of a floppy with the role of each block."""
 
     def __init__(self, data: bytes) -> None:
         self.data = data
@@ -108,34 +108,34 @@ class Floppy:
         self.walk()
 
     def long(self, block: int, at: int) -> int:
-        """A long of a block."""
+        """Returns a long of a block."""
         return int(struct.unpack_from(">I", self.data, block * BLOCK_BYTES + 4 * at)[0])
 
     def name(self) -> str:
-        """The name of the volume."""
+        """Returns the name of the volume."""
         at = self.root * BLOCK_BYTES + NAME_BYTE
         return self.data[at + 1 : at + 1 + self.data[at]].decode("latin-1")
 
     def bitmap_blocks(self) -> list[int]:
-        """The bitmap blocks."""
+        """Returns the bitmap blocks."""
         longs = [self.long(self.root, FIRST_BITMAP_LONG + at) for at in range(BITMAP_LONGS)]
         return [block for block in longs if block]
 
     def is_free(self, block: int) -> bool:
-        """Whether the bitmap says that the block is free."""
+        """Returns whether the bitmap marks the block as free."""
         at, bit = divmod(block - BOOT_BLOCKS, LONG_BITS)
         place, at = divmod(at, MAP_LONGS)
         return block >= BOOT_BLOCKS and bool(self.long(self.bitmap_blocks()[place], 1 + at) >> bit & 1)
 
     def take(self, block: int, role: str) -> bool:
-        """Gives a block its role. It has none yet, if the image is sound."""
+        """Sets the role of a block. In a valid image the block has no role yet."""
         if not 0 < block < self.blocks or self.roles[block] not in ("free", "lost"):
             return False
         self.roles[block] = role
         return True
 
     def walk(self) -> None:
-        """Gives each block that is reached from the root its role."""
+        """Sets the role of each block that is reachable from the root block."""
         left = [self.root]
         while left:
             directory = left.pop()
@@ -152,7 +152,7 @@ class Floppy:
                     entry = self.long(entry, NEXT_IN_CHAIN)
 
     def walk_file(self, header: int) -> None:
-        """Gives the data and extension blocks of a file their roles."""
+        """Sets the roles of the data and extension blocks of a file."""
         block = header
         while True:
             for at in range(min(self.long(block, POINTER_COUNT), LAST_SLOT - FIRST_SLOT + 1)):
@@ -162,7 +162,7 @@ class Floppy:
                 return
 
     def legend_of(self, role: str) -> str:
-        """What the legend says of a role."""
+        """Returns the text of the legend for a role."""
         one, several = ROLES[role][1:]
         blocks = [block for block, its in enumerate(self.roles) if its == role]
         said = one if len(blocks) == 1 else several
@@ -175,7 +175,7 @@ LEFT, ABOVE, PITCH, CELL, BETWEEN = 62, 74, 9, 8, 6
 
 
 def cells(floppy: Floppy, role: str) -> str:
-    """The cells of a role as one path, a rectangle for blocks of a track that follow one another."""
+    """Returns the cells of a role as one path, with one rectangle for each run of blocks in a track."""
     track = floppy.blocks // CYLINDERS // SIDES
     path = []
     block = 0
@@ -194,7 +194,7 @@ def cells(floppy: Floppy, role: str) -> str:
 
 
 def draw_floppy(data: bytes) -> str:
-    """The picture of a floppy's blocks."""
+    """Returns the picture of the blocks of a floppy."""
     floppy = Floppy(data)
     track = floppy.blocks // CYLINDERS // SIDES
     title = f"The {floppy.blocks:,} blocks of the floppy {floppy.name()}, by what they hold"
@@ -219,7 +219,7 @@ def draw_floppy(data: bytes) -> str:
 
 # The crates.
 
-# The height of a row and of a crate's box, where the boxes begin, and the room between two nodes of a row.
+# The heights of a row and of a crate's box, the left edge of the boxes, and the gap between two nodes of a row.
 ROW, BOX, AREA, GAP = 46, 22, 158, 12
 
 
@@ -234,7 +234,7 @@ class Floor:
 
 @dataclass
 class Node:
-    """A crate in its row, or where a line to a crate passes a row; then it has no name."""
+    """A crate in its row, or a point where an edge passes a row. The latter has no name."""
 
     row: int
     name: str = ""
@@ -243,12 +243,12 @@ class Node:
     below: list[Node] = field(default_factory=list)
 
     def width(self) -> float:
-        """How much of the row it takes."""
+        """Returns the width of the node in its row."""
         return 96 if self.name else 2
 
 
 def read_crates(text: str) -> tuple[list[Floor], dict[str, list[str]]]:
-    """The floors, and the crates of this repository that each crate depends on."""
+    """Returns the floors, and the dependencies of each crate on crates of this repository."""
     floors: list[Floor] = []
     stands: dict[str, list[str]] = {}
     for line in text.splitlines():
@@ -265,7 +265,7 @@ def read_crates(text: str) -> tuple[list[Floor], dict[str, list[str]]]:
 
 
 def without_short_cuts(stands: dict[str, list[str]]) -> dict[str, list[str]]:
-    """The same without the edges that follow from others."""
+    """Returns the graph without the edges that follow from others."""
     reached: dict[str, set[str]] = {}
     for name, below in stands.items():
         reached[name] = set(below).union(*(reached[crate] for crate in below))
@@ -276,7 +276,8 @@ def without_short_cuts(stands: dict[str, list[str]]) -> dict[str, list[str]]:
 
 
 def rows_of(floors: list[Floor], stands: dict[str, list[str]]) -> dict[str, int]:
-    """The row of each crate, from 0 for the lowest: each floor has as many as its crates depend on one another."""
+    """Returns the row of each crate, from 0 for the lowest. A floor has as many rows as its longest chain of
+    dependencies."""
     rows: dict[str, int] = {}
     first = 0
     for floor in floors:
@@ -287,7 +288,7 @@ def rows_of(floors: list[Floor], stands: dict[str, list[str]]) -> dict[str, int]
 
 
 def nodes_of(stands: dict[str, list[str]], rows: dict[str, int]) -> list[list[Node]]:
-    """The nodes of each row. Lines that lead to one crate run together from the row in which they meet."""
+    """Returns the nodes of each row. Edges to one crate share a path from the row in which they meet."""
     placed: list[list[Node]] = [[] for _ in range(max(rows.values()) + 1)]
     crates = {name: Node(row, name) for name, row in rows.items()}
     passing: dict[tuple[str, int], Node] = {}
@@ -308,26 +309,26 @@ def nodes_of(stands: dict[str, list[str]], rows: dict[str, int]) -> list[list[No
 
 
 def link(upper: Node, lower: Node) -> None:
-    """Joins two nodes of neighbouring rows by a line, once."""
+    """Joins two nodes of neighbouring rows by an edge, once."""
     if lower not in upper.below:
         upper.below.append(lower)
         lower.above.append(upper)
 
 
 def crossings(upper: list[Node], lower: list[Node]) -> int:
-    """How many lines between two rows cross."""
+    """Returns the number of crossings between two rows."""
     place = {id(node): at for at, node in enumerate(lower)}
     ends = [sorted(place[id(node)] for node in top.below) for top in upper]
     return sum(a > b for at, left in enumerate(ends) for right in ends[at + 1 :] for a in left for b in right)
 
 
 def all_crossings(rows: list[list[Node]]) -> int:
-    """How many lines cross in all."""
+    """Returns the number of all crossings."""
     return sum(crossings(rows[at + 1], rows[at]) for at in range(len(rows) - 1))
 
 
 def sort_by(row: list[Node], other: list[Node], down: bool) -> None:
-    """Sorts a row by the middle of what its nodes are joined to in another row; those that are joined to nothing stay."""
+    """Sorts a row by the mean position of its neighbours in another row. Nodes without neighbours stay."""
     place = {id(node): at for at, node in enumerate(other)}
     middle: dict[int, float] = {}
     for at, node in enumerate(row):
@@ -337,7 +338,7 @@ def sort_by(row: list[Node], other: list[Node], down: bool) -> None:
 
 
 def untangle(rows: list[list[Node]]) -> None:
-    """Orders each row so that few lines cross."""
+    """Orders each row to reduce the crossings."""
     best, fewest = [list(row) for row in rows], all_crossings(rows)
     for turn in range(8):
         down = turn % 2 == 0
@@ -350,7 +351,7 @@ def untangle(rows: list[list[Node]]) -> None:
 
 
 def swap_neighbours(rows: list[list[Node]]) -> None:
-    """Swaps nodes side by side as long as fewer lines cross then."""
+    """Swaps adjacent nodes as long as that reduces the crossings."""
     better = True
     while better:
         better = False
@@ -365,20 +366,20 @@ def swap_neighbours(rows: list[list[Node]]) -> None:
 
 
 def around(rows: list[list[Node]], row: list[Node]) -> int:
-    """How many lines cross directly above and below a row."""
+    """Returns the number of crossings directly above and below a row."""
     at = row[0].row
     above = crossings(rows[at + 1], row) if at + 1 < len(rows) else 0
     return above + (crossings(row, rows[at - 1]) if at else 0)
 
 
 def pull(one: Node, other: Node) -> float:
-    """How much a line is to be straight: one that passes rows more than one between crates."""
+    """Returns the weight of a straight edge. An edge that passes rows weighs more than one between crates."""
     return 1.0 if one.name and other.name else 2.0 if one.name or other.name else 8.0
 
 
 def spread(row: list[Node], wanted: list[tuple[float, float]], left: float, right: float) -> None:
-    """Places a row's nodes, in their order and without overlap, as near as they go to where they are wanted. With each place
-    stands its weight."""
+    """Places the nodes of a row in order and without overlap, as close as possible to the wanted positions. Each
+    position has a weight."""
     offsets = [0.0]
     for one, other in zip(row, row[1:]):
         offsets.append(offsets[-1] + (one.width() + other.width()) / 2 + GAP)
@@ -396,7 +397,7 @@ def spread(row: list[Node], wanted: list[tuple[float, float]], left: float, righ
 
 
 def place(rows: list[list[Node]], left: float, right: float) -> None:
-    """Gives each node its place in its row, near what it is joined to."""
+    """Places each node in its row near its neighbours."""
     for row in rows:
         spread(row, [(left + (right - left) * (at + 0.5) / len(row), 1.0) for at in range(len(row))], left, right)
     for turn in range(100):
@@ -413,7 +414,7 @@ def place(rows: list[list[Node]], left: float, right: float) -> None:
 
 
 def straighten(rows: list[list[Node]], left: float, right: float) -> None:
-    """Lets each line that passes rows go straight up as long as nothing stands in its way."""
+    """Straightens each edge that passes rows as long as no node is in its way."""
     for turn in range(20):
         for row in rows if turn % 2 else reversed(rows):
             wanted = []
@@ -425,7 +426,7 @@ def straighten(rows: list[list[Node]], left: float, right: float) -> None:
 
 
 def bands(floors: list[Floor], rows: dict[str, int], bottom: float) -> list[str]:
-    """The floors as bands with their titles."""
+    """Returns the floors as bands with their titles."""
     parts = []
     for at, floor in enumerate(floors):
         low, high = min(rows[name] for name in floor.crates), max(rows[name] for name in floor.crates)
@@ -439,7 +440,7 @@ def bands(floors: list[Floor], rows: dict[str, int], bottom: float) -> list[str]
 
 
 def wrapped(said: str, most: int) -> list[str]:
-    """A text in lines of at most so many letters, where its words allow it."""
+    """Splits a text into lines of at most `most` characters, between words."""
     lines = [""]
     for word in said.split():
         if lines[-1] and len(lines[-1]) + 1 + len(word) > most:
@@ -449,7 +450,7 @@ def wrapped(said: str, most: int) -> list[str]:
 
 
 def draw_crates(text: str) -> str:
-    """The picture of the crates by floors."""
+    """Returns the picture of the crates by floors."""
     floors, stands = read_crates(text)
     stands = without_short_cuts(stands)
     rows = rows_of(floors, stands)
@@ -480,7 +481,7 @@ def draw_crates(text: str) -> str:
 
 
 def main(arguments: list[str]) -> int:
-    """Draws or checks the pictures, and answers the exit status."""
+    """Draws or checks the pictures, and returns the exit status."""
     crates = draw_crates((TOP / "crates.txt").read_text())
     if arguments == ["--check"]:
         if CRATES.is_file() and CRATES.read_text() == crates:
