@@ -39,3 +39,19 @@ impl Buffer {
         &self.bytes
     }
 }
+
+impl From<Vec<u8>> for Buffer {
+    ghost from_gives = { λ bytes buffer. buffer ≡ bytes.items };
+
+    fn from(bytes: Vec<u8>) -> Buffer {
+        Buffer::from_vec(bytes)
+    }
+}
+
+impl From<Buffer> for Vec<u8> {
+    ghost from_gives = { λ buffer bytes. bytes.items ≡ buffer };
+
+    fn from(buffer: Buffer) -> Vec<u8> {
+        buffer.into_vec()
+    }
+}

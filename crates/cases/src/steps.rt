@@ -92,7 +92,7 @@ fn read_into_full(alloc: Global, handle: u32, size: usize) -> Result<Packet, All
     let bytes = vec![in alloc; 0xee_u8; size]?;
     Ok(Packet::Read {
         handle,
-        buffer: Buffer::from_vec(bytes),
+        buffer: Buffer::from(bytes),
     })
 }
 
