@@ -1,15 +1,14 @@
 -- Output for images, chunk by chunk.
 use Rattle.std.proofs.Common.{◌≡◌, ℕ, ◌+◌, ◌≤◌, List, [], ◌++◌, length, Option, Result, Ok, Err, IfErr, ap, sym, ◌∙◌, subst, append_assoc, arith}
-use Rattle.std.proofs.lemmas.List.{append-nil}
 use Rattle.std.proofs.lemmas.List.Sums.{fold-append}
 use denote.Param.Members.{Shared}
 use Rattle.std.specs.Io.KnownBytes.{Appends}
 use Rattle.std.proofs.KnownBytes.{Appends-nil, Appends-trans}
-use Rattle.adf_listing.specs.Fronts.{WritesFront}
+use Rattle.adf_io.specs.Prefix.{WritesFront}
 use Rattle.adf_archive.specs.declared.report.ImageReport.{ImageReport}
 use Rattle.adf_archive.specs.declared.telling.Form.{Form}
 use Rattle.adf_archive.specs.declared.telling.Tally.{Tally}
-use Rattle.adf_archive.specs.Archive.{LeavesOff, TellsAll}
+use Rattle.adf_archive.specs.Archive.{LeavesOff}
 use Rattle.adf_archive.specs.Each.{GivesFrom}
 use Rattle.adf_archive.specs.Lines.{told_from}
 use Rattle.adf_archive.specs.Status.{IsTally, no_images, noted, tallied}
@@ -65,16 +64,3 @@ module _ {F : Type 0} (g : Shared F (ℕ × Unit {0}) ImageReport) (f : F) (form
       gives_more g f 0 count n first.reports more first.gives at_count,
       subst (λ (text : List ℕ). WritesFront old new text) (sym joined) (front_behind old mid new (told_from form paths 0 first.reports) (told_from form paths count more) first.written front),
     )
-
-  -- nothing more is written
-  pub so_far_left : (old new : Option (List ℕ)) (count : ℕ) (tally : Tally) → SoFar g f form paths old new count tally → count ≤ length paths → LeavesOff g f form paths old new
-  so_far_left old new count tally first fits = (
-    count,
-    first.reports,
-    fits,
-    first.gives,
-    (told_from form paths 0 first.reports, first.written, ([], sym (append-nil (told_from form paths 0 first.reports)))),
-  )
-
-  pub so_far_all : (old new : Option (List ℕ)) (count : ℕ) (tally : Tally) → SoFar g f form paths old new count tally → count ≡ length paths → TellsAll g f form paths old new tally
-  so_far_all old new count tally first all = (first.reports, subst (λ (n : ℕ). GivesFrom g f 0 n first.reports) all first.gives, first.written, first.sum)

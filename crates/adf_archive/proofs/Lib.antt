@@ -7,5 +7,4 @@ pub mod Listed
 pub mod Shown
 pub mod Sizes
 pub mod Tokens
-pub mod Under
 pub mod Whole

@@ -4,9 +4,9 @@ use Rattle.std.proofs.lemmas.List.Elements.{All-nil}
 use denote.Param.Members.{Shared}
 use Rattle.std.specs.Fn.{FnReturns}
 use Rattle.std.specs.Io.KnownBytes.{Appends}
-use Rattle.adf_listing.specs.Fronts.{WritesFront}
-use Rattle.adf_listing.proofs.Fronts.{writes_nothing}
-use Rattle.adf_jobs.specs.declared.reading.CheckJob.{CheckJob}
+use Rattle.adf_io.specs.Prefix.{WritesFront}
+use Rattle.adf_io.proofs.Prefixes.{writes_nothing}
+use Rattle.adf_words.specs.declared.query.CheckJob.{CheckJob}
 use Rattle.adf_archive.specs.declared.fault.ArchiveFault.{ArchiveFault}
 use Rattle.adf_archive.specs.declared.fault.ArchiveFault.TheVariants.{Refused, NotChecked, Output, Memory}
 use Rattle.adf_archive.specs.declared.report.ImageReport.{ImageReport}

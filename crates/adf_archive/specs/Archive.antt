@@ -2,8 +2,8 @@
 use Rattle.std.specs.Prelude.{◌≡◌, ℕ, ◌≤◌, ◌<◌, true, false, List, length, All, Option, Result, Err}
 use denote.Param.Members.{Shared}
 use Rattle.std.specs.Io.KnownBytes.{Appends}
-use Rattle.adf_listing.specs.Fronts.{WritesFront}
-use Rattle.adf_jobs.specs.declared.reading.CheckJob.{CheckJob}
+use Rattle.adf_io.specs.Prefix.{WritesFront}
+use Rattle.adf_words.specs.declared.query.CheckJob.{CheckJob}
 use Rattle.adf_archive.specs.declared.fault.ArchiveFault.{ArchiveFault}
 use Rattle.adf_archive.specs.declared.fault.ArchiveFault.TheVariants.{Output, Memory}
 use Rattle.adf_archive.specs.declared.report.ImageReport.{ImageReport}

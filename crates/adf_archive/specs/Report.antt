@@ -8,8 +8,8 @@ use Rattle.ados_model.specs.Change.{is_file}
 use Rattle.ados_model.specs.Stands.{Stands}
 use Rattle.ados_model.specs.Accepted.{Accepts}
 use Rattle.ados_model.specs.Faults.{Shows}
-use Rattle.adf_transfer.specs.Located.{Located}
-use Rattle.adf_transfer.specs.Below.{AreBelow}
+use Rattle.ados_volume.specs.Located.{Located}
+use Rattle.ados_volume.specs.Below.{AreBelow}
 use Rattle.adf_archive.specs.declared.report.AcceptedImage.{AcceptedImage}
 use Rattle.adf_archive.specs.declared.report.Contents.{Contents}
 use Rattle.adf_archive.specs.declared.report.ImageReport.{ImageReport}

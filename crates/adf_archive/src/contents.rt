@@ -6,8 +6,7 @@ ghost use Rattle.ados_model.specs.Keys.{HasKey};
 ghost use Rattle.adf_archive.specs.Report.{Tells, file_count};
 
 use crate::report::Contents;
-use adf_transfer::{Below, entries_below, free_blocks};
-use ados_volume::Volume;
+use ados_volume::{Below, Volume, entries_below, free_blocks};
 use std::alloc::{AllocError, Global};
 
 /// The name of a volume, the number of its files and directories, and the number of free blocks.

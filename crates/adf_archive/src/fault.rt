@@ -1,5 +1,5 @@
 //! Why the check of an archive fails.
-use std::alloc::{AllocError, AllocFailed};
+use std::alloc::AllocError;
 use thiserror::Error;
 
 /// Why not all images of an archive are accepted or reported.
@@ -24,17 +24,6 @@ impl From<AllocError> for ArchiveFault {
     ghost from_gives = { λ _ fault. fault ≡ Memory };
 
     fn from(_error: AllocError) -> ArchiveFault {
-        ArchiveFault::Memory
-    }
-}
-
-impl<T: Drop> From<AllocFailed<T>> for ArchiveFault {
-    ghost use Rattle.std.specs.Prelude.{◌≡◌};
-    ghost use Rattle.adf_archive.specs.declared.fault.ArchiveFault.TheVariants.{Memory};
-
-    ghost from_gives = { λ _ fault. fault ≡ Memory };
-
-    fn from(_error: AllocFailed<T>) -> ArchiveFault {
         ArchiveFault::Memory
     }
 }

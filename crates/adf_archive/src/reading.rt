@@ -1,6 +1,7 @@
 //! Reads of image files, on any thread.
 ghost use Rattle.std.specs.Prelude.{IfSome};
-ghost use Rattle.adf_block.specs.Image.{IsSize, block_count};
+ghost use Rattle.adf_block.specs.Image.{block_count};
+ghost use Rattle.adf_block.specs.Whole.{IsSize};
 
 use adf_block::Image;
 use adf_host::{read_image_file, sketch_image_file};

@@ -12,7 +12,7 @@ use crate::finding::{FoundImages, image_files};
 use crate::reading::ReadImages;
 use crate::report::ImageReport;
 use crate::telling::{Form, Tally, tell_person, tell_reports};
-use adf_jobs::CheckJob;
+use adf_words::CheckJob;
 use std::alloc::Global;
 use std::io::Write;
 use std::rt::Files;

@@ -2,7 +2,7 @@
 ghost use Rattle.std.specs.Prelude.{◌≡◌, ◌+◌, ◌≤◌, ◌++◌, [], IfErr, IfOk, OnOk, OnErr, length, map};
 ghost use Rattle.std.specs.Io.KnownBytes.{Appends};
 ghost use Rattle.std.specs.String.{string_bytes};
-ghost use Rattle.adf_listing.specs.Fronts.{WritesFront};
+ghost use Rattle.adf_io.specs.Prefix.{WritesFront};
 ghost use Rattle.adf_archive.specs.Lines.{told_from, told_of};
 ghost use Rattle.adf_archive.specs.Status.{IsBroken, IsTally, ends_as, noted, tallied};
 
@@ -12,6 +12,7 @@ use crate::objects::push_object;
 use crate::report::ImageReport;
 use adf_block::SizeFault;
 use adf_io::write_output;
+use adf_text::print_line;
 use std::alloc::{AllocError, Global};
 use std::io::Write;
 
@@ -170,7 +171,7 @@ pub(crate) fn tell_person<F: Write>(
         let path = paths[start + place].as_str();
         match report {
             ImageReport::NotChecked(why) => {
-                let _ = write!(faults, "adf_serve: '{path}' {why}\n");
+                print_line(faults, format_args!("adf_serve: '{path}' {why}"));
             }
             ImageReport::WrongSize(fault) if texts => tell_text(
                 path,
@@ -192,11 +193,11 @@ pub(crate) fn tell_person<F: Write>(
 
 /// Prints the text of a fault, with the path of the image if it is one of several.
 fn tell_text<F: Write>(path: &str, form: Form, text: &str, faults: &mut F) {
-    let _ = if form.paths {
-        write!(faults, "{path}: {text}\n")
+    if form.paths {
+        print_line(faults, format_args!("{path}: {text}"));
     } else {
-        write!(faults, "{text}\n")
-    };
+        print_line(faults, format_args!("{text}"));
+    }
 }
 
 /// The text for a wrong size.

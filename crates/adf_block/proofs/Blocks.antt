@@ -1,10 +1,9 @@
 -- A whole block: its bytes and longs in the list of its bytes, and the image after a write to it.
-use Rattle.std.proofs.Common.{◌≡◌, inl, inr, ℕ, ◌+◌, ◌-◌, ◌*◌, ◌<◌, ◌≤◌, ◌++◌, List, length, take, drop, slice_index, arith, ap, sym, ◌∙◌, subst, append_assoc, length-append, length-take, length-drop}
+use Rattle.std.proofs.Common.{◌≡◌, inl, inr, ℕ, ◌+◌, ◌-◌, ◌*◌, ◌/◌, ◌%◌, ◌<◌, ◌≤◌, ◌++◌, List, length, take, drop, slice_index, arith, ap, sym, ◌∙◌, append_assoc, length-append, length-take, length-drop}
 use Rattle.std.proofs.lemmas.Bool.{cases_lt}
-use Rattle.std.proofs.lemmas.List.{get_or-take, get_or-drop, get_or_append_left, get_or-append_right, take_all}
+use Rattle.std.proofs.lemmas.List.{ext_get_or, get_or-take, get_or-drop, get_or_append_left, get_or-append_right, take_all}
 use Rattle.byteorder.specs.Endian.{big_number}
 use Rattle.adf_block.specs.Image.{byte_at, bytes_at, long, block_count}
-use Rattle.adf_block.specs.Whole.{IsImage}
 use Rattle.adf_block.specs.Frame.{OnlyBlock}
 use Rattle.adf_block.specs.Lending.{with_block}
 use Rattle.adf_block.proofs.Longs.{long-bytes}
@@ -90,25 +89,15 @@ only-with_block image b w inside whole = record {
   ];
 }
 
--- a byte of the block is one of the written bytes
-within_block : (image : List ℕ) (b : ℕ) (w : List ℕ) → b < block_count image → length w ≡ 512 → ((k : ℕ) → slice_index w k < 256) → (k : ℕ) → 512 * b ≤ k → k < 512 * b + 512 → slice_index (with_block image b w) k < 256
-unfolding byte_at
-within_block image b w inside whole small k from lt =
-    let at : 512 * b + (k - 512 * b) ≡ k = omega arith in
-    let byte : slice_index (with_block image b w) (512 * b + (k - 512 * b)) ≡ slice_index w (k - 512 * b) = byte_at-with_block image b w inside whole (k - 512 * b) (omega arith) in
-    omega (arith, ap (slice_index (with_block image b w)) at, byte, small (k - 512 * b))
-
--- the result is an image
-pub image-with_block : (image : List ℕ) (b : ℕ) (w : List ℕ) → IsImage image → b < block_count image → length w ≡ 512 → ((k : ℕ) → slice_index w k < 256) → IsImage (with_block image b w)
-image-with_block image b w h inside whole small = record {
-  blocks = h.blocks;
-  size = h.size;
-  whole = length_with_block image b w ∙ h.whole;
-  byte = λ k. elim (cases_lt k (512 * b)) [
-    | inl before ↦ let P : ℕ → Type 0 = λ n. n < 256 in subst P (sym (before-with_block image b w inside whole k before)) (h.byte k)
-    | inr from ↦ elim (cases_lt k (512 * b + 512)) [
-      | inl within ↦ within_block image b w inside whole small k from within
-      | inr behind ↦ let P : ℕ → Type 0 = λ n. n < 256 in subst P (sym (behind-with_block image b w inside whole k behind)) (h.byte k)
-    ]
-  ];
-}
+-- the boot blocks are unchanged if each of their bytes is
+pub boot_same : (old new : List ℕ) → length new ≡ length old → ((b i : ℕ) → b < 2 → i < 512 → byte_at new b i ≡ byte_at old b i) → bytes_at new 0 0 1024 ≡ bytes_at old 0 0 1024
+unfolding byte_at bytes_at
+boot_same old new size same =
+    ext_get_or 0 (take 1024 (drop (512 * 0 + 0) new)) (take 1024 (drop (512 * 0 + 0) old))
+    (omega (arith, length-take 1024 (drop (512 * 0 + 0) new), length-take 1024 (drop (512 * 0 + 0) old), length-drop (512 * 0 + 0) new, length-drop (512 * 0 + 0) old, size))
+    (λ k l.
+    let below : k < 1024 = omega (arith, l, length-take 1024 (drop (512 * 0 + 0) new)) in
+    let here : 512 * (k / 512) + k % 512 ≡ 512 * 0 + 0 + k = omega arith in
+    get_or-take 1024 (drop (512 * 0 + 0) new) k 0 below ∙ get_or-drop (512 * 0 + 0) new k 0
+    ∙ ap (slice_index new) (sym here) ∙ same (k / 512) (k % 512) (omega (arith, below)) (omega arith) ∙ ap (slice_index old) here
+    ∙ sym (get_or-take 1024 (drop (512 * 0 + 0) old) k 0 below ∙ get_or-drop (512 * 0 + 0) old k 0))

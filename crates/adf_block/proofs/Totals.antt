@@ -1,7 +1,7 @@
 -- Sums of longs.
-use Rattle.std.proofs.Common.{◌≡◌, ◌≢◌, ℕ, zero, suc, ◌+◌, ◌*◌, ◌<◌, ◌≤◌, inl, inr, arith, ap₂, refl, add-one}
+use Rattle.std.proofs.Common.{◌≡◌, ◌≢◌, ℕ, zero, suc, ◌+◌, ◌*◌, ◌<◌, ◌≤◌, inl, inr, arith, ap₂, refl, add-one, List, ◌^◌}
 use Rattle.std.proofs.lemmas.Bool.{cases_lt}
-use Rattle.adf_block.specs.Image.{total}
+use Rattle.adf_block.specs.Image.{total, block_sum}
 
 -- one more number
 pub total-more : (f : ℕ → ℕ) (n : ℕ) → total f (n + 1) ≡ total f n + f n
@@ -30,3 +30,8 @@ total-one f g k (suc n) lt same = elim (cases_lt k n) [
 pub total-bound : (f : ℕ → ℕ) (m n : ℕ) → ((j : ℕ) → f j ≤ m) → total f n ≤ n * m
 total-bound f m zero h = omega arith
 total-bound f m (suc n) h = omega (arith, total-bound f m n h, h n)
+
+-- a sum of longs is a long
+pub sum_fits : (image : List ℕ) (b : ℕ) → block_sum image b < 2 ^ 32
+unfolding block_sum
+sum_fits image b = omega arith

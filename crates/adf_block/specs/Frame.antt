@@ -1,13 +1,13 @@
 -- What a change of an image leaves untouched.
 use Rattle.std.specs.Prelude.{◌≡◌, ℕ, ◌/◌, ◌<◌, ◌≤◌, List, length}
 use Rattle.adf_block.specs.Image.{byte_at}
-use Rattle.adf_block.specs.Layout.{block_bytes}
+use Rattle.adf_block.specs.declared.layout.TheConstants.{BLOCK_BYTES}
 
 -- the new image is as long as the old one, and each byte outside the changed places is the same; a place is a block
 -- and a byte of it
 pub record SameBut (changed : ℕ → ℕ → Type 0) (old new : List ℕ) : Type 0 where
   pub same_length : length new ≡ length old
-  pub same_byte : (b i : ℕ) → i < block_bytes → ¬ changed b i → byte_at new b i ≡ byte_at old b i
+  pub same_byte : (b i : ℕ) → i < BLOCK_BYTES → ¬ changed b i → byte_at new b i ≡ byte_at old b i
 
 -- the bytes of long i of block b
 abbrev pub AtLong : ℕ → ℕ → ℕ → ℕ → Type 0

@@ -1,7 +1,6 @@
--- An image as a list of bytes: the positions and numbers of the disk, the values of fields, what a change leaves
--- untouched, and which bytes are an image.
-pub mod Layout
+-- An image as a list of bytes: the values of fields, what a change leaves untouched, and which bytes are an image.
 pub mod Image
+pub mod Fields
 pub mod Whole
 pub mod Frame
 pub mod Size

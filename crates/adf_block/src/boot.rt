@@ -1,12 +1,13 @@
 //! The boot blocks, 0 and 1: the DOS type of the disk, and the checksum of its boot code.
 
 ghost use Rattle.std.specs.Prelude.{◌≡◌, ◌≤◌, ◌^◌, ◌↔◌, IsTrue};
-ghost use Rattle.adf_block.specs.Image.{long, total, format_of};
+ghost use Rattle.adf_block.specs.Image.{long, total};
+ghost use Rattle.adf_block.specs.Fields.{format_of};
 ghost use Rattle.adf_block.specs.Boot.{HasKind, boot_long, boot_sum, carried_sum};
 
 use crate::Format;
 use crate::floppy::Image;
-use crate::layout::{BLOCK_LONGS, BOOT_BLOCKS, BOOT_SUM, KIND_BYTE};
+use crate::layout::{BLOCK_LONGS, BOOT_BLOCKS, BOOT_CHECKSUM, KIND_BYTE};
 
 /// The DOS type of a disk: the first four bytes of its image.
 #[derive(Clone, Copy, Debug, PartialEq, Eq)]
@@ -54,7 +55,7 @@ impl Image {
         ensures { IsTrue result ↔ (long self.now 0 1 ≡ boot_sum self.now) }
     {
         prove!(self.blocks() >= 2);
-        self.long(0, BOOT_SUM) == self.boot_sum()
+        self.long(0, BOOT_CHECKSUM) == self.boot_sum()
     }
 
     /// The checksum of the two boot blocks that belongs in long 1 of block 0: the complement of an end-around-carry
@@ -73,7 +74,7 @@ impl Image {
         prove!(self.blocks() >= 2);
         let mut total = 0_u64;
         for k in 0..BOOT_BLOCKS * BLOCK_LONGS {
-            if k != BOOT_SUM {
+            if k != BOOT_CHECKSUM {
                 total += u64::from(self.long(k / BLOCK_LONGS, k % BLOCK_LONGS));
             }
         }

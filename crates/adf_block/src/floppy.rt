@@ -3,9 +3,9 @@
 ghost use Rattle.std.specs.Prelude.{◌≡◌, ◌<◌, ◌≤◌, ◌^◌, ◌*◌, ◌+◌, ◌-◌, ◌/◌, ◌++◌, ◌⊎◌, ◌≢◌, ℕ, length, take, drop, slice_index, IfOk, IfErr};
 ghost use Rattle.std.specs.Borrow.{sem};
 ghost use Rattle.byteorder.specs.Endian.{big_bytes};
-ghost use Rattle.adf_block.specs.Layout.{block_bytes, block_longs};
-ghost use Rattle.adf_block.specs.Whole.{IsImage};
-ghost use Rattle.adf_block.specs.Image.{IsSize, block_count, bytes_at, byte_at, long, root_key};
+ghost use Rattle.adf_block.specs.declared.layout.TheConstants.{BLOCK_LONGS};
+ghost use Rattle.adf_block.specs.Whole.{IsImage, IsSize};
+ghost use Rattle.adf_block.specs.Image.{block_count, bytes_at, byte_at, long, root_key};
 ghost use Rattle.adf_block.specs.Frame.{OnlyLong};
 ghost use Rattle.adf_block.specs.Size.{IsSizeFault};
 ghost use Rattle.adf_block.specs.Lending.{LendsBlock};
@@ -68,7 +68,7 @@ impl Image {
     pub fn blocks(&self) -> u32
         ensures count { result ≡ block_count self.now }
         ensures size { IsSize result }
-        ensures whole { length self.now ≡ block_bytes * result }
+        ensures whole { length self.now ≡ BLOCK_BYTES * result }
         ensures image { IsImage self.now }
     {
         whole_blocks(&self.bytes) as u32
@@ -86,7 +86,7 @@ impl Image {
     #[tactic(auto, unfolding(crate::specs::Image::long))]
     pub fn long(&self, b: u32, i: u32) -> u32
         requires block { b < block_count self.now }
-        requires place { i < block_longs }
+        requires place { i < BLOCK_LONGS }
         ensures { result ≡ long self.now b i }
     {
         let at = b as usize * BLOCK + i as usize * 4;
@@ -96,9 +96,9 @@ impl Image {
     /// Writes `v` into long `i` of block `b`, big-endian.
     pub fn set_long(&mut self, b: u32, i: u32, v: u32)
         requires block { b < block_count self.old }
-        requires place { i < block_longs }
+        requires place { i < BLOCK_LONGS }
         ensures long { long self.new b i ≡ v }
-        ensures others { (c j : ℕ) → j < block_longs → (c ≢ b) ⊎ (j ≢ i) → long self.new c j ≡ long self.old c j }
+        ensures others { (c j : ℕ) → j < BLOCK_LONGS → (c ≢ b) ⊎ (j ≢ i) → long self.new c j ≡ long self.old c j }
         ensures rest { OnlyLong b i self.old self.new }
         ensures image { IsImage self.new }
     {
@@ -109,7 +109,7 @@ impl Image {
     #[tactic(auto, unfolding(crate::specs::Image::byte_at))]
     pub fn byte(&self, b: u32, i: u32) -> u8
         requires block { b < block_count self.now }
-        requires place { i < block_bytes }
+        requires place { i < BLOCK_BYTES }
         ensures { result ≡ byte_at self.now b i }
     {
         self.bytes[b as usize * BLOCK + i as usize]
@@ -118,8 +118,8 @@ impl Image {
     /// The 512 bytes of block `b`.
     pub fn block(&self, b: u32) -> &[u8]
         requires { b < block_count self.now }
-        ensures bytes { result.now ≡ bytes_at self.now b 0 block_bytes }
-        ensures length { length result.now ≡ block_bytes }
+        ensures bytes { result.now ≡ bytes_at self.now b 0 BLOCK_BYTES }
+        ensures length { length result.now ≡ BLOCK_BYTES }
     {
         let at = b as usize * BLOCK;
         &self.bytes[at..at + BLOCK]
@@ -129,8 +129,8 @@ impl Image {
     pub fn block_mut(&mut self, b: u32) -> &mut [u8]
         requires { b < block_count self.old }
         ensures* writes_back { sem 𝓛 (LendsBlock self.entry b result) }
-        ensures bytes { result.now ≡ bytes_at self.old b 0 block_bytes }
-        ensures length { length result.now ≡ block_bytes }
+        ensures bytes { result.now ≡ bytes_at self.old b 0 BLOCK_BYTES }
+        ensures length { length result.now ≡ BLOCK_BYTES }
     {
         let at = b as usize * BLOCK;
         self.bytes.slice_mut(at..at + BLOCK)
@@ -153,7 +153,7 @@ impl Image {
 
 /// The number of whole blocks in these bytes.
 fn whole_blocks(bytes: &[u8]) -> usize
-    ensures count { result ≡ length bytes.now / block_bytes }
+    ensures count { result ≡ length bytes.now / BLOCK_BYTES }
     ensures bytes { (i : ℕ) → slice_index bytes.now i < 256 }
 {
     bytes.len() / BLOCK

@@ -1,11 +1,18 @@
-//! The position of each field in a block, and the numbers for types and sizes. Each number of the disk is defined here
-//! once (AmigaDOS Technical Reference).
-//!
+//! The position of each field in a block, the numbers for types and sizes, and the two file systems. Each number of
+//! the disk is defined here once (AmigaDOS Technical Reference).
 //! A block has 512 bytes, or 128 big-endian longs. A constant is the index of a long in its block unless its text
-//! names another unit. Contracts cite these constants, most of them under a name of `specs/Layout`.
+//! names another unit. Code, contracts and definitions all cite these constants.
+
+/// The layout of data blocks.
+#[derive(Clone, Copy, Debug, PartialEq, Eq)]
+pub enum Format {
+    /// The old file system: a header of 24 bytes, then 488 bytes of data.
+    Ofs,
+    /// The fast file system: 512 bytes of data.
+    Ffs,
+}
 
 // The volume.
-
 /// The fewest blocks of a volume: this project's own limit, with room for a root.
 pub const FEWEST_BLOCKS: u32 = 16;
 /// The most blocks of a volume: this project's own limit, the blocks that 25 bitmap blocks cover.
@@ -18,24 +25,21 @@ pub const BLOCK_BYTES: u32 = 512;
 pub const BLOCK_LONGS: u32 = 128;
 
 // The boot blocks.
-
 /// The kind of the disk: the bytes `DOS` and one more.
 pub const KIND: u32 = 0;
 /// The byte after `DOS`: 0 is the old file system, 1 the fast one.
 pub const KIND_BYTE: u32 = 3;
 /// The checksum of the boot blocks.
-pub const BOOT_SUM: u32 = 1;
+pub const BOOT_CHECKSUM: u32 = 1;
 
 // Blocks of any type but bitmap blocks and FFS data blocks.
-
 /// The primary type: `HEADER_TYPE`, `DATA_TYPE` or `LIST_TYPE`.
 pub const PRIMARY_TYPE: u32 = 0;
 /// The block's own number. In an OFS data block it is that of the file header.
 pub const OWN_KEY: u32 = 1;
 /// The checksum.
-pub const SUM: u32 = 5;
-/// The secondary type. In a header: `ROOT_TYPE`, `DIRECTORY_TYPE`, `FILE_TYPE` or a link type. In an extension block:
-/// `FILE_TYPE`.
+pub const CHECKSUM: u32 = 5;
+/// The secondary type: `ROOT_TYPE`, `DIRECTORY_TYPE`, `FILE_TYPE` or a link type; in an extension block `FILE_TYPE`.
 pub const SECONDARY_TYPE: u32 = 127;
 
 /// The primary type of a root, directory or file header.
@@ -58,7 +62,6 @@ pub const DIRECTORY_LINK_TYPE: u32 = 4;
 pub const FILE_LINK_TYPE: u32 = 0xffff_fffc;
 
 // The table of a root or directory, and that of a file header or extension block.
-
 /// Longs in a table: the slots of a directory, or the data pointers of a file.
 pub const TABLE_LONGS: u32 = 72;
 /// The number of slots that a root declares for its table.
@@ -71,7 +74,6 @@ pub const POINTER_COUNT: u32 = 2;
 pub const FIRST_POINTER: u32 = 77;
 
 // The root.
-
 /// The flag of a valid bitmap.
 pub const BITMAP_FLAG: u32 = 78;
 /// The flag's value for a valid bitmap, -1.
@@ -88,11 +90,10 @@ pub const DISK_DATE: u32 = 118;
 pub const CREATION_DATE: u32 = 121;
 
 // Entries: directories and files. A root has a time stamp and a name as well.
-
 /// The protection bits.
 pub const PROTECTION: u32 = 80;
 /// The size of a file in bytes.
-pub const SIZE: u32 = 81;
+pub const FILE_SIZE: u32 = 81;
 /// A byte: the length of the comment. The comment follows it.
 pub const COMMENT_BYTE: u32 = 328;
 /// The first of three longs of the time stamp: days, minutes and ticks.
@@ -107,7 +108,6 @@ pub const PARENT: u32 = 125;
 pub const NEXT_EXTENSION: u32 = 126;
 
 // Data blocks. FFS data blocks have no fields.
-
 /// The number of an OFS data block in its file, from 1.
 pub const SEQUENCE: u32 = 2;
 /// The number of data bytes in an OFS data block.
@@ -122,9 +122,8 @@ pub const OFS_ROOM: u32 = 488;
 pub const FFS_ROOM: u32 = 512;
 
 // Bitmap blocks.
-
 /// The checksum of a bitmap block.
-pub const PAGE_SUM: u32 = 0;
+pub const PAGE_CHECKSUM: u32 = 0;
 /// The first long with bits.
 pub const FIRST_MAP_LONG: u32 = 1;
 /// The number of longs with bits in a bitmap block.

@@ -10,13 +10,5 @@ mod writing;
 
 pub use boot::BootKind;
 pub use floppy::Image;
+pub use layout::Format;
 pub use volume_size::{SizeFault, SizeRefused, page_count, size_ok};
-
-/// The layout of data blocks.
-#[derive(Clone, Copy, Debug, PartialEq, Eq)]
-pub enum Format {
-    /// The old file system: a header of 24 bytes, then 488 bytes of data.
-    Ofs,
-    /// The fast file system: 512 bytes of data.
-    Ffs,
-}

@@ -1,7 +1,6 @@
 //! Checksums. In a block with a checksum field, the longs add up to 0 modulo 2^32.
 
 ghost use Rattle.std.specs.Prelude.{◌≡◌, ◌≢◌, ◌<◌, ◌⊎◌, ℕ};
-ghost use Rattle.adf_block.specs.Layout.{block_longs};
 ghost use Rattle.adf_block.specs.Whole.{IsImage};
 ghost use Rattle.adf_block.specs.Image.{block_count, block_sum, long};
 ghost use Rattle.adf_block.specs.Frame.{OnlyLong};
@@ -26,9 +25,9 @@ impl Image {
     /// Reference). The field is long 5, in a bitmap block long 0.
     pub fn settle(&mut self, b: u32, field: u32)
         requires block { b < block_count self.old }
-        requires place { field < block_longs }
+        requires place { field < BLOCK_LONGS }
         ensures sum { block_sum self.new b ≡ 0 }
-        ensures others { (c j : ℕ) → j < block_longs → (c ≢ b) ⊎ (j ≢ field) → long self.new c j ≡ long self.old c j }
+        ensures others { (c j : ℕ) → j < BLOCK_LONGS → (c ≢ b) ⊎ (j ≢ field) → long self.new c j ≡ long self.old c j }
         ensures rest { OnlyLong b field self.old self.new }
         ensures image { IsImage self.new }
     {

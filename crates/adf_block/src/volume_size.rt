@@ -1,7 +1,8 @@
 //! The sizes of a volume.
 
 ghost use Rattle.std.specs.Prelude.{◌≡◌, ◌↔◌, IsTrue};
-ghost use Rattle.adf_block.specs.Image.{IsSize, page_count};
+ghost use Rattle.adf_block.specs.Image.{page_count};
+ghost use Rattle.adf_block.specs.Whole.{IsSize};
 
 use crate::layout::{BOOT_BLOCKS, FEWEST_BLOCKS, MOST_BLOCKS, PAGE_BITS};
 

@@ -1,10 +1,10 @@
 -- The blocks of an image that differ from a copy, block by block.
-use Rattle.std.proofs.Common.{◌≡◌, ℕ, ◌+◌, ◌-◌, ◌*◌, Bool, true, false, cond, not, List, [], ◌∷◌, ◌++◌, take, drop, Option, Some, Result, Ok, Err, inr, arith, refl, sym, ap, ap₂, ◌∙◌, subst}
-use Rattle.std.specs.Prelude.{filter, map, bytes_eq, MatchResult}
+use Rattle.std.proofs.Common.{◌≡◌, ℕ, ◌+◌, ◌-◌, ◌*◌, Bool, true, false, cond, List, [], ◌∷◌, ◌++◌, take, drop, Option, Some, Result, Ok, Err, inr, arith, refl, sym, ap, ap₂, ◌∙◌, subst}
+use Rattle.std.specs.Prelude.{filter, map, MatchResult}
 use Rattle.std.specs.List.{range_with_len}
 use Rattle.std.proofs.lemmas.List.FromFn.{filter_of_map_range_with_len_more}
 use Rattle.adf_block.specs.Image.{bytes_at}
-use Rattle.adf_c.specs.Changed.{differs, TakesOver, RefusesTaking, CopiesChanged, RefusesChanged}
+use Rattle.adf_c.specs.Changed.{TakesOver, RefusesTaking, CopiesChanged, RefusesChanged}
 use Rattle.adf_c.specs.declared.desk.Desk.{Desk}
 use Rattle.adf_c.specs.declared.refusal.Refusal.{Refusal}
 

@@ -1,11 +1,10 @@
 -- The result of a call, by the results of its parts.
-use Rattle.std.proofs.Common.{◌≡◌, ℕ, ℤ, pos, Bool, true, false, List, Option, Some, None, Result, Ok, Err, inl, inr, refl, sym, ap, ◌∙◌, subst}
+use Rattle.std.proofs.Common.{◌≡◌, ℕ, ℤ, pos, Bool, true, false, List, Option, Some, None, Result, Ok, Err, inr, refl, sym, ap, ◌∙◌, subst}
 use Rattle.std.proofs.lemmas.Bool.{false≢true, true≢false}
 use Rattle.std.specs.Prelude.{is_some}
-use Rattle.adf_block.specs.Whole.{IsImage}
-use Rattle.adf_block.specs.Image.{IsSize}
-use Rattle.adf_block.specs.declared.Format.{Format}
-use Rattle.ados_name.specs.declared.Date3.{Date3}
+use Rattle.adf_block.specs.Whole.{IsImage, IsSize}
+use Rattle.adf_block.specs.declared.layout.Format.{Format}
+use Rattle.ados_name.specs.declared.stamp.Date3.{Date3}
 use Rattle.ados_name.specs.Name.{IsName}
 use Rattle.ados_model.specs.declared.packet.Packet.{Packet}
 use Rattle.ados_model.specs.Accepted.{Accepts}

@@ -1,13 +1,12 @@
 -- The result of each call. Contracts see a handle as its desk, or as none.
 use Rattle.std.specs.Prelude.{◌≡◌, ◌≢◌, ◌⊎◌, ⊤, ℕ, ℤ, pos, List, length, Bool, false, Option, Some, None, Result, MatchResult}
-use Rattle.adf_block.specs.Whole.{IsImage}
-use Rattle.adf_block.specs.Image.{IsSize}
-use Rattle.adf_block.specs.declared.Format.{Format}
-use Rattle.adf_block.specs.declared.Format.TheVariants.{Ofs, Ffs}
-use Rattle.ados_name.specs.declared.Date3.{Date3}
+use Rattle.adf_block.specs.Whole.{IsImage, IsSize}
+use Rattle.adf_block.specs.declared.layout.Format.{Format}
+use Rattle.adf_block.specs.declared.layout.Format.TheVariants.{Ofs, Ffs}
+use Rattle.ados_name.specs.declared.stamp.Date3.{Date3}
 use Rattle.ados_name.specs.Name.{IsName}
 use Rattle.ados_name.specs.Path.{IsPathText}
-use Rattle.ados_model.specs.declared.packet.Action.{Action}
+use Rattle.ados_model.specs.declared.action.Action.{Action}
 use Rattle.ados_model.specs.declared.answer.Answer.{Answer}
 use Rattle.ados_model.specs.declared.packet.Packet.{Packet}
 use Rattle.ados_model.specs.Accepted.{Accepts}
@@ -21,7 +20,6 @@ use Rattle.adf_c.specs.Telling.{told_of, buffer_after}
 use Rattle.adf_c.specs.declared.answer.JipAnswer.{JipAnswer}
 use Rattle.adf_c.specs.declared.desk.Desk.{Desk}
 use Rattle.adf_c.specs.declared.open.JipFault.{JipFault}
-use Rattle.adf_c.specs.declared.packet.JipDate.{JipDate}
 use Rattle.adf_c.specs.declared.packet.JipPacket.{JipPacket}
 use Rattle.adf_c.specs.declared.refusal.Refusal.{Refusal}
 use Rattle.adf_c.specs.declared.refusal.Refusal.TheVariants.{NotAnImage, NoMemory, WrongArgument}

@@ -1,7 +1,7 @@
 -- The blocks of an image that differ from C's copy.
 use Rattle.std.specs.Prelude.{◌≡◌, ◌≢◌, ◌<◌, ◌⊎◌, ⊤, ℕ, ℤ, Bool, not, List, ◌++◌, length, drop, filter, Option, Some, None, Result, MatchResult, bytes_eq}
 use Rattle.std.specs.List.{range_with_len}
-use Rattle.adf_block.specs.Layout.{block_bytes}
+use Rattle.adf_block.specs.declared.layout.TheConstants.{BLOCK_BYTES}
 use Rattle.adf_block.specs.Image.{block_count, bytes_at}
 use Rattle.adf_c.specs.Calls.{ComesTo}
 use Rattle.adf_c.specs.declared.desk.Desk.{Desk}
@@ -10,7 +10,7 @@ use Rattle.adf_c.specs.declared.refusal.Refusal.TheVariants.{NotAnImage, NoMemor
 
 -- the block has other bytes in the image than in the copy
 abbrev pub differs : List ℕ → List ℕ → ℕ → Bool
-differs copy image block = not (bytes_eq (bytes_at copy block 0 block_bytes) (bytes_at image block 0 block_bytes))
+differs copy image block = not (bytes_eq (bytes_at copy block 0 BLOCK_BYTES) (bytes_at image block 0 BLOCK_BYTES))
 
 -- the numbers of these blocks, lowest first
 abbrev pub changed_blocks : List ℕ → List ℕ → List ℕ

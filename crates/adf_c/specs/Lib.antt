@@ -1,5 +1,5 @@
 -- The contracts of the exports: what a handle owns, the packets and answers for C's structs, and the result of each
--- call.
+-- call. Definitions for the packets with texts are in `steps`.
 pub mod Holding
 pub mod Status
 pub mod Desk
@@ -8,3 +8,4 @@ pub mod Telling
 pub mod Faults
 pub mod Calls
 pub mod Changed
+pub mod steps

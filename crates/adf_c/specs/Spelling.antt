@@ -1,9 +1,9 @@
 -- The packet that a struct of C stands for.
 use Rattle.std.specs.Prelude.{◌≡◌, ◌≢◌, ℕ, ℤ, pos, List}
-use Rattle.ados_name.specs.declared.Date3.{Date3}
-use Rattle.ados_model.specs.Packet.{action_number}
-use Rattle.ados_model.specs.declared.packet.Action.{Action}
-use Rattle.ados_model.specs.declared.packet.Action.TheVariants as action
+use Rattle.ados_name.specs.declared.stamp.Date3.{Date3}
+use Rattle.ados_model.specs.Actions.{action_number}
+use Rattle.ados_model.specs.declared.action.Action.{Action}
+use Rattle.ados_model.specs.declared.action.Action.TheVariants as action
 use Rattle.ados_model.specs.declared.packet.Packet.{Packet}
 use Rattle.ados_model.specs.declared.packet.Packet.TheVariants.{Die, LocateObject, RenameDisk, FreeLock, DeleteObject, RenameObject, CopyDir, SetProtect, CreateDir, ExamineObject, ExamineNext, DiskInfo, Info, SetComment, Parent, SetDate, SameLock, Read, Write, FindUpdate, FindInput, FindOutput, End, Seek, SetFileSize, Other}
 use Rattle.adf_c.specs.declared.packet.JipDate.{JipDate}

@@ -1,11 +1,11 @@
 -- The answers for C.
-use Rattle.std.specs.Prelude.{◌≡◌, ℕ, ◌-◌, ℤ, pos, Bool, true, false, List, [], ◌++◌, length, replicate, if◌then◌else◌, ◌==◌}
-use Rattle.ados_name.specs.declared.Date3.{Date3}
+use Rattle.std.specs.Prelude.{◌≡◌, ℕ, ◌-◌, pos, Bool, true, false, List, ◌++◌, length, replicate, if◌then◌else◌, ◌==◌}
+use Rattle.ados_name.specs.declared.stamp.Date3.{Date3}
 use Rattle.ados_model.specs.declared.answer.Answer.{Answer}
 use Rattle.ados_model.specs.declared.packet.Packet.{Packet}
 use Rattle.ados_model.specs.declared.packet.Packet.TheVariants.{Read}
 use Rattle.ados_model.specs.declared.answer.Body.{Body}
-use Rattle.ados_model.specs.declared.answer.Body.TheVariants.{Empty, Buffer, Handle, Entry, Disk}
+use Rattle.ados_model.specs.declared.answer.Body.TheVariants.{Buffer, Handle, Entry, Disk}
 use Rattle.ados_model.specs.declared.answer.FileInfo.{FileInfo}
 use Rattle.ados_model.specs.declared.answer.DiskInfo.{DiskInfo}
 use Rattle.adf_c.specs.declared.packet.JipDate.{JipDate}

@@ -112,24 +112,14 @@ impl JipEntry {
         }
     }
 
+    #[rattlefmt::skip]
     fn nothing() -> JipEntry
         ensures { result ≡ told_entry Body.Empty }
     {
         JipEntry {
-            key: 0,
-            entry_type: 0,
-            protection: 0,
-            size: 0,
-            blocks: 0,
-            date: JipDate {
-                days: 0,
-                minutes: 0,
-                ticks: 0,
-            },
-            name_length: 0,
-            comment_length: 0,
-            name: [0; 32],
-            comment: [0; 80],
+            key: 0, entry_type: 0, protection: 0, size: 0, blocks: 0,
+            date: JipDate { days: 0, minutes: 0, ticks: 0 },
+            name_length: 0, comment_length: 0, name: [0; 32], comment: [0; 80],
         }
     }
 }
@@ -147,16 +137,11 @@ impl JipDisk {
         }
     }
 
+    #[rattlefmt::skip]
     fn nothing() -> JipDisk
         ensures { result ≡ told_disk Body.Empty }
     {
-        JipDisk {
-            state: 0,
-            blocks: 0,
-            used: 0,
-            bytes_per_block: 0,
-            disk_type: 0,
-        }
+        JipDisk { state: 0, blocks: 0, used: 0, bytes_per_block: 0, disk_type: 0 }
     }
 }
 

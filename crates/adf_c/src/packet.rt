@@ -4,7 +4,7 @@ ghost use Rattle.std.specs.Prelude.{◌≡◌, IfOk};
 ghost use Rattle.ados_name.specs.Path.{IsPathText};
 ghost use Rattle.adf_c.specs.Spelling.{IsActionOf, date_of, packet_of};
 
-use crate::texts::rename_disk;
+use crate::texts::copied;
 use ados_model::{Action, Buffer, Packet};
 use ados_name::Date3;
 use std::alloc::{AllocError, Global};
@@ -69,8 +69,8 @@ impl JipPacket {
     }
 
     /// The packet for this action with the struct's arguments, these texts and these bytes, if there is memory for its
-    /// texts. Each packet with texts has its own function, because a function reserves space for all its values when
-    /// it begins.
+    /// texts.
+    #[rattlefmt::skip]
     pub(crate) fn packet(
         &self,
         alloc: Global,
@@ -83,51 +83,33 @@ impl JipPacket {
         requires text { IsPathText text.now }
         ensures { IfOk result (λ packet. packet ≡ packet_of action self.now path.now text.now buffer) }
     {
-        let (lock, to_lock, handle) = (self.lock, self.to_lock, self.handle);
-        let (key, offset, mode) = (self.key, self.offset, self.mode);
-        let packet = match action {
+        let (lock, handle, key) = (self.lock, self.handle, self.key);
+        let (offset, mode) = (self.offset, self.mode);
+        Ok(match action {
             Action::Die => Packet::Die,
-            Action::LocateObject => self.locate_object(alloc, path)?,
-            Action::RenameDisk => rename_disk(alloc, path)?,
             Action::FreeLock => Packet::FreeLock { lock },
-            Action::DeleteObject => self.delete_object(alloc, path)?,
-            Action::RenameObject => self.rename_object(alloc, path, text)?,
             Action::CopyDir => Packet::CopyDir { lock },
-            Action::SetProtect => self.set_protect(alloc, path)?,
-            Action::CreateDir => self.create_dir(alloc, path)?,
             Action::ExamineObject => Packet::ExamineObject { lock },
             Action::ExamineNext => Packet::ExamineNext { lock, key },
             Action::DiskInfo => Packet::DiskInfo,
             Action::Info => Packet::Info { lock },
-            Action::SetComment => self.set_comment(alloc, path, text)?,
             Action::Parent => Packet::Parent { lock },
-            Action::SetDate => self.set_date(alloc, path)?,
-            Action::SameLock => Packet::SameLock {
-                first: lock,
-                second: to_lock,
-            },
+            Action::SameLock => Packet::SameLock { first: lock, second: self.to_lock },
             Action::Read => Packet::Read { handle, buffer },
-            Action::Write => Packet::Write {
-                handle,
-                bytes: buffer,
-            },
-            Action::FindUpdate => self.find_update(alloc, path)?,
-            Action::FindInput => self.find_input(alloc, path)?,
-            Action::FindOutput => self.find_output(alloc, path)?,
+            Action::Write => Packet::Write { handle, bytes: buffer },
             Action::End => Packet::End { handle },
-            Action::Seek => Packet::Seek {
-                handle,
-                offset,
-                mode,
-            },
-            Action::SetFileSize => Packet::SetFileSize {
-                handle,
-                offset,
-                mode,
-            },
+            Action::Seek => Packet::Seek { handle, offset, mode },
+            Action::SetFileSize => Packet::SetFileSize { handle, offset, mode },
             Action::Other(number) => Packet::Other { action: number },
-        };
-        Ok(packet)
+            Action::RenameObject | Action::SetComment => {
+                let path = copied(alloc, path)?;
+                self.with_texts(action, path, copied(alloc, text)?)
+            }
+            Action::LocateObject | Action::RenameDisk | Action::DeleteObject | Action::SetProtect | Action::CreateDir
+            | Action::SetDate | Action::FindUpdate | Action::FindInput | Action::FindOutput => {
+                self.with_text(action, copied(alloc, path)?)
+            }
+        })
     }
 }
 

@@ -1,17 +1,17 @@
 //! The packets with texts.
 
-ghost use Rattle.std.specs.Prelude.{◌≡◌, IfOk};
+ghost use Rattle.std.specs.Prelude.{◌≡◌, ℕ, List, IfOk};
 ghost use Rattle.ados_name.specs.Path.{IsPathText};
-ghost use Rattle.ados_model.specs.declared.packet.Packet.TheVariants.{LocateObject, RenameDisk, DeleteObject, RenameObject, SetProtect, CreateDir, SetComment, SetDate, FindUpdate, FindInput, FindOutput};
-ghost use Rattle.adf_c.specs.Spelling.{date_of};
+ghost use Rattle.adf_c.specs.Spelling.{packet_of};
+ghost use Rattle.adf_c.specs.steps.Texts.{HasText, HasTwoTexts};
 
 use crate::packet::JipPacket;
-use ados_model::{Packet, Text};
+use ados_model::{Action, Packet, Text};
 use ados_name::PathText;
 use std::alloc::{AllocError, Global};
 
 /// A text that fits into a packet, if there is memory for it.
-fn copied(alloc: Global, text: &[u8]) -> Result<Text, AllocError>
+pub(crate) fn copied(alloc: Global, text: &[u8]) -> Result<Text, AllocError>
     requires { IsPathText text.now }
     ensures { IfOk result (λ made. made ≡ text.now) }
 {
@@ -21,142 +21,39 @@ fn copied(alloc: Global, text: &[u8]) -> Result<Text, AllocError>
     Text::new(alloc, text)
 }
 
-/// RENAME_DISK. The path is the new name.
-pub(crate) fn rename_disk(alloc: Global, path: &[u8]) -> Result<Packet, AllocError>
-    requires { IsPathText path.now }
-    ensures { IfOk result (λ packet. packet ≡ RenameDisk path.now) }
-{
-    Ok(Packet::RenameDisk {
-        name: copied(alloc, path)?,
-    })
-}
-
 impl JipPacket {
-    /// LOCATE_OBJECT.
-    pub(crate) fn locate_object(&self, alloc: Global, path: &[u8]) -> Result<Packet, AllocError>
-        requires { IsPathText path.now }
-        ensures { IfOk result (λ packet. packet ≡ LocateObject self.now.lock path.now self.now.mode) }
+    /// The packet of an action with one text: a path, or the new name of RENAME_DISK.
+    #[rattlefmt::skip]
+    pub(crate) fn with_text(&self, action: Action, path: Text) -> Packet
+        requires { HasText action }
+        ensures { (text buffer : List ℕ) → result ≡ packet_of action self.now path text buffer }
     {
-        Ok(Packet::LocateObject {
-            lock: self.lock,
-            path: copied(alloc, path)?,
-            mode: self.mode,
-        })
+        let lock = self.lock;
+        match action {
+            Action::LocateObject => Packet::LocateObject { lock, path, mode: self.mode },
+            Action::RenameDisk => Packet::RenameDisk { name: path },
+            Action::DeleteObject => Packet::DeleteObject { lock, path },
+            Action::SetProtect => Packet::SetProtect { lock, path, bits: self.bits },
+            Action::CreateDir => Packet::CreateDir { lock, path },
+            Action::SetDate => Packet::SetDate { lock, path, date: self.date.date() },
+            Action::FindUpdate => Packet::FindUpdate { lock, path },
+            Action::FindInput => Packet::FindInput { lock, path },
+            Action::FindOutput => Packet::FindOutput { lock, path },
+            _ => unreachable!(),
+        }
     }
 
-    /// DELETE_OBJECT.
-    pub(crate) fn delete_object(&self, alloc: Global, path: &[u8]) -> Result<Packet, AllocError>
-        requires { IsPathText path.now }
-        ensures { IfOk result (λ packet. packet ≡ DeleteObject self.now.lock path.now) }
+    /// The packet of an action with two texts.
+    #[rattlefmt::skip]
+    pub(crate) fn with_texts(&self, action: Action, path: Text, text: Text) -> Packet
+        requires { HasTwoTexts action }
+        ensures { (buffer : List ℕ) → result ≡ packet_of action self.now path text buffer }
     {
-        Ok(Packet::DeleteObject {
-            lock: self.lock,
-            path: copied(alloc, path)?,
-        })
-    }
-
-    /// SET_PROTECT.
-    pub(crate) fn set_protect(&self, alloc: Global, path: &[u8]) -> Result<Packet, AllocError>
-        requires { IsPathText path.now }
-        ensures { IfOk result (λ packet. packet ≡ SetProtect self.now.lock path.now self.now.bits) }
-    {
-        Ok(Packet::SetProtect {
-            lock: self.lock,
-            path: copied(alloc, path)?,
-            bits: self.bits,
-        })
-    }
-
-    /// CREATE_DIR.
-    pub(crate) fn create_dir(&self, alloc: Global, path: &[u8]) -> Result<Packet, AllocError>
-        requires { IsPathText path.now }
-        ensures { IfOk result (λ packet. packet ≡ CreateDir self.now.lock path.now) }
-    {
-        Ok(Packet::CreateDir {
-            lock: self.lock,
-            path: copied(alloc, path)?,
-        })
-    }
-
-    /// SET_DATE.
-    pub(crate) fn set_date(&self, alloc: Global, path: &[u8]) -> Result<Packet, AllocError>
-        requires { IsPathText path.now }
-        ensures { IfOk result (λ packet. packet ≡ SetDate self.now.lock path.now (date_of self.now.date)) }
-    {
-        Ok(Packet::SetDate {
-            lock: self.lock,
-            path: copied(alloc, path)?,
-            date: self.date.date(),
-        })
-    }
-
-    /// FINDUPDATE.
-    pub(crate) fn find_update(&self, alloc: Global, path: &[u8]) -> Result<Packet, AllocError>
-        requires { IsPathText path.now }
-        ensures { IfOk result (λ packet. packet ≡ FindUpdate self.now.lock path.now) }
-    {
-        Ok(Packet::FindUpdate {
-            lock: self.lock,
-            path: copied(alloc, path)?,
-        })
-    }
-
-    /// FINDINPUT.
-    pub(crate) fn find_input(&self, alloc: Global, path: &[u8]) -> Result<Packet, AllocError>
-        requires { IsPathText path.now }
-        ensures { IfOk result (λ packet. packet ≡ FindInput self.now.lock path.now) }
-    {
-        Ok(Packet::FindInput {
-            lock: self.lock,
-            path: copied(alloc, path)?,
-        })
-    }
-
-    /// FINDOUTPUT.
-    pub(crate) fn find_output(&self, alloc: Global, path: &[u8]) -> Result<Packet, AllocError>
-        requires { IsPathText path.now }
-        ensures { IfOk result (λ packet. packet ≡ FindOutput self.now.lock path.now) }
-    {
-        Ok(Packet::FindOutput {
-            lock: self.lock,
-            path: copied(alloc, path)?,
-        })
-    }
-
-    /// RENAME_OBJECT.
-    pub(crate) fn rename_object(
-        &self,
-        alloc: Global,
-        path: &[u8],
-        text: &[u8],
-    ) -> Result<Packet, AllocError>
-        requires path { IsPathText path.now }
-        requires text { IsPathText text.now }
-        ensures { IfOk result (λ packet. packet ≡ RenameObject self.now.lock path.now self.now.to_lock text.now) }
-    {
-        Ok(Packet::RenameObject {
-            from_lock: self.lock,
-            from: copied(alloc, path)?,
-            to_lock: self.to_lock,
-            to: copied(alloc, text)?,
-        })
-    }
-
-    /// SET_COMMENT.
-    pub(crate) fn set_comment(
-        &self,
-        alloc: Global,
-        path: &[u8],
-        text: &[u8],
-    ) -> Result<Packet, AllocError>
-        requires path { IsPathText path.now }
-        requires text { IsPathText text.now }
-        ensures { IfOk result (λ packet. packet ≡ SetComment self.now.lock path.now text.now) }
-    {
-        Ok(Packet::SetComment {
-            lock: self.lock,
-            path: copied(alloc, path)?,
-            comment: copied(alloc, text)?,
-        })
+        let (lock, to_lock) = (self.lock, self.to_lock);
+        match action {
+            Action::RenameObject => Packet::RenameObject { from_lock: lock, from: path, to_lock, to: text },
+            Action::SetComment => Packet::SetComment { lock, path, comment: text },
+            _ => unreachable!(),
+        }
     }
 }

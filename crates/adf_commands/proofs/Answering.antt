@@ -2,11 +2,12 @@
 use Rattle.std.proofs.Common.{◌≡◌, ℕ, zero, suc, ◌-◌, ◌⊎◌, inl, inr, Bool, List, [], ◌∷◌, length, take, Some, refl, sym, ap, ap₂, ◌∙◌, subst, arith, eq-eqb}
 use Rattle.std.specs.Prelude.{slice_get}
 use Rattle.std.proofs.lemmas.Bool.{false≢true}
-use Rattle.ados_name.specs.declared.Date3.{Date3}
+use Rattle.ados_name.specs.declared.stamp.Date3.{Date3}
 use Rattle.ados_model.specs.declared.packet.Packet.{Packet}
 use Rattle.ados_model.specs.declared.packet.Packet.TheVariants.{DiskInfo}
 use Rattle.ados_model.specs.declared.answer.Answer.{Answer}
-use Rattle.ados_port.specs.History.{PortHistory, Run, accepted_in, events_of, last_server, take_outcome, Serving, answers_to, packets_of, PortState}
+use Rattle.ados_port.specs.History.{PortHistory, Run, accepted_in, events_of, last_server, take_outcome, Serving, PortState}
+use Rattle.ados_port.specs.Lawful.{answers_to, packets_of}
 use Rattle.ados_port.specs.Outcome.{Outcome}
 use Rattle.ados_port.specs.Outcome.TheVariants.{Accepted, Taken}
 use Rattle.ados_port.specs.Reply.{Reply}
@@ -14,10 +15,11 @@ use Rattle.ados_port.specs.Step.{Step}
 use Rattle.ados_model.specs.Session.{HandlerState}
 use Rattle.ados_handler.specs.Gives.{HandlerGives}
 use Rattle.ados_model.specs.Meaning.{IsServed}
-use Rattle.ados_run.specs.Runs.{port_over, handler_died}
+use Rattle.ados_run.specs.Runs.{handler_died}
+use Rattle.ados_run.specs.Opened.{port_over}
 use Rattle.ados_run.specs.Keeping.{KeepsVolume}
 use Rattle.ados_run.proofs.Following.{each_side_is_a_history}
-use Rattle.adf_listing.specs.Info.{info_text}
+use Rattle.adf_export.specs.Info.{info_text}
 use Rattle.adf_commands.specs.Texts.{disk_answer, disk_info_steps, IsInfoText}
 
 -- a reply as an outcome

@@ -1,5 +1,5 @@
 -- The output for an image, whole or in part.
-use Rattle.std.proofs.Common.{◌≡◌, ℕ, ◌⊎◌, inl, inr, Bool, true, false, List, [], ◌++◌, Option, Some, None, option_map, Ok, Err, OnOk, OnErr, IfErr, IsErrAnd, refl, sym, ap, ◌∙◌, subst}
+use Rattle.std.proofs.Common.{◌≡◌, ℕ, ◌⊎◌, inl, inr, Bool, true, false, List, [], ◌++◌, Option, Some, None, option_map, Ok, Err, IfErr, IsErrAnd, refl, sym, ap, ◌∙◌, subst}
 use Rattle.std.specs.Prelude.{⊤}
 use Rattle.std.specs.Io.KnownBytes.{Appends, Keeps}
 use Rattle.std.proofs.KnownBytes.{Appends-nil, Keeps-refl}
@@ -12,16 +12,16 @@ use Rattle.ados_run.specs.Refused.{IsRunFault}
 use Rattle.ados_run.specs.declared.run.RunFault.{RunFault}
 use Rattle.ados_run.specs.declared.run.RunFault.TheVariants as of_run
 use Rattle.adf_script.specs.Streams.{Writes}
-use Rattle.adf_listing.specs.Fronts.{WritesFront, WritesFrontOf}
-use Rattle.adf_listing.specs.Listing.{BeginsList, IsList}
-use Rattle.adf_jobs.specs.declared.job.ImageJob.{ImageJob}
-use Rattle.adf_jobs.specs.declared.job.ImageJob.TheVariants.{Blank}
-use Rattle.files_out.specs.declared.fault.OutFault.{OutFault}
-use Rattle.files_out.specs.declared.fault.OutFault.TheVariants as out
-use Rattle.files_out.specs.Printing.{IsPrinted, IsPrintFault}
-use Rattle.files_out.specs.Rescue.{IsRescue}
-use Rattle.files_out.specs.declared.damaged.Rescue.{Rescue}
-use Rattle.adf_listing.proofs.Fronts.{writes_first}
+use Rattle.adf_io.specs.Prefix.{WritesFront, WritesFrontOf}
+use Rattle.adf_export.specs.Listing.{BeginsList, IsList}
+use Rattle.adf_words.specs.declared.job.ImageJob.{ImageJob}
+use Rattle.adf_words.specs.declared.job.ImageJob.TheVariants.{Blank}
+use Rattle.adf_export.specs.declared.fault.OutFault.{OutFault}
+use Rattle.adf_export.specs.declared.fault.OutFault.TheVariants as out
+use Rattle.adf_export.specs.Printing.{IsPrinted, IsPrintFault}
+use Rattle.adf_export.specs.Rescue.{IsRescue}
+use Rattle.adf_export.specs.declared.damaged.Rescue.{Rescue}
+use Rattle.adf_io.proofs.Prefixes.{writes_first}
 use Rattle.adf_commands.specs.declared.fault.CommandFault.{CommandFault}
 use Rattle.adf_commands.specs.declared.fault.CommandFault.TheVariants.{Dos, ImagesRefused, Memory, NotChecked, NotWhole, Output, Refused}
 use Rattle.adf_commands.specs.declared.refusal.Refusal.{Refusal}
@@ -32,7 +32,7 @@ use Rattle.adf_commands.specs.Commands.{Does, DoesJob, Ending, EndsOff, LeavesOf
 use Rattle.adf_commands.specs.Commands.Prints.{OnlyFaults, OfBytes, OfImages, OfRescue, Unsaid}
 use Rattle.std.proofs.lemmas.List.{append-nil}
 use Rattle.adf_archive.specs.Archive.{told_in}
-use Rattle.adf_jobs.specs.declared.reading.CheckJob.{CheckJob}
+use Rattle.adf_words.specs.declared.query.CheckJob.{CheckJob}
 use Rattle.adf_commands.specs.Archives.{EndsArchive}
 use Rattle.adf_commands.specs.Rescues.{DoesRescue, TellsRescue}
 use Rattle.adf_commands.specs.Refusals.{dos_line, IsDosText, IsRefusalText, refusal_line, told_line}
@@ -68,13 +68,6 @@ pub leaves_front : (IsText : List ℕ → Type 0) (image : List ℕ) (old new : 
 leaves_front IsText image old new (Refused refusal) front plain = absurd (cc plain)
 leaves_front IsText image old new (Dos refusal) front plain = absurd (cc plain)
 leaves_front IsText image old new fault front plain = inr front
-
--- a text is written whole, or a prefix of it
-pub tells_text : (IsText BeginsText : List ℕ → List ℕ → Type 0) (bytes text : List ℕ) (old new : Option (List ℕ)) (result : Ending)
-    → IsText bytes text → BeginsText bytes text → OnOk result (Appends old new text) → OnErr result (WritesFront old new text) → IfErr result IsNoRefusal
-    → TellsOf IsText BeginsText bytes old new result
-tells_text IsText BeginsText bytes text old new (Ok done) is begins ok front plain = (text, ok, is)
-tells_text IsText BeginsText bytes text old new (Err fault) is begins ok front plain = leaves_front (BeginsText bytes) bytes old new fault (text, begins, front) plain
 
 -- nothing is written
 pub leaves_nothing : (IsText : List ℕ → Type 0) (image : List ℕ) (w : Option (List ℕ)) (fault : CommandFault) → IsNoRefusal fault → LeavesOff IsText image w w fault
@@ -343,7 +336,3 @@ pub job_unsaid : (job : ImageJob) (old new : Option (List ℕ)) (fault : Command
 job_unsaid job old new fault (Ok x) h same = absurd same
 job_unsaid job old new fault (Err told) h same =
     subst (λ (f : CommandFault). TellsJob job old new (Err f)) (sym same) (unsaid (IsJobText job) (BeginsJobText job) (prints job) old new fault h)
-
--- a job succeeds
-pub job_done : (job : ImageJob) (old new : Option (List ℕ)) (x : Unit {0}) → DoesJob job old new (Ok x) → TellsJob job old new (Ok x)
-job_done job old new x h = done (IsJobText job) (BeginsJobText job) (prints job) old new x h

@@ -2,10 +2,10 @@
 use Rattle.std.specs.Prelude.{◌≡◌, ◌⊎◌, ⊤, ℕ, List, Option, Some, Result, Ok, Err, MatchOption, MatchResult}
 use Rattle.std.specs.Io.KnownBytes.{Keeps}
 use Rattle.adf_script.specs.Streams.{Writes}
-use Rattle.adf_listing.specs.Fronts.{WritesFrontOf}
-use Rattle.adf_jobs.specs.declared.job.ImageJob.{ImageJob}
-use Rattle.adf_jobs.specs.declared.job.ImageJob.TheVariants.{Check, Extract, Change, Boot, Salvage, Serve}
-use Rattle.adf_jobs.specs.declared.reading.CheckJob.{CheckJob}
+use Rattle.adf_io.specs.Prefix.{WritesFrontOf}
+use Rattle.adf_words.specs.declared.job.ImageJob.{ImageJob}
+use Rattle.adf_words.specs.declared.job.ImageJob.TheVariants.{Check, Extract, Change, Boot, Salvage, Serve}
+use Rattle.adf_words.specs.declared.query.CheckJob.{CheckJob}
 use Rattle.adf_commands.specs.declared.fault.CommandFault.{CommandFault}
 use Rattle.adf_commands.specs.declared.fault.CommandFault.TheVariants.{Dos, Refused}
 use Rattle.adf_commands.specs.Archives.{EndsArchive}

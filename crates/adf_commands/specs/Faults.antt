@@ -1,14 +1,14 @@
 -- The messages of commands' faults, and their exit statuses.
 use Rattle.std.specs.Prelude.{◌≡◌, ◌≢◌, ⊤, ℕ, Bool, true, false, List, None}
-use Rattle.adf_block.specs.Image.{IsSize}
+use Rattle.adf_block.specs.Whole.{IsSize}
 use Rattle.ados_name.specs.Name.{IsName}
 use Rattle.ados_model.specs.declared.fault.FaultKind.TheVariants.{NoMemory}
 use Rattle.ados_model.specs.declared.fault.VolumeFault.{VolumeFault}
 use Rattle.ados_run.specs.declared.run.RunFault.{RunFault}
 use Rattle.ados_run.specs.declared.run.RunFault.TheVariants.{Rejected, NoMemory as NoRun}
 use Rattle.adf_text.specs.Letters.{letters as letter_text}
-use Rattle.files_out.specs.declared.fault.OutFault.{OutFault}
-use Rattle.files_out.specs.declared.fault.OutFault.TheVariants as out
+use Rattle.adf_export.specs.declared.fault.OutFault.{OutFault}
+use Rattle.adf_export.specs.declared.fault.OutFault.TheVariants as out
 use Rattle.adf_commands.specs.declared.fault.CommandFault.{CommandFault}
 use Rattle.adf_commands.specs.declared.fault.CommandFault.TheVariants.{Blocks, Dos, Letter, LongBoot, Memory, Name, ImagesRefused, NotWhole, Output, Refused, Script}
 use Rattle.adf_archive.specs.Words.{kind_word}

@@ -1,5 +1,5 @@
 -- The output for a refused image, and for a refusal by AmigaDOS.
-use Rattle.std.specs.Prelude.{◌≡◌, ◌⊎◌, ℕ, List, [], ◌++◌, length, codes, decimal, Option, Some, None}
+use Rattle.std.specs.Prelude.{◌≡◌, ◌⊎◌, ℕ, List, ◌++◌, length, codes, decimal, Option, Some, None}
 use Rattle.std.specs.String.{string_bytes}
 use Rattle.adf_block.specs.Size.{IsSizeFault}
 use Rattle.adf_block.specs.declared.volume_size.SizeFault.{SizeFault}

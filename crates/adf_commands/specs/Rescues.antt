@@ -2,9 +2,9 @@
 use Rattle.std.specs.Prelude.{◌≡◌, ◌⊎◌, ℕ, Bool, true, false, List, Option, Some, Result, Ok, Err, ⊤}
 use Rattle.std.specs.Io.KnownBytes.{Keeps}
 use Rattle.adf_script.specs.Streams.{Writes}
-use Rattle.adf_listing.specs.Fronts.{WritesFrontOf}
-use Rattle.files_out.specs.declared.damaged.Rescue.{Rescue}
-use Rattle.files_out.specs.Rescue.{IsRescue}
+use Rattle.adf_io.specs.Prefix.{WritesFrontOf}
+use Rattle.adf_export.specs.declared.damaged.Rescue.{Rescue}
+use Rattle.adf_export.specs.Rescue.{IsRescue}
 use Rattle.adf_commands.specs.declared.fault.CommandFault.{CommandFault}
 use Rattle.adf_commands.specs.declared.fault.CommandFault.TheVariants.{Dos, Extracted, Memory, NotWhole, Refused}
 use Rattle.adf_commands.specs.Refusals.{IsSizeRefusal, dos_line, refusal_line, told_line}

@@ -1,8 +1,9 @@
 -- The output of commands for an image, by its bytes.
-use Rattle.std.specs.Prelude.{◌≡◌, ℕ, pos, Bool, true, List, [], ◌∷◌, codes, Option, Some, None, option_map}
-use Rattle.ados_name.specs.declared.Date3.{Date3}
-use Rattle.ados_model.specs.Packet.{action_number, dos_true}
-use Rattle.ados_model.specs.declared.packet.Action.TheVariants.{DiskInfo}
+use Rattle.std.specs.Prelude.{◌≡◌, ℕ, pos, Bool, true, List, [], ◌∷◌, Option, Some, None, option_map}
+use Rattle.ados_name.specs.declared.stamp.Date3.{Date3}
+use Rattle.ados_model.specs.Packet.{dos_true}
+use Rattle.ados_model.specs.Actions.{action_number}
+use Rattle.ados_model.specs.declared.action.Action.TheVariants.{DiskInfo}
 use Rattle.ados_model.specs.declared.packet.Packet.{Packet}
 use Rattle.ados_model.specs.declared.packet.Packet.TheVariants as packets
 use Rattle.ados_model.specs.declared.answer.Answer.{Answer}
@@ -15,12 +16,12 @@ use Rattle.ados_model.specs.Objects.{disk_info}
 use Rattle.ados_port.specs.Step.{Step}
 use Rattle.ados_port.specs.Step.TheVariants as steps
 use Rattle.ados_port.specs.Step.TheVariants.{Put, Take}
-use Rattle.adf_listing.specs.Info.{info_text}
-use Rattle.adf_listing.specs.Listing.{BeginsList, IsList}
-use Rattle.adf_jobs.specs.declared.job.ImageJob.{ImageJob}
-use Rattle.adf_jobs.specs.declared.job.ImageJob.TheVariants.{Info, List as ListOf, Print}
-use Rattle.adf_jobs.specs.declared.reading.ListJob.{ListJob}
-use Rattle.files_out.specs.Words.{LeadsTo}
+use Rattle.adf_export.specs.Info.{info_text}
+use Rattle.adf_export.specs.Listing.{BeginsList, IsList}
+use Rattle.adf_words.specs.declared.job.ImageJob.{ImageJob}
+use Rattle.adf_words.specs.declared.job.ImageJob.TheVariants.{Info, List as ListOf, Print}
+use Rattle.adf_words.specs.declared.query.ListJob.{ListJob}
+use Rattle.adf_export.specs.Words.{LeadsTo}
 
 -- 1 January 1978
 abbrev pub first_moment : Date3

@@ -3,7 +3,7 @@ ghost use Rattle.adf_commands.specs.Archives.{EndsArchive};
 
 use crate::fault::CommandFault;
 use adf_archive::{ReadImages, check_archive};
-use adf_jobs::CheckJob;
+use adf_words::CheckJob;
 use std::alloc::Global;
 use std::io::Write;
 use std::rt::Files;
@@ -24,8 +24,6 @@ where
     F: Write,
     ensures { EndsArchive job.now (W.contents writer.old) (W.contents writer.new) result }
 {
-    match check_archive(rt, alloc, job, terminal, writer, faults) {
-        Ok(()) => Ok(()),
-        Err(fault) => Err(CommandFault::from(fault)),
-    }
+    check_archive(rt, alloc, job, terminal, writer, faults)?;
+    Ok(())
 }

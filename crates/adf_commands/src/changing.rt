@@ -3,15 +3,15 @@ use crate::fault::CommandFault;
 use crate::images::{Work, accept};
 use crate::refusal::Refusal;
 use adf_block::Image;
+use adf_import::{boot_image, change_volume};
 use adf_io::read_bounded;
-use adf_jobs::ChangeJob;
+use adf_text::print_line;
+use adf_words::ChangeJob;
 use ados_name::Date3;
 use ados_volume::Volume;
-use files_in::{boot_image, change_volume};
 use host_trees::{PassedOver, moment_of};
 use std::alloc::Global;
-use std::fs;
-use std::fs::File;
+use std::fs::{self, File};
 use std::io::Write;
 use std::rt::{Clock, Files};
 
@@ -49,13 +49,9 @@ where
 {
     let mut volume = accept(alloc, image)?;
     let moment = given_or_now(rt, job.moment)?;
-    match change_volume(rt, alloc, &mut volume, &job.change, moment) {
-        Ok(passed_over) => {
-            tell_passed_over(&passed_over, faults);
-            Ok(volume)
-        }
-        Err(fault) => Err(CommandFault::from(fault)),
-    }
+    let passed_over = change_volume(rt, alloc, &mut volume, &job.change, moment)?;
+    tell_passed_over(&passed_over, faults);
+    Ok(volume)
 }
 
 /// The given time stamp, or else that of the host's clock.
@@ -69,7 +65,7 @@ fn given_or_now<'a, R: Clock>(rt: &R, given: Option<Date3>) -> Result<Date3, Com
 /// Prints what was skipped.
 fn tell_passed_over<F: Write>(passed_over: &[PassedOver], faults: &mut F) {
     for passed in passed_over {
-        let _ = write!(faults, "adf_serve: {passed}\n");
+        print_line(faults, format_args!("adf_serve: {passed}"));
     }
 }
 
@@ -113,10 +109,7 @@ fn put_boot<'a, R: Files>(
         return Ok(());
     };
     let code = read_code(rt, alloc, file)?;
-    match boot_image(image, Some(&code)) {
-        Ok(()) => Ok(()),
-        Err(_) => Err(CommandFault::LongBoot(file)),
-    }
+    boot_image(image, Some(&code)).map_err(|_| CommandFault::LongBoot(file))
 }
 
 /// The bytes of a file, at most one more than a boot block has.
@@ -128,8 +121,7 @@ fn read_code<'a, R: Files>(
     let Ok(mut reader) = fs::open(rt, file) else {
         return Err(CommandFault::Read(file));
     };
-    match read_bounded(alloc, &mut reader, BOOT_BYTES + 1) {
-        Ok(code) => Ok(code),
-        Err(fault) => Err(CommandFault::of_input(fault, file)),
-    }
+    read_bounded(alloc, &mut reader, BOOT_BYTES + 1).map_err(|fault| CommandFault::of_input(
+        fault, file,
+    ))
 }

@@ -6,15 +6,14 @@ ghost use Rattle.adf_commands.specs.Refusals.{told_line};
 
 use crate::refusal::{DosRefusal, Refusal, Room};
 use adf_archive::ArchiveFault;
+use adf_export::{OutFault, PrintFault};
 use adf_host::{HoldFault, ReplaceFault};
+use adf_import::InFault;
 use adf_io::InputFault;
-use adf_listing::PrintFault;
-use adf_transfer::Refused;
+use adf_words::Refused;
 use ados_model::DosError;
 use ados_run::{RunFault, ScriptsFault};
 use ados_volume::VolumeFault;
-use files_in::InFault;
-use files_out::OutFault;
 use host_trees::WriteFault;
 use std::alloc::{AllocError, Global};
 use thiserror::Error;

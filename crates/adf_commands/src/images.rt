@@ -111,10 +111,10 @@ impl<'a> Work<'a> {
 
     /// Reads the image. It is read once.
     pub(crate) fn read(&mut self, alloc: Global) -> Result<Image, CommandFault<'a>> {
-        match self.held.read_image(alloc) {
-            Ok(image) => Ok(image),
-            Err(fault) => Err(image_fault(fault, self.image)),
-        }
+        let image = self.image;
+        self.held
+            .read_image(alloc)
+            .map_err(|fault| image_fault(fault, image))
     }
 
     /// Writes the new image and ends the work.

@@ -7,7 +7,7 @@ ghost use Rattle.adf_commands.specs.Commands.{TellsOf, TellsSome};
 use crate::fault::CommandFault;
 use crate::images::read_image;
 use adf_block::Image;
-use adf_listing::write_info;
+use adf_export::write_info;
 use ados_handler::Handler;
 use ados_model::Packet;
 use ados_name::Date3;

@@ -11,7 +11,7 @@ use crate::output::tell;
 use crate::rescue::take_rescue;
 use crate::serving::serve;
 use adf_archive::ReadImages;
-use adf_jobs::ImageJob;
+use adf_words::ImageJob;
 use std::alloc::Global;
 use std::fs::File;
 use std::io::Write;
@@ -21,6 +21,7 @@ use std::thread::Threads;
 
 /// Does a job on image files. The output for an image and refusals go to the writer. Skipped files go to `faults`, and
 /// with `terminal` the progress of a check.
+#[rattlefmt::skip]
 pub fn run_job<'a, R, W, F>(
     rt: &R,
     alloc: Global,
@@ -30,16 +31,7 @@ pub fn run_job<'a, R, W, F>(
     faults: &mut F,
 ) -> Result<(), CommandFault<'a>>
 where
-    R: Files<File = File>
-        + Clock
-        + Threads
-        + Wait
-        + ReadImages
-        + Copy
-        + Send
-        + Sync
-        + Drop
-        + 'static,
+    R: Files<File = File> + Clock + Threads + Wait + ReadImages + Copy + Send + Sync + Drop + 'static,
     W: Write,
     F: Write,
     ensures { TellsJob job.entry (W.contents writer.old) (W.contents writer.new) result }
@@ -57,6 +49,7 @@ where
 }
 
 /// Does a job on image files, without output for refusals.
+#[rattlefmt::skip]
 fn do_job<'a, R, W, F>(
     rt: &R,
     alloc: Global,
@@ -66,29 +59,13 @@ fn do_job<'a, R, W, F>(
     faults: &mut F,
 ) -> Result<(), CommandFault<'a>>
 where
-    R: Files<File = File>
-        + Clock
-        + Threads
-        + Wait
-        + ReadImages
-        + Copy
-        + Send
-        + Sync
-        + Drop
-        + 'static,
+    R: Files<File = File> + Clock + Threads + Wait + ReadImages + Copy + Send + Sync + Drop + 'static,
     W: Write,
     F: Write,
     ensures { DoesJob job.entry (W.contents writer.old) (W.contents writer.new) result }
 {
     match job {
-        ImageJob::Blank {
-            format,
-            blocks,
-            moment,
-            name,
-            letters,
-            file,
-        } => {
+        ImageJob::Blank { format, blocks, moment, name, letters, file } => {
             let volume = blank_volume(alloc, format, blocks, name, letters, moment)?;
             write_new(rt, alloc, &volume, file)
         }

@@ -1,13 +1,14 @@
 //! The output streams of a command.
 ghost use Rattle.std.specs.Prelude.{◌≡◌, OnOk, OnErr, IfErr};
 ghost use Rattle.std.specs.Io.KnownBytes.{Appends};
-ghost use Rattle.adf_listing.specs.Fronts.{WritesFront};
+ghost use Rattle.adf_io.specs.Prefix.{WritesFront};
 ghost use Rattle.adf_commands.specs.Commands.{exit_status};
 ghost use Rattle.adf_commands.specs.Faults.{IsNoRefusal};
 ghost use Rattle.adf_commands.specs.declared.fault.CommandFault.TheVariants.{Output};
 
 use crate::fault::CommandFault;
 use adf_io::write_output;
+use adf_text::print_line;
 use std::io::Write;
 
 /// Writes a text to standard output.
@@ -47,6 +48,6 @@ fn tell_fault<F: Write>(fault: &CommandFault<'_>, faults: &mut F) {
             | CommandFault::NotChecked
             | CommandFault::NotWhole
     ) {
-        let _ = write!(faults, "adf_serve: {fault}\n");
+        print_line(faults, format_args!("adf_serve: {fault}"));
     }
 }

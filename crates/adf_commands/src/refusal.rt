@@ -7,7 +7,7 @@ ghost use Rattle.adf_commands.specs.Refusals.{dos_line, refusal_line};
 
 use adf_archive::{kind_word, size_word};
 use adf_block::SizeFault;
-use adf_transfer::Refused;
+use adf_words::Refused;
 use ados_volume::{FaultKind, VolumeFault};
 use std::alloc::{AllocError, Global};
 use std::fmt;

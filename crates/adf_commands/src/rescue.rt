@@ -1,14 +1,15 @@
 //! The command `extract --damaged`.
 ghost use Rattle.std.specs.Prelude.{IfErr, IfOk};
-ghost use Rattle.files_out.specs.Rescue.{IsRescue};
+ghost use Rattle.adf_export.specs.Rescue.{IsRescue};
 ghost use Rattle.adf_commands.specs.Rescues.{DoesRescue, IsRescueEnd};
 
 use crate::fault::CommandFault;
 use crate::images::read_image;
 use crate::output::tell;
 use adf_block::Image;
-use adf_jobs::SalvageJob;
-use files_out::{OutFault, Rescue, extract_damaged};
+use adf_export::{OutFault, Rescue, extract_damaged};
+use adf_text::print_line;
+use adf_words::SalvageJob;
 use std::alloc::Global;
 use std::fs::File;
 use std::io::Write;
@@ -44,7 +45,10 @@ where
 fn tell_cut<F: Write>(cut: &[String], faults: &mut F) {
     for path in cut {
         let path = path.as_str();
-        let _ = write!(faults, "adf_serve: '{path}' is cut short: {CUT}\n");
+        print_line(
+            faults,
+            format_args!("adf_serve: '{path}' is cut short: {CUT}"),
+        );
     }
 }
 

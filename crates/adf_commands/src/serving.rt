@@ -6,12 +6,11 @@ use crate::images::{hold_out, open_volume, write_image};
 use crate::output::tell;
 use adf_host::HeldFile;
 use adf_io::read_bounded;
-use adf_jobs::ServeJob;
 use adf_script::{LONGEST_SCRIPT, read_script};
+use adf_words::ServeJob;
 use ados_run::{ClientEnding, OpenGate, VolumeServed, serve_volume};
 use std::alloc::Global;
-use std::fs;
-use std::fs::{File, OpenFile};
+use std::fs::{self, File, OpenFile};
 use std::io::Write;
 use std::rt::Files;
 use std::sync::Wait;
@@ -114,10 +113,7 @@ fn script_of<'a, R: Files>(
     } else {
         read_script(alloc, &mut reader)
     };
-    match script {
-        Ok(script) => Ok(script),
-        Err(fault) => Err(CommandFault::of_input(fault, file)),
-    }
+    script.map_err(|fault| CommandFault::of_input(fault, file))
 }
 
 /// Whether an open file is a regular file that is longer than a script may be.

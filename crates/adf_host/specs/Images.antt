@@ -1,8 +1,8 @@
 -- Lengths of image files.
 use Rattle.std.specs.Prelude.{◌≡◌, ℕ, ◌/◌, ◌%◌}
-use Rattle.adf_block.specs.Layout.{block_bytes}
-use Rattle.adf_block.specs.Image.{IsSize}
+use Rattle.adf_block.specs.declared.layout.TheConstants.{BLOCK_BYTES}
+use Rattle.adf_block.specs.Whole.{IsSize}
 
 -- this many bytes are whole blocks, as many as a volume may have
 abbrev pub IsImageLength : ℕ → Type 0
-IsImageLength n = (n % block_bytes ≡ 0) × IsSize (n / block_bytes)
+IsImageLength n = (n % BLOCK_BYTES ≡ 0) × IsSize (n / BLOCK_BYTES)

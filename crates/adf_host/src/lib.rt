@@ -4,14 +4,17 @@
 mod beside;
 mod held;
 mod image_file;
+mod limit;
 mod new_bytes;
 mod owned;
 mod replacing;
 mod sketched;
+mod temporary;
 
 pub use beside::beside_path;
 pub use held::{HeldFile, HoldFault, hold, hold_target};
 pub use image_file::{read_image_file, size_fault};
+pub use limit::refuse_length;
 pub use owned::OwnedFile;
 pub use replacing::{ReplaceFault, replace_file, replace_found};
 pub use sketched::{read_sketch, sketch_image_file};

@@ -11,6 +11,15 @@ pub(crate) enum NewBytes<'a> {
 }
 
 impl NewBytes<'_> {
+    /// The number of bytes.
+    pub(crate) fn length(self) -> u64 {
+        let bytes = match self {
+            NewBytes::Image(image) => image.as_bytes(),
+            NewBytes::Bytes(bytes) => bytes,
+        };
+        bytes.len() as u64
+    }
+
     /// Writes all bytes: an image by `store_image`.
     pub(crate) fn put<W: Write>(self, writer: &mut W) -> Result<(), Error> {
         let mut noted = Noted {

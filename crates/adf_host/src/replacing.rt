@@ -1,15 +1,16 @@
 //! Files that are replaced whole: the old bytes stay until the new ones are on the disk.
-use crate::beside::beside_path;
 use crate::held::{HeldFile, is_same};
+use crate::limit::refuse_length;
 use crate::new_bytes::NewBytes;
 use crate::owned::OwnedFile;
+use crate::temporary::{Leftovers, make_beside, remove_leftovers};
 use adf_block::Image;
 use std::alloc::{AllocError, Global};
 use std::fs;
 use std::fs::{FileTimes, Metadata, OpenFile, OpenOptions, Permissions};
 use std::io::{Error, ErrorKind, Write};
-use std::os::unix::fs::{MetadataExt, OpenOptionsExt, PermissionsExt};
-use std::path::{Path, PathBuf};
+use std::os::unix::fs::{MetadataExt, PermissionsExt};
+use std::path::Path;
 use std::rt::Files;
 use std::time::SystemTime;
 use thiserror::Error;
@@ -43,9 +44,6 @@ impl From<AllocError> for ReplaceFault {
     }
 }
 
-/// The maximum number of names that are tried for a temporary file.
-const TRIES: u32 = 1_000;
-
 /// The mode bits that a new file takes over from the file that it replaces: the rights to read, write and run it.
 const ACCESS_BITS: u32 = 0o777;
 
@@ -53,8 +51,9 @@ const ACCESS_BITS: u32 = 0o777;
 /// and then renamed over it. The rights to read, write and run an existing file stay, and so do its owner and its group
 /// if the process may set them. A link stays, and the file that it leads to is replaced.
 ///
-/// After a fault the old bytes are there, and the temporary file is removed. A file that is not regular, such as a
-/// device or a pipe, is written directly. A file that the process may not write is refused, and so is a path that no
+/// After a fault the old bytes are there, and the temporary file is removed. Before that, temporary files are removed
+/// that commands of this user left when they were killed. A file that is not regular, such as a device or a pipe, is
+/// written directly. A file that the process may not write is refused, and so is a path that no
 /// longer leads to the file locked for it.
 pub fn replace_file<R: Files>(
     rt: &R,
@@ -76,12 +75,14 @@ where
             if !may_be(held, &found) {
                 return Err(ReplaceFault::Moved);
             }
+            remove_leftovers(rt, alloc, real.as_str(), Leftovers::All);
             write_over(rt, alloc, real.as_str(), &found, bytes, None)
         }
         Err(error) if error.kind() == ErrorKind::NotFound && held.is_none() => {
             if fs::symlink_metadata(rt, path).is_ok() {
                 return Err(ReplaceFault::Target(error));
             }
+            remove_leftovers(rt, alloc, path, Leftovers::All);
             write_beside(rt, alloc, path, None, bytes, None)
         }
         Err(error) => Err(ReplaceFault::Target(error)),
@@ -139,6 +140,7 @@ pub fn replace_found<R: Files>(
 where
     R::File: OwnedFile,
 {
+    remove_leftovers(rt, alloc, path, Leftovers::Front);
     write_over(rt, alloc, path, found, NewBytes::Bytes(bytes), Some(time))
 }
 
@@ -158,9 +160,8 @@ where
     write_beside(rt, alloc, path, Some(old), bytes, time)
 }
 
-/// Writes a new file beside a regular file, described by its handle, or at a path with no file yet, and renames it. The
-/// file gets this time, or the current time. After a fault the old state is unchanged, and the temporary file is
-/// removed.
+/// Writes a new file over a regular file, described by its handle, or at a path with no file yet. The file gets this
+/// time, or the current time. After a fault the old state is unchanged.
 fn write_beside<R: Files>(
     rt: &R,
     alloc: Global,
@@ -172,16 +173,32 @@ fn write_beside<R: Files>(
 where
     R::File: OwnedFile,
 {
-    let (file, beside) = make_beside(rt, alloc, path, old.is_some())?;
-    let mut done = fill(file, old, bytes, time).map_err(ReplaceFault::Write);
+    refuse_length(rt, bytes.length()).map_err(ReplaceFault::Write)?;
+    write_and_rename(rt, alloc, path, old, bytes, time)?;
+    sync_names(rt, path);
+    Ok(())
+}
+
+/// Writes a temporary file and renames it to a path. It is locked until then, so that no command takes it for a
+/// leftover. After a fault it is removed.
+fn write_and_rename<R: Files>(
+    rt: &R,
+    alloc: Global,
+    path: &str,
+    old: Option<Metadata>,
+    bytes: NewBytes<'_>,
+    time: Option<SystemTime>,
+) -> Result<(), ReplaceFault>
+where
+    R::File: OwnedFile,
+{
+    let (mut file, beside) = make_beside(rt, alloc, path, old.is_some())?;
+    let mut done = fill(&mut file, old, bytes, time).map_err(ReplaceFault::Write);
     if done.is_ok() {
         done = fs::rename(rt, beside.as_str(), path).map_err(ReplaceFault::Rename);
     }
-    match done {
-        Ok(()) => sync_names(rt, path),
-        Err(_) => {
-            let _ = fs::remove_file(rt, beside.as_str());
-        }
+    if done.is_err() {
+        let _ = fs::remove_file(rt, beside.as_str());
     }
     done
 }
@@ -198,45 +215,24 @@ fn sync_names<R: Files>(rt: &R, path: &str) {
     }
 }
 
-/// Makes a temporary file beside another one. If it is to replace a file, at first only its owner has rights to it.
-fn make_beside<R: Files>(
-    rt: &R,
-    alloc: Global,
-    path: &str,
-    replaces: bool,
-) -> Result<(R::File, PathBuf), ReplaceFault> {
-    let mut options = OpenOptions::new();
-    options
-        .write(true)
-        .create_new(true)
-        .mode(if replaces { 0o600 } else { 0o666 });
-    for number in 0..TRIES {
-        let beside = beside_path(alloc, path, number)?;
-        match options.open(rt, beside.as_str()) {
-            Ok(file) => return Ok((file, beside)),
-            Err(error) if error.kind() == ErrorKind::AlreadyExists => {}
-            Err(error) => return Err(ReplaceFault::Beside(error)),
-        }
-    }
-    Err(ReplaceFault::Beside(Error::from(ErrorKind::AlreadyExists)))
-}
-
-/// Writes the bytes, with the owner and the mode bits of the old file, and flushes them to the disk. Everything goes
-/// through the handle, because by now the name may lead anywhere.
-fn fill<F: Write + OwnedFile + Drop>(
-    mut file: F,
+/// Writes the bytes, flushes them to the disk, and sets the owner and the mode bits of the old file. Everything goes
+/// through the handle, because by now the name may lead anywhere. The owner is set last, so that a file left by a kill
+/// mostly belongs to this user, whose next command removes it.
+fn fill<F: Write + OwnedFile>(
+    file: &mut F,
     old: Option<Metadata>,
     bytes: NewBytes<'_>,
     time: Option<SystemTime>,
 ) -> Result<(), Error> {
-    bytes.put(&mut file)?;
-    if let Some(old) = old {
-        take_after(&file, &old)?;
-    }
+    bytes.put(file)?;
     if let Some(time) = time {
         file.set_times(FileTimes::new().set_modified(time))?;
     }
-    file.sync_all()
+    file.sync_all()?;
+    match old {
+        Some(old) => take_after(file, &old),
+        None => Ok(()),
+    }
 }
 
 /// Gives a file the owner and the mode bits of the old one.

@@ -1,7 +1,8 @@
 //! Sketches of image files, read through one small buffer: memory is needed only for what a check may ask for.
 ghost use Rattle.std.specs.Prelude.{◌≡◌, ◌<◌, [], length, IfOk, IfSome, IsTrue};
 ghost use Rattle.std.specs.Io.KnownBytes.{Consumes};
-ghost use Rattle.adf_block.specs.Image.{IsSize, block_count};
+ghost use Rattle.adf_block.specs.Image.{block_count};
+ghost use Rattle.adf_block.specs.Whole.{IsSize};
 ghost use Rattle.adf_io.specs.Load.{ReadsAll};
 ghost use Rattle.adf_host.specs.Sketched.{ReadsBlocks};
 

@@ -2,3 +2,4 @@
 mod Parts
 mod Fronts
 mod Puts
+pub mod Prefixes

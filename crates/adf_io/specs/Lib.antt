@@ -1,4 +1,5 @@
--- What is kept of input, what is loaded, and what a failed load says. Definitions for steps are in `steps`.
+-- What is kept of input, what is loaded, what a failed load says, and what a failed writer wrote. Definitions for steps are in `steps`.
 pub mod Front
 pub mod Load
+pub mod Prefix
 pub mod steps

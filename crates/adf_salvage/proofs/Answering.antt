@@ -1,7 +1,7 @@
 -- The result of the check, in terms of the entries.
 use Rattle.std.proofs.Common.{ℕ, Bool, true, false, List, Result, Ok, Err, IfOk, OnOk, sym, ap, ◌∙◌, subst}
 use Rattle.adf_block.specs.Image.{long}
-use Rattle.adf_block.specs.Layout.{bitmap_flag}
+use Rattle.adf_block.specs.declared.layout.TheConstants.{BITMAP_FLAG}
 use Rattle.ados_model.specs.Accepted.{Accepts}
 use Rattle.ados_model.specs.Stands.{Stands}
 use Rattle.ados_model.specs.Tree.{Tree}
@@ -23,4 +23,4 @@ on_ok (Err e) P Q f h = h
 pub same_tree : (image accepted : List ℕ) (validated : Bool) → Accepts image validated accepted → (t : Tree) → Stands image t → Stands accepted t
 same_tree image accepted false a t s = subst (λ (xs : List ℕ). Stands xs t) (sym a.2) s
 same_tree image accepted true a t s =
-    absurd (a.1.was_not_valid (ap (λ (b : ℕ). long image b bitmap_flag) (root_is image t s) ∙ s.root_fields.valid))
+    absurd (a.1.was_not_valid (ap (λ (b : ℕ). long image b BITMAP_FLAG) (root_is image t s) ∙ s.root_fields.valid))

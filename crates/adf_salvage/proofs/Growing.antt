@@ -1,14 +1,12 @@
 -- The entries while they are gathered, one by one.
-use Rattle.std.proofs.Common.{◌≡◌, ◌≢◌, ℕ, zero, suc, ◌+◌, ◌<◌, inl, inr, true, false, All, List, [], ◌∷◌, ◌++◌, length, map, slice_index, get_or-set_same, get_or-set_other, length-set, Contains, Option, None, Some, IsSome, is_some, replicate, refl, sym, ap, ap₂, ◌∙◌, subst, arith}
+use Rattle.std.proofs.Common.{◌≡◌, ◌≢◌, ℕ, ◌+◌, ◌<◌, inl, inr, All, List, [], ◌∷◌, ◌++◌, length, map, slice_index, get_or-set_same, get_or-set_other, length-set, Contains, Option, None, Some, IsSome, is_some, refl, sym, ap, ap₂, ◌∙◌, subst, arith}
 use Rattle.std.proofs.Math.ListN.{set}
 use Rattle.std.proofs.lemmas.Bool.{cases_lt, cases_eq}
-use Rattle.std.proofs.lemmas.List.{get_or_default, get_or_append_left, get_or_push, length-append, length-map, length-replicate}
+use Rattle.std.proofs.lemmas.List.{get_or_append_left, get_or_push, length-append, length-map}
 use Rattle.std.proofs.lemmas.List.Elements.{Contains-append_left, Contains-append_right}
-use Rattle.adf_block.specs.Image.{block_count}
-use Rattle.adf_transfer.specs.Located.{Located}
+use Rattle.ados_volume.specs.Located.{Located}
 use Rattle.adf_salvage.specs.declared.salvaged.Salvaged.{Salvaged}
-use Rattle.adf_salvage.specs.Sound.{IsSoundHeader}
-use Rattle.adf_salvage.specs.Salvaged.{AreSalvaged, IsSalvaged, broken_length, broken_total, headers_of, located_of}
+use Rattle.adf_salvage.specs.Salvaged.{IsSalvaged, broken_length, broken_total, headers_of, located_of}
 use Rattle.adf_salvage.specs.steps.Gathering.{AreGathered, GathersMore, IsNew, place_at}
 
 headers_more : (xs : List Salvaged) (e : Salvaged) → headers_of (xs ++ e ∷ []) ≡ headers_of xs ++ e.header ∷ []
@@ -38,20 +36,6 @@ none_broken = refl
 
 pub none_told : (P : Salvaged → Type 0) → All P []
 none_told P k d l = absurd (omega (arith, l))
-
-none_met : (n b : ℕ) → place_at (replicate n None) b ≡ None
-none_met zero b = refl
-none_met (suc n) zero = refl
-none_met (suc n) (suc b) = none_met n b
-
-pub nothing_gathered : (image : List ℕ) (entries : List Salvaged) (places : List (Option ℕ)) → entries ≡ [] → places ≡ replicate (block_count image) None → AreGathered image entries places
-nothing_gathered image entries places e p = record {
-  told = subst (All (IsSalvaged image)) (sym e) (λ k d l. absurd (omega (arith, l)));
-  size = ap length p ∙ length-replicate (block_count image) None;
-  placed = λ i l. absurd (omega (arith, l, ap (λ (xs : List Salvaged). length (headers_of xs)) e));
-  met = λ b some. let none : place_at places b ≡ None = ap (λ (ps : List (Option ℕ)). place_at ps b) p ∙ none_met (block_count image) b in
-      let both : true ≡ false = sym some ∙ ap is_some none in absurd (cc both);
-}
 
 module _ (image : List ℕ) (entries : List Salvaged) (places : List (Option ℕ)) (g : AreGathered image entries places) (e : Salvaged) (block : ℕ) (told : IsSalvaged image e) (is : e.header ≡ block) (n : IsNew image places block) where
   inside : block < length places
@@ -101,19 +85,6 @@ module _ (image : List ℕ) (entries : List Salvaged) (places : List (Option ℕ
         ),
         ap is_some here,
       )
-
-pub all_gathered : (image : List ℕ) (entries : List Salvaged) (places : List (Option ℕ)) → AreGathered image entries places → ((block : ℕ) → IsSoundHeader image block → IsSome (place_at places block)) → AreSalvaged image entries
-all_gathered image entries places g all = record {
-  told = g.told;
-  once = λ i j d l m e.
-      let k : i < length (headers_of entries) = omega (arith, l, m) in
-      let same : slice_index (headers_of entries) i ≡ slice_index (headers_of entries) j =
-      get_or_default (headers_of entries) i 0 d k ∙ e ∙ get_or_default (headers_of entries) j d 0 m in
-      let places_same : Some i ≡ Some j = sym (g.placed i k) ∙ ap (place_at places) same ∙ g.placed j m in
-      let two : i ≡ j = cc places_same in
-      absurd (omega (arith, l, two));
-  all = λ block sound. g.met block (all block sound);
-}
 
 pub located_more : (xs : List Salvaged) (e : Salvaged) → map located_of (xs ++ e ∷ []) ≡ map located_of xs ++ located_of e ∷ []
 located_more [] e = refl

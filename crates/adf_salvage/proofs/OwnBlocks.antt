@@ -5,9 +5,10 @@ use Rattle.std.specs.List.{range_with_len}
 use Rattle.std.proofs.lemmas.Bool.{cases_lt}
 use Rattle.std.proofs.lemmas.List.{ext_get_or, append_assoc, get_or_append_left, length-append}
 use Rattle.std.proofs.lemmas.List.FromFn.{map-range_with_len_more}
-use Rattle.adf_block.specs.declared.Format.TheVariants.{Ofs}
-use Rattle.adf_block.specs.Image.{block_count, long, IsInside, format_of}
-use Rattle.adf_block.specs.Layout.{next_data}
+use Rattle.adf_block.specs.declared.layout.Format.TheVariants.{Ofs}
+use Rattle.adf_block.specs.Image.{block_count, long, IsInside}
+use Rattle.adf_block.specs.Fields.{format_of}
+use Rattle.adf_block.specs.declared.layout.TheConstants.{NEXT_DATA}
 use Rattle.ados_model.specs.File.{pointer_block, data_block, data_blocks, extension_blocks}
 use Rattle.ados_data.proofs.Sizes.{in_extensions}
 use Rattle.adf_salvage.specs.Sound.{own_blocks}
@@ -39,9 +40,6 @@ module _ (image : List ℕ) (file : ℕ) where
     pub before_below : (i : ℕ) → ((k : ℕ) → k < i → IsDataBlock image file k (data_before image file k) (data_block image file k)) → data_before image file i < block_count image
     before_below zero sound = file_below
     before_below (suc i) sound = (sound i (omega arith)).inside.1
-
-  gathered : ℕ → List ℕ
-  gathered i = (file ∷ extension_blocks image file) ++ map (data_block image file) (range_with_len 0 i)
 
   -- the pointer block of a data block is among them
   pub holder_there : (xs : List ℕ) (i : ℕ) → xs ≡ (file ∷ extension_blocks image file) ++ map (data_block image file) (range_with_len 0 i) → i < data_needed image file → i / 72 < length xs
@@ -77,10 +75,10 @@ module _ (image : List ℕ) (file : ℕ) where
   all_data xs i e l = e ∙ ap (λ (n : ℕ). (file ∷ extension_blocks image file) ++ map (data_block image file) (range_with_len 0 n)) l
 
   pub whole_data : (i : ℕ) → i ≡ data_needed image file → ((k : ℕ) → k < i → IsDataBlock image file k (data_before image file k) (data_block image file k))
-      → (format_of image ≡ Ofs → long image (data_before image file i) next_data ≡ 0) → HasData image file
+      → (format_of image ≡ Ofs → long image (data_before image file i) NEXT_DATA ≡ 0) → HasData image file
   whole_data i e sound ends = record {
     block = λ k l. sound k (omega (arith, l, e));
-    ends = λ ofs. ap (λ (n : ℕ). long image (data_before image file n) next_data) (sym e) ∙ ends ofs;
+    ends = λ ofs. ap (λ (n : ℕ). long image (data_before image file n) NEXT_DATA) (sym e) ∙ ends ofs;
   }
 
   pub holder_read : (xs : List ℕ) (i holder : ℕ) → xs ≡ (file ∷ extension_blocks image file) ++ map (data_block image file) (range_with_len 0 i) → i < data_needed image file → holder ≡ get_or xs (i / 72) holder → holder ≡ pointer_block image file (i / 72)

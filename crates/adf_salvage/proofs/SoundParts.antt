@@ -4,12 +4,13 @@ use Rattle.std.proofs.Common.{◌≡◌, ℕ, zero, suc, ◌+◌, ◌-◌, ◌*�
 use Rattle.std.proofs.lemmas.Bool.{cases_lt, cases_order}
 use Rattle.std.proofs.lemmas.List.{get_or_past, get_or_append_left, length-append}
 use Rattle.std.proofs.lemmas.List.FromFn.{length-map-range_with_len, get_or-map-range_with_len}
-use Rattle.adf_block.specs.declared.Format.TheVariants.{Ofs}
-use Rattle.adf_block.specs.Image.{block_count, long, IsInside, pointer, pointer_count, file_size, format_of}
-use Rattle.adf_block.specs.Layout.{next_data, next_extension}
+use Rattle.adf_block.specs.declared.layout.Format.TheVariants.{Ofs}
+use Rattle.adf_block.specs.Image.{block_count, long, IsInside}
+use Rattle.adf_block.specs.Fields.{pointer, pointer_count, file_size, format_of}
+use Rattle.adf_block.specs.declared.layout.TheConstants.{NEXT_EXTENSION, NEXT_DATA}
 use Rattle.ados_model.specs.Tree.{data_count, extension_count}
-use Rattle.ados_model.specs.Stands.{HasExtension, HasOfsData, file_byte}
-use Rattle.ados_model.specs.File.{AreApart, LawfulFile, pointer_block, data_block, data_blocks, extension_blocks, contents}
+use Rattle.ados_model.specs.Stands.{HasExtension, HasOfsData}
+use Rattle.ados_model.specs.File.{file_byte, AreApart, LawfulFile, pointer_block, data_block, data_blocks, extension_blocks, contents}
 use Rattle.ados_data.proofs.Chains.{chained, next_of}
 use Rattle.ados_data.proofs.Spelled.{link_of}
 use Rattle.ados_data.proofs.Sizes.{in_extensions}
@@ -74,11 +75,11 @@ module _ (image : List ℕ) (file : ℕ) where
     before-is zero l = refl
     before-is (suc i) l = data-at i (omega arith)
 
-    link-is : format_of image ≡ Ofs → (i : ℕ) → i ≤ data_needed image file → long image (slice_index (file ∷ data_blocks image file) i) next_data ≡ slice_index (data_blocks image file) i
-    link-is ofs i l = ap (λ (b : ℕ). long image b next_data) (before-is i l) ∙ elim (cases_lt i (data_needed image file)) [
+    link-is : format_of image ≡ Ofs → (i : ℕ) → i ≤ data_needed image file → long image (slice_index (file ∷ data_blocks image file) i) NEXT_DATA ≡ slice_index (data_blocks image file) i
+    link-is ofs i l = ap (λ (b : ℕ). long image b NEXT_DATA) (before-is i l) ∙ elim (cases_lt i (data_needed image file)) [
       | inl m ↦ (d.block i m).linked ofs ∙ sym (data-at i m)
       | inr m ↦ (let last : i ≡ data_needed image file = omega (arith, l, m) in
-          ap (λ (k : ℕ). long image (data_before image file k) next_data) last ∙ d.ends ofs ∙ sym (get_or_past (data_blocks image file) i 0 (omega (arith, m, length-data))))
+          ap (λ (k : ℕ). long image (data_before image file k) NEXT_DATA) last ∙ d.ends ofs ∙ sym (get_or_past (data_blocks image file) i 0 (omega (arith, m, length-data))))
     ]
 
     apart : AreApart (block_count image) file (data_blocks image file) (extension_blocks image file)
@@ -105,10 +106,10 @@ module _ (image : List ℕ) (file : ℕ) where
     lawful_file = record {
       holds = record {
         size = sym length-bytes;
-        chain = chained image next_extension (long image file next_extension) (extension_blocks image file) (next-is 0 (omega arith))
+        chain = chained image NEXT_EXTENSION (long image file NEXT_EXTENSION) (extension_blocks image file) (next-is 0 (omega arith))
             (λ i l.
             let below : i < extensions_needed image file = omega (arith, l, length-extensions) in
-            ap (λ (b : ℕ). long image b next_extension) (extension-at i below) ∙ next-is (suc i) (omega arith));
+            ap (λ (b : ℕ). long image b NEXT_EXTENSION) (extension-at i below) ∙ next-is (suc i) (omega arith));
         extension = λ i l.
             let below : i < extensions_needed image file = omega (arith, l, length-extensions) in
             subst (HasExtension image file) (sym (extension-at i below)) ((h.holder (suc i) (omega arith)).fields (omega arith));
@@ -119,7 +120,7 @@ module _ (image : List ℕ) (file : ℕ) where
             let below : i < data_needed image file = omega (arith, l, length-data) in
             ap (λ (b : ℕ). pointer image b (i % 72)) (header-is (i / 72) (in_extensions i (data_needed image file) below)) ∙ sym (data-at i below);
         contents = λ k l. content-at k (omega (arith, l, length-bytes));
-        ofs_chain = λ ofs. chained image next_data (long image file next_data) (data_blocks image file) (link-is ofs 0 (omega arith))
+        ofs_chain = λ ofs. chained image NEXT_DATA (long image file NEXT_DATA) (data_blocks image file) (link-is ofs 0 (omega arith))
             (λ i l. link-is ofs (suc i) (omega (arith, l, length-data)));
         ofs_data = λ ofs i l.
             let below : i < data_needed image file = omega (arith, l, length-data) in
@@ -144,7 +145,7 @@ module _ (image : List ℕ) (file : ℕ) where
             counted = ap (pointer_count image) (sym (header-is q l)) ∙ s.holds.counts q m ∙ ap (λ (n : ℕ). min 72 (n - 72 * q)) length-data;
           };
       ends =
-          ap (λ (b : ℕ). long image b next_extension) (sym (header-is (extensions_needed image file) (omega arith)))
+          ap (λ (b : ℕ). long image b NEXT_EXTENSION) (sym (header-is (extensions_needed image file) (omega arith)))
           ∙ link_of image file (data_blocks image file) (extension_blocks image file) (contents image file) s.holds (extensions_needed image file) (omega (arith, length-extensions))
           ∙ get_or_past (extension_blocks image file) (extensions_needed image file) 0 (omega (arith, length-extensions));
     }
@@ -153,10 +154,10 @@ module _ (image : List ℕ) (file : ℕ) where
     data-before zero l = refl
     data-before (suc i) l = data-at i (omega arith)
 
-    data-link : format_of image ≡ Ofs → (i : ℕ) → i ≤ data_needed image file → long image (data_before image file i) next_data ≡ slice_index (data_blocks image file) i
+    data-link : format_of image ≡ Ofs → (i : ℕ) → i ≤ data_needed image file → long image (data_before image file i) NEXT_DATA ≡ slice_index (data_blocks image file) i
     data-link ofs i l =
-        ap (λ (b : ℕ). long image b next_data) (sym (data-before i l))
-        ∙ next_of image next_data file (file ∷ data_blocks image file) (refl, s.holds.ofs_chain ofs) i (omega (arith, l, length-data))
+        ap (λ (b : ℕ). long image b NEXT_DATA) (sym (data-before i l))
+        ∙ next_of image NEXT_DATA file (file ∷ data_blocks image file) (refl, s.holds.ofs_chain ofs) i (omega (arith, l, length-data))
 
     pub lawful_data_blocks : HasData image file
     lawful_data_blocks = record {

@@ -3,8 +3,8 @@ use Rattle.std.specs.Prelude.{◌≡◌, ◌≢◌, ℕ, ◌+◌, ◌*◌, ◌�
 use Rattle.adf_block.specs.Boot.{HasKind}
 use Rattle.adf_block.specs.declared.boot.BootKind.TheVariants.{Ofs, Ffs}
 use Rattle.adf_block.specs.Frame.{OnlyLong}
-use Rattle.adf_block.specs.Image.{protection}
-use Rattle.adf_block.specs.Layout.{comment_byte, date_long, name_byte}
+use Rattle.adf_block.specs.Fields.{protection}
+use Rattle.adf_block.specs.declared.layout.TheConstants.{COMMENT_BYTE, DATE, NAME_BYTE}
 use Rattle.adf_block.specs.Whole.{text_at}
 use Rattle.ados_model.specs.File.{contents}
 use Rattle.ados_model.specs.Accepted.{Accepts}
@@ -12,8 +12,8 @@ use Rattle.ados_model.specs.Stands.{date_at, Stands}
 use Rattle.ados_model.specs.Faults.{HasDirectoryType, HasFileType}
 use Rattle.ados_model.specs.Tree.{Content, Node, Tree, entries, root}
 use Rattle.ados_model.specs.Tree.Content.{Directory, File}
-use Rattle.adf_transfer.specs.Below.{AreBelow}
-use Rattle.adf_transfer.specs.Located.{Located}
+use Rattle.ados_volume.specs.Below.{AreBelow}
+use Rattle.ados_volume.specs.Located.{Located}
 use Rattle.adf_salvage.specs.declared.salvaged.Salvaged.{Salvaged}
 use Rattle.adf_salvage.specs.declared.salvaged.State.{State}
 use Rattle.adf_salvage.specs.declared.salvaged.State.TheVariants as states
@@ -28,10 +28,10 @@ HasState image block (states.Broken missing cut bytes) = HasFileType image block
 -- the header is sound, and the description has its fields; the path and whether the entry was recovered are free
 pub record IsSalvaged (image : List ℕ) (entry : Salvaged) : Type 0 where
   pub header : IsSoundHeader image entry.header
-  pub name : entry.name ≡ text_at image entry.header name_byte
+  pub name : entry.name ≡ text_at image entry.header NAME_BYTE
   pub protection_bits : entry.protection.0 ≡ protection image entry.header
-  pub date_field : entry.date ≡ date_at image entry.header date_long
-  pub comment : entry.comment ≡ text_at image entry.header comment_byte
+  pub date_field : entry.date ≡ date_at image entry.header DATE
+  pub comment : entry.comment ≡ text_at image entry.header COMMENT_BYTE
   pub state : HasState image entry.header entry.state
 
 -- the headers of these entries

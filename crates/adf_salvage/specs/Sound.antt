@@ -1,7 +1,8 @@
 -- The headers and files of an image that are sound by themselves, wherever hash chains lead.
 use Rattle.std.specs.Prelude.{◌≡◌, ℕ, ◌≤◌, List, ◌∷◌, ◌++◌, Contains}
-use Rattle.adf_block.specs.Image.{block_count, block_sum, byte_at, IsInside, primary_type, own_key}
-use Rattle.adf_block.specs.Layout.{header_type, comment_byte, name_byte}
+use Rattle.adf_block.specs.Image.{block_count, block_sum, byte_at, IsInside}
+use Rattle.adf_block.specs.Fields.{primary_type, own_key}
+use Rattle.adf_block.specs.declared.layout.TheConstants.{HEADER_TYPE, COMMENT_BYTE, NAME_BYTE}
 use Rattle.adf_block.specs.Whole.{text_at}
 use Rattle.ados_name.specs.Name.{IsName}
 use Rattle.ados_model.specs.File.{LawfulFile, data_blocks, extension_blocks}
@@ -11,12 +12,12 @@ use Rattle.ados_check.specs.Marks.{HasEntryType}
 -- the header of a directory or file with the right fields, in its own block
 pub record IsSoundHeader (image : List ℕ) (block : ℕ) : Type 0 where
   pub inside : IsInside (block_count image) block
-  pub primary : primary_type image block ≡ header_type
+  pub primary : primary_type image block ≡ HEADER_TYPE
   pub secondary : HasEntryType image block
   pub key_field : own_key image block ≡ block
   pub sum : block_sum image block ≡ 0
-  pub name : IsName (text_at image block name_byte)
-  pub comment : byte_at image block comment_byte ≤ 79
+  pub name : IsName (text_at image block NAME_BYTE)
+  pub comment : byte_at image block COMMENT_BYTE ≤ 79
 
 -- a sound file: its header, and exactly the blocks that its size needs, each with the right fields for its position,
 -- inside the volume and distinct

@@ -1,15 +1,15 @@
 //! The data blocks of a file.
 ghost use Rattle.std.specs.Prelude.{◌≡◌, ◌<◌, ◌-◌, ◌*◌, ◌++◌, ◌∷◌, ◌↔◌, min, IfOk, IsTrue, MatchBool};
-ghost use Rattle.adf_block.specs.Image.{block_count, long, file_size, format_of};
-ghost use Rattle.adf_block.specs.declared.Format.TheVariants.{Ofs};
-ghost use Rattle.adf_block.specs.Layout.{next_data, ofs_room};
+ghost use Rattle.adf_block.specs.Image.{block_count, long};
+ghost use Rattle.adf_block.specs.Fields.{file_size, format_of};
+ghost use Rattle.adf_block.specs.declared.layout.Format.TheVariants.{Ofs};
 ghost use Rattle.ados_model.specs.Stands.{HasOfsData};
 ghost use Rattle.ados_model.specs.File.{data_blocks, extension_blocks};
 ghost use Rattle.adf_salvage.specs.steps.Parts.{HasData, HasHolders, IsDataBlock, data_needed};
 
 use adf_block::layout::{
-    BOOT_BLOCKS, DATA_TYPE, FIRST_POINTER, HELD, NEXT_DATA, OFS_ROOM, OWN_KEY, PRIMARY_TYPE,
-    SEQUENCE, SIZE, TABLE_LONGS,
+    BOOT_BLOCKS, DATA_TYPE, FILE_SIZE, FIRST_POINTER, HELD, NEXT_DATA, OFS_ROOM, OWN_KEY,
+    PRIMARY_TYPE, SEQUENCE, TABLE_LONGS,
 };
 use adf_block::{Format, Image};
 use std::alloc::AllocError;
@@ -43,7 +43,7 @@ pub(crate) fn push_data(
 /// Whether no data block follows. Only OFS has links between data blocks.
 fn is_last(image: &Image, block: u32) -> bool
     requires { block < block_count image.now }
-    ensures { IsTrue result ↔ (format_of image.now ≡ Ofs → long image.now block next_data ≡ 0) }
+    ensures { IsTrue result ↔ (format_of image.now ≡ Ofs → long image.now block NEXT_DATA ≡ 0) }
 {
     match image.format() {
         Format::Ofs => image.long(block, NEXT_DATA) == 0,
@@ -76,12 +76,12 @@ pub(crate) fn is_ofs_data(image: &Image, file: u32, i: u32, block: u32) -> bool
         && image.long(block, PRIMARY_TYPE) == DATA_TYPE
         && image.long(block, OWN_KEY) == file
         && u64::from(image.long(block, SEQUENCE)) == u64::from(i) + 1
-        && u64::from(image.long(block, HELD)) == held_in(image.long(file, SIZE), i)
+        && u64::from(image.long(block, HELD)) == held_in(image.long(file, FILE_SIZE), i)
 }
 
 /// The number of data bytes in OFS data block `i` of a file with this size.
 fn held_in(size: u32, i: u32) -> u64
-    ensures { result ≡ min ofs_room (size - ofs_room * i) }
+    ensures { result ≡ min OFS_ROOM (size - OFS_ROOM * i) }
 {
     u64::from(size)
         .saturating_sub(u64::from(OFS_ROOM) * u64::from(i))

@@ -44,27 +44,8 @@ fn with_bytes(
     ensures told { IfOk result (IsSalvaged image.now) }
     ensures bounded { IfOk result (λ filled. broken_length filled.state ≤ most) }
 {
-    let Salvaged {
-        header,
-        path,
-        found,
-        name,
-        protection,
-        date,
-        comment,
-        state,
-    } = entry;
-    let state = filled(alloc, image, header, state, most)?;
-    Ok(Salvaged {
-        header,
-        path,
-        found,
-        name,
-        protection,
-        date,
-        comment,
-        state,
-    })
+    let state = filled(alloc, image, entry.header, entry.state, most)?;
+    Ok(Salvaged { state, ..entry })
 }
 
 /// The state of a file with at most this many bytes, if it is broken.

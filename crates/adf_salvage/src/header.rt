@@ -1,7 +1,6 @@
 //! Headers that are sound by themselves.
 ghost use Rattle.std.specs.Prelude.{◌≡◌, ◌<◌, ◌↔◌, IsTrue, MatchOption};
 ghost use Rattle.adf_block.specs.Image.{block_count};
-ghost use Rattle.adf_block.specs.Layout.{name_byte};
 ghost use Rattle.adf_block.specs.Whole.{text_at};
 ghost use Rattle.ados_name.specs.Name.{IsName};
 ghost use Rattle.ados_check.specs.Marks.{HasEntryType};
@@ -49,8 +48,8 @@ pub(crate) fn is_file(image: &Image, block: u32) -> bool
 /// The name in a block, or `None` if it is not valid.
 pub(crate) fn name_of(image: &Image, key: u32) -> Option<Name>
     requires { key < block_count image.now }
-    ensures { MatchOption result (¬ IsName (text_at image.now key name_byte))
-        (λ name. (name ≡ text_at image.now key name_byte) × IsName (text_at image.now key name_byte)) }
+    ensures { MatchOption result (¬ IsName (text_at image.now key NAME_BYTE))
+        (λ name. (name ≡ text_at image.now key NAME_BYTE) × IsName (text_at image.now key NAME_BYTE)) }
 {
     let block = image.block(key);
     let at = NAME_BYTE as usize;

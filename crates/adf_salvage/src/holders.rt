@@ -1,14 +1,13 @@
 //! The pointer blocks of a file: its header and its extension blocks.
 ghost use Rattle.std.specs.Prelude.{◌≡◌, ◌<◌, ◌-◌, ◌*◌, ◌∷◌, min, ◌↔◌, IfOk, IsTrue, MatchOption};
 ghost use Rattle.adf_block.specs.Image.{block_count};
-ghost use Rattle.adf_block.specs.Layout.{table_longs};
 ghost use Rattle.ados_model.specs.Stands.{HasExtension};
 ghost use Rattle.ados_model.specs.File.{extension_blocks};
 ghost use Rattle.adf_salvage.specs.steps.Parts.{HasHolders, IsHolder, data_needed};
 
 use adf_block::layout::{
-    BOOT_BLOCKS, FFS_ROOM, FILE_TYPE, LIST_TYPE, NEXT_EXTENSION, OFS_ROOM, OWN_KEY, PARENT,
-    POINTER_COUNT, PRIMARY_TYPE, SECONDARY_TYPE, SIZE, TABLE_LONGS,
+    BOOT_BLOCKS, FFS_ROOM, FILE_SIZE, FILE_TYPE, LIST_TYPE, NEXT_EXTENSION, OFS_ROOM, OWN_KEY,
+    PARENT, POINTER_COUNT, PRIMARY_TYPE, SECONDARY_TYPE, TABLE_LONGS,
 };
 use adf_block::{Format, Image};
 use std::alloc::{AllocError, Global};
@@ -22,7 +21,7 @@ pub(crate) fn data_needed(image: &Image, file: u32) -> u32
         Format::Ofs => OFS_ROOM,
         Format::Ffs => FFS_ROOM,
     };
-    image.long(file, SIZE).div_ceil(room)
+    image.long(file, FILE_SIZE).div_ceil(room)
 }
 
 /// The header and the extension blocks of a file with this many data blocks, if each has the right fields for its
@@ -66,7 +65,7 @@ fn is_holder(image: &Image, file: u32, q: u32, block: u32, needed: u32) -> bool
 
 /// The number of pointers in pointer block `q` of a file with this many data blocks.
 fn pointers_in(q: u32, needed: u32) -> u64
-    ensures { result ≡ min table_longs (needed - table_longs * q) }
+    ensures { result ≡ min TABLE_LONGS (needed - TABLE_LONGS * q) }
 {
     u64::from(needed)
         .saturating_sub(u64::from(TABLE_LONGS) * u64::from(q))

@@ -6,8 +6,7 @@ ghost use Rattle.ados_model.specs.Tree.{Node, Tree};
 ghost use Rattle.adf_salvage.specs.Salvaged.{AreOfTree, HoldsAll, IsOfTree, located_of};
 
 use crate::salvaged::{Salvaged, State};
-use adf_transfer::{Below, entries_below, read_file};
-use ados_volume::Volume;
+use ados_volume::{Below, Volume, entries_below, read_file};
 use std::alloc::{AllocError, Global};
 
 /// All entries of a volume, in its order, with whole files.

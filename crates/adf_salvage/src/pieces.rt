@@ -5,7 +5,7 @@ ghost use Rattle.adf_block.specs.Image.{block_count};
 use crate::data::is_ofs_data;
 use crate::holders::is_extension;
 use adf_block::layout::{
-    BLOCK_BYTES, BOOT_BLOCKS, FIRST_POINTER, NEXT_DATA, NEXT_EXTENSION, OFS_DATA_BYTE, SIZE,
+    BLOCK_BYTES, BOOT_BLOCKS, FILE_SIZE, FIRST_POINTER, NEXT_DATA, NEXT_EXTENSION, OFS_DATA_BYTE,
     TABLE_LONGS,
 };
 use adf_block::{Format, Image};
@@ -37,7 +37,7 @@ pub(crate) fn pieces(
 {
     let start = data_start(image);
     let room = BLOCK - start;
-    let size = (image.long(file, SIZE) as usize).min(image.blocks() as usize * room);
+    let size = (image.long(file, FILE_SIZE) as usize).min(image.blocks() as usize * room);
     let mut left = Remains {
         missing: 0,
         cut: false,

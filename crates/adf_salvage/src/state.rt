@@ -11,7 +11,7 @@ use crate::header::is_file;
 use crate::intact::own_blocks;
 use crate::salvaged::State;
 use adf_block::Image;
-use adf_block::layout::SIZE;
+use adf_block::layout::FILE_SIZE;
 use ados_data::read_at;
 use std::alloc::{AllocError, Global};
 
@@ -59,7 +59,7 @@ fn whole_bytes(alloc: Global, image: &Image, file: u32) -> Result<Vec<u8>, Alloc
     requires lawful { LawfulFile image.now file }
     ensures { IfOk result (λ bytes. bytes.items ≡ contents image.now file) }
 {
-    let size = image.long(file, SIZE) as usize;
+    let size = image.long(file, FILE_SIZE) as usize;
     let mut bytes = vec![in alloc; 0_u8; size]?;
     read_at(image, file, 0, bytes.as_mut_slice());
     Ok(bytes)

@@ -1,7 +1,6 @@
 //! The entry of a sound header.
 ghost use Rattle.std.specs.Prelude.{◌≡◌, ◌<◌, ◌≤◌, length, IfOk};
 ghost use Rattle.adf_block.specs.Image.{block_count, byte_at};
-ghost use Rattle.adf_block.specs.Layout.{comment_byte, date_long};
 ghost use Rattle.adf_block.specs.Whole.{text_at};
 ghost use Rattle.ados_model.specs.Stands.{date_at};
 ghost use Rattle.adf_salvage.specs.Salvaged.{IsSalvaged};
@@ -51,7 +50,7 @@ pub(crate) fn told_of(
 /// The date of a header.
 fn date_of(image: &Image, block: u32) -> Date3
     requires { block < block_count image.now }
-    ensures { result ≡ date_at image.now block date_long }
+    ensures { result ≡ date_at image.now block DATE }
 {
     Date3 {
         days: image.long(block, DATE),
@@ -63,8 +62,8 @@ fn date_of(image: &Image, block: u32) -> Date3
 /// The comment in a header.
 fn comment_of(image: &Image, block: u32) -> Comment
     requires inside { block < block_count image.now }
-    requires short { byte_at image.now block comment_byte ≤ 79 }
-    ensures { result ≡ text_at image.now block comment_byte }
+    requires short { byte_at image.now block COMMENT_BYTE ≤ 79 }
+    ensures { result ≡ text_at image.now block COMMENT_BYTE }
 {
     as_comment(comment_text(image, block))
 }
@@ -72,8 +71,8 @@ fn comment_of(image: &Image, block: u32) -> Comment
 /// The bytes of the comment in a header.
 fn comment_text(image: &Image, block: u32) -> &[u8]
     requires inside { block < block_count image.now }
-    requires short { byte_at image.now block comment_byte ≤ 79 }
-    ensures text { result.now ≡ text_at image.now block comment_byte }
+    requires short { byte_at image.now block COMMENT_BYTE ≤ 79 }
+    ensures text { result.now ≡ text_at image.now block COMMENT_BYTE }
     ensures short { length result.now ≤ 79 }
 {
     let start = COMMENT_BYTE as usize + 1;

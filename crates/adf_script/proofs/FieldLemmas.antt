@@ -1,5 +1,5 @@
 -- Fields at the start of bytes.
-use Rattle.std.proofs.Common.{◌≡◌, ◌≢◌, ◌≤◌, ◌<◌, inl, inr, ℕ, suc, ℤ, false, List, [], ◌∷◌, ◌++◌, length, replicate, get_or, Option, Bor, refl, sym, ap, subst, ◌∙◌, arith, append_assoc}
+use Rattle.std.proofs.Common.{◌≡◌, ◌≤◌, ◌<◌, inl, inr, ℕ, suc, ℤ, false, List, [], ◌∷◌, ◌++◌, length, replicate, get_or, Option, Bor, refl, sym, ap, subst, ◌∙◌, arith, append_assoc}
 use Rattle.std.specs.Prelude.{◌||◌, Some, None, MatchOption, All}
 use Rattle.std.specs.Str.Parse.{AllDigits}
 use Rattle.std.proofs.lemmas.Str.Parse.{digit_from_value}
@@ -54,9 +54,6 @@ behind_fields values [] bytes s = subst IsBehind (sym s) tt
 behind_fields values (field ∷ fields) bytes s = subst IsBehind (sym s.2) refl
 
 module _ {A : Type 0} (values : List (Option ℕ)) (field : A → Field) (rest : List ℕ) where
-  pub no_space_reads_none : ((line : List ℕ) → rest ≢ 32 ∷ line) → ReadsNone values (λ x. field x ∷ []) rest
-  no_space_reads_none none x fields s = none (s.0 ++ s.1) s.2
-
   module _ (spelled_plain : (x : A) (bytes : List ℕ) → SpellsField values (field x) bytes → has_byte 32 bytes ≡ false) (front behind : List ℕ)
       (is_cut : (line : List ℕ) × (rest ≡ 32 ∷ line) × IsCut line front behind) where
     unique : (x : A) (fields : List Field) (s : SpellsFields values (field x ∷ fields) rest) → (s.0 ≡ front) × (s.1 ≡ behind)

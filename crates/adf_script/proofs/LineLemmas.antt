@@ -1,5 +1,5 @@
 -- The first line of a script, and the remaining packet lines.
-use Rattle.std.proofs.Common.{◌≡◌, ℕ, ◌+◌, ◌<◌, true, false, cond, List, [], ◌∷◌, ◌++◌, length, slice_get, refl, sym, ap, ◌∙◌, arith, append_assoc, append-nil, length-append}
+use Rattle.std.proofs.Common.{◌≡◌, ℕ, ◌+◌, ◌<◌, false, cond, List, [], ◌∷◌, ◌++◌, length, slice_get, refl, sym, ap, ◌∙◌, arith, append_assoc, append-nil, length-append}
 use Rattle.std.specs.Prelude.{Some, not, filter}
 use Rattle.std.specs.List.{enumerate_from}
 use Rattle.std.proofs.lemmas.List.{nil_from_length}
@@ -25,12 +25,6 @@ lines_of-last (x ∷ (y ∷ ys)) h some =
     let tests = or_false _ _ h
     in ap (λ b. cond b ([] ∷ lines_of (y ∷ ys)) (on_first x (lines_of (y ∷ ys)))) tests.0 ∙ ap (on_first x) (lines_of-last (y ∷ ys) tests.1 (omega arith))
 
--- a line that is skipped, and one that is not
-kept_from-skipped : (number : ℕ) (rest line behind : List ℕ) → lines_of rest ≡ line ∷ lines_of behind → is_skipped line ≡ true → kept_from number rest ≡ kept_from (number + 1) behind
-kept_from-skipped number rest line behind split skipped =
-    ap (λ l. filter (λ (p : ℕ × List ℕ). not (is_skipped p.1)) (enumerate_from number l)) split
-    ∙ ap (λ b. cond (not b) ((number, line) ∷ kept_from (number + 1) behind) (kept_from (number + 1) behind)) skipped
-
 kept_from-kept : (number : ℕ) (rest line behind : List ℕ) → lines_of rest ≡ line ∷ lines_of behind → is_skipped line ≡ false
     → kept_from number rest ≡ (number, line) ∷ kept_from (number + 1) behind
 kept_from-kept number rest line behind split kept =
@@ -49,9 +43,6 @@ module _ (script : List ℕ) (number count : ℕ) (rest : List ℕ) (left : IsLe
       in ap (λ l. slice_get l count) all ∙ slice_get_past left.0 count (omega (arith, left.2))
 
   module _ (line behind : List ℕ) (first : lines_of rest ≡ line ∷ lines_of behind) where
-    pub left-skipped : is_skipped line ≡ true → IsLeft script (number + 1) count behind
-    left-skipped skipped = (left.0, left.1 ∙ ap (λ l. left.0 ++ l) (kept_from-skipped (number + 1) rest line behind first skipped), left.2)
-
     module _ (kept : is_skipped line ≡ false) where
       split : kept_lines script ≡ left.0 ++ (number + 1, line) ∷ kept_from (number + 1 + 1) behind
       split = left.1 ∙ ap (λ l. left.0 ++ l) (kept_from-kept (number + 1) rest line behind first kept)

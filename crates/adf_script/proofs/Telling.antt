@@ -130,13 +130,6 @@ module _ {S M : Type 0} (gives : S → Packet → M → S → Answer → Type 0)
           }
 
 module _ {S M : Type 0} (gives : S → Packet → M → S → Answer → Type 0) (has_died : S → Bool) (opening : PortState S Packet Answer) (moment : M) where
-  -- a script that is too long
-  pub told_long : (script : List ℕ) → is_too_long script ≡ true → Told gives has_died opening moment script (fault_line 1 0) false
-  told_long script long =
-      let Faulty : Type 0 = (◌≡◌ {A = Bool} false false) × (fault_line 1 0 ≡ fault_line 1 0)
-      in let is_fault : Faulty = (refl, refl)
-      in subst (λ b. MatchBool b Faulty (LinesTell gives has_died moment opening (kept_lines script) [] 1 (fault_line 1 0) false)) (sym long) is_fault
-
   -- the start of a script has the same output as the script
   pub told_of_front : (script kept written : List ℕ) (whole : Bool) → kept ≡ take 1048577 script → Told gives has_died opening moment kept written whole → Told gives has_died opening moment script written whole
   told_of_front script kept written whole is_front told = elim (cases_lt 1048576 (length script)) [

@@ -2,8 +2,6 @@
 use Rattle.std.specs.Prelude.{ℕ, ◌+◌, ◌/◌, ◌%◌, ◌^◌, ℤ, pos, negsuc, Bool, nat_lt, if◌then◌else◌, List, [], ◌∷◌, ◌++◌, take, flat_map, decimal, codes}
 use Rattle.std.specs.Fmt.{signed_decimal}
 use Rattle.std.specs.Ordering.{int_eq}
-use Rattle.ados_model.specs.Packet.{action_number}
-use Rattle.ados_model.specs.declared.packet.Action.TheVariants.{Read}
 use Rattle.ados_model.specs.declared.answer.FileInfo.{FileInfo}
 use Rattle.ados_model.specs.declared.answer.DiskInfo.{DiskInfo}
 use Rattle.ados_model.specs.declared.answer.Answer.{Answer}
@@ -25,9 +23,9 @@ hex_byte byte = hex_digit (byte / 16) ∷ hex_digit (byte % 16) ∷ []
 abbrev pub hex_long : ℕ → List ℕ
 hex_long n = hex_byte (n / 2 ^ 24) ++ hex_byte (n / 2 ^ 16 % 256) ++ hex_byte (n / 2 ^ 8 % 256) ++ hex_byte (n % 256)
 
--- the action is READ
+-- the action is READ, 82
 abbrev pub is_read : ℤ → Bool
-is_read action = int_eq action (action_number Read)
+is_read action = int_eq action (pos 82)
 
 -- the number of bytes that a READ returned; 0 for another action or a negative result
 abbrev pub count_read : ℤ → ℤ → ℕ

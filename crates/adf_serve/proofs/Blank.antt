@@ -1,7 +1,7 @@
 -- The blank floppy represents its tree.
 use Rattle.std.proofs.Common.{ℕ, ◌<◌, List, [], ◌∷◌, codes, arith, lit<, lit≤}
 use Rattle.std.proofs.lemmas.List.Elements.{All-nil, All-cons}
-use Rattle.adf_block.specs.declared.Format.TheVariants.{Ffs}
+use Rattle.adf_block.specs.declared.layout.Format.TheVariants.{Ffs}
 use Rattle.ados_name.specs.Name.{IsName, IsNameByte}
 use Rattle.ados_model.specs.Blank.{IsBlank, blank_tree}
 use Rattle.ados_model.specs.Stands.{Stands}

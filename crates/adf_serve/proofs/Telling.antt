@@ -1,7 +1,7 @@
 -- The output of a script over a handler is its output over the tree.
 use Rattle.std.proofs.Common.{◌≡◌, ℕ, Bool, true, false, List, [], Option, codes, subst}
 use Rattle.std.specs.Bool.{MatchBool}
-use Rattle.adf_block.specs.declared.Format.TheVariants.{Ffs}
+use Rattle.adf_block.specs.declared.layout.Format.TheVariants.{Ffs}
 use Rattle.ados_model.specs.Tree.{Tree}
 use Rattle.ados_model.specs.Blank.{IsBlank, blank_tree}
 use Rattle.ados_model.specs.Stands.{Stands}

@@ -1,7 +1,7 @@
 -- How a command line ends.
 use Rattle.std.specs.Prelude.{◌≡◌, ◌⊎◌, ℕ, List, Option}
 use Rattle.std.specs.Io.KnownBytes.{Keeps}
-use Rattle.adf_jobs.specs.declared.job.ImageJob.{ImageJob}
+use Rattle.adf_words.specs.declared.job.ImageJob.{ImageJob}
 use Rattle.adf_commands.specs.Commands.{Ending, TellsJob, exit_status}
 
 -- a command line ends with this status: some job ended like this; or there was no job, and nothing is printed

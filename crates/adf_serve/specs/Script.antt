@@ -1,6 +1,6 @@
 -- The program's output for a script.
 use Rattle.std.specs.Prelude.{ℕ, Bool, List, Option, codes}
-use Rattle.adf_block.specs.declared.Format.TheVariants.{Ffs}
+use Rattle.adf_block.specs.declared.layout.Format.TheVariants.{Ffs}
 use Rattle.ados_model.specs.Blank.{blank_tree}
 use Rattle.ados_port.specs.History.{opening_port}
 use Rattle.ados_model.specs.Session.{opening_session}

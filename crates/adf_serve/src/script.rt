@@ -1,6 +1,6 @@
 //! The program without arguments: a script over a blank floppy.
 ghost use Rattle.std.specs.Prelude.{◌≡◌, true, false, codes, IfOk, OnOk};
-ghost use Rattle.adf_block.specs.declared.Format.TheVariants.{Ffs};
+ghost use Rattle.adf_block.specs.declared.layout.Format.TheVariants.{Ffs};
 ghost use Rattle.ados_model.specs.Blank.{IsBlank};
 ghost use Rattle.ados_model.specs.Session.{opening_session};
 ghost use Rattle.adf_commands.specs.Texts.{first_moment};

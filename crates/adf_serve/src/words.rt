@@ -6,9 +6,9 @@ ghost use Rattle.adf_serve.specs.Script.{RunsScript};
 use crate::script::try_script;
 use adf_archive::ReadImages;
 use adf_commands::{run_job, status_of};
-use adf_jobs::Job;
 use adf_script::TryFault;
-use adf_words::{WordsFault, read_words};
+use adf_text::print_lines;
+use adf_words::{Job, WordsFault, read_words};
 use std::alloc::Global;
 use std::fs::File;
 use std::io::{IsTerminal, Read, Write};
@@ -65,7 +65,7 @@ pub fn tell_wrong_words<F: Write>(fault: WordsFault, faults: &mut F) -> u8
 {
     match fault {
         WordsFault::Usage(text) => {
-            let _ = faults.write_all(text.as_bytes());
+            print_lines(faults, text.as_str());
             1
         }
         WordsFault::Memory => {

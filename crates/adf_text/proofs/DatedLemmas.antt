@@ -21,7 +21,7 @@ use Rattle.jiff_fmt.specs.Reader.{Read}
 use Rattle.jiff_fmt.specs.Temporal.{DateParts, date_spec}
 use Rattle.jiff_fmt.specs.Text.{year_text, pad2, pad4}
 use Rattle.jiff_fmt.proofs.RoundTrip.{date_spec-text}
-use Rattle.ados_name.specs.declared.Date3.{Date3}
+use Rattle.ados_name.specs.declared.stamp.Date3.{Date3}
 use Rattle.ados_name.specs.CivilDay.{IsDaysAfterEpoch}
 use Rattle.ados_name.specs.Date.{has_civil_text, civil_text, raw_text, IsTextOf}
 use Rattle.adf_text.specs.Dated.{IsStamp, StandsApart, BeginsWithDate, HasNoDate}

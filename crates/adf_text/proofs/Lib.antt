@@ -1,7 +1,7 @@
 -- Lemmas for the functions of each module, in the order of the definitions.
-mod LettersLemmas
+pub mod LettersLemmas
 mod EscapesLemmas
-mod HostLemmas
+pub mod HostLemmas
 mod ProtectionLettersLemmas
 mod DatedLemmas
 mod UaemLemmas

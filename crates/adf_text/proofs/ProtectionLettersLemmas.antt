@@ -8,8 +8,7 @@ use Rattle.std.proofs.lemmas.Bool.{and_parts, not-true, ltb-true}
 use Rattle.std.proofs.lemmas.Str.{encode_ascii}
 use Rattle.std.proofs.lemmas.Nat.{mod-pow-add}
 use Rattle.std.proofs.lemmas.Nat.Bits.{bit_at-lt}
-use Rattle.ados_name.specs.Name.{is_set}
-use Rattle.ados_name.specs.Protection.{letter_or_dash}
+use Rattle.ados_name.specs.Protection.{is_set, letter_or_dash}
 use Rattle.adf_text.specs.Letters.{letters}
 use Rattle.adf_text.specs.ProtectionLetters.{protection_letters, has, bit, protection_of, AreLetters}
 

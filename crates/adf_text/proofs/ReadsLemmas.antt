@@ -8,9 +8,8 @@ use Rattle.std.proofs.lemmas.List.Elements.{All-from_recursion, All-nil, All-con
 use Rattle.std.proofs.lemmas.Option.{slice_get_within, get_or_from_slice_get}
 use Rattle.std.proofs.lemmas.Str.{encodes_same, encodes-append, encode_ascii}
 use Rattle.percent_encoding.proofs.PercentLemmas.{IsEscapeByte}
-use Rattle.ados_name.specs.Name.{is_set}
-use Rattle.ados_name.specs.Protection.{letter_or_dash}
-use Rattle.ados_name.specs.declared.Date3.{Date3}
+use Rattle.ados_name.specs.Protection.{is_set, letter_or_dash}
+use Rattle.ados_name.specs.declared.stamp.Date3.{Date3}
 use Rattle.adf_text.specs.declared.escapes.Place.TheVariants.{Comment}
 use Rattle.adf_text.specs.declared.uaem.Uaem.{Uaem}
 use Rattle.adf_text.specs.declared.uaem_reader.UaemFault.{UaemFault}

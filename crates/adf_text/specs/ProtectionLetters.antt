@@ -1,8 +1,7 @@
 -- Bits 7 to 0 of a protection long as the letters `hsparwed`.
 use Rattle.std.specs.Prelude.{◌≡◌, ℕ, ◌+◌, ◌%◌, ◌==◌, ◌⊎◌, Bool, not, if◌then◌else◌, List, ◌∷◌, length, count_by, codes}
 use Rattle.std.specs.List.{list_any}
-use Rattle.ados_name.specs.Name.{is_set}
-use Rattle.ados_name.specs.Protection.{letter_or_dash, letters}
+use Rattle.ados_name.specs.Protection.{is_set, letter_or_dash, letters}
 
 -- the eight letters: `h` if bit 7 is set, then the seven letters of the command `List`
 abbrev pub protection_letters : ℕ → List ℕ

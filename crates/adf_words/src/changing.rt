@@ -1,115 +1,108 @@
-//! The jobs of the commands that change an image.
+//! From the arguments of a command that changes an image to its job.
+use crate::arguments::Arguments;
+use crate::change::{Change, ChangeJob};
 use crate::fault::WordsFault;
+use crate::job::ImageJob;
 use crate::letters::{letters_of, protection_word};
-use crate::numbers::{given_moment, moment_of};
-use crate::wanted::{letters_for, paths_for, word_for, words_for};
-use adf_jobs::{Change, ChangeJob, ImageJob};
-use clap::ArgMatches;
-use std::alloc::Global;
 
 /// The job of a command that changes a volume; `None` for any other command.
 pub(crate) fn change_job<'a>(
-    alloc: Global,
     name: &str,
-    words: &ArgMatches<'a>,
+    arguments: &Arguments<'a, '_>,
 ) -> Result<Option<ImageJob<'a>>, WordsFault> {
-    let image = word_for(alloc, words, "IMAGE")?;
-    let Some(change) = change_of(alloc, name, words)? else {
+    let image = arguments.word("IMAGE")?;
+    let Some(change) = change_of(name, arguments)? else {
         return Ok(None);
     };
     Ok(Some(ImageJob::Change(ChangeJob {
         image,
-        out: words.get_str("out"),
-        moment: given_moment(alloc, words)?,
+        out: arguments.given("out"),
+        moment: arguments.given_moment()?,
         change,
     })))
 }
 
 /// The change of a command; `None` for a command without one.
 fn change_of<'a>(
-    alloc: Global,
     name: &str,
-    words: &ArgMatches<'a>,
+    arguments: &Arguments<'a, '_>,
 ) -> Result<Option<Change<'a>>, WordsFault> {
     let change = match name {
-        "add" => add(alloc, words),
-        "mkdir" => make_directories(alloc, words),
-        "delete" => delete(alloc, words),
-        "rename" => rename(alloc, words),
-        "protect" => protect(alloc, words),
-        "comment" => comment(alloc, words),
-        "relabel" => relabel(alloc, words),
+        "add" => add(arguments),
+        "mkdir" => make_directories(arguments),
+        "delete" => delete(arguments),
+        "rename" => rename(arguments),
+        "protect" => protect(arguments),
+        "comment" => comment(arguments),
+        "relabel" => relabel(arguments),
         _ => return Ok(None),
     };
     Ok(Some(change?))
 }
 
 /// The change of `add`.
-fn add<'a>(alloc: Global, words: &ArgMatches<'a>) -> Result<Change<'a>, WordsFault> {
-    let to = letters_of(alloc, words.get_str("to").unwrap_or(""))?;
+fn add<'a>(arguments: &Arguments<'a, '_>) -> Result<Change<'a>, WordsFault> {
+    let to = letters_of(arguments.alloc, arguments.given("to").unwrap_or(""))?;
     Ok(Change::Add {
-        files: words_for(alloc, words, "FILE")?,
+        files: arguments.words("FILE")?,
         to,
-        force: words.get_flag("force"),
+        force: arguments.flag("force"),
     })
 }
 
 /// The change of `mkdir`.
-fn make_directories<'a>(alloc: Global, words: &ArgMatches<'a>) -> Result<Change<'a>, WordsFault> {
+fn make_directories<'a>(arguments: &Arguments<'a, '_>) -> Result<Change<'a>, WordsFault> {
     Ok(Change::MakeDirectories {
-        paths: paths_for(alloc, words)?,
+        paths: arguments.paths()?,
     })
 }
 
 /// The change of `delete`.
-fn delete<'a>(alloc: Global, words: &ArgMatches<'a>) -> Result<Change<'a>, WordsFault> {
+fn delete<'a>(arguments: &Arguments<'a, '_>) -> Result<Change<'a>, WordsFault> {
     Ok(Change::Delete {
-        paths: paths_for(alloc, words)?,
-        all: words.get_flag("all"),
-        force: words.get_flag("force"),
+        paths: arguments.paths()?,
+        all: arguments.flag("all"),
+        force: arguments.flag("force"),
     })
 }
 
 /// The change of `rename`.
-fn rename<'a>(alloc: Global, words: &ArgMatches<'a>) -> Result<Change<'a>, WordsFault> {
+fn rename<'a>(arguments: &Arguments<'a, '_>) -> Result<Change<'a>, WordsFault> {
     Ok(Change::Rename {
-        old: letters_for(alloc, words, "OLD")?,
-        new: letters_for(alloc, words, "NEW")?,
+        old: arguments.letters("OLD")?,
+        new: arguments.letters("NEW")?,
     })
 }
 
 /// The change of `protect`.
-fn protect<'a>(alloc: Global, words: &ArgMatches<'a>) -> Result<Change<'a>, WordsFault> {
+fn protect<'a>(arguments: &Arguments<'a, '_>) -> Result<Change<'a>, WordsFault> {
     Ok(Change::Protect {
-        path: letters_for(alloc, words, "PATH")?,
-        letters: protection_word(alloc, word_for(alloc, words, "LETTERS")?)?,
+        path: arguments.letters("PATH")?,
+        letters: protection_word(arguments.alloc, arguments.word("LETTERS")?)?,
     })
 }
 
 /// The change of `comment`.
-fn comment<'a>(alloc: Global, words: &ArgMatches<'a>) -> Result<Change<'a>, WordsFault> {
+fn comment<'a>(arguments: &Arguments<'a, '_>) -> Result<Change<'a>, WordsFault> {
     Ok(Change::Comment {
-        path: letters_for(alloc, words, "PATH")?,
-        text: letters_for(alloc, words, "TEXT")?,
+        path: arguments.letters("PATH")?,
+        text: arguments.letters("TEXT")?,
     })
 }
 
 /// The change of `relabel`.
-fn relabel<'a>(alloc: Global, words: &ArgMatches<'a>) -> Result<Change<'a>, WordsFault> {
+fn relabel<'a>(arguments: &Arguments<'a, '_>) -> Result<Change<'a>, WordsFault> {
     Ok(Change::Relabel {
-        name: letters_for(alloc, words, "NAME")?,
+        name: arguments.letters("NAME")?,
     })
 }
 
 /// The job of `boot`. Nothing there has a time stamp, so its value is checked and dropped.
-pub(crate) fn boot_job<'a>(
-    alloc: Global,
-    words: &ArgMatches<'a>,
-) -> Result<ImageJob<'a>, WordsFault> {
-    moment_of(alloc, words)?;
+pub(crate) fn boot_job<'a>(arguments: &Arguments<'a, '_>) -> Result<ImageJob<'a>, WordsFault> {
+    arguments.moment()?;
     Ok(ImageJob::Boot {
-        image: word_for(alloc, words, "IMAGE")?,
-        out: words.get_str("out"),
-        file: words.get_str("FILE"),
+        image: arguments.word("IMAGE")?,
+        out: arguments.given("out"),
+        file: arguments.given("FILE"),
     })
 }

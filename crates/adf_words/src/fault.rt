@@ -1,5 +1,5 @@
 //! Why a command line has no job.
-use std::alloc::{AllocError, AllocFailed};
+use std::alloc::AllocError;
 
 /// Why a command line has no job.
 #[derive(Drop)]
@@ -27,12 +27,6 @@ impl From<AllocError> for WordsFault {
     ghost from_gives = { λ _ fault. fault ≡ Memory };
 
     fn from(_error: AllocError) -> WordsFault {
-        WordsFault::Memory
-    }
-}
-
-impl<T: Drop> From<AllocFailed<T>> for WordsFault {
-    fn from(_error: AllocFailed<T>) -> WordsFault {
         WordsFault::Memory
     }
 }

@@ -5,7 +5,7 @@ ghost use Rattle.std.specs.String.{string_bytes};
 ghost use Rattle.adf_words.specs.Given.{TellsForeign};
 
 use crate::fault::WordsFault;
-use std::alloc::Global;
+use std::alloc::{AllocError, Global};
 use std::env::FillError;
 use std::rt::Env;
 
@@ -22,7 +22,7 @@ pub fn given_words<E: Env>(rt: &E, alloc: Global) -> Result<Vec<String>, WordsFa
     let mut buffer = vec![in alloc; 0u8; USUAL]?;
     for place in 1..usize::MAX {
         match given_word(rt, alloc, place, &mut buffer)? {
-            Some(word) => words.push(word)?,
+            Some(word) => words.push(word).map_err(AllocError::from)?,
             None => return Ok(words),
         }
     }

@@ -1,61 +1,54 @@
 //! Options with numbers.
 ghost use Rattle.std.specs.Prelude.{◌≤◌, IfOk, IfSome};
 
+use crate::arguments::Arguments;
 use crate::fault::WordsFault;
 use crate::table::{JOBS, NumberRange, TIME_STAMP};
 use ados_name::Date3;
-use clap::ArgMatches;
 use std::alloc::Global;
 
-/// The time stamp of a command. A missing number is 0.
-pub(crate) fn moment_of(alloc: Global, words: &ArgMatches<'_>) -> Result<Date3, WordsFault> {
-    Ok(Date3 {
-        days: number_of(alloc, words, "days", &TIME_STAMP)? as u32,
-        minutes: number_of(alloc, words, "minutes", &TIME_STAMP)? as u32,
-        ticks: number_of(alloc, words, "ticks", &TIME_STAMP)? as u32,
-    })
-}
+impl Arguments<'_, '_> {
+    /// The time stamp of a command. A missing number is 0.
+    pub(crate) fn moment(&self) -> Result<Date3, WordsFault> {
+        Ok(Date3 {
+            days: self.number("days", &TIME_STAMP)? as u32,
+            minutes: self.number("minutes", &TIME_STAMP)? as u32,
+            ticks: self.number("ticks", &TIME_STAMP)? as u32,
+        })
+    }
 
-/// The time stamp of a command, if one of its numbers is given.
-pub(crate) fn given_moment(
-    alloc: Global,
-    words: &ArgMatches<'_>,
-) -> Result<Option<Date3>, WordsFault> {
-    let moment = moment_of(alloc, words)?;
-    for id in ["days", "minutes", "ticks"] {
-        if words.get_str(id).is_some() {
-            return Ok(Some(moment));
+    /// The time stamp of a command, if one of its numbers is given.
+    pub(crate) fn given_moment(&self) -> Result<Option<Date3>, WordsFault> {
+        let moment = self.moment()?;
+        for id in ["days", "minutes", "ticks"] {
+            if self.given(id).is_some() {
+                return Ok(Some(moment));
+            }
+        }
+        Ok(None)
+    }
+
+    /// The number of images to check in parallel, at least 1; `None` if it is missing.
+    pub(crate) fn jobs(&self) -> Result<Option<u32>, WordsFault>
+        ensures { IfOk result (λ count. IfSome count (λ n. 1 ≤ n)) }
+    {
+        match self.given("jobs") {
+            Some(_) => Ok(Some(self.number("jobs", &JOBS)? as u32)),
+            None => Ok(None),
         }
     }
-    Ok(None)
-}
 
-/// The number of images to check in parallel, at least 1; `None` if it is missing.
-pub(crate) fn jobs_of(alloc: Global, words: &ArgMatches<'_>) -> Result<Option<u32>, WordsFault>
-    ensures { IfOk result (λ count. IfSome count (λ n. 1 ≤ n)) }
-{
-    match words.get_str("jobs") {
-        Some(_) => Ok(Some(number_of(alloc, words, "jobs", &JOBS)? as u32)),
-        None => Ok(None),
-    }
-}
-
-/// The value of an option with a number; 0 if it is missing. Only digits are allowed: a parse alone would accept a `+`
-/// before them.
-pub(crate) fn number_of(
-    alloc: Global,
-    words: &ArgMatches<'_>,
-    id: &str,
-    range: &NumberRange,
-) -> Result<u64, WordsFault>
-    ensures { IfOk result (λ number. (range.now.least ≤ number) × (number ≤ range.now.most)) }
-{
-    let text = words.get_str(id).unwrap_or("0");
-    match text.parse::<u64>() {
-        Ok(number) if range.least <= number && number <= range.most && !text.starts_with('+') => {
-            Ok(number)
+    /// The value of an option with a number; 0 if it is missing. Only digits are allowed: a parse alone would accept a
+    /// `+` before them.
+    pub(crate) fn number(&self, id: &str, range: &NumberRange) -> Result<u64, WordsFault>
+        ensures { IfOk result (λ number. (range.now.least ≤ number) × (number ≤ range.now.most)) }
+    {
+        let text = self.given(id).unwrap_or("0");
+        match text.parse::<u64>() {
+            Ok(number) if range.least <= number && number <= range.most && !text.starts_with('+') =>
+                { Ok(number) }
+            _ => Err(wrong_number(self.alloc, id, range, text)),
         }
-        _ => Err(wrong_number(alloc, id, range, text)),
     }
 }
 

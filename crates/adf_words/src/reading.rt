@@ -1,17 +1,16 @@
 //! From arguments to a job.
 ghost use Rattle.std.specs.Prelude.{◌≡◌, []};
 
+use crate::arguments::Arguments;
 use crate::changing::{boot_job, change_job};
 use crate::commands::program;
 use crate::fault::WordsFault;
+use crate::job::{ImageJob, Job, ServeJob};
 use crate::letters::letters_of;
-use crate::numbers::{moment_of, number_of};
 use crate::table::{BLOCKS, TURNS};
 use crate::taking::{check_job, extract_job, list_job, print_job};
-use crate::wanted::{missing, word_for, words_for};
 use adf_block::Format;
-use adf_jobs::{ImageJob, Job, ServeJob};
-use clap::{ArgMatches, Command};
+use clap::Command;
 use std::alloc::Global;
 
 /// The blocks of a double-density floppy and of a high-density floppy.
@@ -51,7 +50,7 @@ fn named_job<'a>(
 ) -> Result<Option<ImageJob<'a>>, WordsFault> {
     match program.try_get_matches_from_mut(words) {
         Ok(matches) => match matches.subcommand() {
-            Some((name, inner)) => job_of(alloc, name, inner),
+            Some((name, words)) => job_of(name, &Arguments { alloc, words }),
             None => Ok(None),
         },
         Err(error) => Err(WordsFault::usage(error.to_string(alloc))),
@@ -60,47 +59,46 @@ fn named_job<'a>(
 
 /// The job of a command with its arguments.
 fn job_of<'a>(
-    alloc: Global,
     name: &str,
-    words: &ArgMatches<'a>,
+    arguments: &Arguments<'a, '_>,
 ) -> Result<Option<ImageJob<'a>>, WordsFault> {
     let job = match name {
-        "blank" => blank_job(alloc, words),
-        "info" => info_job(alloc, words),
-        "check" => check_job(alloc, words),
-        "list" => list_job(alloc, words),
-        "print" => print_job(alloc, words),
-        "extract" => extract_job(alloc, words),
-        "boot" => boot_job(alloc, words),
-        "serve" => serve_job(alloc, words),
-        _ => return change_job(alloc, name, words),
+        "blank" => blank_job(arguments),
+        "info" => info_job(arguments),
+        "check" => check_job(arguments),
+        "list" => list_job(arguments),
+        "print" => print_job(arguments),
+        "extract" => extract_job(arguments),
+        "boot" => boot_job(arguments),
+        "serve" => serve_job(arguments),
+        _ => return change_job(name, arguments),
     };
     Ok(Some(job?))
 }
 
 /// The job of `blank`.
-fn blank_job<'a>(alloc: Global, words: &ArgMatches<'a>) -> Result<ImageJob<'a>, WordsFault> {
-    let blocks = blocks_of(alloc, words)?;
-    let (name, letters) = (word_for(alloc, words, "NAME")?, words.get_flag("letters"));
+fn blank_job<'a>(arguments: &Arguments<'a, '_>) -> Result<ImageJob<'a>, WordsFault> {
+    let blocks = blocks_of(arguments)?;
+    let (name, letters) = (arguments.word("NAME")?, arguments.flag("letters"));
     if letters {
-        letters_of(alloc, name)?;
+        letters_of(arguments.alloc, name)?;
     }
     Ok(ImageJob::Blank {
-        format: format_of(words),
+        format: format_of(arguments),
         blocks,
-        moment: moment_of(alloc, words)?,
+        moment: arguments.moment()?,
         name,
         letters,
-        file: word_for(alloc, words, "FILE")?,
+        file: arguments.word("FILE")?,
     })
 }
 
 /// The number of blocks of a blank image.
-fn blocks_of(alloc: Global, words: &ArgMatches<'_>) -> Result<u32, WordsFault> {
-    if words.get_str("blocks").is_some() {
-        return Ok(number_of(alloc, words, "blocks", &BLOCKS)? as u32);
+fn blocks_of(arguments: &Arguments<'_, '_>) -> Result<u32, WordsFault> {
+    if arguments.given("blocks").is_some() {
+        return Ok(arguments.number("blocks", &BLOCKS)? as u32);
     }
-    Ok(if words.get_flag("hd") {
+    Ok(if arguments.flag("hd") {
         HIGH_DENSITY
     } else {
         DOUBLE_DENSITY
@@ -108,8 +106,8 @@ fn blocks_of(alloc: Global, words: &ArgMatches<'_>) -> Result<u32, WordsFault> {
 }
 
 /// The format of a blank image.
-fn format_of(words: &ArgMatches<'_>) -> Format {
-    if words.get_flag("ffs") {
+fn format_of(arguments: &Arguments<'_, '_>) -> Format {
+    if arguments.flag("ffs") {
         Format::Ffs
     } else {
         Format::Ofs
@@ -117,25 +115,25 @@ fn format_of(words: &ArgMatches<'_>) -> Format {
 }
 
 /// The job of `info`.
-fn info_job<'a>(alloc: Global, words: &ArgMatches<'a>) -> Result<ImageJob<'a>, WordsFault> {
+fn info_job<'a>(arguments: &Arguments<'a, '_>) -> Result<ImageJob<'a>, WordsFault> {
     Ok(ImageJob::Info {
-        file: word_for(alloc, words, "FILE")?,
+        file: arguments.word("FILE")?,
     })
 }
 
 /// The job of `serve`.
-fn serve_job<'a>(alloc: Global, words: &ArgMatches<'a>) -> Result<ImageJob<'a>, WordsFault> {
-    let image = word_for(alloc, words, "IMAGE")?;
-    let turns = number_of(alloc, words, "turns", &TURNS)?;
-    let moment = moment_of(alloc, words)?;
-    let scripts = words_for(alloc, words, "SCRIPT")?;
+fn serve_job<'a>(arguments: &Arguments<'a, '_>) -> Result<ImageJob<'a>, WordsFault> {
+    let image = arguments.word("IMAGE")?;
+    let turns = arguments.number("turns", &TURNS)?;
+    let moment = arguments.moment()?;
+    let scripts = arguments.words("SCRIPT")?;
     if scripts.is_empty() {
-        return Err(missing(alloc, "SCRIPT"));
+        return Err(arguments.missing("SCRIPT"));
     }
     Ok(ImageJob::Serve(ServeJob {
         image,
         scripts,
-        out: words.get_str("out"),
+        out: arguments.given("out"),
         turns,
         moment,
     }))

@@ -80,82 +80,43 @@ pub(crate) const TIME_STAMP: NumberRange = NumberRange {
 const FLAG: Kind = Kind::Flag { excludes: &[] };
 
 /// An option with a number, and without a default.
-const NUMBER: Kind = Kind::Option {
-    value: "N",
-    default: None,
-};
+#[rattlefmt::skip]
+const NUMBER: Kind = Kind::Option { value: "N", default: None };
 
 /// An option with a number; the default is 0.
-const NUMBER_OR_ZERO: Kind = Kind::Option {
-    value: "N",
-    default: Some("0"),
-};
+#[rattlefmt::skip]
+const NUMBER_OR_ZERO: Kind = Kind::Option { value: "N", default: Some("0") };
 
-const DAYS_OR_ZERO: ArgumentRow = ArgumentRow {
-    name: "days",
-    kind: NUMBER_OR_ZERO,
-    help: "Days since 1 January 1978",
-};
+#[rattlefmt::skip]
+const DAYS_OR_ZERO: ArgumentRow = ArgumentRow { name: "days", kind: NUMBER_OR_ZERO, help: "Days since 1 January 1978" };
 
-const MINUTES_OR_ZERO: ArgumentRow = ArgumentRow {
-    name: "minutes",
-    kind: NUMBER_OR_ZERO,
-    help: "Minutes past midnight",
-};
+#[rattlefmt::skip]
+const MINUTES_OR_ZERO: ArgumentRow = ArgumentRow { name: "minutes", kind: NUMBER_OR_ZERO, help: "Minutes past midnight" };
 
-const TICKS_OR_ZERO: ArgumentRow = ArgumentRow {
-    name: "ticks",
-    kind: NUMBER_OR_ZERO,
-    help: "Ticks of 1/50 second past the minute",
-};
+#[rattlefmt::skip]
+const TICKS_OR_ZERO: ArgumentRow = ArgumentRow { name: "ticks", kind: NUMBER_OR_ZERO, help: "Ticks of 1/50 second past the minute" };
 
-const IMAGE: ArgumentRow = ArgumentRow {
-    name: "IMAGE",
-    kind: Kind::One,
-    help: "The image",
-};
+#[rattlefmt::skip]
+const IMAGE: ArgumentRow = ArgumentRow { name: "IMAGE", kind: Kind::One, help: "The image" };
 
-const FORCE: ArgumentRow = ArgumentRow {
-    name: "force",
-    kind: FLAG,
-    help: "Replaces files that are there",
-};
+#[rattlefmt::skip]
+const FORCE: ArgumentRow = ArgumentRow { name: "force", kind: FLAG, help: "Replaces files that are there" };
 
-const ENTRY: ArgumentRow = ArgumentRow {
-    name: "PATH",
-    kind: Kind::One,
-    help: "Its path, from the root",
-};
+#[rattlefmt::skip]
+const ENTRY: ArgumentRow = ArgumentRow { name: "PATH", kind: Kind::One, help: "Its path, from the root" };
 
 /// The arguments of each command that changes an image.
+#[rattlefmt::skip]
 pub(crate) const CHANGING: [ArgumentRow; 5] = [
-    ArgumentRow {
-        name: "out",
-        kind: Kind::Option {
-            value: "FILE",
-            default: None,
-        },
-        help: "Writes the image to this file, and leaves IMAGE as it is",
-    },
-    ArgumentRow {
-        name: "days",
-        kind: NUMBER,
-        help: "The moment: days since 1 January 1978. Without a number of it that of the clock (UTC)",
-    },
-    ArgumentRow {
-        name: "minutes",
-        kind: NUMBER,
-        help: "The moment: minutes past midnight",
-    },
-    ArgumentRow {
-        name: "ticks",
-        kind: NUMBER,
-        help: "The moment: ticks of 1/50 second past the minute",
-    },
+    ArgumentRow { name: "out", kind: Kind::Option { value: "FILE", default: None }, help: "Writes the image to this file, and leaves IMAGE as it is" },
+    ArgumentRow { name: "days", kind: NUMBER, help: "The moment: days since 1 January 1978. Without a number of it that of the clock (UTC)" },
+    ArgumentRow { name: "minutes", kind: NUMBER, help: "The moment: minutes past midnight" },
+    ArgumentRow { name: "ticks", kind: NUMBER, help: "The moment: ticks of 1/50 second past the minute" },
     IMAGE,
 ];
 
 /// All commands, in the order of the help.
+#[rattlefmt::skip]
 pub(crate) const COMMANDS: [CommandRow; 15] = [
     CommandRow {
         name: "blank",
@@ -163,41 +124,15 @@ pub(crate) const COMMANDS: [CommandRow; 15] = [
         examples: "Example:\n  adf_serve blank --ffs Work work.adf",
         changes: false,
         arguments: &[
-            ArgumentRow {
-                name: "ffs",
-                kind: FLAG,
-                help: "The Fast File System",
-            },
-            ArgumentRow {
-                name: "hd",
-                kind: Kind::Flag {
-                    excludes: &["blocks"],
-                },
-                help: "A high-density floppy, of 3,520 blocks",
-            },
-            ArgumentRow {
-                name: "blocks",
-                kind: NUMBER,
-                help: "How many blocks, from 16 to 101,602",
-            },
-            ArgumentRow {
-                name: "letters",
-                kind: FLAG,
-                help: "Takes NAME by its letters, which are those of ISO 8859-1",
-            },
+            ArgumentRow { name: "ffs", kind: FLAG, help: "The Fast File System" },
+            ArgumentRow { name: "hd", kind: Kind::Flag { excludes: &["blocks"] }, help: "A high-density floppy, of 3,520 blocks" },
+            ArgumentRow { name: "blocks", kind: NUMBER, help: "How many blocks, from 16 to 101,602" },
+            ArgumentRow { name: "letters", kind: FLAG, help: "Takes NAME by its letters, which are those of ISO 8859-1" },
             DAYS_OR_ZERO,
             MINUTES_OR_ZERO,
             TICKS_OR_ZERO,
-            ArgumentRow {
-                name: "NAME",
-                kind: Kind::One,
-                help: "The volume's name: 1 to 30 bytes without `/` and `:`",
-            },
-            ArgumentRow {
-                name: "FILE",
-                kind: Kind::One,
-                help: "The file to write",
-            },
+            ArgumentRow { name: "NAME", kind: Kind::One, help: "The volume's name: 1 to 30 bytes without `/` and `:`" },
+            ArgumentRow { name: "FILE", kind: Kind::One, help: "The file to write" },
         ],
     },
     CommandRow {
@@ -205,11 +140,7 @@ pub(crate) const COMMANDS: [CommandRow; 15] = [
         about: "Prints what DISK_INFO tells of an image, and whether it boots",
         examples: "Example:\n  adf_serve info work.adf",
         changes: false,
-        arguments: &[ArgumentRow {
-            name: "FILE",
-            kind: Kind::One,
-            help: "The image",
-        }],
+        arguments: &[ArgumentRow { name: "FILE", kind: Kind::One, help: "The image" }],
     },
     CommandRow {
         name: "check",
@@ -217,26 +148,10 @@ pub(crate) const COMMANDS: [CommandRow; 15] = [
         examples: "Examples:\n  adf_serve check work.adf\n  adf_serve check --jobs 4 --all floppies more/work.adf",
         changes: false,
         arguments: &[
-            ArgumentRow {
-                name: "jobs",
-                kind: NUMBER,
-                help: "How many images are checked at a time, as many as there are processors if left out",
-            },
-            ArgumentRow {
-                name: "all",
-                kind: FLAG,
-                help: "Prints every fault, not one alone",
-            },
-            ArgumentRow {
-                name: "json",
-                kind: FLAG,
-                help: "Prints a JSON object for each image",
-            },
-            ArgumentRow {
-                name: "FILE",
-                kind: Kind::OneOrMore,
-                help: "An image, or a directory: its files with the endings `.adf` and `.hdf`, and those of all directories below",
-            },
+            ArgumentRow { name: "jobs", kind: NUMBER, help: "How many images are checked at a time, as many as there are processors if left out" },
+            ArgumentRow { name: "all", kind: FLAG, help: "Prints every fault, not one alone" },
+            ArgumentRow { name: "json", kind: FLAG, help: "Prints a JSON object for each image" },
+            ArgumentRow { name: "FILE", kind: Kind::OneOrMore, help: "An image, or a directory: its files with the endings `.adf` and `.hdf`, and those of all directories below" },
         ],
     },
     CommandRow {
@@ -245,17 +160,9 @@ pub(crate) const COMMANDS: [CommandRow; 15] = [
         examples: "Examples:\n  adf_serve list work.adf\n  adf_serve list --letters work.adf s",
         changes: false,
         arguments: &[
-            ArgumentRow {
-                name: "letters",
-                kind: FLAG,
-                help: "Prints names as letters, which are those of ISO 8859-1",
-            },
+            ArgumentRow { name: "letters", kind: FLAG, help: "Prints names as letters, which are those of ISO 8859-1" },
             IMAGE,
-            ArgumentRow {
-                name: "PATH",
-                kind: Kind::Optional,
-                help: "A directory: what is in it, and no more",
-            },
+            ArgumentRow { name: "PATH", kind: Kind::Optional, help: "A directory: what is in it, and no more" },
         ],
     },
     CommandRow {
@@ -265,11 +172,7 @@ pub(crate) const COMMANDS: [CommandRow; 15] = [
         changes: false,
         arguments: &[
             IMAGE,
-            ArgumentRow {
-                name: "PATH",
-                kind: Kind::One,
-                help: "The file, from the root",
-            },
+            ArgumentRow { name: "PATH", kind: Kind::One, help: "The file, from the root" },
         ],
     },
     CommandRow {
@@ -278,33 +181,12 @@ pub(crate) const COMMANDS: [CommandRow; 15] = [
         examples: "Examples:\n  adf_serve extract --to here work.adf\n  adf_serve extract --meta --to here work.adf s c/dir\n  adf_serve extract --damaged --to here work.adf",
         changes: false,
         arguments: &[
-            ArgumentRow {
-                name: "to",
-                kind: Kind::Option {
-                    value: "DIR",
-                    default: Some("."),
-                },
-                help: "The directory to write to, which is made if need be",
-            },
-            ArgumentRow {
-                name: "meta",
-                kind: FLAG,
-                help: "Writes the protection, the date and the comment of each `x` to `x.uaem`",
-            },
+            ArgumentRow { name: "to", kind: Kind::Option { value: "DIR", default: Some(".") }, help: "The directory to write to, which is made if need be" },
+            ArgumentRow { name: "meta", kind: FLAG, help: "Writes the protection, the date and the comment of each `x` to `x.uaem`" },
             FORCE,
-            ArgumentRow {
-                name: "damaged",
-                kind: Kind::Flag {
-                    excludes: &["force", "PATH"],
-                },
-                help: "Writes all that can be trusted of an image that may be refused, and prints a line for each file and directory",
-            },
+            ArgumentRow { name: "damaged", kind: Kind::Flag { excludes: &["force", "PATH"] }, help: "Writes all that can be trusted of an image that may be refused, and prints a line for each file and directory" },
             IMAGE,
-            ArgumentRow {
-                name: "PATH",
-                kind: Kind::Any,
-                help: "What to write, with all that is in it; without any, all that is in the image",
-            },
+            ArgumentRow { name: "PATH", kind: Kind::Any, help: "What to write, with all that is in it; without any, all that is in the image" },
         ],
     },
     CommandRow {
@@ -313,20 +195,9 @@ pub(crate) const COMMANDS: [CommandRow; 15] = [
         examples: "Example:\n  adf_serve add --to s work.adf startup-sequence",
         changes: true,
         arguments: &[
-            ArgumentRow {
-                name: "to",
-                kind: Kind::Option {
-                    value: "PATH",
-                    default: None,
-                },
-                help: "The directory to put them into, the root if left out",
-            },
+            ArgumentRow { name: "to", kind: Kind::Option { value: "PATH", default: None }, help: "The directory to put them into, the root if left out" },
             FORCE,
-            ArgumentRow {
-                name: "FILE",
-                kind: Kind::OneOrMore,
-                help: "A file or directory of the host. What `x.uaem` tells of `x` is kept",
-            },
+            ArgumentRow { name: "FILE", kind: Kind::OneOrMore, help: "A file or directory of the host. What `x.uaem` tells of `x` is kept" },
         ],
     },
     CommandRow {
@@ -334,11 +205,7 @@ pub(crate) const COMMANDS: [CommandRow; 15] = [
         about: "Makes directories",
         examples: "Example:\n  adf_serve mkdir work.adf s c devs devs/keymaps",
         changes: true,
-        arguments: &[ArgumentRow {
-            name: "PATH",
-            kind: Kind::OneOrMore,
-            help: "A directory to make, from the root",
-        }],
+        arguments: &[ArgumentRow { name: "PATH", kind: Kind::OneOrMore, help: "A directory to make, from the root" }],
     },
     CommandRow {
         name: "delete",
@@ -346,21 +213,9 @@ pub(crate) const COMMANDS: [CommandRow; 15] = [
         examples: "Example:\n  adf_serve delete --all work.adf devs",
         changes: true,
         arguments: &[
-            ArgumentRow {
-                name: "all",
-                kind: FLAG,
-                help: "Deletes a directory with all that is in it",
-            },
-            ArgumentRow {
-                name: "force",
-                kind: FLAG,
-                help: "Deletes also what is protected from it",
-            },
-            ArgumentRow {
-                name: "PATH",
-                kind: Kind::OneOrMore,
-                help: "What to delete, from the root",
-            },
+            ArgumentRow { name: "all", kind: FLAG, help: "Deletes a directory with all that is in it" },
+            ArgumentRow { name: "force", kind: FLAG, help: "Deletes also what is protected from it" },
+            ArgumentRow { name: "PATH", kind: Kind::OneOrMore, help: "What to delete, from the root" },
         ],
     },
     CommandRow {
@@ -369,16 +224,8 @@ pub(crate) const COMMANDS: [CommandRow; 15] = [
         examples: "Example:\n  adf_serve rename work.adf s/old c/new",
         changes: true,
         arguments: &[
-            ArgumentRow {
-                name: "OLD",
-                kind: Kind::One,
-                help: "Its path, from the root",
-            },
-            ArgumentRow {
-                name: "NEW",
-                kind: Kind::One,
-                help: "Its new path, from the root",
-            },
+            ArgumentRow { name: "OLD", kind: Kind::One, help: "Its path, from the root" },
+            ArgumentRow { name: "NEW", kind: Kind::One, help: "Its new path, from the root" },
         ],
     },
     CommandRow {
@@ -388,11 +235,7 @@ pub(crate) const COMMANDS: [CommandRow; 15] = [
         changes: true,
         arguments: &[
             ENTRY,
-            ArgumentRow {
-                name: "LETTERS",
-                kind: Kind::Dashed,
-                help: "Letters of `hsparwed`, with or without dashes for those left out",
-            },
+            ArgumentRow { name: "LETTERS", kind: Kind::Dashed, help: "Letters of `hsparwed`, with or without dashes for those left out" },
         ],
     },
     CommandRow {
@@ -402,11 +245,7 @@ pub(crate) const COMMANDS: [CommandRow; 15] = [
         changes: true,
         arguments: &[
             ENTRY,
-            ArgumentRow {
-                name: "TEXT",
-                kind: Kind::One,
-                help: "The comment, of at most 79 letters",
-            },
+            ArgumentRow { name: "TEXT", kind: Kind::One, help: "The comment, of at most 79 letters" },
         ],
     },
     CommandRow {
@@ -414,22 +253,14 @@ pub(crate) const COMMANDS: [CommandRow; 15] = [
         about: "Gives the volume another name",
         examples: "Example:\n  adf_serve relabel work.adf Games",
         changes: true,
-        arguments: &[ArgumentRow {
-            name: "NAME",
-            kind: Kind::One,
-            help: "The name: 1 to 30 letters without `/` and `:`",
-        }],
+        arguments: &[ArgumentRow { name: "NAME", kind: Kind::One, help: "The name: 1 to 30 letters without `/` and `:`" }],
     },
     CommandRow {
         name: "boot",
         about: "Writes a boot block with the right sum, or takes the boot code away",
         examples: "Examples:\n  adf_serve boot work.adf boot.bin\n  adf_serve boot work.adf",
         changes: true,
-        arguments: &[ArgumentRow {
-            name: "FILE",
-            kind: Kind::Optional,
-            help: "The boot block, of at most 1,024 bytes; its first four become those of the image",
-        }],
+        arguments: &[ArgumentRow { name: "FILE", kind: Kind::Optional, help: "The boot block, of at most 1,024 bytes; its first four become those of the image" }],
     },
     CommandRow {
         name: "serve",
@@ -437,31 +268,13 @@ pub(crate) const COMMANDS: [CommandRow; 15] = [
         examples: "Example:\n  adf_serve serve --out after.adf work.adf one.txt two.txt",
         changes: false,
         arguments: &[
-            ArgumentRow {
-                name: "out",
-                kind: Kind::Option {
-                    value: "FILE",
-                    default: None,
-                },
-                help: "Writes the image to this file at the end",
-            },
-            ArgumentRow {
-                name: "turns",
-                kind: Kind::Option {
-                    value: "N",
-                    default: Some("100000000"),
-                },
-                help: "How often a client tries to put a packet, and to take its reply",
-            },
+            ArgumentRow { name: "out", kind: Kind::Option { value: "FILE", default: None }, help: "Writes the image to this file at the end" },
+            ArgumentRow { name: "turns", kind: Kind::Option { value: "N", default: Some("100000000") }, help: "How often a client tries to put a packet, and to take its reply" },
             DAYS_OR_ZERO,
             MINUTES_OR_ZERO,
             TICKS_OR_ZERO,
             IMAGE,
-            ArgumentRow {
-                name: "SCRIPT",
-                kind: Kind::OneOrMore,
-                help: "A file of lines, one for each client",
-            },
+            ArgumentRow { name: "SCRIPT", kind: Kind::OneOrMore, help: "A file of lines, one for each client" },
         ],
     },
 ];

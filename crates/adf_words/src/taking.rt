@@ -1,72 +1,58 @@
-//! The jobs of the commands that read an image and do not change it.
+//! From the arguments of a command that reads an image to its job.
+use crate::arguments::Arguments;
 use crate::fault::WordsFault;
+use crate::job::ImageJob;
 use crate::letters::letters_of;
-use crate::numbers::jobs_of;
-use crate::wanted::{letters_for, missing, paths_for, word_for, words_for};
-use adf_jobs::{CheckJob, ExtractJob, ImageJob, ListJob, SalvageJob};
-use clap::ArgMatches;
-use std::alloc::Global;
+use crate::query::{CheckJob, ExtractJob, ListJob, SalvageJob};
 
 /// The job of `check`.
-pub(crate) fn check_job<'a>(
-    alloc: Global,
-    words: &ArgMatches<'a>,
-) -> Result<ImageJob<'a>, WordsFault> {
-    let jobs = jobs_of(alloc, words)?;
-    let files = words_for(alloc, words, "FILE")?;
+pub(crate) fn check_job<'a>(arguments: &Arguments<'a, '_>) -> Result<ImageJob<'a>, WordsFault> {
+    let jobs = arguments.jobs()?;
+    let files = arguments.words("FILE")?;
     if files.is_empty() {
-        return Err(missing(alloc, "FILE"));
+        return Err(arguments.missing("FILE"));
     }
     Ok(ImageJob::Check(CheckJob {
         files,
-        all: words.get_flag("all"),
-        json: words.get_flag("json"),
+        all: arguments.flag("all"),
+        json: arguments.flag("json"),
         jobs,
     }))
 }
 
 /// The job of `list`.
-pub(crate) fn list_job<'a>(
-    alloc: Global,
-    words: &ArgMatches<'a>,
-) -> Result<ImageJob<'a>, WordsFault> {
-    let path = match words.get_str("PATH") {
-        Some(path) => Some(letters_of(alloc, path)?),
+pub(crate) fn list_job<'a>(arguments: &Arguments<'a, '_>) -> Result<ImageJob<'a>, WordsFault> {
+    let path = match arguments.given("PATH") {
+        Some(path) => Some(letters_of(arguments.alloc, path)?),
         None => None,
     };
     Ok(ImageJob::List(ListJob {
-        image: word_for(alloc, words, "IMAGE")?,
+        image: arguments.word("IMAGE")?,
         path,
-        letters: words.get_flag("letters"),
+        letters: arguments.flag("letters"),
     }))
 }
 
 /// The job of `print`.
-pub(crate) fn print_job<'a>(
-    alloc: Global,
-    words: &ArgMatches<'a>,
-) -> Result<ImageJob<'a>, WordsFault> {
+pub(crate) fn print_job<'a>(arguments: &Arguments<'a, '_>) -> Result<ImageJob<'a>, WordsFault> {
     Ok(ImageJob::Print {
-        image: word_for(alloc, words, "IMAGE")?,
-        path: letters_for(alloc, words, "PATH")?,
+        image: arguments.word("IMAGE")?,
+        path: arguments.letters("PATH")?,
     })
 }
 
 /// The job of `extract`.
-pub(crate) fn extract_job<'a>(
-    alloc: Global,
-    words: &ArgMatches<'a>,
-) -> Result<ImageJob<'a>, WordsFault> {
-    let image = word_for(alloc, words, "IMAGE")?;
-    let (to, meta) = (words.get_str("to").unwrap_or("."), words.get_flag("meta"));
-    if words.get_flag("damaged") {
+pub(crate) fn extract_job<'a>(arguments: &Arguments<'a, '_>) -> Result<ImageJob<'a>, WordsFault> {
+    let image = arguments.word("IMAGE")?;
+    let (to, meta) = (arguments.given("to").unwrap_or("."), arguments.flag("meta"));
+    if arguments.flag("damaged") {
         return Ok(ImageJob::Salvage(SalvageJob { image, to, meta }));
     }
     Ok(ImageJob::Extract(ExtractJob {
         image,
-        paths: paths_for(alloc, words)?,
+        paths: arguments.paths()?,
         to,
         meta,
-        force: words.get_flag("force"),
+        force: arguments.flag("force"),
     }))
 }

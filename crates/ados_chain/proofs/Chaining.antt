@@ -2,8 +2,9 @@
 use Rattle.std.proofs.Common.{◌≡◌, ◌≢◌, ℕ, ◌+◌, ◌<◌, ◌≤◌, ◌⊎◌, inl, inr, List, [], ◌∷◌, ◌++◌, length, Contains, refl, sym, ap, ◌∙◌, subst, arith}
 use Rattle.std.proofs.lemmas.Bool.{cases_eq}
 use Rattle.std.proofs.lemmas.List.Elements.{Contains-append_left}
-use Rattle.adf_block.specs.Image.{block_count, root_key, Chained, table_entry}
-use Rattle.adf_block.specs.Layout.{next_in_chain, first_slot}
+use Rattle.adf_block.specs.Image.{block_count, root_key, Chained}
+use Rattle.adf_block.specs.Fields.{table_entry}
+use Rattle.adf_block.specs.declared.layout.TheConstants.{FIRST_SLOT, NEXT_IN_CHAIN}
 use Rattle.ados_name.specs.Name.{IsName, slot}
 use Rattle.ados_chain.specs.Chains.{name_at, slot_at, IsEntryBlock, LawfulChains}
 use Rattle.ados_chain.specs.Relinks.{link_block, link_long, AtLinks, Relinks}
@@ -30,15 +31,15 @@ module _ (image : List ℕ) (dir : ℕ) (chains : ℕ → List ℕ) (h : LawfulC
 -- a directory has only one list of chains
 pub chains_same : (image : List ℕ) (dir : ℕ) (chains other : ℕ → List ℕ) → LawfulChains image dir chains → LawfulChains image dir other → (s : ℕ) → s < 72 → chains s ≡ other s
 chains_same image dir chains other h g s l =
-    Chained-unique image next_in_chain (table_entry image dir s) (chains s) (other s) (none_zero image dir chains h s l) (none_zero image dir other g s l) (h.spelled s l) (g.spelled s l)
+    Chained-unique image NEXT_IN_CHAIN (table_entry image dir s) (chains s) (other s) (none_zero image dir chains h s l) (none_zero image dir other g s l) (h.spelled s l) (g.spelled s l)
 
 -- the link after some entries of a slot is not in the hash table at another slot
-link_long-other : (s t : ℕ) (keys : List ℕ) → t < 72 → t ≢ s → first_slot + t ≢ link_long (first_slot + s) keys
+link_long-other : (s t : ℕ) (keys : List ℕ) → t < 72 → t ≢ s → FIRST_SLOT + t ≢ link_long (FIRST_SLOT + s) keys
 link_long-other s t [] l n e = n (omega arith)
 link_long-other s t (key ∷ keys) l n e = omega (arith, link_long-entry keys, e)
 
 -- an entry that is not the last of these keeps its next-in-chain long, if only the link after them changes
-pub entry_apart : (dir s : ℕ) (keys : List ℕ) (b : ℕ) → s < 72 → ¬ Contains keys b → (b ≢ link_block dir keys) ⊎ (next_in_chain ≢ link_long (first_slot + s) keys)
+pub entry_apart : (dir s : ℕ) (keys : List ℕ) (b : ℕ) → s < 72 → ¬ Contains keys b → (b ≢ link_block dir keys) ⊎ (NEXT_IN_CHAIN ≢ link_long (FIRST_SLOT + s) keys)
 entry_apart dir s [] b l n = inr (λ e. omega (arith, e))
 entry_apart dir s (key ∷ keys) b l n = inl (λ e. n (subst (Contains (key ∷ keys)) (sym e) (link_block-in key keys)))
 
@@ -55,11 +56,11 @@ entry-kept old new dir key count name e = record {
 pub record NewRest (dir s key next : ℕ) (chains chains' : ℕ → List ℕ) (front rest rest' : List ℕ) (old new : List ℕ) : Type 0 where
   pub small : s < 72
   pub split : chains s ≡ front ++ rest
-  pub relinks : Relinks (link_block dir front) (link_long (first_slot + s) front) next key old new
+  pub relinks : Relinks (link_block dir front) (link_long (FIRST_SLOT + s) front) next key old new
   pub key_not_dir : key ≢ dir
   pub key_not_before : ¬ Contains front key
   pub key_elsewhere : (t : ℕ) → t < 72 → t ≢ s → ¬ Contains (chains t) key
-  pub spelled : Chained new next_in_chain next rest'
+  pub spelled : Chained new NEXT_IN_CHAIN next rest'
   pub once : Once (front ++ rest')
   pub entry : (k : ℕ) → Contains (front ++ rest') k → IsEntryBlock old dir k
   pub slotted : (k : ℕ) → Contains (front ++ rest') k → slot_at old k ≡ s
@@ -67,35 +68,35 @@ pub record NewRest (dir s key next : ℕ) (chains chains' : ℕ → List ℕ) (f
   pub others : (t : ℕ) → t < 72 → t ≢ s → chains' t ≡ chains t
 
 module _ (dir s key next : ℕ) (chains chains' : ℕ → List ℕ) (front rest rest' : List ℕ) (old new : List ℕ) (h : LawfulChains old dir chains) (r : NewRest dir s key next chains chains' front rest rest' old new) where
-  at : IsLink (link_long (first_slot + s) front)
+  at : IsLink (link_long (FIRST_SLOT + s) front)
   at = link_long-is s front r.small
 
-  kept : KeepsLongs (link_block dir front) (link_long (first_slot + s) front) key old new
-  kept = longs-kept (link_block dir front) (link_long (first_slot + s) front) key old new at r.relinks.rest
+  kept : KeepsLongs (link_block dir front) (link_long (FIRST_SLOT + s) front) key old new
+  kept = longs-kept (link_block dir front) (link_long (FIRST_SLOT + s) front) key old new at r.relinks.rest
 
   count : block_count new ≡ block_count old
-  count = same_count (AtLinks (link_block dir front) (link_long (first_slot + s) front) key) old new r.relinks.rest
+  count = same_count (AtLinks (link_block dir front) (link_long (FIRST_SLOT + s) front) key) old new r.relinks.rest
 
   name : (k : ℕ) → IsEntryBlock old dir k → name_at new k ≡ name_at old k
-  name k e = name-kept (link_block dir front) (link_long (first_slot + s) front) key old new at r.relinks.rest k e.inside.1 e.name
+  name k e = name-kept (link_block dir front) (link_long (FIRST_SLOT + s) front) key old new at r.relinks.rest k e.inside.1 e.name
 
   front_in : (k : ℕ) → Contains front k → Contains (chains s) k
   front_in k m = subst (λ (xs : List ℕ). Contains xs k) (sym r.split) (Contains-append_left front rest k m)
 
-  spelled_here : Chained new next_in_chain (table_entry new dir s) (front ++ rest')
+  spelled_here : Chained new NEXT_IN_CHAIN (table_entry new dir s) (front ++ rest')
   spelled_here =
-      Chained-relinked old new dir (first_slot + s) key front rest rest' (omega (arith, r.small)) (omega arith)
+      Chained-relinked old new dir (FIRST_SLOT + s) key front rest rest' (omega (arith, r.small)) (omega arith)
       (λ m. dir_absent old dir chains h s r.small (front_in dir m))
       (Once-front front rest' r.once) r.key_not_dir r.key_not_before kept
-      (subst (λ (xs : List ℕ). Chained old next_in_chain (table_entry old dir s) xs) r.split (h.spelled s r.small))
-      (subst (λ (first : ℕ). Chained new next_in_chain first rest') (sym r.relinks.link) r.spelled)
+      (subst (λ (xs : List ℕ). Chained old NEXT_IN_CHAIN (table_entry old dir s) xs) r.split (h.spelled s r.small))
+      (subst (λ (first : ℕ). Chained new NEXT_IN_CHAIN first rest') (sym r.relinks.link) r.spelled)
 
-  spelled_there : (t : ℕ) → t < 72 → t ≢ s → Chained new next_in_chain (table_entry new dir t) (chains t)
+  spelled_there : (t : ℕ) → t < 72 → t ≢ s → Chained new NEXT_IN_CHAIN (table_entry new dir t) (chains t)
   spelled_there t l n =
-      let first : table_entry new dir t ≡ table_entry old dir t = kept dir (first_slot + t) (omega arith) (omega arith) (inr (link_long-other s t front l n)) (inl (λ e. r.key_not_dir (sym e))) in
-      Chained-kept old new next_in_chain (table_entry new dir t) (chains t)
-      (λ b m. kept b next_in_chain (omega arith) (omega arith) (entry_apart dir s front b r.small (λ c. n (one_chain old dir chains h t s b l r.small m (front_in b c)))) (inl (λ e. r.key_elsewhere t l n (subst (Contains (chains t)) e m))))
-      (subst (λ (x : ℕ). Chained old next_in_chain x (chains t)) (sym first) (h.spelled t l))
+      let first : table_entry new dir t ≡ table_entry old dir t = kept dir (FIRST_SLOT + t) (omega arith) (omega arith) (inr (link_long-other s t front l n)) (inl (λ e. r.key_not_dir (sym e))) in
+      Chained-kept old new NEXT_IN_CHAIN (table_entry new dir t) (chains t)
+      (λ b m. kept b NEXT_IN_CHAIN (omega arith) (omega arith) (entry_apart dir s front b r.small (λ c. n (one_chain old dir chains h t s b l r.small m (front_in b c)))) (inl (λ e. r.key_elsewhere t l n (subst (Contains (chains t)) e m))))
+      (subst (λ (x : ℕ). Chained old NEXT_IN_CHAIN x (chains t)) (sym first) (h.spelled t l))
 
   in_new : (t : ℕ) → t < 72 → (P : ℕ → List ℕ → Type 0) → P s (front ++ rest') → (t ≢ s → P t (chains t)) → P t (chains' t)
   in_new t l P p q =
@@ -110,7 +111,7 @@ module _ (dir s key next : ℕ) (chains chains' : ℕ → List ℕ) (front rest 
   pub lawful_after : LawfulChains new dir chains'
   lawful_after = record {
     inside = (h.inside.0, omega (arith, h.inside.1, count));
-    spelled = λ t l. in_new t l (λ x xs. Chained new next_in_chain (table_entry new dir x) xs) spelled_here (spelled_there t l);
+    spelled = λ t l. in_new t l (λ x xs. Chained new NEXT_IN_CHAIN (table_entry new dir x) xs) spelled_here (spelled_there t l);
     once = λ t l. in_new t l (λ x xs. Once xs) r.once (λ n. h.once t l);
     entry = λ t k l m. let e = (old_entry t l k m).0 in entry-kept old new dir k count (name k e) e;
     slotted = λ t k l m. let e = old_entry t l k m in ap slot (name k e.0) ∙ e.1;

@@ -4,8 +4,9 @@ use Rattle.std.proofs.lemmas.Bool.{ne_eqb}
 use Rattle.std.proofs.lemmas.List.Elements.{Contains-append_left, Contains-append_right, Contains-append_cases, Contains-push_cases, Contains-get_or}
 use Rattle.std.proofs.lemmas.List.Quantifiers.{all_pairs_push}
 use Rattle.std.proofs.lemmas.List.Kept.{AllPairs-filter}
-use Rattle.adf_block.specs.Image.{long, Chained, table_entry}
-use Rattle.adf_block.specs.Layout.{next_in_chain, first_slot}
+use Rattle.adf_block.specs.Image.{long, Chained}
+use Rattle.adf_block.specs.Fields.{table_entry}
+use Rattle.adf_block.specs.declared.layout.TheConstants.{FIRST_SLOT, NEXT_IN_CHAIN}
 use Rattle.ados_name.specs.Name.{slot}
 use Rattle.ados_chain.specs.Chains.{slot_at, IsEntryBlock, LawfulChains, InChains, with_last, without}
 use Rattle.ados_chain.specs.Relinks.{link_block, link_long, Relinks, InsertsLast, Unlinks}
@@ -29,7 +30,7 @@ with_last-other chains s key t n = rw (ne_eqb t s n) refl
 
 -- an entry is appended
 pub inserted : (old new : List ℕ) (dir key : ℕ) (chains : ℕ → List ℕ) → LawfulChains old dir chains → IsEntryBlock old dir key → ¬ InChains chains key
-    → Relinks (link_block dir (chains (slot_at old key))) (link_long (first_slot + slot_at old key) (chains (slot_at old key))) key key old new
+    → Relinks (link_block dir (chains (slot_at old key))) (link_long (FIRST_SLOT + slot_at old key) (chains (slot_at old key))) key key old new
     → InsertsLast dir key chains old new
 inserted old new dir key chains h e absent r = record {
   relinks = r;
@@ -52,7 +53,7 @@ inserted old new dir key chains h e absent r = record {
     small : slot_at old key < 72
     small = slot_at-small old key
 
-module _ (old new : List ℕ) (dir key : ℕ) (chains : ℕ → List ℕ) (front back : List ℕ) (h : LawfulChains old dir chains) (split : chains (slot_at old key) ≡ front ++ key ∷ back) (r : Relinks (link_block dir front) (link_long (first_slot + slot_at old key) front) (long old key next_in_chain) key old new) where
+module _ (old new : List ℕ) (dir key : ℕ) (chains : ℕ → List ℕ) (front back : List ℕ) (h : LawfulChains old dir chains) (split : chains (slot_at old key) ≡ front ++ key ∷ back) (r : Relinks (link_block dir front) (link_long (FIRST_SLOT + slot_at old key) front) (long old key NEXT_IN_CHAIN) key old new) where
   s : ℕ
   s = slot_at old key
 
@@ -76,13 +77,13 @@ module _ (old new : List ℕ) (dir key : ℕ) (chains : ℕ → List ℕ) (front
   listed = in_chain key (Contains-append_right front (key ∷ back) key (Contains-here key back))
 
   -- the links after the removed entry are the same
-  rest_spelled : Chained new next_in_chain (long old key next_in_chain) back
+  rest_spelled : Chained new NEXT_IN_CHAIN (long old key NEXT_IN_CHAIN) back
   rest_spelled =
-      let spelled = subst (λ (xs : List ℕ). Chained old next_in_chain (table_entry old dir (slot_at old key)) xs) split (h.spelled (slot_at old key) small) in
-      let behind : Chained old next_in_chain (long old key next_in_chain) back = (Chained-behind old dir (first_slot + slot_at old key) front (key ∷ back) spelled).1 in
-      Chained-kept old new next_in_chain (long old key next_in_chain) back
+      let spelled = subst (λ (xs : List ℕ). Chained old NEXT_IN_CHAIN (table_entry old dir (slot_at old key)) xs) split (h.spelled (slot_at old key) small) in
+      let behind : Chained old NEXT_IN_CHAIN (long old key NEXT_IN_CHAIN) back = (Chained-behind old dir (FIRST_SLOT + slot_at old key) front (key ∷ back) spelled).1 in
+      Chained-kept old new NEXT_IN_CHAIN (long old key NEXT_IN_CHAIN) back
       (λ b m.
-      longs-kept (link_block dir front) (link_long (first_slot + slot_at old key) front) key old new (link_long-is (slot_at old key) front small) r.rest b next_in_chain (omega arith) (omega arith)
+      longs-kept (link_block dir front) (link_long (FIRST_SLOT + slot_at old key) front) key old new (link_long-is (slot_at old key) front small) r.rest b NEXT_IN_CHAIN (omega arith) (omega arith)
       (entry_apart dir (slot_at old key) front b small (λ f. Once-apart front (key ∷ back) b once f (Contains-later key back b m)))
       (inl (λ e. Once-behind front key back once (subst (Contains back) e m))))
       behind
@@ -98,7 +99,7 @@ module _ (old new : List ℕ) (dir key : ℕ) (chains : ℕ → List ℕ) (front
     back = back;
     split = split;
     relinks = r;
-    lawful = lawful_after dir (slot_at old key) key (long old key next_in_chain) chains (without chains key) front (key ∷ back) back old new h (record {
+    lawful = lawful_after dir (slot_at old key) key (long old key NEXT_IN_CHAIN) chains (without chains key) front (key ∷ back) back old new h (record {
       small = small;
       split = split;
       relinks = r;

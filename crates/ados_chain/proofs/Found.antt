@@ -1,8 +1,9 @@
 -- A link that was found, in terms of its chain; and what follows an entry.
 use Rattle.std.proofs.Common.{◌≡◌, ◌≢◌, ℕ, ◌+◌, ◌-◌, ◌<◌, ◌⊎◌, inl, inr, List, [], ◌∷◌, ◌++◌, length, get_or, Contains, Some, refl, sym, ap, ◌∙◌, subst, arith, append_assoc, append-nil}
 use Rattle.std.proofs.lemmas.List.Elements.{Contains-append_left, Contains-append_right, Contains-append_cases}
-use Rattle.adf_block.specs.Image.{block_count, long, Chained, table_entry}
-use Rattle.adf_block.specs.Layout.{next_in_chain, first_slot}
+use Rattle.adf_block.specs.Image.{block_count, long, Chained}
+use Rattle.adf_block.specs.Fields.{table_entry}
+use Rattle.adf_block.specs.declared.layout.TheConstants.{FIRST_SLOT, NEXT_IN_CHAIN}
 use Rattle.ados_chain.specs.Chains.{LawfulChains, slot_at, InChains, chains_from, entries_of}
 use Rattle.ados_model.specs.Tree.{behind}
 use Rattle.ados_chain.specs.Look.{first_left}
@@ -51,10 +52,10 @@ module _ (image : List ℕ) (dir : ℕ) (chains : ℕ → List ℕ) (h : LawfulC
   block_apart key n m e = elim block_cases [ inl d ↦ n (sym e ∙ d) | inr f ↦ m (subst (Contains to.front) e f) ]
 
   -- the key in the link
-  pub held : Chained image next_in_chain (long image block i) to.rest
+  pub held : Chained image NEXT_IN_CHAIN (long image block i) to.rest
   held =
-      let behind = Chained-behind image dir (first_slot + s) to.front to.rest (subst (λ (xs : List ℕ). Chained image next_in_chain (table_entry image dir s) xs) to.split (h.spelled s small)) in
-      subst (λ (b : ℕ). Chained image next_in_chain (long image b i) to.rest) (sym to.at_block) (subst (λ (j : ℕ). Chained image next_in_chain (long image (link_block dir to.front) j) to.rest) (sym to.at_long) behind)
+      let behind = Chained-behind image dir (FIRST_SLOT + s) to.front to.rest (subst (λ (xs : List ℕ). Chained image NEXT_IN_CHAIN (table_entry image dir s) xs) to.split (h.spelled s small)) in
+      subst (λ (b : ℕ). Chained image NEXT_IN_CHAIN (long image b i) to.rest) (sym to.at_block) (subst (λ (j : ℕ). Chained image NEXT_IN_CHAIN (long image (link_block dir to.front) j) to.rest) (sym to.at_long) behind)
 
   -- an entry of the chain is the first after the link
   pub entry_follows : Contains (chains s) entry → (back : List ℕ) × (chains s ≡ to.front ++ entry ∷ back)
@@ -68,14 +69,14 @@ module _ (image : List ℕ) (dir : ℕ) (chains : ℕ → List ℕ) (h : LawfulC
   pub held_listed : long image block i ≡ entry → entry ≢ 0 → Contains (chains s) entry
   held_listed e n = go to.rest to.split held
     where
-      go : (rest : List ℕ) → chains s ≡ to.front ++ rest → Chained image next_in_chain (long image block i) rest → Contains (chains s) entry
+      go : (rest : List ℕ) → chains s ≡ to.front ++ rest → Chained image NEXT_IN_CHAIN (long image block i) rest → Contains (chains s) entry
       go [] f c = absurd (n (sym e ∙ c))
       go (key ∷ back) f c = subst (λ (xs : List ℕ). Contains xs entry) (sym f) (Contains-append_right to.front (key ∷ back) entry (subst (λ (k : ℕ). Contains (key ∷ back) k) (sym c.0 ∙ e) (Contains-here key back)))
 
   pub listed_held : Contains (chains s) entry → long image block i ≡ entry
   listed_held m = go to.rest to.split to.begins held
     where
-      go : (rest : List ℕ) → chains s ≡ to.front ++ rest → BeginsWith entry rest → Chained image next_in_chain (long image block i) rest → long image block i ≡ entry
+      go : (rest : List ℕ) → chains s ≡ to.front ++ rest → BeginsWith entry rest → Chained image NEXT_IN_CHAIN (long image block i) rest → long image block i ≡ entry
       go [] e b c = absurd (to.absent (subst (λ (xs : List ℕ). Contains xs entry) (e ∙ append-nil to.front) m))
       go (key ∷ back) e b c = c.0 ∙ b
 
@@ -89,12 +90,12 @@ leads_to_end image dir chains h s small block i to = go to.rest to.split to.begi
 
 module _ (image : List ℕ) (dir : ℕ) (chains : ℕ → List ℕ) (h : LawfulChains image dir chains) (s key : ℕ) (small : s < 72) (m : Contains (chains s) key) where
   -- an entry is followed by the later entries of its chain, then by those of the next slots
-  behind-entry : (back : List ℕ) × (Chained image next_in_chain (long image key next_in_chain) back) × ((k : ℕ) → Contains back k → Contains (chains s) k)
+  behind-entry : (back : List ℕ) × (Chained image NEXT_IN_CHAIN (long image key NEXT_IN_CHAIN) back) × ((k : ℕ) → Contains back k → Contains (chains s) k)
       × (behind key (entries_of chains) ≡ Some (back ++ chains_from chains (s + 1) (72 - (s + 1))))
   behind-entry =
       let at = Contains-split (chains s) key m in
-      let spelled = subst (λ (xs : List ℕ). Chained image next_in_chain (table_entry image dir s) xs) at.2 (h.spelled s small) in
-      (at.1, (Chained-behind image dir (first_slot + s) at.0 (key ∷ at.1) spelled).1, λ k b. subst (λ (xs : List ℕ). Contains xs k) (sym at.2) (Contains-append_right at.0 (key ∷ at.1) k (Contains-later key at.1 k b)), after at.0 at.1 at.2)
+      let spelled = subst (λ (xs : List ℕ). Chained image NEXT_IN_CHAIN (table_entry image dir s) xs) at.2 (h.spelled s small) in
+      (at.1, (Chained-behind image dir (FIRST_SLOT + s) at.0 (key ∷ at.1) spelled).1, λ k b. subst (λ (xs : List ℕ). Contains xs k) (sym at.2) (Contains-append_right at.0 (key ∷ at.1) k (Contains-later key at.1 k b)), after at.0 at.1 at.2)
     where
       after : (front back : List ℕ) → chains s ≡ front ++ key ∷ back → behind key (entries_of chains) ≡ Some (back ++ chains_from chains (s + 1) (72 - (s + 1)))
       after front back split =
@@ -109,18 +110,18 @@ module _ (image : List ℕ) (dir : ℕ) (chains : ℕ → List ℕ) (h : LawfulC
           ∙ behind-found (before ++ front) key (back ++ later) apart
 
   -- an entry that is not the last of its chain
-  pub behind-more : (next : ℕ) → next ≡ long image key next_in_chain → next ≢ 0 → first_left (behind key (entries_of chains)) ≡ Entry next
+  pub behind-more : (next : ℕ) → next ≡ long image key NEXT_IN_CHAIN → next ≢ 0 → first_left (behind key (entries_of chains)) ≡ Entry next
   behind-more next e n = let a = behind-entry in ap first_left a.3 ∙ go a.0 a.1
     where
-      go : (back : List ℕ) → Chained image next_in_chain (long image key next_in_chain) back → first_left (Some (back ++ chains_from chains (s + 1) (72 - (s + 1)))) ≡ Entry next
+      go : (back : List ℕ) → Chained image NEXT_IN_CHAIN (long image key NEXT_IN_CHAIN) back → first_left (Some (back ++ chains_from chains (s + 1) (72 - (s + 1)))) ≡ Entry next
       go [] c = absurd (n (e ∙ c))
       go (k ∷ back) c = ap Entry (sym c.0 ∙ sym e)
 
   -- the last entry of its chain
-  pub behind-last : long image key next_in_chain ≡ 0 → behind key (entries_of chains) ≡ Some (chains_from chains (s + 1) (72 - (s + 1)))
+  pub behind-last : long image key NEXT_IN_CHAIN ≡ 0 → behind key (entries_of chains) ≡ Some (chains_from chains (s + 1) (72 - (s + 1)))
   behind-last e = let a = behind-entry in a.3 ∙ go a.0 a.1 a.2
     where
-      go : (back : List ℕ) → Chained image next_in_chain (long image key next_in_chain) back → ((k : ℕ) → Contains back k → Contains (chains s) k)
+      go : (back : List ℕ) → Chained image NEXT_IN_CHAIN (long image key NEXT_IN_CHAIN) back → ((k : ℕ) → Contains back k → Contains (chains s) k)
           → Some (back ++ chains_from chains (s + 1) (72 - (s + 1))) ≡ Some (chains_from chains (s + 1) (72 - (s + 1)))
       go [] c sub = refl
       go (k ∷ back) c sub = absurd (none_zero image dir chains h s small k (sub k (Contains-here k back)) (sym c.0 ∙ e))

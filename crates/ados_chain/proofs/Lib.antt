@@ -1,5 +1,4 @@
--- Links, a change of one link, the order of a directory, walks and their results. `Kept`, `Rising` and `Checked` are
--- for the crates above.
+-- Links, a change of one link, the order of a directory, walks and their results. `Kept` is for the crates above.
 pub mod Spelling
 pub mod Framing
 pub mod Chaining
@@ -8,5 +7,3 @@ pub mod Order
 pub mod Walks
 pub mod Found
 pub mod Kept
-pub mod Rising
-mod Checked

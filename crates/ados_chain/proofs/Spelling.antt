@@ -2,7 +2,7 @@
 use Rattle.std.proofs.Common.{◌≡◌, ◌≢◌, ℕ, zero, suc, ◌<◌, ◌≤◌, ◌⊎◌, inl, cond, ◌==◌, List, [], ◌∷◌, ◌++◌, length, Contains, refl, sym, ap, ap₂, ◌∙◌, subst, arith}
 use Rattle.std.proofs.lemmas.Bool.{ne_eqb}
 use Rattle.adf_block.specs.Image.{long, Chained}
-use Rattle.adf_block.specs.Layout.{next_in_chain, sum_long}
+use Rattle.adf_block.specs.declared.layout.TheConstants.{CHECKSUM, NEXT_IN_CHAIN}
 use Rattle.ados_chain.specs.Relinks.{link_block, link_long}
 use Rattle.ados_model.proofs.KeyLists.{Once, Once-tail, Once-head, Contains-here, Contains-later}
 
@@ -30,16 +30,16 @@ Chained-kept old new link first (x ∷ xs) same c =
     (c.0, Chained-kept old new link (long new x link) xs (λ b m. same b (Contains-later x xs b m)) (subst (λ (n : ℕ). Chained old link n xs) (sym (same x (Contains-here x xs))) c.1))
 
 -- the link after the first entries of a list starts the rest
-pub Chained-behind : (image : List ℕ) (block i : ℕ) (front rest : List ℕ) → Chained image next_in_chain (long image block i) (front ++ rest) → Chained image next_in_chain (long image (link_block block front) (link_long i front)) rest
+pub Chained-behind : (image : List ℕ) (block i : ℕ) (front rest : List ℕ) → Chained image NEXT_IN_CHAIN (long image block i) (front ++ rest) → Chained image NEXT_IN_CHAIN (long image (link_block block front) (link_long i front)) rest
 Chained-behind image block i [] rest c = c
-Chained-behind image block i (key ∷ keys) rest c = Chained-behind image key next_in_chain keys rest c.1
+Chained-behind image block i (key ∷ keys) rest c = Chained-behind image key NEXT_IN_CHAIN keys rest c.1
 
 -- the link after some entries is in the last of them
 pub link_block-in : (key : ℕ) (keys : List ℕ) → Contains (key ∷ keys) (link_block key keys)
 link_block-in key [] = Contains-here key []
 link_block-in key (next ∷ keys) = Contains-later key (next ∷ keys) (link_block next keys) (link_block-in next keys)
 
-pub link_long-entry : (keys : List ℕ) → link_long next_in_chain keys ≡ next_in_chain
+pub link_long-entry : (keys : List ℕ) → link_long NEXT_IN_CHAIN keys ≡ NEXT_IN_CHAIN
 link_long-entry [] = refl
 link_long-entry (key ∷ keys) = link_long-entry keys
 
@@ -47,34 +47,34 @@ pub link_block-push : (block : ℕ) (keys : List ℕ) (key : ℕ) → link_block
 link_block-push block [] key = refl
 link_block-push block (next ∷ keys) key = link_block-push next keys key
 
-pub link_long-push : (i : ℕ) (keys : List ℕ) (key : ℕ) → link_long i (keys ++ key ∷ []) ≡ next_in_chain
+pub link_long-push : (i : ℕ) (keys : List ℕ) (key : ℕ) → link_long i (keys ++ key ∷ []) ≡ NEXT_IN_CHAIN
 link_long-push i [] key = refl
-link_long-push i (next ∷ keys) key = link_long-push next_in_chain keys key
+link_long-push i (next ∷ keys) key = link_long-push NEXT_IN_CHAIN keys key
 
 -- every long is unchanged, except long i of a block, the next-in-chain long of a key, and checksums
 abbrev pub KeepsLongs : ℕ → ℕ → ℕ → List ℕ → List ℕ → Type 0
-KeepsLongs block i key old new = (b j : ℕ) → j < 128 → j ≢ sum_long → (b ≢ block) ⊎ (j ≢ i) → (b ≢ key) ⊎ (j ≢ next_in_chain) → long new b j ≡ long old b j
+KeepsLongs block i key old new = (b j : ℕ) → j < 128 → j ≢ CHECKSUM → (b ≢ block) ⊎ (j ≢ i) → (b ≢ key) ⊎ (j ≢ NEXT_IN_CHAIN) → long new b j ≡ long old b j
 
 -- a new rest after the link, and the same entries before it
-pub Chained-relinked : (old new : List ℕ) (block i key : ℕ) (front rest rest' : List ℕ) → i < 128 → i ≢ sum_long → ¬ Contains front block → Once front → key ≢ block → ¬ Contains front key
+pub Chained-relinked : (old new : List ℕ) (block i key : ℕ) (front rest rest' : List ℕ) → i < 128 → i ≢ CHECKSUM → ¬ Contains front block → Once front → key ≢ block → ¬ Contains front key
     → KeepsLongs (link_block block front) (link_long i front) key old new
-    → Chained old next_in_chain (long old block i) (front ++ rest)
-    → Chained new next_in_chain (long new (link_block block front) (link_long i front)) rest'
-    → Chained new next_in_chain (long new block i) (front ++ rest')
+    → Chained old NEXT_IN_CHAIN (long old block i) (front ++ rest)
+    → Chained new NEXT_IN_CHAIN (long new (link_block block front) (link_long i front)) rest'
+    → Chained new NEXT_IN_CHAIN (long new block i) (front ++ rest')
 Chained-relinked old new block i key [] rest rest' l n h o m a kept c d = d
 Chained-relinked old new block i key (k ∷ ks) rest rest' l n h o m a kept c d =
     let apart : block ≢ link_block k ks = λ e. h (subst (Contains (k ∷ ks)) (sym e) (link_block-in k ks)) in
     let same : long new block i ≡ long old block i = kept block i l n (inl apart) (inl (λ e. m (sym e))) in
-    (same ∙ c.0, Chained-relinked old new k next_in_chain key ks rest rest' (omega arith) (omega arith) (Once-head k ks o) (Once-tail k ks o) (λ e. a (subst (Contains (k ∷ ks)) (sym e) (Contains-here k ks))) (λ r. a (Contains-later k ks key r)) kept c.1 d)
+    (same ∙ c.0, Chained-relinked old new k NEXT_IN_CHAIN key ks rest rest' (omega arith) (omega arith) (Once-head k ks o) (Once-tail k ks o) (λ e. a (subst (Contains (k ∷ ks)) (sym e) (Contains-here k ks))) (λ r. a (Contains-later k ks key r)) kept c.1 d)
 
 -- the number of links from a first block to block 0, at most n: the measure of a walk
 abbrev pub steps : List ℕ → ℕ → ℕ → ℕ
 steps image zero first = 0
-steps image (suc n) first = cond (first == 0) 0 (suc (steps image n (long image first next_in_chain)))
+steps image (suc n) first = cond (first == 0) 0 (suc (steps image n (long image first NEXT_IN_CHAIN)))
 
-pub steps-length : (image : List ℕ) (n first : ℕ) (keys : List ℕ) → NoneZero keys → length keys ≤ n → Chained image next_in_chain first keys → steps image n first ≡ length keys
+pub steps-length : (image : List ℕ) (n first : ℕ) (keys : List ℕ) → NoneZero keys → length keys ≤ n → Chained image NEXT_IN_CHAIN first keys → steps image n first ≡ length keys
 steps-length image zero first [] h l c = refl
 steps-length image zero first (key ∷ keys) h l c = absurd (omega arith)
 steps-length image (suc n) first [] h l c = rw c refl
 steps-length image (suc n) first (key ∷ keys) h l c =
-    rw (c.0, ne_eqb key 0 (h key (Contains-here key keys))) (ap suc (steps-length image n (long image key next_in_chain) keys (NoneZero-tail key keys h) (omega arith) c.1))
+    rw (c.0, ne_eqb key 0 (h key (Contains-here key keys))) (ap suc (steps-length image n (long image key NEXT_IN_CHAIN) keys (NoneZero-tail key keys h) (omega arith) c.1))

@@ -2,20 +2,20 @@
 use Rattle.std.proofs.Common.{◌≡◌, ◌≢◌, ℕ, ◌+◌, ◌<◌, ◌⊎◌, inl, inr, List, [], ◌∷◌, ◌++◌, length, Contains, refl, sym, ap, ◌∙◌, subst, arith, append_assoc, append-nil, length-append}
 use Rattle.std.proofs.lemmas.List.Elements.{Contains-append_right, Contains-push_cases}
 use Rattle.adf_block.specs.Image.{block_count, long, Chained}
-use Rattle.adf_block.specs.Layout.{next_in_chain, first_slot}
+use Rattle.adf_block.specs.declared.layout.TheConstants.{FIRST_SLOT, NEXT_IN_CHAIN}
 use Rattle.ados_name.specs.Name.{Same}
 use Rattle.ados_chain.specs.Chains.{LawfulChains, name_at}
 use Rattle.ados_chain.specs.Look.{NoneNamed, IsFirstNamed}
 use Rattle.ados_chain.specs.Relinks.{link_block, link_long}
 use Rattle.ados_chain.specs.Links.{LeadsTo, BeginsWith}
-use Rattle.ados_model.proofs.KeyLists.{Contains-here, Contains-nil}
+use Rattle.ados_model.proofs.KeyLists.{Contains-here}
 use Rattle.ados_chain.proofs.Spelling.{steps, steps-length, NoneZero, link_block-push, link_long-push}
 use Rattle.ados_chain.proofs.Chaining.{none_zero, chain-short}
 
 -- the chain is a prefix and a rest; the rest starts with the key
 pub record StandsAt (image : List ℕ) (keys : List ℕ) (key : ℕ) (front rest : List ℕ) : Type 0 where
   pub split : keys ≡ front ++ rest
-  pub spelled : Chained image next_in_chain key rest
+  pub spelled : Chained image NEXT_IN_CHAIN key rest
 
 -- a walk to the link of an entry that is not in the prefix
 pub record LinksOn (image : List ℕ) (dir s : ℕ) (keys : List ℕ) (entry block i key : ℕ) : Type 0 where
@@ -24,7 +24,7 @@ pub record LinksOn (image : List ℕ) (dir s : ℕ) (keys : List ℕ) (entry blo
   pub stands : StandsAt image keys key front rest
   pub absent : ¬ Contains front entry
   pub at_block : block ≡ link_block dir front
-  pub at_long : i ≡ link_long (first_slot + s) front
+  pub at_long : i ≡ link_long (FIRST_SLOT + s) front
 
 -- a walk to the first entry with a name that is not in the prefix
 pub record SearchedOn (image name keys : List ℕ) (key : ℕ) : Type 0 where
@@ -34,17 +34,17 @@ pub record SearchedOn (image name keys : List ℕ) (key : ℕ) : Type 0 where
   pub earlier : NoneNamed image name front
 
 -- a key other than 0 is the first of the rest
-pub begun : (image : List ℕ) (key : ℕ) (rest : List ℕ) → Chained image next_in_chain key rest → key ≢ 0 → (later : List ℕ) × (rest ≡ key ∷ later) × Chained image next_in_chain (long image key next_in_chain) later
+pub begun : (image : List ℕ) (key : ℕ) (rest : List ℕ) → Chained image NEXT_IN_CHAIN key rest → key ≢ 0 → (later : List ℕ) × (rest ≡ key ∷ later) × Chained image NEXT_IN_CHAIN (long image key NEXT_IN_CHAIN) later
 begun image key [] c n = absurd (n c)
-begun image key (k ∷ later) c n = (later, ap (λ (z : ℕ). z ∷ later) (sym c.0), subst (λ (z : ℕ). Chained image next_in_chain (long image z next_in_chain) later) (sym c.0) c.1)
+begun image key (k ∷ later) c n = (later, ap (λ (z : ℕ). z ∷ later) (sym c.0), subst (λ (z : ℕ). Chained image NEXT_IN_CHAIN (long image z NEXT_IN_CHAIN) later) (sym c.0) c.1)
 
 -- the key 0 ends the chain
-pub ended : (image : List ℕ) (rest : List ℕ) → NoneZero rest → Chained image next_in_chain 0 rest → rest ≡ []
+pub ended : (image : List ℕ) (rest : List ℕ) → NoneZero rest → Chained image NEXT_IN_CHAIN 0 rest → rest ≡ []
 ended image [] n c = refl
 ended image (k ∷ later) n c = absurd (n k (Contains-here k later) (sym c.0))
 
 -- one step: the key joins the prefix
-pub stands_more : (image keys : List ℕ) (key : ℕ) (front rest : List ℕ) → StandsAt image keys key front rest → key ≢ 0 → (later : List ℕ) × (rest ≡ key ∷ later) × StandsAt image keys (long image key next_in_chain) (front ++ key ∷ []) later
+pub stands_more : (image keys : List ℕ) (key : ℕ) (front rest : List ℕ) → StandsAt image keys key front rest → key ≢ 0 → (later : List ℕ) × (rest ≡ key ∷ later) × StandsAt image keys (long image key NEXT_IN_CHAIN) (front ++ key ∷ []) later
 stands_more image keys key front rest h n =
     let b = begun image key rest h.spelled n in
     (b.0, b.1, record { split = h.split ∙ ap (λ (xs : List ℕ). front ++ xs) b.1 ∙ sym (append_assoc front (key ∷ []) b.0); spelled = b.2 })
@@ -72,22 +72,12 @@ module _ (image : List ℕ) (dir : ℕ) (chains : ℕ → List ℕ) (h : LawfulC
       (omega (arith, chain-short image dir chains h s small, ap length st.split, length-append front rest)) st.spelled
 
   -- the rest gets shorter with each step
-  pub steps_fall : (key : ℕ) (front rest : List ℕ) → StandsAt image (chains s) key front rest → key ≢ 0 → steps image (block_count image) (long image key next_in_chain) < steps image (block_count image) key
+  pub steps_fall : (key : ℕ) (front rest : List ℕ) → StandsAt image (chains s) key front rest → key ≢ 0 → steps image (block_count image) (long image key NEXT_IN_CHAIN) < steps image (block_count image) key
   steps_fall key front rest st n =
       let m = stands_more image (chains s) key front rest st n in
-      omega (arith, counted key front rest st, counted (long image key next_in_chain) (front ++ key ∷ []) m.0 m.2, ap length m.1)
+      omega (arith, counted key front rest st, counted (long image key NEXT_IN_CHAIN) (front ++ key ∷ []) m.0 m.2, ap length m.1)
 
-  pub links_none : (entry : ℕ) → LinksOn image dir s (chains s) entry dir (first_slot + s) (long image dir (first_slot + s))
-  links_none entry = record {
-    front = [];
-    rest = chains s;
-    stands = record { split = refl; spelled = h.spelled s small };
-    absent = Contains-nil entry;
-    at_block = refl;
-    at_long = refl;
-  }
-
-  pub links_more : (entry block i key : ℕ) → LinksOn image dir s (chains s) entry block i key → key ≢ 0 → key ≢ entry → (block' i' key' : ℕ) → block' ≡ key → i' ≡ next_in_chain → key' ≡ long image key next_in_chain → LinksOn image dir s (chains s) entry block' i' key'
+  pub links_more : (entry block i key : ℕ) → LinksOn image dir s (chains s) entry block i key → key ≢ 0 → key ≢ entry → (block' i' key' : ℕ) → block' ≡ key → i' ≡ NEXT_IN_CHAIN → key' ≡ long image key NEXT_IN_CHAIN → LinksOn image dir s (chains s) entry block' i' key'
   links_more entry block i key w n other block' i' key' at_block at_long at_key =
       let m = stands_more image (chains s) key w.front w.rest w.stands n in
       record {
@@ -96,7 +86,7 @@ module _ (image : List ℕ) (dir : ℕ) (chains : ℕ → List ℕ) (h : LawfulC
         stands = subst (λ (k : ℕ). StandsAt image (chains s) k (w.front ++ key ∷ []) m.0) (sym at_key) m.2;
         absent = λ a. elim (Contains-push_cases w.front key entry a) [ inl b ↦ w.absent b | inr e ↦ other e ];
         at_block = at_block ∙ sym (link_block-push dir w.front key);
-        at_long = at_long ∙ sym (link_long-push (first_slot + s) w.front key);
+        at_long = at_long ∙ sym (link_long-push (FIRST_SLOT + s) w.front key);
       }
 
   -- a walk that stops at the entry or at the end has found the link
@@ -116,15 +106,7 @@ module _ (image : List ℕ) (dir : ℕ) (chains : ℕ → List ℕ) (h : LawfulC
       begins (k ∷ ks) st (inr e) = sym st.spelled.0 ∙ e
       begins (k ∷ ks) st (inl e) = absurd (rest_none_zero key w.front (k ∷ ks) st k (Contains-here k ks) (sym st.spelled.0 ∙ e))
 
-  pub searched_none : (name : List ℕ) → SearchedOn image name (chains s) (long image dir (first_slot + s))
-  searched_none name = record {
-    front = [];
-    rest = chains s;
-    stands = record { split = refl; spelled = h.spelled s small };
-    earlier = λ k m. absurd (Contains-nil k m);
-  }
-
-  pub searched_more : (name : List ℕ) (key : ℕ) → SearchedOn image name (chains s) key → key ≢ 0 → ¬ Same (name_at image key) name → (key' : ℕ) → key' ≡ long image key next_in_chain → SearchedOn image name (chains s) key'
+  pub searched_more : (name : List ℕ) (key : ℕ) → SearchedOn image name (chains s) key → key ≢ 0 → ¬ Same (name_at image key) name → (key' : ℕ) → key' ≡ long image key NEXT_IN_CHAIN → SearchedOn image name (chains s) key'
   searched_more name key w n other key' at_key =
       let m = stands_more image (chains s) key w.front w.rest w.stands n in
       record {

@@ -1,13 +1,14 @@
 -- The 72 hash chains of a directory, each a list of entries whose names have its slot.
 use Rattle.std.specs.Prelude.{◌≡◌, ◌≢◌, ℕ, zero, suc, ◌<◌, ◌==◌, not, if◌then◌else◌, List, [], ◌∷◌, ◌++◌, filter, AllPairs, Contains}
-use Rattle.adf_block.specs.Image.{block_count, root_key, IsInside, Chained, table_entry}
-use Rattle.adf_block.specs.Layout.{next_in_chain, name_byte, table_longs}
+use Rattle.adf_block.specs.Image.{block_count, root_key, IsInside, Chained}
+use Rattle.adf_block.specs.Fields.{table_entry}
+use Rattle.adf_block.specs.declared.layout.TheConstants.{TABLE_LONGS, NAME_BYTE, NEXT_IN_CHAIN}
 use Rattle.adf_block.specs.Whole.{text_at}
 use Rattle.ados_name.specs.Name.{IsName, slot}
 
 -- the name in an entry's block
 abbrev pub name_at : List ℕ → ℕ → List ℕ
-name_at image key = text_at image key name_byte
+name_at image key = text_at image key NAME_BYTE
 
 -- the hash slot of that name
 abbrev pub slot_at : List ℕ → ℕ → ℕ
@@ -25,10 +26,10 @@ pub record IsEntryBlock (image : List ℕ) (dir key : ℕ) : Type 0 where
 -- name's slot, and occurs once
 pub record LawfulChains (image : List ℕ) (dir : ℕ) (chains : ℕ → List ℕ) : Type 0 where
   pub inside : IsInside (block_count image) dir
-  pub spelled : (s : ℕ) → s < table_longs → Chained image next_in_chain (table_entry image dir s) (chains s)
-  pub once : (s : ℕ) → s < table_longs → AllPairs (λ j k. j ≢ k) (chains s)
-  pub entry : (s key : ℕ) → s < table_longs → Contains (chains s) key → IsEntryBlock image dir key
-  pub slotted : (s key : ℕ) → s < table_longs → Contains (chains s) key → slot_at image key ≡ s
+  pub spelled : (s : ℕ) → s < TABLE_LONGS → Chained image NEXT_IN_CHAIN (table_entry image dir s) (chains s)
+  pub once : (s : ℕ) → s < TABLE_LONGS → AllPairs (λ j k. j ≢ k) (chains s)
+  pub entry : (s key : ℕ) → s < TABLE_LONGS → Contains (chains s) key → IsEntryBlock image dir key
+  pub slotted : (s key : ℕ) → s < TABLE_LONGS → Contains (chains s) key → slot_at image key ≡ s
 
 -- the directory has lawful chains; by `chains_same` they are the only ones
 abbrev pub HasChains : List ℕ → ℕ → Type 0
@@ -36,7 +37,7 @@ HasChains image dir = (chains : ℕ → List ℕ) × LawfulChains image dir chai
 
 -- one of the chains has the key
 abbrev pub InChains : (ℕ → List ℕ) → ℕ → Type 0
-InChains chains key = (s : ℕ) × (s < table_longs) × Contains (chains s) key
+InChains chains key = (s : ℕ) × (s < TABLE_LONGS) × Contains (chains s) key
 
 -- the chains with the key appended to the chain of a slot
 abbrev pub with_last : (ℕ → List ℕ) → ℕ → ℕ → ℕ → List ℕ
@@ -53,4 +54,4 @@ chains_from chains s (suc n) = chains s ++ chains_from chains (suc s) n
 
 -- the entries in the order of the directory: by slot, then along each chain
 abbrev pub entries_of : (ℕ → List ℕ) → List ℕ
-entries_of chains = chains_from chains 0 table_longs
+entries_of chains = chains_from chains 0 TABLE_LONGS

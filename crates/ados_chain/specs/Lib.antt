@@ -2,6 +2,7 @@
 -- in `ados_model`.
 pub mod Chains
 pub use Rattle.ados_model.specs.Tree
+pub use Rattle.ados_model.specs.Parts
 pub mod Look
 pub mod Relinks
 pub mod Links

@@ -1,11 +1,11 @@
 -- The link to an entry of a hash chain.
 use Rattle.std.specs.Prelude.{◌≡◌, ℕ, ◌+◌, ◌<◌, ◌≤◌, ◌⊎◌, List, [], ◌∷◌, ◌++◌, Contains}
-use Rattle.adf_block.specs.Layout.{first_slot, table_longs, next_in_chain}
+use Rattle.adf_block.specs.declared.layout.TheConstants.{TABLE_LONGS, FIRST_SLOT, NEXT_IN_CHAIN}
 use Rattle.ados_chain.specs.Relinks.{link_block, link_long}
 
 -- the long is in the hash table of a directory, or is the next-in-chain long
 abbrev pub IsLink : ℕ → Type 0
-IsLink i = ((first_slot ≤ i) × (i < first_slot + table_longs)) ⊎ (i ≡ next_in_chain)
+IsLink i = ((FIRST_SLOT ≤ i) × (i < FIRST_SLOT + TABLE_LONGS)) ⊎ (i ≡ NEXT_IN_CHAIN)
 
 -- the rest of a chain starts with the entry, or is empty
 abbrev pub BeginsWith : ℕ → List ℕ → Type 0
@@ -20,4 +20,4 @@ pub record LeadsTo (dir s : ℕ) (keys : List ℕ) (entry block i : ℕ) : Type 
   pub absent : ¬ Contains front entry
   pub begins : BeginsWith entry rest
   pub at_block : block ≡ link_block dir front
-  pub at_long : i ≡ link_long (first_slot + s) front
+  pub at_long : i ≡ link_long (FIRST_SLOT + s) front

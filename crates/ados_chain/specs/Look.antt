@@ -1,6 +1,6 @@
 -- The results of reads of a directory.
 use Rattle.std.specs.Prelude.{◌≡◌, ◌<◌, ℕ, List, [], ◌∷◌, ◌++◌, Option, None, Some, Contains}
-use Rattle.adf_block.specs.Layout.{table_longs}
+use Rattle.adf_block.specs.declared.layout.TheConstants.{TABLE_LONGS}
 use Rattle.ados_name.specs.Name.{Same}
 use Rattle.ados_chain.specs.Chains.{name_at, InChains}
 use Rattle.ados_chain.specs.declared.read.Next.{Next}
@@ -26,7 +26,7 @@ FindsNamed image name keys (Some key) = IsFirstNamed image name keys key
 -- the slot whose chain has the key, or none if no chain has it
 abbrev pub FindsSlot : (ℕ → List ℕ) → ℕ → Option ℕ → Type 0
 FindsSlot chains key None = ¬ InChains chains key
-FindsSlot chains key (Some s) = (s < table_longs) × Contains (chains s) key
+FindsSlot chains key (Some s) = (s < TABLE_LONGS) × Contains (chains s) key
 
 -- the first of the remaining keys; no list at all means that the key was not an entry
 abbrev pub first_left : Option (List ℕ) → Next

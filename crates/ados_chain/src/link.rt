@@ -1,7 +1,7 @@
 //! Links of hash chains.
 
 ghost use Rattle.std.specs.Prelude.{◌≡◌, ◌≢◌, ◌<◌, ◌+◌, ◌^◌, ℕ, List};
-ghost use Rattle.adf_block.specs.Layout.{table_longs, first_slot, next_in_chain};
+ghost use Rattle.adf_block.specs.declared.layout.TheConstants.{TABLE_LONGS};
 ghost use Rattle.adf_block.specs.Image.{block_count, long};
 ghost use Rattle.adf_block.specs.Whole.{IsImage};
 ghost use Rattle.ados_chain.specs.Chains.{HasChains, LawfulChains};
@@ -9,7 +9,7 @@ ghost use Rattle.ados_chain.specs.Relinks.{Relinks};
 ghost use Rattle.ados_chain.specs.Links.{LeadsTo, IsLink};
 
 use adf_block::Image;
-use adf_block::layout::{FIRST_SLOT, NEXT_IN_CHAIN, SUM};
+use adf_block::layout::{CHECKSUM, FIRST_SLOT, NEXT_IN_CHAIN};
 
 /// A long that holds the next key of a hash chain, or 0 at its end. It is in the hash table of a directory, or it is
 /// an entry's next-in-chain long.
@@ -22,9 +22,9 @@ pub struct Link {
 impl Link {
     /// The link that starts the hash chain of a slot, 0 to 71.
     pub fn first(dir: u32, slot: u32) -> Link
-        requires { slot < table_longs }
+        requires { slot < TABLE_LONGS }
         ensures block { result.block ≡ dir }
-        ensures long { result.long ≡ first_slot + slot }
+        ensures long { result.long ≡ FIRST_SLOT + slot }
     {
         Link {
             block: dir,
@@ -35,7 +35,7 @@ impl Link {
     /// The link after an entry.
     pub fn behind(key: u32) -> Link
         ensures block { result.block ≡ key }
-        ensures long { result.long ≡ next_in_chain }
+        ensures long { result.long ≡ NEXT_IN_CHAIN }
     {
         Link {
             block: key,
@@ -48,7 +48,7 @@ impl Link {
 /// chain.
 pub fn link_to(image: &Image, dir: u32, slot: u32, entry: u32) -> Link
     requires chains { HasChains image.now dir }
-    requires slot { slot < table_longs }
+    requires slot { slot < TABLE_LONGS }
     ensures { (chains : ℕ → List ℕ) → LawfulChains image.now dir chains → LeadsTo dir slot (chains slot) entry result.block result.long }
 {
     let mut link = Link::first(dir, slot);
@@ -70,7 +70,7 @@ pub fn relink(image: &mut Image, link: Link, next: u32, key: u32)
     ensures image { IsImage image.new }
 {
     image.set_long(link.block, link.long, next);
-    image.settle(link.block, SUM);
+    image.settle(link.block, CHECKSUM);
     image.set_long(key, NEXT_IN_CHAIN, 0);
-    image.settle(key, SUM);
+    image.settle(key, CHECKSUM);
 }

@@ -1,7 +1,6 @@
 //! Reads of a directory: an entry by its name, and the entries in order.
 
 ghost use Rattle.std.specs.Prelude.{◌≡◌, ◌<◌, ◌≤◌, ◌-◌, ◌↔◌, ◌∷◌, [], ℕ, List, Some, IsTrue, Contains};
-ghost use Rattle.adf_block.specs.Layout.{table_longs};
 ghost use Rattle.ados_name.specs.Name.{slot};
 ghost use Rattle.ados_chain.specs.Chains.{HasChains, InChains, LawfulChains, chains_from, entries_of};
 ghost use Rattle.ados_model.specs.Tree.{behind};
@@ -70,7 +69,7 @@ pub fn after_entry(image: &Image, dir: u32, key: u32) -> Next
 /// What follows an entry of this slot in the order of the directory.
 fn behind_entry(image: &Image, dir: u32, slot: u32, key: u32) -> Next
     requires chains { HasChains image.now dir }
-    requires entry { (chains : ℕ → List ℕ) → LawfulChains image.now dir chains → (slot < table_longs) × Contains (chains slot) key }
+    requires entry { (chains : ℕ → List ℕ) → LawfulChains image.now dir chains → (slot < TABLE_LONGS) × Contains (chains slot) key }
     ensures { (chains : ℕ → List ℕ) → LawfulChains image.now dir chains → result ≡ first_left (behind key (dir ∷ entries_of chains)) }
 {
     let next = image.long(key, NEXT_IN_CHAIN);
@@ -92,8 +91,8 @@ pub fn is_empty(image: &Image, dir: u32) -> bool
 /// The first entry in the slots from `slot` to 71.
 fn first_from(image: &Image, dir: u32, slot: u32) -> Next
     requires chains { HasChains image.now dir }
-    requires slot { slot ≤ table_longs }
-    ensures { (chains : ℕ → List ℕ) → LawfulChains image.now dir chains → result ≡ first_left (Some (chains_from chains slot (table_longs - slot))) }
+    requires slot { slot ≤ TABLE_LONGS }
+    ensures { (chains : ℕ → List ℕ) → LawfulChains image.now dir chains → result ≡ first_left (Some (chains_from chains slot (TABLE_LONGS - slot))) }
 {
     for s in slot..TABLE_LONGS {
         let key = image.long(dir, FIRST_SLOT + s);

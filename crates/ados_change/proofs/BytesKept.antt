@@ -1,11 +1,12 @@
 -- A rewritten file leaves all bytes outside fields untouched.
-use Rattle.std.proofs.Common.{◌≡◌, ℕ, ◌+◌, ◌-◌, ◌*◌, ◌/◌, ◌%◌, ◌<◌, ◌≤◌, inl, inr, min, List, length, take, drop, slice_index, Some, refl, sym, ap, ◌∙◌, subst, arith, length-take, length-drop, eq-eqb}
+use Rattle.std.proofs.Common.{◌≡◌, ℕ, ◌+◌, ◌-◌, ◌*◌, ◌/◌, ◌<◌, ◌≤◌, inl, inr, min, List, length, slice_index, Some, refl, sym, ap, ◌∙◌, subst, arith, eq-eqb}
 use Rattle.std.proofs.lemmas.Bool.{ne_eqb, cases_eq, cases_lt, false≢true}
-use Rattle.std.proofs.lemmas.List.{ext_get_or, get_or-take, get_or-drop}
-use Rattle.adf_block.specs.declared.Format.{Format}
-use Rattle.adf_block.specs.declared.Format.TheVariants.{Ofs, Ffs}
-use Rattle.adf_block.specs.Image.{byte_at, bytes_at, has_free_bit, pointer_count, held_count, file_size, secondary_type, format_of}
-use Rattle.adf_block.specs.Layout.{file_type}
+use Rattle.adf_block.specs.declared.layout.Format.{Format}
+use Rattle.adf_block.specs.declared.layout.Format.TheVariants.{Ofs, Ffs}
+use Rattle.adf_block.specs.Image.{byte_at, bytes_at, has_free_bit}
+use Rattle.adf_block.specs.Fields.{pointer_count, held_count, file_size, secondary_type, format_of}
+use Rattle.adf_block.specs.declared.layout.TheConstants.{FILE_TYPE}
+use Rattle.adf_block.proofs.Blocks.{boot_same}
 use Rattle.ados_model.specs.Stands.{HasFile, Layout, Stands, type_of}
 use Rattle.ados_data.specs.Unnamed.{KeepsUnnamed, IsPointerField, IsHeaderField, data_end}
 use Rattle.ados_model.specs.Tree.{Node, Tree}
@@ -28,7 +29,7 @@ use Rattle.ados_change.proofs.Refilled.{boot_stays, key_stays, root_stays, data_
 
 module _ (image : List ℕ) (b : ℕ) where
   -- a long that a change of a header may write is a field
-  header_field : secondary_type image b ≡ file_type → (dir r i : ℕ) → IsHeaderField (pointer_count image b) (i / 4) → IsField image b (roles.Entry dir r) i
+  header_field : secondary_type image b ≡ FILE_TYPE → (dir r i : ℕ) → IsHeaderField (pointer_count image b) (i / 4) → IsField image b (roles.Entry dir r) i
   header_field e dir r i (inl (inl z)) = file_longs e (0, (0, 2), omega arith, refl, (omega (arith, z), omega (arith, z)))
   header_field e dir r i (inl (inr (inl z))) = file_longs e (1, (4, 5), omega arith, refl, (omega (arith, z), omega (arith, z)))
   header_field e dir r i (inl (inr (inr (inl z)))) = file_longs e (2, (78 - pointer_count image b, 77), omega arith, refl, (omega (arith, z.0), omega (arith, z.1)))
@@ -84,7 +85,7 @@ module _ (old new : List ℕ) (t : Tree) (s : Stands old t) (file : ℕ) (node :
   -- ---- the header
 
   -- an entry that is the file has its type
-  new_type : (k dir r : ℕ) → StandsAt new v after (roles.Entry dir r) k file → secondary_type new file ≡ file_type
+  new_type : (k dir r : ℕ) → StandsAt new v after (roles.Entry dir r) k file → secondary_type new file ≡ FILE_TYPE
   new_type k dir r m =
       let n = entry_at new v after dir r k file m in
       let is : n.node ≡ holding bytes' node = cc (n.at, here t file node bytes bytes' found is_file) in
@@ -164,22 +165,8 @@ module _ (old new : List ℕ) (t : Tree) (s : Stands old t) (file : ℕ) (node :
   block_kept k k' block i (roles.Extension f) (roles.Extension f') l m m' alike n = extension_kept k k' f f' block i l m m' n
   block_kept k k' block i _ _ l m m' alike n = absurd alike
 
-  boot_byte : (k : ℕ) → k < 1024 → slice_index new k ≡ slice_index old k
-  unfolding byte_at
-  boot_byte k l =
-      let whole : 512 * (k / 512) + k % 512 ≡ k = omega arith in
-      ap (slice_index new) (sym whole) ∙ (boot_stays old new t s file node bytes found is_file blocks' extensions' bytes' h (k / 512) (omega (arith, l))).bytes (k % 512) (omega arith) (λ z. z) ∙ ap (slice_index old) whole
-
   boot_kept : bytes_at new 0 0 1024 ≡ bytes_at old 0 0 1024
-  unfolding bytes_at
-  boot_kept =
-      ext_get_or 0 (take 1024 (drop (512 * 0 + 0) new)) (take 1024 (drop (512 * 0 + 0) old))
-      (omega (arith, length-take 1024 (drop (512 * 0 + 0) new), length-take 1024 (drop (512 * 0 + 0) old), length-drop (512 * 0 + 0) new, length-drop (512 * 0 + 0) old, h.leaves.same_length))
-      (λ k l.
-      let below : k < 1024 = omega (arith, l, length-take 1024 (drop (512 * 0 + 0) new)) in
-      get_or-take 1024 (drop (512 * 0 + 0) new) k 0 below ∙ get_or-drop (512 * 0 + 0) new k 0
-      ∙ boot_byte (512 * 0 + 0 + k) (omega (arith, below))
-      ∙ sym (get_or-take 1024 (drop (512 * 0 + 0) old) k 0 below ∙ get_or-drop (512 * 0 + 0) old k 0))
+  boot_kept = boot_same old new h.leaves.same_length (λ b i l m. (boot_stays old new t s file node bytes found is_file blocks' extensions' bytes' h b l).bytes i m (λ z. z))
 
   first_kept : (b : ℕ) → IsFile old b → KeepsFirstData old new b
   first_kept b f = elim (cases_eq b file) [

@@ -2,8 +2,9 @@
 use Rattle.std.proofs.Common.{◌≡◌, ℕ, suc, ◌+◌, ◌/◌, ◌<◌, ◌≤◌, ◌⊎◌, inl, inr, true, List, length, take, slice_index, sym, ap, ap₂, ◌∙◌, arith}
 use Rattle.std.proofs.lemmas.Bool.{false≢true, cases_lt}
 use Rattle.std.proofs.lemmas.List.{get_or-take, length-take}
-use Rattle.adf_block.specs.declared.Format.{Format}
-use Rattle.adf_block.specs.Image.{IsInside, block_count, has_free_bit, format_of}
+use Rattle.adf_block.specs.declared.layout.Format.{Format}
+use Rattle.adf_block.specs.Image.{IsInside, block_count, has_free_bit}
+use Rattle.adf_block.specs.Fields.{format_of}
 use Rattle.adf_block.specs.Whole.{free_bit_count}
 use Rattle.ados_model.specs.Tree.{block_cost, extension_count}
 use Rattle.ados_model.specs.File.{data_blocks, extension_blocks, contents}
@@ -11,6 +12,7 @@ use Rattle.ados_data.specs.Changing.{WritableFile}
 use Rattle.ados_data.specs.Others.{Gains, LeavesOthers}
 use Rattle.ados_change.proofs.Relaid.{ComesFrom, GoesTo, IsRewritten}
 use Rattle.ados_change.proofs.Taken.{taken_is_got}
+use Rattle.ados_data.proofs.Grown.{front_at, front_length}
 
 -- ---- lists that get shorter
 
@@ -44,21 +46,15 @@ of_cut old new file count extensions writable format leaves stays blocks lists f
 
 -- ---- lists that grow
 
-at_place : (xs ys : List ℕ) → take (length xs) ys ≡ xs → (i : ℕ) → i < length xs → slice_index ys i ≡ slice_index xs i
-at_place xs ys e i l = sym (get_or-take (length xs) ys i 0 l) ∙ ap (λ (zs : List ℕ). slice_index zs i) e
-
 more_from : (old xs ys : List ℕ) → take (length xs) ys ≡ xs → (i : ℕ) → ((i < length xs) × (slice_index ys i ≡ slice_index xs i)) ⊎ ((2 ≤ slice_index ys i) × (has_free_bit old (slice_index ys i) ≡ true)) → ComesFrom old xs ys i
 more_from old xs ys e i h = elim (cases_lt i (length xs)) [
-  | inl l ↦ inl (l, at_place xs ys e i l)
+  | inl l ↦ inl (l, front_at xs ys e i l)
   | inr l ↦ elim h [ inl same ↦ absurd (omega (arith, l, same.0)) | inr free ↦ inr (l, free.1) ]
 ]
 
 more_to : (new xs ys : List ℕ) → take (length xs) ys ≡ xs → (i : ℕ) → i < length xs → GoesTo new xs ys i
 more_to new xs ys e i l =
-    inl (omega (arith, l, ap length e, length-take (length xs) ys), at_place xs ys e i l)
-
-longer : (xs ys : List ℕ) → take (length xs) ys ≡ xs → length xs ≤ length ys
-longer xs ys e = omega (arith, ap length e, length-take (length xs) ys)
+    inl (omega (arith, l, ap length e, length-take (length xs) ys), front_at xs ys e i l)
 
 pub of_gains : (old new : List ℕ) (file : ℕ) → WritableFile old file → WritableFile new file → format_of new ≡ format_of old → LeavesOthers old file new
     → Gains old file (data_blocks old file) (extension_blocks old file) new (data_blocks new file) (extension_blocks new file)
@@ -75,7 +71,7 @@ of_gains old new file was writable format leaves gains blocks lists balance = re
   extensions_to = more_to new (extension_blocks old file) (extension_blocks new file) lists;
   taken = taken_is_got old new file (data_blocks old file) (extension_blocks old file) (data_blocks new file) (extension_blocks new file) (contents new file) writable gains
       (ap (λ (n : ℕ). n / 512) leaves.same_length)
-      (longer (data_blocks old file) (data_blocks new file) blocks) (longer (extension_blocks old file) (extension_blocks new file) lists)
+      (front_length (data_blocks old file) (data_blocks new file) blocks) (front_length (extension_blocks old file) (extension_blocks new file) lists)
       data_new extensions_new costs
       (let inside = was.lawful.places.headers_inside 0 (omega arith) in omega (arith, inside.0, inside.1));
 }

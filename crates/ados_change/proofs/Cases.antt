@@ -1,11 +1,12 @@
 -- Each change of a field: how it changes the node's block, and the tree that the image then represents.
 use Rattle.std.proofs.Common.{◌≡◌, ◌≢◌, ℕ, ◌+◌, ◌<◌, ◌≤◌, ◌⊎◌, inl, inr, ◌==◌, List, length, Some, option_map, refl, sym, ap, ◌∙◌, subst, arith, eq-eqb, if◌then◌else◌}
 use Rattle.std.proofs.lemmas.Bool.{cases_eq, ne_eqb}
-use Rattle.adf_block.specs.Image.{block_sum, HasText, protection}
-use Rattle.adf_block.specs.Layout.{name_byte, comment_byte}
+use Rattle.adf_block.specs.Image.{block_sum, HasText}
+use Rattle.adf_block.specs.Fields.{protection}
+use Rattle.adf_block.specs.declared.layout.TheConstants.{COMMENT_BYTE, NAME_BYTE}
 use Rattle.adf_block.specs.Frame.{SameBut}
 use Rattle.adf_block.proofs.Frames.{same_weaken}
-use Rattle.ados_name.specs.declared.Date3.{Date3}
+use Rattle.ados_name.specs.declared.stamp.Date3.{Date3}
 use Rattle.ados_name.specs.Name.{IsName, IsComment}
 use Rattle.ados_model.specs.Tree.{Node, Tree, Proper, IsRoot, root}
 use Rattle.ados_model.specs.Stands.{HasEntry, Stands, date_at}
@@ -129,10 +130,10 @@ changed_node t key node at f = rw (eq-eqb key key refl) (ap (option_map f) at)
 module _ (old new : List ℕ) (t : Tree) (s : Stands old t) (key : ℕ) (node : Node) (at : t.nodes key ≡ Some node) (sum : block_sum new key ≡ 0) where
   -- the unchanged fields
   module _ (low high : ℕ) (rest : SameBut (Summed key low high) old new) where
-    name_stays : (463 ≤ low) ⊎ (high ≤ 432) → HasText new key name_byte node.name
+    name_stays : (463 ≤ low) ⊎ (high ≤ 432) → HasText new key NAME_BYTE node.name
     name_stays side =
         let short = s.proper.name key node at in
-        text_beside key low high old new rest key name_byte node.name (omega arith) (omega (arith, short.short)) (elim side [ inl l ↦ inl (omega (arith, l, short.short)) | inr l ↦ inr l ]) (s.nodes key node at).name
+        text_beside key low high old new rest key NAME_BYTE node.name (omega arith) (omega (arith, short.short)) (elim side [ inl l ↦ inl (omega (arith, l, short.short)) | inr l ↦ inr l ]) (s.nodes key node at).name
 
     date_stays : (432 ≤ low) ⊎ (high ≤ 420) → date_at new key 105 ≡ node.date
     date_stays side = date_beside key low high old new rest key 105 (omega arith) (omega arith) side ∙ (s.nodes key node at).date
@@ -150,16 +151,16 @@ module _ (old new : List ℕ) (t : Tree) (s : Stands old t) (key : ℕ) (node : 
         let dir = dir_of n in
         long_beside key low high old new rest key 80 (omega arith) (omega arith) side ∙ (s.entries key dir.0 node at dir.1).protection_field
 
-    comment_stays : (408 ≤ low) ⊎ (high ≤ 328) → key ≢ root t → HasText new key comment_byte node.comment
+    comment_stays : (408 ≤ low) ⊎ (high ≤ 328) → key ≢ root t → HasText new key COMMENT_BYTE node.comment
     comment_stays side n =
         let dir = dir_of n in
         let short = s.proper.comment key node at in
-        text_beside key low high old new rest key comment_byte node.comment (omega arith) (omega (arith, short.short)) (elim side [ inl l ↦ inl (omega (arith, l, short.short)) | inr l ↦ inr l ]) (s.entries key dir.0 node at dir.1).comment
+        text_beside key low high old new rest key COMMENT_BYTE node.comment (omega arith) (omega (arith, short.short)) (elim side [ inl l ↦ inl (omega (arith, l, short.short)) | inr l ↦ inr l ]) (s.entries key dir.0 node at dir.1).comment
 
   -- the image with these fields represents the tree with the node `after`
   told : (after : Node) (d : Date3) (low high : ℕ) → Case t key node after d low high → SameBut (Summed key low high) old new
-      → HasText new key name_byte after.name → date_at new key 105 ≡ after.date → (key ≢ root t → protection new key ≡ after.protection)
-      → (key ≢ root t → HasText new key comment_byte after.comment) → (key ≡ root t → date_at new key 118 ≡ d)
+      → HasText new key NAME_BYTE after.name → date_at new key 105 ≡ after.date → (key ≢ root t → protection new key ≡ after.protection)
+      → (key ≢ root t → HasText new key COMMENT_BYTE after.comment) → (key ≡ root t → date_at new key 118 ≡ d)
       → Stands new (retold key after d t)
   told after d low high c rest name date bits comment disk =
       stands_retold old new t key node after d s c.retells (record {
@@ -188,14 +189,14 @@ module _ (old new : List ℕ) (t : Tree) (s : Stands old t) (key : ℕ) (node : 
       (told (record node { protection = bits }) t.disk_date 320 324 (bits_case t s.proper key node at bits n) rest
       (name_stays 320 324 rest (inr (omega arith))) (date_stays 320 324 rest (inr (omega arith))) (λ _. put) (comment_stays 320 324 rest (inr (omega arith))) (disk_stays 320 324 rest (inr (omega arith))))
 
-  pub commented_stands : (comment : List ℕ) → IsComment comment → key ≢ root t → SameBut (Summed key 328 (329 + length comment)) old new → HasText new key comment_byte comment → Stands new (changed key (λ a. record a { comment = comment }) t)
+  pub commented_stands : (comment : List ℕ) → IsComment comment → key ≢ root t → SameBut (Summed key 328 (329 + length comment)) old new → HasText new key COMMENT_BYTE comment → Stands new (changed key (λ a. record a { comment = comment }) t)
   commented_stands comment valid n rest put =
       from_changed (λ a. record a { comment = comment }) t.disk_date
       (told (record node { comment = comment }) t.disk_date 328 (329 + length comment) (comment_case t s.proper key node at comment valid n) rest
       (name_stays 328 (329 + length comment) rest (inr (omega (arith, valid.short)))) (date_stays 328 (329 + length comment) rest (inr (omega (arith, valid.short))))
       (bits_stay 328 (329 + length comment) rest (inl (omega arith))) (λ _. put) (disk_stays 328 (329 + length comment) rest (inr (omega (arith, valid.short)))))
 
-  pub named_stands : (name : List ℕ) → IsName name → key ≡ root t → SameBut (Summed key 432 (433 + length name)) old new → HasText new key name_byte name → Stands new (changed (root t) (λ a. record a { name = name }) t)
+  pub named_stands : (name : List ℕ) → IsName name → key ≡ root t → SameBut (Summed key 432 (433 + length name)) old new → HasText new key NAME_BYTE name → Stands new (changed (root t) (λ a. record a { name = name }) t)
   named_stands name valid e rest put =
       subst (λ (k : ℕ). Stands new (changed k (λ a. record a { name = name }) t)) e
       (from_changed (λ a. record a { name = name }) t.disk_date

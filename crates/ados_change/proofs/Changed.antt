@@ -4,10 +4,12 @@ use Rattle.std.specs.Prelude.{filter}
 use Rattle.std.specs.Option.{option_map_or}
 use Rattle.std.proofs.lemmas.Bool.{ne_eqb, cases_eq}
 use Rattle.ados_name.specs.Name.{slot}
-use Rattle.ados_name.specs.declared.Date3.{Date3}
-use Rattle.ados_model.specs.Tree.{Content, Node, Tree, entries, entries_in, name_in, name_of, parent_of}
+use Rattle.ados_name.specs.declared.stamp.Date3.{Date3}
+use Rattle.ados_model.specs.Tree.{Content, Node, Tree, entries, entries_in, name_of, parent_of}
+use Rattle.ados_model.specs.Parts.{name_in}
 use Rattle.ados_model.specs.Tree.Content.{Directory}
-use Rattle.ados_model.specs.Change.{with_node, changed, enter, left, listed, made, new_node, removed, renamed}
+use Rattle.ados_model.specs.Change.{with_node, changed, enter, left, listed, made, removed, renamed}
+use Rattle.ados_model.specs.Edits.{new_node}
 
 pub nodes_here : (key : ℕ) (o : Option Node) (t : Tree) → (with_node key o t).nodes key ≡ o
 nodes_here key o t = rw (eq-eqb key key refl) refl

@@ -2,7 +2,8 @@
 use Rattle.std.proofs.Common.{◌≡◌, ◌≢◌, ℕ, ◌≤◌, ◌⊎◌, inl, inr, ◌==◌, List, length, map, filter, AllPairs, Contains, Option, Some, option_map, option_and_then, refl, sym, ap, ap₂, ◌∙◌, subst, eq-eqb}
 use Rattle.std.proofs.lemmas.Bool.{ne_eqb, cases_eq}
 use Rattle.ados_name.specs.Name.{upper, slot, IsName, IsComment}
-use Rattle.ados_model.specs.Tree.{Content, Node, Tree, Proper, LeadsToRoot, root, entries_in, entries, size_in, size_of, name_in, name_of, parent_of}
+use Rattle.ados_model.specs.Tree.{Content, Node, Tree, Proper, LeadsToRoot, root, entries_in, entries, size_of, name_of, parent_of}
+use Rattle.ados_model.specs.Parts.{size_in, name_in}
 use Rattle.ados_model.specs.Tree.Content.{Directory, File}
 use Rattle.ados_model.specs.Tree.LeadsToRoot.{at_root, by_parent}
 use Rattle.ados_model.specs.Stands.{in_slot}

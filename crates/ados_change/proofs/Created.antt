@@ -2,17 +2,20 @@
 use Rattle.std.proofs.Common.{◌≡◌, ◌≢◌, ℕ, ◌+◌, ◌/◌, ◌<◌, inl, inr, Bool, List, true, false, Some, is_some, IsSome, refl, sym, ap, ◌∙◌, subst, arith}
 use Rattle.std.proofs.lemmas.Bool.{cases_eq, false≢true}
 use Rattle.adf_block.specs.Frame.{OnlyBlock, SameBut}
-use Rattle.adf_block.specs.Image.{HasFreeBit, IsInside, block_count, has_free_bit, root_key}
+use Rattle.adf_block.specs.Image.{IsInside, block_count, has_free_bit, root_key}
+use Rattle.adf_block.specs.Whole.{HasFreeBit}
 use Rattle.adf_block.proofs.Frames.{same_count, same_trans}
 use Rattle.ados_map.specs.Changes.{MapPlace, BitChanged}
 use Rattle.ados_map.specs.Pages.{IsLowestFree, LawfulPages, NoneFreeBelow, page_of, pages_of}
-use Rattle.ados_name.specs.declared.Date3.{Date3}
+use Rattle.ados_name.specs.declared.stamp.Date3.{Date3}
 use Rattle.ados_chain.proofs.Changes.{slot_at-small}
 use Rattle.ados_chain.specs.Chains.{LawfulChains, slot_at}
 use Rattle.ados_chain.specs.Relinks.{CanInsert, InsertsLast, link_block, link_long}
-use Rattle.ados_model.specs.Change.{made, new_node, with_node}
-use Rattle.ados_model.specs.Stands.{Stands, in_slot, Duty, HasDuty}
-use Rattle.ados_model.specs.Tree.{Node, Tree, root, size_in, IsUnused}
+use Rattle.ados_model.specs.Change.{made, with_node}
+use Rattle.ados_model.specs.Edits.{new_node}
+use Rattle.ados_model.specs.Stands.{Stands, Duty, HasDuty, in_slot}
+use Rattle.ados_model.specs.Tree.{Node, Tree, root}
+use Rattle.ados_model.specs.Parts.{IsUnused, size_in}
 use Rattle.ados_change.specs.NewBlocks.{KeepsRest, TakesLowest}
 use Rattle.ados_change.specs.Untold.{KeepsPastEnd}
 use Rattle.ados_change.proofs.FilesStay.{past_end_trans}

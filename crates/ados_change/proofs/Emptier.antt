@@ -1,14 +1,17 @@
 -- A file is emptied before its removal; a directory has nothing to empty.
 use Rattle.std.proofs.Common.{◌≡◌, ◌≢◌, ℕ, ◌/◌, ◌<◌, inl, inr, List, take, Option, Some, None, IsSome, option_map, option_and_then, refl, sym, ap, ◌∙◌, subst, arith}
-use Rattle.adf_block.specs.Image.{secondary_type, block_count, byte_at}
-use Rattle.adf_block.specs.Layout.{file_type, pointer_count_long, next_data, sum_long, protection_long, size_long, date_long, next_in_chain, next_extension}
+use Rattle.adf_block.specs.Image.{block_count, byte_at}
+use Rattle.adf_block.specs.Fields.{secondary_type}
+use Rattle.adf_block.specs.declared.layout.TheConstants.{CHECKSUM, FILE_TYPE, POINTER_COUNT, PROTECTION, FILE_SIZE, DATE, NEXT_IN_CHAIN, NEXT_EXTENSION, NEXT_DATA}
 use Rattle.std.proofs.lemmas.Bool.{cases_eq}
 use Rattle.ados_data.specs.Cut.{IsCutField}
-use Rattle.ados_name.specs.declared.Date3.{Date3}
-use Rattle.ados_model.specs.Change.{changed, left, removed, shortened}
+use Rattle.ados_name.specs.declared.stamp.Date3.{Date3}
+use Rattle.ados_model.specs.Change.{changed, left, removed}
+use Rattle.ados_model.specs.Edits.{shortened}
 use Rattle.ados_name.specs.Name.{without_archive}
 use Rattle.ados_model.specs.Stands.{Stands, type_of}
-use Rattle.ados_model.specs.Tree.{Content, Node, Tree, root, bytes_of, content_at, entries_in, size_in, size_of}
+use Rattle.ados_model.specs.Tree.{Content, Node, Tree, root, bytes_of, content_at, entries_in, size_of}
+use Rattle.ados_model.specs.Parts.{size_in}
 use Rattle.ados_model.specs.Tree.Content.{Directory, File}
 use Rattle.ados_model.specs.Faults.{InImage}
 use Rattle.ados_model.specs.Keys.{HasEntryKey, HasFileKey}
@@ -51,17 +54,17 @@ module _ (old : List ℕ) (t : Tree) (st : Stands old t) (key : ℕ) (can : CanR
   entry_key = λ u su. subst (λ (x : Tree). IsSome (x.nodes key) × (key ≢ root x)) (one_tree old t u st su) (has_node, not_root)
 
   -- an entry that is not a file has no bytes
-  pub not_file : secondary_type old key ≢ file_type → size_of t key ≡ 0
+  pub not_file : secondary_type old key ≢ FILE_TYPE → size_of t key ≡ 0
   not_file n = let at = entry.1 in rw at (go entry.0.content typed)
     where
       go : (c : Content) → secondary_type old key ≡ type_of c → size_in (Some c) ≡ 0
       go (Directory keys) e = refl
       go (File bytes) e = absurd (n e)
 
-  pub is_file : secondary_type old key ≡ file_type → (bytes : List ℕ) × (content_at t key ≡ Some (File bytes))
+  pub is_file : secondary_type old key ≡ FILE_TYPE → (bytes : List ℕ) × (content_at t key ≡ Some (File bytes))
   is_file e = go entry.0.content (sym typed ∙ e) (ap (option_map (λ node. node.content)) entry.1)
     where
-      go : (c : Content) → type_of c ≡ file_type → content_at t key ≡ Some c → (bytes : List ℕ) × (content_at t key ≡ Some (File bytes))
+      go : (c : Content) → type_of c ≡ FILE_TYPE → content_at t key ≡ Some c → (bytes : List ℕ) × (content_at t key ≡ Some (File bytes))
       go (Directory keys) d at = absurd (omega (arith, d))
       go (File bytes) d at = (bytes, at)
 
@@ -70,19 +73,19 @@ module _ (old : List ℕ) (t : Tree) (st : Stands old t) (key : ℕ) (can : CanR
   entry_cut new h i l beside = h i l cut stamp
     where
       cut : ¬ IsCutField (i / 4)
-      cut (inl e) = beside (0, one_long pointer_count_long, omega arith, refl, (omega (arith, e), omega (arith, e)))
-      cut (inr (inl e)) = beside (1, (next_data, sum_long), omega arith, refl, (omega (arith, e), omega (arith, e)))
-      cut (inr (inr (inl e))) = beside (1, (next_data, sum_long), omega arith, refl, (omega (arith, e), omega (arith, e)))
-      cut (inr (inr (inr (inl e)))) = beside (2, (protection_long, size_long), omega arith, refl, (omega (arith, e), omega (arith, e)))
-      cut (inr (inr (inr (inr e)))) = beside (5, one_long next_extension, omega arith, refl, (omega (arith, e), omega (arith, e)))
+      cut (inl e) = beside (0, one_long POINTER_COUNT, omega arith, refl, (omega (arith, e), omega (arith, e)))
+      cut (inr (inl e)) = beside (1, (NEXT_DATA, CHECKSUM), omega arith, refl, (omega (arith, e), omega (arith, e)))
+      cut (inr (inr (inl e))) = beside (1, (NEXT_DATA, CHECKSUM), omega arith, refl, (omega (arith, e), omega (arith, e)))
+      cut (inr (inr (inr (inl e)))) = beside (2, (PROTECTION, FILE_SIZE), omega arith, refl, (omega (arith, e), omega (arith, e)))
+      cut (inr (inr (inr (inr e)))) = beside (5, one_long NEXT_EXTENSION, omega arith, refl, (omega (arith, e), omega (arith, e)))
 
       stamp : ¬ IsFileStamp (i / 4)
-      stamp (inl e) = beside (1, (next_data, sum_long), omega arith, refl, (omega (arith, e), omega (arith, e)))
-      stamp (inr (inl e)) = beside (2, (protection_long, size_long), omega arith, refl, (omega (arith, e), omega (arith, e)))
-      stamp (inr (inr e)) = beside (3, date_longs date_long, omega arith, refl, (omega (arith, e.0), omega (arith, e.1)))
+      stamp (inl e) = beside (1, (NEXT_DATA, CHECKSUM), omega arith, refl, (omega (arith, e), omega (arith, e)))
+      stamp (inr (inl e)) = beside (2, (PROTECTION, FILE_SIZE), omega arith, refl, (omega (arith, e), omega (arith, e)))
+      stamp (inr (inr e)) = beside (3, date_longs DATE, omega arith, refl, (omega (arith, e.0), omega (arith, e.1)))
 
   module _ (moment : Date3) where
-    pub kept_as_is : secondary_type old key ≢ file_type → IsEmptied moment key t t
+    pub kept_as_is : secondary_type old key ≢ FILE_TYPE → IsEmptied moment key t t
     kept_as_is n = record { can = can; no_bytes = not_file n; others = λ k o. refl; same = refl }
 
     abbrev shorter : Node → Node
@@ -142,7 +145,7 @@ module _ (key : ℕ) (old mid new : List ℕ) (t : Tree) (st : Stands old t) (ca
 
     own_kept : KeepsEntry key old new
     own_kept i l beside =
-        gives.own i l (λ e. beside (4, one_long next_in_chain, omega arith, refl, (omega (arith, e), omega (arith, e)))) (λ e. beside (1, (next_data, sum_long), omega arith, refl, (omega (arith, e), omega (arith, e))))
+        gives.own i l (λ e. beside (4, one_long NEXT_IN_CHAIN, omega arith, refl, (omega (arith, e), omega (arith, e)))) (λ e. beside (1, (NEXT_DATA, CHECKSUM), omega arith, refl, (omega (arith, e), omega (arith, e))))
         ∙ own i l beside
 
     pub keeps_away : KeepsRest old new

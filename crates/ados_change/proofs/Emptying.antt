@@ -2,7 +2,7 @@
 use Rattle.std.proofs.Common.{◌≡◌, ◌≢◌, ℕ, inl, inr, ◌==◌, not, List, filter, Option, Some, None, option_map, option_and_then, refl, sym, ap, ap₂, ◌∙◌}
 use Rattle.std.specs.Option.{option_map_or}
 use Rattle.std.proofs.lemmas.Bool.{cases_eq}
-use Rattle.ados_name.specs.declared.Date3.{Date3}
+use Rattle.ados_name.specs.declared.stamp.Date3.{Date3}
 use Rattle.ados_model.specs.Change.{changed, left, listed, removed, stamped, with_node}
 use Rattle.ados_model.specs.Tree.{Node, Tree, entries, entries_in, parent_of}
 use Rattle.ados_change.proofs.Changed.{nodes_here, nodes_other, changed_keeps, relisted}

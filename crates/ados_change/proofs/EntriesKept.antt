@@ -1,10 +1,12 @@
 -- A change of entries leaves all bytes outside fields untouched.
-use Rattle.std.proofs.Common.{◌≡◌, ◌≢◌, ℕ, ◌+◌, ◌-◌, ◌*◌, ◌/◌, ◌%◌, ◌<◌, ◌≤◌, List, take, drop, length, slice_index, Some, None, refl, sym, ap, ◌∙◌, subst, arith, length-take, length-drop}
-use Rattle.std.proofs.lemmas.List.{ext_get_or, get_or-take, get_or-drop}
-use Rattle.adf_block.specs.Image.{HasFreeBit, byte_at, bytes_at, long, secondary_type}
-use Rattle.adf_block.specs.Layout.{name_byte}
+use Rattle.std.proofs.Common.{◌≡◌, ◌≢◌, ℕ, ◌+◌, ◌-◌, ◌*◌, ◌/◌, ◌%◌, ◌<◌, ◌≤◌, List, length, slice_index, Some, None, refl, sym, ap, ◌∙◌, subst, arith}
+use Rattle.adf_block.specs.Image.{byte_at, bytes_at, long}
+use Rattle.adf_block.specs.Whole.{HasFreeBit}
+use Rattle.adf_block.specs.Fields.{secondary_type}
+use Rattle.adf_block.specs.declared.layout.TheConstants.{NAME_BYTE}
 use Rattle.adf_block.specs.Frame.{SameBut}
 use Rattle.adf_block.proofs.Frames.{same_long}
+use Rattle.adf_block.proofs.Blocks.{boot_same}
 use Rattle.ados_change.specs.Behind.{KeepsBehindName}
 use Rattle.ados_model.specs.Tree.{Content, Node, Tree, root}
 use Rattle.ados_model.specs.Tree.Content.{Directory, File}
@@ -32,7 +34,7 @@ pub data IsWritten (old : List ℕ) (t : Tree) (st : Stands old t) (new : List �
   of_page : (p : ℕ) → p < length st.layout.pages → slice_index st.layout.pages p ≡ b → IsWritten old t st new b i
   of_none : 2 ≤ b → ¬ HasFreeBit new b → ((duty : Duty) → ¬ HasDuty t st.layout b duty) → IsWritten old t st new b i
   of_node : (node : Node) → t.nodes b ≡ Some node → IsPlain t b node (i / 4) → IsWritten old t st new b i
-  of_name : (node : Node) → t.nodes b ≡ Some node → b ≢ root t → InText new b name_byte i → i ≤ name_byte + 30 → IsWritten old t st new b i
+  of_name : (node : Node) → t.nodes b ≡ Some node → b ≢ root t → InText new b NAME_BYTE i → i ≤ NAME_BYTE + 30 → IsWritten old t st new b i
 
 -- a byte of a field is a byte of a field in each role of the same kind
 alike_field : {image : List ℕ} {b i : ℕ} (role role' : Role) → Alike role role' → IsField image b role i → IsField image b role' i
@@ -58,22 +60,8 @@ module _ (old new : List ℕ) (t : Tree) (st : Stands old t) (h : SameBut (IsWri
   not_boot b i l (of_node a e p) = let inside = st.proper.inside b a e in omega (arith, l, inside.0)
   not_boot b i l (of_name a e n p short) = let inside = st.proper.inside b a e in omega (arith, l, inside.0)
 
-  boot_byte : (k : ℕ) → k < 1024 → slice_index new k ≡ slice_index old k
-  unfolding byte_at
-  boot_byte k l =
-      let here : 512 * (k / 512) + k % 512 ≡ k = omega arith in
-      ap (slice_index new) (sym here) ∙ h.same_byte (k / 512) (k % 512) (omega arith) (not_boot (k / 512) (k % 512) (omega (arith, l))) ∙ ap (slice_index old) here
-
   boot_kept : bytes_at new 0 0 1024 ≡ bytes_at old 0 0 1024
-  unfolding bytes_at
-  boot_kept =
-      ext_get_or 0 (take 1024 (drop (512 * 0 + 0) new)) (take 1024 (drop (512 * 0 + 0) old))
-      (omega (arith, length-take 1024 (drop (512 * 0 + 0) new), length-take 1024 (drop (512 * 0 + 0) old), length-drop (512 * 0 + 0) new, length-drop (512 * 0 + 0) old, h.same_length))
-      (λ k l.
-      let below : k < 1024 = omega (arith, l, length-take 1024 (drop (512 * 0 + 0) new)) in
-      get_or-take 1024 (drop (512 * 0 + 0) new) k 0 below ∙ get_or-drop (512 * 0 + 0) new k 0
-      ∙ boot_byte (512 * 0 + 0 + k) (omega (arith, below))
-      ∙ sym (get_or-take 1024 (drop (512 * 0 + 0) old) k 0 below ∙ get_or-drop (512 * 0 + 0) old k 0))
+  boot_kept = boot_same old new h.same_length (λ b i l m. h.same_byte b i m (not_boot b i l))
 
   root_field : (i : ℕ) (a : Node) → IsPlain t (root t) a (i / 4) → IsField new (root t) roles.Root i
   root_field i a (sum e) = root_longs (2, (5, 78), omega arith, refl, (omega (arith, e), omega (arith, e)))
@@ -98,14 +86,14 @@ module _ (old new : List ℕ) (t : Tree) (st : Stands old t) (h : SameBut (IsWri
       go (File bytes) d e (link f m o) = file_longs e (5, (124, 127), omega arith, refl, (omega (arith, m), omega (arith, o)))
 
   -- a byte of a node's block outside such longs and its name is not written
-  node_unwritten : (b i : ℕ) (a : Node) → t.nodes b ≡ Some a → ((x : Node) → ¬ IsPlain t b x (i / 4)) → (InText new b name_byte i → i ≤ name_byte + 30 → ⊥) → ¬ IsWritten old t st new b i
+  node_unwritten : (b i : ℕ) (a : Node) → t.nodes b ≡ Some a → ((x : Node) → ¬ IsPlain t b x (i / 4)) → (InText new b NAME_BYTE i → i ≤ NAME_BYTE + 30 → ⊥) → ¬ IsWritten old t st new b i
   node_unwritten b i a at plain name (of_page p l e) = let duty : Duty.Page p ≡ Duty.Key = st.fits.one_duty b (Duty.Page p) Duty.Key (page_serves b p l e) (rw at refl) in cc duty
   node_unwritten b i a at plain name (of_none two used none) = none Duty.Key (rw at refl)
   node_unwritten b i a at plain name (of_node x e p) = plain x p
   node_unwritten b i a at plain name (of_name x e n text short) = name text short
 
   -- nothing after a node's name is written
-  pub behind_name : (key : ℕ) (a : Node) → t.nodes key ≡ Some a → (name : List ℕ) → byte_at new key name_byte ≡ length name → KeepsBehindName key name old new
+  pub behind_name : (key : ℕ) (a : Node) → t.nodes key ≡ Some a → (name : List ℕ) → byte_at new key NAME_BYTE ≡ length name → KeepsBehindName key name old new
   behind_name key a at name counted i above within = h.same_byte key i (omega (arith, within)) (node_unwritten key i a at plain (λ text short. omega (arith, text.1, counted, above)))
     where
       plain : (x : Node) → IsPlain t key x (i / 4) → ⊥
@@ -152,7 +140,7 @@ module _ (old new : List ℕ) (t : Tree) (st : Stands old t) (h : SameBut (IsWri
   page_field b i k p (roles.Data file) m d = absurd (cc d)
   page_field b i k p (roles.Extension file) m d = absurd (cc d)
 
-  name_field : (b i k : ℕ) (role : Role) → b ≢ root t → InText new b name_byte i → StandsAt old t st role k b → duty_of old t st role k ≡ Duty.Key → IsField new b role i
+  name_field : (b i k : ℕ) (role : Role) → b ≢ root t → InText new b NAME_BYTE i → StandsAt old t st role k b → duty_of old t st role k ≡ Duty.Key → IsField new b role i
   name_field b i k (roles.Entry dir q) n text at d = entry_name text
   name_field b i k roles.Root n text at d = absurd (n (root_at old t st k b at))
   name_field b i k roles.Page n text at d = absurd (cc d)

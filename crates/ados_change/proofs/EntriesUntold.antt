@@ -1,21 +1,21 @@
 -- A change of entries leaves untouched what no tree determines, step by step: the bitmap past the volume's end, and
 -- the data blocks of files.
-use Rattle.std.proofs.Common.{◌≡◌, ◌≢◌, ℕ, ◌+◌, ◌/◌, ◌<◌, ◌≤◌, ◌⊎◌, inl, inr, Bool, List, length, slice_index, Some, refl, sym, ap, ◌∙◌, subst, arith}
+use Rattle.std.proofs.Common.{◌≡◌, ◌≢◌, ℕ, ◌+◌, ◌/◌, ◌<◌, ◌≤◌, ◌⊎◌, inl, inr, Bool, List, length, Some, refl, sym, ap, ◌∙◌, subst, arith}
 use Rattle.adf_block.specs.Frame.{InBlock, OnlyBlock, SameBut}
-use Rattle.adf_block.specs.Image.{IsInside, block_count, page_count, byte_at, long, root_key}
+use Rattle.adf_block.specs.Image.{IsInside, block_count, page_count, long, root_key}
 use Rattle.adf_block.proofs.Frames.{same_count, same_long, same_weaken}
 use Rattle.ados_map.specs.Changes.{MapPlace, BitChanged}
 use Rattle.ados_map.specs.Pages.{LawfulPages, page_block, page_of, pages_of}
 use Rattle.ados_map.proofs.MarkLemmas.{mark_kept}
 use Rattle.ados_data.proofs.Marks.{page_kept}
-use Rattle.ados_name.specs.declared.Date3.{Date3}
+use Rattle.ados_name.specs.declared.stamp.Date3.{Date3}
 use Rattle.ados_chain.specs.Relinks.{AtLinks, Relinks}
 use Rattle.ados_model.specs.Tree.{Node, Tree, Proper, root}
 use Rattle.ados_model.specs.Stands.{Duty, HasDuty, Layout, Stands}
 use Rattle.ados_model.specs.Keys.{HasFileKey}
 use Rattle.ados_change.specs.Untold.{KeepsData, KeepsPastEnd, KeepsUntold, data_at}
 use Rattle.ados_change.proofs.FilesStay.{data_serves, file_of_key, files_stay}
-use Rattle.ados_model.proofs.Standing.{count_same, root_is, slice_get-index}
+use Rattle.ados_model.proofs.Standing.{count_same, slice_get-index}
 use Rattle.ados_change.proofs.Writable.{data_is, extensions_is, page_serves}
 use Rattle.ados_change.specs.steps.Writes.{AtDate, AtLongs, AtTitle, Dated, Titled}
 use Rattle.ados_change.proofs.EntriesKept.{IsWritten}

@@ -1,11 +1,12 @@
 -- A change of fields in blocks of keys leaves all bytes outside fields and the bitmap untouched.
-use Rattle.std.proofs.Common.{◌≡◌, ◌≢◌, ℕ, ◌+◌, ◌-◌, ◌*◌, ◌/◌, ◌%◌, ◌^◌, ◌<◌, ◌≤◌, ◌⊎◌, inl, inr, ◌==◌, not, bit_and, List, length, take, drop, slice_index, Some, IsSome, refl, sym, ap, ◌∙◌, arith, length-take, length-drop}
+use Rattle.std.proofs.Common.{◌≡◌, ◌≢◌, ℕ, ◌+◌, ◌-◌, ◌/◌, ◌%◌, ◌^◌, ◌<◌, ◌≤◌, ◌⊎◌, inl, inr, ◌==◌, not, bit_and, List, length, slice_index, Some, IsSome, refl, sym, ap, ◌∙◌, arith}
 use Rattle.std.proofs.lemmas.Bool.{cases_eq}
-use Rattle.std.proofs.lemmas.List.{ext_get_or, get_or-take, get_or-drop}
-use Rattle.adf_block.specs.Image.{block_count, root_key, page_count, byte_at, bytes_at, long, has_free_bit, HasText, secondary_type, format_of}
-use Rattle.adf_block.specs.Layout.{name_byte, comment_byte}
+use Rattle.adf_block.specs.Image.{block_count, root_key, page_count, byte_at, bytes_at, long, has_free_bit, HasText}
+use Rattle.adf_block.specs.Fields.{secondary_type, format_of}
+use Rattle.adf_block.specs.declared.layout.TheConstants.{COMMENT_BYTE, NAME_BYTE}
 use Rattle.adf_block.specs.Frame.{SameBut}
 use Rattle.adf_block.proofs.Frames.{same_long, same_count}
+use Rattle.adf_block.proofs.Blocks.{boot_same}
 use Rattle.ados_map.specs.Pages.{page_block, pages_of}
 use Rattle.ados_name.specs.Name.{IsName, IsComment}
 use Rattle.ados_model.specs.Tree.{Content, Node, Tree, root}
@@ -62,25 +63,8 @@ module _ (old new : List ℕ) (t : Tree) (s : Stands old t) where
       go (roles.Entry dir q) (roles.Extension file) at alike m f d = absurd alike
 
   module _ (changed : ℕ → ℕ → Type 0) (h : SameBut changed old new) (fields : (b i : ℕ) → i < 512 → changed b i → IsKeyField new t b i) (told : (b i : ℕ) → changed b i → IsTold t b i) where
-    boot_byte : (k : ℕ) → k < 1024 → slice_index new k ≡ slice_index old k
-    unfolding byte_at
-    boot_byte k l =
-        let here : 512 * (k / 512) + k % 512 ≡ k = omega arith in
-        let unchanged : ¬ changed (k / 512) (k % 512) = λ w.
-        let inside = s.fits.inside (k / 512) Duty.Key (is_key (k / 512) (k % 512) (fields (k / 512) (k % 512) (omega arith) w)) in
-        omega (arith, l, inside.0) in
-        ap (slice_index new) (sym here) ∙ h.same_byte (k / 512) (k % 512) (omega arith) unchanged ∙ ap (slice_index old) here
-
     boot_kept : bytes_at new 0 0 1024 ≡ bytes_at old 0 0 1024
-    unfolding bytes_at
-    boot_kept =
-        ext_get_or 0 (take 1024 (drop (512 * 0 + 0) new)) (take 1024 (drop (512 * 0 + 0) old))
-        (omega (arith, length-take 1024 (drop (512 * 0 + 0) new), length-take 1024 (drop (512 * 0 + 0) old), length-drop (512 * 0 + 0) new, length-drop (512 * 0 + 0) old, h.same_length))
-        (λ k l.
-        let below : k < 1024 = omega (arith, l, length-take 1024 (drop (512 * 0 + 0) new)) in
-        get_or-take 1024 (drop (512 * 0 + 0) new) k 0 below ∙ get_or-drop (512 * 0 + 0) new k 0
-        ∙ boot_byte (512 * 0 + 0 + k) (omega (arith, below))
-        ∙ sym (get_or-take 1024 (drop (512 * 0 + 0) old) k 0 below ∙ get_or-drop (512 * 0 + 0) old k 0))
+    boot_kept = boot_same old new h.same_length (λ b i l m. h.same_byte b i m (λ w. let inside = s.fits.inside b Duty.Key (is_key b i (fields b i m w)) in omega (arith, l, inside.0)))
 
     -- the fields of a file's data are unchanged
     front_stays : (b j : ℕ) → j < 78 → j ≢ 5 → long new b j ≡ long old b j
@@ -217,7 +201,7 @@ module _ (old new : List ℕ) (t : Tree) (s : Stands old t) where
       | inr n ↦ entry_field n key_serves (entry_longs n i (elim place [ inl f ↦ inl f | inr f ↦ inr (inr f) ]))
     ]
 
-    pub telling_field : (key ≡ root t → HasText new key name_byte after.name) → (key ≢ root t → HasText new key comment_byte after.comment) → (i : ℕ) → Telling t key after i → IsKeyField new t key i
+    pub telling_field : (key ≡ root t → HasText new key NAME_BYTE after.name) → (key ≢ root t → HasText new key COMMENT_BYTE after.comment) → (i : ℕ) → Telling t key after i → IsKeyField new t key i
     telling_field name comment i (Telling.sum e) = summed_or_dated i (inl e)
     telling_field name comment i (Telling.date l m) = summed_or_dated i (inr (l, m))
     telling_field name comment i (Telling.root_name e l m) = root_field e (root_name (l, omega (arith, m, (name e).counted)))

@@ -1,16 +1,17 @@
 -- Files that stay in their blocks, and what two changes together leave untouched in them.
-use Rattle.std.proofs.Common.{◌≡◌, ℕ, zero, suc, ◌+◌, ◌-◌, ◌*◌, ◌/◌, ◌%◌, ◌<◌, ◌≤◌, List, length, map, slice_index, Some, refl, sym, ap, ap₂, ◌∙◌, subst, arith}
+use Rattle.std.proofs.Common.{◌≡◌, ℕ, zero, suc, ◌+◌, ◌-◌, ◌/◌, ◌%◌, ◌<◌, List, length, map, slice_index, Some, refl, sym, ap, ap₂, ◌∙◌, subst, arith}
 use Rattle.std.specs.List.{range_with_len}
 use Rattle.std.proofs.lemmas.List.FromFn.{length-map-range_with_len, get_or-map-range_with_len}
-use Rattle.adf_block.specs.Image.{file_size, block_count, page_count, byte_at, long, format_of}
-use Rattle.ados_map.specs.Pages.{pages_of, page_block}
+use Rattle.adf_block.specs.Image.{block_count, page_count, byte_at, long}
+use Rattle.adf_block.specs.Fields.{file_size, format_of}
+use Rattle.ados_map.specs.Pages.{pages_of}
 use Rattle.ados_model.specs.Tree.{data_count, extension_count, Tree, content_at}
 use Rattle.ados_model.specs.File.{pointer_block, data_block, data_blocks, extension_blocks}
 use Rattle.ados_data.proofs.Spelled.{listed_is}
 use Rattle.ados_model.specs.Tree.Content.{File}
 use Rattle.ados_model.specs.Stands.{Duty, HasDuty, Stands}
 use Rattle.ados_model.specs.Keys.{HasFileKey}
-use Rattle.ados_change.specs.Untold.{HasData, HasFileBytes, KeepsData, KeepsFileEnd, KeepsFileEnds, KeepsOtherData, KeepsPastEnd, KeepsUntold, data_at}
+use Rattle.ados_change.specs.Untold.{HasData, HasFileBytes, KeepsData, KeepsFileEnd, KeepsPastEnd, KeepsUntold, data_at}
 use Rattle.ados_model.proofs.Nodes.{content_in}
 use Rattle.ados_model.proofs.OneTree.{one_tree}
 use Rattle.ados_model.proofs.Standing.{IsFileNode, slice_get-index}
@@ -48,9 +49,6 @@ module _ (old new : List ℕ) (links : (b : ℕ) → long new b 126 ≡ long old
 module _ (image : List ℕ) (t : Tree) (s : Stands image t) (file : ℕ) where
   pub has_bytes : (bytes : List ℕ) → content_at t file ≡ Some (File bytes) → HasFileBytes image file bytes
   has_bytes bytes e u r = subst (λ (v : Tree). content_at v file ≡ Some (File bytes)) (one_tree image t u s r) e
-
-  pub has_key : (bytes : List ℕ) → HasFileBytes image file bytes → HasFileKey image file
-  has_key bytes has u r = (bytes, has u r)
 
   pub file_of_key : HasFileKey image file → IsFileNode image t s file
   file_of_key key =

@@ -3,7 +3,7 @@ use Rattle.std.proofs.Common.{◌≡◌, ℕ, ◌+◌, ◌/◌, ◌<◌, ◌≤�
 use Rattle.adf_block.specs.Image.{byte_at, block_sum, long, HasText}
 use Rattle.adf_block.specs.Frame.{AtLong, OnlyLong, SameBut, Within}
 use Rattle.adf_block.proofs.Frames.{other_long, same_bytes_at, same_long, same_trans, same_weaken}
-use Rattle.ados_name.specs.declared.Date3.{Date3}
+use Rattle.ados_name.specs.declared.stamp.Date3.{Date3}
 use Rattle.ados_name.specs.Name.{IsName}
 use Rattle.ados_model.specs.Stands.{date_at, type_of}
 use Rattle.ados_model.specs.Tree.{Content}

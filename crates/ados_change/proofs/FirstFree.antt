@@ -1,15 +1,18 @@
 -- A new entry gets the lowest free block, and its bytes outside fields are 0.
 use Rattle.std.proofs.Common.{◌≡◌, ◌≢◌, ℕ, ◌+◌, ◌*◌, ◌/◌, ◌<◌, ◌≤◌, ◌⊎◌, inl, inr, nat_le, cond, List, [], length, slice_index, Option, Some, None, is_some, option_map, refl, sym, ap, ◌∙◌, subst, arith}
 use Rattle.std.proofs.lemmas.Bool.{cases_eq, cases_lt, cases_order, false≢true}
-use Rattle.adf_block.specs.Layout.{next_in_chain, name_byte, file_type}
-use Rattle.adf_block.specs.Image.{secondary_type, IsInside, HasFreeBit, byte_at, long}
+use Rattle.adf_block.specs.declared.layout.TheConstants.{FILE_TYPE, NAME_BYTE, NEXT_IN_CHAIN}
+use Rattle.adf_block.specs.Image.{IsInside, byte_at, long}
+use Rattle.adf_block.specs.Whole.{HasFreeBit}
+use Rattle.adf_block.specs.Fields.{secondary_type}
 use Rattle.adf_block.specs.Frame.{SameBut}
 use Rattle.adf_block.proofs.Frames.{same_long, same_weaken}
 use Rattle.ados_chain.specs.Relinks.{AtLinks, Relinks}
 use Rattle.ados_map.specs.Pages.{IsLowestFree}
 use Rattle.ados_name.specs.Name.{slot}
-use Rattle.ados_name.specs.declared.Date3.{Date3}
-use Rattle.ados_model.specs.Change.{enter, made, new_node, with_node}
+use Rattle.ados_name.specs.declared.stamp.Date3.{Date3}
+use Rattle.ados_model.specs.Change.{enter, made, with_node}
+use Rattle.ados_model.specs.Edits.{new_node}
 use Rattle.ados_model.specs.Faults.{InImage, Reached, first_pointers}
 use Rattle.ados_model.specs.Kept.{IsField, NamesFirstData}
 use Rattle.ados_model.specs.Kept.IsField.{directory_longs, file_longs, entry_name}
@@ -33,7 +36,7 @@ use Rattle.ados_change.proofs.Spells.{Spells}
 
 -- the bytes of all other blocks, and the checksum and next-in-chain long of a key
 abbrev pub AtLink : ℕ → ℕ → ℕ → Type 0
-AtLink key b i = (b ≢ key) ⊎ ((i / 4 ≡ 5) ⊎ (i / 4 ≡ next_in_chain))
+AtLink key b i = (b ≢ key) ⊎ ((i / 4 ≡ 5) ⊎ (i / 4 ≡ NEXT_IN_CHAIN))
 
 module _ (key dir : ℕ) (t : Tree) (apart : dir ≢ key) (no_root : key ≢ root t) where
   pub dated_there : (moment : Date3) (m m' : List ℕ) → Dated dir 105 moment m m' → SameBut (AtLink key) m m'
@@ -63,21 +66,21 @@ module _ (filled new : List ℕ) (key dir : ℕ) (name : List ℕ) (content : Co
       other k e (inl n) = n refl
       other k e (inr w) = omega (arith, e, w)
 
-  counted : byte_at new key name_byte ≡ length name
-  counted = h.same_byte key name_byte (omega arith) other ∙ entry.named.counted
+  counted : byte_at new key NAME_BYTE ≡ length name
+  counted = h.same_byte key NAME_BYTE (omega arith) other ∙ entry.named.counted
     where
       other : ¬ AtLink key key 432
       other (inl n) = n refl
       other (inr w) = omega (arith, w)
 
   -- the bytes that a new entry fills are in fields, as are its checksum and next-in-chain long
-  new_field : (d s i : ℕ) → IsNewField (length name) i ⊎ ((i / 4 ≡ 5) ⊎ (i / 4 ≡ next_in_chain)) → IsField new key (roles.Entry d s) i
+  new_field : (d s i : ℕ) → IsNewField (length name) i ⊎ ((i / 4 ≡ 5) ⊎ (i / 4 ≡ NEXT_IN_CHAIN)) → IsField new key (roles.Entry d s) i
   new_field d s i f = go content type_is
     where
       text : 432 ≤ i → i < 433 + length name → IsField new key (roles.Entry d s) i
       text l m = entry_name (l, omega (arith, m, counted))
 
-      of_directory : secondary_type new key ≡ 2 → IsNewField (length name) i ⊎ ((i / 4 ≡ 5) ⊎ (i / 4 ≡ next_in_chain)) → IsField new key (roles.Entry d s) i
+      of_directory : secondary_type new key ≡ 2 → IsNewField (length name) i ⊎ ((i / 4 ≡ 5) ⊎ (i / 4 ≡ NEXT_IN_CHAIN)) → IsField new key (roles.Entry d s) i
       of_directory e (inl (inl z)) = directory_longs e (0, (0, 1), omega arith, refl, (omega arith, omega (arith, z)))
       of_directory e (inl (inr (inl z))) = directory_longs e (1, (5, 77), omega arith, refl, (omega (arith, z), omega (arith, z)))
       of_directory e (inl (inr (inr (inl z)))) = elim (cases_lt i 432) [
@@ -89,7 +92,7 @@ module _ (filled new : List ℕ) (key dir : ℕ) (name : List ℕ) (content : Co
       of_directory e (inr (inl z)) = directory_longs e (1, (5, 77), omega arith, refl, (omega (arith, z), omega (arith, z)))
       of_directory e (inr (inr z)) = directory_longs e (4, (124, 125), omega arith, refl, (omega (arith, z), omega (arith, z)))
 
-      of_file : secondary_type new key ≡ file_type → IsNewField (length name) i ⊎ ((i / 4 ≡ 5) ⊎ (i / 4 ≡ next_in_chain)) → IsField new key (roles.Entry d s) i
+      of_file : secondary_type new key ≡ FILE_TYPE → IsNewField (length name) i ⊎ ((i / 4 ≡ 5) ⊎ (i / 4 ≡ NEXT_IN_CHAIN)) → IsField new key (roles.Entry d s) i
       of_file e (inl (inl z)) = file_longs e (0, (0, 2), omega arith, refl, (omega arith, omega (arith, z)))
       of_file e (inl (inr (inl z))) = file_longs e (1, (4, 5), omega arith, refl, (omega (arith, z), omega (arith, z)))
       of_file e (inl (inr (inr (inl z)))) = elim (cases_lt i 432) [

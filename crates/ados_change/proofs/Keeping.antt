@@ -1,7 +1,8 @@
 -- What is unchanged when nothing changes, and in headers with unchanged pointers.
 use Rattle.std.proofs.Common.{◌≡◌, ℕ, zero, suc, ◌-◌, ◌<◌, ◌≤◌, nat_le, Bool, true, false, cond, List, [], ◌∷◌, ◌++◌, slice_index, refl, sym, ap, ap₂, ◌∙◌, arith}
 use Rattle.std.proofs.lemmas.Bool.{leb-true}
-use Rattle.adf_block.specs.Image.{long, pointer_count}
+use Rattle.adf_block.specs.Image.{long}
+use Rattle.adf_block.specs.Fields.{pointer_count}
 use Rattle.ados_model.specs.Faults.{first_pointers, pointers_of}
 use Rattle.ados_model.specs.Kept.{KeepsFirstData, first_data}
 use Rattle.ados_change.specs.NewBlocks.{KeepsRest, TakesLowest, TakesNone}

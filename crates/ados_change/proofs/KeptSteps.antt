@@ -1,12 +1,13 @@
 -- Each step of a change of entries writes only fields.
 use Rattle.std.proofs.Common.{◌≡◌, ◌≢◌, ℕ, ◌/◌, ◌<◌, ◌≤◌, ◌⊎◌, inl, inr, Bool, List, length, slice_index, Some, sym, ap, ◌∙◌, subst, arith}
-use Rattle.adf_block.specs.Layout.{next_in_chain, name_byte}
+use Rattle.adf_block.specs.declared.layout.TheConstants.{NAME_BYTE, NEXT_IN_CHAIN}
 use Rattle.adf_block.specs.Frame.{InBlock, OnlyBlock, SameBut}
-use Rattle.adf_block.specs.Image.{HasFreeBit, byte_at}
+use Rattle.adf_block.specs.Image.{byte_at}
+use Rattle.adf_block.specs.Whole.{HasFreeBit}
 use Rattle.adf_block.proofs.Frames.{same_weaken}
 use Rattle.ados_map.specs.Changes.{MapPlace, BitChanged}
 use Rattle.ados_map.specs.Pages.{page_block, page_of}
-use Rattle.ados_name.specs.declared.Date3.{Date3}
+use Rattle.ados_name.specs.declared.stamp.Date3.{Date3}
 use Rattle.ados_chain.specs.Relinks.{AtLinks, Relinks}
 use Rattle.ados_model.specs.Stands.{Duty, HasDuty, Stands}
 use Rattle.ados_model.specs.Tree.{Node, Tree, root}
@@ -27,7 +28,7 @@ module _ (old : List ℕ) (t : Tree) (st : Stands old t) (new : List ℕ) where
   IsKnown b = ((node : Node) × (t.nodes b ≡ Some node) × (b ≢ root t)) ⊎ ((2 ≤ b) × (¬ HasFreeBit new b) × ((duty : Duty) → ¬ HasDuty t st.layout b duty))
 
   -- the next-in-chain long or the checksum of such a block
-  known_link : (b i : ℕ) → IsKnown b → (i / 4 ≡ next_in_chain) ⊎ (i / 4 ≡ 5) → At b i
+  known_link : (b i : ℕ) → IsKnown b → (i / 4 ≡ NEXT_IN_CHAIN) ⊎ (i / 4 ≡ 5) → At b i
   known_link b i (inl n) (inl e) = of_node n.0 n.1 (link n.2 (omega (arith, e)) (omega (arith, e)))
   known_link b i (inl n) (inr e) = of_node n.0 n.1 (sum e)
   known_link b i (inr n) e = of_none n.0 n.1 n.2
@@ -68,7 +69,7 @@ module _ (old : List ℕ) (t : Tree) (st : Stands old t) (new : List ℕ) where
   pub filled_kept : (key : ℕ) → 2 ≤ key → ¬ HasFreeBit new key → ((duty : Duty) → ¬ HasDuty t st.layout key duty) → (m m' : List ℕ) → OnlyBlock key m m' → SameBut At m m'
   filled_kept key l used none m m' h = same_weaken (InBlock key) At m m' (λ c i w. subst (λ (x : ℕ). At x i) (sym w) (of_none l used none)) h
 
-  pub titled_kept : (key dir : ℕ) (name : List ℕ) (d : Node) → t.nodes key ≡ Some d → key ≢ root t → byte_at new key name_byte ≡ length name → length name ≤ 30 → (m m' : List ℕ) → Titled key dir name m m' → SameBut At m m'
+  pub titled_kept : (key dir : ℕ) (name : List ℕ) (d : Node) → t.nodes key ≡ Some d → key ≢ root t → byte_at new key NAME_BYTE ≡ length name → length name ≤ 30 → (m m' : List ℕ) → Titled key dir name m m' → SameBut At m m'
   titled_kept key dir name d at n counted short m m' r = same_weaken (AtTitle key (length name)) At m m' within r.rest
     where
       within : (c i : ℕ) → AtTitle key (length name) c i → At c i

@@ -2,9 +2,8 @@
 use Rattle.std.proofs.Common.{◌≡◌, ◌≢◌, ℕ, ◌+◌, ◌<◌, ◌==◌, List, length, slice_index, true, Contains, Some, None, refl, sym, ap, ◌∙◌, subst, arith, eqb-true}
 use Rattle.std.proofs.lemmas.List.Elements.{All-contains, filter_passes}
 use Rattle.std.proofs.lemmas.List.Kept.{AllPairs-filter}
-use Rattle.adf_block.specs.Image.{IsInside, block_count, bytes_at, long, root_key, HasText}
-use Rattle.adf_block.specs.Layout.{name_byte}
-use Rattle.adf_block.specs.Whole.{text_at}
+use Rattle.adf_block.specs.Image.{IsInside, block_count, long, root_key}
+use Rattle.adf_block.specs.declared.layout.TheConstants.{NAME_BYTE}
 use Rattle.ados_name.specs.Name.{slot, IsName}
 use Rattle.ados_map.specs.Pages.{LawfulPages, page_block, pages_of}
 use Rattle.ados_chain.specs.Chains.{LawfulChains, IsEntryBlock, InChains, name_at, slot_at}
@@ -17,10 +16,7 @@ use Rattle.ados_change.proofs.Entering.{Contains-part}
 use Rattle.ados_change.proofs.Loose.{Loose, LeadsLoosely}
 use Rattle.ados_change.proofs.Loose.LeadsLoosely.{to_root, to_loose, to_parent}
 use Rattle.ados_change.proofs.Spells.{Spells}
-
--- the text of a block
-pub text_is : (image : List ℕ) (block i : ℕ) (text : List ℕ) → HasText image block i text → text_at image block i ≡ text
-text_is image block i text h = ap (bytes_at image block (i + 1)) h.counted ∙ h.follows
+use Rattle.ados_model.proofs.NoFaults.{text_is}
 
 module _ (image : List ℕ) (t : Tree) (l : Layout) (key : ℕ) (s : Spells image t l) (loose : Loose t key) where
   pub count : block_count image ≡ t.blocks
@@ -58,7 +54,7 @@ module _ (image : List ℕ) (t : Tree) (l : Layout) (key : ℕ) (s : Spells imag
   }
 
   pub name_is : (k : ℕ) (node : Node) → t.nodes k ≡ Some node → name_at image k ≡ node.name
-  name_is k node e = text_is image k name_byte node.name (s.nodes k node e).name
+  name_is k node e = text_is image k NAME_BYTE node.name (s.nodes k node e).name
 
   -- the slot of a node in the image is that of its name
   pub slot_is : (k : ℕ) (node : Node) → t.nodes k ≡ Some node → slot_at image k ≡ slot (name_of t k)

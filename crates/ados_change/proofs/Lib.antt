@@ -21,7 +21,6 @@ pub mod BytesUntold
 pub mod Stamped
 pub mod Renewed
 pub mod Stamping
-pub mod Children
 pub mod Entering
 pub mod Changed
 pub mod Loose

@@ -2,9 +2,10 @@
 use Rattle.std.proofs.Common.{◌≡◌, ◌≢◌, ℕ, ◌+◌, ◌<◌, ◌≤◌, ◌⊎◌, inl, inr, List, ◌∷◌, filter, ◌==◌, Contains, Some, is_some, IsSome, refl, sym, ap, ◌∙◌, subst, arith, eq-eqb}
 use Rattle.std.proofs.lemmas.Bool.{cases_eq}
 use Rattle.std.proofs.lemmas.List.Elements.{Contains-append_left}
-use Rattle.adf_block.specs.Image.{block_sum, long, Chained, table_entry}
-use Rattle.adf_block.specs.Layout.{next_in_chain}
-use Rattle.ados_name.specs.declared.Date3.{Date3}
+use Rattle.adf_block.specs.Image.{block_sum, long, Chained}
+use Rattle.adf_block.specs.Fields.{table_entry}
+use Rattle.adf_block.specs.declared.layout.TheConstants.{NEXT_IN_CHAIN}
+use Rattle.ados_name.specs.declared.stamp.Date3.{Date3}
 use Rattle.ados_name.specs.Name.{slot}
 use Rattle.ados_chain.specs.Chains.{slot_at, with_last}
 use Rattle.ados_chain.specs.Relinks.{CanInsert, CanUnlink, InsertsLast, Unlinks, link_block, link_long}
@@ -25,8 +26,9 @@ use Rattle.ados_change.proofs.Slots.{slots_other, slots_entered, slots_left}
 use Rattle.ados_change.proofs.Lawful.{lawful_chains, absent, one_directory, not_root, slot_is, in_part, node_block}
 use Rattle.ados_change.proofs.Relisted.{IsLinkPlace, link_place, relisted_spells}
 use Rattle.ados_change.proofs.Relisted.IsLinkPlace.{in_table}
-use Rattle.ados_change.proofs.Reframed.{TellsOnly, Chained-stays, node_stays, entry_stays, reframed}
+use Rattle.ados_change.proofs.Reframed.{TellsOnly, node_stays, entry_stays, reframed}
 use Rattle.ados_change.proofs.Reframed.Telling.{sum, heading}
+use Rattle.ados_chain.proofs.Spelling.{Chained-kept}
 
 module _ (image : List ℕ) (t : Tree) (l : Layout) (loose_key : ℕ) (s : Spells image t l) (loose : Loose t loose_key) (dir : ℕ) (a : Node) (keys : List ℕ) (at : t.nodes dir ≡ Some a) (holds : a.content ≡ Directory keys) where
   -- the link after entries of a hash chain of the directory
@@ -65,15 +67,15 @@ module _ (old mid new : List ℕ) (t : Tree) (l : Layout) (key : ℕ) (s : Spell
     own_slot : slot_at old key ≡ slot (name_of t key)
     own_slot = slot_is old t l key s loose key node at_key
 
-    chains : (d : ℕ) (b : Node) (ks : List ℕ) (q : ℕ) → t.nodes d ≡ Some b → b.content ≡ Directory ks → q < 72 → Chained mid next_in_chain (table_entry mid d q) (in_slot (entered moment dir key t) d q)
+    chains : (d : ℕ) (b : Node) (ks : List ℕ) (q : ℕ) → t.nodes d ≡ Some b → b.content ≡ Directory ks → q < 72 → Chained mid NEXT_IN_CHAIN (table_entry mid d q) (in_slot (entered moment dir key t) d q)
     chains d b ks q e c m = elim (cases_eq d dir) [
       | inl same ↦
           let lists : with_last (in_slot t dir) (slot_at old key) key q ≡ in_slot (entered moment dir key t) dir q = ap (λ (p : ℕ). with_last (in_slot t dir) p key q) own_slot ∙ sym (slots_entered t dir moment a at key (loose.rising dir) q) in
-          subst (λ (i : ℕ). Chained mid next_in_chain (table_entry mid i q) (in_slot (entered moment dir key t) i q)) (sym same)
-          (subst (Chained mid next_in_chain (table_entry mid dir q)) lists (inserts.lawful.spelled q m))
+          subst (λ (i : ℕ). Chained mid NEXT_IN_CHAIN (table_entry mid i q) (in_slot (entered moment dir key t) i q)) (sym same)
+          (subst (Chained mid NEXT_IN_CHAIN (table_entry mid dir q)) lists (inserts.lawful.spelled q m))
       | inr other ↦
           let kept = inserted-others_kept old mid dir key (in_slot t dir) inserts d (in_slot t d) (lawful_chains old t l key s loose d b ks e c) other (absent old t l key s loose d) (λ k x y. other (one_directory old t l key s loose d dir k x y)) in
-          subst (Chained mid next_in_chain (table_entry mid d q)) (sym (slots_other t dir moment (enter (λ k. slot (name_of t k)) key (entries t dir)) d q other)) (kept.spelled q m)
+          subst (Chained mid NEXT_IN_CHAIN (table_entry mid d q)) (sym (slots_other t dir moment (enter (λ k. slot (name_of t k)) key (entries t dir)) d q other)) (kept.spelled q m)
     ]
 
     pub entered_spells : Spells new (entered moment dir key t) l
@@ -88,14 +90,14 @@ module _ (old mid new : List ℕ) (t : Tree) (l : Layout) (key : ℕ) (s : Spell
 module _ (old mid new : List ℕ) (t : Tree) (l : Layout) (loose_key : ℕ) (s : Spells old t l) (loose : Loose t loose_key) (from : ℕ) (a : Node) (keys : List ℕ) (at : t.nodes from ≡ Some a) (holds : a.content ≡ Directory keys)
     (key : ℕ) (node : Node) (at_key : t.nodes key ≡ Some node) (below : node.parent ≡ Some from)
     (unlinks : Unlinks from key (in_slot t from) old mid) (moment : Date3) (redated : Dated from 105 moment mid new) where
-  chains_left : (d : ℕ) (b : Node) (ks : List ℕ) (q : ℕ) → t.nodes d ≡ Some b → b.content ≡ Directory ks → q < 72 → Chained mid next_in_chain (table_entry mid d q) (in_slot (listed moment from (filter (is_not key) (entries t from)) t) d q)
+  chains_left : (d : ℕ) (b : Node) (ks : List ℕ) (q : ℕ) → t.nodes d ≡ Some b → b.content ≡ Directory ks → q < 72 → Chained mid NEXT_IN_CHAIN (table_entry mid d q) (in_slot (listed moment from (filter (is_not key) (entries t from)) t) d q)
   chains_left d b ks q e c m = elim (cases_eq d from) [
     | inl same ↦
-        subst (λ (i : ℕ). Chained mid next_in_chain (table_entry mid i q) (in_slot (listed moment from (filter (is_not key) (entries t from)) t) i q)) (sym same)
-        (subst (Chained mid next_in_chain (table_entry mid from q)) (sym (slots_left t from moment a at key q)) (unlinks.lawful.spelled q m))
+        subst (λ (i : ℕ). Chained mid NEXT_IN_CHAIN (table_entry mid i q) (in_slot (listed moment from (filter (is_not key) (entries t from)) t) i q)) (sym same)
+        (subst (Chained mid NEXT_IN_CHAIN (table_entry mid from q)) (sym (slots_left t from moment a at key q)) (unlinks.lawful.spelled q m))
     | inr other ↦
         let kept = unlinked-others_kept old mid from key (in_slot t from) unlinks d (in_slot t d) (lawful_chains old t l loose_key s loose d b ks e c) other (λ k x y. other (one_directory old t l loose_key s loose d from k x y)) in
-        subst (Chained mid next_in_chain (table_entry mid d q)) (sym (slots_other t from moment (filter (is_not key) (entries t from)) d q other)) (kept.spelled q m)
+        subst (Chained mid NEXT_IN_CHAIN (table_entry mid d q)) (sym (slots_other t from moment (filter (is_not key) (entries t from)) d q other)) (kept.spelled q m)
   ]
 
   parent : parent_of t key ≡ Some from
@@ -104,7 +106,7 @@ module _ (old mid new : List ℕ) (t : Tree) (l : Layout) (loose_key : ℕ) (s :
   pub left_spells : Spells new (listed moment from (filter (is_not key) (entries t from)) t) l
   left_spells =
       relisted_spells old mid new t l loose_key s loose from a keys at holds key node at_key (not_root old t l loose_key s loose key from parent)
-      (link_block from unlinks.front) (link_long (6 + slot_at old key) unlinks.front) (long old key next_in_chain)
+      (link_block from unlinks.front) (link_long (6 + slot_at old key) unlinks.front) (long old key NEXT_IN_CHAIN)
       (place_behind old t l loose_key s loose from a keys at holds (slot_at old key) (slot_at-small old key) unlinks.front
       (λ k m. subst (λ (xs : List ℕ). Contains xs k) (sym unlinks.split) (Contains-append_left unlinks.front (key ∷ unlinks.back) k m)))
       unlinks.relinks moment redated (filter (is_not key) (entries t from)) chains_left
@@ -145,5 +147,5 @@ module _ (old new : List ℕ) (t : Tree) (l : Layout) (key : ℕ) (s : Spells ol
       (λ k d a e p. entry_stays old new t l s root_some size W tells r.rest k d a (loose.comment k a e) (λ j p q. free k j (omega arith) (inl (omega arith))) (free k 125 (omega arith) (inr (omega arith))) (s.entries k d a e p))
       (λ d a keys q e c m.
       let link : (b j : ℕ) → j < 128 → j ≢ 5 → (j < 118) ⊎ (121 ≤ j) → long new b j ≡ long old b j = λ b j n o p. long-kept W old new r.rest b j n (free b j o p) in
-      subst (λ (first : ℕ). Chained new next_in_chain first (in_slot t d q)) (sym (link d (6 + q) (omega (arith, m)) (omega arith) (inl (omega (arith, m)))))
-      (Chained-stays old new next_in_chain (table_entry old d q) (in_slot t d q) (λ b n. link b 124 (omega arith) (omega arith) (inr (omega arith))) (s.chains d a keys q e c m)))
+      subst (λ (first : ℕ). Chained new NEXT_IN_CHAIN first (in_slot t d q)) (sym (link d (6 + q) (omega (arith, m)) (omega arith) (inl (omega (arith, m)))))
+      (Chained-kept old new NEXT_IN_CHAIN (table_entry old d q) (in_slot t d q) (λ b n. link b 124 (omega arith) (omega arith) (inr (omega arith))) (s.chains d a keys q e c m)))

@@ -4,11 +4,13 @@ use Rattle.std.specs.Option.{option_map_or}
 use Rattle.std.proofs.lemmas.Bool.{cases_eq}
 use Rattle.std.proofs.lemmas.List.Elements.{Contains-get_or}
 use Rattle.std.proofs.lemmas.List.Kept.{AllPairs-filter}
-use Rattle.adf_block.specs.Image.{IsSize, IsInside}
-use Rattle.ados_name.specs.declared.Date3.{Date3}
+use Rattle.adf_block.specs.Image.{IsInside}
+use Rattle.adf_block.specs.Whole.{IsSize}
+use Rattle.ados_name.specs.declared.stamp.Date3.{Date3}
 use Rattle.ados_name.specs.Name.{Same, slot, upper, IsName, IsComment}
 use Rattle.ados_model.proofs.KeyLists.{Contains-nil, Contains-filter, Once, is_not}
-use Rattle.ados_model.specs.Tree.{Node, Tree, Proper, LeadsToRoot, IsRoot, root, entries, entries_in, name_in, name_of, parent_of}
+use Rattle.ados_model.specs.Tree.{Node, Tree, Proper, LeadsToRoot, IsRoot, root, entries, entries_in, name_of, parent_of}
+use Rattle.ados_model.specs.Parts.{name_in}
 use Rattle.ados_model.specs.Tree.LeadsToRoot.{at_root, by_parent}
 use Rattle.ados_model.specs.Change.{with_node, listed, enter, entered, left, stamped}
 use Rattle.ados_model.proofs.Nodes.{entry_node, directory_node, parent_in}

@@ -2,23 +2,26 @@
 use Rattle.std.proofs.Common.{◌≡◌, ◌≢◌, ℕ, zero, suc, ◌+◌, ◌-◌, ◌*◌, ◌<◌, ◌≤◌, ◌⊎◌, inl, inr, true, false, min, List, [], ◌∷◌, length, slice_index, Contains, Option, Some, None, refl, sym, ap, ◌∙◌, subst, arith}
 use Rattle.std.proofs.lemmas.Bool.{cases_eq}
 use Rattle.std.proofs.lemmas.List.{get_or_default}
-use Rattle.adf_block.specs.declared.Format.{Format}
-use Rattle.adf_block.specs.declared.Format.TheVariants.{Ofs, Ffs}
-use Rattle.adf_block.specs.Image.{Chained, IsInside, block_count, block_sum, byte_at, bytes_at, has_free_bit, long, root_key, table_entry}
-use Rattle.adf_block.specs.Layout.{next_in_chain}
+use Rattle.adf_block.specs.declared.layout.Format.{Format}
+use Rattle.adf_block.specs.declared.layout.Format.TheVariants.{Ofs, Ffs}
+use Rattle.adf_block.specs.Image.{Chained, IsInside, block_count, block_sum, byte_at, bytes_at, has_free_bit, long, root_key}
+use Rattle.adf_block.specs.Fields.{table_entry}
+use Rattle.adf_block.specs.declared.layout.TheConstants.{NEXT_IN_CHAIN}
 use Rattle.adf_block.specs.Frame.{InBlock, OnlyBlock}
 use Rattle.adf_block.proofs.Frames.{other_block_sum, same_count, same_sum}
 use Rattle.adf_block.proofs.Longs.{long-bytes}
 use Rattle.ados_map.specs.Pages.{IsLowestFree, page_block, page_of, pages_of}
 use Rattle.ados_map.specs.Changes.{MapPlace, BitChanged}
 use Rattle.ados_map.proofs.MarkLemmas.{bit_of_inside}
-use Rattle.ados_name.specs.declared.Date3.{Date3}
+use Rattle.ados_name.specs.declared.stamp.Date3.{Date3}
 use Rattle.ados_chain.specs.Relinks.{InsertsLast}
-use Rattle.ados_model.specs.Tree.{data_count, extension_count, Content, Node, Tree, root, size_in, size_of, IsUnused}
+use Rattle.ados_model.specs.Tree.{data_count, extension_count, Content, Node, Tree, root, size_of}
+use Rattle.ados_model.specs.Parts.{IsUnused, size_in}
 use Rattle.ados_model.specs.Stands.{HasFile, Duty, Layout, HasDuty, Stands, HasNode, HasEntry, in_slot}
 use Rattle.ados_data.proofs.Marks.{page_kept, mark_kept}
 use Rattle.ados_model.specs.Tree.Content.{Directory, File}
-use Rattle.ados_model.specs.Change.{with_node, new_node, made, entered}
+use Rattle.ados_model.specs.Change.{with_node, made, entered}
+use Rattle.ados_model.specs.Edits.{new_node}
 use Rattle.ados_model.proofs.Standing.{slice_get-index}
 use Rattle.ados_change.specs.Conditions.{CanMake, IsEmpty}
 use Rattle.ados_change.specs.steps.Making.{IsNewEntry, IsNewField}
@@ -197,8 +200,8 @@ module _ (old m1 m2 : List ℕ) (t : Tree) (st : Stands old t) (moment : Date3) 
   no_entries : (q : ℕ) → in_slot t key q ≡ []
   no_entries q = let none = fresh.no_node in rw none refl
 
-  slots_here : (a : Node) (keys : List ℕ) (q : ℕ) → Some new ≡ Some a → a.content ≡ Directory keys → q < 72 → Chained m2 next_in_chain (table_entry m2 key q) (in_slot t key q)
-  slots_here a keys q e c m = subst (Chained m2 next_in_chain (table_entry m2 key q)) (sym (no_entries q)) (zero_at (6 + q) (inr (inl (omega arith, omega (arith, m)))))
+  slots_here : (a : Node) (keys : List ℕ) (q : ℕ) → Some new ≡ Some a → a.content ≡ Directory keys → q < 72 → Chained m2 NEXT_IN_CHAIN (table_entry m2 key q) (in_slot t key q)
+  slots_here a keys q e c m = subst (Chained m2 NEXT_IN_CHAIN (table_entry m2 key q)) (sym (no_entries q)) (zero_at (6 + q) (inr (inl (omega arith, omega (arith, m)))))
 
   file_here : (a : Node) (bytes : List ℕ) → Some new ≡ Some a → a.content ≡ File bytes → HasFile m2 t.format key (st.layout.file_data key) (st.layout.extensions key) bytes
   file_here a bytes e c =

@@ -1,9 +1,11 @@
 -- The new blocks of a rewritten file, and the bytes of its freed blocks.
 use Rattle.std.proofs.Common.{◌≡◌, ◌≢◌, ℕ, zero, suc, ◌-◌, ◌*◌, ◌/◌, ◌<◌, ◌≤◌, ◌⊎◌, inl, inr, min, Bool, true, false, List, ◌∷◌, length, slice_index, Some, refl, sym, ap, ◌∙◌, subst, arith}
 use Rattle.std.proofs.lemmas.Bool.{cases_order, false≢true}
-use Rattle.adf_block.specs.declared.Format.{Format}
-use Rattle.adf_block.specs.declared.Format.TheVariants.{Ofs, Ffs}
-use Rattle.adf_block.specs.Image.{IsInside, block_count, byte_at, has_free_bit, HasFreeBit, pointer_count, held_count, file_size, format_of}
+use Rattle.adf_block.specs.declared.layout.Format.{Format}
+use Rattle.adf_block.specs.declared.layout.Format.TheVariants.{Ofs, Ffs}
+use Rattle.adf_block.specs.Image.{IsInside, block_count, byte_at, has_free_bit}
+use Rattle.adf_block.specs.Whole.{HasFreeBit}
+use Rattle.adf_block.specs.Fields.{pointer_count, held_count, file_size, format_of}
 use Rattle.ados_map.specs.Pages.{page_block}
 use Rattle.ados_model.specs.File.{data_blocks, extension_blocks}
 use Rattle.ados_data.specs.Others.{RisesBehind}

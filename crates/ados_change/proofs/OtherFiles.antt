@@ -1,11 +1,13 @@
 -- A file with unchanged blocks is the same file.
 use Rattle.std.proofs.Common.{◌≡◌, ℕ, zero, suc, ◌+◌, ◌-◌, ◌*◌, ◌/◌, ◌%◌, ◌<◌, ◌≤◌, List, ◌∷◌, length, slice_index, sym, ◌∙◌, arith}
-use Rattle.adf_block.specs.declared.Format.{Format}
-use Rattle.adf_block.specs.declared.Format.TheVariants.{Ofs, Ffs}
+use Rattle.adf_block.specs.declared.layout.Format.{Format}
+use Rattle.adf_block.specs.declared.layout.Format.TheVariants.{Ofs, Ffs}
 use Rattle.ados_model.specs.Tree.{data_size, data_start, data_count}
-use Rattle.ados_model.specs.Stands.{HasFile, HasExtension, HasOfsData, file_byte}
-use Rattle.ados_data.proofs.Chains.{first_of, next_of, chained}
+use Rattle.ados_model.specs.Stands.{HasFile, HasExtension, HasOfsData}
+use Rattle.ados_model.specs.File.{file_byte}
+use Rattle.ados_data.proofs.Chains.{next_of, chained}
 use Rattle.ados_change.proofs.Unchanged.{Stays, long_as, sum_stays}
+use Rattle.ados_model.proofs.FileFaults.{chain_head}
 
 -- a byte of a file is in one of its data blocks
 byte_within : (format : Format) (k size : ℕ) → k < size → (k / data_size format < data_count format size) × (data_start format + k % data_size format < 512)
@@ -45,13 +47,13 @@ module _ (old new : List ℕ) (format : Format) (file : ℕ) (blocks extensions 
   pub file_stays : HasFile old format file blocks extensions bytes → HasFile new format file blocks extensions bytes
   file_stays h = record {
     size = long_as old new file header 81 (omega arith) ∙ h.size;
-    chain = chained new 126 _ extensions (long_as old new file header 126 (omega arith) ∙ first_of old 126 _ extensions h.chain)
+    chain = chained new 126 _ extensions (long_as old new file header 126 (omega arith) ∙ chain_head old 126 _ extensions h.chain)
         (λ q l. long_as old new _ (extension q l) 126 (omega arith) ∙ next_of old 126 _ extensions h.chain q l);
     extension = λ q l. extension_stays _ (extension q l) (h.extension q l);
     counts = λ q l. long_as old new _ (headers q l) 2 (omega arith) ∙ h.counts q l;
     pointers = λ i l. long_as old new _ (headers (i / 72) (omega (arith, l, room))) (77 - i % 72) (omega arith) ∙ h.pointers i l;
     contents = λ k l. h.contents k l ∙ sym (byte_stays k l);
-    ofs_chain = λ o. chained new 4 _ blocks (long_as old new file header 4 (omega arith) ∙ first_of old 4 _ blocks (h.ofs_chain o))
+    ofs_chain = λ o. chained new 4 _ blocks (long_as old new file header 4 (omega arith) ∙ chain_head old 4 _ blocks (h.ofs_chain o))
         (λ i l. long_as old new _ (datas i l) 4 (omega arith) ∙ next_of old 4 _ blocks (h.ofs_chain o) i l);
     ofs_data = λ o i l. data_stays i _ (datas i l) (h.ofs_data o i l);
   }

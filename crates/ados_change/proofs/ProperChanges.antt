@@ -1,15 +1,16 @@
 -- Each change of entries turns a proper tree into a proper one.
 use Rattle.std.proofs.Common.{◌≡◌, ◌≢◌, ℕ, ◌<◌, inl, inr, List, [], map, Contains, Some, None, option_map, option_and_then, refl, sym, ap, ◌∙◌, subst, arith}
 use Rattle.std.proofs.lemmas.List.Elements.{All-nil}
-use Rattle.ados_name.specs.declared.Date3.{Date3}
+use Rattle.ados_name.specs.declared.stamp.Date3.{Date3}
 use Rattle.ados_name.specs.Name.{upper, IsName, IsComment}
 use Rattle.ados_model.proofs.KeyLists.{Contains-nil}
-use Rattle.ados_model.specs.Tree.{Content, Node, Tree, Proper, LeadsToRoot, entries, entries_in, name_in, name_of, parent_of}
+use Rattle.ados_model.specs.Tree.{Content, Node, Tree, Proper, LeadsToRoot, entries, entries_in, name_of, parent_of}
+use Rattle.ados_model.specs.Parts.{name_in, IsUnused}
 use Rattle.ados_model.specs.Tree.Content.{Directory}
 use Rattle.ados_model.specs.Tree.LeadsToRoot.{at_root, by_parent}
-use Rattle.ados_model.specs.Change.{with_node, changed, entered, stamped, new_node}
+use Rattle.ados_model.specs.Change.{with_node, changed, entered, stamped}
+use Rattle.ados_model.specs.Edits.{new_node}
 use Rattle.ados_model.proofs.Nodes.{content_in, parent_in}
-use Rattle.ados_model.specs.Tree.{IsUnused}
 use Rattle.ados_change.specs.Conditions.{CanMake, CanRename, IsDirectoryKey, IsEmpty, IsUnder}
 use Rattle.ados_change.specs.Conditions.IsUnder.{itself, by_parent as under_parent}
 use Rattle.ados_change.specs.Laws.{MadeIsProper, RemovedIsProper, RenamedIsProper}

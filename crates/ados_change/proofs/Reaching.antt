@@ -1,14 +1,15 @@
 -- A block that is reached after a removal was reached before, in the same role and with the same fields.
 use Rattle.std.proofs.Common.{◌≡◌, ◌≢◌, ℕ, ◌+◌, ◌-◌, ◌/◌, ◌<◌, ◌≤◌, ◌⊎◌, inl, inr, true, List, [], ◌∷◌, length, slice_index, Some, refl, sym, ap, ap₂, ◌∙◌, subst, arith}
 use Rattle.std.proofs.lemmas.Bool.{cases_eq}
-use Rattle.adf_block.specs.Layout.{next_in_chain}
-use Rattle.adf_block.specs.Image.{pointer_count, secondary_type, block_count, byte_at, long, page_count}
+use Rattle.adf_block.specs.declared.layout.TheConstants.{NEXT_IN_CHAIN}
+use Rattle.adf_block.specs.Image.{block_count, byte_at, long, page_count}
+use Rattle.adf_block.specs.Fields.{pointer_count, secondary_type}
 use Rattle.adf_block.specs.Frame.{SameBut}
 use Rattle.adf_block.proofs.Frames.{same_count, same_long, same_trans, same_weaken}
 use Rattle.ados_chain.specs.Relinks.{AtLinks, Relinks}
 use Rattle.ados_map.specs.Changes.{MapPlace, BitChanged}
 use Rattle.ados_map.specs.Pages.{page_block, page_of}
-use Rattle.ados_name.specs.declared.Date3.{Date3}
+use Rattle.ados_name.specs.declared.stamp.Date3.{Date3}
 use Rattle.ados_model.specs.Tree.{Node, Tree, root}
 use Rattle.ados_model.specs.Tree.Content.{Directory, File}
 use Rattle.ados_model.specs.Faults.{InImage, IsFile, IsPlace, Reached}
@@ -88,7 +89,7 @@ module _ (old : List ℕ) (t : Tree) (st : Stands old t) where
 
   module _ (m1 new : List ℕ) (dir : ℕ) (a : Node) (keys : List ℕ) (at : t.nodes dir ≡ Some a) (holds : a.content ≡ Directory keys)
       (key : ℕ) (node : Node) (at_key : t.nodes key ≡ Some node) (b0 i0 : ℕ) (place : IsLinkPlace t dir b0 i0) (was : long old b0 i0 ≡ key)
-      (relinks : Relinks b0 i0 (long old key next_in_chain) key old m1) (later : SameBut AtAside m1 new) where
+      (relinks : Relinks b0 i0 (long old key NEXT_IN_CHAIN) key old m1) (later : SameBut AtAside m1 new) where
     abbrev W : ℕ → ℕ → Type 0
     W b i = AtLinks b0 i0 key b i ⊎ AtAside b i
 
@@ -114,19 +115,19 @@ module _ (old : List ℕ) (t : Tree) (st : Stands old t) where
 
     -- ---- the links after the removal
 
-    now : long new b0 i0 ≡ long old key next_in_chain
+    now : long new b0 i0 ≡ long old key NEXT_IN_CHAIN
     now =
         same_long AtAside m1 new later b0 i0 (omega (arith, link_is)) (λ k e w. elim w [ inl p ↦ no_page p | inr x ↦ omega (arith, e, x, link_is) ])
         ∙ relinks.link
 
-    ended : long new key next_in_chain ≡ 0
+    ended : long new key NEXT_IN_CHAIN ≡ 0
     ended =
-        same_long AtAside m1 new later key next_in_chain (omega arith) (λ k e w. elim w [ inl p ↦ node_no_page key node at_key p | inr x ↦ omega (arith, e, x) ])
+        same_long AtAside m1 new later key NEXT_IN_CHAIN (omega arith) (λ k e w. elim w [ inl p ↦ node_no_page key node at_key p | inr x ↦ omega (arith, e, x) ])
         ∙ relinks.key_link
 
     -- ---- what is unchanged
 
-    stays : (b i : ℕ) → ¬ IsPage b → ¬ IsAside (i / 4) → ¬ ((b ≡ b0) × (i / 4 ≡ i0)) → ¬ ((b ≡ key) × (i / 4 ≡ next_in_chain)) → ¬ W b i
+    stays : (b i : ℕ) → ¬ IsPage b → ¬ IsAside (i / 4) → ¬ ((b ≡ b0) × (i / 4 ≡ i0)) → ¬ ((b ≡ key) × (i / 4 ≡ NEXT_IN_CHAIN)) → ¬ W b i
     stays b i p x l k (inl (inl (inl w))) = l w
     stays b i p x l k (inl (inl (inr w))) = x (inl w.1)
     stays b i p x l k (inl (inr (inl w))) = k w
@@ -189,7 +190,7 @@ module _ (old : List ℕ) (t : Tree) (st : Stands old t) where
     key_not_zero : (n : ℕ) → n ≡ key → n ≢ 0
     key_not_zero n e z = omega (arith, e, z, key_inside.0)
 
-    behind_key : (next dir' s : ℕ) → next ≡ long old key next_in_chain → InImage new next → Reached old key (roles.Entry dir' s) → Reached old next (roles.Entry dir' s)
+    behind_key : (next dir' s : ℕ) → next ≡ long old key NEXT_IN_CHAIN → InImage new next → Reached old key (roles.Entry dir' s) → Reached old next (roles.Entry dir' s)
     behind_key next dir' s e inside r =
         subst (λ (b : ℕ). Reached old b (roles.Entry dir' s)) (sym e)
         (named r (next_entry (λ z. omega (arith, z, e, inside.0))) (subst (InImage old) e (in_old next inside)))
@@ -216,7 +217,7 @@ module _ (old : List ℕ) (t : Tree) (st : Stands old t) where
         behind_key (long new block (6 + s)) block s (ap₂ (long new) e f ∙ now) inside (key_reached r (directory_slot typed l (key_not_zero (long old block (6 + s)) to)) to)
     relinked {block = block} r (next_entry {dir = dir'} {s = s} n) inside e f =
         let to = ap₂ (long old) e f ∙ was in
-        behind_key (long new block next_in_chain) dir' s (ap₂ (long new) e f ∙ now) inside (key_reached r (next_entry (key_not_zero (long old block next_in_chain) to)) to)
+        behind_key (long new block NEXT_IN_CHAIN) dir' s (ap₂ (long new) e f ∙ now) inside (key_reached r (next_entry (key_not_zero (long old block NEXT_IN_CHAIN) to)) to)
     relinked {block = block} r (header_pointer {dir = dir'} {s = s} {i = i} c p) inside e f =
         let stood = reached_stands old t st r in
         let typed = sym (type_stays block (subst (λ (b : ℕ). ¬ IsPage b) (sym e) no_page)) ∙ c in
@@ -238,7 +239,7 @@ module _ (old : List ℕ) (t : Tree) (st : Stands old t) where
     step : {block i : ℕ} {role next : Role} → Reached old block role → IsPlace new block role i next → InImage new (long new block i) → Reached old (long new block i) next
     step {block = block} {i = i} {role = role} {next = next} r p inside = elim (is_at block i b0 i0) [
       | inl w ↦ relinked r p inside w.0 w.1
-      | inr n ↦ elim (is_at block i key next_in_chain) [
+      | inr n ↦ elim (is_at block i key NEXT_IN_CHAIN) [
         | inl w ↦ absurd (let zero = ap₂ (long new) w.0 w.1 ∙ ended in omega (arith, zero, inside.0))
         | inr m ↦
             let is = place_long p in

@@ -2,14 +2,15 @@
 use Rattle.std.proofs.Common.{◌≡◌, ◌≢◌, ℕ, ◌+◌, ◌<◌, ◌⊎◌, inl, inr, List, length, slice_index, Contains, Some, refl, sym, ap, ◌∙◌, subst, arith}
 use Rattle.std.proofs.lemmas.Bool.{cases_eq}
 use Rattle.std.proofs.lemmas.List.{get_or_default}
-use Rattle.adf_block.specs.declared.Format.{Format}
-use Rattle.adf_block.specs.Image.{page_count, long, block_sum, Chained, HasText, table_entry}
-use Rattle.adf_block.specs.Layout.{name_byte, comment_byte, next_in_chain}
+use Rattle.adf_block.specs.declared.layout.Format.{Format}
+use Rattle.adf_block.specs.Image.{page_count, long, block_sum, Chained, HasText}
+use Rattle.adf_block.specs.Fields.{table_entry}
+use Rattle.adf_block.specs.declared.layout.TheConstants.{COMMENT_BYTE, NAME_BYTE, NEXT_IN_CHAIN}
 use Rattle.ados_map.specs.Pages.{page_block, pages_of}
 use Rattle.ados_model.specs.Tree.{data_count, Content, Node, Tree, root}
-use Rattle.ados_model.specs.Stands.{HasFile, Duty, HasDuty, Stands, HasNode, HasEntry, HasRoot, in_slot, type_of}
+use Rattle.ados_model.specs.Stands.{HasFile, Duty, HasDuty, Stands, HasNode, HasEntry, HasRoot, type_of, in_slot}
 use Rattle.ados_data.specs.Others.{IsOther, IsDataField}
-use Rattle.ados_data.proofs.Chains.{first_of, next_of, chained}
+use Rattle.ados_data.proofs.Chains.{next_of, chained}
 use Rattle.ados_model.specs.Tree.Content.{Directory, File}
 use Rattle.ados_model.proofs.Standing.{count_same, slice_get-index, entry_at}
 use Rattle.ados_change.proofs.Writable.{key_serves, page_serves, lawful_pages, is_lawful, format_is}
@@ -17,6 +18,7 @@ use Rattle.ados_change.proofs.Contents.{refilled, Was, was, file_not_root, prope
 use Rattle.ados_change.proofs.Unchanged.{StaysBut, Stays, long_stays, text_stays, date_stays, long_as, bytes_as, sum_stays, text_as, date_as}
 use Rattle.ados_change.proofs.Relaid.{IsRewritten, relaid, data_there, data_here, extensions_there, extensions_here, other, fits_after, marked_free_after, marked_used_after}
 use Rattle.ados_change.proofs.OtherFiles.{file_stays}
+use Rattle.ados_model.proofs.FileFaults.{chain_head}
 
 -- a long of a header outside the fields of its data
 beside_fields : (j : ℕ) → (j < 2) ⊎ ((77 < j) × (j ≢ 81) × (j ≢ 126)) → ¬ IsDataField j
@@ -95,7 +97,7 @@ module _ (old new : List ℕ) (t : Tree) (s : Stands old t) (file : ℕ) (node :
       record {
         primary = header_long 0 (omega arith) (inl (omega arith)) ∙ n.primary;
         sum = h.leaves.header_sum n.sum;
-        name = text_stays IsDataField old new file header_stays name_byte a.name (omega (arith, short)) (λ j from below. beside_fields j (inr (omega (arith, from), λ z. omega (arith, z, from), λ z. omega (arith, z, below, short)))) n.name;
+        name = text_stays IsDataField old new file header_stays NAME_BYTE a.name (omega (arith, short)) (λ j from below. beside_fields j (inr (omega (arith, from), λ z. omega (arith, z, from), λ z. omega (arith, z, below, short)))) n.name;
         date = date_stays IsDataField old new file header_stays 105 (omega arith) (λ j from below. beside_fields j (inr (omega (arith, from), λ z. omega (arith, z, from), λ z. omega (arith, z, below)))) ∙ n.date;
       }
 
@@ -107,7 +109,7 @@ module _ (old new : List ℕ) (t : Tree) (s : Stands old t) (file : ℕ) (node :
       record {
         primary = long_as old new k stays 0 (omega arith) ∙ n.primary;
         sum = sum_stays old new k stays ∙ n.sum;
-        name = text_as old new k stays name_byte a.name (omega (arith, short)) n.name;
+        name = text_as old new k stays NAME_BYTE a.name (omega (arith, short)) n.name;
         date = date_as old new k stays 105 (omega arith) ∙ n.date;
       }
 
@@ -121,7 +123,7 @@ module _ (old new : List ℕ) (t : Tree) (s : Stands old t) (file : ℕ) (node :
   node_after k a e =
       let w = was t file node bytes bytes' found is_file k a e in
       let n = old_node k w.old w.at in
-      record { primary = n.primary; sum = n.sum; name = subst (HasText new k name_byte) (sym w.name) n.name; date = n.date ∙ sym w.date }
+      record { primary = n.primary; sum = n.sum; name = subst (HasText new k NAME_BYTE) (sym w.name) n.name; date = n.date ∙ sym w.date }
 
   -- ---- entries
 
@@ -132,7 +134,7 @@ module _ (old new : List ℕ) (t : Tree) (s : Stands old t) (file : ℕ) (node :
       record {
         key_field = header_long 1 (omega arith) (inl (omega arith)) ∙ n.key_field;
         protection_field = header_long 80 (omega arith) (inr (omega arith, λ z. omega (arith, z), λ z. omega (arith, z))) ∙ n.protection_field;
-        comment = text_stays IsDataField old new file header_stays comment_byte a.comment (omega (arith, short)) (λ j from below. beside_fields j (inr (omega (arith, from), λ z. omega (arith, z, from), λ z. omega (arith, z, below, short)))) n.comment;
+        comment = text_stays IsDataField old new file header_stays COMMENT_BYTE a.comment (omega (arith, short)) (λ j from below. beside_fields j (inr (omega (arith, from), λ z. omega (arith, z, from), λ z. omega (arith, z, below, short)))) n.comment;
         parent = header_long 125 (omega arith) (inr (omega arith, λ z. omega (arith, z), λ z. omega (arith, z))) ∙ n.parent;
         secondary = header_long 127 (omega arith) (inr (omega arith, λ z. omega (arith, z), λ z. omega (arith, z))) ∙ n.secondary;
       }
@@ -145,7 +147,7 @@ module _ (old new : List ℕ) (t : Tree) (s : Stands old t) (file : ℕ) (node :
       record {
         key_field = long_as old new k stays 1 (omega arith) ∙ n.key_field;
         protection_field = long_as old new k stays 80 (omega arith) ∙ n.protection_field;
-        comment = text_as old new k stays comment_byte a.comment (omega (arith, short)) n.comment;
+        comment = text_as old new k stays COMMENT_BYTE a.comment (omega (arith, short)) n.comment;
         parent = long_as old new k stays 125 (omega arith) ∙ n.parent;
         secondary = long_as old new k stays 127 (omega arith) ∙ n.secondary;
       }
@@ -172,7 +174,7 @@ module _ (old new : List ℕ) (t : Tree) (s : Stands old t) (file : ℕ) (node :
       record {
         key_field = n.key_field;
         protection_field = n.protection_field ∙ sym w.protection;
-        comment = subst (HasText new k comment_byte) (sym w.comment) n.comment;
+        comment = subst (HasText new k COMMENT_BYTE) (sym w.comment) n.comment;
         parent = n.parent;
         secondary = n.secondary ∙ same_type k a w;
       }
@@ -195,25 +197,25 @@ module _ (old new : List ℕ) (t : Tree) (s : Stands old t) (file : ℕ) (node :
 
   -- ---- hash chains
 
-  link_stays : (k : ℕ) (a : Node) → t.nodes k ≡ Some a → long new k next_in_chain ≡ long old k next_in_chain
+  link_stays : (k : ℕ) (a : Node) → t.nodes k ≡ Some a → long new k NEXT_IN_CHAIN ≡ long old k NEXT_IN_CHAIN
   link_stays k a e = elim (cases_eq k file) [
     | inl same ↦ ap (λ (b : ℕ). long new b 124) same ∙ header_long 124 (omega arith) (inr (omega arith, λ z. omega (arith, z), λ z. omega (arith, z))) ∙ ap (λ (b : ℕ). long old b 124) (sym same)
     | inr m ↦ long_as old new k (key_stays k a e m) 124 (omega arith)
   ]
 
-  old_chain : (d : ℕ) (a : Node) (keys : List ℕ) (r : ℕ) → t.nodes d ≡ Some a → a.content ≡ Directory keys → d ≢ file → r < 72 → Chained new next_in_chain (table_entry new d r) (in_slot t d r)
+  old_chain : (d : ℕ) (a : Node) (keys : List ℕ) (r : ℕ) → t.nodes d ≡ Some a → a.content ≡ Directory keys → d ≢ file → r < 72 → Chained new NEXT_IN_CHAIN (table_entry new d r) (in_slot t d r)
   old_chain d a keys r e c m l =
       let chain = s.chains d a keys r e c l in
-      chained new next_in_chain (table_entry new d r) (in_slot t d r)
-      (long_as old new d (key_stays d a e m) (6 + r) (omega (arith, l)) ∙ first_of old next_in_chain (table_entry old d r) (in_slot t d r) chain)
+      chained new NEXT_IN_CHAIN (table_entry new d r) (in_slot t d r)
+      (long_as old new d (key_stays d a e m) (6 + r) (omega (arith, l)) ∙ chain_head old NEXT_IN_CHAIN (table_entry old d r) (in_slot t d r) chain)
       (λ i n.
       let at = entry_at old t s d r i (slice_index (in_slot t d r) i) (record { within = n; here = refl; holder = l }) in
-      link_stays _ at.node at.at ∙ next_of old next_in_chain (table_entry old d r) (in_slot t d r) chain i n)
+      link_stays _ at.node at.at ∙ next_of old NEXT_IN_CHAIN (table_entry old d r) (in_slot t d r) chain i n)
 
-  chain_after : (d : ℕ) (a : Node) (keys : List ℕ) (r : ℕ) → v.nodes d ≡ Some a → a.content ≡ Directory keys → r < 72 → Chained new next_in_chain (table_entry new d r) (in_slot v d r)
+  chain_after : (d : ℕ) (a : Node) (keys : List ℕ) (r : ℕ) → v.nodes d ≡ Some a → a.content ≡ Directory keys → r < 72 → Chained new NEXT_IN_CHAIN (table_entry new d r) (in_slot v d r)
   chain_after d a keys r e c l =
       let w = was t file node bytes bytes' found is_file d a e in
-      subst (Chained new next_in_chain (table_entry new d r)) (sym (slots_same t file node bytes bytes' found is_file d r))
+      subst (Chained new NEXT_IN_CHAIN (table_entry new d r)) (sym (slots_same t file node bytes bytes' found is_file d r))
       (elim (w.content) [
         | inl z ↦ absurd (let kind : Content.File bytes' ≡ Directory keys = sym z.1 ∙ c in cc kind)
         | inr z ↦ old_chain d w.old keys r w.at (sym z.1 ∙ c) z.0 l

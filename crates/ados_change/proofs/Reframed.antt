@@ -1,22 +1,25 @@
 -- A change of longs in the blocks of keys turns an image of one tree into an image of another, if it does so for each
 -- node.
-use Rattle.std.proofs.Common.{◌≡◌, ◌≢◌, ℕ, zero, suc, ◌+◌, ◌-◌, ◌/◌, ◌%◌, ◌^◌, ◌<◌, ◌≤◌, ◌⊎◌, inl, inr, ◌==◌, List, [], ◌∷◌, length, slice_index, Contains, bit_and, not, Option, Some, is_some, IsSome, refl, sym, ap, ◌∙◌, subst, arith}
+use Rattle.std.proofs.Common.{◌≡◌, ◌≢◌, ℕ, zero, suc, ◌+◌, ◌-◌, ◌/◌, ◌%◌, ◌^◌, ◌<◌, ◌≤◌, ◌⊎◌, inl, inr, ◌==◌, List, ◌∷◌, length, slice_index, bit_and, not, Option, Some, is_some, IsSome, refl, sym, ap, ◌∙◌, subst, arith}
 use Rattle.std.proofs.lemmas.Bool.{cases_lt}
 use Rattle.std.proofs.lemmas.List.{get_or_default, get_or_past}
-use Rattle.adf_block.specs.declared.Format.{Format}
-use Rattle.adf_block.specs.declared.Format.TheVariants.{Ofs, Ffs}
-use Rattle.adf_block.specs.Image.{IsInside, has_free_bit, block_count, root_key, long, block_sum, Chained, HasText, table_entry}
-use Rattle.adf_block.specs.Layout.{next_in_chain, next_extension, next_data, name_byte, comment_byte}
-use Rattle.ados_name.specs.declared.Date3.{Date3}
+use Rattle.adf_block.specs.declared.layout.Format.{Format}
+use Rattle.adf_block.specs.declared.layout.Format.TheVariants.{Ofs, Ffs}
+use Rattle.adf_block.specs.Image.{IsInside, has_free_bit, block_count, root_key, long, block_sum, Chained, HasText}
+use Rattle.adf_block.specs.Fields.{table_entry}
+use Rattle.adf_block.specs.declared.layout.TheConstants.{COMMENT_BYTE, NAME_BYTE, NEXT_IN_CHAIN, NEXT_EXTENSION, NEXT_DATA}
+use Rattle.ados_name.specs.declared.stamp.Date3.{Date3}
 use Rattle.ados_name.specs.Name.{IsName, IsComment}
 use Rattle.ados_model.specs.Tree.{data_count, Node, Tree, root, size_of}
-use Rattle.ados_model.specs.Stands.{HasFile, file_byte, Layout, Duty, HasDuty, date_at, HasNode, HasEntry, HasRoot, in_slot}
+use Rattle.ados_model.specs.Stands.{HasFile, Layout, Duty, HasDuty, date_at, HasNode, HasEntry, HasRoot, in_slot}
+use Rattle.ados_model.specs.File.{file_byte}
 use Rattle.ados_model.specs.Tree.Content.{Directory, File}
 use Rattle.adf_block.specs.Frame.{SameBut}
 use Rattle.ados_change.specs.steps.Writes.{AtLongs}
 use Rattle.ados_change.proofs.Frame.{long-kept, bytes-kept, sum-kept}
 use Rattle.ados_model.proofs.Standing.{slice_get-index}
 use Rattle.ados_change.proofs.Spells.{Spells}
+use Rattle.ados_chain.proofs.Spelling.{Chained-kept}
 
 -- the tree with these nodes and this disk date
 abbrev pub renewed : Tree → (ℕ → Option Node) → Date3 → Tree
@@ -41,12 +44,6 @@ pub record SameFiles (t : Tree) (nodes : ℕ → Option Node) : Type 0 where
   pub same_keys : (k : ℕ) → is_some (nodes k) ≡ is_some (t.nodes k)
   pub was_file : (k : ℕ) (a : Node) (bytes : List ℕ) → nodes k ≡ Some a → a.content ≡ File bytes → (b : Node) × (t.nodes k ≡ Some b) × (b.content ≡ File bytes)
   pub same_size : (d : Date3) (k : ℕ) → size_of (renewed t nodes d) k ≡ size_of t k
-
--- a linked list is unchanged if its links are
-pub Chained-stays : (old new : List ℕ) (link first : ℕ) (xs : List ℕ) → ((b : ℕ) → Contains xs b → long new b link ≡ long old b link) → Chained old link first xs → Chained new link first xs
-Chained-stays old new link first [] same c = c
-Chained-stays old new link first (x ∷ xs) same c =
-    (c.0, Chained-stays old new link (long new x link) xs (λ b m. same b (suc m.0, omega (arith, m.1), m.2)) (subst (λ (n : ℕ). Chained old link n xs) (sym (same x (0, omega arith, refl))) c.1))
 
 module _ (old new : List ℕ) (t : Tree) (l : Layout) (s : Spells old t l) (root_some : IsSome (t.nodes (root t))) (size : (t.blocks ≤ 101602) × (16 ≤ t.blocks)) (W : ℕ → ℕ → Type 0) (tells : TellsOnly t W) (change : SameBut (AtLongs W) old new) where
   kept : (b j : ℕ) → j < 128 → ¬ W b j → long new b j ≡ long old b j
@@ -121,7 +118,7 @@ module _ (old new : List ℕ) (t : Tree) (l : Layout) (s : Spells old t l) (root
       let g = s.files file a bytes e c in
       record {
         size = kept file 81 (omega arith) (unwritten file 81 (inr (inl refl))) ∙ g.size;
-        chain = subst (λ (n : ℕ). Chained new next_extension n (l.extensions file)) (sym (last_kept file 126 (omega arith) (omega arith))) (Chained-stays old new next_extension (long old file next_extension) (l.extensions file) (λ b m. last_kept b 126 (omega arith) (omega arith)) g.chain);
+        chain = subst (λ (n : ℕ). Chained new NEXT_EXTENSION n (l.extensions file)) (sym (last_kept file 126 (omega arith) (omega arith))) (Chained-kept old new NEXT_EXTENSION (long old file NEXT_EXTENSION) (l.extensions file) (λ b m. last_kept b 126 (omega arith) (omega arith)) g.chain);
         extension = λ i m. let x = g.extension i m in let block = slice_index (l.extensions file) i in record {
           primary = first_kept block 0 (omega arith) ∙ x.primary;
           key_field = first_kept block 1 (omega arith) ∙ x.key_field;
@@ -132,7 +129,7 @@ module _ (old new : List ℕ) (t : Tree) (l : Layout) (s : Spells old t l) (root
         counts = λ i m. first_kept (slice_index (file ∷ l.extensions file) i) 2 (omega arith) ∙ g.counts i m;
         pointers = λ i m. pointer_kept file (i / 72) (77 - i % 72) a bytes e c (omega (arith, m, s.fits.extensions file)) (omega arith) (omega arith) ∙ g.pointers i m;
         contents = λ k m. g.contents k m ∙ sym (file_byte_kept t.format file k);
-        ofs_chain = λ o. subst (λ (n : ℕ). Chained new next_data n (l.file_data file)) (sym (first_kept file 4 (omega arith))) (Chained-stays old new next_data (long old file next_data) (l.file_data file) (λ b m. first_kept b 4 (omega arith)) (g.ofs_chain o));
+        ofs_chain = λ o. subst (λ (n : ℕ). Chained new NEXT_DATA n (l.file_data file)) (sym (first_kept file 4 (omega arith))) (Chained-kept old new NEXT_DATA (long old file NEXT_DATA) (l.file_data file) (λ b m. first_kept b 4 (omega arith)) (g.ofs_chain o));
         ofs_data = λ o i m. let x = g.ofs_data o i m in let block = slice_index (l.file_data file) i in record {
           primary = first_kept block 0 (omega arith) ∙ x.primary;
           header = first_kept block 1 (omega arith) ∙ x.header;
@@ -176,7 +173,7 @@ module _ (old new : List ℕ) (t : Tree) (l : Layout) (s : Spells old t l) (root
   node_stays k a short n summed g = record {
     primary = first_kept k 0 (omega arith) ∙ g.primary;
     sum = summed;
-    name = text_stays k name_byte a.name (omega (arith, short.short)) (λ j p q. n (j / 4) (omega arith) (omega (arith, q, short.short))) g.name;
+    name = text_stays k NAME_BYTE a.name (omega (arith, short.short)) (λ j p q. n (j / 4) (omega arith) (omega (arith, q, short.short))) g.name;
     date = date_stays k 105 (omega arith) (λ j p q. n j p (omega arith)) ∙ g.date;
   }
 
@@ -184,7 +181,7 @@ module _ (old new : List ℕ) (t : Tree) (l : Layout) (s : Spells old t l) (root
   entry_stays k d a short n m g = record {
     key_field = first_kept k 1 (omega arith) ∙ g.key_field;
     protection_field = kept k 80 (omega arith) (n 80 (omega arith) (omega arith)) ∙ g.protection_field;
-    comment = text_stays k comment_byte a.comment (omega (arith, short.short)) (λ j p q. n (j / 4) (omega arith) (omega (arith, q, short.short))) g.comment;
+    comment = text_stays k COMMENT_BYTE a.comment (omega (arith, short.short)) (λ j p q. n (j / 4) (omega arith) (omega (arith, q, short.short))) g.comment;
     parent = kept k 125 (omega arith) m ∙ g.parent;
     secondary = last_kept k 127 (omega arith) (omega arith) ∙ g.secondary;
   }
@@ -192,7 +189,7 @@ module _ (old new : List ℕ) (t : Tree) (l : Layout) (s : Spells old t l) (root
   module _ (nodes : ℕ → Option Node) (d : Date3) (files : SameFiles t nodes) (disk : date_at new (root t) 118 ≡ d)
       (nodes_after : (k : ℕ) (a : Node) → nodes k ≡ Some a → HasNode new k a)
       (entries_after : (k dir : ℕ) (a : Node) → nodes k ≡ Some a → a.parent ≡ Some dir → HasEntry new k a dir)
-      (chains_after : (dir : ℕ) (a : Node) (keys : List ℕ) (r : ℕ) → nodes dir ≡ Some a → a.content ≡ Directory keys → r < 72 → Chained new next_in_chain (table_entry new dir r) (in_slot (renewed t nodes d) dir r)) where
+      (chains_after : (dir : ℕ) (a : Node) (keys : List ℕ) (r : ℕ) → nodes dir ≡ Some a → a.content ≡ Directory keys → r < 72 → Chained new NEXT_IN_CHAIN (table_entry new dir r) (in_slot (renewed t nodes d) dir r)) where
     serves_back : (b : ℕ) (duty : Duty) → HasDuty (renewed t nodes d) l b duty → HasDuty t l b duty
     serves_back b (Duty.Page i) m = m
     serves_back b Duty.Key m = sym (files.same_keys b) ∙ m

@@ -1,8 +1,10 @@
 -- The blocks of a tree after a file got other bytes in other blocks.
 use Rattle.std.proofs.Common.{◌≡◌, ◌≢◌, ℕ, zero, suc, ◌/◌, ◌<◌, ◌≤◌, ◌==◌, ◌⊎◌, inl, inr, Bool, true, false, cond, List, ◌∷◌, length, slice_index, slice_get, Option, Some, None, IsSome, refl, sym, ap, ◌∙◌, subst, arith, eq-eqb}
 use Rattle.std.proofs.lemmas.Bool.{ne_eqb, cases_eq, cases_order, false≢true}
-use Rattle.adf_block.specs.declared.Format.{Format}
-use Rattle.adf_block.specs.Image.{IsInside, block_count, page_count, has_free_bit, HasFreeBit, format_of}
+use Rattle.adf_block.specs.declared.layout.Format.{Format}
+use Rattle.adf_block.specs.Image.{IsInside, block_count, page_count, has_free_bit}
+use Rattle.adf_block.specs.Whole.{HasFreeBit}
+use Rattle.adf_block.specs.Fields.{format_of}
 use Rattle.ados_map.specs.Pages.{page_block, pages_of}
 use Rattle.ados_model.specs.Tree.{data_count, extension_count, Node, Tree, size_of}
 use Rattle.ados_data.specs.Changing.{IsWritable}

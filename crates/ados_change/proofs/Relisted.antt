@@ -2,42 +2,45 @@
 -- list.
 use Rattle.std.proofs.Common.{◌≡◌, ◌≢◌, ℕ, ◌+◌, ◌/◌, ◌<◌, ◌≤◌, ◌⊎◌, inl, inr, List, [], ◌∷◌, Contains, Option, Some, None, is_some, IsSome, option_map, refl, sym, ap, ◌∙◌, subst, arith}
 use Rattle.std.proofs.lemmas.Bool.{cases_eq}
-use Rattle.adf_block.specs.Image.{block_sum, long, Chained, table_entry}
-use Rattle.adf_block.specs.Layout.{next_in_chain, name_byte}
+use Rattle.adf_block.specs.Image.{block_sum, long, Chained}
+use Rattle.adf_block.specs.Fields.{table_entry}
+use Rattle.adf_block.specs.declared.layout.TheConstants.{NAME_BYTE, NEXT_IN_CHAIN}
 use Rattle.adf_block.specs.Frame.{SameBut}
 use Rattle.adf_block.proofs.Frames.{same_sum}
-use Rattle.ados_name.specs.declared.Date3.{Date3}
+use Rattle.ados_name.specs.declared.stamp.Date3.{Date3}
 use Rattle.ados_chain.specs.Relinks.{AtLinks, Relinks, link_block, link_long}
 use Rattle.ados_model.proofs.KeyLists.{Contains-here, Contains-later}
-use Rattle.ados_model.specs.Tree.{Content, Node, Tree, root, size_in}
+use Rattle.ados_model.specs.Tree.{Content, Node, Tree, root}
+use Rattle.ados_model.specs.Parts.{size_in}
 use Rattle.ados_model.specs.Tree.Content.{Directory, File}
 use Rattle.ados_model.specs.Change.{listed}
-use Rattle.ados_model.specs.Stands.{date_at, Layout, HasNode, HasEntry, in_slot, type_of}
+use Rattle.ados_model.specs.Stands.{date_at, Layout, HasNode, HasEntry, type_of, in_slot}
 use Rattle.ados_change.specs.steps.Writes.{AtLongs, AtDate, Dated}
 use Rattle.ados_change.proofs.Frame.{long-kept, sum-kept}
 use Rattle.ados_change.proofs.Changed.{nodes_here, nodes_other, changed_keeps, was, relisted}
 use Rattle.ados_change.proofs.Loose.{Loose}
 use Rattle.ados_change.proofs.Spells.{Spells}
-use Rattle.ados_change.proofs.Reframed.{TellsOnly, Telling, SameFiles, Chained-stays, first_kept, text_stays, date_stays, entry_stays, reframed}
+use Rattle.ados_change.proofs.Reframed.{TellsOnly, Telling, SameFiles, first_kept, text_stays, date_stays, entry_stays, reframed}
 use Rattle.ados_change.proofs.Reframed.Telling.{sum, table, heading, linking}
+use Rattle.ados_chain.proofs.Spelling.{Chained-kept}
 
 -- where a link of a directory's hash chains may be: in its hash table, or in an entry
 pub data IsLinkPlace (t : Tree) (dir b i : ℕ) : Type 0 where
   in_table : b ≡ dir → 6 ≤ i → i < 78 → IsLinkPlace t dir b i
-  in_entry : (node : Node) → t.nodes b ≡ Some node → b ≢ root t → i ≡ next_in_chain → IsLinkPlace t dir b i
+  in_entry : (node : Node) → t.nodes b ≡ Some node → b ≢ root t → i ≡ NEXT_IN_CHAIN → IsLinkPlace t dir b i
 
 -- the link after entries of a hash chain is in such a place
 pub link_place : (t : Tree) (dir b i : ℕ) (front : List ℕ) → IsLinkPlace t dir b i → ((k : ℕ) → Contains front k → (node : Node) × (t.nodes k ≡ Some node) × (k ≢ root t)) → IsLinkPlace t dir (link_block b front) (link_long i front)
 link_place t dir b i [] at entry = at
 link_place t dir b i (k ∷ ks) at entry =
     let n = entry k (Contains-here k ks) in
-    link_place t dir k next_in_chain ks (in_entry n.0 n.1 n.2 refl) (λ j m. entry j (Contains-later k ks j m))
+    link_place t dir k NEXT_IN_CHAIN ks (in_entry n.0 n.1 n.2 refl) (λ j m. entry j (Contains-later k ks j m))
 
 -- the longs of both changes
 pub data Wrote (b0 i0 key dir : ℕ) (b j : ℕ) : Type 0 where
   link : b ≡ b0 → j ≡ i0 → Wrote b0 i0 key dir b j
   link_sum : b ≡ b0 → j ≡ 5 → Wrote b0 i0 key dir b j
-  key_link : b ≡ key → j ≡ next_in_chain → Wrote b0 i0 key dir b j
+  key_link : b ≡ key → j ≡ NEXT_IN_CHAIN → Wrote b0 i0 key dir b j
   key_sum : b ≡ key → j ≡ 5 → Wrote b0 i0 key dir b j
   dated : b ≡ dir → 105 ≤ j → j < 108 → Wrote b0 i0 key dir b j
   dated_sum : b ≡ dir → j ≡ 5 → Wrote b0 i0 key dir b j
@@ -103,7 +106,7 @@ module _ (old mid new : List ℕ) (t : Tree) (l : Layout) (loose_key : ℕ) (s :
   free : (b j : ℕ) → ((78 ≤ j) × (j < 105)) ⊎ (((108 ≤ j) × (j < 124)) ⊎ (j ≡ 125)) → ¬ W b j
   free b j o w = go place w
     where
-      apart : (i : ℕ) → (i < 78) ⊎ (i ≡ next_in_chain) → j ≡ i → ⊥
+      apart : (i : ℕ) → (i < 78) ⊎ (i ≡ NEXT_IN_CHAIN) → j ≡ i → ⊥
       apart i (inl m) e = elim o [ inl x ↦ omega (arith, x.0, e, m) | inr (inl x) ↦ omega (arith, x.0, e, m) | inr (inr x) ↦ omega (arith, x, e, m) ]
       apart i (inr m) e = elim o [ inl x ↦ omega (arith, x.1, e, m) | inr (inl x) ↦ omega (arith, x.1, e, m) | inr (inr x) ↦ omega (arith, x, e, m) ]
 
@@ -140,7 +143,7 @@ module _ (old mid new : List ℕ) (t : Tree) (l : Layout) (loose_key : ℕ) (s :
       linked (inr n) (inl e) = ap (block_sum mid) e ∙ relinks.link_sum
       linked (inr n) (inr m) = same_sum (AtLinks b0 i0 key) old mid relinks.rest k (λ j o w. elim w [ inl x ↦ elim x [ inl y ↦ m y.0 | inr y ↦ m y.0 ] | inr x ↦ elim x [ inl y ↦ n y.0 | inr y ↦ n y.0 ] ]) ∙ was
 
-  module _ (list : List ℕ) (chains : (d : ℕ) (b : Node) (ks : List ℕ) (q : ℕ) → t.nodes d ≡ Some b → b.content ≡ Directory ks → q < 72 → Chained mid next_in_chain (table_entry mid d q) (in_slot (listed moment dir list t) d q)) where
+  module _ (list : List ℕ) (chains : (d : ℕ) (b : Node) (ks : List ℕ) (q : ℕ) → t.nodes d ≡ Some b → b.content ≡ Directory ks → q < 72 → Chained mid NEXT_IN_CHAIN (table_entry mid d q) (in_slot (listed moment dir list t) d q)) where
     abbrev u : Tree
     u = listed moment dir list t
 
@@ -149,7 +152,7 @@ module _ (old mid new : List ℕ) (t : Tree) (l : Layout) (loose_key : ℕ) (s :
         let w = was (relisted moment list) dir t k b e in
         let g = s.nodes k w.old w.at in
         let short = loose.name k w.old w.at in
-        let named = text_stays old new t l s root_some size W tells change k name_byte w.old.name (omega (arith, short.short)) (λ j p q. free k (j / 4) (inr (inl (omega arith, omega (arith, q, short.short))))) g.name in
+        let named = text_stays old new t l s root_some size W tells change k NAME_BYTE w.old.name (omega (arith, short.short)) (λ j p q. free k (j / 4) (inr (inl (omega arith, omega (arith, q, short.short))))) g.name in
         let primary = first_kept old new t l s root_some size W tells change k 0 (omega arith) ∙ g.primary in
         elim (w.how) [
           | inl h ↦ subst (HasNode new k) (sym h.1) (record {
@@ -206,7 +209,7 @@ module _ (old mid new : List ℕ) (t : Tree) (l : Layout) (loose_key : ℕ) (s :
         some_same None = refl
         some_same (Some b) = refl
 
-    chains_after : (d : ℕ) (b : Node) (ks : List ℕ) (q : ℕ) → u.nodes d ≡ Some b → b.content ≡ Directory ks → q < 72 → Chained new next_in_chain (table_entry new d q) (in_slot u d q)
+    chains_after : (d : ℕ) (b : Node) (ks : List ℕ) (q : ℕ) → u.nodes d ≡ Some b → b.content ≡ Directory ks → q < 72 → Chained new NEXT_IN_CHAIN (table_entry new d q) (in_slot u d q)
     chains_after d b ks q e c m =
         let w = was (relisted moment list) dir t d b e in
         let directory : (ls : List ℕ) × (w.old.content ≡ Directory ls) = elim (w.how) [
@@ -215,8 +218,8 @@ module _ (old mid new : List ℕ) (t : Tree) (l : Layout) (loose_key : ℕ) (s :
         ] in
         let undated_long : (i j : ℕ) → j < 128 → (j < 105) ⊎ (108 ≤ j) → j ≢ 5 → long new i j ≡ long mid i j = λ i j n o p.
         long-kept (AtDate dir 105) mid new redated.rest i j n (λ z. elim (z.1) [ inl x ↦ p x | inr x ↦ elim o [ inl y ↦ omega (arith, x.0, y) | inr y ↦ omega (arith, x.1, y) ] ]) in
-        subst (λ (first : ℕ). Chained new next_in_chain first (in_slot u d q)) (sym (undated_long d (6 + q) (omega (arith, m)) (inl (omega (arith, m))) (omega arith)))
-        (Chained-stays mid new next_in_chain (table_entry mid d q) (in_slot u d q) (λ i n. undated_long i 124 (omega arith) (inr (omega arith)) (omega arith)) (chains d w.old directory.0 q w.at directory.1 m))
+        subst (λ (first : ℕ). Chained new NEXT_IN_CHAIN first (in_slot u d q)) (sym (undated_long d (6 + q) (omega (arith, m)) (inl (omega (arith, m))) (omega arith)))
+        (Chained-kept mid new NEXT_IN_CHAIN (table_entry mid d q) (in_slot u d q) (λ i n. undated_long i 124 (omega arith) (inr (omega arith)) (omega arith)) (chains d w.old directory.0 q w.at directory.1 m))
 
     root_dated : date_at new (root t) 118 ≡ t.disk_date
     root_dated = date_stays old new t l s root_some size W tells change (root t) 118 (omega arith) (λ j p q. free (root t) j (inr (inl (omega arith, omega arith)))) ∙ s.root_fields.disk_date

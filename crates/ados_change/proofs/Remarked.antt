@@ -2,13 +2,17 @@
 use Rattle.std.proofs.Common.{◌≡◌, ◌≢◌, ℕ, zero, suc, ◌+◌, ◌-◌, ◌/◌, ◌%◌, ◌<◌, ◌≤◌, ◌⊎◌, inl, inr, Bool, true, false, ◌==◌, List, ◌∷◌, length, slice_index, Contains, not, Option, Some, is_some, option_map, refl, sym, ap, ◌∙◌, subst, arith}
 use Rattle.std.proofs.lemmas.Bool.{cases_lt, cases_eq}
 use Rattle.std.proofs.lemmas.List.{get_or_default, get_or_past}
-use Rattle.adf_block.specs.declared.Format.{Format}
-use Rattle.adf_block.specs.declared.Format.TheVariants.{Ofs, Ffs}
-use Rattle.adf_block.specs.Image.{IsInside, has_free_bit, HasFreeBit, bytes_at, long, block_sum, Chained, HasText, table_entry}
-use Rattle.adf_block.specs.Layout.{next_in_chain, next_extension, next_data, name_byte, comment_byte}
+use Rattle.adf_block.specs.declared.layout.Format.{Format}
+use Rattle.adf_block.specs.declared.layout.Format.TheVariants.{Ofs, Ffs}
+use Rattle.adf_block.specs.Image.{IsInside, has_free_bit, bytes_at, long, block_sum, Chained, HasText}
+use Rattle.adf_block.specs.Whole.{HasFreeBit}
+use Rattle.adf_block.specs.Fields.{table_entry}
+use Rattle.adf_block.specs.declared.layout.TheConstants.{COMMENT_BYTE, NAME_BYTE, NEXT_IN_CHAIN, NEXT_EXTENSION, NEXT_DATA}
 use Rattle.ados_name.specs.Name.{slot}
-use Rattle.ados_model.specs.Tree.{data_count, Node, Tree, root, entries, entries_in, size_in, size_of, name_of}
-use Rattle.ados_model.specs.Stands.{HasFile, file_byte, Layout, Fits, Duty, HasDuty, Named, date_at, HasNode, HasEntry, HasRoot, in_slot}
+use Rattle.ados_model.specs.Tree.{data_count, Node, Tree, root, entries, entries_in, size_of, name_of}
+use Rattle.ados_model.specs.Parts.{size_in}
+use Rattle.ados_model.specs.Stands.{HasFile, Layout, Fits, Duty, HasDuty, Named, date_at, HasNode, HasEntry, HasRoot, in_slot}
+use Rattle.ados_model.specs.File.{file_byte}
 use Rattle.ados_model.specs.Tree.Content.{Directory, File}
 use Rattle.ados_model.specs.Change.{with_node}
 use Rattle.adf_block.specs.Frame.{SameBut}
@@ -21,7 +25,7 @@ use Rattle.ados_change.proofs.Changed.{nodes_here, nodes_other}
 use Rattle.ados_change.proofs.Loose.{Loose}
 use Rattle.ados_change.proofs.Slots.{slots_beside}
 use Rattle.ados_change.proofs.Spells.{Spells}
-use Rattle.ados_change.proofs.Reframed.{Chained-stays}
+use Rattle.ados_chain.proofs.Spelling.{Chained-kept}
 
 -- a bitmap block
 abbrev pub IsPage : Layout → ℕ → Type 0
@@ -123,7 +127,7 @@ module _ (old new : List ℕ) (t : Tree) (l : Layout) (key : ℕ) (o : Option No
   file_stays : (file : ℕ) (bytes : List ℕ) → IsBeside file → HasFile old t.format file (l.file_data file) (l.extensions file) bytes → HasFile new t.format file (l.file_data file) (l.extensions file) bytes
   file_stays file bytes n g = record {
     size = long_stays file 81 n (omega arith) ∙ g.size;
-    chain = subst (λ (i : ℕ). Chained new next_extension i (l.extensions file)) (sym (long_stays file 126 n (omega arith))) (Chained-stays old new next_extension (long old file next_extension) (l.extensions file) (links_stay 126 (l.extensions file) (omega arith) (extension_beside file)) g.chain);
+    chain = subst (λ (i : ℕ). Chained new NEXT_EXTENSION i (l.extensions file)) (sym (long_stays file 126 n (omega arith))) (Chained-kept old new NEXT_EXTENSION (long old file NEXT_EXTENSION) (l.extensions file) (links_stay 126 (l.extensions file) (omega arith) (extension_beside file)) g.chain);
     extension = λ i m. let x = g.extension i m in let block = slice_index (l.extensions file) i in let b = extension_beside file i m in record {
       primary = long_stays block 0 b (omega arith) ∙ x.primary;
       key_field = long_stays block 1 b (omega arith) ∙ x.key_field;
@@ -134,7 +138,7 @@ module _ (old new : List ℕ) (t : Tree) (l : Layout) (key : ℕ) (o : Option No
     counts = λ i m. long_stays (slice_index (file ∷ l.extensions file) i) 2 (header_beside file i n m) (omega arith) ∙ g.counts i m;
     pointers = λ i m. long_stays (slice_index (file ∷ l.extensions file) (i / 72)) (77 - i % 72) (header_beside file (i / 72) n (omega (arith, m, s.fits.extensions file))) (omega arith) ∙ g.pointers i m;
     contents = λ k m. g.contents k m ∙ sym (file_byte_stays t.format file k);
-    ofs_chain = λ o. subst (λ (i : ℕ). Chained new next_data i (l.file_data file)) (sym (long_stays file 4 n (omega arith))) (Chained-stays old new next_data (long old file next_data) (l.file_data file) (links_stay 4 (l.file_data file) (omega arith) (λ i m. data_beside file i)) (g.ofs_chain o));
+    ofs_chain = λ o. subst (λ (i : ℕ). Chained new NEXT_DATA i (l.file_data file)) (sym (long_stays file 4 n (omega arith))) (Chained-kept old new NEXT_DATA (long old file NEXT_DATA) (l.file_data file) (links_stay 4 (l.file_data file) (omega arith) (λ i m. data_beside file i)) (g.ofs_chain o));
     ofs_data = λ o i m. let x = g.ofs_data o i m in let block = slice_index (l.file_data file) i in let b = data_beside file i in record {
       primary = long_stays block 0 b (omega arith) ∙ x.primary;
       header = long_stays block 1 b (omega arith) ∙ x.header;
@@ -234,7 +238,7 @@ module _ (old new : List ℕ) (t : Tree) (l : Layout) (key : ℕ) (o : Option No
       is_set false e n = absurd (n (r.bit ∙ ap not e))
 
   module _ (node_here : (a : Node) → o ≡ Some a → HasNode new key a) (entry_here : (a : Node) (dir : ℕ) → o ≡ Some a → a.parent ≡ Some dir → HasEntry new key a dir)
-      (slots_here : (a : Node) (keys : List ℕ) (q : ℕ) → o ≡ Some a → a.content ≡ Directory keys → q < 72 → Chained new next_in_chain (table_entry new key q) (in_slot t key q))
+      (slots_here : (a : Node) (keys : List ℕ) (q : ℕ) → o ≡ Some a → a.content ≡ Directory keys → q < 72 → Chained new NEXT_IN_CHAIN (table_entry new key q) (in_slot t key q))
       (file_here : (a : Node) (bytes : List ℕ) → o ≡ Some a → a.content ≡ File bytes → HasFile new t.format key (l.file_data key) (l.extensions key) bytes) where
     node_after : (k : ℕ) (a : Node) → w.nodes k ≡ Some a → HasNode new k a
     node_after k a e = elim (node_at k a e) [
@@ -246,7 +250,7 @@ module _ (old new : List ℕ) (t : Tree) (l : Layout) (key : ℕ) (o : Option No
           record {
             primary = long_stays k 0 b (omega arith) ∙ g.primary;
             sum = sum_stays k b ∙ g.sum;
-            name = text_stays k name_byte a.name b (omega (arith, short.short)) g.name;
+            name = text_stays k NAME_BYTE a.name b (omega (arith, short.short)) g.name;
             date = date_stays k 105 b (omega arith) ∙ g.date;
           }
     ]
@@ -261,7 +265,7 @@ module _ (old new : List ℕ) (t : Tree) (l : Layout) (key : ℕ) (o : Option No
           record {
             key_field = long_stays k 1 b (omega arith) ∙ g.key_field;
             protection_field = long_stays k 80 b (omega arith) ∙ g.protection_field;
-            comment = text_stays k comment_byte a.comment b (omega (arith, short.short)) g.comment;
+            comment = text_stays k COMMENT_BYTE a.comment b (omega (arith, short.short)) g.comment;
             parent = long_stays k 125 b (omega arith) ∙ g.parent;
             secondary = long_stays k 127 b (omega arith) ∙ g.secondary;
           }
@@ -274,12 +278,12 @@ module _ (old new : List ℕ) (t : Tree) (l : Layout) (key : ℕ) (o : Option No
         let n = parent_in (t.nodes k) dir p.1 in
         node_beside k n.0 n.1 p.0
 
-    chain_after : (dir : ℕ) (a : Node) (keys : List ℕ) (q : ℕ) → w.nodes dir ≡ Some a → a.content ≡ Directory keys → q < 72 → Chained new next_in_chain (table_entry new dir q) (in_slot w dir q)
-    chain_after dir a keys q e c m = subst (Chained new next_in_chain (table_entry new dir q)) (sym (slots_same dir q)) (elim (node_at dir a e) [
-      | inl h ↦ subst (λ (d : ℕ). Chained new next_in_chain (table_entry new d q) (in_slot t d q)) (sym h.0) (slots_here a keys q h.1 c m)
+    chain_after : (dir : ℕ) (a : Node) (keys : List ℕ) (q : ℕ) → w.nodes dir ≡ Some a → a.content ≡ Directory keys → q < 72 → Chained new NEXT_IN_CHAIN (table_entry new dir q) (in_slot w dir q)
+    chain_after dir a keys q e c m = subst (Chained new NEXT_IN_CHAIN (table_entry new dir q)) (sym (slots_same dir q)) (elim (node_at dir a e) [
+      | inl h ↦ subst (λ (d : ℕ). Chained new NEXT_IN_CHAIN (table_entry new d q) (in_slot t d q)) (sym h.0) (slots_here a keys q h.1 c m)
       | inr h ↦
-          subst (λ (first : ℕ). Chained new next_in_chain first (in_slot t dir q)) (sym (long_stays dir (6 + q) (node_beside dir a h.1 h.0) (omega (arith, m))))
-          (Chained-stays old new next_in_chain (table_entry old dir q) (in_slot t dir q) (λ b n. long_stays b 124 (listed_beside dir b (Contains-part (λ k. slot (name_of t k) == q) (entries t dir) b n)) (omega arith)) (s.chains dir a keys q h.1 c m))
+          subst (λ (first : ℕ). Chained new NEXT_IN_CHAIN first (in_slot t dir q)) (sym (long_stays dir (6 + q) (node_beside dir a h.1 h.0) (omega (arith, m))))
+          (Chained-kept old new NEXT_IN_CHAIN (table_entry old dir q) (in_slot t dir q) (λ b n. long_stays b 124 (listed_beside dir b (Contains-part (λ k. slot (name_of t k) == q) (entries t dir) b n)) (omega arith)) (s.chains dir a keys q h.1 c m))
     ])
 
     pub remarked : Spells new w l

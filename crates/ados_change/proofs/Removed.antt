@@ -2,13 +2,14 @@
 use Rattle.std.proofs.Common.{◌≡◌, ◌≢◌, ℕ, ◌+◌, ◌/◌, ◌<◌, inl, inr, List, ◌∷◌, length, slice_index, Contains, Some, IsSome, true, refl, sym, ap, ◌∙◌, subst, arith}
 use Rattle.std.proofs.lemmas.Bool.{cases_eq}
 use Rattle.std.proofs.lemmas.List.Elements.{Contains-append_left}
-use Rattle.adf_block.specs.Image.{Chained, parent_key, table_entry, block_count, byte_at, long, root_key, IsInside}
+use Rattle.adf_block.specs.Image.{Chained, block_count, byte_at, long, root_key, IsInside}
+use Rattle.adf_block.specs.Fields.{parent_key, table_entry}
 use Rattle.adf_block.specs.Frame.{SameBut}
-use Rattle.adf_block.specs.Layout.{next_in_chain}
+use Rattle.adf_block.specs.declared.layout.TheConstants.{NEXT_IN_CHAIN}
 use Rattle.adf_block.proofs.Frames.{same_count, same_trans}
 use Rattle.ados_map.specs.Changes.{MapPlace, BitChanged}
 use Rattle.ados_map.specs.Pages.{LawfulPages, page_block, page_of, pages_of}
-use Rattle.ados_name.specs.declared.Date3.{Date3}
+use Rattle.ados_name.specs.declared.stamp.Date3.{Date3}
 use Rattle.ados_chain.proofs.Changes.{slot_at-small}
 use Rattle.ados_chain.proofs.Spelling.{Chained-behind}
 use Rattle.ados_chain.specs.Chains.{LawfulChains, slot_at}
@@ -95,7 +96,7 @@ module _ (old : List ℕ) (t : Tree) (st : Stands old t) (moment : Date3) (key :
       -- the link to the key
       link_was : long old (link_block can.dir unlinked.front) (link_long (6 + slot_key) unlinked.front) ≡ key
       link_was =
-          let spelled = subst (Chained old next_in_chain (table_entry old can.dir slot_key)) unlinked.split (old_chains.spelled slot_key (slot_at-small old key)) in
+          let spelled = subst (Chained old NEXT_IN_CHAIN (table_entry old can.dir slot_key)) unlinked.split (old_chains.spelled slot_key (slot_at-small old key)) in
           let rest = Chained-behind old can.dir (6 + slot_key) unlinked.front (key ∷ unlinked.back) spelled in
           rest.0
 
@@ -118,7 +119,7 @@ module _ (old : List ℕ) (t : Tree) (st : Stands old t) (moment : Date3) (key :
           same_trans (IsWritten old t st m4) old m3 m4
           (same_trans (IsWritten old t st m4) old m2 m3
           (same_trans (IsWritten old t st m4) old m1 m2
-          (linked_kept old t st m4 t can.dir (link_block can.dir unlinked.front) (link_long (6 + slot_key) unlinked.front) (long old key next_in_chain) key d.0 d.1 d.2 d.3 (λ k x e n. inl (x, e, n)) link_at
+          (linked_kept old t st m4 t can.dir (link_block can.dir unlinked.front) (link_long (6 + slot_key) unlinked.front) (long old key NEXT_IN_CHAIN) key d.0 d.1 d.2 d.3 (λ k x e n. inl (x, e, n)) link_at
           (inl (node.0, node.1, not_root_key)) old m1 unlinked.relinks)
           (dated_kept old t st m4 can.dir d.0 d.2 moment m1 m2 dated_from))
           (marked_kept old t st m4 key (page_of key) true m2 m3 page.0 page.1 given))
@@ -144,7 +145,7 @@ module _ (old : List ℕ) (t : Tree) (st : Stands old t) (moment : Date3) (key :
       off_map =
           let d = directory old t st moment key can no_bytes in
           same_trans (IsOffMap old t st) old m1 m2
-          (linked_off old t st m2 t can.dir (link_block can.dir unlinked.front) (link_long (6 + slot_key) unlinked.front) (long old key next_in_chain) key d.0 d.2 (λ k x e n. inl (x, e, n)) link_at (inl (node.0, node.1, not_root_key)) old m1 unlinked.relinks)
+          (linked_off old t st m2 t can.dir (link_block can.dir unlinked.front) (link_long (6 + slot_key) unlinked.front) (long old key NEXT_IN_CHAIN) key d.0 d.2 (λ k x e n. inl (x, e, n)) link_at (inl (node.0, node.1, not_root_key)) old m1 unlinked.relinks)
           (dated_off old t st can.dir 105 d.0 d.2 (omega arith) moment m1 m2 dated_from)
 
       pub gone_untold : (m3 m4 : List ℕ) → BitChanged m2 key true m3 → Dated (root_key (block_count m3)) 118 moment m3 m4 → KeepsUntold old m4
@@ -161,7 +162,7 @@ module _ (old : List ℕ) (t : Tree) (st : Stands old t) (moment : Date3) (key :
           (past_end_trans old m3 m4 (same ∙ count) (past_end_trans old m2 m3 count first bit) last)
 
       -- in the entry's own block only the next-in-chain long and the checksum are written
-      own_stays : (m3 m4 : List ℕ) → BitChanged m2 key true m3 → Dated (root_key (block_count m3)) 118 moment m3 m4 → (i : ℕ) → i < 512 → i / 4 ≢ next_in_chain → i / 4 ≢ 5 → byte_at m4 key i ≡ byte_at old key i
+      own_stays : (m3 m4 : List ℕ) → BitChanged m2 key true m3 → Dated (root_key (block_count m3)) 118 moment m3 m4 → (i : ℕ) → i < 512 → i / 4 ≢ NEXT_IN_CHAIN → i / 4 ≢ 5 → byte_at m4 key i ≡ byte_at old key i
       own_stays m3 m4 given stamp i l no_link no_sum =
           (stamp_at_root m3 m4 given stamp).rest.same_byte key i l (λ w. not_root_key w.0)
           ∙ given.rest.same_byte key i l (λ w. no_page (sym w.0))

@@ -6,9 +6,10 @@ use Rattle.adf_block.proofs.Frames.{same_sum}
 use Rattle.ados_map.specs.Pages.{LawfulPages, page_block, page_of, pages_of}
 use Rattle.ados_map.specs.Changes.{MapPlace, BitChanged}
 use Rattle.ados_map.proofs.MarkLemmas.{bit_of_inside}
-use Rattle.ados_name.specs.declared.Date3.{Date3}
+use Rattle.ados_name.specs.declared.stamp.Date3.{Date3}
 use Rattle.ados_chain.specs.Relinks.{CanUnlink, Unlinks}
-use Rattle.ados_model.specs.Tree.{Node, Tree, Proper, root, entries, size_in, size_of}
+use Rattle.ados_model.specs.Tree.{Node, Tree, Proper, root, entries, size_of}
+use Rattle.ados_model.specs.Parts.{size_in}
 use Rattle.ados_model.specs.Tree.Content.{Directory}
 use Rattle.ados_model.specs.Change.{with_node, removed, stamped}
 use Rattle.ados_model.specs.Stands.{Duty, Layout, Stands, in_slot}

@@ -1,11 +1,13 @@
 -- The steps that move an entry.
 use Rattle.std.proofs.Common.{◌≡◌, ◌≢◌, ℕ, ◌+◌, ◌<◌, inl, List, ◌∷◌, length, Contains, Some, sym, ◌∙◌, subst, arith}
 use Rattle.std.proofs.lemmas.List.Elements.{Contains-append_left}
-use Rattle.adf_block.specs.Layout.{name_byte, next_in_chain}
-use Rattle.adf_block.specs.Image.{parent_key, HasFreeBit, block_count, byte_at, long, root_key}
+use Rattle.adf_block.specs.declared.layout.TheConstants.{NAME_BYTE, NEXT_IN_CHAIN}
+use Rattle.adf_block.specs.Image.{block_count, byte_at, long, root_key}
+use Rattle.adf_block.specs.Whole.{HasFreeBit}
+use Rattle.adf_block.specs.Fields.{parent_key}
 use Rattle.adf_block.specs.Frame.{SameBut}
 use Rattle.adf_block.proofs.Frames.{same_count, same_trans}
-use Rattle.ados_name.specs.declared.Date3.{Date3}
+use Rattle.ados_name.specs.declared.stamp.Date3.{Date3}
 use Rattle.ados_chain.proofs.Changes.{slot_at-small}
 use Rattle.ados_chain.specs.Chains.{LawfulChains, slot_at}
 use Rattle.ados_chain.specs.Relinks.{CanInsert, CanUnlink, InsertsLast, Unlinks, link_block, link_long}
@@ -109,7 +111,7 @@ module _ (old : List ℕ) (t : Tree) (st : Stands old t) (moment : Date3) (key d
               inl (before.old, before.at, n)
 
           -- the new name is in its block
-          counted : (m6 : List ℕ) → Stands m6 (renamed moment key dir name t) → byte_at m6 key name_byte ≡ length name
+          counted : (m6 : List ℕ) → Stands m6 (renamed moment key dir name t) → byte_at m6 key NAME_BYTE ≡ length name
           counted m6 after =
               let at = subst (λ (u : Tree). (entered moment dir key (changed key (titling dir name) u)).nodes key ≡ Some (titling dir name (the_entry old t st moment key dir name can).0)) (sym (left_is t st.proper key can.from can.listed moment))
               (nodes_other dir _ (there old t st moment key dir name can) key (λ e. dir_is_other t moment key dir name st.proper can (sym e)) ∙ moved_here t moment key dir name st.proper can) in
@@ -142,7 +144,7 @@ module _ (old : List ℕ) (t : Tree) (st : Stands old t) (moment : Date3) (key d
               (same_trans (IsWritten old t st m6) old m3 m4
               (same_trans (IsWritten old t st m6) old m2 m3
               (same_trans (IsWritten old t st m6) old m1 m2
-              (linked_kept old t st m6 t can.from (link_block can.from unlinked.front) (link_long (6 + old_slot) unlinked.front) (long old key next_in_chain) key d.0 d.1 d.2 d.3 (λ k x f n. inl (x, f, n)) left_place of_key old m1 unlinked.relinks)
+              (linked_kept old t st m6 t can.from (link_block can.from unlinked.front) (link_long (6 + old_slot) unlinked.front) (long old key NEXT_IN_CHAIN) key d.0 d.1 d.2 d.3 (λ k x f n. inl (x, f, n)) left_place of_key old m1 unlinked.relinks)
               (dated_kept old t st m6 can.from d.0 d.2 moment m1 m2 dated_from))
               (titled_kept old t st m6 key dir name e.0 e.1 no_root (counted m6 (moved m5 m6 dated stamp)) can.valid.short m2 m3 titled))
               (linked_kept old t st m6 goal_tree dir (link_block dir (in_slot goal_tree dir new_slot)) (link_long (6 + new_slot) (in_slot goal_tree dir new_slot)) key key into.node into.keys into.at into.content (known m6) goal_place of_key m3 m4 inserted.relinks))
@@ -179,7 +181,7 @@ module _ (old : List ℕ) (t : Tree) (st : Stands old t) (moment : Date3) (key d
               (same_trans (IsOffMap old t st) old m3 m4
               (same_trans (IsOffMap old t st) old m2 m3
               (same_trans (IsOffMap old t st) old m1 m2
-              (linked_off old t st m6 t can.from (link_block can.from unlinked.front) (link_long (6 + old_slot) unlinked.front) (long old key next_in_chain) key d.0 d.2 (λ k x f n. inl (x, f, n)) left_place of_key old m1 unlinked.relinks)
+              (linked_off old t st m6 t can.from (link_block can.from unlinked.front) (link_long (6 + old_slot) unlinked.front) (long old key NEXT_IN_CHAIN) key d.0 d.2 (λ k x f n. inl (x, f, n)) left_place of_key old m1 unlinked.relinks)
               (dated_off old t st can.from 105 d.0 d.2 (omega arith) moment m1 m2 dated_from))
               (titled_off old t st m6 key dir name of_key no_root m2 m3 titled))
               (linked_off old t st m6 goal_tree dir (link_block dir (in_slot goal_tree dir new_slot)) (link_long (6 + new_slot) (in_slot goal_tree dir new_slot)) key key into.node into.at (known m6) goal_place of_key m3 m4 inserted.relinks))

@@ -1,12 +1,14 @@
 -- An entry moved, possibly under a new name: the image represents the tree with the entry moved.
 use Rattle.std.proofs.Common.{◌≡◌, ◌≢◌, ℕ, ◌+◌, ◌/◌, ◌<◌, ◌≤◌, ◌⊎◌, inl, inr, List, length, Contains, Option, Some, None, is_some, IsSome, option_map, refl, sym, ap, ◌∙◌, subst, arith}
-use Rattle.adf_block.specs.Image.{block_sum, long, Chained, HasText, table_entry, parent_key}
-use Rattle.adf_block.specs.Layout.{name_byte, comment_byte, next_in_chain}
+use Rattle.adf_block.specs.Image.{block_sum, long, Chained, HasText}
+use Rattle.adf_block.specs.Fields.{table_entry, parent_key}
+use Rattle.adf_block.specs.declared.layout.TheConstants.{COMMENT_BYTE, NAME_BYTE, NEXT_IN_CHAIN}
 use Rattle.adf_block.proofs.Frames.{same_weaken}
-use Rattle.ados_name.specs.declared.Date3.{Date3}
+use Rattle.ados_name.specs.declared.stamp.Date3.{Date3}
 use Rattle.ados_name.specs.Name.{IsName}
 use Rattle.ados_chain.specs.Relinks.{CanInsert, CanUnlink, InsertsLast, Unlinks}
-use Rattle.ados_model.specs.Tree.{Node, Tree, root, entries, size_in}
+use Rattle.ados_model.specs.Tree.{Node, Tree, root, entries}
+use Rattle.ados_model.specs.Parts.{size_in}
 use Rattle.ados_model.specs.Tree.Content.{Directory}
 use Rattle.ados_model.specs.Change.{changed, entered, renamed, stamped}
 use Rattle.ados_model.specs.Stands.{Layout, Stands, HasNode, HasEntry, in_slot}
@@ -20,9 +22,10 @@ use Rattle.ados_change.proofs.Loose.{Loose, in_list, left_is, proper_is_loose}
 use Rattle.ados_change.proofs.ProperChanges.{named, out, out_is_loose, entry, entry_out, moved, moved_here, moved_is_loose, moved_entered_proper, dir_is_other, into_directory, renamed_is_proper}
 use Rattle.ados_change.proofs.Slots.{slots_beside}
 use Rattle.ados_change.proofs.Spells.{Spells, spells, stands}
-use Rattle.ados_change.proofs.Reframed.{TellsOnly, Chained-stays, first_kept, last_kept, text_stays, date_stays, node_stays, entry_stays, reframed}
+use Rattle.ados_change.proofs.Reframed.{TellsOnly, first_kept, last_kept, text_stays, date_stays, node_stays, entry_stays, reframed}
 use Rattle.ados_change.proofs.Reframed.Telling.{sum, heading, linking}
 use Rattle.ados_change.proofs.Listing.{can_unlink, can_insert, left_spells, entered_spells, stamped_spells}
+use Rattle.ados_chain.proofs.Spelling.{Chained-kept}
 
 -- the longs of an entry's name, directory and checksum
 abbrev pub AtTitleLongs : ℕ → ℕ → ℕ → Type 0
@@ -85,7 +88,7 @@ module _ (old new : List ℕ) (t : Tree) (lay : Layout) (key dir : ℕ) (name : 
         | inr h ↦ subst (HasNode new k) (sym h.1) (record {
           primary = first_kept old new t lay s root_some size W tells change k 0 (omega arith) ∙ g.primary;
           sum = ap (block_sum new) h.0 ∙ r.summed;
-          name = subst (λ (b : ℕ). HasText new b name_byte name) (sym h.0) r.named;
+          name = subst (λ (b : ℕ). HasText new b NAME_BYTE name) (sym h.0) r.named;
           date = date_stays old new t lay s root_some size W tells change k 105 (omega arith) (λ j p q. free k j (omega arith) (inl (omega arith))) ∙ g.date;
         })
       ]
@@ -104,7 +107,7 @@ module _ (old new : List ℕ) (t : Tree) (lay : Layout) (key dir : ℕ) (name : 
             subst (λ (n : Node). HasEntry new k n d) (sym h.1) (record {
               key_field = first_kept old new t lay s root_some size W tells change k 1 (omega arith) ∙ g.key_field;
               protection_field = long-kept W old new change k 80 (omega arith) (free k 80 (omega arith) (inl (omega arith))) ∙ g.protection_field;
-              comment = text_stays old new t lay s root_some size W tells change k comment_byte w.old.comment (omega (arith, comment.short)) (λ j m n. free k (j / 4) (omega arith) (inl (omega (arith, n, comment.short)))) g.comment;
+              comment = text_stays old new t lay s root_some size W tells change k COMMENT_BYTE w.old.comment (omega (arith, comment.short)) (λ j m n. free k (j / 4) (omega arith) (inl (omega (arith, n, comment.short)))) g.comment;
               parent = ap (λ (b : ℕ). parent_key new b) h.0 ∙ r.parent ∙ dirs;
               secondary = last_kept old new t lay s root_some size W tells change k 127 (omega arith) (omega arith) ∙ g.secondary;
             })
@@ -124,9 +127,9 @@ module _ (old new : List ℕ) (t : Tree) (lay : Layout) (key dir : ℕ) (name : 
       let w = was titled key t d a e in
       let directory : w.old.content ≡ Directory keys = elim (w.how) [ inl h ↦ ap (λ (n : Node). n.content) (sym h.1) ∙ c | inr h ↦ ap (λ (n : Node). n.content) (sym h.1) ∙ c ] in
       let link : (b j : ℕ) → j < 128 → j ≢ 5 → (j < 108) ⊎ (((116 ≤ j) × (j < 125)) ⊎ (125 < j)) → long new b j ≡ long old b j = λ b j n o p. long-kept W old new change b j n (free b j o p) in
-      subst (λ (xs : List ℕ). Chained new next_in_chain (table_entry new d q) xs) (sym (slots_same d q))
-      (subst (λ (first : ℕ). Chained new next_in_chain first (in_slot t d q)) (sym (link d (6 + q) (omega (arith, m)) (omega arith) (inl (omega (arith, m)))))
-      (Chained-stays old new next_in_chain (table_entry old d q) (in_slot t d q) (λ b n. link b 124 (omega arith) (omega arith) (inr (inl (omega arith, omega arith)))) (s.chains d w.old keys q w.at directory m))))
+      subst (λ (xs : List ℕ). Chained new NEXT_IN_CHAIN (table_entry new d q) xs) (sym (slots_same d q))
+      (subst (λ (first : ℕ). Chained new NEXT_IN_CHAIN first (in_slot t d q)) (sym (link d (6 + q) (omega (arith, m)) (omega arith) (inl (omega (arith, m)))))
+      (Chained-kept old new NEXT_IN_CHAIN (table_entry old d q) (in_slot t d q) (λ b n. link b 124 (omega arith) (omega arith) (inr (inl (omega arith, omega arith)))) (s.chains d w.old keys q w.at directory m))))
 
 -- ---- the whole move
 

@@ -2,12 +2,13 @@
 use Rattle.std.proofs.Common.{◌≡◌, ◌≢◌, ℕ, ◌+◌, ◌/◌, ◌<◌, ◌≤◌, inl, inr, true, false, List, [], length, Option, Some, None, option_map, refl, sym, ap, ap₂, ◌∙◌, subst, arith, eq-eqb}
 use Rattle.std.proofs.lemmas.Bool.{ne_eqb, cases_eq, lt-ltb, ltb-true, false≢true}
 use Rattle.adf_block.specs.Whole.{IsImage, free_bit_count}
-use Rattle.adf_block.specs.Image.{IsInside, block_count, byte_at, long, has_free_bit, secondary_type, format_of}
+use Rattle.adf_block.specs.Image.{IsInside, block_count, byte_at, long, has_free_bit}
+use Rattle.adf_block.specs.Fields.{secondary_type, format_of}
 use Rattle.adf_block.specs.Frame.{SameBut}
-use Rattle.adf_block.specs.Layout.{file_type}
+use Rattle.adf_block.specs.declared.layout.TheConstants.{FILE_TYPE}
 use Rattle.adf_block.proofs.Frames.{same_count}
 use Rattle.adf_block.proofs.Longs.{long-same}
-use Rattle.ados_name.specs.declared.Date3.{Date3}
+use Rattle.ados_name.specs.declared.stamp.Date3.{Date3}
 use Rattle.ados_map.specs.Pages.{NoneFreeBelow}
 use Rattle.ados_data.proofs.Bounds.{below_stays}
 use Rattle.ados_model.specs.Tree.{block_cost, Content, Node, Tree, root, free, content_at, size_of, bytes_of, bytes_in as bytes_held}
@@ -206,7 +207,7 @@ module _ (moment : Date3) (old mid : List ℕ) (file : ℕ) (tree : HasTree old)
         (stands_after mid new (touched moment file u) after file f.node f.bytes f.at f.content (data_blocks new file) (extension_blocks new file) (contents new file) laid)
 
     -- the file is still a file
-    still_file : secondary_type new file ≡ file_type
+    still_file : secondary_type new file ≡ FILE_TYPE
     still_file =
         long-same mid new file 127 (λ k e. r.leaves.header k (omega (arith, e)) (beside_data (k / 4) e))
         ∙ type_stamped old mid tree.0 tree.1 file node.node node.at file_is_no_root rest node.bytes node.content

@@ -1,14 +1,16 @@
 -- A tree with one node replaced: the parts that the lists of entries depend on are unchanged.
-use Rattle.std.proofs.Common.{◌≡◌, ◌≢◌, ℕ, suc, ◌≤◌, inl, inr, Bool, cond, ◌==◌, List, [], ◌∷◌, map, filter, slice_index_or, AllPairs, Contains, Option, Some, None, is_some, option_map, option_and_then, refl, sym, ap, ap₂, ◌∙◌, subst, arith, eq-eqb}
+use Rattle.std.proofs.Common.{◌≡◌, ◌≢◌, ℕ, ◌≤◌, inl, inr, ◌==◌, List, [], map, filter, slice_index_or, AllPairs, Contains, Option, Some, None, is_some, option_map, option_and_then, refl, sym, ap, ◌∙◌, subst, arith, eq-eqb}
 use Rattle.std.proofs.lemmas.Bool.{ne_eqb, cases_eq}
 use Rattle.std.proofs.lemmas.List.Elements.{Contains-get_or}
-use Rattle.ados_name.specs.declared.Date3.{Date3}
+use Rattle.ados_name.specs.declared.stamp.Date3.{Date3}
 use Rattle.ados_name.specs.Name.{upper, slot, IsName, IsComment}
-use Rattle.ados_model.specs.Tree.{data_count, Node, Tree, Proper, IsRoot, LeadsToRoot, root, content_at, entries_in, entries, size_in, name_in, name_of, parent_of}
+use Rattle.ados_model.specs.Tree.{data_count, Node, Tree, Proper, IsRoot, LeadsToRoot, root, content_at, entries_in, entries, name_of, parent_of}
+use Rattle.ados_model.specs.Parts.{size_in, name_in}
 use Rattle.ados_model.specs.Tree.LeadsToRoot.{at_root, by_parent}
 use Rattle.ados_model.specs.Stands.{Layout, Fits, Duty, HasDuty, in_slot}
 use Rattle.ados_model.specs.Change.{stamped, with_node}
 use Rattle.ados_model.proofs.Nodes.{entry_node}
+use Rattle.ados_change.proofs.Entering.{filter_same}
 
 -- the tree with this node at a key, and this disk date
 abbrev pub retold : ℕ → Node → Date3 → Tree → Tree
@@ -26,13 +28,6 @@ pub record Retells (t : Tree) (key : ℕ) (node after : Node) (d : Date3) : Type
   pub same_disk : key ≢ root t → d ≡ t.disk_date
   pub no_protection : key ≡ root t → after.protection ≡ 0
   pub no_comment : key ≡ root t → after.comment ≡ []
-
--- two tests that agree on a list keep the same elements
-filter_same : (p q : ℕ → Bool) (xs : List ℕ) → ((x : ℕ) → Contains xs x → p x ≡ q x) → filter p xs ≡ filter q xs
-filter_same p q [] same = refl
-filter_same p q (x ∷ xs) same =
-    ap₂ (λ (b : Bool) (ys : List ℕ). cond b (x ∷ ys) ys) (same x (0, omega arith, refl))
-    (filter_same p q xs (λ y m. same y (suc m.0, omega (arith, m.1), m.2)))
 
 -- the root is not an entry
 pub entry_not_root : (t : Tree) → Proper t → (dir k : ℕ) → Contains (entries t dir) k → k ≢ root t

@@ -2,20 +2,23 @@
 use Rattle.std.proofs.Common.{◌≡◌, ◌≢◌, ℕ, ◌+◌, ◌-◌, ◌/◌, ◌%◌, ◌^◌, ◌<◌, ◌≤◌, ◌⊎◌, inl, inr, ◌==◌, List, length, slice_index, bit_and, not, Some, refl, sym, ap, ◌∙◌, subst, arith}
 use Rattle.std.proofs.lemmas.Bool.{cases_eq, cases_lt}
 use Rattle.std.proofs.lemmas.List.{get_or_default, get_or_past}
-use Rattle.adf_block.specs.declared.Format.{Format}
-use Rattle.adf_block.specs.declared.Format.TheVariants.{Ofs, Ffs}
-use Rattle.adf_block.specs.Image.{IsInside, has_free_bit, block_count, root_key, long, bytes_at, block_sum, HasText, protection, table_entry, Chained}
-use Rattle.adf_block.specs.Layout.{next_in_chain, next_extension, next_data, name_byte, comment_byte}
+use Rattle.adf_block.specs.declared.layout.Format.{Format}
+use Rattle.adf_block.specs.declared.layout.Format.TheVariants.{Ofs, Ffs}
+use Rattle.adf_block.specs.Image.{IsInside, has_free_bit, block_count, root_key, long, bytes_at, block_sum, HasText, Chained}
+use Rattle.adf_block.specs.Fields.{protection, table_entry}
+use Rattle.adf_block.specs.declared.layout.TheConstants.{COMMENT_BYTE, NAME_BYTE, NEXT_IN_CHAIN, NEXT_EXTENSION, NEXT_DATA}
 use Rattle.adf_block.specs.Frame.{SameBut}
 use Rattle.adf_block.proofs.Frames.{same_long, same_bytes_at}
-use Rattle.ados_name.specs.declared.Date3.{Date3}
+use Rattle.ados_name.specs.declared.stamp.Date3.{Date3}
 use Rattle.ados_name.specs.Name.{IsName, IsComment}
-use Rattle.ados_model.specs.Stands.{HasOfsData, HasFile, file_byte, Duty, HasDuty, Stands, HasNode, HasEntry, HasRoot, in_slot, type_of, date_at}
-use Rattle.ados_data.proofs.Chains.{chained, first_of, next_of}
+use Rattle.ados_model.specs.Stands.{HasOfsData, HasFile, Duty, HasDuty, Stands, HasNode, HasEntry, HasRoot, type_of, date_at, in_slot}
+use Rattle.ados_model.specs.File.{file_byte}
+use Rattle.ados_data.proofs.Chains.{chained, next_of}
 use Rattle.ados_data.proofs.Untouched.{Untouched, untouched_long, untouched_sum, extension_kept}
 use Rattle.ados_model.specs.Tree.{Node, Tree, root}
 use Rattle.ados_model.proofs.Standing.{slice_get-index}
 use Rattle.ados_change.proofs.Retells.{retold, Retells, at_key, at_other, was, slots_same, proper_after, fits_after, serves_back, serves_on}
+use Rattle.ados_model.proofs.FileFaults.{chain_head}
 
 -- byte i of a key's block depends only on the new node: it is in the checksum, the date, the root's name or disk date,
 -- or another node's protection or comment
@@ -43,10 +46,10 @@ data Skeleton (j : ℕ) : Type 0 where
 pub record Retold (t : Tree) (key : ℕ) (after : Node) (d : Date3) (old new : List ℕ) : Type 0 where
   pub rest : SameBut (Tells t key after) old new
   pub sum : block_sum new key ≡ 0
-  pub name : HasText new key name_byte after.name
+  pub name : HasText new key NAME_BYTE after.name
   pub date : date_at new key 105 ≡ after.date
   pub bits : key ≢ root t → protection new key ≡ after.protection
-  pub comment : key ≢ root t → HasText new key comment_byte after.comment
+  pub comment : key ≢ root t → HasText new key COMMENT_BYTE after.comment
   pub disk : key ≡ root t → date_at new key 118 ≡ d
 
 module _ (t : Tree) (key i : ℕ) (after : Node) (name : IsName after.name) (short : IsComment after.comment) where
@@ -126,7 +129,7 @@ module _ (old new : List ℕ) (t : Tree) (key : ℕ) (node after : Node) (d : Da
   page_other p l = by_duty _ (Duty.Page p) (slice_get-index s.layout.pages p l) (λ z. cc z)
 
   chain_kept : (link first : ℕ) (xs : List ℕ) → link < 128 → Skeleton link → Chained old link first xs → Chained new link first xs
-  chain_kept link first xs l k c = chained new link first xs (first_of old link first xs c) (λ i m. kept (slice_index xs i) link l k ∙ next_of old link first xs c i m)
+  chain_kept link first xs l k c = chained new link first xs (chain_head old link first xs c) (λ i m. kept (slice_index xs i) link l k ∙ next_of old link first xs c i m)
 
   -- the same, from a first block that a block names
   linked : (link b i : ℕ) (xs : List ℕ) → link < 128 → Skeleton link → i < 128 → Skeleton i → Chained old link (long old b i) xs → Chained new link (long new b i) xs
@@ -152,7 +155,7 @@ module _ (old new : List ℕ) (t : Tree) (key : ℕ) (node after : Node) (d : Da
   file_kept : (file : ℕ) (bytes : List ℕ) → HasFile old t.format file (s.layout.file_data file) (s.layout.extensions file) bytes → HasFile new t.format file (s.layout.file_data file) (s.layout.extensions file) bytes
   file_kept file bytes g = record {
     size = kept file 81 (omega arith) (size refl) ∙ g.size;
-    chain = linked next_extension file next_extension (s.layout.extensions file) (omega arith) (tail (omega arith)) (omega arith) (tail (omega arith)) g.chain;
+    chain = linked NEXT_EXTENSION file NEXT_EXTENSION (s.layout.extensions file) (omega arith) (tail (omega arith)) (omega arith) (tail (omega arith)) g.chain;
     extension = λ i l.
         let e = g.extension i l in
         let block = slice_index (s.layout.extensions file) i in
@@ -165,7 +168,7 @@ module _ (old new : List ℕ) (t : Tree) (key : ℕ) (node after : Node) (d : Da
     counts = λ i l. kept _ 2 (omega arith) (head (omega arith)) ∙ g.counts i l;
     pointers = λ i l. kept _ (77 - i % 72) (omega arith) (table (omega arith) (omega arith)) ∙ g.pointers i l;
     contents = λ k l. g.contents k l ∙ sym (file_byte_kept file k t.format);
-    ofs_chain = λ o. linked next_data file next_data (s.layout.file_data file) (omega arith) (head (omega arith)) (omega arith) (head (omega arith)) (g.ofs_chain o);
+    ofs_chain = λ o. linked NEXT_DATA file NEXT_DATA (s.layout.file_data file) (omega arith) (head (omega arith)) (omega arith) (head (omega arith)) (g.ofs_chain o);
     ofs_data = λ o i l. data_kept file (length bytes) i (g.ofs_data o i l);
   }
 
@@ -220,7 +223,7 @@ module _ (old new : List ℕ) (t : Tree) (key : ℕ) (node after : Node) (d : Da
         record {
           primary = kept k 0 (omega arith) (head (omega arith)) ∙ g.primary;
           sum = untouched_sum old new k (other k n) ∙ g.sum;
-          name = other_text k name_byte a.name n (omega (arith, short.short)) g.name;
+          name = other_text k NAME_BYTE a.name n (omega (arith, short.short)) g.name;
           date = other_date k 105 n (omega arith) ∙ g.date;
         }
   ]
@@ -246,7 +249,7 @@ module _ (old new : List ℕ) (t : Tree) (key : ℕ) (node after : Node) (d : Da
         record {
           key_field = kept k 1 (omega arith) (head (omega arith)) ∙ g.key_field;
           protection_field = untouched_long old new k (other k n) 80 (omega arith) ∙ g.protection_field;
-          comment = other_text k comment_byte a.comment n (omega (arith, short.short)) g.comment;
+          comment = other_text k COMMENT_BYTE a.comment n (omega (arith, short.short)) g.comment;
           parent = kept k 125 (omega arith) (tail (omega arith)) ∙ g.parent;
           secondary = kept k 127 (omega arith) (tail (omega arith)) ∙ g.secondary;
         }
@@ -295,8 +298,8 @@ module _ (old new : List ℕ) (t : Tree) (key : ℕ) (node after : Node) (d : Da
     chains = λ dir a keys q e c l.
         let w = was t key node after d r dir a e in
         let chain = s.chains dir w.old keys q w.at (sym w.content ∙ c) l in
-        subst (λ (xs : List ℕ). Chained new next_in_chain (table_entry new dir q) xs) (sym (slots_same t key node after d r s.proper dir q))
-        (linked next_in_chain dir (6 + q) (in_slot t dir q) (omega arith) (tail (omega arith)) (omega (arith, l)) (table (omega arith) (omega (arith, l))) chain);
+        subst (λ (xs : List ℕ). Chained new NEXT_IN_CHAIN (table_entry new dir q) xs) (sym (slots_same t key node after d r s.proper dir q))
+        (linked NEXT_IN_CHAIN dir (6 + q) (in_slot t dir q) (omega arith) (tail (omega arith)) (omega (arith, l)) (table (omega arith) (omega (arith, l))) chain);
     files = λ file a bytes e c. let w = was t key node after d r file a e in file_kept file bytes (s.files file w.old bytes w.at (sym w.content ∙ c));
     marked_free = λ b i m n. s.marked_free b i (sym (marks_kept b i) ∙ m) (n.0, serves_back t key node after d r s.layout b n.0 n.1);
     marked_used = λ b i m. let n = s.marked_used b i (λ f. m (marks_kept b i ∙ f)) in (n.0, serves_on t key node after d r s.layout b n.0 n.1);

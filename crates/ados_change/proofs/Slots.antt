@@ -1,7 +1,7 @@
 -- The hash chains of a directory whose list changes.
 use Rattle.std.proofs.Common.{◌≡◌, ◌≢◌, ℕ, ◌≤◌, inl, inr, ◌==◌, List, [], ◌∷◌, ◌++◌, filter, AllPairs, Option, Some, option_map, refl, sym, ap, ◌∙◌, subst, eq-eqb}
 use Rattle.std.proofs.lemmas.Bool.{ne_eqb, cases_eq}
-use Rattle.ados_name.specs.declared.Date3.{Date3}
+use Rattle.ados_name.specs.declared.stamp.Date3.{Date3}
 use Rattle.ados_name.specs.Name.{slot}
 use Rattle.ados_chain.specs.Chains.{with_last, without}
 use Rattle.ados_model.proofs.KeyLists.{is_not}

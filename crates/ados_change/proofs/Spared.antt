@@ -2,7 +2,8 @@
 use Rattle.std.proofs.Common.{◌≡◌, ℕ, ◌<◌, Bool, true, false, List, Option, Some, is_some, IsSome, refl, sym, ap, ◌∙◌, arith}
 use Rattle.std.proofs.lemmas.Bool.{false≢true}
 use Rattle.adf_block.specs.Frame.{SameBut}
-use Rattle.adf_block.specs.Image.{HasFreeBit, IsInside, byte_at, has_free_bit}
+use Rattle.adf_block.specs.Image.{IsInside, byte_at, has_free_bit}
+use Rattle.adf_block.specs.Whole.{HasFreeBit}
 use Rattle.ados_model.specs.Faults.{InImage}
 use Rattle.ados_model.specs.Stands.{Duty, HasDuty, Named, Stands}
 use Rattle.ados_change.specs.NewBlocks.{KeepsFreed}

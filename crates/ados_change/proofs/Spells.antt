@@ -1,7 +1,9 @@
 -- An image that has the blocks of a tree. It represents the tree if that is proper.
 use Rattle.std.proofs.Common.{◌≡◌, ℕ, ◌*◌, ◌<◌, List, [], ◌∷◌, length, Some, Contains, refl}
-use Rattle.adf_block.specs.Image.{bytes_at, block_sum, IsInside, HasFreeBit, Chained, table_entry}
-use Rattle.adf_block.specs.Layout.{next_in_chain}
+use Rattle.adf_block.specs.Image.{bytes_at, block_sum, IsInside, Chained}
+use Rattle.adf_block.specs.Whole.{HasFreeBit}
+use Rattle.adf_block.specs.Fields.{table_entry}
+use Rattle.adf_block.specs.declared.layout.TheConstants.{NEXT_IN_CHAIN}
 use Rattle.ados_model.specs.Stands.{HasFile, Layout, Fits, Named, Stands, HasNode, HasEntry, HasRoot, format_byte, in_slot}
 use Rattle.ados_model.specs.Tree.{Node, Tree, Proper}
 use Rattle.ados_model.specs.Tree.Content.{Directory, File}
@@ -16,7 +18,7 @@ pub record Spells (image : List ℕ) (t : Tree) (l : Layout) : Type 0 where
   pub entries : (key dir : ℕ) (node : Node) → t.nodes key ≡ Some node → node.parent ≡ Some dir → HasEntry image key node dir
   pub pages : (page : ℕ) → Contains l.pages page → block_sum image page ≡ 0
   pub lost : (block : ℕ) (bytes : List ℕ) → t.lost block ≡ Some bytes → bytes_at image block 0 512 ≡ bytes
-  pub chains : (dir : ℕ) (node : Node) (keys : List ℕ) (s : ℕ) → t.nodes dir ≡ Some node → node.content ≡ Directory keys → s < 72 → Chained image next_in_chain (table_entry image dir s) (in_slot t dir s)
+  pub chains : (dir : ℕ) (node : Node) (keys : List ℕ) (s : ℕ) → t.nodes dir ≡ Some node → node.content ≡ Directory keys → s < 72 → Chained image NEXT_IN_CHAIN (table_entry image dir s) (in_slot t dir s)
   pub files : (file : ℕ) (node : Node) (bytes : List ℕ) → t.nodes file ≡ Some node → node.content ≡ File bytes → HasFile image t.format file (l.file_data file) (l.extensions file) bytes
   pub marked_free : (block : ℕ) → IsInside t.blocks block → HasFreeBit image block → ¬ Named t l block
   pub marked_used : (block : ℕ) → IsInside t.blocks block → ¬ HasFreeBit image block → Named t l block

@@ -1,8 +1,9 @@
 -- An image with the time stamp of a change written into it: everything else is unchanged.
 use Rattle.std.proofs.Common.{◌≡◌, ◌≢◌, ℕ, ◌+◌, ◌-◌, ◌/◌, ◌%◌, ◌^◌, ◌<◌, ◌≤◌, inl, inr, ◌==◌, not, bit_and, Bool, cond, List, Some, None, refl, sym, ap, ◌∙◌, subst, arith}
-use Rattle.adf_block.specs.Image.{block_count, root_key, page_count, IsInside, byte_at, long, has_free_bit, total, secondary_type, format_of}
+use Rattle.adf_block.specs.Image.{block_count, root_key, page_count, IsInside, byte_at, long, has_free_bit, total}
+use Rattle.adf_block.specs.Fields.{secondary_type, format_of}
 use Rattle.adf_block.specs.Whole.{free_bit_count}
-use Rattle.adf_block.specs.Layout.{file_type}
+use Rattle.adf_block.specs.declared.layout.TheConstants.{FILE_TYPE}
 use Rattle.adf_block.specs.Frame.{SameBut}
 use Rattle.adf_block.proofs.Frames.{same_long, same_count}
 use Rattle.adf_block.proofs.Totals.{total-same}
@@ -131,14 +132,14 @@ module _ (old new : List ℕ) (t : Tree) (s : Stands old t) (file : ℕ) (node :
   ofs_back = plain_byte 0 3 (omega arith) (front (omega arith))
 
   -- the file is still a file
-  pub type_stamped : (bytes : List ℕ) → node.content ≡ File bytes → secondary_type new file ≡ file_type
+  pub type_stamped : (bytes : List ℕ) → node.content ≡ File bytes → secondary_type new file ≡ FILE_TYPE
   type_stamped bytes is = elim (root_or_parent t s.proper file node found) [
     | inl e ↦ absurd (not_root e)
     | inr p ↦ plain_long file 127 (omega arith) (back (omega arith)) ∙ (s.entries file p.0 node found p.1).secondary ∙ ap type_of is
   ]
 
   -- a time stamp is in a field, even if the file is rewritten afterwards
-  stamp_field : (last : List ℕ) → secondary_type last file ≡ file_type → (b i : ℕ) (role role' : Role) → Reached old b role → Alike role role' → AtStamps (root t) file b i → IsField last b role' i
+  stamp_field : (last : List ℕ) → secondary_type last file ≡ FILE_TYPE → (b i : ℕ) (role role' : Role) → Reached old b role → Alike role role' → AtStamps (root t) file b i → IsField last b role' i
   stamp_field last typed b i role role' r alike w = let at = reached_stands old t s r in go at.0 role role' at.1 alike w
     where
       of_file : (dir q : ℕ) → IsFileStamp (i / 4) → IsField last file (roles.Entry dir q) i
@@ -169,7 +170,7 @@ module _ (old new : List ℕ) (t : Tree) (s : Stands old t) (file : ℕ) (node :
       go k _ _ at alike w = absurd alike
 
   -- what is untouched since the time stamp is untouched since before it
-  pub kept_before : (last : List ℕ) → secondary_type last file ≡ file_type → Kept old new → Kept new last → Kept old last
+  pub kept_before : (last : List ℕ) → secondary_type last file ≡ FILE_TYPE → Kept old new → Kept new last → Kept old last
   kept_before last typed k g = record {
     size = g.size ∙ k.size;
     boot = g.boot ∙ k.boot;

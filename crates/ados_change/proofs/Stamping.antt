@@ -4,7 +4,7 @@ use Rattle.std.proofs.lemmas.Bool.{ne_eqb, cases_eq}
 use Rattle.adf_block.specs.Image.{root_key, long}
 use Rattle.adf_block.specs.Frame.{SameBut}
 use Rattle.adf_block.proofs.Frames.{same_trans, same_weaken, same_count}
-use Rattle.ados_name.specs.declared.Date3.{Date3}
+use Rattle.ados_name.specs.declared.stamp.Date3.{Date3}
 use Rattle.ados_model.specs.Tree.{Node, Tree, root}
 use Rattle.ados_model.specs.Keys.{HasFileKey, HasEntryKey, HasKey, HasTree}
 use Rattle.ados_model.specs.Stands.{Stands}
@@ -28,9 +28,6 @@ with_bits bits node = record node { protection = bits }
 
 abbrev with_date : Date3 → Node → Node
 with_date moment node = record node { date = moment }
-
-abbrev touch : Date3 → Node → Node
-touch moment node = record node { date = moment; protection = without_archive node.protection }
 
 -- a file's key is not the root
 pub entry_key : (image : List ℕ) (file : ℕ) → HasFileKey image file → HasEntryKey image file

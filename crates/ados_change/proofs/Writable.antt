@@ -1,8 +1,9 @@
 -- An image that represents a tree has lawful bitmap blocks, and each of its files can be changed.
 use Rattle.std.proofs.Common.{◌≡◌, ◌≢◌, ℕ, zero, suc, ◌+◌, ◌<◌, ◌≤◌, ◌==◌, Bool, true, false, List, ◌∷◌, length, slice_index, Some, refl, sym, ap, ◌∙◌, subst, arith, eq-eqb, ne_eqb}
-use Rattle.adf_block.specs.declared.Format.{Format}
-use Rattle.adf_block.specs.declared.Format.TheVariants.{Ofs, Ffs}
-use Rattle.adf_block.specs.Image.{IsInside, block_count, byte_at, root_key, long, has_free_bit, format_of}
+use Rattle.adf_block.specs.declared.layout.Format.{Format}
+use Rattle.adf_block.specs.declared.layout.Format.TheVariants.{Ofs, Ffs}
+use Rattle.adf_block.specs.Image.{IsInside, block_count, byte_at, root_key, long, has_free_bit}
+use Rattle.adf_block.specs.Fields.{format_of}
 use Rattle.adf_block.proofs.Blocks.{byte-bytes_at}
 use Rattle.ados_map.specs.Pages.{LawfulPages, page_block, pages_of}
 use Rattle.ados_model.specs.Tree.{data_count, Content, Node, Tree, size_of}

@@ -1,5 +1,5 @@
 -- When an entry of a tree can be made, removed or renamed.
-use Rattle.std.specs.Prelude.{◌≡◌, ◌≢◌, ℕ, List, [], Some, None, Contains}
+use Rattle.std.specs.Prelude.{◌≡◌, ◌≢◌, ℕ, List, [], Some, Contains}
 use Rattle.ados_name.specs.Name.{Same, IsName}
 use Rattle.ados_model.specs.Tree.{Content, Tree, content_at, entries, entries_in, name_of, parent_of}
 use Rattle.ados_model.specs.Tree.Content.{Directory}

@@ -1,6 +1,6 @@
 -- Changes of one field of a node.
 use Rattle.std.specs.Prelude.{ℕ, List}
-use Rattle.ados_name.specs.declared.Date3.{Date3}
+use Rattle.ados_name.specs.declared.stamp.Date3.{Date3}
 use Rattle.ados_model.specs.Tree.{Tree, root}
 use Rattle.ados_model.specs.Change.{changed}
 

@@ -1,6 +1,6 @@
 -- The content of a new entry, and when a change makes one.
 use Rattle.std.specs.Prelude.{ℕ, List, []}
-use Rattle.ados_name.specs.declared.Date3.{Date3}
+use Rattle.ados_name.specs.declared.stamp.Date3.{Date3}
 use Rattle.ados_map.specs.Pages.{IsLowestFree}
 use Rattle.ados_model.specs.Change.{made}
 use Rattle.ados_model.specs.Stands.{Stands}

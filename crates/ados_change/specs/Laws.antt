@@ -1,9 +1,9 @@
 -- Laws: the changes of entries keep a tree proper.
 use Rattle.std.specs.Prelude.{ℕ, List}
-use Rattle.ados_name.specs.declared.Date3.{Date3}
+use Rattle.ados_name.specs.declared.stamp.Date3.{Date3}
 use Rattle.ados_model.specs.Tree.{Content, Tree, Proper}
 use Rattle.ados_model.specs.Change.{made, removed, renamed}
-use Rattle.ados_model.specs.Tree.{IsUnused}
+use Rattle.ados_model.specs.Parts.{IsUnused}
 use Rattle.ados_change.specs.Conditions.{CanMake, CanRemove, CanRename, IsEmpty}
 
 -- a proper tree with one more entry, which is empty, is proper

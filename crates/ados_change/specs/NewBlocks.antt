@@ -1,7 +1,8 @@
 -- How a change of an image allocates blocks, and what it leaves untouched otherwise.
 use Rattle.std.specs.Prelude.{◌≡◌, ℕ, ◌<◌, List, [], ◌∷◌, length, slice_index}
-use Rattle.adf_block.specs.Image.{byte_at, HasFreeBit}
-use Rattle.adf_block.specs.Layout.{pointer_count_long, next_data, sum_long, protection_long, size_long, date_long, next_in_chain, next_extension, block_bytes}
+use Rattle.adf_block.specs.Image.{byte_at}
+use Rattle.adf_block.specs.Whole.{HasFreeBit}
+use Rattle.adf_block.specs.declared.layout.TheConstants.{BLOCK_BYTES, CHECKSUM, POINTER_COUNT, PROTECTION, FILE_SIZE, DATE, NEXT_IN_CHAIN, NEXT_EXTENSION, NEXT_DATA}
 use Rattle.ados_model.specs.File.{data_blocks, extension_blocks}
 use Rattle.ados_model.specs.declared.role.Role.{Role}
 use Rattle.ados_model.specs.Faults.{InImage, IsFile, Reached}
@@ -24,7 +25,7 @@ TakenRise old new blocks =
 -- the header of a new file has the number of its first data block, or 0
 pub record TakesLowest (old new : List ℕ) : Type 0 where
   pub lowest : (block other : ℕ) → IsTaken old new block → InImage old other → HasFreeBit old other → HasFreeBit new other → block < other
-  pub zero_else : (block i : ℕ) (role : Role) → IsTaken old new block → Reached new block role → i < block_bytes → ¬ IsField new block role i → byte_at new block i ≡ 0
+  pub zero_else : (block i : ℕ) (role : Role) → IsTaken old new block → Reached new block role → i < BLOCK_BYTES → ¬ IsField new block role i → byte_at new block i ≡ 0
   pub first : (block : ℕ) → IsTaken old new block → IsFile new block → NamesFirstData new block
   pub data_rise : (file : ℕ) → HasFileKey new file → TakenRise old new (data_blocks new file)
   pub extensions_rise : (file : ℕ) → HasFileKey new file → TakenRise old new (extension_blocks new file)
@@ -37,11 +38,11 @@ TakesNone old new = (block : ℕ) → InImage old block → HasFreeBit old block
 -- protection bits, date, next in chain or checksum
 abbrev pub IsLeftField : ℕ → Type 0
 IsLeftField i =
-    InLongs (one_long pointer_count_long ∷ (next_data, sum_long) ∷ (protection_long, size_long) ∷ date_longs date_long ∷ one_long next_in_chain ∷ one_long next_extension ∷ []) i
+    InLongs (one_long POINTER_COUNT ∷ (NEXT_DATA, CHECKSUM) ∷ (PROTECTION, FILE_SIZE) ∷ date_longs DATE ∷ one_long NEXT_IN_CHAIN ∷ one_long NEXT_EXTENSION ∷ []) i
 
 -- a block that is free afterwards has the bytes that it had before, except for those fields of a removed entry
 abbrev pub KeepsFreed : List ℕ → List ℕ → Type 0
-KeepsFreed old new = (block i : ℕ) → InImage old block → HasFreeBit new block → ¬ (HasEntryKey old block × IsLeftField i) → i < block_bytes → byte_at new block i ≡ byte_at old block i
+KeepsFreed old new = (block i : ℕ) → InImage old block → HasFreeBit new block → ¬ (HasEntryKey old block × IsLeftField i) → i < BLOCK_BYTES → byte_at new block i ≡ byte_at old block i
 
 -- bytes in no field and bytes that no tree determines are unchanged; allocated blocks are the lowest free ones and are
 -- 0 outside their fields; blocks free afterwards keep their bytes

@@ -1,10 +1,11 @@
 -- Changes of a file's bytes.
 use Rattle.std.specs.Prelude.{◌≡◌, ℕ, ◌+◌, max, IsTrue, List, length}
 use Rattle.adf_block.specs.Frame.{SameBut}
-use Rattle.ados_name.specs.declared.Date3.{Date3}
+use Rattle.ados_name.specs.declared.stamp.Date3.{Date3}
 use Rattle.ados_model.specs.Tree.{Tree, needs_more, size_of}
 use Rattle.ados_model.specs.Stands.{Stands}
-use Rattle.ados_model.specs.Change.{grown, written}
+use Rattle.ados_model.specs.Change.{written}
+use Rattle.ados_model.specs.Edits.{grown}
 use Rattle.ados_model.specs.Faults.{root_of}
 use Rattle.ados_model.specs.Kept.{Kept}
 use Rattle.ados_change.specs.Stamps.{AtStamps, touched}

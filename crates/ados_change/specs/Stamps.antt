@@ -1,18 +1,18 @@
 -- Where the time stamp of a change is written.
 use Rattle.std.specs.Prelude.{◌≡◌, ℕ, ◌+◌, ◌/◌, ◌≤◌, ◌⊎◌}
-use Rattle.adf_block.specs.Layout.{sum_long, protection_long, date_long, disk_date_long}
-use Rattle.ados_name.specs.declared.Date3.{Date3}
+use Rattle.adf_block.specs.declared.layout.TheConstants.{CHECKSUM, DISK_DATE, PROTECTION, DATE}
+use Rattle.ados_name.specs.declared.stamp.Date3.{Date3}
 use Rattle.ados_model.specs.Tree.{Tree}
 use Rattle.ados_model.specs.Change.{changed, stamped}
 use Rattle.ados_name.specs.Name.{without_archive}
 
 -- the checksum, the protection and the date in a file header
 abbrev pub IsFileStamp : ℕ → Type 0
-IsFileStamp j = (j ≡ sum_long) ⊎ ((j ≡ protection_long) ⊎ ((date_long ≤ j) × (j ≤ date_long + 2)))
+IsFileStamp j = (j ≡ CHECKSUM) ⊎ ((j ≡ PROTECTION) ⊎ ((DATE ≤ j) × (j ≤ DATE + 2)))
 
 -- the checksum and the disk date in the root
 abbrev pub IsDiskStamp : ℕ → Type 0
-IsDiskStamp j = (j ≡ sum_long) ⊎ ((disk_date_long ≤ j) × (j ≤ disk_date_long + 2))
+IsDiskStamp j = (j ≡ CHECKSUM) ⊎ ((DISK_DATE ≤ j) × (j ≤ DISK_DATE + 2))
 
 -- the bytes of these longs
 abbrev pub AtStamps : ℕ → ℕ → ℕ → ℕ → Type 0

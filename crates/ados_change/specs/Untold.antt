@@ -1,8 +1,9 @@
 -- What a change leaves untouched beyond its tree: bits past the volume's end, the blocks of files, and bytes after a
 -- file's end in its data blocks.
 use Rattle.std.specs.Prelude.{◌≡◌, ℕ, ◌+◌, ◌*◌, ◌<◌, ◌≤◌, List, length, slice_index, Some}
-use Rattle.adf_block.specs.Image.{block_count, byte_at, has_free_bit, file_size, format_of}
-use Rattle.adf_block.specs.Layout.{block_bytes}
+use Rattle.adf_block.specs.Image.{block_count, byte_at, has_free_bit}
+use Rattle.adf_block.specs.Fields.{file_size, format_of}
+use Rattle.adf_block.specs.declared.layout.TheConstants.{BLOCK_BYTES}
 use Rattle.ados_map.specs.Pages.{pages_of, page_block, HasBit}
 use Rattle.ados_model.specs.Tree.{data_size, data_start, Tree, content_at}
 use Rattle.ados_model.specs.File.{data_blocks, extension_blocks}
@@ -31,7 +32,7 @@ data_at image file q = slice_index (data_blocks image file) q
 pub record KeepsData (old new : List ℕ) (file : ℕ) : Type 0 where
   pub blocks : data_blocks new file ≡ data_blocks old file
   pub extensions : extension_blocks new file ≡ extension_blocks old file
-  pub bytes : (q i : ℕ) → HasData old file q → i < block_bytes → byte_at new (data_at old file q) i ≡ byte_at old (data_at old file q) i
+  pub bytes : (q i : ℕ) → HasData old file q → i < BLOCK_BYTES → byte_at new (data_at old file q) i ≡ byte_at old (data_at old file q) i
 
 -- each file with the same bytes before and after keeps its blocks and all bytes in its data blocks
 abbrev pub KeepsOtherData : List ℕ → List ℕ → Type 0
@@ -40,7 +41,7 @@ KeepsOtherData old new = (file : ℕ) (bytes : List ℕ) → HasFileBytes old fi
 -- byte i of a file's data block q is after the end of the file's bytes
 pub record IsBehindEnd (image : List ℕ) (file q i : ℕ) : Type 0 where
   pub block : HasData image file q
-  pub byte : i < block_bytes
+  pub byte : i < BLOCK_BYTES
   pub behind : file_size image file + data_start (format_of image) ≤ data_size (format_of image) * q + i
 
 -- two lists are equal at each position that both have

@@ -3,7 +3,7 @@
 ghost use Rattle.std.specs.Prelude.{◌<◌, ◌+◌};
 ghost use Rattle.adf_block.specs.Whole.{IsImage};
 ghost use Rattle.adf_block.specs.Image.{block_count, root_key};
-ghost use Rattle.adf_block.specs.Layout.{sum_long, date_long, disk_date_long, block_longs};
+ghost use Rattle.adf_block.specs.declared.layout.TheConstants.{BLOCK_LONGS};
 ghost use Rattle.adf_block.specs.Frame.{OnlyBlock};
 ghost use Rattle.ados_name.specs.Name.{IsName};
 ghost use Rattle.ados_change.specs.Kinds.{content_of};
@@ -14,14 +14,15 @@ use crate::edit::{put_date, put_text};
 use crate::node_kind::NodeKind;
 use adf_block::Image;
 use adf_block::layout::{
-    DATE, DISK_DATE, HEADER_TYPE, NAME_BYTE, OWN_KEY, PARENT, PRIMARY_TYPE, SECONDARY_TYPE, SUM,
+    CHECKSUM, DATE, DISK_DATE, HEADER_TYPE, NAME_BYTE, OWN_KEY, PARENT, PRIMARY_TYPE,
+    SECONDARY_TYPE,
 };
 use ados_name::{Date3, Name};
 
 /// Sets the date of a directory.
 pub fn touch(image: &mut Image, dir: u32, moment: Date3)
     requires { dir < block_count image.old }
-    ensures dated { Dated dir date_long moment image.old image.new }
+    ensures dated { Dated dir DATE moment image.old image.new }
     ensures image { IsImage image.new }
 {
     settle_date(image, dir, DATE, moment);
@@ -30,7 +31,7 @@ pub fn touch(image: &mut Image, dir: u32, moment: Date3)
 /// Sets the disk date.
 pub fn stamp(image: &mut Image, moment: Date3)
     requires { IsImage image.old }
-    ensures dated { Dated (root_key (block_count image.old)) disk_date_long moment image.old image.new }
+    ensures dated { Dated (root_key (block_count image.old)) DISK_DATE moment image.old image.new }
     ensures image { IsImage image.new }
 {
     prove!(image.blocks() >= 16);
@@ -41,13 +42,13 @@ pub fn stamp(image: &mut Image, moment: Date3)
 /// Writes a date into three longs of a block, from long `i`: days, minutes, ticks.
 fn settle_date(image: &mut Image, b: u32, i: u32, moment: Date3)
     requires block { b < block_count image.old }
-    requires behind { sum_long < i }
-    requires place { i + 2 < block_longs }
+    requires behind { CHECKSUM < i }
+    requires place { i + 2 < BLOCK_LONGS }
     ensures dated { Dated b i moment image.old image.new }
     ensures image { IsImage image.new }
 {
     put_date(image, b, i, moment);
-    image.settle(b, SUM);
+    image.settle(b, CHECKSUM);
 }
 
 /// Sets the name and the directory of an entry. Bytes of a longer old name after the new one are unchanged (this
@@ -60,7 +61,7 @@ pub fn put_title(image: &mut Image, key: u32, dir: u32, name: &Name)
 {
     put_text(image, key, NAME_BYTE as usize, name.bytes());
     image.set_long(key, PARENT, dir);
-    image.settle(key, SUM);
+    image.settle(key, CHECKSUM);
 }
 
 /// Makes a block the block of a new entry. All bytes outside its fields become 0.

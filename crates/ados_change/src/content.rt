@@ -6,7 +6,7 @@ ghost use Rattle.ados_map.specs.Pages.{NoneFreeBelow};
 ghost use Rattle.ados_model.specs.Tree.{Tree, size_of};
 ghost use Rattle.ados_model.specs.Stands.{Stands};
 ghost use Rattle.ados_model.specs.Keys.{HasFileKey, HasTree};
-ghost use Rattle.ados_model.specs.Change.{shortened};
+ghost use Rattle.ados_model.specs.Edits.{shortened};
 ghost use Rattle.ados_change.specs.NewBlocks.{KeepsRest, TakesNone};
 ghost use Rattle.ados_change.specs.Cuts.{KeepsHeader};
 ghost use Rattle.ados_change.specs.Renewed.{Grows, StaysUngrown, StaysUnwritten, Writes};

@@ -1,7 +1,7 @@
 //! An entry that moves.
 
 ghost use Rattle.std.specs.Prelude.{ℕ};
-ghost use Rattle.adf_block.specs.Image.{HasFreeBit};
+ghost use Rattle.adf_block.specs.Whole.{HasFreeBit};
 ghost use Rattle.ados_model.specs.Change.{renamed};
 ghost use Rattle.ados_model.specs.Faults.{InImage};
 ghost use Rattle.ados_change.specs.NewBlocks.{KeepsRest, TakesNone};

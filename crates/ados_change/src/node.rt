@@ -1,7 +1,7 @@
 //! One field of one node, and the disk date.
 
 ghost use Rattle.std.specs.Prelude.{◌+◌, length};
-ghost use Rattle.adf_block.specs.Layout.{long_byte, protection_long, comment_byte, date_long, name_byte, disk_date_long};
+ghost use Rattle.adf_block.specs.Image.{long_byte};
 ghost use Rattle.adf_block.specs.Frame.{SameBut};
 ghost use Rattle.ados_model.specs.Tree.{Tree};
 ghost use Rattle.ados_model.specs.Stands.{Stands};
@@ -23,7 +23,7 @@ pub fn put_protection(image: &mut Image, key: u32, bits: Protect)
     requires key { HasEntryKey image.old key }
     ensures stands { (t : Tree) → Stands image.old t → Stands image.new (protected key bits.0 t) }
     ensures kept { Kept image.old image.new }
-    ensures rest { SameBut (Summed key (long_byte protection_long) (long_byte (protection_long + 1))) image.old image.new }
+    ensures rest { SameBut (Summed key (long_byte PROTECTION) (long_byte (PROTECTION + 1))) image.old image.new }
 {
     settle_long(image, key, PROTECTION, bits.bits());
 }
@@ -35,7 +35,7 @@ pub fn put_comment(image: &mut Image, key: u32, comment: &Comment)
     requires key { HasEntryKey image.old key }
     ensures stands { (t : Tree) → Stands image.old t → Stands image.new (commented key comment.now t) }
     ensures kept { Kept image.old image.new }
-    ensures rest { SameBut (Summed key comment_byte (comment_byte + 1 + length comment.now)) image.old image.new }
+    ensures rest { SameBut (Summed key COMMENT_BYTE (COMMENT_BYTE + 1 + length comment.now)) image.old image.new }
 {
     settle_text(image, key, COMMENT_BYTE as usize, comment.bytes());
 }
@@ -46,7 +46,7 @@ pub fn touch(image: &mut Image, key: u32, date: Date3)
     requires key { HasKey image.old key }
     ensures stands { (t : Tree) → Stands image.old t → Stands image.new (dated key date t) }
     ensures kept { Kept image.old image.new }
-    ensures rest { SameBut (Summed key (long_byte date_long) (long_byte (date_long + 3))) image.old image.new }
+    ensures rest { SameBut (Summed key (long_byte DATE) (long_byte (DATE + 3))) image.old image.new }
 {
     settle_date(image, key, DATE, date);
 }
@@ -56,7 +56,7 @@ pub fn put_disk_name(image: &mut Image, name: &Name)
     requires { HasTree image.old }
     ensures stands { (t : Tree) → Stands image.old t → Stands image.new (named name.now t) }
     ensures kept { Kept image.old image.new }
-    ensures rest { SameBut (Summed (root_of image.old) name_byte (name_byte + 1 + length name.now)) image.old image.new }
+    ensures rest { SameBut (Summed (root_of image.old) NAME_BYTE (NAME_BYTE + 1 + length name.now)) image.old image.new }
 {
     prove!(image.blocks() >= 16);
     let root = image.root();
@@ -68,7 +68,7 @@ pub fn stamp_disk(image: &mut Image, moment: Date3)
     requires { HasTree image.old }
     ensures stands { (t : Tree) → Stands image.old t → Stands image.new (stamped moment t) }
     ensures kept { Kept image.old image.new }
-    ensures rest { SameBut (Summed (root_of image.old) (long_byte disk_date_long) (long_byte (disk_date_long + 3))) image.old image.new }
+    ensures rest { SameBut (Summed (root_of image.old) (long_byte DISK_DATE) (long_byte (DISK_DATE + 3))) image.old image.new }
 {
     prove!(image.blocks() >= 16);
     let root = image.root();

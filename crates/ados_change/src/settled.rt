@@ -1,52 +1,52 @@
 //! Fields written into a block whose checksum is long 5. A right checksum stays right.
 
 ghost use Rattle.std.specs.Prelude.{◌≡◌, ◌≢◌, ◌<◌, ◌≤◌, ◌+◌, ◌*◌, ◌⊎◌, ℕ, length};
-ghost use Rattle.adf_block.specs.Image.{block_count, block_sum, long, HasText};
-ghost use Rattle.adf_block.specs.Layout.{sum_long, long_byte, block_longs, block_bytes};
+ghost use Rattle.adf_block.specs.Image.{long_byte, block_count, block_sum, long, HasText};
+ghost use Rattle.adf_block.specs.declared.layout.TheConstants.{BLOCK_BYTES, BLOCK_LONGS};
 ghost use Rattle.adf_block.specs.Frame.{SameBut};
 ghost use Rattle.ados_model.specs.Stands.{date_at};
 ghost use Rattle.ados_change.specs.Places.{Summed};
 
 use crate::edit::put_text;
 use adf_block::Image;
-use adf_block::layout::SUM;
+use adf_block::layout::CHECKSUM;
 use ados_name::Date3;
 
 /// Sets long `i` of block `b`, and changes the checksum by the opposite amount.
 pub fn settle_long(image: &mut Image, b: u32, i: u32, v: u32)
     requires inside { b < block_count image.old }
-    requires place { i < block_longs }
-    requires not_sum { i ≢ sum_long }
+    requires place { i < BLOCK_LONGS }
+    requires not_sum { i ≢ CHECKSUM }
     ensures long { long image.new b i ≡ v }
     ensures sum { block_sum image.old b ≡ 0 → block_sum image.new b ≡ 0 }
-    ensures others { (c j : ℕ) → j < block_longs → (c ≢ b) ⊎ ((j ≢ i) × (j ≢ sum_long)) → long image.new c j ≡ long image.old c j }
+    ensures others { (c j : ℕ) → j < BLOCK_LONGS → (c ≢ b) ⊎ ((j ≢ i) × (j ≢ CHECKSUM)) → long image.new c j ≡ long image.old c j }
     ensures rest { SameBut (Summed b (4 * i) (4 * i + 4)) image.old image.new }
 {
     let moved = image.long(b, i).wrapping_sub(v);
-    let sum = image.long(b, SUM).wrapping_add(moved);
+    let sum = image.long(b, CHECKSUM).wrapping_add(moved);
     image.set_long(b, i, v);
-    image.set_long(b, SUM, sum);
+    image.set_long(b, CHECKSUM, sum);
 }
 
 /// Writes a text into block `b`: its length at byte `at`, then its bytes. Bytes after the text are unchanged.
 pub fn settle_text(image: &mut Image, b: u32, at: usize, text: &[u8])
     requires inside { b < block_count image.old }
-    requires place { long_byte (sum_long + 1) ≤ at }
-    requires room { at + 1 + length text.now ≤ block_bytes }
+    requires place { long_byte (CHECKSUM + 1) ≤ at }
+    requires room { at + 1 + length text.now ≤ BLOCK_BYTES }
     requires short { length text.now < 256 }
     ensures text { HasText image.new b at text.now }
     ensures sum { block_sum image.new b ≡ 0 }
     ensures rest { SameBut (Summed b at (at + 1 + length text.now)) image.old image.new }
 {
     put_text(image, b, at, text);
-    image.settle(b, SUM);
+    image.settle(b, CHECKSUM);
 }
 
 /// Writes a date into three longs of block `b`, from long `i`: days, minutes, ticks.
 pub fn settle_date(image: &mut Image, b: u32, i: u32, date: Date3)
     requires inside { b < block_count image.old }
-    requires behind { sum_long + 1 ≤ i }
-    requires place { i + 2 < block_longs }
+    requires behind { CHECKSUM + 1 ≤ i }
+    requires place { i + 2 < BLOCK_LONGS }
     ensures date { date_at image.new b i ≡ date }
     ensures sum { block_sum image.old b ≡ 0 → block_sum image.new b ≡ 0 }
     ensures rest { SameBut (Summed b (4 * i) (4 * i + 12)) image.old image.new }

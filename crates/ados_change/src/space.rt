@@ -8,7 +8,7 @@ ghost use Rattle.ados_model.specs.Stands.{Stands};
 ghost use Rattle.ados_model.specs.Tree.{Tree, size_of};
 
 use adf_block::Image;
-use adf_block::layout::SIZE;
+use adf_block::layout::FILE_SIZE;
 use ados_data::blocks_of;
 use ados_map::has_free;
 
@@ -18,7 +18,7 @@ pub fn size_of(image: &Image, file: u32) -> u32
     requires file { HasFileKey image.now file }
     ensures { (t : Tree) → Stands image.now t → result ≡ size_of t file }
 {
-    image.long(file, SIZE)
+    image.long(file, FILE_SIZE)
 }
 
 /// Whether enough blocks are free for the file to have `size` bytes. No block below `from` may be free.

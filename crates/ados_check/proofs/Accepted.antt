@@ -1,8 +1,8 @@
 -- A checked image is accepted, as it is or with a rebuilt bitmap.
 use Rattle.std.proofs.Common.{◌≡◌, ℕ, zero, suc, ◌+◌, ◌-◌, ◌*◌, ◌/◌, ◌%◌, ◌<◌, ◌≤◌, inl, inr, true, false, not, List, [], ◌∷◌, length, map, slice_index_or, Option, Some, None, is_some, refl, sym, ap, ◌∙◌, subst, arith}
 use Rattle.std.proofs.lemmas.Bool.{false≢true}
-use Rattle.adf_block.specs.Whole.{IsImage}
-use Rattle.adf_block.specs.Image.{HasFreeBit, has_free_bit, block_count, page_count, root_key, long, block_sum}
+use Rattle.adf_block.specs.Whole.{IsImage, HasFreeBit}
+use Rattle.adf_block.specs.Image.{has_free_bit, block_count, page_count, root_key, long, block_sum}
 use Rattle.adf_block.specs.Frame.{SameBut, AtLong, InBlock, OnlyBlock}
 use Rattle.adf_block.proofs.Frames.{same_trans, same_weaken, same_count, other_long, other_block_long, other_block_sum}
 use Rattle.ados_map.specs.Bits.{is_unnamed}

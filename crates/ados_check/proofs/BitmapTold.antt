@@ -1,10 +1,11 @@
 -- What a source has of the root and the bitmap blocks.
-use Rattle.std.proofs.Common.{◌≡◌, ◌≢◌, ℕ, ◌+◌, ◌<◌, List, Option, IsTrue, inl, inr, arith}
-use Rattle.adf_block.specs.Image.{block_sum, primary_type}
-use Rattle.adf_block.specs.Layout.{data_type}
+use Rattle.std.proofs.Common.{◌≡◌, ◌≢◌, ℕ, ◌+◌, ◌<◌, List, Option, inl, inr, arith}
+use Rattle.adf_block.specs.Image.{block_sum}
+use Rattle.adf_block.specs.Fields.{primary_type}
+use Rattle.adf_block.specs.declared.layout.TheConstants.{DATA_TYPE}
 use Rattle.ados_map.specs.Pages.{page_block, pages_of}
 use Rattle.ados_model.specs.declared.role.Role.TheVariants.{Root, Page}
-use Rattle.ados_model.specs.Faults.{InImage, root_of}
+use Rattle.ados_model.specs.Faults.{root_of}
 use Rattle.ados_model.specs.Faults.IsPlace.{root_page}
 use Rattle.ados_check.specs.declared.mark.Mark.{Mark}
 use Rattle.ados_check.specs.Marks.{IsChecked}
@@ -13,17 +14,11 @@ use Rattle.ados_check.specs.Source.{SourceView, Tells}
 use Rattle.ados_check.specs.BitmapTold.{TellsBitmap}
 
 -- a whole image has everything
-pub whole_tells : (source : SourceView) → IsTrue source.whole → TellsBitmap source
-whole_tells source whole = record { root = λ i. inl whole; page = λ p i l. inl whole }
-
 module _ (source : SourceView) (marks : List (Option Mark)) (c : IsChecked source.bytes marks) where
   pub root_told : (i : ℕ) → Tells source (root_of source.bytes) i
   root_told i =
       let sound = c.reached.sound (root_of source.bytes) (mark_of Root 0 0) c.reached.root in
       inr (sound.sum, inr (λ z. omega (arith, sound.primary, z)))
-
-  pub page_inside : (p : ℕ) → p < pages_of source.bytes → InImage source.bytes (page_block source.bytes p)
-  page_inside p l = c.reached.inside (root_of source.bytes) (79 + p) (mark_of Root 0 0) Page c.reached.root (root_page l)
 
   page_sum : (p : ℕ) → p < pages_of source.bytes → block_sum source.bytes (page_block source.bytes p) ≡ 0
   page_sum p l =
@@ -34,5 +29,5 @@ module _ (source : SourceView) (marks : List (Option Mark)) (c : IsChecked sourc
   pub page_first : (p : ℕ) → p < pages_of source.bytes → Tells source (page_block source.bytes p) 0
   page_first p l = inr (page_sum p l, inl (omega arith))
 
-  pub bitmap_told : ((p : ℕ) → p < pages_of source.bytes → primary_type source.bytes (page_block source.bytes p) ≢ data_type) → TellsBitmap source
+  pub bitmap_told : ((p : ℕ) → p < pages_of source.bytes → primary_type source.bytes (page_block source.bytes p) ≢ DATA_TYPE) → TellsBitmap source
   bitmap_told other = record { root = root_told; page = λ p i l. inr (page_sum p l, inr (other p l)) }

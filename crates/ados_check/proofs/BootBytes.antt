@@ -1,8 +1,9 @@
 -- The DOS type of a disk from its first four bytes.
 use Rattle.std.proofs.Common.{◌≡◌, ℕ, ◌<◌, ◌==◌, if◌then◌else◌, List, [], ◌∷◌, slice_index, sym, ap, ◌∙◌, arith}
-use Rattle.adf_block.specs.Image.{byte_at, bytes_at, format_of}
+use Rattle.adf_block.specs.Image.{byte_at, bytes_at}
+use Rattle.adf_block.specs.Fields.{format_of}
 use Rattle.adf_block.specs.Boot.{IsDos}
-use Rattle.adf_block.specs.declared.Format.TheVariants.{Ofs, Ffs}
+use Rattle.adf_block.specs.declared.layout.Format.TheVariants.{Ofs, Ffs}
 use Rattle.adf_block.proofs.Blocks.{byte-bytes_at}
 use Rattle.ados_model.specs.Stands.{format_byte, kind_bytes}
 

@@ -1,9 +1,9 @@
 -- Two images that differ only in their bitmaps have the same marks.
 use Rattle.std.proofs.Common.{◌≡◌, ◌≢◌, ℕ, ◌<◌, ◌≤◌, inl, inr, List, [], ◌∷◌, Option, Some, refl, sym, ap, ◌∙◌, subst, arith}
-use Rattle.adf_block.specs.declared.Format.{Format}
+use Rattle.adf_block.specs.declared.layout.Format.{Format}
 use Rattle.adf_block.specs.Whole.{IsImage, text_at}
 use Rattle.adf_block.specs.Image.{block_count, long, block_sum}
-use Rattle.adf_block.specs.Layout.{comment_byte, name_byte}
+use Rattle.adf_block.specs.declared.layout.TheConstants.{COMMENT_BYTE, NAME_BYTE}
 use Rattle.adf_block.specs.Frame.{SameBut}
 use Rattle.ados_name.specs.Name.{Same, slot}
 use Rattle.ados_model.specs.Stands.{HasExtension, format_byte}
@@ -91,7 +91,7 @@ module _ (old new : List ℕ) (marks : List (Option Mark)) (im : IsImage old) (c
         sum = sum_kept old new marks im c.reached same block free ∙ h.sum;
         name = name_valid old new marks im c.reached same block free h.name;
         slotted = ap slot (name_same old new marks im c.reached same block free h.name) ∙ h.slotted;
-        comment = omega (arith, byte_kept old new marks im c.reached same block comment_byte free (omega arith), h.comment);
+        comment = omega (arith, byte_kept old new marks im c.reached same block COMMENT_BYTE free (omega arith), h.comment);
       }
 
   sound_data : (block file : ℕ) → Free block → IsSoundData old block file → IsSoundData new block file
@@ -142,7 +142,7 @@ module _ (old new : List ℕ) (marks : List (Option Mark)) (im : IsImage old) (c
   entry_free : (block dir : ℕ) → IsMarkedEntry marks block dir → Free block
   entry_free block dir h = let is = h.3 in untouched old new marks im c.reached same block h.0 h.2 (λ z. cc (is, z)) (λ z. cc (is, z))
 
-  entry_name : (block dir : ℕ) → IsMarkedEntry marks block dir → text_at new block name_byte ≡ text_at old block name_byte
+  entry_name : (block dir : ℕ) → IsMarkedEntry marks block dir → text_at new block NAME_BYTE ≡ text_at old block NAME_BYTE
   entry_name block dir h =
       let sound : IsSoundEntry old block dir h.1 = subst (IsSound old block) h.3 (c.reached.sound block h.0 h.2) in
       name_same old new marks im c.reached same block (entry_free block dir h) sound.name
@@ -155,6 +155,6 @@ module _ (old new : List ℕ) (marks : List (Option Mark)) (im : IsImage old) (c
     files = λ file dir h sec. sound_file_kept old new marks im c same file
         (record { mark = h.0; dir = dir; slot_of_chain = h.1; marked = h.2; role = h.3; secondary = sym (kept file 127 (entry_free file dir h) (omega arith)) ∙ sec });
     unlike = λ block other dir h g alike. c.unlike block other dir h g
-        (subst (λ (name : List ℕ). Same name (text_at old other name_byte)) (entry_name block dir h)
-        (subst (λ (name : List ℕ). Same (text_at new block name_byte) name) (entry_name other dir g) alike));
+        (subst (λ (name : List ℕ). Same name (text_at old other NAME_BYTE)) (entry_name block dir h)
+        (subst (λ (name : List ℕ). Same (text_at new block NAME_BYTE) name) (entry_name other dir g) alike));
   }

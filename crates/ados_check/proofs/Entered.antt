@@ -28,7 +28,7 @@ equal_parts x y Less e h = absurd (cc h)
 equal_parts x y Equal e h = (nat_cmp-IsAntisymmetric x.dir y.dir e, slice_cmp-IsAntisymmetric nat_cmp-IsAntisymmetric x.name y.name h)
 equal_parts x y Greater e h = absurd (cc h)
 
-is_equal : (o : Ordering) → is_eq o ≡ true → o ≡ Equal
+pub is_equal : (o : Ordering) → is_eq o ≡ true → o ≡ Equal
 is_equal Less e = absurd (cc e)
 is_equal Equal e = refl
 is_equal Greater e = absurd (cc e)

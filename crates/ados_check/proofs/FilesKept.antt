@@ -1,14 +1,15 @@
 -- A sound file stays sound when only the bitmap changes.
 use Rattle.std.proofs.Common.{◌≡◌, ◌≢◌, ℕ, zero, suc, ◌+◌, ◌-◌, ◌/◌, ◌%◌, ◌<◌, ◌≤◌, List, [], ◌∷◌, length, slice_index, Option, Some, refl, sym, ap, ap₂, ◌∙◌, subst, arith}
-use Rattle.adf_block.specs.declared.Format.{Format}
-use Rattle.adf_block.specs.declared.Format.TheVariants.{Ofs, Ffs}
+use Rattle.adf_block.specs.declared.layout.Format.{Format}
+use Rattle.adf_block.specs.declared.layout.Format.TheVariants.{Ofs, Ffs}
 use Rattle.adf_block.specs.Whole.{IsImage}
-use Rattle.adf_block.specs.Image.{block_count, long, Chained, file_size, format_of}
-use Rattle.adf_block.specs.Layout.{next_data, next_extension}
+use Rattle.adf_block.specs.Image.{block_count, long, Chained}
+use Rattle.adf_block.specs.Fields.{file_size, format_of}
+use Rattle.adf_block.specs.declared.layout.TheConstants.{NEXT_EXTENSION, NEXT_DATA}
 use Rattle.adf_block.specs.Frame.{SameBut}
 use Rattle.ados_model.specs.Tree.{data_size, data_start, data_count}
-use Rattle.ados_model.specs.Stands.{HasExtension, HasOfsData, HasFile, file_byte}
-use Rattle.ados_model.specs.File.{AreApart, IsLawful, data_blocks, extension_blocks, contents}
+use Rattle.ados_model.specs.Stands.{HasExtension, HasOfsData, HasFile}
+use Rattle.ados_model.specs.File.{file_byte, AreApart, IsLawful, data_blocks, extension_blocks, contents}
 use Rattle.ados_data.proofs.Spelled.{lawful_file}
 use Rattle.ados_model.specs.declared.role.Role.TheVariants as roles
 use Rattle.ados_model.specs.Rebuilt.{IsOfBitmap}
@@ -91,14 +92,14 @@ module _ (old new : List ℕ) (marks : List (Option Mark)) (im : IsImage old) (c
   file_kept : HasFile new (format_of old) file (data_blocks old file) (extension_blocks old file) (contents old file)
   file_kept = record {
     size = kept file 81 header_free (omega arith) ∙ h.size;
-    chain = subst (λ (first : ℕ). Chained new next_extension first (extension_blocks old file)) (sym (kept file 126 header_free (omega arith)))
-        (chained_moves old new next_extension (long old file next_extension) (extension_blocks old file) (λ i l. kept _ 126 (extension_free i l) (omega arith)) h.chain);
+    chain = subst (λ (first : ℕ). Chained new NEXT_EXTENSION first (extension_blocks old file)) (sym (kept file 126 header_free (omega arith)))
+        (chained_moves old new NEXT_EXTENSION (long old file NEXT_EXTENSION) (extension_blocks old file) (λ i l. kept _ 126 (extension_free i l) (omega arith)) h.chain);
     extension = λ i l. extension_kept _ (extension_free i l) (h.extension i l);
     counts = λ i l. kept _ 2 (headers_free i l) (omega arith) ∙ h.counts i l;
     pointers = λ i l. kept _ (77 - i % 72) (headers_free (i / 72) (holder_within old marks im c file i l)) (omega arith) ∙ h.pointers i l;
     contents = λ k l. h.contents k l ∙ sym (content_kept (format_of old) k (length-data_blocks old file) (omega (arith, l, h.size)));
-    ofs_chain = λ ofs. subst (λ (first : ℕ). Chained new next_data first (data_blocks old file)) (sym (kept file 4 header_free (omega arith)))
-        (chained_moves old new next_data (long old file next_data) (data_blocks old file) (λ i l. kept _ 4 (data_free i l) (omega arith)) (h.ofs_chain ofs));
+    ofs_chain = λ ofs. subst (λ (first : ℕ). Chained new NEXT_DATA first (data_blocks old file)) (sym (kept file 4 header_free (omega arith)))
+        (chained_moves old new NEXT_DATA (long old file NEXT_DATA) (data_blocks old file) (λ i l. kept _ 4 (data_free i l) (omega arith)) (h.ofs_chain ofs));
     ofs_data = λ ofs i l. ofs_data_kept _ i _ (data_free i l) (h.ofs_data ofs i l);
   }
 

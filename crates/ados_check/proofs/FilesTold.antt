@@ -1,6 +1,6 @@
 -- What any source has of the blocks of a walked image.
 use Rattle.std.proofs.Common.{◌≡◌, ℕ, zero, suc, ◌<◌, ◌≤◌, ◌∷◌, inl, inr, List, slice_index, Option, subst, sym, arith}
-use Rattle.adf_block.specs.Layout.{next_data}
+use Rattle.adf_block.specs.declared.layout.TheConstants.{NEXT_DATA}
 use Rattle.ados_model.specs.File.{pointer_block}
 use Rattle.ados_model.specs.Faults.{IsOfs}
 use Rattle.ados_check.specs.declared.mark.Mark.{Mark}
@@ -36,6 +36,6 @@ module _ (source : SourceView) where
           subst (λ (b : ℕ). Tells source b i) (sym e) (inr ((block_sound source.bytes file count r h ofs place l).sum, inl few))
 
       -- the link to a data block is available
-      pub link_told : (block place : ℕ) → block ≡ slice_index (file ∷ blocks_upto source.bytes file count) place → place ≤ count → Tells source block next_data
-      link_told block zero e l = holder_told block 0 e (omega arith) next_data
-      link_told block (suc k) e l = data_told block k e (omega arith) next_data (omega arith)
+      pub link_told : (block place : ℕ) → block ≡ slice_index (file ∷ blocks_upto source.bytes file count) place → place ≤ count → Tells source block NEXT_DATA
+      link_told block zero e l = holder_told block 0 e (omega arith) NEXT_DATA
+      link_told block (suc k) e l = data_told block k e (omega arith) NEXT_DATA (omega arith)

@@ -1,18 +1,18 @@
 -- The number of bytes kept of a block.
 use Rattle.std.proofs.Common.{◌≡◌, ◌≢◌, ◌≤◌, ◌==◌, ℕ, List, Bool, true, false, if◌then◌else◌, refl, ne_eqb, arith}
-use Rattle.adf_block.specs.Image.{primary_type}
-use Rattle.adf_block.specs.Layout.{data_type}
+use Rattle.adf_block.specs.Fields.{primary_type}
+use Rattle.adf_block.specs.declared.layout.TheConstants.{DATA_TYPE}
 use Rattle.ados_check.specs.Keeping.{kept_length}
 
-pub of_data : (image : List ℕ) (block : ℕ) → primary_type image block ≡ data_type → kept_length image block ≡ 24
+pub of_data : (image : List ℕ) (block : ℕ) → primary_type image block ≡ DATA_TYPE → kept_length image block ≡ 24
 of_data image block is = rw is refl
 
-pub of_other : (image : List ℕ) (block : ℕ) → primary_type image block ≢ data_type → kept_length image block ≡ 512
-of_other image block other = rw (ne_eqb (primary_type image block) data_type other) refl
+pub of_other : (image : List ℕ) (block : ℕ) → primary_type image block ≢ DATA_TYPE → kept_length image block ≡ 512
+of_other image block other = rw (ne_eqb (primary_type image block) DATA_TYPE other) refl
 
 -- at most a whole block
 pub at_most : (image : List ℕ) (block : ℕ) → kept_length image block ≤ 512
-at_most image block = by_type (primary_type image block == data_type)
+at_most image block = by_type (primary_type image block == DATA_TYPE)
   where
     by_type : (is : Bool) → (if is then 24 else 512) ≤ 512
     by_type true = omega arith
@@ -20,7 +20,7 @@ at_most image block = by_type (primary_type image block == data_type)
 
 -- at least a header
 pub at_least : (image : List ℕ) (block : ℕ) → 24 ≤ kept_length image block
-at_least image block = by_type (primary_type image block == data_type)
+at_least image block = by_type (primary_type image block == DATA_TYPE)
   where
     by_type : (is : Bool) → 24 ≤ (if is then 24 else 512)
     by_type true = omega arith

@@ -35,6 +35,6 @@ pub mod UpperNames
 pub mod Marked
 pub mod Entered
 pub mod FilesTold
-mod Free
+pub mod Free
 pub mod BitmapTold
 pub mod BootBytes

@@ -5,8 +5,9 @@ use Rattle.std.proofs.lemmas.Bool.{cases_lt}
 use Rattle.std.proofs.lemmas.List.{get_or_past, get_or-take, get_or-drop, take_all}
 use Rattle.std.proofs.lemmas.List.Elements.{All-from_get_or}
 use Rattle.std.proofs.lemmas.List.Sums.{sum_by_more}
-use Rattle.adf_block.specs.Image.{block_count, long, Chained, pointer, held_count, file_size, format_of}
-use Rattle.adf_block.specs.Layout.{next_data}
+use Rattle.adf_block.specs.Image.{block_count, long, Chained}
+use Rattle.adf_block.specs.Fields.{pointer, held_count, file_size, format_of}
+use Rattle.adf_block.specs.declared.layout.TheConstants.{NEXT_DATA}
 use Rattle.ados_model.specs.Tree.{data_count}
 use Rattle.ados_model.specs.Stands.{HasOfsData}
 use Rattle.ados_model.specs.File.{pointer_block}
@@ -22,7 +23,7 @@ use Rattle.ados_check.proofs.SoundFile.{blocks_are}
 
 -- the block before data block k, the header or a data block, links to it
 pub record IsLinkedAt (image : List ℕ) (file count k : ℕ) : Type 0 where
-  pub named : long image (slice_index (file ∷ blocks_upto image file count) k) next_data ≡ slice_index (blocks_upto image file count) k
+  pub named : long image (slice_index (file ∷ blocks_upto image file count) k) NEXT_DATA ≡ slice_index (blocks_upto image file count) k
 
 -- data block k has the fields of its position
 abbrev pub IsPlacedAt : List ℕ → ℕ → ℕ → ℕ → Type 0
@@ -95,7 +96,7 @@ module _ (image : List ℕ) (file count : ℕ) (r : IsReachedFile image file) (h
       ∙ get_or-drop (72 * 0) (blocks_upto image file count) 0 0
 
   -- a wrong link is a fault of its block
-  pub link_shown : IsOfs image → (place : ℕ) → place ≤ count → long image (slice_index (file ∷ blocks_upto image file count) place) next_data ≢ slice_index (blocks_upto image file count) place → HasBadPointer image (slice_index (file ∷ blocks_upto image file count) place)
+  pub link_shown : IsOfs image → (place : ℕ) → place ≤ count → long image (slice_index (file ∷ blocks_upto image file count) place) NEXT_DATA ≢ slice_index (blocks_upto image file count) place → HasBadPointer image (slice_index (file ∷ blocks_upto image file count) place)
   link_shown ofs zero l n = first_data ofs r.is_file (λ z. n (z ∙ first-is))
   link_shown ofs (suc k) l n =
       let next : k + 1 ≡ suc k = omega arith in
@@ -153,18 +154,18 @@ module _ (image : List ℕ) (file count : ℕ) (r : IsReachedFile image file) (h
           omega (arith, same, some, few, total, here)
 
   module _ (ofs : IsOfs image) (size : count ≡ data_count (format_of image) (file_size image file)) where
-    pub linked_file : ((k : ℕ) → k < count → IsLinkedAt image file count k) → long image (slice_index (file ∷ blocks_upto image file count) count) next_data ≡ 0 → ((k : ℕ) → k < count → IsPlacedAt image file count k) → sum_by (held_count image) (take count (blocks_upto image file count)) ≡ file_size image file → IsLinked image file
+    pub linked_file : ((k : ℕ) → k < count → IsLinkedAt image file count k) → long image (slice_index (file ∷ blocks_upto image file count) count) NEXT_DATA ≡ 0 → ((k : ℕ) → k < count → IsPlacedAt image file count k) → sum_by (held_count image) (take count (blocks_upto image file count)) ≡ file_size image file → IsLinked image file
     linked_file links ends places sum =
         let total = length-blocks_upto image file count in
-        let link : (k : ℕ) → k ≤ count → long image (slice_index (file ∷ blocks_upto image file count) k) next_data ≡ slice_index (blocks_upto image file count) k =
+        let link : (k : ℕ) → k ≤ count → long image (slice_index (file ∷ blocks_upto image file count) k) NEXT_DATA ≡ slice_index (blocks_upto image file count) k =
         λ k l. elim (cases_lt k count) [
           | inl m ↦ (links k m).named
           | inr m ↦ (let here : k ≡ count = omega (arith, l, m) in
-              ap (λ (j : ℕ). long image (slice_index (file ∷ blocks_upto image file count) j) next_data) here ∙ ends ∙ sym (past_blocks image file count k m))
+              ap (λ (j : ℕ). long image (slice_index (file ∷ blocks_upto image file count) j) NEXT_DATA) here ∙ ends ∙ sym (past_blocks image file count k m))
         ] in
         record {
-          chain = subst (Chained image next_data (long image file next_data)) (blocks_are image file count size)
-              (chained image next_data (long image file next_data) (blocks_upto image file count) (link 0 (omega arith)) (λ i l. link (suc i) (omega (arith, l, total))));
+          chain = subst (Chained image NEXT_DATA (long image file NEXT_DATA)) (blocks_are image file count size)
+              (chained image NEXT_DATA (long image file NEXT_DATA) (blocks_upto image file count) (link 0 (omega arith)) (λ i l. link (suc i) (omega (arith, l, total))));
           fields = subst (λ (xs : List ℕ). (i : ℕ) → i < length xs → HasOfsData image file (file_size image file) i (slice_index xs i)) (blocks_are image file count size)
               (λ i l.
               let below : i < count = omega (arith, l, total) in

@@ -1,5 +1,5 @@
 -- The marks and the pending blocks when one cell changes.
-use Rattle.std.proofs.Common.{◌≡◌, ◌≢◌, ℕ, ◌+◌, ◌-◌, ◌<◌, ◌≤◌, ◌⊎◌, inl, inr, List, [], ◌∷◌, ◌++◌, length, get_or, AllPairs, Contains, replicate, Option, None, Some, is_some, true, false, cond, refl, sym, ap, ◌∙◌, subst, arith}
+use Rattle.std.proofs.Common.{◌≡◌, ◌≢◌, ℕ, ◌+◌, ◌-◌, ◌<◌, ◌≤◌, ◌⊎◌, inl, inr, List, [], ◌∷◌, ◌++◌, length, get_or, AllPairs, Contains, replicate, Option, None, Some, is_some, true, false, cond, refl, sym, ap, ◌∙◌, arith}
 use Rattle.std.specs.List.{slice_get}
 use Rattle.std.specs.Option.{option_and_then}
 use Rattle.std.proofs.Math.ListN.{set}
@@ -13,6 +13,7 @@ use Rattle.std.proofs.lemmas.Bool.{cases_lt}
 use Rattle.ados_check.specs.declared.mark.Mark.{Mark}
 use Rattle.ados_check.specs.Marks.{mark_at}
 use Rattle.ados_check.specs.steps.Reaching.{unmarked}
+use Rattle.ados_model.proofs.SmallNodes.{only}
 
 -- one more block is marked
 pub record IsMarkedMore (marks new : List (Option Mark)) (block : ℕ) (mark : Mark) : Type 0 where
@@ -60,14 +61,10 @@ marked_more marks block mark l none =
           omega (arith, count, one);
     }
 
--- a list of blocks with one more
-only_one : (block other : ℕ) → Contains (block ∷ []) other → other ≡ block
-only_one block other (k, l, e) = let z : k ≡ 0 = omega arith in sym (subst (λ (n : ℕ). get_or (block ∷ []) n other ≡ other) z e)
-
 pub in_pushed : (pending : List ℕ) (block other : ℕ) → Contains (pending ++ block ∷ []) other → Contains pending other ⊎ (other ≡ block)
 in_pushed pending block other h = elim (Contains-append_cases pending (block ∷ []) other h) [
   | inl old ↦ inl old
-  | inr new ↦ inr (only_one block other new)
+  | inr new ↦ inr (only block other new)
 ]
 
 pub pushed_has_old : (pending : List ℕ) (block other : ℕ) → Contains pending other → Contains (pending ++ block ∷ []) other

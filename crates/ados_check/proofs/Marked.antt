@@ -1,8 +1,8 @@
 -- Consequences for a block that is marked as an entry.
 use Rattle.std.proofs.Common.{◌≡◌, ℕ, ◌<◌, List, length, slice_get, Option, Some, None, option_and_then, refl, sym, ap, ◌∙◌}
 use Rattle.std.proofs.lemmas.Option.{slice_get_within}
-use Rattle.adf_block.specs.Image.{secondary_type}
-use Rattle.adf_block.specs.Layout.{file_type}
+use Rattle.adf_block.specs.Fields.{secondary_type}
+use Rattle.adf_block.specs.declared.layout.TheConstants.{FILE_TYPE}
 use Rattle.ados_model.specs.declared.role.Role.TheVariants as roles
 use Rattle.ados_check.specs.declared.mark.Mark.{Mark}
 use Rattle.ados_check.specs.Marks.{mark_at, IsMarkedEntry}
@@ -27,5 +27,5 @@ module _ (marks : List (Option Mark)) where
   pub entry_below : (block dir : ℕ) → IsMarkedEntry marks block dir → block < length marks
   entry_below block dir m = marked_below block m.0 m.2
 
-  pub marked_file : (image : List ℕ) (block dir : ℕ) → IsMarkedEntry marks block dir → secondary_type image block ≡ file_type → IsMarkedFile image marks block
+  pub marked_file : (image : List ℕ) (block dir : ℕ) → IsMarkedEntry marks block dir → secondary_type image block ≡ FILE_TYPE → IsMarkedFile image marks block
   marked_file image block dir m e = record { mark = m.0; dir = dir; slot_of_chain = m.1; marked = m.2; role = m.3; secondary = e }

@@ -12,11 +12,11 @@ use Rattle.ados_model.specs.Faults.IsUsedTwice.{two_holders, two_longs, root_nam
 use Rattle.ados_model.specs.Faults.HasBadPointer.{outside}
 use Rattle.ados_model.specs.Faults.{Reached}
 use Rattle.ados_check.specs.declared.mark.Mark.{Mark}
-use Rattle.ados_check.specs.Marks.{mark_at, IsSound, AreReached}
+use Rattle.ados_check.specs.Marks.{mark_at, IsSound}
 use Rattle.ados_check.specs.steps.Reaching.{root_mark, ArePending, IsBetween, IsInHand, IsLeft}
 use Rattle.ados_check.proofs.MarkLemmas.{IsMarkedMore, marked_more, in_pushed, pushed_has_old, pushed_has_new, once_pushed, once_rest, last_not_in_rest, none_marked, all_unmarked}
 use Rattle.ados_check.proofs.PlaceLemmas.{place_within}
-use Rattle.ados_check.proofs.ReachMoves.{mark_of, in_hand, with_left, all_reached, gone_through}
+use Rattle.ados_check.proofs.ReachMoves.{mark_of, in_hand, with_left, gone_through}
 
 -- a marked block is not the one without a mark
 fresh : (marks : List (Option Mark)) (block other : ℕ) (mark : Mark) → mark_at marks block ≡ None → mark_at marks other ≡ Some mark → other ≢ block
@@ -183,10 +183,6 @@ module _ (image : List ℕ) (marks : List (Option Mark)) where
     )) h.but;
     waiting = h.waiting;
   }
-
-  -- nothing is pending
-  pub ended : IsBetween image marks [] → AreReached image marks
-  ended b = all_reached image marks (λ block i. Contains [] block) (λ block i q. absurd (omega (arith, q.1))) b.but
 
   pub reached_next : (pending : List ℕ) (hand i : ℕ) (role next : Role) → IsInHand image marks pending hand role i → IsPlace image hand role i next → InImage image (long image hand i) → Reached image (long image hand i) next
   reached_next pending hand i role next h place within = named (subst (λ (r : Role). Reached image hand r) h.of_role (h.but.reached hand h.mark h.held)) place within

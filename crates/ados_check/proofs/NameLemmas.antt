@@ -6,15 +6,16 @@ use Rattle.std.proofs.lemmas.List.{length-take, length-drop, drop-drop, drop-tak
 use Rattle.std.proofs.lemmas.List.Folds.{Any-from_list_any}
 use Rattle.adf_block.specs.Image.{byte_at, bytes_at, block_count}
 use Rattle.adf_block.specs.Whole.{text_at}
-use Rattle.adf_block.specs.Layout.{name_byte}
+use Rattle.adf_block.specs.declared.layout.TheConstants.{NAME_BYTE}
 use Rattle.ados_name.specs.declared.NameFault.{NameFault}
-use Rattle.ados_name.specs.Name.{IsName, is_separator, first_fault}
+use Rattle.ados_name.specs.Name.{IsName, is_separator}
+use Rattle.ados_name.specs.Fault.{first_fault}
 use Rattle.ados_model.specs.Faults.{HasName, HasBadName}
 use Rattle.ados_model.specs.Faults.HasBadName.{empty, slash, colon}
 use Rattle.ados_check.specs.Marks.{HasValidName}
 
 -- the bytes after the length byte, read from a whole block
-pub text_is : (image : List ℕ) (block len : ℕ) (bytes : List ℕ) → bytes ≡ bytes_at image block 0 512 → len ≡ byte_at image block 432 → len ≤ 30 → take (433 + len - 433) (drop 433 bytes) ≡ text_at image block name_byte
+pub text_is : (image : List ℕ) (block len : ℕ) (bytes : List ℕ) → bytes ≡ bytes_at image block 0 512 → len ≡ byte_at image block 432 → len ≤ 30 → take (433 + len - 433) (drop 433 bytes) ≡ text_at image block NAME_BYTE
 unfolding bytes_at
 text_is image block len bytes e counted short =
     let count : 433 + len - 433 ≡ len = omega arith in
@@ -24,12 +25,12 @@ text_is image block len bytes e counted short =
     ∙ take-take len 79 (drop (512 * block + (432 + 1)) image) (omega arith)
     ∙ ap (λ (n : ℕ). take n (drop (512 * block + (432 + 1)) image)) counted
 
-length_text : (image : List ℕ) (block : ℕ) → block < block_count image → byte_at image block 432 ≤ 30 → length (text_at image block name_byte) ≡ byte_at image block 432
+length_text : (image : List ℕ) (block : ℕ) → block < block_count image → byte_at image block 432 ≤ 30 → length (text_at image block NAME_BYTE) ≡ byte_at image block 432
 unfolding bytes_at
 length_text image block inside short =
     omega (arith, length-take (byte_at image block 432) (drop (512 * block + (432 + 1)) image), length-drop (512 * block + (432 + 1)) image)
 
-pub valid_name : (image : List ℕ) (block : ℕ) → block < block_count image → byte_at image block 432 ≤ 30 → IsName (text_at image block name_byte) → HasValidName image block
+pub valid_name : (image : List ℕ) (block : ℕ) → block < block_count image → byte_at image block 432 ≤ 30 → IsName (text_at image block NAME_BYTE) → HasValidName image block
 valid_name image block inside short name =
     let whole = length_text image block inside short in
     record {
@@ -62,7 +63,7 @@ faulty text fault short h = elim (cases_Bool (length text == 0)) [
   ]
 ]
 
-pub bad_name : (image : List ℕ) (block : ℕ) (text : List ℕ) (fault : NameFault) → block < block_count image → byte_at image block 432 ≤ 30 → text ≡ text_at image block name_byte → HasName image block → first_fault text ≡ Some fault → HasBadName image block
+pub bad_name : (image : List ℕ) (block : ℕ) (text : List ℕ) (fault : NameFault) → block < block_count image → byte_at image block 432 ≤ 30 → text ≡ text_at image block NAME_BYTE → HasName image block → first_fault text ≡ Some fault → HasBadName image block
 bad_name image block text fault inside short e named h =
     let whole : length text ≡ byte_at image block 432 = ap length e ∙ length_text image block inside short in
     elim (faulty text fault (omega arith) h) [

@@ -1,8 +1,8 @@
 -- A checked image shows no fault, except possibly in a valid bitmap.
-use Rattle.std.proofs.Common.{◌≡◌, ℕ, ◌⊎◌, inl, inr, List, length, Contains, Option, Some, refl, sym, ap, ◌∙◌, subst, arith}
+use Rattle.std.proofs.Common.{◌≡◌, ℕ, ◌⊎◌, inl, inr, List, Contains, Option, Some, refl, sym, ap, ◌∙◌, subst, arith}
 use Rattle.std.proofs.lemmas.List.Elements.{All-contains}
-use Rattle.adf_block.specs.Image.{secondary_type, format_of}
-use Rattle.adf_block.specs.Layout.{file_type, name_byte}
+use Rattle.adf_block.specs.Fields.{secondary_type, format_of}
+use Rattle.adf_block.specs.declared.layout.TheConstants.{FILE_TYPE, NAME_BYTE}
 use Rattle.adf_block.specs.Whole.{text_at, IsImage}
 use Rattle.ados_model.specs.Tree.{data_count}
 use Rattle.ados_model.specs.File.{data_blocks, extension_blocks, contents}
@@ -67,8 +67,8 @@ module _ (image : List ℕ) (marks : List (Option Mark)) (im : IsImage image) (c
   valid_name block (HasName.root_name e) = (sound_root e).name
   valid_name block (HasName.entry_name h) = (sound h.2).name
 
-  plain : (block b : ℕ) → HasName image block → Contains (text_at image block name_byte) b → IsNameByte b
-  plain block b h = All-contains IsNameByte (text_at image block name_byte) b (valid_name block h).valid.plain
+  plain : (block b : ℕ) → HasName image block → Contains (text_at image block NAME_BYTE) b → IsNameByte b
+  plain block b h = All-contains IsNameByte (text_at image block NAME_BYTE) b (valid_name block h).valid.plain
 
   no_bad_name : (block : ℕ) → Faults.HasBadName image block → ⊥
   no_bad_name block (Faults.HasBadName.empty h e) = let n = valid_name block h in omega (arith, n.valid.not_empty, n.text.counted, e)
@@ -83,7 +83,7 @@ module _ (image : List ℕ) (marks : List (Option Mark)) (im : IsImage image) (c
   no_link : (block : ℕ) → IsEntry image block → IsLinkType (secondary_type image block) → ⊥
   no_link block h l = go (sound h.2).secondary l
     where
-      go : (secondary_type image block ≡ 2) ⊎ (secondary_type image block ≡ file_type) → IsLinkType (secondary_type image block) → ⊥
+      go : (secondary_type image block ≡ 2) ⊎ (secondary_type image block ≡ FILE_TYPE) → IsLinkType (secondary_type image block) → ⊥
       go (inl e) (inl a) = omega (arith, e, a)
       go (inl e) (inr (inl a)) = omega (arith, e, a)
       go (inl e) (inr (inr a)) = omega (arith, e, a)

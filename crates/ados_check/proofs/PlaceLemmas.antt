@@ -1,8 +1,9 @@
 -- The places of each role, by the index of the long.
 use Rattle.std.proofs.Common.{◌≡◌, ◌≢◌, ◌↔◌, Some, ℕ, ◌+◌, ◌-◌, ◌<◌, ◌≤◌, List, refl, sym, ap, ◌∙◌, subst, arith}
 use Rattle.std.proofs.lemmas.Option.{same_Some}
-use Rattle.adf_block.specs.Image.{block_count, page_count, long, pointer_count, secondary_type}
-use Rattle.adf_block.specs.Layout.{file_type}
+use Rattle.adf_block.specs.Image.{block_count, page_count, long}
+use Rattle.adf_block.specs.Fields.{secondary_type}
+use Rattle.adf_block.specs.declared.layout.TheConstants.{FILE_TYPE}
 use Rattle.ados_model.specs.declared.role.Role.{Role}
 use Rattle.ados_model.specs.declared.role.Role.TheVariants.{Root, Page, Entry, Data, Extension}
 use Rattle.ados_model.specs.Faults.{IsPlace, IsPointer}
@@ -21,8 +22,8 @@ of_root {block = b} (root_slot {s = s} l n) = of_slot (omega arith) (omega arith
 pub data OfEntry (image : List ℕ) (block dir s i : ℕ) (next : Role) : Type 0 where
   of_next : i ≡ 124 → next ≡ Entry dir s → OfEntry image block dir s i next
   of_child : secondary_type image block ≡ 2 → 6 ≤ i → i < 78 → next ≡ Entry block (i - 6) → OfEntry image block dir s i next
-  of_pointer : secondary_type image block ≡ file_type → i < 78 → next ≡ Data block → OfEntry image block dir s i next
-  of_extension : secondary_type image block ≡ file_type → i ≡ 126 → next ≡ Extension block → OfEntry image block dir s i next
+  of_pointer : secondary_type image block ≡ FILE_TYPE → i < 78 → next ≡ Data block → OfEntry image block dir s i next
+  of_extension : secondary_type image block ≡ FILE_TYPE → i ≡ 126 → next ≡ Extension block → OfEntry image block dir s i next
 
 pub of_entry : {image : List ℕ} {block dir s i : ℕ} {next : Role} → IsPlace image block (Entry dir s) i next → OfEntry image block dir s i next
 of_entry {block = b} (directory_slot e l n) = of_child e (omega arith) (omega arith) (ap (Entry b) (omega arith))
@@ -39,17 +40,6 @@ pub of_extension_block : {image : List ℕ} {block file i : ℕ} {next : Role} �
 of_extension_block (extension_pointer p) = of_data (omega arith) refl
 of_extension_block (further_extension n) = of_further refl refl
 
--- the first six longs of a block are no places
-pub place_from : {image : List ℕ} {block i : ℕ} {role next : Role} → IsPlace image block role i next → 6 ≤ i
-place_from (root_page l) = omega arith
-place_from (root_slot l n) = omega arith
-place_from (directory_slot e l n) = omega arith
-place_from (next_entry n) = omega arith
-place_from (header_pointer e p) = omega (arith, p.0, p.1)
-place_from (first_extension e n) = omega arith
-place_from (extension_pointer p) = omega (arith, p.0, p.1)
-place_from (further_extension n) = omega arith
-
 -- the last long of a block is no place
 pub place_within : {image : List ℕ} {block i : ℕ} {role next : Role} → IsPlace image block role i next → page_count (block_count image) ≤ 25 → (6 ≤ i) × (i < 127)
 place_within (root_page l) h = (omega arith, omega arith)
@@ -60,18 +50,6 @@ place_within (header_pointer e p) h = (omega arith, omega arith)
 place_within (first_extension e n) h = (omega arith, omega arith)
 place_within (extension_pointer p) h = (omega arith, omega arith)
 place_within (further_extension n) h = (omega arith, omega arith)
-
--- in a file, no long between the first six and its pointers in use is a place
-pub file_from : {image : List ℕ} {block dir s i : ℕ} {next : Role} → secondary_type image block ≡ file_type → IsPlace image block (Entry dir s) i next → 78 ≤ i + pointer_count image block
-file_from file (directory_slot d l n) = absurd (omega (arith, d, file))
-file_from file (next_entry n) = omega arith
-file_from file (header_pointer e p) = omega (arith, p.0, p.1)
-file_from file (first_extension e n) = omega arith
-
--- the same in an extension block
-pub extension_from : {image : List ℕ} {block file i : ℕ} {next : Role} → IsPlace image block (Extension file) i next → 78 ≤ i + pointer_count image block
-extension_from (extension_pointer p) = omega (arith, p.0, p.1)
-extension_from (further_extension n) = omega arith
 
 -- a result for the only role with a property
 pub is_only : (P : Role → Type 0) (role : Role) → P role → ((next : Role) → P next → next ≡ role) → (next : Role) → (Some role ≡ Some next) ↔ P next
@@ -93,10 +71,10 @@ module _ (image : List ℕ) (block i : ℕ) where
   pub next_place : (dir s : ℕ) → i ≡ 124 → long image block i ≢ 0 → IsPlace image block (Entry dir s) i (Entry dir s)
   next_place dir s e n = subst (λ (j : ℕ). IsPlace image block (Entry dir s) j (Entry dir s)) (sym e) (next_entry (λ z. n (ap (long image block) e ∙ z)))
 
-  pub pointer_place : (dir s : ℕ) → secondary_type image block ≡ file_type → i ≤ 77 → IsPointer image block (77 - i) → IsPlace image block (Entry dir s) i (Data block)
+  pub pointer_place : (dir s : ℕ) → secondary_type image block ≡ FILE_TYPE → i ≤ 77 → IsPointer image block (77 - i) → IsPlace image block (Entry dir s) i (Data block)
   pointer_place dir s file to p = let e : 77 - (77 - i) ≡ i = omega arith in subst (λ (j : ℕ). IsPlace image block (Entry dir s) j (Data block)) e (header_pointer file p)
 
-  pub first_place : (dir s : ℕ) → secondary_type image block ≡ file_type → i ≡ 126 → long image block i ≢ 0 → IsPlace image block (Entry dir s) i (Extension block)
+  pub first_place : (dir s : ℕ) → secondary_type image block ≡ FILE_TYPE → i ≡ 126 → long image block i ≢ 0 → IsPlace image block (Entry dir s) i (Extension block)
   first_place dir s file e n = subst (λ (j : ℕ). IsPlace image block (Entry dir s) j (Extension block)) (sym e) (first_extension file (λ z. n (ap (long image block) e ∙ z)))
 
   pub data_place : (file : ℕ) → i ≤ 77 → IsPointer image block (77 - i) → IsPlace image block (Extension file) i (Data file)

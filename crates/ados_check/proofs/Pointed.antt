@@ -1,40 +1,17 @@
 -- The data blocks in a file's pointers, if its counts are right.
-use Rattle.std.proofs.Common.{◌≡◌, ℕ, zero, suc, ◌+◌, ◌-◌, ◌*◌, ◌/◌, ◌%◌, ◌<◌, ◌≤◌, ◌⊎◌, inl, inr, min, List, [], ◌∷◌, ◌++◌, length, take, drop, map, flat_map, slice_index, slice_index_or, refl, sym, ap, ap₂, ◌∙◌, subst, arith, le-leb}
+use Rattle.std.proofs.Common.{◌≡◌, ℕ, suc, ◌+◌, ◌-◌, ◌*◌, ◌/◌, ◌%◌, ◌<◌, ◌≤◌, ◌⊎◌, inl, inr, min, List, length, take, drop, map, slice_index, slice_index_or, sym, ap, ap₂, ◌∙◌, subst, arith, le-leb}
 use Rattle.std.specs.List.{range_with_len}
 use Rattle.std.proofs.lemmas.Bool.{cases_lt}
-use Rattle.std.proofs.lemmas.List.{ext_get_or, nil_from_length, length_push, get_or_push, get_or_append_left, length-take, length-drop, get_or-take, get_or-drop, drop-drop, take-append-drop}
+use Rattle.std.proofs.lemmas.List.{ext_get_or, length-take, length-drop, get_or-take, get_or-drop}
 use Rattle.std.proofs.lemmas.List.FromFn.{length-map-range_with_len, get_or-map-range_with_len}
-use Rattle.adf_block.specs.Image.{long, pointer, pointer_count}
-use Rattle.adf_block.specs.Layout.{next_extension}
+use Rattle.adf_block.specs.Image.{long}
+use Rattle.adf_block.specs.Fields.{pointer, pointer_count}
+use Rattle.adf_block.specs.declared.layout.TheConstants.{NEXT_EXTENSION}
 use Rattle.ados_model.specs.File.{pointer_block, data_block}
 use Rattle.ados_model.specs.Faults.{InImage, IsPointer, LinkedOnce, first_pointers, pointers_of, AreDataBlocks}
 use Rattle.ados_check.specs.steps.Files.{IsReachedFile, HasCounts}
 use Rattle.ados_check.proofs.Headers.{within, not_zero}
-
--- ---- the pointers of one block
-
-length-first_pointers : (image : List ℕ) (block n : ℕ) → length (first_pointers image block n) ≡ n
-length-first_pointers image block zero = refl
-length-first_pointers image block (suc n) = length_push (first_pointers image block n) (pointer image block n) ∙ omega (arith, length-first_pointers image block n)
-
-first_pointers-at : (image : List ℕ) (block n i : ℕ) → i < n → slice_index (first_pointers image block n) i ≡ pointer image block i
-first_pointers-at image block zero i l = absurd (omega arith)
-first_pointers-at image block (suc n) i l = go (first_pointers-at image block n i) (cases_lt i n)
-  where
-    go : (i < n → slice_index (first_pointers image block n) i ≡ pointer image block i) → (i < n) ⊎ (n ≤ i) → slice_index (first_pointers image block (suc n)) i ≡ pointer image block i
-    go below (inl m) = get_or_append_left (first_pointers image block n) (pointer image block n ∷ []) 0 i (omega (arith, length-first_pointers image block n)) ∙ below m
-    go below (inr m) =
-        let here : n ≡ i = omega arith in
-        get_or_push (first_pointers image block n) (pointer image block n) 0 i (length-first_pointers image block n ∙ here) ∙ ap (pointer image block) here
-
--- a list cut into parts of 72 is the concatenation of the parts
-parts : (f : ℕ → List ℕ) (hs blocks : List ℕ) → ((i : ℕ) → i < length hs → f (slice_index hs i) ≡ take 72 (drop (72 * i) blocks)) → length blocks ≤ 72 * length hs → flat_map f hs ≡ blocks
-parts f [] blocks h l = sym (nil_from_length blocks (omega (arith, l)))
-parts f (x ∷ hs) blocks h l =
-    let rest = parts f hs (drop 72 blocks)
-    (λ i m. h (suc i) (omega arith) ∙ ap (take 72) (ap (λ (n : ℕ). drop n blocks) (omega arith) ∙ sym (drop-drop (72 * i) 72 blocks)))
-    (omega (arith, l, length-drop 72 blocks)) in
-    ap₂ (λ (xs ys : List ℕ). xs ++ ys) (h 0 (omega arith)) rest ∙ take-append-drop 72 blocks
+use Rattle.ados_model.proofs.FileBlocks.{length-first_pointers, first_pointers-at, chunks}
 
 -- ---- the blocks of a file
 
@@ -80,7 +57,7 @@ module _ (image : List ℕ) (file count : ℕ) (r : IsReachedFile image file) (h
           let here : pointer_count image (pointer_block image file q) ≡ pointer_count image (pointer_block image file h.extensions) = ap (λ (k : ℕ). pointer_count image (pointer_block image file k)) last in
           omega (arith, here, h.rest, h.few, last)
 
-  linked : LinkedOnce image next_extension file (headers_upto image file (suc h.extensions))
+  linked : LinkedOnce image NEXT_EXTENSION file (headers_upto image file (suc h.extensions))
   linked =
       let n = suc h.extensions in
       let size = length-headers_upto image file (suc h.extensions) in
@@ -89,7 +66,7 @@ module _ (image : List ℕ) (file count : ℕ) (r : IsReachedFile image file) (h
         head = header-at image file (suc h.extensions) 0 0 (omega arith);
         linked = λ i l.
             let next : suc i ≡ i + 1 = omega arith in
-            ap (λ (b : ℕ). long image b next_extension) (header-at image file (suc h.extensions) i 0 (omega (arith, l, size)))
+            ap (λ (b : ℕ). long image b NEXT_EXTENSION) (header-at image file (suc h.extensions) i 0 (omega (arith, l, size)))
             ∙ sym (header-at image file (suc h.extensions) (suc i) 0 (omega (arith, l, size)))
             ∙ ap (slice_index (headers_upto image file (suc h.extensions))) next;
         inside = λ i l. subst (InImage image) (sym (header-at image file (suc h.extensions) (i + 1) 0 (omega (arith, l, size)))) (r.inside (i + 1) (omega (arith, l, size, same_extensions)));
@@ -98,9 +75,9 @@ module _ (image : List ℕ) (file count : ℕ) (r : IsReachedFile image file) (h
             (sym (header-at image file (suc h.extensions) i d (omega (arith, l, m, size))) ∙ e ∙ header-at image file (suc h.extensions) j d (omega (arith, m, size)));
         whole = λ inside.
             let last : length (headers_upto image file (suc h.extensions)) - 1 ≡ h.extensions = omega (arith, size) in
-            let link : long image (slice_index (headers_upto image file (suc h.extensions)) (length (headers_upto image file (suc h.extensions)) - 1)) next_extension ≡ 0 =
-            ap (λ (k : ℕ). long image (slice_index (headers_upto image file (suc h.extensions)) k) next_extension) last
-            ∙ ap (λ (b : ℕ). long image b next_extension) (header-at image file (suc h.extensions) h.extensions 0 (omega arith)) ∙ h.ends in
+            let link : long image (slice_index (headers_upto image file (suc h.extensions)) (length (headers_upto image file (suc h.extensions)) - 1)) NEXT_EXTENSION ≡ 0 =
+            ap (λ (k : ℕ). long image (slice_index (headers_upto image file (suc h.extensions)) k) NEXT_EXTENSION) last
+            ∙ ap (λ (b : ℕ). long image b NEXT_EXTENSION) (header-at image file (suc h.extensions) h.extensions 0 (omega arith)) ∙ h.ends in
             absurd (omega (arith, inside.0, link));
       }
 
@@ -130,7 +107,7 @@ module _ (image : List ℕ) (file count : ℕ) (r : IsReachedFile image file) (h
     is_file = r.is_file;
     headers = headers_upto image file (suc h.extensions);
     linked = linked;
-    pointed = sym (parts (pointers_of image) (headers_upto image file (suc h.extensions)) (blocks_upto image file count)
+    pointed = sym (chunks (pointers_of image) (headers_upto image file (suc h.extensions)) (blocks_upto image file count)
         (λ i l. let below : i < suc h.extensions = omega (arith, l, length-headers_upto image file (suc h.extensions)) in
         ap (pointers_of image) (header-at image file (suc h.extensions) i 0 below) ∙ part i (omega arith))
         (omega (arith, length-headers_upto image file (suc h.extensions), length-blocks_upto image file count, h.rest, h.few)));

@@ -3,13 +3,14 @@ use Rattle.std.proofs.Common.{◌≡◌, ◌≢◌, ℕ, ◌<◌, ◌≤◌, Lis
 use Rattle.std.specs.Bool.{⊤}
 use Rattle.std.proofs.lemmas.List.{get_or_default}
 use Rattle.std.proofs.lemmas.List.Elements.{Contains-get_or}
-use Rattle.adf_block.specs.Whole.{IsImage, text_at}
-use Rattle.adf_block.specs.Image.{IsSize, block_count}
-use Rattle.adf_block.specs.Layout.{name_byte}
+use Rattle.adf_block.specs.Whole.{IsImage, text_at, IsSize}
+use Rattle.adf_block.specs.Image.{block_count}
+use Rattle.adf_block.specs.declared.layout.TheConstants.{NAME_BYTE}
 use Rattle.ados_name.specs.Name.{Same, slot, IsName, IsComment}
 use Rattle.ados_model.specs.declared.role.Role.{Role}
 use Rattle.ados_model.specs.declared.role.Role.TheVariants as roles
-use Rattle.ados_model.specs.Tree.{Node, Tree, Proper, LeadsToRoot, entries, name_in, name_of, parent_of}
+use Rattle.ados_model.specs.Tree.{Node, Tree, Proper, LeadsToRoot, entries, name_of, parent_of}
+use Rattle.ados_model.specs.Parts.{name_in}
 use Rattle.ados_model.specs.Tree.LeadsToRoot.{at_root, by_parent}
 use Rattle.ados_model.specs.Stands.{in_slot}
 use Rattle.ados_model.specs.Faults.{InImage, Reached, root_of}
@@ -51,7 +52,7 @@ module _ (image : List ℕ) (marks : List (Option Mark)) (im : IsImage image) (c
   sound_entry : (key : ℕ) (m : Mark) (dir s : ℕ) → mark_at marks key ≡ Some m → m.role ≡ roles.Entry dir s → IsSoundEntry image key dir s
   sound_entry key m dir s e is = subst (IsSound image key) is (c.reached.sound key m e)
 
-  name_is : (key : ℕ) (m : Mark) (dir s : ℕ) → mark_at marks key ≡ Some m → m.role ≡ roles.Entry dir s → name_of t key ≡ text_at image key name_byte
+  name_is : (key : ℕ) (m : Mark) (dir s : ℕ) → mark_at marks key ≡ Some m → m.role ≡ roles.Entry dir s → name_of t key ≡ text_at image key NAME_BYTE
   name_is key m dir s e is = ap name_in (node_is image marks key m (roles.Entry dir s) e is)
 
   -- the slot of a name determines the chain
@@ -130,7 +131,7 @@ module _ (image : List ℕ) (marks : List (Option Mark)) (im : IsImage image) (c
       let one = entry_of_parent image marks j dir (lists_entries dir j h) in
       let other = entry_of_parent image marks k dir (lists_entries dir k g) in
       c.unlike j k dir (one.0, one.1, one.2, one.3) (other.0, other.1, other.2, other.3)
-      (subst (λ (name : List ℕ). Same name (text_at image k name_byte)) (name_is j one.0 dir one.1 one.2 one.3)
+      (subst (λ (name : List ℕ). Same name (text_at image k NAME_BYTE)) (name_is j one.0 dir one.1 one.2 one.3)
       (subst (λ (name : List ℕ). Same (name_of t j) name) (name_is k other.0 dir other.1 other.2 other.3) same))
 
   -- ---- the way to the root

@@ -6,7 +6,7 @@ use Rattle.ados_model.specs.declared.role.Role.{Role}
 use Rattle.ados_model.specs.Faults.{InImage, IsPlace, Reached, root_of}
 use Rattle.ados_model.specs.Faults.Reached.{named}
 use Rattle.ados_check.specs.declared.mark.Mark.{Mark}
-use Rattle.ados_check.specs.Marks.{mark_at, IsSound, AreReached}
+use Rattle.ados_check.specs.Marks.{mark_at, IsSound}
 use Rattle.ados_check.specs.steps.Reaching.{root_mark, IsNoted, AreReachedBut}
 use Rattle.ados_check.proofs.MarkLemmas.{IsMarkedMore}
 
@@ -38,17 +38,6 @@ module _ (image : List ℕ) (marks : List (Option Mark)) where
     ];
     inside = λ block i mark next e p other_left. r.inside block i mark next e p (λ l. other_left ((same block i mark next e p).0 l));
     marked = λ block i mark next e p other_left. r.marked block i mark next e p (λ l. other_left ((same block i mark next e p).0 l));
-  }
-
-  -- nothing is left
-  pub all_reached : (left : ℕ → ℕ → Type 0) → ((block i : ℕ) → ¬ left block i) → AreReachedBut image marks left → AreReached image marks
-  all_reached left none r = record {
-    size = r.size;
-    root = r.root;
-    reached = r.reached;
-    inside = λ block i mark next e p. r.inside block i mark next e p (none block i);
-    marked = λ block i mark next e p. r.marked block i mark next e p (none block i);
-    sound = r.sound;
   }
 
 -- a place of a marked block is visited: it names a block that had no mark, and now has one with this place

@@ -2,8 +2,9 @@
 use Rattle.std.proofs.Common.{◌≡◌, ◌≢◌, ℕ, zero, suc, ◌-◌, ◌<◌, ◌≤◌, List, ◌∷◌, length, slice_index, Option, Some, refl, sym, ap, ◌∙◌, subst, arith}
 use Rattle.std.proofs.lemmas.List.{get_or_past}
 use Rattle.adf_block.specs.Whole.{IsImage}
-use Rattle.adf_block.specs.Image.{block_count, long, Chained, pointer}
-use Rattle.adf_block.specs.Layout.{next_extension}
+use Rattle.adf_block.specs.Image.{block_count, long, Chained}
+use Rattle.adf_block.specs.Fields.{pointer}
+use Rattle.adf_block.specs.declared.layout.TheConstants.{NEXT_EXTENSION}
 use Rattle.ados_model.specs.File.{pointer_block}
 use Rattle.ados_data.proofs.Chains.{next_of}
 use Rattle.ados_model.specs.declared.role.Role.{Role}
@@ -19,13 +20,13 @@ use Rattle.ados_check.specs.steps.Files.{IsReachedFile}
 
 -- the extension blocks of a file, along their links
 unfoldable extensions_of : List ℕ → ℕ → List ℕ
-extensions_of image file = follow (suc (block_count image)) image next_extension (long image file next_extension)
+extensions_of image file = follow (suc (block_count image)) image NEXT_EXTENSION (long image file NEXT_EXTENSION)
 
 module _ (image : List ℕ) (marks : List (Option Mark)) (im : IsImage image) (c : AreReached image marks) (file : ℕ) (f : IsMarkedFile image marks file) where
-  along : AreMarkedAlong image marks (roles.Extension file) next_extension (long image file next_extension) file next_extension
+  along : AreMarkedAlong image marks (roles.Extension file) NEXT_EXTENSION (long image file NEXT_EXTENSION) file NEXT_EXTENSION
   along = record {
-    begins = λ n. c.marked file next_extension f.mark (roles.Extension file) f.marked (subst (λ (x : Role). IsPlace image file x next_extension (roles.Extension file)) (sym f.role) (first_extension f.secondary n));
-    goes_on = λ b h at e n. c.marked b next_extension (mark_of (roles.Extension file) h at) (roles.Extension file) e (further_extension n);
+    begins = λ n. c.marked file NEXT_EXTENSION f.mark (roles.Extension file) f.marked (subst (λ (x : Role). IsPlace image file x NEXT_EXTENSION (roles.Extension file)) (sym f.role) (first_extension f.secondary n));
+    goes_on = λ b h at e n. c.marked b NEXT_EXTENSION (mark_of (roles.Extension file) h at) (roles.Extension file) e (further_extension n);
     apart = λ h at e z.
         let same : f.mark ≡ mark_of (roles.Extension file) h at = cc (e, f.marked) in
         let role : f.mark.role ≡ roles.Extension file = ap (λ (m : Mark). m.role) same in
@@ -33,35 +34,35 @@ module _ (image : List ℕ) (marks : List (Option Mark)) (im : IsImage image) (c
         cc (role, entry);
   }
 
-  path : IsPath image next_extension (long image file next_extension) (extensions_of image file)
+  path : IsPath image NEXT_EXTENSION (long image file NEXT_EXTENSION) (extensions_of image file)
   unfolding extensions_of
-  path = follow-path (suc (block_count image)) image next_extension (long image file next_extension)
+  path = follow-path (suc (block_count image)) image NEXT_EXTENSION (long image file NEXT_EXTENSION)
 
-  chain : Chained image next_extension (long image file next_extension) (extensions_of image file)
+  chain : Chained image NEXT_EXTENSION (long image file NEXT_EXTENSION) (extensions_of image file)
   unfolding extensions_of
-  chain = follow-chained image marks (roles.Extension file) next_extension (long image file next_extension) file next_extension along (block_count image) (λ b m e. (marked_inside image marks c im b m e).1)
+  chain = follow-chained image marks (roles.Extension file) NEXT_EXTENSION (long image file NEXT_EXTENSION) file NEXT_EXTENSION along (block_count image) (λ b m e. (marked_inside image marks c im b m e).1)
 
-  extension_marked : (k : ℕ) → k < length (extensions_of image file) → mark_at marks (slice_index (extensions_of image file) k) ≡ Some (mark_of (roles.Extension file) (holder_along file (extensions_of image file) k) (long_along next_extension next_extension k))
-  extension_marked = marked_along image marks (roles.Extension file) next_extension (long image file next_extension) file next_extension along (extensions_of image file) path
+  extension_marked : (k : ℕ) → k < length (extensions_of image file) → mark_at marks (slice_index (extensions_of image file) k) ≡ Some (mark_of (roles.Extension file) (holder_along file (extensions_of image file) k) (long_along NEXT_EXTENSION NEXT_EXTENSION k))
+  extension_marked = marked_along image marks (roles.Extension file) NEXT_EXTENSION (long image file NEXT_EXTENSION) file NEXT_EXTENSION along (extensions_of image file) path
 
   extension_once : AreDifferent (extensions_of image file)
-  extension_once = once_along image marks (roles.Extension file) next_extension (long image file next_extension) file next_extension along (extensions_of image file) path
+  extension_once = once_along image marks (roles.Extension file) NEXT_EXTENSION (long image file NEXT_EXTENSION) file NEXT_EXTENSION along (extensions_of image file) path
 
   -- ---- by places
 
   header_is : (q : ℕ) → q ≤ length (extensions_of image file) → pointer_block image file q ≡ slice_index (file ∷ extensions_of image file) q
   header_is zero l = refl
-  header_is (suc q) l = ap (λ (b : ℕ). long image b next_extension) (header_is q (omega arith)) ∙ next_of image next_extension file (file ∷ extensions_of image file) (refl, chain) q (omega arith)
+  header_is (suc q) l = ap (λ (b : ℕ). long image b NEXT_EXTENSION) (header_is q (omega arith)) ∙ next_of image NEXT_EXTENSION file (file ∷ extensions_of image file) (refl, chain) q (omega arith)
 
   ends_there : pointer_block image file (suc (length (extensions_of image file))) ≡ 0
   ends_there =
-      ap (λ (b : ℕ). long image b next_extension) (header_is (length (extensions_of image file)) (omega arith))
-      ∙ next_of image next_extension file (file ∷ extensions_of image file) (refl, chain) (length (extensions_of image file)) (omega arith)
+      ap (λ (b : ℕ). long image b NEXT_EXTENSION) (header_is (length (extensions_of image file)) (omega arith))
+      ∙ next_of image NEXT_EXTENSION file (file ∷ extensions_of image file) (refl, chain) (length (extensions_of image file)) (omega arith)
       ∙ get_or_past (extensions_of image file) (length (extensions_of image file)) 0 (omega arith)
 
   -- the mark of an extension block, by its position
   marked_at : (q : ℕ) → q < length (extensions_of image file) → (h : ℕ) × (l : ℕ) × (mark_at marks (pointer_block image file (suc q)) ≡ Some (mark_of (roles.Extension file) h l))
-  marked_at q l = (holder_along file (extensions_of image file) q, long_along next_extension next_extension q, ap (mark_at marks) (header_is (suc q) (omega arith)) ∙ extension_marked q l)
+  marked_at q l = (holder_along file (extensions_of image file) q, long_along NEXT_EXTENSION NEXT_EXTENSION q, ap (mark_at marks) (header_is (suc q) (omega arith)) ∙ extension_marked q l)
 
   inside_at : (q : ℕ) → q ≤ length (extensions_of image file) → InImage image (pointer_block image file q)
   inside_at zero l = marked_inside image marks c im file f.mark f.marked

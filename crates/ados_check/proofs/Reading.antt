@@ -1,5 +1,5 @@
 -- Reads at the position of a kept block.
-use Rattle.std.proofs.Common.{◌≡◌, ◌≢◌, ℕ, ◌+◌, ◌*◌, ◌/◌, ◌<◌, ◌≤◌, inl, inr, List, length, take, drop, get_or, slice_index, Option, None, Some, MatchOption, arith, ap, sym, ◌∙◌, subst, length-take, length-drop}
+use Rattle.std.proofs.Common.{◌≡◌, ◌≢◌, ℕ, ◌+◌, ◌*◌, ◌<◌, ◌≤◌, inl, inr, List, length, take, drop, get_or, slice_index, Option, None, Some, MatchOption, arith, ap, sym, ◌∙◌, subst, length-take, length-drop}
 use Rattle.std.proofs.lemmas.List.{get_or-take, get_or-drop, get_or_default, same_lists}
 use Rattle.byteorder.specs.Endian.{big_number}
 use Rattle.adf_block.specs.Image.{byte_at, bytes_at, long, block_sum, block_count}
@@ -27,11 +27,6 @@ room image b i is small = elim is.1 [
   | inl header ↦ omega (arith, header, at_least image b)
   | inr other ↦ omega (arith, small, of_other image b other)
 ]
-
-pub byte_there : (kept image : List ℕ) (b start k : ℕ) → StandsAt kept image b start → IsKept image b (k / 4) → k < 512 → slice_index kept (start + k) ≡ byte_at image b k
-byte_there kept image b start k stands is small =
-    let fits = room image b (k / 4) is (omega (arith, small)) in
-    stands.same k (omega (arith, fits))
 
 pub long_there : (kept image : List ℕ) (b start i : ℕ) → StandsAt kept image b start → IsKept image b i → i < 128 → big_number 4 (drop (start + 4 * i) kept) ≡ long image b i
 long_there kept image b start i stands is small =

@@ -5,8 +5,9 @@ use Rattle.std.specs.List.{range_with_len}
 use Rattle.std.proofs.lemmas.List.{get_or-take}
 use Rattle.std.proofs.lemmas.List.FromFn.{length-map-range_with_len, get_or-map-range_with_len}
 use Rattle.adf_block.specs.Whole.{IsImage}
-use Rattle.adf_block.specs.Image.{block_count, page_count, long, byte_at, bytes_at, Chained, table_entry, pointer, pointer_count, secondary_type, file_size, format_of}
-use Rattle.adf_block.specs.Layout.{next_in_chain, next_extension, file_type}
+use Rattle.adf_block.specs.Image.{block_count, page_count, long, byte_at, bytes_at, Chained}
+use Rattle.adf_block.specs.Fields.{table_entry, pointer, pointer_count, secondary_type, file_size, format_of}
+use Rattle.adf_block.specs.declared.layout.TheConstants.{FILE_TYPE, NEXT_IN_CHAIN, NEXT_EXTENSION}
 use Rattle.adf_block.proofs.Longs.{long-bytes}
 use Rattle.ados_model.specs.Tree.{data_count, extension_count}
 use Rattle.ados_model.specs.File.{data_blocks, extension_blocks, contents}
@@ -24,7 +25,7 @@ use Rattle.ados_check.proofs.Roles.{IsMarkedDirectory, as_root, as_entry, IsMark
 
 -- the blocks in the hash chain of a slot
 unfoldable pub chain_of : List ℕ → ℕ → ℕ → List ℕ
-chain_of image dir s = follow (suc (block_count image)) image next_in_chain (table_entry image dir s)
+chain_of image dir s = follow (suc (block_count image)) image NEXT_IN_CHAIN (table_entry image dir s)
 
 -- the bitmap blocks in the root
 unfoldable pub pages_of : List ℕ → List ℕ
@@ -69,31 +70,31 @@ module _ (image : List ℕ) (marks : List (Option Mark)) (im : IsImage image) (c
   slot_marked dir s (as_entry m up r e is sec) l n =
       c.reached.marked dir (6 + s) m (roles.Entry dir s) e (subst (λ (x : Role). IsPlace image dir x (6 + s) (roles.Entry dir s)) (sym is) (directory_slot sec l n))
 
-  chain-along : (dir s : ℕ) → IsMarkedDirectory image marks dir → s < 72 → AreMarkedAlong image marks (roles.Entry dir s) next_in_chain (table_entry image dir s) dir (6 + s)
+  chain-along : (dir s : ℕ) → IsMarkedDirectory image marks dir → s < 72 → AreMarkedAlong image marks (roles.Entry dir s) NEXT_IN_CHAIN (table_entry image dir s) dir (6 + s)
   chain-along dir s d l = record {
     begins = slot_marked dir s d l;
-    goes_on = λ b h at e n. c.reached.marked b next_in_chain (mark_of (roles.Entry dir s) h at) (roles.Entry dir s) e (next_entry n);
+    goes_on = λ b h at e n. c.reached.marked b NEXT_IN_CHAIN (mark_of (roles.Entry dir s) h at) (roles.Entry dir s) e (next_entry n);
     apart = λ h at e z. omega (arith, z, l);
   }
 
-  chain-path : (dir s : ℕ) → IsPath image next_in_chain (table_entry image dir s) (chain_of image dir s)
+  chain-path : (dir s : ℕ) → IsPath image NEXT_IN_CHAIN (table_entry image dir s) (chain_of image dir s)
   unfolding chain_of
-  chain-path dir s = follow-path (suc (block_count image)) image next_in_chain (table_entry image dir s)
+  chain-path dir s = follow-path (suc (block_count image)) image NEXT_IN_CHAIN (table_entry image dir s)
 
-  pub chain-chained : (dir s : ℕ) → IsMarkedDirectory image marks dir → s < 72 → Chained image next_in_chain (table_entry image dir s) (chain_of image dir s)
+  pub chain-chained : (dir s : ℕ) → IsMarkedDirectory image marks dir → s < 72 → Chained image NEXT_IN_CHAIN (table_entry image dir s) (chain_of image dir s)
   unfolding chain_of
   chain-chained dir s d l =
-      follow-chained image marks (roles.Entry dir s) next_in_chain (table_entry image dir s) dir (6 + s) (chain-along dir s d l) (block_count image) (λ b m e. (marked_inside image marks c.reached im b m e).1)
+      follow-chained image marks (roles.Entry dir s) NEXT_IN_CHAIN (table_entry image dir s) dir (6 + s) (chain-along dir s d l) (block_count image) (λ b m e. (marked_inside image marks c.reached im b m e).1)
 
   -- ---- the blocks of files
 
   pub sound_file : (file : ℕ) → IsMarkedFile image marks file → IsSoundFile image file
   sound_file file f = c.files file f.dir (f.mark, f.slot_of_chain, f.marked, f.role) f.secondary
 
-  extension-along : (file : ℕ) → IsMarkedFile image marks file → AreMarkedAlong image marks (roles.Extension file) next_extension (long image file next_extension) file next_extension
+  extension-along : (file : ℕ) → IsMarkedFile image marks file → AreMarkedAlong image marks (roles.Extension file) NEXT_EXTENSION (long image file NEXT_EXTENSION) file NEXT_EXTENSION
   extension-along file f = record {
-    begins = λ n. c.reached.marked file next_extension f.mark (roles.Extension file) f.marked (subst (λ (x : Role). IsPlace image file x next_extension (roles.Extension file)) (sym f.role) (first_extension f.secondary n));
-    goes_on = λ b h at e n. c.reached.marked b next_extension (mark_of (roles.Extension file) h at) (roles.Extension file) e (further_extension n);
+    begins = λ n. c.reached.marked file NEXT_EXTENSION f.mark (roles.Extension file) f.marked (subst (λ (x : Role). IsPlace image file x NEXT_EXTENSION (roles.Extension file)) (sym f.role) (first_extension f.secondary n));
+    goes_on = λ b h at e n. c.reached.marked b NEXT_EXTENSION (mark_of (roles.Extension file) h at) (roles.Extension file) e (further_extension n);
     apart = λ h at e z.
         let same : f.mark ≡ mark_of (roles.Extension file) h at = cc (e, f.marked) in
         let role : f.mark.role ≡ roles.Extension file = ap (λ (m : Mark). m.role) same in
@@ -101,17 +102,17 @@ module _ (image : List ℕ) (marks : List (Option Mark)) (im : IsImage image) (c
         cc (role, entry);
   }
 
-  extension-path : (file : ℕ) → IsMarkedFile image marks file → IsPath image next_extension (long image file next_extension) (extension_blocks image file)
+  extension-path : (file : ℕ) → IsMarkedFile image marks file → IsPath image NEXT_EXTENSION (long image file NEXT_EXTENSION) (extension_blocks image file)
   extension-path file f =
       let h = sound_file file f in
-      chained_path image next_extension (long image file next_extension) (extension_blocks image file) h.chain
+      chained_path image NEXT_EXTENSION (long image file NEXT_EXTENSION) (extension_blocks image file) h.chain
       (λ i l z. boot_long image _ c.boot (ap (λ (b : ℕ). long image b 0) (sym z) ∙ (h.extension i l).primary))
 
-  extension_marked : (file : ℕ) → IsMarkedFile image marks file → (k : ℕ) → k < length (extension_blocks image file) → mark_at marks (slice_index (extension_blocks image file) k) ≡ Some (mark_of (roles.Extension file) (holder_along file (extension_blocks image file) k) (long_along next_extension next_extension k))
-  extension_marked file f = marked_along image marks (roles.Extension file) next_extension (long image file next_extension) file next_extension (extension-along file f) (extension_blocks image file) (extension-path file f)
+  extension_marked : (file : ℕ) → IsMarkedFile image marks file → (k : ℕ) → k < length (extension_blocks image file) → mark_at marks (slice_index (extension_blocks image file) k) ≡ Some (mark_of (roles.Extension file) (holder_along file (extension_blocks image file) k) (long_along NEXT_EXTENSION NEXT_EXTENSION k))
+  extension_marked file f = marked_along image marks (roles.Extension file) NEXT_EXTENSION (long image file NEXT_EXTENSION) file NEXT_EXTENSION (extension-along file f) (extension_blocks image file) (extension-path file f)
 
   extension_once : (file : ℕ) → IsMarkedFile image marks file → AreDifferent (extension_blocks image file)
-  extension_once file f = once_along image marks (roles.Extension file) next_extension (long image file next_extension) file next_extension (extension-along file f) (extension_blocks image file) (extension-path file f)
+  extension_once file f = once_along image marks (roles.Extension file) NEXT_EXTENSION (long image file NEXT_EXTENSION) file NEXT_EXTENSION (extension-along file f) (extension_blocks image file) (extension-path file f)
 
   -- ---- the list of each role
 
@@ -147,9 +148,9 @@ module _ (image : List ℕ) (marks : List (Option Mark)) (im : IsImage image) (c
   abbrev pub long_of : Role → ℕ → ℕ
   long_of roles.Root k = 0
   long_of roles.Page k = 79 + k
-  long_of (roles.Entry dir s) k = long_along (6 + s) next_in_chain k
+  long_of (roles.Entry dir s) k = long_along (6 + s) NEXT_IN_CHAIN k
   long_of (roles.Data file) k = 77 - k % 72
-  long_of (roles.Extension file) k = long_along next_extension next_extension k
+  long_of (roles.Extension file) k = long_along NEXT_EXTENSION NEXT_EXTENSION k
 
   -- ---- the pointers of a file
 
@@ -187,7 +188,7 @@ module _ (image : List ℕ) (marks : List (Option Mark)) (im : IsImage image) (c
       ap (mark_at marks) (sym h.here ∙ page-at image k l) ∙ c.reached.marked (root_of image) (79 + k) (mark_of roles.Root 0 0) roles.Page c.reached.root (root_page l)
   marked_at (roles.Entry dir s) k block h =
       ap (mark_at marks) (sym h.here)
-      ∙ marked_along image marks (roles.Entry dir s) next_in_chain (table_entry image dir s) dir (6 + s) (chain-along dir s h.holder.0 h.holder.1) (chain_of image dir s) (chain-path dir s) k h.within
+      ∙ marked_along image marks (roles.Entry dir s) NEXT_IN_CHAIN (table_entry image dir s) dir (6 + s) (chain-along dir s h.holder.0 h.holder.1) (chain_of image dir s) (chain-path dir s) k h.within
   marked_at (roles.Data file) k block h = ap (mark_at marks) (sym h.here) ∙ data_marked file h.holder k h.within
   marked_at (roles.Extension file) k block h =
       ap (mark_at marks) (sym h.here)
@@ -219,7 +220,7 @@ module _ (image : List ℕ) (marks : List (Option Mark)) (im : IsImage image) (c
       let longs : 79 + k ≡ 79 + j = ap (λ (m : Mark). m.long) same in
       omega (arith, longs)
   one_place (roles.Entry dir s) k j block h g =
-      once_along image marks (roles.Entry dir s) next_in_chain (table_entry image dir s) dir (6 + s) (chain-along dir s h.holder.0 h.holder.1) (chain_of image dir s) (chain-path dir s) k j h.within g.within (h.here ∙ sym g.here)
+      once_along image marks (roles.Entry dir s) NEXT_IN_CHAIN (table_entry image dir s) dir (6 + s) (chain-along dir s h.holder.0 h.holder.1) (chain_of image dir s) (chain-path dir s) k j h.within g.within (h.here ∙ sym g.here)
   one_place (roles.Data file) k j block h g =
       let one = marked_at (roles.Data file) k block h in
       let other = marked_at (roles.Data file) j block g in
@@ -240,7 +241,7 @@ module _ (image : List ℕ) (marks : List (Option Mark)) (im : IsImage image) (c
   pub directory_at : (dir s k block : ℕ) → StandsAt (roles.Entry dir s) k block → secondary_type image block ≡ 2 → IsMarkedDirectory image marks block
   directory_at dir s k block h e = as_entry (mark_of (roles.Entry dir s) (holder_of (roles.Entry dir s) k) (long_of (roles.Entry dir s) k)) dir s (marked_at (roles.Entry dir s) k block h) refl e
 
-  pub file_at : (dir s k block : ℕ) → StandsAt (roles.Entry dir s) k block → secondary_type image block ≡ file_type → IsMarkedFile image marks block
+  pub file_at : (dir s k block : ℕ) → StandsAt (roles.Entry dir s) k block → secondary_type image block ≡ FILE_TYPE → IsMarkedFile image marks block
   file_at dir s k block h e = record {
     mark = mark_of (roles.Entry dir s) (holder_of (roles.Entry dir s) k) (long_of (roles.Entry dir s) k);
     dir = dir;
@@ -252,7 +253,7 @@ module _ (image : List ℕ) (marks : List (Option Mark)) (im : IsImage image) (c
 
   slot_stands : (dir s : ℕ) → IsMarkedDirectory image marks dir → s < 72 → table_entry image dir s ≢ 0 → StandsAt (roles.Entry dir s) 0 (table_entry image dir s)
   slot_stands dir s d l n =
-      let first = Chained-first image next_in_chain (table_entry image dir s) (chain_of image dir s) (chain-chained dir s d l) n in
+      let first = Chained-first image NEXT_IN_CHAIN (table_entry image dir s) (chain_of image dir s) (chain-chained dir s d l) n in
       record { within = first.0; here = first.1; holder = (d, l) }
 
   pointer_stands : (file : ℕ) (f : IsMarkedFile image marks file) (q p : ℕ) → q ≤ length (extension_blocks image file) → p < pointer_count image (slice_index (file ∷ extension_blocks image file) q) → StandsAt (roles.Data file) (72 * q + p) (pointer image (slice_index (file ∷ extension_blocks image file) q) p)
@@ -275,8 +276,8 @@ module _ (image : List ℕ) (marks : List (Option Mark)) (im : IsImage image) (c
   next_stands {block = block} k h (root_slot {s = s} l n) = (0, slot_stands block s (as_root (root_at k block h)) l n)
   next_stands {block = block} k h (directory_slot {dir = dir} {r = r} {s = s} e l n) = (0, slot_stands block s (directory_at dir r k block h e) l n)
   next_stands {block = block} k h (next_entry {dir = dir} {s = s} n) =
-      let here = ap (λ (b : ℕ). long image b next_in_chain) h.here in
-      elim (Chained-more image next_in_chain (table_entry image dir s) (chain_of image dir s) k (chain-chained dir s h.holder.0 h.holder.1) h.within) [
+      let here = ap (λ (b : ℕ). long image b NEXT_IN_CHAIN) h.here in
+      elim (Chained-more image NEXT_IN_CHAIN (table_entry image dir s) (chain_of image dir s) k (chain-chained dir s h.holder.0 h.holder.1) h.within) [
         | inl g ↦ (suc k, record { within = g.0; here = sym g.1 ∙ here; holder = h.holder })
         | inr g ↦ absurd (n (sym here ∙ g.1))
       ]
@@ -284,14 +285,14 @@ module _ (image : List ℕ) (marks : List (Option Mark)) (im : IsImage image) (c
       (72 * 0 + i, pointer_stands block (file_at dir s k block h e) 0 i (omega arith) p.0)
   next_stands {block = block} k h (first_extension {dir = dir} {s = s} e n) =
       let f = file_at dir s k block h e in
-      let first = Chained-first image next_extension (long image block next_extension) (extension_blocks image block) (sound_file block f).chain n in
+      let first = Chained-first image NEXT_EXTENSION (long image block NEXT_EXTENSION) (extension_blocks image block) (sound_file block f).chain n in
       (0, record { within = first.0; here = first.1; holder = f })
   next_stands {block = block} k h (extension_pointer {file = file} {i = i} p) =
       let count : i < pointer_count image (slice_index (file ∷ extension_blocks image file) (suc k)) = subst (λ (b : ℕ). i < pointer_count image b) (sym h.here) p.0 in
       (72 * suc k + i, subst (λ (b : ℕ). StandsAt (roles.Data file) (72 * suc k + i) (pointer image b i)) h.here (pointer_stands file h.holder (suc k) i (omega (arith, h.within)) count))
   next_stands {block = block} k h (further_extension {file = file} n) =
-      let here = ap (λ (b : ℕ). long image b next_extension) h.here in
-      elim (Chained-more image next_extension (long image file next_extension) (extension_blocks image file) k (sound_file file h.holder).chain h.within) [
+      let here = ap (λ (b : ℕ). long image b NEXT_EXTENSION) h.here in
+      elim (Chained-more image NEXT_EXTENSION (long image file NEXT_EXTENSION) (extension_blocks image file) k (sound_file file h.holder).chain h.within) [
         | inl g ↦ (suc k, record { within = g.0; here = sym g.1 ∙ here; holder = h.holder })
         | inr g ↦ absurd (n (sym here ∙ g.1))
       ]

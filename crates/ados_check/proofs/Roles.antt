@@ -1,10 +1,11 @@
 -- The marks of the reached blocks.
 use Rattle.std.proofs.Common.{◌≡◌, ◌≢◌, ℕ, List, Option, Some, refl, sym, ap, ◌∙◌, subst, arith}
 use Rattle.adf_block.specs.Whole.{IsImage}
-use Rattle.adf_block.specs.Image.{block_count, secondary_type}
+use Rattle.adf_block.specs.Image.{block_count}
+use Rattle.adf_block.specs.Fields.{secondary_type}
 use Rattle.ados_model.specs.declared.role.Role.{Role}
 use Rattle.ados_model.specs.declared.role.Role.TheVariants.{Root, Entry}
-use Rattle.adf_block.specs.Layout.{file_type}
+use Rattle.adf_block.specs.declared.layout.TheConstants.{FILE_TYPE}
 use Rattle.ados_model.specs.Faults.{InImage, IsPlace, Reached, root_of}
 use Rattle.ados_model.specs.Faults.IsPlace.{root_page, root_slot, directory_slot, next_entry, header_pointer, first_extension, extension_pointer, further_extension}
 use Rattle.ados_model.specs.Faults.Reached.{start, named}
@@ -35,7 +36,7 @@ pub record IsMarkedFile (image : List ℕ) (marks : List (Option Mark)) (file : 
   pub slot_of_chain : ℕ
   pub marked : mark_at marks file ≡ Some mark
   pub role : mark.role ≡ Entry dir slot_of_chain
-  pub secondary : secondary_type image file ≡ file_type
+  pub secondary : secondary_type image file ≡ FILE_TYPE
 
 module _ (image : List ℕ) (marks : List (Option Mark)) (c : AreReached image marks) where
   -- a reached block is marked with its role

@@ -4,24 +4,22 @@ use Rattle.std.specs.List.{range_with_len}
 use Rattle.std.proofs.lemmas.Bool.{cases_lt}
 use Rattle.std.proofs.lemmas.List.{get_or_past}
 use Rattle.std.proofs.lemmas.List.FromFn.{length-map-range_with_len, get_or-map-range_with_len}
-use Rattle.adf_block.specs.declared.Format.TheVariants.{Ofs, Ffs}
-use Rattle.adf_block.specs.Image.{byte_at, long, pointer, pointer_count, file_size, format_of}
-use Rattle.adf_block.specs.Layout.{next_extension}
+use Rattle.adf_block.specs.declared.layout.Format.TheVariants.{Ofs, Ffs}
+use Rattle.adf_block.specs.Image.{byte_at, long}
+use Rattle.adf_block.specs.Fields.{pointer, pointer_count, file_size, format_of}
+use Rattle.adf_block.specs.declared.layout.TheConstants.{NEXT_EXTENSION}
 use Rattle.ados_model.specs.Tree.{data_count, extension_count}
-use Rattle.ados_model.specs.Stands.{HasExtension, HasOfsData, file_byte}
-use Rattle.ados_model.specs.File.{pointer_block, data_block, data_blocks, extension_blocks, contents}
+use Rattle.ados_model.specs.Stands.{HasExtension, HasOfsData}
+use Rattle.ados_model.specs.File.{file_byte, pointer_block, data_block, data_blocks, extension_blocks, contents}
 use Rattle.ados_data.proofs.Chains.{chained}
 use Rattle.ados_check.specs.Marks.{IsSoundFile}
 use Rattle.ados_check.specs.steps.Files.{IsReachedFile, HasCounts, IsLinked}
 use Rattle.ados_check.proofs.Pointed.{blocks_upto, length-blocks_upto, block-at, same_extensions, counted}
+use Rattle.ados_check.proofs.RolePlaces.{length-contents}
 
 pub blocks_are : (image : List ℕ) (file count : ℕ) → count ≡ data_count (format_of image) (file_size image file) → blocks_upto image file count ≡ data_blocks image file
 unfolding blocks_upto data_blocks
 blocks_are image file count e = ap (λ (n : ℕ). map (data_block image file) (range_with_len 0 n)) e
-
-length-contents : (image : List ℕ) (file : ℕ) → length (contents image file) ≡ file_size image file
-unfolding contents
-length-contents image file = length-map-range_with_len _ 0 (file_size image file)
 
 content-at : (image : List ℕ) (file k : ℕ) → k < file_size image file → slice_index (contents image file) k ≡ file_byte (format_of image) image (data_blocks image file) k
 unfolding contents
@@ -71,10 +69,10 @@ module _ (image : List ℕ) (file count : ℕ) (r : IsReachedFile image file) (h
   pub sound_file : (format_of image ≡ Ofs → IsLinked image file) → IsSoundFile image file
   sound_file linked = record {
     size = sym (length-contents image file);
-    chain = chained image next_extension (long image file next_extension) (extension_blocks image file) (next-is 0 (omega arith))
+    chain = chained image NEXT_EXTENSION (long image file NEXT_EXTENSION) (extension_blocks image file) (next-is 0 (omega arith))
         (λ i l.
         let below : i < h.extensions = omega (arith, l, length-extensions) in
-        ap (λ (b : ℕ). long image b next_extension) (extension-at i below) ∙ next-is (suc i) (omega arith));
+        ap (λ (b : ℕ). long image b NEXT_EXTENSION) (extension-at i below) ∙ next-is (suc i) (omega arith));
     extension = λ i l.
         let below : i < h.extensions = omega (arith, l, length-extensions) in
         subst (HasExtension image file) (sym (extension-at i below)) (r.fields i (omega (arith, below, same_extensions image file count r h)));

@@ -1,10 +1,12 @@
 -- An image with sound marks and a valid bitmap represents the tree of the marks.
 use Rattle.std.proofs.Common.{◌≡◌, ◌≢◌, ℕ, ◌<◌, ◌⊎◌, inl, inr, List, [], length, slice_get, Contains, Option, Some, None, IsSome, refl, sym, ap, ap₂, ◌∙◌, subst, arith, eq-eqb, ne_eqb}
 use Rattle.std.proofs.lemmas.Bool.{false≢true, false_from_ne_true}
-use Rattle.adf_block.specs.Whole.{IsImage}
-use Rattle.adf_block.specs.Image.{HasFreeBit, block_sum, has_free_bit, Chained, table_entry, secondary_type, format_of}
-use Rattle.adf_block.specs.Layout.{next_in_chain, file_type}
-use Rattle.ados_model.specs.Tree.{data_count, extension_count, Content, Node, Tree, content_at, size_in}
+use Rattle.adf_block.specs.Whole.{IsImage, HasFreeBit}
+use Rattle.adf_block.specs.Image.{block_sum, has_free_bit, Chained}
+use Rattle.adf_block.specs.Fields.{table_entry, secondary_type, format_of}
+use Rattle.adf_block.specs.declared.layout.TheConstants.{FILE_TYPE, NEXT_IN_CHAIN}
+use Rattle.ados_model.specs.Tree.{data_count, extension_count, Content, Node, Tree, content_at}
+use Rattle.ados_model.specs.Parts.{size_in}
 use Rattle.ados_model.specs.Stands.{HasFile, Layout, Duty, HasDuty, Named, Fits, Stands, HasNode, HasEntry, HasRoot, type_of, in_slot}
 use Rattle.ados_model.specs.File.{data_blocks, extension_blocks}
 use Rattle.ados_model.specs.declared.role.Role.{Role}
@@ -188,7 +190,7 @@ module _ (image : List ℕ) (marks : List (Option Mark)) (im : IsImage image) (c
       let sound = sound_entry key m dir s e is in
       subst (HasNode image key) (sym same) (record { primary = sound.primary; sum = sound.sum; name = sound.name.text; date = refl })
 
-  type_is : (key : ℕ) → (secondary_type image key ≡ 2) ⊎ (secondary_type image key ≡ file_type) → secondary_type image key ≡ type_of (content_of image key)
+  type_is : (key : ℕ) → (secondary_type image key ≡ 2) ⊎ (secondary_type image key ≡ FILE_TYPE) → secondary_type image key ≡ type_of (content_of image key)
   type_is key (inl e) = rw (eq-eqb (secondary_type image key) 2 e) e
   type_is key (inr e) =
       let other : secondary_type image key ≢ 2 = λ z. omega (arith, e, z) in
@@ -230,10 +232,10 @@ module _ (image : List ℕ) (marks : List (Option Mark)) (im : IsImage image) (c
       let at = place_of (pages_of image) page h in
       c.reached.sound page (mark_of roles.Page _ _) (marked_at image marks im c roles.Page at.0 page (record { within = at.1; here = at.2; holder = tt }))
 
-  chains : (dir : ℕ) (node : Node) (keys : List ℕ) (s : ℕ) → t.nodes dir ≡ Some node → node.content ≡ Directory keys → s < 72 → Chained image next_in_chain (table_entry image dir s) (in_slot t dir s)
+  chains : (dir : ℕ) (node : Node) (keys : List ℕ) (s : ℕ) → t.nodes dir ≡ Some node → node.content ≡ Directory keys → s < 72 → Chained image NEXT_IN_CHAIN (table_entry image dir s) (in_slot t dir s)
   chains dir node keys s h is small =
       let d = (directory_content image marks c dir node keys h is).0 in
-      subst (Chained image next_in_chain (table_entry image dir s)) (sym (slot_is image marks im c dir s d small)) (chain-chained image marks im c dir s d small)
+      subst (Chained image NEXT_IN_CHAIN (table_entry image dir s)) (sym (slot_is image marks im c dir s d small)) (chain-chained image marks im c dir s d small)
 
   files : (file : ℕ) (node : Node) (bytes : List ℕ) → t.nodes file ≡ Some node → node.content ≡ File bytes → HasFile image (format_of image) file (l.file_data file) (l.extensions file) bytes
   files file node bytes h is =

@@ -4,7 +4,7 @@ use Rattle.std.proofs.lemmas.List.{get_or-take, get_or-drop}
 use Rattle.std.proofs.lemmas.List.Elements.{All-from_get_or}
 use Rattle.adf_block.specs.Whole.{IsImage, text_at}
 use Rattle.adf_block.specs.Image.{block_count, byte_at, bytes_at, HasText}
-use Rattle.adf_block.specs.Layout.{comment_byte}
+use Rattle.adf_block.specs.declared.layout.TheConstants.{COMMENT_BYTE}
 use Rattle.ados_name.specs.Name.{IsComment}
 
 -- a part of a block has the requested number of bytes
@@ -21,12 +21,12 @@ bytes_at-small image b i n im = All-from_get_or (λ c. c < 256) (take n (drop (5
     omega (arith, at, small))
 
 -- a comment that is not too long
-module _ (image : List ℕ) (b : ℕ) (im : IsImage image) (l : b < block_count image) (short : byte_at image b comment_byte ≤ 79) where
-  length-comment : length (text_at image b comment_byte) ≡ byte_at image b comment_byte
-  length-comment = length-bytes_at image b (comment_byte + 1) (byte_at image b comment_byte) im l (omega arith)
+module _ (image : List ℕ) (b : ℕ) (im : IsImage image) (l : b < block_count image) (short : byte_at image b COMMENT_BYTE ≤ 79) where
+  length-comment : length (text_at image b COMMENT_BYTE) ≡ byte_at image b COMMENT_BYTE
+  length-comment = length-bytes_at image b (COMMENT_BYTE + 1) (byte_at image b COMMENT_BYTE) im l (omega arith)
 
-  pub comment_text : HasText image b comment_byte (text_at image b comment_byte)
-  comment_text = record { counted = sym length-comment; follows = ap (bytes_at image b (comment_byte + 1)) length-comment }
+  pub comment_text : HasText image b COMMENT_BYTE (text_at image b COMMENT_BYTE)
+  comment_text = record { counted = sym length-comment; follows = ap (bytes_at image b (COMMENT_BYTE + 1)) length-comment }
 
-  pub comment_valid : IsComment (text_at image b comment_byte)
-  comment_valid = record { short = omega (arith, length-comment); bytes = bytes_at-small image b (comment_byte + 1) (byte_at image b comment_byte) im }
+  pub comment_valid : IsComment (text_at image b COMMENT_BYTE)
+  comment_valid = record { short = omega (arith, length-comment); bytes = bytes_at-small image b (COMMENT_BYTE + 1) (byte_at image b COMMENT_BYTE) im }

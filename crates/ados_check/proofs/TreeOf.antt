@@ -1,9 +1,10 @@
 -- The tree of an image with marks, and its nodes.
 use Rattle.std.proofs.Common.{◌≡◌, ◌≢◌, ℕ, ◌⊎◌, inl, inr, Bool, true, false, not, ◌&&◌, nat_le, nat_lt, ◌==◌, if◌then◌else◌, List, [], Contains, Option, Some, None, is_some, refl, sym, ap, ◌∙◌, subst, arith, eq-eqb, ne_eqb}
 use Rattle.std.proofs.lemmas.Bool.{cases_eq, cases_Bool, and_parts, leb-true, ltb-true, le-leb, lt-ltb, not-true}
-use Rattle.adf_block.specs.Image.{block_count, bytes_at, has_free_bit, protection, secondary_type, format_of}
+use Rattle.adf_block.specs.Image.{block_count, bytes_at, has_free_bit}
+use Rattle.adf_block.specs.Fields.{protection, secondary_type, format_of}
 use Rattle.adf_block.specs.Whole.{text_at}
-use Rattle.adf_block.specs.Layout.{comment_byte, name_byte}
+use Rattle.adf_block.specs.declared.layout.TheConstants.{COMMENT_BYTE, NAME_BYTE}
 use Rattle.ados_model.specs.File.{contents}
 use Rattle.ados_model.specs.declared.role.Role.{Role}
 use Rattle.ados_model.specs.declared.role.Role.TheVariants as roles
@@ -28,7 +29,7 @@ content_of image block = if secondary_type image block == 2 then Directory (keys
 
 abbrev pub root_node : List ℕ → ℕ → Node
 root_node image block = record {
-  name = text_at image block name_byte;
+  name = text_at image block NAME_BYTE;
   parent = None;
   protection = 0;
   date = date_at image block 105;
@@ -38,11 +39,11 @@ root_node image block = record {
 
 abbrev pub entry_node : List ℕ → ℕ → ℕ → Node
 entry_node image block dir = record {
-  name = text_at image block name_byte;
+  name = text_at image block NAME_BYTE;
   parent = Some dir;
   protection = protection image block;
   date = date_at image block 105;
-  comment = text_at image block comment_byte;
+  comment = text_at image block COMMENT_BYTE;
   content = content_of image block;
 }
 

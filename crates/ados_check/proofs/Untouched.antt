@@ -1,8 +1,9 @@
 -- What is unchanged in a sound image when only its bitmap changes.
 use Rattle.std.proofs.Common.{◌≡◌, ◌≢◌, ℕ, ◌+◌, ◌/◌, ◌<◌, ◌≤◌, inl, inr, List, Option, Some, refl, sym, ap, ◌∙◌, subst, arith}
 use Rattle.adf_block.specs.Whole.{IsImage, text_at}
-use Rattle.adf_block.specs.Image.{block_count, root_key, page_count, long, byte_at, bytes_at, block_sum, HasText, format_of}
-use Rattle.adf_block.specs.Layout.{name_byte}
+use Rattle.adf_block.specs.Image.{block_count, root_key, page_count, long, byte_at, bytes_at, block_sum, HasText}
+use Rattle.adf_block.specs.Fields.{format_of}
+use Rattle.adf_block.specs.declared.layout.TheConstants.{NAME_BYTE}
 use Rattle.adf_block.specs.Frame.{SameBut}
 use Rattle.adf_block.proofs.Frames.{same_count, same_long, same_bytes_at, same_sum}
 use Rattle.ados_name.specs.Name.{IsName}
@@ -129,35 +130,35 @@ module _ (old new : List ℕ) (marks : List (Option Mark)) (im : IsImage old) (r
   }
 
   record IsNameKept (block : ℕ) : Type 0 where
-    pub byte : byte_at new block name_byte ≡ byte_at old block name_byte
-    pub bytes : bytes_at new block (name_byte + 1) (byte_at old block name_byte) ≡ bytes_at old block (name_byte + 1) (byte_at old block name_byte)
+    pub byte : byte_at new block NAME_BYTE ≡ byte_at old block NAME_BYTE
+    pub bytes : bytes_at new block (NAME_BYTE + 1) (byte_at old block NAME_BYTE) ≡ bytes_at old block (NAME_BYTE + 1) (byte_at old block NAME_BYTE)
 
-  short_name : (block : ℕ) → HasValidName old block → byte_at old block name_byte ≤ 30
+  short_name : (block : ℕ) → HasValidName old block → byte_at old block NAME_BYTE ≤ 30
   short_name block h = omega (arith, h.text.counted, h.valid.short)
 
   name_kept : (block : ℕ) → IsUntouched block → HasValidName old block → IsNameKept block
   name_kept block free h =
       let short = short_name block h in
-      record { byte = byte_kept block name_byte free (omega arith); bytes = bytes_kept block (name_byte + 1) (byte_at old block name_byte) free (omega (arith, short)) }
+      record { byte = byte_kept block NAME_BYTE free (omega arith); bytes = bytes_kept block (NAME_BYTE + 1) (byte_at old block NAME_BYTE) free (omega (arith, short)) }
 
   root_name_kept : HasValidName old (root_of old) → IsNameKept (root_of old)
   root_name_kept h =
       let short = short_name (root_of old) h in
       record {
-        byte = same.same_byte (root_of old) name_byte (omega arith) (root_untouched name_byte (λ z. omega (arith, z)) (λ z. omega (arith, z)));
-        bytes = same_bytes_at (IsOfBitmap old) old new same (root_of old) (name_byte + 1) (byte_at old (root_of old) name_byte) (omega (arith, short)) (λ k from below. root_untouched k (λ z. omega (arith, z, from)) (λ z. omega (arith, z, from)));
+        byte = same.same_byte (root_of old) NAME_BYTE (omega arith) (root_untouched NAME_BYTE (λ z. omega (arith, z)) (λ z. omega (arith, z)));
+        bytes = same_bytes_at (IsOfBitmap old) old new same (root_of old) (NAME_BYTE + 1) (byte_at old (root_of old) NAME_BYTE) (omega (arith, short)) (λ k from below. root_untouched k (λ z. omega (arith, z, from)) (λ z. omega (arith, z, from)));
       }
 
   valid_name : (block : ℕ) → IsNameKept block → HasValidName old block → HasValidName new block
   valid_name block kept h =
-      let text = text_kept block name_byte kept.byte kept.bytes in
+      let text = text_kept block NAME_BYTE kept.byte kept.bytes in
       record {
-        text = subst (HasText new block name_byte) (sym text) (has_text block name_byte kept.byte kept.bytes h.text);
+        text = subst (HasText new block NAME_BYTE) (sym text) (has_text block NAME_BYTE kept.byte kept.bytes h.text);
         valid = subst IsName (sym text) h.valid;
       }
 
-  pub name_same : (block : ℕ) → IsUntouched block → HasValidName old block → text_at new block name_byte ≡ text_at old block name_byte
-  name_same block free h = let kept = name_kept block free h in text_kept block name_byte kept.byte kept.bytes
+  pub name_same : (block : ℕ) → IsUntouched block → HasValidName old block → text_at new block NAME_BYTE ≡ text_at old block NAME_BYTE
+  name_same block free h = let kept = name_kept block free h in text_kept block NAME_BYTE kept.byte kept.bytes
 
   pub name_valid : (block : ℕ) → IsUntouched block → HasValidName old block → HasValidName new block
   name_valid block free h = valid_name block (name_kept block free h) h

@@ -4,7 +4,7 @@ use Rattle.std.proofs.lemmas.Bool.{cases_lt}
 use Rattle.std.proofs.lemmas.List.{ext_get_or, get_or_append_left, get_or-append_right, get_or-map, get_or-replicate, length-replicate, length-map, take_at}
 use Rattle.adf_block.specs.Whole.{IsImage, text_at}
 use Rattle.adf_block.specs.Image.{block_count, byte_at}
-use Rattle.adf_block.specs.Layout.{name_byte}
+use Rattle.adf_block.specs.declared.layout.TheConstants.{NAME_BYTE}
 use Rattle.adf_block.proofs.Blocks.{byte-bytes_at}
 use Rattle.ados_name.specs.Name.{Same, upper}
 use Rattle.ados_model.specs.declared.role.Role.TheVariants as roles
@@ -14,66 +14,66 @@ use Rattle.ados_check.specs.Marks.{AreReached, HasValidName, IsMarkedEntry, IsSo
 use Rattle.ados_check.proofs.Texts.{length-bytes_at}
 use Rattle.ados_check.specs.Entries.{upper_name}
 
-length-text : (image : List ℕ) (block : ℕ) → IsImage image → block < block_count image → byte_at image block name_byte ≤ 30 → length (map upper (text_at image block name_byte)) ≡ byte_at image block name_byte
-length-text image block im l short = length-map (text_at image block name_byte) upper ∙ length-bytes_at image block (name_byte + 1) (byte_at image block name_byte) im l (omega arith)
+length-text : (image : List ℕ) (block : ℕ) → IsImage image → block < block_count image → byte_at image block NAME_BYTE ≤ 30 → length (map upper (text_at image block NAME_BYTE)) ≡ byte_at image block NAME_BYTE
+length-text image block im l short = length-map (text_at image block NAME_BYTE) upper ∙ length-bytes_at image block (NAME_BYTE + 1) (byte_at image block NAME_BYTE) im l (omega arith)
 
-pub length-upper_name : (image : List ℕ) (block : ℕ) → IsImage image → block < block_count image → byte_at image block name_byte ≤ 30 → length (upper_name image block) ≡ 31
+pub length-upper_name : (image : List ℕ) (block : ℕ) → IsImage image → block < block_count image → byte_at image block NAME_BYTE ≤ 30 → length (upper_name image block) ≡ 31
 unfolding upper_name
 length-upper_name image block im l short =
     let text = length-text image block im l short in
-    omega (arith, text, short, length-append (map upper (text_at image block name_byte)) (replicate (30 - byte_at image block name_byte) 0), length-replicate {A = ℕ} (30 - byte_at image block name_byte) 0)
+    omega (arith, text, short, length-append (map upper (text_at image block NAME_BYTE)) (replicate (30 - byte_at image block NAME_BYTE) 0), length-replicate {A = ℕ} (30 - byte_at image block NAME_BYTE) 0)
 
 -- 31 bytes: the length, the text and zeros
-pub name_is : (image : List ℕ) (block : ℕ) (name : List ℕ) → IsImage image → block < block_count image → byte_at image block name_byte ≤ 30 → length name ≡ 31
-    → slice_index name 0 ≡ byte_at image block name_byte
-    → ((k : ℕ) → k < byte_at image block name_byte → slice_index name (k + 1) ≡ upper (byte_at image block (433 + k)))
-    → ((k : ℕ) → byte_at image block name_byte < k → slice_index name k ≡ 0)
+pub name_is : (image : List ℕ) (block : ℕ) (name : List ℕ) → IsImage image → block < block_count image → byte_at image block NAME_BYTE ≤ 30 → length name ≡ 31
+    → slice_index name 0 ≡ byte_at image block NAME_BYTE
+    → ((k : ℕ) → k < byte_at image block NAME_BYTE → slice_index name (k + 1) ≡ upper (byte_at image block (433 + k)))
+    → ((k : ℕ) → byte_at image block NAME_BYTE < k → slice_index name k ≡ 0)
     → name ≡ upper_name image block
 unfolding upper_name
-name_is image block name im l short size first text rest = ext_get_or 0 name (byte_at image block name_byte ∷ (map upper (text_at image block name_byte) ++ replicate (30 - byte_at image block name_byte) 0)) (size ∙ sym (length-upper_name image block im l short)) at
+name_is image block name im l short size first text rest = ext_get_or 0 name (byte_at image block NAME_BYTE ∷ (map upper (text_at image block NAME_BYTE) ++ replicate (30 - byte_at image block NAME_BYTE) 0)) (size ∙ sym (length-upper_name image block im l short)) at
   where
-    behind : (k : ℕ) → (k < byte_at image block name_byte) ⊎ (byte_at image block name_byte ≤ k) → suc k < 31 → slice_index name (suc k) ≡ slice_index (map upper (text_at image block name_byte) ++ replicate (30 - byte_at image block name_byte) 0) k
+    behind : (k : ℕ) → (k < byte_at image block NAME_BYTE) ⊎ (byte_at image block NAME_BYTE ≤ k) → suc k < 31 → slice_index name (suc k) ≡ slice_index (map upper (text_at image block NAME_BYTE) ++ replicate (30 - byte_at image block NAME_BYTE) 0) k
     behind k (inl m) n =
         let next : suc k ≡ k + 1 = omega arith in
-        let long = length-bytes_at image block (name_byte + 1) (byte_at image block name_byte) im l (omega arith) in
+        let long = length-bytes_at image block (NAME_BYTE + 1) (byte_at image block NAME_BYTE) im l (omega arith) in
         ap (slice_index name) next ∙ text k m
-        ∙ ap upper (sym (byte-bytes_at image block (name_byte + 1) (byte_at image block name_byte) k m))
-        ∙ sym (get_or-map upper (text_at image block name_byte) k 0 0 (omega (arith, long, m)))
-        ∙ sym (get_or_append_left (map upper (text_at image block name_byte)) (replicate (30 - byte_at image block name_byte) 0) 0 k (omega (arith, length-text image block im l short, m)))
+        ∙ ap upper (sym (byte-bytes_at image block (NAME_BYTE + 1) (byte_at image block NAME_BYTE) k m))
+        ∙ sym (get_or-map upper (text_at image block NAME_BYTE) k 0 0 (omega (arith, long, m)))
+        ∙ sym (get_or_append_left (map upper (text_at image block NAME_BYTE)) (replicate (30 - byte_at image block NAME_BYTE) 0) 0 k (omega (arith, length-text image block im l short, m)))
     behind k (inr m) n =
         rest (suc k) (omega arith)
-        ∙ sym (get_or-append_right (map upper (text_at image block name_byte)) (replicate (30 - byte_at image block name_byte) 0) (byte_at image block name_byte) k 0 (length-text image block im l short) m
-        ∙ get_or-replicate (30 - byte_at image block name_byte) (k - byte_at image block name_byte) 0 0 (omega (arith, m, n, short)))
+        ∙ sym (get_or-append_right (map upper (text_at image block NAME_BYTE)) (replicate (30 - byte_at image block NAME_BYTE) 0) (byte_at image block NAME_BYTE) k 0 (length-text image block im l short) m
+        ∙ get_or-replicate (30 - byte_at image block NAME_BYTE) (k - byte_at image block NAME_BYTE) 0 0 (omega (arith, m, n, short)))
 
-    at : (i : ℕ) → i < length name → slice_index name i ≡ slice_index (byte_at image block name_byte ∷ (map upper (text_at image block name_byte) ++ replicate (30 - byte_at image block name_byte) 0)) i
+    at : (i : ℕ) → i < length name → slice_index name i ≡ slice_index (byte_at image block NAME_BYTE ∷ (map upper (text_at image block NAME_BYTE) ++ replicate (30 - byte_at image block NAME_BYTE) 0)) i
     at zero m = first
-    at (suc k) m = behind k (cases_lt k (byte_at image block name_byte)) (omega (arith, m, size))
+    at (suc k) m = behind k (cases_lt k (byte_at image block NAME_BYTE)) (omega (arith, m, size))
 
 -- ---- the same names
 
-pub short_name : (image : List ℕ) (block : ℕ) → HasValidName image block → byte_at image block name_byte ≤ 30
+pub short_name : (image : List ℕ) (block : ℕ) → HasValidName image block → byte_at image block NAME_BYTE ≤ 30
 short_name image block v = let few = v.valid.short in omega (arith, v.text.counted, few)
 
-same_length : (image : List ℕ) (block other : ℕ) → HasValidName image block → HasValidName image other → Same (text_at image block name_byte) (text_at image other name_byte) → byte_at image block name_byte ≡ byte_at image other name_byte
+same_length : (image : List ℕ) (block other : ℕ) → HasValidName image block → HasValidName image other → Same (text_at image block NAME_BYTE) (text_at image other NAME_BYTE) → byte_at image block NAME_BYTE ≡ byte_at image other NAME_BYTE
 same_length image block other v w e =
-    v.text.counted ∙ sym (length-map (text_at image block name_byte) upper) ∙ ap length e ∙ length-map (text_at image other name_byte) upper ∙ sym w.text.counted
+    v.text.counted ∙ sym (length-map (text_at image block NAME_BYTE) upper) ∙ ap length e ∙ length-map (text_at image other NAME_BYTE) upper ∙ sym w.text.counted
 
-pub upper_names_equal : (image : List ℕ) (block other : ℕ) → HasValidName image block → HasValidName image other → Same (text_at image block name_byte) (text_at image other name_byte) → upper_name image block ≡ upper_name image other
+pub upper_names_equal : (image : List ℕ) (block other : ℕ) → HasValidName image block → HasValidName image other → Same (text_at image block NAME_BYTE) (text_at image other NAME_BYTE) → upper_name image block ≡ upper_name image other
 unfolding upper_name
 upper_names_equal image block other v w e =
     let sizes = same_length image block other v w e in
     ap₂ (λ (n : ℕ) (text : List ℕ). n ∷ (text ++ replicate (30 - n) 0)) sizes e
 
-pub names_same : (image : List ℕ) (block other : ℕ) → HasValidName image block → HasValidName image other → upper_name image block ≡ upper_name image other → Same (text_at image block name_byte) (text_at image other name_byte)
+pub names_same : (image : List ℕ) (block other : ℕ) → HasValidName image block → HasValidName image other → upper_name image block ≡ upper_name image other → Same (text_at image block NAME_BYTE) (text_at image other NAME_BYTE)
 unfolding upper_name
 names_same image block other v w e =
-    let sizes : byte_at image block name_byte ≡ byte_at image other name_byte = ap (λ (xs : List ℕ). slice_index xs 0) e in
-    let tails = ap (λ (xs : List ℕ). take (byte_at image other name_byte) (drop 1 xs)) e in
-    let one : length (map upper (text_at image block name_byte)) ≡ byte_at image other name_byte = length-map (text_at image block name_byte) upper ∙ sym v.text.counted ∙ sizes in
-    let two : length (map upper (text_at image other name_byte)) ≡ byte_at image other name_byte = length-map (text_at image other name_byte) upper ∙ sym w.text.counted in
-    sym (take_at (map upper (text_at image block name_byte)) (replicate (30 - byte_at image block name_byte) 0) (byte_at image other name_byte) one)
+    let sizes : byte_at image block NAME_BYTE ≡ byte_at image other NAME_BYTE = ap (λ (xs : List ℕ). slice_index xs 0) e in
+    let tails = ap (λ (xs : List ℕ). take (byte_at image other NAME_BYTE) (drop 1 xs)) e in
+    let one : length (map upper (text_at image block NAME_BYTE)) ≡ byte_at image other NAME_BYTE = length-map (text_at image block NAME_BYTE) upper ∙ sym v.text.counted ∙ sizes in
+    let two : length (map upper (text_at image other NAME_BYTE)) ≡ byte_at image other NAME_BYTE = length-map (text_at image other NAME_BYTE) upper ∙ sym w.text.counted in
+    sym (take_at (map upper (text_at image block NAME_BYTE)) (replicate (30 - byte_at image block NAME_BYTE) 0) (byte_at image other NAME_BYTE) one)
     ∙ tails
-    ∙ take_at (map upper (text_at image other name_byte)) (replicate (30 - byte_at image other name_byte) 0) (byte_at image other name_byte) two
+    ∙ take_at (map upper (text_at image other NAME_BYTE)) (replicate (30 - byte_at image other NAME_BYTE) 0) (byte_at image other NAME_BYTE) two
 
 -- ---- marked entries
 

@@ -1,7 +1,8 @@
 -- Facts about the marked entries.
 use Rattle.std.specs.Prelude.{◌≡◌, ℕ, ◌-◌, List, ◌∷◌, ◌++◌, map, replicate, Option}
-use Rattle.adf_block.specs.Image.{byte_at, secondary_type}
-use Rattle.adf_block.specs.Layout.{file_type, name_byte}
+use Rattle.adf_block.specs.Image.{byte_at}
+use Rattle.adf_block.specs.Fields.{secondary_type}
+use Rattle.adf_block.specs.declared.layout.TheConstants.{FILE_TYPE, NAME_BYTE}
 use Rattle.adf_block.specs.Whole.{text_at}
 use Rattle.ados_name.specs.Name.{upper}
 use Rattle.ados_check.specs.declared.mark.Mark.{Mark}
@@ -9,7 +10,7 @@ use Rattle.ados_check.specs.Marks.{IsMarkedEntry, IsSoundFile}
 
 -- if the block is a marked file, its counts and size match its blocks
 abbrev pub IsSoundIfFile : List ℕ → List (Option Mark) → ℕ → Type 0
-IsSoundIfFile image marks file = (dir : ℕ) → IsMarkedEntry marks file dir → secondary_type image file ≡ file_type → IsSoundFile image file
+IsSoundIfFile image marks file = (dir : ℕ) → IsMarkedEntry marks file dir → secondary_type image file ≡ FILE_TYPE → IsSoundFile image file
 
 -- this holds for each block
 abbrev pub AreSoundFiles : List ℕ → List (Option Mark) → Type 0
@@ -17,4 +18,4 @@ AreSoundFiles image marks = (file : ℕ) → IsSoundIfFile image marks file
 
 -- the name of a block in 31 bytes: its length, its bytes in upper case, then zeros
 unfoldable pub upper_name : List ℕ → ℕ → List ℕ
-upper_name image block = byte_at image block name_byte ∷ (map upper (text_at image block name_byte) ++ replicate (30 - byte_at image block name_byte) 0)
+upper_name image block = byte_at image block NAME_BYTE ∷ (map upper (text_at image block NAME_BYTE) ++ replicate (30 - byte_at image block NAME_BYTE) 0)

@@ -1,11 +1,12 @@
 -- The bytes of an image that a sketch keeps.
 use Rattle.std.specs.Prelude.{◌≡◌, ◌≢◌, ℕ, ◌+◌, ◌*◌, ◌<◌, ◌≤◌, ◌==◌, List, length, slice_index, get_or, Option, None, MatchOption, if◌then◌else◌}
-use Rattle.adf_block.specs.Image.{block_sum, byte_at, primary_type}
-use Rattle.adf_block.specs.Layout.{data_type, block_bytes, ofs_data_byte}
+use Rattle.adf_block.specs.Image.{block_sum, byte_at}
+use Rattle.adf_block.specs.Fields.{primary_type}
+use Rattle.adf_block.specs.declared.layout.TheConstants.{BLOCK_BYTES, DATA_TYPE, OFS_DATA_BYTE}
 
 -- the number of bytes kept of a block with a right checksum: 24 of an OFS data block, 512 of any other
 abbrev pub kept_length : List ℕ → ℕ → ℕ
-kept_length image block = if primary_type image block == data_type then ofs_data_byte else block_bytes
+kept_length image block = if primary_type image block == DATA_TYPE then OFS_DATA_BYTE else BLOCK_BYTES
 
 -- the kept bytes of a block start at this position, and its checksum is right
 pub record StandsAt (kept image : List ℕ) (block start : ℕ) : Type 0 where
@@ -19,10 +20,10 @@ start_of starts block = get_or starts block None
 
 -- each block with a right checksum is kept at its position, and each other block has none
 pub record AreKept (starts : List (Option ℕ)) (kept image : List ℕ) : Type 0 where
-  pub whole : length image ≡ block_bytes * length starts
+  pub whole : length image ≡ BLOCK_BYTES * length starts
   pub byte : (i : ℕ) → slice_index image i < 256
   pub noted : (block : ℕ) → block < length starts → MatchOption (start_of starts block) (block_sum image block ≢ 0) (StandsAt kept image block)
-  pub room : length kept ≤ block_bytes * length starts
+  pub room : length kept ≤ BLOCK_BYTES * length starts
 
 -- these are the first four bytes of an image that is not empty
 pub record HasBoot (boot image : List ℕ) : Type 0 where

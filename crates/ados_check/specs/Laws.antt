@@ -1,8 +1,8 @@
 -- Laws: conclusions from the marks of a check.
 use Rattle.std.specs.Prelude.{◌≡◌, ℕ, List, map, Option, Some, is_some, false, true}
-use Rattle.adf_block.specs.Whole.{IsImage}
-use Rattle.adf_block.specs.Image.{HasFreeBit, long, block_sum}
-use Rattle.adf_block.specs.Layout.{sum_long, bitmap_flag, bitmap_valid}
+use Rattle.adf_block.specs.Whole.{IsImage, HasFreeBit}
+use Rattle.adf_block.specs.Image.{long, block_sum}
+use Rattle.adf_block.specs.declared.layout.TheConstants.{CHECKSUM, BITMAP_FLAG, BITMAP_VALID}
 use Rattle.adf_block.specs.Frame.{OnlyLong}
 use Rattle.ados_map.specs.Pages.{LawfulPages}
 use Rattle.ados_map.specs.Changes.{PagesRebuilt}
@@ -22,9 +22,9 @@ pub record IsMended (old : List ℕ) (marks : List (Option Mark)) (new : List �
   pub paged : List ℕ
   pub flagged : List ℕ
   pub pages : PagesRebuilt old (map is_some marks) paged
-  pub flag : OnlyLong (root_of old) bitmap_flag paged flagged
-  pub valid : long flagged (root_of old) bitmap_flag ≡ bitmap_valid
-  pub settled : OnlyLong (root_of old) sum_long flagged new
+  pub flag : OnlyLong (root_of old) BITMAP_FLAG paged flagged
+  pub valid : long flagged (root_of old) BITMAP_FLAG ≡ BITMAP_VALID
+  pub settled : OnlyLong (root_of old) CHECKSUM flagged new
   pub sum : block_sum new (root_of old) ≡ 0
 
 -- the bitmap blocks of a checked image are lawful

@@ -1,7 +1,8 @@
 -- What a check finds: the reached blocks with their roles, and that each is sound.
 use Rattle.std.specs.Prelude.{◌≡◌, ℕ, ◌≤◌, ◌⊎◌, List, length, Option, Some, slice_get, option_and_then}
-use Rattle.adf_block.specs.Image.{block_count, byte_at, bytes_at, long, block_sum, primary_type, own_key, parent_key, secondary_type, HasText, format_of}
-use Rattle.adf_block.specs.Layout.{file_type, comment_byte, name_byte, header_type, data_type, root_type, directory_type, table_size_long, table_longs}
+use Rattle.adf_block.specs.Image.{block_count, byte_at, bytes_at, long, block_sum, HasText}
+use Rattle.adf_block.specs.Fields.{primary_type, own_key, parent_key, secondary_type, format_of}
+use Rattle.adf_block.specs.declared.layout.TheConstants.{HEADER_TYPE, DATA_TYPE, ROOT_TYPE, FILE_TYPE, TABLE_LONGS, TABLE_SIZE, COMMENT_BYTE, NAME_BYTE}
 use Rattle.adf_block.specs.Whole.{text_at}
 use Rattle.ados_name.specs.Name.{Same, slot, IsName}
 use Rattle.ados_model.specs.Stands.{HasExtension, HasFile, kind_bytes}
@@ -25,32 +26,32 @@ HasEntryType image block = HasDirectoryType image block ⊎ HasFileType image bl
 
 -- the block has a valid name
 pub record HasValidName (image : List ℕ) (block : ℕ) : Type 0 where
-  pub text : HasText image block name_byte (text_at image block name_byte)
-  pub valid : IsName (text_at image block name_byte)
+  pub text : HasText image block NAME_BYTE (text_at image block NAME_BYTE)
+  pub valid : IsName (text_at image block NAME_BYTE)
 
 -- a root with the right fields
 pub record IsSoundRoot (image : List ℕ) (block : ℕ) : Type 0 where
-  pub primary : primary_type image block ≡ header_type
-  pub table_size : long image block table_size_long ≡ table_longs
-  pub secondary : secondary_type image block ≡ root_type
+  pub primary : primary_type image block ≡ HEADER_TYPE
+  pub table_size : long image block TABLE_SIZE ≡ TABLE_LONGS
+  pub secondary : secondary_type image block ≡ ROOT_TYPE
   pub parent : parent_key image block ≡ 0
   pub sum : block_sum image block ≡ 0
   pub name : HasValidName image block
 
 -- a directory or file with the right fields, in the hash chain of its slot
 pub record IsSoundEntry (image : List ℕ) (block dir s : ℕ) : Type 0 where
-  pub primary : primary_type image block ≡ header_type
+  pub primary : primary_type image block ≡ HEADER_TYPE
   pub secondary : HasEntryType image block
   pub key_field : own_key image block ≡ block
   pub parent : parent_key image block ≡ dir
   pub sum : block_sum image block ≡ 0
   pub name : HasValidName image block
-  pub slotted : slot (text_at image block name_byte) ≡ s
-  pub comment : byte_at image block comment_byte ≤ 79
+  pub slotted : slot (text_at image block NAME_BYTE) ≡ s
+  pub comment : byte_at image block COMMENT_BYTE ≤ 79
 
 -- an OFS data block with the right fields, as far as they do not depend on its position in the file
 pub record IsSoundData (image : List ℕ) (block file : ℕ) : Type 0 where
-  pub primary : primary_type image block ≡ data_type
+  pub primary : primary_type image block ≡ DATA_TYPE
   pub header : own_key image block ≡ file
   pub sum : block_sum image block ≡ 0
 
@@ -89,7 +90,7 @@ IsMarkedEntry marks block dir = (mark : Mark) × (s : ℕ) × (mark_at marks blo
 
 -- the two blocks have the same name
 abbrev pub HaveOneName : List ℕ → ℕ → ℕ → Type 0
-HaveOneName image block other = Same (text_at image block name_byte) (text_at image other name_byte)
+HaveOneName image block other = Same (text_at image block NAME_BYTE) (text_at image other NAME_BYTE)
 
 -- two marked entries of a directory with the same name are the same block
 abbrev pub AreUnlike : List ℕ → List (Option Mark) → Type 0
@@ -104,5 +105,5 @@ IsSoundFile image file = HasFile image (format_of image) file (data_blocks image
 pub record IsChecked (image : List ℕ) (marks : List (Option Mark)) : Type 0 where
   pub boot : bytes_at image 0 0 4 ≡ kind_bytes (format_of image)
   pub reached : AreReached image marks
-  pub files : (file dir : ℕ) → IsMarkedEntry marks file dir → secondary_type image file ≡ file_type → IsSoundFile image file
+  pub files : (file dir : ℕ) → IsMarkedEntry marks file dir → secondary_type image file ≡ FILE_TYPE → IsSoundFile image file
   pub unlike : AreUnlike image marks

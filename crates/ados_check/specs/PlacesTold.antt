@@ -1,7 +1,8 @@
 -- What must be available of a block before its places are read.
 use Rattle.std.specs.Prelude.{◌≡◌, ◌≢◌, ℕ, ◌⊎◌, IsTrue}
-use Rattle.adf_block.specs.Image.{block_sum, primary_type}
-use Rattle.adf_block.specs.Layout.{data_type}
+use Rattle.adf_block.specs.Image.{block_sum}
+use Rattle.adf_block.specs.Fields.{primary_type}
+use Rattle.adf_block.specs.declared.layout.TheConstants.{DATA_TYPE}
 use Rattle.ados_check.specs.Source.{SourceView}
 use Rattle.ados_model.specs.declared.role.Role.{Role}
 use Rattle.ados_check.specs.Marks.{IsSound}
@@ -13,4 +14,4 @@ TellsOf source block role = IsTrue source.whole ⊎ IsSound source.bytes block r
 -- the source is a whole image, or the block has a right checksum and is not an OFS data block; so each long is
 -- available
 abbrev pub TellsAll : SourceView → ℕ → Type 0
-TellsAll source block = IsTrue source.whole ⊎ ((block_sum source.bytes block ≡ 0) × (primary_type source.bytes block ≢ data_type))
+TellsAll source block = IsTrue source.whole ⊎ ((block_sum source.bytes block ≡ 0) × (primary_type source.bytes block ≢ DATA_TYPE))

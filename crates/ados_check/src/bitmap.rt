@@ -14,8 +14,8 @@ use crate::mark::Mark;
 use crate::source::Source;
 use adf_block::Image;
 use adf_block::layout::{
-    BITMAP_FLAG, BITMAP_VALID, BOOT_BLOCKS, FIRST_MAP_LONG, FIRST_PAGE, LONG_BITS, MOST_BLOCKS,
-    PAGE_BITS, SUM,
+    BITMAP_FLAG, BITMAP_VALID, BOOT_BLOCKS, CHECKSUM, FIRST_MAP_LONG, FIRST_PAGE, LONG_BITS,
+    MOST_BLOCKS, PAGE_BITS,
 };
 use ados_map::rebuild;
 use std::alloc::{AllocError, Global};
@@ -86,6 +86,6 @@ pub(crate) fn mend(
     let root = image.root();
     rebuild(image, &named);
     image.set_long(root, BITMAP_FLAG, BITMAP_VALID);
-    image.settle(root, SUM);
+    image.settle(root, CHECKSUM);
     Ok(())
 }

@@ -1,6 +1,7 @@
 //! The data blocks of an OFS file: their links and sequence numbers.
 ghost use Rattle.std.specs.Prelude.{◌≡◌, ◌<◌, ℕ, MatchResult};
-ghost use Rattle.adf_block.specs.Image.{block_count, file_size, format_of};
+ghost use Rattle.adf_block.specs.Image.{block_count};
+ghost use Rattle.adf_block.specs.Fields.{file_size, format_of};
 ghost use Rattle.ados_model.specs.Tree.{data_count};
 ghost use Rattle.ados_model.specs.declared.fault.FaultKind.TheVariants.{BadPointer};
 ghost use Rattle.ados_model.specs.Faults.{IsOfs, Shows};
@@ -10,7 +11,7 @@ ghost use Rattle.ados_check.specs.steps.Files.{HasCounts, HasPlace, IsDataOf, Is
 use crate::counts::bad_count;
 use crate::source::Source;
 use adf_block::layout::{
-    FIRST_POINTER, HELD, NEXT_DATA, NEXT_EXTENSION, OFS_ROOM, SEQUENCE, SIZE, TABLE_LONGS,
+    FILE_SIZE, FIRST_POINTER, HELD, NEXT_DATA, NEXT_EXTENSION, OFS_ROOM, SEQUENCE, TABLE_LONGS,
 };
 use ados_model::{FaultKind, VolumeFault};
 
@@ -40,7 +41,7 @@ pub(crate) fn check_chain(source: &Source<'_>, file: u32, count: u32) -> Result<
     if source.long(before, NEXT_DATA) != 0 {
         return Err(bad_link(before));
     }
-    if sum != u64::from(source.long(file, SIZE)) {
+    if sum != u64::from(source.long(file, FILE_SIZE)) {
         return Err(bad_count(file));
     }
     Ok(())

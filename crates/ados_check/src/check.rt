@@ -1,6 +1,7 @@
 //! The whole check.
 ghost use Rattle.std.specs.Prelude.{◌≡◌, IfOk, MatchResult};
-ghost use Rattle.adf_block.specs.Image.{bytes_at, format_of};
+ghost use Rattle.adf_block.specs.Image.{bytes_at};
+ghost use Rattle.adf_block.specs.Fields.{format_of};
 ghost use Rattle.ados_model.specs.Tree.{Tree};
 ghost use Rattle.ados_model.specs.Stands.{Stands, kind_bytes};
 ghost use Rattle.ados_model.specs.Accepted.{IsRefusal};

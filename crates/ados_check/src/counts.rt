@@ -1,7 +1,7 @@
 //! The counts in a file's header and extension blocks, against its size.
 ghost use Rattle.std.specs.Prelude.{◌≡◌, ◌<◌, ◌⊎◌, ℕ, IfErr, IfOk, IsTrue, MatchResult};
-ghost use Rattle.adf_block.specs.Image.{block_count, file_size, format_of};
-ghost use Rattle.adf_block.specs.Layout.{size_long};
+ghost use Rattle.adf_block.specs.Image.{block_count};
+ghost use Rattle.adf_block.specs.Fields.{file_size, format_of};
 ghost use Rattle.ados_model.specs.Tree.{data_count};
 ghost use Rattle.ados_model.specs.declared.fault.FaultKind.TheVariants.{BadCount};
 ghost use Rattle.ados_model.specs.Faults.{HasPointers, IsExtension, Shows};
@@ -9,7 +9,9 @@ ghost use Rattle.ados_check.specs.Source.{Tells};
 ghost use Rattle.ados_check.specs.steps.Files.{HasCount, HasCounts, IsReachedFile};
 
 use crate::source::Source;
-use adf_block::layout::{FFS_ROOM, NEXT_EXTENSION, OFS_ROOM, POINTER_COUNT, SIZE, TABLE_LONGS};
+use adf_block::layout::{
+    FFS_ROOM, FILE_SIZE, NEXT_EXTENSION, OFS_ROOM, POINTER_COUNT, TABLE_LONGS,
+};
 use ados_model::{FaultKind, VolumeFault};
 
 /// Adds up the data blocks of a file. All its pointer blocks but the last have to be full, and no extension block may
@@ -68,7 +70,7 @@ pub(crate) fn check_counts(source: &Source<'_>, file: u32) -> Result<u32, Volume
 /// The number of data blocks that the size of a file needs.
 pub(crate) fn blocks_of_size(source: &Source<'_>, file: u32) -> u32
     requires inside { file < block_count source.now.bytes }
-    requires told { Tells source.now file size_long }
+    requires told { Tells source.now file FILE_SIZE }
     ensures { result ≡ data_count (format_of source.now.bytes) (file_size source.now.bytes file) }
 {
     let room = if source.kind_byte() == 0 {
@@ -76,7 +78,7 @@ pub(crate) fn blocks_of_size(source: &Source<'_>, file: u32) -> u32
     } else {
         FFS_ROOM
     };
-    source.long(file, SIZE).div_ceil(room)
+    source.long(file, FILE_SIZE).div_ceil(room)
 }
 
 /// The fault of a count or a size that does not match the blocks of the file.

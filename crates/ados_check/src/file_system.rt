@@ -1,6 +1,7 @@
 //! The file system of a disk, by its boot block.
 ghost use Rattle.std.specs.Prelude.{◌≡◌, MatchResult};
-ghost use Rattle.adf_block.specs.Image.{bytes_at, format_of};
+ghost use Rattle.adf_block.specs.Image.{bytes_at};
+ghost use Rattle.adf_block.specs.Fields.{format_of};
 ghost use Rattle.ados_model.specs.Stands.{kind_bytes};
 ghost use Rattle.ados_model.specs.Faults.{Shows};
 

@@ -2,7 +2,6 @@
 ghost use Rattle.std.specs.Prelude.{◌≡◌, ◌<◌, ◌≤◌, ℕ, MatchResult};
 ghost use Rattle.adf_block.specs.Whole.{IsImage};
 ghost use Rattle.adf_block.specs.Image.{block_count, byte_at};
-ghost use Rattle.adf_block.specs.Layout.{name_byte};
 ghost use Rattle.ados_model.specs.declared.fault.FaultKind.TheVariants.{DuplicateName, NoMemory};
 ghost use Rattle.ados_model.specs.Accepted.{IsRefusal};
 ghost use Rattle.ados_check.specs.Marks.{AreReached, AreUnlike};
@@ -54,7 +53,7 @@ pub fn check_names(
 pub(crate) fn upper_name(source: &Source<'_>, block: u32) -> [u8; 31]
     requires image { IsImage source.now.bytes }
     requires inside { block < block_count source.now.bytes }
-    requires short { byte_at source.now.bytes block name_byte ≤ 30 }
+    requires short { byte_at source.now.bytes block NAME_BYTE ≤ 30 }
     requires told { (i : ℕ) → Tells source.now block i }
     ensures { result ≡ upper_name source.now.bytes block }
 {

@@ -2,7 +2,6 @@
 ghost use Rattle.std.specs.Prelude.{◌≡◌, ◌<◌, MatchResult};
 ghost use Rattle.adf_block.specs.Image.{block_count};
 ghost use Rattle.adf_block.specs.Whole.{text_at};
-ghost use Rattle.adf_block.specs.Layout.{name_byte};
 ghost use Rattle.ados_model.specs.Faults.{HasName, Shows};
 ghost use Rattle.ados_check.specs.Marks.{HasValidName};
 ghost use Rattle.ados_check.specs.PlacesTold.{TellsAll};
@@ -17,7 +16,7 @@ pub(crate) fn name_of(source: &Source<'_>, block: u32) -> Result<Name, FaultKind
     requires inside { block < block_count source.now.bytes }
     requires named { HasName source.now.bytes block }
     requires told { TellsAll source.now block }
-    ensures { MatchResult result (λ name. HasValidName source.now.bytes block × (name ≡ text_at source.now.bytes block name_byte)) (λ kind. Shows source.now.bytes kind block) }
+    ensures { MatchResult result (λ name. HasValidName source.now.bytes block × (name ≡ text_at source.now.bytes block NAME_BYTE)) (λ kind. Shows source.now.bytes kind block) }
 {
     let length = usize::from(source.byte(block, NAME_BYTE));
     if length > Name::MAX_LEN {

@@ -1,7 +1,7 @@
 //! The longs of a block that name other blocks.
 ghost use Rattle.std.specs.Prelude.{◌≡◌, ◌<◌, ◌+◌, ◌-◌, ◌≤◌, ◌↔◌, ℕ, List, IsTrue, Some, false};
 ghost use Rattle.adf_block.specs.Image.{block_count, page_count};
-ghost use Rattle.adf_block.specs.Layout.{first_slot, first_pointer, secondary_type_long, table_longs, block_longs};
+ghost use Rattle.adf_block.specs.declared.layout.TheConstants.{BLOCK_LONGS};
 ghost use Rattle.ados_model.specs.declared.role.Role.{Role};
 ghost use Rattle.ados_model.specs.declared.role.Role.TheVariants.{Root, Entry, Extension};
 ghost use Rattle.ados_model.specs.Faults.{IsPlace, IsPointer};
@@ -29,8 +29,8 @@ pub(crate) const TABLE_END: u32 = FIRST_POINTER + 1;
 pub(crate) fn table_from(source: &Source<'_>, block: u32, role: Role) -> u32
     requires inside { block < block_count source.now.bytes }
     requires told { TellsOf source.now block role }
-    ensures from { first_slot ≤ result }
-    ensures within { result ≤ first_slot + table_longs }
+    ensures from { FIRST_SLOT ≤ result }
+    ensures within { result ≤ FIRST_SLOT + TABLE_LONGS }
     ensures none { (i : ℕ) → i < result → (next : Role) → ¬ IsPlace source.now.bytes block role i next }
 {
     let has_pointers = match role {
@@ -47,9 +47,9 @@ pub(crate) fn table_from(source: &Source<'_>, block: u32, role: Role) -> u32
 
 /// The first long after a block's table that may name another block.
 pub(crate) fn fields_from(role: Role) -> u32
-    ensures from { first_slot + table_longs ≤ result }
-    ensures within { result < secondary_type_long }
-    ensures none { (image : List ℕ) → (block i : ℕ) → first_slot + table_longs ≤ i → i < result → (next : Role) → ¬ IsPlace image block role i next }
+    ensures from { FIRST_SLOT + TABLE_LONGS ≤ result }
+    ensures within { result < SECONDARY_TYPE }
+    ensures none { (image : List ℕ) → (block i : ℕ) → FIRST_SLOT + TABLE_LONGS ≤ i → i < result → (next : Role) → ¬ IsPlace image block role i next }
 {
     match role {
         Role::Root => FIRST_PAGE,
@@ -60,7 +60,7 @@ pub(crate) fn fields_from(role: Role) -> u32
 /// The role of the block that long `i` names, or `None` if the long names no block.
 pub fn place_role(source: &Source<'_>, block: u32, role: Role, i: u32) -> Option<Role>
     requires inside { block < block_count source.now.bytes }
-    requires long { i < block_longs }
+    requires long { i < BLOCK_LONGS }
     requires told { TellsOf source.now block role }
     ensures { (next : Role) → (result ≡ Some next) ↔ IsPlace source.now.bytes block role i next }
 {
@@ -75,7 +75,7 @@ pub fn place_role(source: &Source<'_>, block: u32, role: Role, i: u32) -> Option
 /// In a root: the pointers to bitmap blocks, and the slots of the hash table.
 fn root_place(source: &Source<'_>, block: u32, i: u32) -> Option<Role>
     requires inside { block < block_count source.now.bytes }
-    requires long { i < block_longs }
+    requires long { i < BLOCK_LONGS }
     requires told { TellsAll source.now block }
     ensures { (next : Role) → (result ≡ Some next) ↔ IsPlace source.now.bytes block Root i next }
 {
@@ -92,7 +92,7 @@ fn root_place(source: &Source<'_>, block: u32, i: u32) -> Option<Role>
 /// of a file.
 fn entry_place(source: &Source<'_>, block: u32, dir: u32, slot: u32, i: u32) -> Option<Role>
     requires inside { block < block_count source.now.bytes }
-    requires long { i < block_longs }
+    requires long { i < BLOCK_LONGS }
     requires told { TellsAll source.now block }
     ensures { (next : Role) → (result ≡ Some next) ↔ IsPlace source.now.bytes block (Entry dir slot) i next }
 {
@@ -116,7 +116,7 @@ fn entry_place(source: &Source<'_>, block: u32, dir: u32, slot: u32, i: u32) -> 
 /// In an extension block: the data pointers and the next extension block.
 fn extension_place(source: &Source<'_>, block: u32, file: u32, i: u32) -> Option<Role>
     requires inside { block < block_count source.now.bytes }
-    requires long { i < block_longs }
+    requires long { i < BLOCK_LONGS }
     requires told { TellsAll source.now block }
     ensures { (next : Role) → (result ≡ Some next) ↔ IsPlace source.now.bytes block (Extension file) i next }
 {
@@ -131,7 +131,7 @@ fn extension_place(source: &Source<'_>, block: u32, file: u32, i: u32) -> Option
 
 /// Whether long `i` is one of the 72 slots of a hash table.
 fn is_slot(i: u32) -> bool
-    ensures { IsTrue result ↔ ((first_slot ≤ i) × (i < first_slot + table_longs)) }
+    ensures { IsTrue result ↔ ((FIRST_SLOT ≤ i) × (i < FIRST_SLOT + TABLE_LONGS)) }
 {
     FIRST_SLOT <= i && i <= FIRST_POINTER
 }
@@ -140,7 +140,7 @@ fn is_slot(i: u32) -> bool
 fn is_pointer(source: &Source<'_>, block: u32, i: u32) -> bool
     requires inside { block < block_count source.now.bytes }
     requires told { TellsAll source.now block }
-    ensures { IsTrue result ↔ ((i ≤ first_pointer) × IsPointer source.now.bytes block (first_pointer - i)) }
+    ensures { IsTrue result ↔ ((i ≤ FIRST_POINTER) × IsPointer source.now.bytes block (FIRST_POINTER - i)) }
 {
     let count = source.long(block, POINTER_COUNT);
     i <= FIRST_POINTER && FIRST_POINTER - i < count && count <= TABLE_LONGS

@@ -1,7 +1,7 @@
 //! The walk from the root over every place of every reached block.
 ghost use Rattle.std.specs.Prelude.{◌≡◌, ◌+◌, ◌<◌, ◌≤◌, IfNone, IfSome, IfOk, IfErr, MatchResult, vec_capacity, replicate, None};
 ghost use Rattle.adf_block.specs.Image.{block_count};
-ghost use Rattle.adf_block.specs.Layout.{first_slot, secondary_type_long};
+ghost use Rattle.adf_block.specs.declared.layout.TheConstants.{FIRST_SLOT};
 ghost use Rattle.ados_model.specs.Accepted.{IsRefusal};
 ghost use Rattle.ados_model.specs.Faults.{Shows};
 ghost use Rattle.ados_check.specs.Marks.{AreReached};
@@ -71,7 +71,7 @@ impl Progress {
     fn next(&mut self, source: &Source<'_>) -> Option<(u32, Role)>
         requires between { IsBetween source.now.bytes self.old.marks.items self.old.pending.items }
         ensures ended { IfNone result (AreReached source.now.bytes self.new.marks.items) }
-        ensures hand { IfSome result (λ found. IsInHand source.now.bytes self.new.marks.items self.new.pending.items found.0 found.1 first_slot) }
+        ensures hand { IfSome result (λ found. IsInHand source.now.bytes self.new.marks.items self.new.pending.items found.0 found.1 FIRST_SLOT) }
         ensures less { IfSome result (λ _. work self.new.marks.items self.new.pending.items < work self.old.marks.items self.old.pending.items) }
         ensures capacity { vec_capacity self.new.pending ≡ vec_capacity self.old.pending }
     {
@@ -85,7 +85,7 @@ impl Progress {
 
     /// Visits the places of this block.
     fn go_through(&mut self, source: &Source<'_>, block: u32, role: Role) -> Result<(), VolumeFault>
-        requires hand { IsInHand source.now.bytes self.old.marks.items self.old.pending.items block role first_slot }
+        requires hand { IsInHand source.now.bytes self.old.marks.items self.old.pending.items block role FIRST_SLOT }
         requires capacity { block_count source.now.bytes ≤ vec_capacity self.old.pending }
         ensures between { IfOk result (λ _. IsBetween source.now.bytes self.new.marks.items self.new.pending.items) }
         ensures work { IfOk result (λ _. work self.new.marks.items self.new.pending.items ≤ work self.old.marks.items self.old.pending.items) }
@@ -110,7 +110,7 @@ impl Progress {
     ) -> Result<(), VolumeFault>
         requires hand { IsInHand source.now.bytes self.old.marks.items self.old.pending.items block role from }
         requires part { from ≤ to }
-        requires longs { to ≤ secondary_type_long }
+        requires longs { to ≤ SECONDARY_TYPE }
         requires capacity { block_count source.now.bytes ≤ vec_capacity self.old.pending }
         ensures hand { IfOk result (λ _. IsInHand source.now.bytes self.new.marks.items self.new.pending.items block role to) }
         ensures work { IfOk result (λ _. work self.new.marks.items self.new.pending.items ≤ work self.old.marks.items self.old.pending.items) }
@@ -133,7 +133,7 @@ impl Progress {
         i: u32,
     ) -> Result<(), VolumeFault>
         requires hand { IsInHand source.now.bytes self.old.marks.items self.old.pending.items holder role i }
-        requires long { i < secondary_type_long }
+        requires long { i < SECONDARY_TYPE }
         requires capacity { block_count source.now.bytes ≤ vec_capacity self.old.pending }
         ensures hand { IfOk result (λ _. IsInHand source.now.bytes self.new.marks.items self.new.pending.items holder role (i + 1)) }
         ensures work { IfOk result (λ _. work self.new.marks.items self.new.pending.items ≤ work self.old.marks.items self.old.pending.items) }

@@ -2,9 +2,8 @@
 
 ghost use Rattle.std.specs.Prelude.{◌≡◌, ◌≢◌, ◌<◌, ◌≤◌, ◌+◌, ◌*◌, ◌/◌, ◌%◌, ◌^◌, ◌++◌, [], ℕ, List, length, slice_index, drop, IfOk, MatchBool};
 ghost use Rattle.byteorder.specs.Endian.{big_number};
-ghost use Rattle.adf_block.specs.Layout.{block_bytes, block_longs};
-ghost use Rattle.adf_block.specs.Whole.{IsImage};
-ghost use Rattle.adf_block.specs.Image.{IsSize, block_count, block_sum, bytes_at, byte_at, long};
+ghost use Rattle.adf_block.specs.Whole.{IsImage, IsSize};
+ghost use Rattle.adf_block.specs.Image.{block_count, block_sum, bytes_at, byte_at, long};
 ghost use Rattle.ados_check.specs.Source.{IsKept};
 ghost use Rattle.ados_check.specs.Keeping.{AreKept, kept_length};
 
@@ -74,8 +73,8 @@ impl Sketch {
 
     /// Adds a piece of whole blocks.
     pub fn with(self, piece: &Vec<u8>) -> Result<Sketch, AllocError>
-        requires some { block_bytes ≤ length piece.now.items }
-        requires blocks { length piece.now.items % block_bytes ≡ 0 }
+        requires some { BLOCK_BYTES ≤ length piece.now.items }
+        requires blocks { length piece.now.items % BLOCK_BYTES ≡ 0 }
         requires room { length self + length piece.now.items ≤ 52020224 }
         ensures { IfOk result (λ sketch. sketch ≡ self ++ piece.now.items) }
     {
@@ -106,7 +105,7 @@ impl Sketch {
 
     /// The first four bytes: the DOS type of the disk.
     pub fn boot(&self) -> [u8; 4]
-        requires { block_bytes ≤ length self.now }
+        requires { BLOCK_BYTES ≤ length self.now }
         ensures { result ≡ bytes_at self.now 0 0 4 }
     {
         self.boot
@@ -117,7 +116,7 @@ impl Sketch {
         requires { IsSize (block_count self.now) }
         ensures count { result ≡ block_count self.now }
         ensures size { IsSize result }
-        ensures whole { length self.now ≡ block_bytes * result }
+        ensures whole { length self.now ≡ BLOCK_BYTES * result }
         ensures image { IsImage self.now }
     {
         self.starts.len() as u32
@@ -125,7 +124,7 @@ impl Sketch {
 
     /// The byte after `DOS`.
     pub(crate) fn kind_byte(&self) -> u8
-        requires { block_bytes ≤ length self.now }
+        requires { BLOCK_BYTES ≤ length self.now }
         ensures { result ≡ byte_at self.now 0 3 }
     {
         self.boot[3]
@@ -142,7 +141,7 @@ impl Sketch {
     /// Long `i` of block `b`, big-endian.
     pub(crate) fn long(&self, b: u32, i: u32) -> u32
         requires block { b < block_count self.now }
-        requires place { i < block_longs }
+        requires place { i < BLOCK_LONGS }
         requires kept { IsKept self.now b i }
         ensures { result ≡ long self.now b i }
     {
@@ -155,7 +154,7 @@ impl Sketch {
     /// Byte `i` of block `b`.
     pub(crate) fn byte(&self, b: u32, i: u32) -> u8
         requires block { b < block_count self.now }
-        requires place { i < block_bytes }
+        requires place { i < BLOCK_BYTES }
         requires kept { IsKept self.now b (i / 4) }
         ensures { result ≡ byte_at self.now b i }
     {
@@ -169,8 +168,8 @@ impl Sketch {
     pub(crate) fn block(&self, b: u32) -> &[u8]
         requires inside { b < block_count self.now }
         requires kept { IsKept self.now b 127 }
-        ensures bytes { result.now ≡ bytes_at self.now b 0 block_bytes }
-        ensures length { length result.now ≡ block_bytes }
+        ensures bytes { result.now ≡ bytes_at self.now b 0 BLOCK_BYTES }
+        ensures length { length result.now ≡ BLOCK_BYTES }
     {
         match self.starts[b as usize] {
             Some(start) => &self.kept[start as usize..start as usize + BLOCK],
@@ -181,9 +180,9 @@ impl Sketch {
 
 /// Adds a block, and keeps the bytes that the check needs.
 fn keep(starts: &mut Vec<Option<u32>>, kept: &mut Vec<u8>, block: &[u8]) -> Result<(), AllocError>
-    requires size { length block.now ≡ block_bytes }
+    requires size { length block.now ≡ BLOCK_BYTES }
     requires few { length starts.old.items < 101602 }
-    requires room { length kept.old.items ≤ block_bytes * length starts.old.items }
+    requires room { length kept.old.items ≤ BLOCK_BYTES * length starts.old.items }
     ensures { IfOk result (λ _. (image : List ℕ) → AreKept starts.old.items kept.old.items image → AreKept starts.new.items kept.new.items (image ++ block.now)) }
 {
     if sum(block) != 0 {
@@ -197,7 +196,7 @@ fn keep(starts: &mut Vec<Option<u32>>, kept: &mut Vec<u8>, block: &[u8]) -> Resu
 
 /// The number of bytes kept of a block with a right checksum.
 fn kept_of(block: &[u8]) -> usize
-    requires { length block.now ≡ block_bytes }
+    requires { length block.now ≡ BLOCK_BYTES }
     ensures { result ≡ kept_length block.now 0 }
 {
     if read_long(block, 0) == DATA_TYPE {
@@ -209,7 +208,7 @@ fn kept_of(block: &[u8]) -> usize
 
 /// The sum of the longs of a block, modulo 2^32.
 fn sum(block: &[u8]) -> u32
-    requires { length block.now ≡ block_bytes }
+    requires { length block.now ≡ BLOCK_BYTES }
     ensures { result ≡ block_sum block.now 0 }
 {
     let mut sum = 0_u32;

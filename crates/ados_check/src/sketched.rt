@@ -1,7 +1,9 @@
 //! The check of a sketch: whether its image is accepted as it is.
 ghost use Rattle.std.specs.Prelude.{◌≡◌, IsTrue, IfSome, false};
 ghost use Rattle.adf_block.specs.Boot.{HasKind};
-ghost use Rattle.adf_block.specs.Image.{IsSize, block_count, bytes_at, format_of};
+ghost use Rattle.adf_block.specs.Image.{block_count, bytes_at};
+ghost use Rattle.adf_block.specs.Whole.{IsSize};
+ghost use Rattle.adf_block.specs.Fields.{format_of};
 ghost use Rattle.ados_model.specs.Accepted.{Accepts};
 ghost use Rattle.ados_model.specs.Stands.{kind_bytes};
 ghost use Rattle.ados_check.specs.Marks.{IsChecked};

@@ -1,6 +1,7 @@
 //! The checks of files and of names.
 ghost use Rattle.std.specs.Prelude.{◌≡◌, MatchResult};
-ghost use Rattle.adf_block.specs.Image.{bytes_at, format_of};
+ghost use Rattle.adf_block.specs.Image.{bytes_at};
+ghost use Rattle.adf_block.specs.Fields.{format_of};
 ghost use Rattle.ados_model.specs.Stands.{kind_bytes};
 ghost use Rattle.ados_model.specs.Accepted.{IsRefusal};
 ghost use Rattle.ados_check.specs.Marks.{AreReached, IsChecked};

@@ -1,10 +1,9 @@
 //! The blocks that a check reads: those of an image, or of a sketch.
 
 ghost use Rattle.std.specs.Prelude.{◌≡◌, ◌≢◌, ◌<◌, ◌*◌, ◌/◌, ℕ, length, MatchBool, true, false};
-ghost use Rattle.adf_block.specs.Layout.{block_bytes, block_longs};
-ghost use Rattle.adf_block.specs.Whole.{IsImage};
-ghost use Rattle.adf_block.specs.Image.{IsSize, block_count, block_sum, bytes_at, byte_at, long, root_key};
-ghost use Rattle.adf_block.specs.Layout.{kind_byte};
+ghost use Rattle.adf_block.specs.declared.layout.TheConstants.{BLOCK_BYTES, BLOCK_LONGS};
+ghost use Rattle.adf_block.specs.Whole.{IsImage, IsSize};
+ghost use Rattle.adf_block.specs.Image.{block_count, block_sum, bytes_at, byte_at, long, root_key};
 ghost use Rattle.ados_check.specs.Source.{Tells};
 
 use crate::sketch::Sketch;
@@ -63,7 +62,7 @@ impl<'a> Source<'a> {
     pub fn blocks(&self) -> u32
         ensures count { result ≡ block_count self.now.bytes }
         ensures size { IsSize result }
-        ensures whole { length self.now.bytes ≡ block_bytes * result }
+        ensures whole { length self.now.bytes ≡ BLOCK_BYTES * result }
         ensures image { IsImage self.now.bytes }
     {
         match &self.kept {
@@ -81,7 +80,7 @@ impl<'a> Source<'a> {
 
     /// The byte after `DOS`: 0 is the old file system, 1 the fast one.
     pub fn kind_byte(&self) -> u8
-        ensures { result ≡ byte_at self.now.bytes 0 kind_byte }
+        ensures { result ≡ byte_at self.now.bytes 0 KIND_BYTE }
     {
         prove!(self.blocks() >= 16);
         match &self.kept {
@@ -104,7 +103,7 @@ impl<'a> Source<'a> {
     /// Long `i` of block `b`, big-endian. `i` is 0 to 127.
     pub fn long(&self, b: u32, i: u32) -> u32
         requires block { b < block_count self.now.bytes }
-        requires place { i < block_longs }
+        requires place { i < BLOCK_LONGS }
         requires told { Tells self.now b i }
         ensures { result ≡ long self.now.bytes b i }
     {
@@ -117,7 +116,7 @@ impl<'a> Source<'a> {
     /// Byte `i` of block `b`. `i` is 0 to 511.
     pub fn byte(&self, b: u32, i: u32) -> u8
         requires block { b < block_count self.now.bytes }
-        requires place { i < block_bytes }
+        requires place { i < BLOCK_BYTES }
         requires told { Tells self.now b (i / 4) }
         ensures { result ≡ byte_at self.now.bytes b i }
     {
@@ -131,8 +130,8 @@ impl<'a> Source<'a> {
     pub fn block(&self, b: u32) -> &[u8]
         requires inside { b < block_count self.now.bytes }
         requires told { Tells self.now b 127 }
-        ensures bytes { result.now ≡ bytes_at self.now.bytes b 0 block_bytes }
-        ensures length { length result.now ≡ block_bytes }
+        ensures bytes { result.now ≡ bytes_at self.now.bytes b 0 BLOCK_BYTES }
+        ensures length { length result.now ≡ BLOCK_BYTES }
     {
         match &self.kept {
             Kept::Whole(image) => image.block(b),

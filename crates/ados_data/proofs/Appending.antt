@@ -2,17 +2,17 @@
 use Rattle.std.proofs.Common.{◌≡◌, ◌≢◌, ℕ, suc, ◌+◌, ◌-◌, ◌*◌, ◌/◌, ◌%◌, ◌<◌, ◌≤◌, ◌⊎◌, inl, inr, List, [], ◌∷◌, ◌++◌, length, replicate, take, slice_index, refl, sym, ap, ◌∙◌, subst, arith}
 use Rattle.std.proofs.lemmas.Bool.{cases_lt, cases_eq}
 use Rattle.std.proofs.lemmas.List.{length_push}
-use Rattle.adf_block.specs.declared.Format.{Format}
-use Rattle.adf_block.specs.declared.Format.TheVariants.{Ofs}
-use Rattle.adf_block.specs.Image.{byte_at, block_count, IsInside, IsSize, format_of}
-use Rattle.adf_block.specs.Whole.{free_bit_count}
+use Rattle.adf_block.specs.declared.layout.Format.{Format}
+use Rattle.adf_block.specs.declared.layout.Format.TheVariants.{Ofs}
+use Rattle.adf_block.specs.Image.{byte_at, block_count, IsInside}
+use Rattle.adf_block.specs.Whole.{IsSize, free_bit_count}
+use Rattle.adf_block.specs.Fields.{format_of}
 use Rattle.ados_model.specs.Tree.{data_count, extension_count, data_size, data_start}
-use Rattle.ados_model.specs.Stands.{file_byte}
+use Rattle.ados_model.specs.File.{file_byte, data_blocks, extension_blocks, contents}
 use Rattle.ados_data.specs.Changing.{IsInUse, IsWritable}
 use Rattle.ados_data.specs.steps.Blocks.{IsNewBlock, IsExtended, IsLengthened, IsResized}
 use Rattle.std.proofs.lemmas.List.{length-append, length-replicate, get_or-replicate, get_or_append_left, get_or-append_right}
 use Rattle.ados_data.specs.declared.grow.End.{End}
-use Rattle.ados_model.specs.File.{data_blocks, extension_blocks, contents}
 use Rattle.ados_data.specs.Changing.{WritableFile}
 use Rattle.ados_data.specs.steps.FileEnd.{IsEnd}
 use Rattle.ados_data.proofs.Sizes.{one_more_block, below_count, at_count, in_block, behind_start}
@@ -246,15 +246,6 @@ module _ (i0 i1 i2 : List ℕ) (format : Format) (file : ℕ) (blocks was : List
 
   pub file_inside : file < block_count i2
   file_inside = omega (arith, blocks_same, r.stands.places.headers_inside 0 (omega arith))
-
-  pub holder_inside : holder < block_count i2
-  holder_inside = omega (arith, blocks_same, r.holder_is, r.stands.places.headers_inside (length r.extensions) (omega arith))
-
-  pub last_inside : 0 < length blocks → slice_index blocks (length blocks - 1) < block_count i2
-  last_inside l = omega (arith, blocks_same, r.stands.places.data_inside (length blocks - 1) (omega arith))
-
-  pub new_is_inside : b < block_count i2
-  new_is_inside = omega (arith, blocks_same, n.lowest.inside)
 
   pub last_apart : 0 < length blocks → (slice_index blocks (length blocks - 1) ≢ holder) × (slice_index blocks (length blocks - 1) ≢ file) × (slice_index blocks (length blocks - 1) ≢ b)
   last_apart l = (

@@ -1,16 +1,12 @@
 -- A linked list of blocks, link by link.
 use Rattle.std.proofs.Common.{◌≡◌, ℕ, zero, suc, ◌<◌, List, [], ◌∷◌, length, slice_index, arith}
 use Rattle.adf_block.specs.Image.{long, Chained}
-
--- the first block, or 0
-pub first_of : (image : List ℕ) (link first : ℕ) (xs : List ℕ) → Chained image link first xs → first ≡ slice_index xs 0
-first_of image link first [] c = c
-first_of image link first (x ∷ xs) c = c.0
+use Rattle.ados_model.proofs.FileFaults.{chain_head}
 
 -- each block is followed by the next one, or by 0
 pub next_of : (image : List ℕ) (link first : ℕ) (xs : List ℕ) → Chained image link first xs → (i : ℕ) → i < length xs → long image (slice_index xs i) link ≡ slice_index xs (suc i)
 next_of image link first [] c i l = absurd (omega arith)
-next_of image link first (x ∷ xs) c zero l = first_of image link (long image x link) xs c.1
+next_of image link first (x ∷ xs) c zero l = chain_head image link (long image x link) xs c.1
 next_of image link first (x ∷ xs) c (suc i) l = next_of image link (long image x link) xs c.1 i (omega arith)
 
 pub chained : (image : List ℕ) (link first : ℕ) (xs : List ℕ) → first ≡ slice_index xs 0 → ((i : ℕ) → i < length xs → long image (slice_index xs i) link ≡ slice_index xs (suc i)) → Chained image link first xs

@@ -2,7 +2,7 @@
 use Rattle.std.proofs.Common.{◌≡◌, ℕ, ◌≤◌, List, length, take, ap, ◌∙◌, arith}
 use Rattle.std.proofs.lemmas.List.{take_all}
 use Rattle.ados_model.specs.File.{LawfulFile, contents, data_blocks, extension_blocks}
-use Rattle.adf_block.specs.Image.{format_of}
+use Rattle.adf_block.specs.Fields.{format_of}
 use Rattle.ados_data.specs.Others.{LeavesOthers}
 use Rattle.ados_data.specs.Unnamed.{KeepsUnnamed}
 use Rattle.ados_data.proofs.Skeleton.{skeleton_of}

@@ -1,10 +1,11 @@
 -- The bytes outside all fields that a cut leaves untouched.
-use Rattle.std.proofs.Common.{◌≡◌, ◌≢◌, ℕ, suc, ◌-◌, ◌/◌, ◌<◌, ◌≤◌, ◌⊎◌, inl, inr, List, ◌∷◌, length, take, slice_index, refl, sym, ap, ◌∙◌, arith}
+use Rattle.std.proofs.Common.{◌≡◌, ◌≢◌, ℕ, suc, ◌-◌, ◌/◌, ◌<◌, ◌≤◌, ◌⊎◌, inl, inr, List, ◌∷◌, length, take, slice_index, sym, ap, ◌∙◌, arith}
 use Rattle.std.proofs.lemmas.List.{length-take-le}
-use Rattle.adf_block.specs.Image.{pointer_count, file_size, byte_at, long, block_count, format_of}
-use Rattle.adf_block.specs.Layout.{pointer_count_long, size_long, next_extension, next_data}
-use Rattle.adf_block.specs.declared.Format.{Format}
-use Rattle.adf_block.specs.declared.Format.TheVariants.{Ofs, Ffs}
+use Rattle.adf_block.specs.Image.{byte_at, long, block_count}
+use Rattle.adf_block.specs.Fields.{pointer_count, file_size, format_of}
+use Rattle.adf_block.specs.declared.layout.TheConstants.{POINTER_COUNT, FILE_SIZE, NEXT_EXTENSION, NEXT_DATA}
+use Rattle.adf_block.specs.declared.layout.Format.{Format}
+use Rattle.adf_block.specs.declared.layout.Format.TheVariants.{Ofs, Ffs}
 use Rattle.ados_map.specs.Pages.{pages_of, page_block}
 use Rattle.ados_model.specs.Tree.{extension_count}
 use Rattle.ados_data.specs.steps.Edits.{AtFields}
@@ -17,24 +18,10 @@ use Rattle.ados_data.proofs.Lists.{head_taken, taken_before}
 -- the bytes that a cut to d data blocks writes outside the bitmap: in the last remaining data and pointer blocks, and
 -- in the header
 abbrev pub AtEnds : Format → ℕ → List ℕ → List ℕ → ℕ → ℕ → ℕ → Type 0
-AtEnds format file blocks extensions d c k = AtEnd format d (slice_index blocks (d - 1)) c k ⊎ (AtFields (slice_index (file ∷ extensions) (extension_count d)) pointer_count_long next_extension c k ⊎ AtFields file next_data size_long c k)
-
--- nothing changes
-pub keeps_same : (image : List ℕ) (file : ℕ) (blocks extensions : List ℕ) → KeepsUnnamed image file blocks extensions image blocks extensions
-keeps_same image file blocks extensions = record {
-  others = λ c k l o. refl;
-  header = λ k l n. refl;
-  extension = λ q k l m r n. refl;
-  slack = λ i k l m r n. refl;
-  new_extension = λ q k l m r n. absurd (omega arith);
-  new_data = λ i k l m r n. absurd (omega arith);
-  first_taken = λ z l. absurd (omega arith);
-  first_given = λ l z. absurd (omega arith);
-  first_kept = λ s. refl;
-}
+AtEnds format file blocks extensions d c k = AtEnd format d (slice_index blocks (d - 1)) c k ⊎ (AtFields (slice_index (file ∷ extensions) (extension_count d)) POINTER_COUNT NEXT_EXTENSION c k ⊎ AtFields file NEXT_DATA FILE_SIZE c k)
 
 -- in OFS the data follow the fields
-behind_fields : (format : Format) (size i k : ℕ) → format ≡ Ofs → data_end format size i ≤ k → 24 ≤ k
+pub behind_fields : (format : Format) (size i k : ℕ) → format ≡ Ofs → data_end format size i ≤ k → 24 ≤ k
 behind_fields Ofs size i k e l = omega (arith, l)
 behind_fields Ffs size i k e l = cc
 

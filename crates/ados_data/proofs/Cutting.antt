@@ -2,11 +2,12 @@
 use Rattle.std.proofs.Common.{◌≡◌, ◌≢◌, ℕ, suc, ◌+◌, ◌-◌, ◌/◌, ◌%◌, ◌<◌, ◌≤◌, ◌⊎◌, inl, inr, true, List, ◌∷◌, length, take, slice_index, refl, sym, ap, ◌∙◌, subst, arith}
 use Rattle.std.proofs.lemmas.Bool.{cases_lt, cases_eq}
 use Rattle.std.proofs.lemmas.List.{length-take-le}
-use Rattle.adf_block.specs.Layout.{first_pointer, next_extension}
-use Rattle.adf_block.specs.declared.Format.{Format}
-use Rattle.adf_block.specs.declared.Format.TheVariants.{Ofs}
-use Rattle.adf_block.specs.Image.{byte_at, long, block_count, has_free_bit, IsInside, IsSize, format_of}
-use Rattle.adf_block.specs.Whole.{free_bit_count}
+use Rattle.adf_block.specs.declared.layout.TheConstants.{FIRST_POINTER, NEXT_EXTENSION}
+use Rattle.adf_block.specs.declared.layout.Format.{Format}
+use Rattle.adf_block.specs.declared.layout.Format.TheVariants.{Ofs}
+use Rattle.adf_block.specs.Image.{byte_at, long, block_count, has_free_bit, IsInside}
+use Rattle.adf_block.specs.Whole.{IsSize, free_bit_count}
+use Rattle.adf_block.specs.Fields.{format_of}
 use Rattle.ados_map.specs.Pages.{LawfulPages, pages_of, page_block}
 use Rattle.ados_map.specs.Changes.{BitChanged}
 use Rattle.ados_model.specs.Tree.{data_count, extension_count, block_cost, data_size, data_start}
@@ -22,13 +23,13 @@ use Rattle.ados_data.proofs.Leaving.{leaves_both, leaves_resized}
 use Rattle.ados_data.specs.Unnamed.{KeepsUnnamed}
 use Rattle.ados_data.specs.Cut.{CutsHeader}
 use Rattle.ados_data.proofs.CutKeeping.{AtEnds, header_uncut, keeps_cut}
-use Rattle.ados_data.proofs.Marks.{has_bit}
 use Rattle.ados_data.proofs.Sizes.{fewer_blocks, some_blocks, ofs_count, in_block, behind_start, in_count}
 use Rattle.ados_data.proofs.Spelled.{link_of, data_blocks_are, extension_blocks_are, contents_are}
 use Rattle.ados_data.proofs.Places.{header_is, data_is, holder_of}
 use Rattle.ados_data.proofs.Resizing.{stands_resized, resized_blocks, resized_page, resized_byte, resized_count, header_long, later_long, used_resized, resized_marks}
 use Rattle.ados_data.proofs.Standing.{Standing, standing_of, writable_of, writable_file}
 use Rattle.ados_data.proofs.Giving.{leaves_given, given_count, given_long, given_use, given_total, stands_given, given_page, untouched_given}
+use Rattle.ados_map.proofs.MarkLemmas.{bit_of_inside}
 
 -- a file cut to d data blocks, with blocks still to be freed: data blocks from i, and extension blocks after number r;
 -- `holder` is pointer block r and `next` the one after it
@@ -38,8 +39,8 @@ pub record Cutting (blocks extensions : List ℕ) (format : Format) (file d size
   pub holder_is : holder ≡ slice_index (file ∷ extensions) r
   pub next_is : next ≡ slice_index extensions r
   pub beside_pages : (q p : ℕ) → q ≤ length extensions → p < pages_of image → slice_index (file ∷ extensions) q ≢ page_block image p
-  pub pointers : (j : ℕ) → i ≤ j → j < length blocks → long image (slice_index (file ∷ extensions) (j / 72)) (first_pointer - j % 72) ≡ slice_index blocks j
-  pub links : (q : ℕ) → r < q → q ≤ length extensions → long image (slice_index (file ∷ extensions) q) next_extension ≡ slice_index extensions q
+  pub pointers : (j : ℕ) → i ≤ j → j < length blocks → long image (slice_index (file ∷ extensions) (j / 72)) (FIRST_POINTER - j % 72) ≡ slice_index blocks j
+  pub links : (q : ℕ) → r < q → q ≤ length extensions → long image (slice_index (file ∷ extensions) q) NEXT_EXTENSION ≡ slice_index extensions q
   pub data_used : (j : ℕ) → i ≤ j → j < length blocks → IsInUse image (slice_index blocks j)
   pub headers_used : (q : ℕ) → r < q → q ≤ length extensions → IsInUse image (slice_index (file ∷ extensions) q)
   pub bytes : (j k : ℕ) → j < d → k < 512 → (format ≡ Ofs → 24 ≤ k) → byte_at image (slice_index blocks j) k ≡ byte_at old (slice_index blocks j) k
@@ -85,46 +86,46 @@ module _ (blocks extensions : List ℕ) (format : Format) (file d size i r holde
     inside : IsInside (block_count image) next
     inside = subst (IsInside (block_count image)) (sym next_header) (inside_of (slice_index (file ∷ extensions) (suc r)) (a.headers_inside (suc r) (omega arith)))
 
-    pub entered : Cutting blocks extensions format file d size i (suc r) next (long image next next_extension) old new
+    pub entered : Cutting blocks extensions format file d size i (suc r) next (long image next NEXT_EXTENSION) old new
     entered = record {
       stands = stands_given image next new m pages c.stands.size_ok c.stands.map inside used format file (take d blocks) (take (extension_count d) extensions) size c.stands
           (λ q l e. a.headers_once q (suc r) (omega (arith, l, el, further)) (omega arith) (sym (head_taken file extensions (extension_count d) q (omega (arith, l, el))) ∙ e ∙ next_header))
           (λ j l e. a.apart (suc r) j (omega arith) (omega (arith, l, dl, few)) (sym next_header ∙ sym e ∙ taken_before blocks d j (omega (arith, l, dl))));
       same_blocks = given_count image next new m pages c.stands.size_ok c.stands.map inside used ∙ c.same_blocks;
       holder_is = next_header;
-      next_is = ap (λ (b : ℕ). long image b next_extension) next_header ∙ c.links (suc r) (omega arith) (omega arith);
+      next_is = ap (λ (b : ℕ). long image b NEXT_EXTENSION) next_header ∙ c.links (suc r) (omega arith) (omega arith);
       beside_pages = λ q p l k e. let n : p < pages_of image = omega (arith, k, given_count image next new m pages c.stands.size_ok c.stands.map inside used) in
           c.beside_pages q p l n (e ∙ given_page image next new m pages c.stands.size_ok c.stands.map inside used p n);
-      pointers = λ j l k. given_long image next new m pages c.stands.size_ok c.stands.map inside used (slice_index (file ∷ extensions) (j / 72)) (λ p n. c.beside_pages (j / 72) p (rows_fit j k) n) (first_pointer - j % 72) (omega arith) ∙ c.pointers j l k;
-      links = λ q l k. given_long image next new m pages c.stands.size_ok c.stands.map inside used (slice_index (file ∷ extensions) q) (λ p n. c.beside_pages q p k n) next_extension (omega arith) ∙ c.links q (omega arith) k;
+      pointers = λ j l k. given_long image next new m pages c.stands.size_ok c.stands.map inside used (slice_index (file ∷ extensions) (j / 72)) (λ p n. c.beside_pages (j / 72) p (rows_fit j k) n) (FIRST_POINTER - j % 72) (omega arith) ∙ c.pointers j l k;
+      links = λ q l k. given_long image next new m pages c.stands.size_ok c.stands.map inside used (slice_index (file ∷ extensions) q) (λ p n. c.beside_pages q p k n) NEXT_EXTENSION (omega arith) ∙ c.links q (omega arith) k;
       data_used = λ j l k. given_use image next new m pages c.stands.size_ok c.stands.map inside used (slice_index blocks j) (inside_of (slice_index blocks j) (a.data_inside j k)) (c.data_used j l k) (λ e. a.apart (suc r) j (omega arith) k (sym next_header ∙ sym e));
       headers_used = λ q l k. given_use image next new m pages c.stands.size_ok c.stands.map inside used (slice_index (file ∷ extensions) q) (inside_of (slice_index (file ∷ extensions) q) (a.headers_inside q k)) (c.headers_used q (omega arith) k) (λ e. a.headers_once (suc r) q (omega arith) k (sym (e ∙ next_header)));
       bytes = λ j k l n o. untouched_given image next new m pages c.stands.size_ok c.stands.map inside used (slice_index blocks j) (kept_data j l) k n ∙ c.bytes j k l n o;
       count = given_total image next new m pages c.stands.size_ok c.stands.map inside used ∙ omega (arith, c.count, further);
       leaves = leaves_both old image new file blocks extensions blocks extensions c.leaves (leaves_given image next new m pages c.stands.size_ok c.stands.map inside used file blocks extensions (λ p n. c.beside_pages 0 p (omega arith) n) (λ x o e. o.beside_headers (suc r) (omega arith) (e ∙ next_header))) (λ x o. (o.beside_headers, o.beside_data));
-      freed_data = λ j l k. m.others (slice_index blocks j) (has_bit image (slice_index blocks j) (inside_of (slice_index blocks j) (a.data_inside j (omega arith)))) (λ e. a.apart (suc r) j (omega arith) (omega arith) (sym next_header ∙ sym e)) ∙ c.freed_data j l k;
+      freed_data = λ j l k. m.others (slice_index blocks j) (bit_of_inside image (slice_index blocks j) (inside_of (slice_index blocks j) (a.data_inside j (omega arith)))) (λ e. a.apart (suc r) j (omega arith) (omega arith) (sym next_header ∙ sym e)) ∙ c.freed_data j l k;
       freed_headers = λ q l k. elim (cases_lt q (suc r)) [
-        | inl n ↦ m.others (slice_index (file ∷ extensions) q) (has_bit image (slice_index (file ∷ extensions) q) (inside_of (slice_index (file ∷ extensions) q) (a.headers_inside q (omega arith)))) (λ e. a.headers_once q (suc r) n (omega arith) (e ∙ next_header)) ∙ c.freed_headers q l (omega arith)
+        | inl n ↦ m.others (slice_index (file ∷ extensions) q) (bit_of_inside image (slice_index (file ∷ extensions) q) (inside_of (slice_index (file ∷ extensions) q) (a.headers_inside q (omega arith)))) (λ e. a.headers_once q (suc r) n (omega arith) (e ∙ next_header)) ∙ c.freed_headers q l (omega arith)
         | inr n ↦ let here : q ≡ suc r = omega arith in ap (λ (x : ℕ). has_free_bit new (slice_index (file ∷ extensions) x)) here ∙ ap (has_free_bit new) (sym next_header) ∙ m.bit
       ];
       untouched = λ x k l n o. untouched_given image next new m pages c.stands.size_ok c.stands.map inside used x (no_page x n) k l ∙ c.untouched x k l n o;
       free_stays = λ x o f. elim (cases_eq x next) [
         | inl e ↦ ap (has_free_bit new) e ∙ m.bit
-        | inr n ↦ m.others x (has_bit image x (inside_of x o)) n ∙ c.free_stays x o f
+        | inr n ↦ m.others x (bit_of_inside image x (inside_of x o)) n ∙ c.free_stays x o f
       ];
       no_first = λ z. given_long image next new m pages c.stands.size_ok c.stands.map inside used file (λ p n. c.beside_pages 0 p (omega arith) n) 4 (omega arith) ∙ c.no_first z;
       first = λ l. given_long image next new m pages c.stands.size_ok c.stands.map inside used file (λ p n. c.beside_pages 0 p (omega arith) n) 4 (omega arith) ∙ c.first l;
     }
 
-  pub block_inside : (b : ℕ) → i < length blocks → i / 72 ≡ r → b ≡ long image holder (first_pointer - i % 72) → IsInside (block_count image) b
+  pub block_inside : (b : ℕ) → i < length blocks → i / 72 ≡ r → b ≡ long image holder (FIRST_POINTER - i % 72) → IsInside (block_count image) b
   block_inside b more row b_is =
-      let is : b ≡ slice_index blocks i = b_is ∙ ap (λ (h : ℕ). long image h (first_pointer - i % 72)) (c.holder_is ∙ ap (slice_index (file ∷ extensions)) (sym row)) ∙ c.pointers i (omega arith) more in
+      let is : b ≡ slice_index blocks i = b_is ∙ ap (λ (h : ℕ). long image h (FIRST_POINTER - i % 72)) (c.holder_is ∙ ap (slice_index (file ∷ extensions)) (sym row)) ∙ c.pointers i (omega arith) more in
       subst (IsInside (block_count image)) (sym is) (inside_of (slice_index blocks i) (a.data_inside i more))
 
   -- the next data block is freed
-  module _ (new : List ℕ) (b : ℕ) (more : i < length blocks) (row : i / 72 ≡ r) (rows : r ≤ length extensions) (b_is : b ≡ long image holder (first_pointer - i % 72)) (m : BitChanged image b true new) (pages : LawfulPages new) where
+  module _ (new : List ℕ) (b : ℕ) (more : i < length blocks) (row : i / 72 ≡ r) (rows : r ≤ length extensions) (b_is : b ≡ long image holder (FIRST_POINTER - i % 72)) (m : BitChanged image b true new) (pages : LawfulPages new) where
     block_is : b ≡ slice_index blocks i
-    block_is = b_is ∙ ap (λ (h : ℕ). long image h (first_pointer - i % 72)) (c.holder_is ∙ ap (slice_index (file ∷ extensions)) (sym row)) ∙ c.pointers i (omega arith) more
+    block_is = b_is ∙ ap (λ (h : ℕ). long image h (FIRST_POINTER - i % 72)) (c.holder_is ∙ ap (slice_index (file ∷ extensions)) (sym row)) ∙ c.pointers i (omega arith) more
 
     data_in_use : IsInUse image b
     data_in_use = subst (IsInUse image) (sym block_is) (c.data_used i (omega arith) more)
@@ -142,22 +143,22 @@ module _ (blocks extensions : List ℕ) (format : Format) (file d size i r holde
       next_is = c.next_is;
       beside_pages = λ q p l k e. let n : p < pages_of image = omega (arith, k, given_count image b new m pages c.stands.size_ok c.stands.map data_inside data_in_use) in
           c.beside_pages q p l n (e ∙ given_page image b new m pages c.stands.size_ok c.stands.map data_inside data_in_use p n);
-      pointers = λ j l k. given_long image b new m pages c.stands.size_ok c.stands.map data_inside data_in_use (slice_index (file ∷ extensions) (j / 72)) (λ p n. c.beside_pages (j / 72) p (rows_fit j k) n) (first_pointer - j % 72) (omega arith) ∙ c.pointers j (omega arith) k;
-      links = λ q l k. given_long image b new m pages c.stands.size_ok c.stands.map data_inside data_in_use (slice_index (file ∷ extensions) q) (λ p n. c.beside_pages q p k n) next_extension (omega arith) ∙ c.links q l k;
+      pointers = λ j l k. given_long image b new m pages c.stands.size_ok c.stands.map data_inside data_in_use (slice_index (file ∷ extensions) (j / 72)) (λ p n. c.beside_pages (j / 72) p (rows_fit j k) n) (FIRST_POINTER - j % 72) (omega arith) ∙ c.pointers j (omega arith) k;
+      links = λ q l k. given_long image b new m pages c.stands.size_ok c.stands.map data_inside data_in_use (slice_index (file ∷ extensions) q) (λ p n. c.beside_pages q p k n) NEXT_EXTENSION (omega arith) ∙ c.links q l k;
       data_used = λ j l k. given_use image b new m pages c.stands.size_ok c.stands.map data_inside data_in_use (slice_index blocks j) (inside_of (slice_index blocks j) (a.data_inside j k)) (c.data_used j (omega arith) k) (λ e. a.data_once i j (omega arith) k (sym (e ∙ block_is)));
       headers_used = λ q l k. given_use image b new m pages c.stands.size_ok c.stands.map data_inside data_in_use (slice_index (file ∷ extensions) q) (inside_of (slice_index (file ∷ extensions) q) (a.headers_inside q k)) (c.headers_used q l k) (λ e. a.apart q i k more (e ∙ block_is));
       bytes = λ j k l n o. untouched_given image b new m pages c.stands.size_ok c.stands.map data_inside data_in_use (slice_index blocks j) (kept_data j l) k n ∙ c.bytes j k l n o;
       count = given_total image b new m pages c.stands.size_ok c.stands.map data_inside data_in_use ∙ omega (arith, c.count, behind);
       leaves = leaves_both old image new file blocks extensions blocks extensions c.leaves (leaves_given image b new m pages c.stands.size_ok c.stands.map data_inside data_in_use file blocks extensions (λ p n. c.beside_pages 0 p (omega arith) n) (λ x o e. o.beside_data i more (e ∙ block_is))) (λ x o. (o.beside_headers, o.beside_data));
       freed_data = λ j l k. elim (cases_lt j i) [
-        | inl n ↦ m.others (slice_index blocks j) (has_bit image (slice_index blocks j) (inside_of (slice_index blocks j) (a.data_inside j (omega arith)))) (λ e. a.data_once j i n more (e ∙ block_is)) ∙ c.freed_data j l n
+        | inl n ↦ m.others (slice_index blocks j) (bit_of_inside image (slice_index blocks j) (inside_of (slice_index blocks j) (a.data_inside j (omega arith)))) (λ e. a.data_once j i n more (e ∙ block_is)) ∙ c.freed_data j l n
         | inr n ↦ let here : j ≡ i = omega arith in ap (λ (x : ℕ). has_free_bit new (slice_index blocks x)) here ∙ ap (has_free_bit new) (sym block_is) ∙ m.bit
       ];
-      freed_headers = λ q l k. m.others (slice_index (file ∷ extensions) q) (has_bit image (slice_index (file ∷ extensions) q) (inside_of (slice_index (file ∷ extensions) q) (a.headers_inside q (omega arith)))) (λ e. a.apart q i (omega arith) more (e ∙ block_is)) ∙ c.freed_headers q l k;
+      freed_headers = λ q l k. m.others (slice_index (file ∷ extensions) q) (bit_of_inside image (slice_index (file ∷ extensions) q) (inside_of (slice_index (file ∷ extensions) q) (a.headers_inside q (omega arith)))) (λ e. a.apart q i (omega arith) more (e ∙ block_is)) ∙ c.freed_headers q l k;
       untouched = λ x k l n o. untouched_given image b new m pages c.stands.size_ok c.stands.map data_inside data_in_use x (no_page x n) k l ∙ c.untouched x k l n o;
       free_stays = λ x o f. elim (cases_eq x b) [
         | inl e ↦ ap (has_free_bit new) e ∙ m.bit
-        | inr n ↦ m.others x (has_bit image x (inside_of x o)) n ∙ c.free_stays x o f
+        | inr n ↦ m.others x (bit_of_inside image x (inside_of x o)) n ∙ c.free_stays x o f
       ];
       no_first = λ z. given_long image b new m pages c.stands.size_ok c.stands.map data_inside data_in_use file (λ p n. c.beside_pages 0 p (omega arith) n) 4 (omega arith) ∙ c.no_first z;
       first = λ l. given_long image b new m pages c.stands.size_ok c.stands.map data_inside data_in_use file (λ p n. c.beside_pages 0 p (omega arith) n) 4 (omega arith) ∙ c.first l;
@@ -231,7 +232,7 @@ module _ (old : List ℕ) (file size d : ℕ) (w : WritableFile old file) (ok : 
   s0 : Standing old format file blocks extensions (length (contents old file))
   s0 = standing_of old file blocks extensions (contents old file) ok w
 
-  module _ (holder last next : ℕ) (holder_here : holder ≡ pointer_block old file (extension_count d)) (last_here : last ≡ long old holder (first_pointer - (d - 1) % 72)) (next_here : next ≡ long old holder next_extension) where
+  module _ (holder last next : ℕ) (holder_here : holder ≡ pointer_block old file (extension_count d)) (last_here : last ≡ long old holder (FIRST_POINTER - (d - 1) % 72)) (next_here : next ≡ long old holder NEXT_EXTENSION) where
     pub holder_header : holder ≡ slice_index (file ∷ extensions) (extension_count d)
     holder_header = holder_here ∙ header_is old file (extension_count d) fewer
 
@@ -241,7 +242,7 @@ module _ (old : List ℕ) (file size d : ℕ) (w : WritableFile old file) (ok : 
     pub last_data : last ≡ slice_index blocks (d - 1)
     last_data =
         let row : extension_count d ≡ (d - 1) / 72 = omega arith in
-        last_here ∙ ap (λ (b : ℕ). long old b (first_pointer - (d - 1) % 72)) (holder_here ∙ ap (pointer_block old file) row) ∙ data_is old file (d - 1) (omega (arith, few, some))
+        last_here ∙ ap (λ (b : ℕ). long old b (FIRST_POINTER - (d - 1) % 72)) (holder_here ∙ ap (pointer_block old file) row) ∙ data_is old file (d - 1) (omega (arith, few, some))
 
     pub last_inside : last < block_count old
     last_inside = omega (arith, last_data, w.lawful.places.data_inside (d - 1) (omega (arith, few, some)))
@@ -269,11 +270,11 @@ module _ (old : List ℕ) (file size d : ℕ) (w : WritableFile old file) (ok : 
             stands = stands_resized old new format file blocks extensions (length (contents old file)) d (extension_count d) size s0 y' few fewer refl (λ t. (ofs_count format d size d_is t).0) (λ t. omega (arith, (ofs_count format d size d_is t).1, shorter));
             same_blocks = same;
             holder_is = holder_header;
-            next_is = next_here ∙ ap (λ (b : ℕ). long old b next_extension) holder_header ∙ link_of old file blocks extensions (contents old file) w.lawful.holds (extension_count d) fewer;
+            next_is = next_here ∙ ap (λ (b : ℕ). long old b NEXT_EXTENSION) holder_header ∙ link_of old file blocks extensions (contents old file) w.lawful.holds (extension_count d) fewer;
             beside_pages = λ q p l k e. let n : p < pages_of old = omega (arith, k, same) in
                 (w.headers_used q l).beside_pages p n (e ∙ resized_page old new format file blocks extensions (length (contents old file)) d (extension_count d) size s0 y' few fewer p n);
             pointers = λ j l k. pointer_kept j l k ∙ w.lawful.holds.pointers j k;
-            links = λ q l k. later_long old new format file blocks extensions (length (contents old file)) d (extension_count d) size s0 y' few fewer q next_extension (omega arith) l k ∙ link_of old file blocks extensions (contents old file) w.lawful.holds q k;
+            links = λ q l k. later_long old new format file blocks extensions (length (contents old file)) d (extension_count d) size s0 y' few fewer q NEXT_EXTENSION (omega arith) l k ∙ link_of old file blocks extensions (contents old file) w.lawful.holds q k;
             data_used = λ j l k. still_used (slice_index blocks j) (w.lawful.places.data_inside j k) (w.data_used j k);
             headers_used = λ q l k. still_used (slice_index (file ∷ extensions) q) (w.lawful.places.headers_inside q k) (w.headers_used q k);
             bytes = resized_byte old new format file blocks extensions (length (contents old file)) d (extension_count d) size s0 y' few fewer;
@@ -282,15 +283,15 @@ module _ (old : List ℕ) (file size d : ℕ) (w : WritableFile old file) (ok : 
             freed_data = λ j l k. absurd (omega arith);
             freed_headers = λ q l k. absurd (omega arith);
             untouched = λ x k l n o. y'.rest.same_byte x k l o;
-            free_stays = λ x o f. resized_marks old new format file blocks extensions (length (contents old file)) d (extension_count d) size s0 y' few fewer x (has_bit old x o) ∙ f;
+            free_stays = λ x o f. resized_marks old new format file blocks extensions (length (contents old file)) d (extension_count d) size s0 y' few fewer x (bit_of_inside old x o) ∙ f;
             no_first = y'.no_first;
             first = y'.first;
           })
         where
-          pointer_kept : (j : ℕ) → d ≤ j → j < length blocks → long new (slice_index (file ∷ extensions) (j / 72)) (first_pointer - j % 72) ≡ long old (slice_index (file ∷ extensions) (j / 72)) (first_pointer - j % 72)
+          pointer_kept : (j : ℕ) → d ≤ j → j < length blocks → long new (slice_index (file ∷ extensions) (j / 72)) (FIRST_POINTER - j % 72) ≡ long old (slice_index (file ∷ extensions) (j / 72)) (FIRST_POINTER - j % 72)
           pointer_kept j l k = elim (cases_lt (extension_count d) (j / 72)) [
-            | inl m ↦ later_long old new format file blocks extensions (length (contents old file)) d (extension_count d) size s0 y' few fewer (j / 72) (first_pointer - j % 72) (omega arith) m (rows j k)
-            | inr m ↦ header_long old new format file blocks extensions (length (contents old file)) d (extension_count d) size s0 y' few fewer (j / 72) (first_pointer - j % 72) (omega arith) m (λ z. (omega arith, omega arith)) (omega arith) (omega arith) (omega arith)
+            | inl m ↦ later_long old new format file blocks extensions (length (contents old file)) d (extension_count d) size s0 y' few fewer (j / 72) (FIRST_POINTER - j % 72) (omega arith) m (rows j k)
+            | inr m ↦ header_long old new format file blocks extensions (length (contents old file)) d (extension_count d) size s0 y' few fewer (j / 72) (FIRST_POINTER - j % 72) (omega arith) m (λ z. (omega arith, omega arith)) (omega arith) (omega arith) (omega arith)
           ]
 
   -- all blocks are freed

@@ -1,16 +1,16 @@
 -- A file with some of its data bytes overwritten.
 use Rattle.std.proofs.Common.{◌≡◌, ◌≢◌, ℕ, ◌+◌, ◌-◌, ◌/◌, ◌%◌, ◌<◌, ◌≤◌, ◌⊎◌, inl, inr, List, ◌∷◌, length, slice_index, sym, ap, ap₂, ◌∙◌, subst, arith}
 use Rattle.std.proofs.lemmas.Bool.{cases_lt, cases_eq}
-use Rattle.adf_block.specs.Layout.{size_long}
-use Rattle.adf_block.specs.declared.Format.{Format}
-use Rattle.adf_block.specs.declared.Format.TheVariants.{Ofs}
-use Rattle.adf_block.specs.Image.{has_free_bit, byte_at, long, block_sum, block_count, IsInside, IsSize, format_of}
-use Rattle.adf_block.specs.Whole.{free_bit_count}
+use Rattle.adf_block.specs.declared.layout.TheConstants.{FILE_SIZE}
+use Rattle.adf_block.specs.declared.layout.Format.{Format}
+use Rattle.adf_block.specs.declared.layout.Format.TheVariants.{Ofs}
+use Rattle.adf_block.specs.Image.{has_free_bit, byte_at, long, block_sum, block_count, IsInside}
+use Rattle.adf_block.specs.Whole.{IsSize, free_bit_count}
+use Rattle.adf_block.specs.Fields.{format_of}
 use Rattle.adf_block.specs.Frame.{SameBut}
 use Rattle.adf_block.proofs.Frames.{same_long, same_sum, same_count}
 use Rattle.ados_model.specs.Tree.{data_count, data_size, data_start}
-use Rattle.ados_model.specs.File.{AreApart, data_blocks, extension_blocks, contents}
-use Rattle.ados_model.specs.Stands.{file_byte}
+use Rattle.ados_model.specs.File.{AreApart, data_blocks, extension_blocks, contents, file_byte}
 use Rattle.ados_data.specs.Changing.{IsInUse}
 use Rattle.ados_data.proofs.GrowthSteps.{KeepsData, untouched_holder, untouched_data, skeleton_kept}
 use Rattle.ados_data.proofs.Standing.{marks_stay, Standing, standing_of, writable_of, writable_file, format_kept, map_stays, use_stays, count_stays}
@@ -18,7 +18,7 @@ use Rattle.ados_map.specs.Pages.{HasBit}
 use Rattle.ados_data.specs.Others.{Leaves, LeavesOthers}
 use Rattle.ados_data.proofs.Leaving.{leaves_owned}
 use Rattle.ados_data.specs.steps.Edits.{AtData}
-use Rattle.ados_model.specs.Change.{overlaid}
+use Rattle.ados_model.specs.Edits.{overlaid}
 use Rattle.ados_data.specs.Changing.{WritableFile}
 use Rattle.ados_data.proofs.Sizes.{same_block, in_front, behind_part, in_block, behind_start, in_count}
 use Rattle.ados_data.proofs.Overlaid.{overlaid_before, overlaid_within, overlaid_behind, length-overlaid}
@@ -60,7 +60,7 @@ module _ (old new : List ℕ) (format : Format) (file : ℕ) (blocks extensions 
     size_ok = subst IsSize (sym put_blocks) s.size_ok;
     skeleton = skeleton_kept old new format file blocks extensions size s.skeleton
         (λ q l. untouched_holder old new (slice_index (file ∷ extensions) q) (λ k m. h.same_byte (slice_index (file ∷ extensions) q) k m (header_beside q k l)))
-        (same_long Put old new h file size_long (omega arith) (λ k e. header_beside 0 k (omega arith)))
+        (same_long Put old new h file FILE_SIZE (omega arith) (λ k e. header_beside 0 k (omega arith)))
         (same_long Put old new h file 4 (omega arith) (λ k e. header_beside 0 k (omega arith)))
         (λ f j l. elim (cases_eq j i) [
           | inr ne ↦ untouched_data old new (slice_index blocks j) (λ k m. h.same_byte (slice_index blocks j) k m (data_beside j k l ne))
@@ -171,7 +171,7 @@ module _ (old new : List ℕ) (format : Format) (file : ℕ) (w : WritableFile o
     ]
   ]
 
-  reached : data_start format + at % data_size format + length ys ≤ data_end format (long new file size_long) (at / data_size format)
+  reached : data_start format + at % data_size format + length ys ≤ data_end format (long new file FILE_SIZE) (at / data_size format)
   reached = subst (λ (n : ℕ). data_start format + at % data_size format + length ys ≤ data_end format n (at / data_size format)) (sym stands.skeleton.size_field) (put_end format at (length ys) (length (contents old file)) fits within)
 
   kept : KeepsUnnamed old file (data_blocks old file) (extension_blocks old file) new (data_blocks old file) (extension_blocks old file)

@@ -1,27 +1,19 @@
 -- A file with enough blocks has a size below 2^32.
-use Rattle.std.proofs.Common.{◌≡◌, ◌≢◌, ℕ, ◌+◌, ◌-◌, ◌/◌, ◌^◌, ◌<◌, ◌≤◌, suc, inl, inr, List, [], ◌∷◌, Bool, true, false, cond, eqb, length, slice_index, ◌∙◌, subst, arith}
-use Rattle.std.proofs.lemmas.Bool.{ne_eqb, cases_eq}
+use Rattle.std.proofs.Common.{◌≡◌, ◌≢◌, ℕ, ◌+◌, ◌-◌, ◌/◌, ◌^◌, ◌<◌, ◌≤◌, List, Bool, true, false, cond, length, slice_index, ◌∙◌, subst, arith}
 use Rattle.std.proofs.lemmas.Bool.Decides.{Decides-eqb}
 use Rattle.std.proofs.lemmas.List.{get_or_default}
 use Rattle.std.proofs.lemmas.Map.Made.{IsDistinct-from_AllPairs}
 use Rattle.std.proofs.lemmas.Map.Steps.{length-le_from_distinct_below}
-use Rattle.std.specs.List.{list_any}
-use Rattle.adf_block.specs.declared.Format.{Format}
-use Rattle.adf_block.specs.declared.Format.TheVariants.{Ofs, Ffs}
-use Rattle.adf_block.specs.Image.{block_count, has_free_bit, format_of}
+use Rattle.adf_block.specs.declared.layout.Format.{Format}
+use Rattle.adf_block.specs.declared.layout.Format.TheVariants.{Ofs, Ffs}
+use Rattle.adf_block.specs.Image.{block_count, has_free_bit}
+use Rattle.adf_block.specs.Fields.{format_of}
 use Rattle.adf_block.specs.Whole.{free_bit_count}
 use Rattle.adf_block.proofs.Totals.{total-bound}
 use Rattle.ados_model.specs.Tree.{block_cost, data_count}
 use Rattle.ados_model.specs.File.{LawfulFile, contents, data_blocks}
 use Rattle.ados_data.specs.Changing.{HasFree}
-
--- an element of a list is below the bound of the list
-below_bound : (xs : List ℕ) (n q : ℕ) → ((i : ℕ) → i < length xs → slice_index xs i < n) → list_any (eqb q) xs ≡ true → q < n
-below_bound [] n q small any = cc
-below_bound (x ∷ xs) n q small any = elim (cases_eq q x) [
-  | inl e ↦ omega (arith, e, small 0 (omega arith))
-  | inr ne ↦ below_bound xs n q (λ i l. small (suc i) (omega arith)) (rw (ne_eqb q x ne) at any)
-]
+use Rattle.ados_model.proofs.KeyLists.{below_bound}
 
 -- a list of numbers below n without duplicates has at most n elements
 few_once : (xs : List ℕ) (n : ℕ) → ((i : ℕ) → i < length xs → slice_index xs i < n) → ((i j : ℕ) → i < j → j < length xs → slice_index xs i ≢ slice_index xs j) → length xs ≤ n

@@ -1,9 +1,10 @@
 -- A file that gets an extension block leaves all other bytes untouched.
 use Rattle.std.proofs.Common.{◌≡◌, ℕ, suc, ◌/◌, ◌<◌, ◌≤◌, ◌⊎◌, inl, inr, List, [], ◌∷◌, ◌++◌, length, slice_index, refl, sym, ap, ◌∙◌, subst, arith}
 use Rattle.std.proofs.lemmas.List.{length_push}
-use Rattle.adf_block.specs.declared.Format.{Format}
-use Rattle.adf_block.specs.Image.{byte_at, long, pointer_count}
-use Rattle.adf_block.specs.Layout.{next_extension}
+use Rattle.adf_block.specs.declared.layout.Format.{Format}
+use Rattle.adf_block.specs.Image.{byte_at, long}
+use Rattle.adf_block.specs.Fields.{pointer_count}
+use Rattle.adf_block.specs.declared.layout.TheConstants.{NEXT_EXTENSION}
 use Rattle.adf_block.specs.Frame.{SameBut}
 use Rattle.adf_block.proofs.Frames.{same_long, same_trans, same_weaken}
 use Rattle.ados_map.specs.Pages.{pages_of, page_of}
@@ -16,21 +17,18 @@ use Rattle.ados_data.proofs.Standing.{Standing, untaken, header_beside_new, data
 
 module _ (old mid new : List ℕ) (format : Format) (file : ℕ) (blocks extensions : List ℕ) (size e : ℕ) (s : Standing old format file blocks extensions size) (n : IsNewBlock old e mid) (x : IsExtended mid file (slice_index (file ∷ extensions) (length extensions)) e new) where
   abbrev Changed : ℕ → ℕ → Type 0
-  Changed c k = (MapPlace old e c k ⊎ (c ≡ e)) ⊎ (AtExtensionFields e c k ⊎ AtField (slice_index (file ∷ extensions) (length extensions)) next_extension c k)
-
-  taken_place : ℕ → ℕ → Type 0
-  taken_place c k = MapPlace old e c k ⊎ (c ≡ e)
+  Changed c k = (MapPlace old e c k ⊎ (c ≡ e)) ⊎ (AtExtensionFields e c k ⊎ AtField (slice_index (file ∷ extensions) (length extensions)) NEXT_EXTENSION c k)
 
   rest : SameBut Changed old new
   rest =
       same_trans Changed old mid new (same_weaken (λ c k. MapPlace old e c k ⊎ (c ≡ e)) Changed old mid (λ c k at. inl at) n.rest)
-      (same_weaken (λ c k. AtExtensionFields e c k ⊎ AtField (slice_index (file ∷ extensions) (length extensions)) next_extension c k) Changed mid new (λ c k at. inr at) x.rest)
+      (same_weaken (λ c k. AtExtensionFields e c k ⊎ AtField (slice_index (file ∷ extensions) (length extensions)) NEXT_EXTENSION c k) Changed mid new (λ c k at. inr at) x.rest)
 
   within : page_of e < pages_of old
   within = omega (arith, n.lowest.inside.0, n.lowest.inside.1)
 
   -- the changes in an old pointer block
-  in_header : (q k : ℕ) → q ≤ length extensions → Changed (slice_index (file ∷ extensions) q) k → (k / 4 ≡ next_extension) ⊎ (k / 4 ≡ 5)
+  in_header : (q k : ℕ) → q ≤ length extensions → Changed (slice_index (file ∷ extensions) q) k → (k / 4 ≡ NEXT_EXTENSION) ⊎ (k / 4 ≡ 5)
   in_header q k l (inl at) = absurd (untaken old e mid n s.size_ok s.map (slice_index (file ∷ extensions) q) k (s.headers_used q l) at)
   in_header q k l (inr (inl at)) = absurd (header_beside_new old e mid n s.size_ok s.map format file blocks extensions size s q l at.0)
   in_header q k l (inr (inr at)) = at.1
@@ -46,12 +44,12 @@ module _ (old mid new : List ℕ) (format : Format) (file : ℕ) (blocks extensi
   beside c k o (inr (inl at)) = o.beside_headers (suc (length extensions)) (omega (arith, length_push extensions e)) (at.0 ∙ sym (head_pushed_last file extensions e (suc (length extensions)) refl))
   beside c k o (inr (inr at)) = o.beside_headers (length extensions) (omega (arith, length_push extensions e)) (at.0 ∙ sym (head_pushed_before file extensions e (length extensions) (omega arith)))
 
-  pointer_field : (count j : ℕ) → (j ≡ next_extension) ⊎ (j ≡ 5) → IsPointerField count j
+  pointer_field : (count j : ℕ) → (j ≡ NEXT_EXTENSION) ⊎ (j ≡ 5) → IsPointerField count j
   pointer_field count j (inl z) = inr (inr (inr z))
   pointer_field count j (inr z) = inr (inl z)
 
   -- the changes in the new one, which was empty
-  in_new : (k : ℕ) → (AtExtensionFields e e k ⊎ AtField (slice_index (file ∷ extensions) (length extensions)) next_extension e k) → IsExtensionField (pointer_count new e) (k / 4)
+  in_new : (k : ℕ) → (AtExtensionFields e e k ⊎ AtField (slice_index (file ∷ extensions) (length extensions)) NEXT_EXTENSION e k) → IsExtensionField (pointer_count new e) (k / 4)
   in_new k (inl (at, inl z)) = inr (inl z)
   in_new k (inl (at, inr (inl z))) = inr (inr (inl z))
   in_new k (inl (at, inr (inr (inl z)))) = inl (inr (inl z))

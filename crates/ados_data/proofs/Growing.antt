@@ -2,11 +2,11 @@
 use Rattle.std.proofs.Common.{◌≡◌, ◌≢◌, ℕ, zero, suc, ◌-◌, ◌*◌, ◌/◌, ◌%◌, ◌<◌, ◌≤◌, ◌⊎◌, inl, inr, List, [], ◌∷◌, ◌++◌, length, slice_index, sym, ap, ◌∙◌, subst, arith}
 use Rattle.std.proofs.lemmas.Bool.{cases_lt}
 use Rattle.std.proofs.lemmas.List.{length_push}
-use Rattle.adf_block.specs.Layout.{first_pointer, size_long, next_extension}
-use Rattle.adf_block.specs.declared.Format.{Format}
-use Rattle.adf_block.specs.declared.Format.TheVariants.{Ofs}
-use Rattle.adf_block.specs.Image.{byte_at, long, block_sum, block_count, has_free_bit, IsInside, IsSize}
-use Rattle.adf_block.specs.Whole.{free_bit_count}
+use Rattle.adf_block.specs.declared.layout.TheConstants.{FIRST_POINTER, FILE_SIZE, NEXT_EXTENSION}
+use Rattle.adf_block.specs.declared.layout.Format.{Format}
+use Rattle.adf_block.specs.declared.layout.Format.TheVariants.{Ofs}
+use Rattle.adf_block.specs.Image.{byte_at, long, block_sum, block_count, has_free_bit, IsInside}
+use Rattle.adf_block.specs.Whole.{IsSize, free_bit_count}
 use Rattle.adf_block.proofs.Frames.{same_long, same_count}
 use Rattle.ados_map.specs.Pages.{HasBit}
 use Rattle.ados_data.specs.steps.Edits.{AtField, AtFields, AtExtensionFields, AtDataFields}
@@ -21,47 +21,44 @@ use Rattle.ados_data.proofs.Standing.{Standing, format_kept, map_stays, use_stay
 
 module _ (old new : List ℕ) (format : Format) (file : ℕ) (blocks extensions : List ℕ) (size e : ℕ) (s : Standing old format file blocks extensions size) (x : IsExtended old file (slice_index (file ∷ extensions) (length extensions)) e new)
     (inside : IsInside (block_count old) e) (used : IsInUse old e) (beside_headers : (q : ℕ) → q ≤ length extensions → slice_index (file ∷ extensions) q ≢ e) (beside_data : (i : ℕ) → i < length blocks → slice_index blocks i ≢ e) where
-  extended : ℕ → ℕ → Type 0
-  extended c k = AtExtensionFields e c k ⊎ AtField (slice_index (file ∷ extensions) (length extensions)) next_extension c k
-
-  pub extended_owner : (c k : ℕ) → (AtExtensionFields e c k ⊎ AtField (slice_index (file ∷ extensions) (length extensions)) next_extension c k) → IsInUse old c × IsInside (block_count old) c
+  pub extended_owner : (c k : ℕ) → (AtExtensionFields e c k ⊎ AtField (slice_index (file ∷ extensions) (length extensions)) NEXT_EXTENSION c k) → IsInUse old c × IsInside (block_count old) c
   extended_owner c k (inl at) = (subst (IsInUse old) (sym at.0) used, subst (IsInside (block_count old)) (sym at.0) inside)
   extended_owner c k (inr at) = (subst (IsInUse old) (sym at.0) (s.headers_used (length extensions) (omega arith)), subst (IsInside (block_count old)) (sym at.0) (s.places.headers_inside (length extensions) (omega arith)))
 
   -- a block other than these two
-  extended_beside : (c k : ℕ) → c ≢ e → c ≢ slice_index (file ∷ extensions) (length extensions) → ¬ (AtExtensionFields e c k ⊎ AtField (slice_index (file ∷ extensions) (length extensions)) next_extension c k)
+  extended_beside : (c k : ℕ) → c ≢ e → c ≢ slice_index (file ∷ extensions) (length extensions) → ¬ (AtExtensionFields e c k ⊎ AtField (slice_index (file ∷ extensions) (length extensions)) NEXT_EXTENSION c k)
   extended_beside c k a b (inl at) = a at.0
   extended_beside c k a b (inr at) = b at.0
 
   -- a long other than the link
-  extended_other : (c k j : ℕ) → k / 4 ≡ j → c ≢ e → j ≢ next_extension → j ≢ 5 → ¬ (AtExtensionFields e c k ⊎ AtField (slice_index (file ∷ extensions) (length extensions)) next_extension c k)
+  extended_other : (c k j : ℕ) → k / 4 ≡ j → c ≢ e → j ≢ NEXT_EXTENSION → j ≢ 5 → ¬ (AtExtensionFields e c k ⊎ AtField (slice_index (file ∷ extensions) (length extensions)) NEXT_EXTENSION c k)
   extended_other c k j m a b d (inl at) = a at.0
   extended_other c k j m a b d (inr (at, inl z)) = b (sym m ∙ z)
   extended_other c k j m a b d (inr (at, inr z)) = d (sym m ∙ z)
 
-  other_long : (c j : ℕ) → j < 128 → c ≢ e → j ≢ next_extension → j ≢ 5 → long new c j ≡ long old c j
-  other_long c j l a b d = same_long (λ c k. AtExtensionFields e c k ⊎ AtField (slice_index (file ∷ extensions) (length extensions)) next_extension c k) old new x.rest c j l (λ k m. extended_other c k j m a b d)
+  other_long : (c j : ℕ) → j < 128 → c ≢ e → j ≢ NEXT_EXTENSION → j ≢ 5 → long new c j ≡ long old c j
+  other_long c j l a b d = same_long (λ c k. AtExtensionFields e c k ⊎ AtField (slice_index (file ∷ extensions) (length extensions)) NEXT_EXTENSION c k) old new x.rest c j l (λ k m. extended_other c k j m a b d)
 
   same_blocks : block_count new ≡ block_count old
-  same_blocks = same_count (λ c k. AtExtensionFields e c k ⊎ AtField (slice_index (file ∷ extensions) (length extensions)) next_extension c k) old new x.rest
+  same_blocks = same_count (λ c k. AtExtensionFields e c k ⊎ AtField (slice_index (file ∷ extensions) (length extensions)) NEXT_EXTENSION c k) old new x.rest
 
   still_in_use : (c : ℕ) → IsInside (block_count old) c → IsInUse old c → IsInUse new c
-  still_in_use = use_stays (λ c k. AtExtensionFields e c k ⊎ AtField (slice_index (file ∷ extensions) (length extensions)) next_extension c k) old new x.rest s.size_ok extended_owner
+  still_in_use = use_stays (λ c k. AtExtensionFields e c k ⊎ AtField (slice_index (file ∷ extensions) (length extensions)) NEXT_EXTENSION c k) old new x.rest s.size_ok extended_owner
 
   pub stands_extended : length blocks ≡ 72 * suc (length extensions) → Standing new format file blocks (extensions ++ e ∷ []) size
   stands_extended full = record {
-    format_is = format_kept (λ c k. AtExtensionFields e c k ⊎ AtField (slice_index (file ∷ extensions) (length extensions)) next_extension c k) old new x.rest s.size_ok extended_owner ∙ s.format_is;
+    format_is = format_kept (λ c k. AtExtensionFields e c k ⊎ AtField (slice_index (file ∷ extensions) (length extensions)) NEXT_EXTENSION c k) old new x.rest s.size_ok extended_owner ∙ s.format_is;
     size_ok = subst IsSize (sym same_blocks) s.size_ok;
     skeleton = skeleton_extended old new format file blocks extensions size s.skeleton e full
         (λ q l. untouched_holder old new (slice_index (file ∷ extensions) q) (λ k m. x.rest.same_byte (slice_index (file ∷ extensions) q) k m (extended_beside (slice_index (file ∷ extensions) q) k (beside_headers q (omega arith)) (s.places.headers_once q (length extensions) l (omega arith)))))
         (λ j l a b. other_long (slice_index (file ∷ extensions) (length extensions)) j l (beside_headers (length extensions) (omega arith)) a b)
         x.link x.sum
-        (other_long file size_long (omega arith) (beside_headers 0 (omega arith)) (omega arith) (omega arith))
+        (other_long file FILE_SIZE (omega arith) (beside_headers 0 (omega arith)) (omega arith) (omega arith))
         (other_long file 4 (omega arith) (beside_headers 0 (omega arith)) (omega arith) (omega arith))
         (λ f i l. untouched_data old new (slice_index blocks i) (λ k m. x.rest.same_byte (slice_index blocks i) k m (extended_beside (slice_index blocks i) k (beside_data i l) (λ z. s.places.apart (length extensions) i (omega arith) l (sym z)))))
         x.fields x.no_pointers x.no_next;
     places = subst (λ (n : ℕ). AreApart n file blocks (extensions ++ e ∷ [])) (sym same_blocks) (apart_extended (block_count old) file blocks extensions s.places e inside beside_headers beside_data);
-    map = map_stays (λ c k. AtExtensionFields e c k ⊎ AtField (slice_index (file ∷ extensions) (length extensions)) next_extension c k) old new x.rest s.size_ok extended_owner s.map;
+    map = map_stays (λ c k. AtExtensionFields e c k ⊎ AtField (slice_index (file ∷ extensions) (length extensions)) NEXT_EXTENSION c k) old new x.rest s.size_ok extended_owner s.map;
     headers_used = λ q l. elim (cases_lt q (suc (length extensions))) [
       | inl m ↦ subst (IsInUse new) (sym (head_pushed_before file extensions e q (omega arith))) (still_in_use (slice_index (file ∷ extensions) q) (s.places.headers_inside q (omega arith)) (s.headers_used q (omega arith)))
       | inr m ↦ subst (IsInUse new) (sym (head_pushed_last file extensions e q (omega (arith, length_push extensions e)))) (still_in_use e inside used)
@@ -75,17 +72,17 @@ module _ (old new : List ℕ) (format : Format) (file : ℕ) (blocks extensions 
 
   -- the marks are unchanged
   pub extended_marks : (c : ℕ) → HasBit old c → has_free_bit new c ≡ has_free_bit old c
-  extended_marks = marks_stay (λ c k. AtExtensionFields e c k ⊎ AtField (slice_index (file ∷ extensions) (length extensions)) next_extension c k) old new x.rest s.size_ok extended_owner
+  extended_marks = marks_stay (λ c k. AtExtensionFields e c k ⊎ AtField (slice_index (file ∷ extensions) (length extensions)) NEXT_EXTENSION c k) old new x.rest s.size_ok extended_owner
 
   pub extended_count : free_bit_count new ≡ free_bit_count old
-  extended_count = count_stays (λ c k. AtExtensionFields e c k ⊎ AtField (slice_index (file ∷ extensions) (length extensions)) next_extension c k) old new x.rest s.size_ok extended_owner
+  extended_count = count_stays (λ c k. AtExtensionFields e c k ⊎ AtField (slice_index (file ∷ extensions) (length extensions)) NEXT_EXTENSION c k) old new x.rest s.size_ok extended_owner
 
 -- ---- a data block
 
 module _ (old new : List ℕ) (format : Format) (file : ℕ) (blocks extensions : List ℕ) (size b : ℕ) (s : Standing old format file blocks extensions size) (x : IsLengthened old format file (slice_index (file ∷ extensions) (length extensions)) (slice_index blocks (length blocks - 1)) (length blocks) b new)
     (inside : IsInside (block_count old) b) (used : IsInUse old b) (beside_headers : (q : ℕ) → q ≤ length extensions → slice_index (file ∷ extensions) q ≢ b) (beside_data : (i : ℕ) → i < length blocks → slice_index blocks i ≢ b) where
   abbrev pub Lengthened : ℕ → ℕ → Type 0
-  Lengthened c k = AtDataFields format b c k ⊎ (AtLink format (length blocks) (slice_index blocks (length blocks - 1)) c k ⊎ (AtFields (slice_index (file ∷ extensions) (length extensions)) (first_pointer - length blocks % 72) 2 c k ⊎ AtField file 4 c k))
+  Lengthened c k = AtDataFields format b c k ⊎ (AtLink format (length blocks) (slice_index blocks (length blocks - 1)) c k ⊎ (AtFields (slice_index (file ∷ extensions) (length extensions)) (FIRST_POINTER - length blocks % 72) 2 c k ⊎ AtField file 4 c k))
 
   pub lengthened_owner : (c k : ℕ) → Lengthened c k → IsInUse old c × IsInside (block_count old) c
   lengthened_owner c k (inl at) = (subst (IsInUse old) (sym at.1) used, subst (IsInside (block_count old)) (sym at.1) inside)
@@ -101,7 +98,7 @@ module _ (old new : List ℕ) (format : Format) (file : ℕ) (blocks extensions 
   other_extension q k l m (inr (inr (inr at))) = s.places.headers_once 0 q l (omega arith) (sym at.0)
 
   -- an unchanged long of a pointer block
-  kept_long : (q k j : ℕ) → k / 4 ≡ j → q ≤ length extensions → (q ≡ length extensions → (j ≢ 2) × (j ≢ first_pointer - length blocks % 72)) → j ≢ 4 → j ≢ 5 → ¬ Lengthened (slice_index (file ∷ extensions) q) k
+  kept_long : (q k j : ℕ) → k / 4 ≡ j → q ≤ length extensions → (q ≡ length extensions → (j ≢ 2) × (j ≢ FIRST_POINTER - length blocks % 72)) → j ≢ 4 → j ≢ 5 → ¬ Lengthened (slice_index (file ∷ extensions) q) k
   kept_long q k j m l a d e (inl at) = beside_headers q l at.1
   kept_long q k j m l a d e (inr (inl at)) = s.places.apart q (length blocks - 1) l (omega (arith, at.1)) at.2.0
   kept_long q k j m l a d e (inr (inr (inl (at, z)))) = elim (cases_lt q (length extensions)) [
@@ -114,7 +111,7 @@ module _ (old new : List ℕ) (format : Format) (file : ℕ) (blocks extensions 
   kept_long q k j m l a d e (inr (inr (inr (at, inl z)))) = d (sym m ∙ z)
   kept_long q k j m l a d e (inr (inr (inr (at, inr z)))) = e (sym m ∙ z)
 
-  header_long : (q j : ℕ) → j < 128 → q ≤ length extensions → (q ≡ length extensions → (j ≢ 2) × (j ≢ first_pointer - length blocks % 72)) → j ≢ 4 → j ≢ 5 → long new (slice_index (file ∷ extensions) q) j ≡ long old (slice_index (file ∷ extensions) q) j
+  header_long : (q j : ℕ) → j < 128 → q ≤ length extensions → (q ≡ length extensions → (j ≢ 2) × (j ≢ FIRST_POINTER - length blocks % 72)) → j ≢ 4 → j ≢ 5 → long new (slice_index (file ∷ extensions) q) j ≡ long old (slice_index (file ∷ extensions) q) j
   header_long q j l m a d e = same_long Lengthened old new x.rest (slice_index (file ∷ extensions) q) j l (λ k r. kept_long q k j r m a d e)
 
   -- a data block other than the last one
@@ -156,7 +153,7 @@ module _ (old new : List ℕ) (format : Format) (file : ℕ) (blocks extensions 
         keeps_holder
         (λ j l a d e f. header_long (length extensions) j l (omega arith) (λ z. (a, d)) e f)
         x.pointer x.counted x.holder_sum
-        (header_long 0 size_long (omega arith) (omega arith) (λ z. (omega arith, omega arith)) (omega arith) (omega arith))
+        (header_long 0 FILE_SIZE (omega arith) (omega arith) (λ z. (omega arith, omega arith)) (omega arith) (omega arith))
         x.new_first x.first
         (λ f i l. untouched_data old new (slice_index blocks i) (λ k m. x.rest.same_byte (slice_index blocks i) k m (other_data i k l)))
         (λ f i l. (

@@ -2,9 +2,10 @@
 use Rattle.std.proofs.Common.{◌≡◌, ℕ, zero, suc, ◌/◌, ◌<◌, ◌≤◌, inl, inr, List, ◌∷◌, length, take, slice_index, refl, sym, ap, ◌∙◌, subst, arith}
 use Rattle.std.proofs.lemmas.Bool.{cases_lt}
 use Rattle.std.proofs.lemmas.List.{length-take, get_or-take, take-take}
-use Rattle.adf_block.specs.declared.Format.{Format}
-use Rattle.adf_block.specs.declared.Format.TheVariants.{Ofs, Ffs}
-use Rattle.adf_block.specs.Image.{byte_at, long, block_count, pointer_count, file_size, format_of}
+use Rattle.adf_block.specs.declared.layout.Format.{Format}
+use Rattle.adf_block.specs.declared.layout.Format.TheVariants.{Ofs, Ffs}
+use Rattle.adf_block.specs.Image.{byte_at, long, block_count}
+use Rattle.adf_block.specs.Fields.{pointer_count, file_size, format_of}
 use Rattle.adf_block.specs.Frame.{SameBut}
 use Rattle.ados_map.specs.Pages.{pages_of, page_block}
 use Rattle.ados_data.specs.Unnamed.{IsPointerField, IsHeaderField, IsExtensionField, data_end, IsBeside, KeepsUnnamed}

@@ -2,9 +2,9 @@
 use Rattle.std.proofs.Common.{◌≡◌, ◌≢◌, ℕ, suc, ◌+◌, ◌-◌, ◌*◌, ◌<◌, ◌≤◌, inl, inr, min, List, [], ◌∷◌, ◌++◌, length, take, slice_index, refl, sym, ap, ◌∙◌, subst, arith}
 use Rattle.std.proofs.lemmas.Bool.{cases_lt, cases_eq}
 use Rattle.std.proofs.lemmas.List.{length_push, length-take-le}
-use Rattle.adf_block.specs.Layout.{secondary_type_long, first_pointer, size_long, parent_long, next_extension}
-use Rattle.adf_block.specs.declared.Format.{Format}
-use Rattle.adf_block.specs.declared.Format.TheVariants.{Ofs}
+use Rattle.adf_block.specs.declared.layout.TheConstants.{SECONDARY_TYPE, FIRST_POINTER, FILE_SIZE, PARENT, NEXT_EXTENSION}
+use Rattle.adf_block.specs.declared.layout.Format.{Format}
+use Rattle.adf_block.specs.declared.layout.Format.TheVariants.{Ofs}
 use Rattle.adf_block.specs.Image.{long, block_sum}
 use Rattle.ados_model.specs.Stands.{HasExtension, HasOfsData}
 use Rattle.ados_data.proofs.Untouched.{Untouched, untouched_long, untouched_sum, extension_kept}
@@ -13,7 +13,7 @@ use Rattle.ados_data.proofs.Skeleton.{IsHolder, IsData, Skeleton}
 
 -- a pointer block keeps its fields: all longs but the first data block, the checksum and the size
 pub record KeepsHolder (old new : List ℕ) (h : ℕ) : Type 0 where
-  pub longs : (j : ℕ) → j < 128 → j ≢ 4 → j ≢ 5 → j ≢ size_long → long new h j ≡ long old h j
+  pub longs : (j : ℕ) → j < 128 → j ≢ 4 → j ≢ 5 → j ≢ FILE_SIZE → long new h j ≡ long old h j
   pub sum : block_sum old h ≡ 0 → block_sum new h ≡ 0
 
 -- a data block keeps its fields
@@ -33,12 +33,12 @@ module _ (old new : List ℕ) (format : Format) (file : ℕ) where
       ((p : ℕ) → p < 72 → 72 * q + p < length blocks' → (72 * q + p < length blocks) × (slice_index blocks' (72 * q + p) ≡ slice_index blocks (72 * q + p))) →
       (0 < q → block_sum old (slice_index (file ∷ extensions) q) ≡ 0) → KeepsHolder old new (slice_index (file ∷ extensions) q) → IsHolder old file blocks extensions q → IsHolder new file blocks' extensions' q
   holder_kept blocks extensions blocks' extensions' q here following same pointed summed k h = record {
-    next = ap (λ (b : ℕ). long new b next_extension) here ∙ k.longs next_extension (omega arith) (omega arith) (omega arith) (omega arith) ∙ h.next ∙ sym following;
+    next = ap (λ (b : ℕ). long new b NEXT_EXTENSION) here ∙ k.longs NEXT_EXTENSION (omega arith) (omega arith) (omega arith) (omega arith) ∙ h.next ∙ sym following;
     count = ap (λ (b : ℕ). long new b 2) here ∙ k.longs 2 (omega arith) (omega arith) (omega arith) (omega arith) ∙ h.count ∙ sym same;
-    pointers = λ p l m. ap (λ (b : ℕ). long new b (first_pointer - p)) here ∙ k.longs (first_pointer - p) (omega arith) (omega arith) (omega arith) (omega arith) ∙ h.pointers p l (pointed p l m).0 ∙ sym (pointed p l m).1;
+    pointers = λ p l m. ap (λ (b : ℕ). long new b (FIRST_POINTER - p)) here ∙ k.longs (FIRST_POINTER - p) (omega arith) (omega arith) (omega arith) (omega arith) ∙ h.pointers p l (pointed p l m).0 ∙ sym (pointed p l m).1;
     extension = λ l. subst (HasExtension new file) (sym here) (extension_kept old new file (slice_index (file ∷ extensions) q)
         (k.longs 0 (omega arith) (omega arith) (omega arith) (omega arith)) (k.longs 1 (omega arith) (omega arith) (omega arith) (omega arith))
-        (k.longs parent_long (omega arith) (omega arith) (omega arith) (omega arith)) (k.longs secondary_type_long (omega arith) (omega arith) (omega arith) (omega arith))
+        (k.longs PARENT (omega arith) (omega arith) (omega arith) (omega arith)) (k.longs SECONDARY_TYPE (omega arith) (omega arith) (omega arith) (omega arith))
         (k.sum (summed l)) (h.extension l));
   }
 
@@ -61,7 +61,7 @@ module _ (old new : List ℕ) (format : Format) (file : ℕ) where
     holder_sum q l m = ((s.holders q l).extension m).sum
 
     -- all fields are unchanged
-    pub skeleton_kept : ((q : ℕ) → q ≤ length extensions → KeepsHolder old new (slice_index (file ∷ extensions) q)) → long new file size_long ≡ long old file size_long → long new file 4 ≡ long old file 4 → (format ≡ Ofs → (i : ℕ) → i < length blocks → KeepsData old new (slice_index blocks i)) → Skeleton new format file blocks extensions size
+    pub skeleton_kept : ((q : ℕ) → q ≤ length extensions → KeepsHolder old new (slice_index (file ∷ extensions) q)) → long new file FILE_SIZE ≡ long old file FILE_SIZE → long new file 4 ≡ long old file 4 → (format ≡ Ofs → (i : ℕ) → i < length blocks → KeepsData old new (slice_index blocks i)) → Skeleton new format file blocks extensions size
     skeleton_kept holders sized first datas = record {
       size_field = sized ∙ s.size_field;
       holders = λ q l. holder_kept blocks extensions blocks extensions q refl refl refl (λ p m n. (n, refl)) (holder_sum q l) (holders q l) (s.holders q l);
@@ -72,11 +72,11 @@ module _ (old new : List ℕ) (format : Format) (file : ℕ) where
     -- one more extension block, without pointers
     pub skeleton_extended : (e : ℕ) → length blocks ≡ 72 * suc (length extensions) →
         ((q : ℕ) → q < length extensions → KeepsHolder old new (slice_index (file ∷ extensions) q)) →
-        ((j : ℕ) → j < 128 → j ≢ next_extension → j ≢ 5 → long new (slice_index (file ∷ extensions) (length extensions)) j ≡ long old (slice_index (file ∷ extensions) (length extensions)) j) →
-        long new (slice_index (file ∷ extensions) (length extensions)) next_extension ≡ e → (block_sum old (slice_index (file ∷ extensions) (length extensions)) ≡ 0 → block_sum new (slice_index (file ∷ extensions) (length extensions)) ≡ 0) →
-        long new file size_long ≡ long old file size_long → long new file 4 ≡ long old file 4 →
+        ((j : ℕ) → j < 128 → j ≢ NEXT_EXTENSION → j ≢ 5 → long new (slice_index (file ∷ extensions) (length extensions)) j ≡ long old (slice_index (file ∷ extensions) (length extensions)) j) →
+        long new (slice_index (file ∷ extensions) (length extensions)) NEXT_EXTENSION ≡ e → (block_sum old (slice_index (file ∷ extensions) (length extensions)) ≡ 0 → block_sum new (slice_index (file ∷ extensions) (length extensions)) ≡ 0) →
+        long new file FILE_SIZE ≡ long old file FILE_SIZE → long new file 4 ≡ long old file 4 →
         (format ≡ Ofs → (i : ℕ) → i < length blocks → KeepsData old new (slice_index blocks i)) →
-        HasExtension new file e → long new e 2 ≡ 0 → long new e next_extension ≡ 0 → Skeleton new format file blocks (extensions ++ e ∷ []) size
+        HasExtension new file e → long new e 2 ≡ 0 → long new e NEXT_EXTENSION ≡ 0 → Skeleton new format file blocks (extensions ++ e ∷ []) size
     skeleton_extended e full before others link sum sized first datas fields count next = record {
       size_field = sized ∙ s.size_field;
       holders = λ q l. elim (cases_lt q (length extensions)) [
@@ -107,17 +107,17 @@ module _ (old new : List ℕ) (format : Format) (file : ℕ) where
 
         last_holder : IsHolder new file blocks (extensions ++ e ∷ []) (length extensions)
         last_holder = record {
-          next = ap (λ (b : ℕ). long new b next_extension) here ∙ link ∙ sym (pushed_last extensions e (length extensions) refl);
+          next = ap (λ (b : ℕ). long new b NEXT_EXTENSION) here ∙ link ∙ sym (pushed_last extensions e (length extensions) refl);
           count = ap (λ (b : ℕ). long new b 2) here ∙ others 2 (omega arith) (omega arith) (omega arith) ∙ old_holder.count;
-          pointers = λ p l m. ap (λ (b : ℕ). long new b (first_pointer - p)) here ∙ others (first_pointer - p) (omega arith) (omega arith) (omega arith) ∙ old_holder.pointers p l m;
+          pointers = λ p l m. ap (λ (b : ℕ). long new b (FIRST_POINTER - p)) here ∙ others (FIRST_POINTER - p) (omega arith) (omega arith) (omega arith) ∙ old_holder.pointers p l m;
           extension = λ l. subst (HasExtension new file) (sym here) (extension_kept old new file (slice_index (file ∷ extensions) (length extensions))
-              (others 0 (omega arith) (omega arith) (omega arith)) (others 1 (omega arith) (omega arith) (omega arith)) (others parent_long (omega arith) (omega arith) (omega arith)) (others secondary_type_long (omega arith) (omega arith) (omega arith))
+              (others 0 (omega arith) (omega arith) (omega arith)) (others 1 (omega arith) (omega arith) (omega arith)) (others PARENT (omega arith) (omega arith) (omega arith)) (others SECONDARY_TYPE (omega arith) (omega arith) (omega arith))
               (sum (old_holder.extension l).sum) (old_holder.extension l));
         }
 
         new_holder : IsHolder new file blocks (extensions ++ e ∷ []) (suc (length extensions))
         new_holder = record {
-          next = ap (λ (b : ℕ). long new b next_extension) there ∙ next ∙ sym (pushed_past extensions e (suc (length extensions)) (omega arith));
+          next = ap (λ (b : ℕ). long new b NEXT_EXTENSION) there ∙ next ∙ sym (pushed_past extensions e (suc (length extensions)) (omega arith));
           count = ap (λ (b : ℕ). long new b 2) there ∙ count ∙ omega (arith, full);
           pointers = λ p l m. absurd (omega (arith, full, m));
           extension = λ l. subst (HasExtension new file) (sym there) fields;
@@ -126,9 +126,9 @@ module _ (old new : List ℕ) (format : Format) (file : ℕ) where
     -- one more data block, without data; its pointer is pointer p of the last pointer block
     pub skeleton_longer : (b p : ℕ) → length blocks ≡ 72 * length extensions + p → p < 72 →
         ((q : ℕ) → q < length extensions → KeepsHolder old new (slice_index (file ∷ extensions) q)) →
-        ((j : ℕ) → j < 128 → j ≢ 2 → j ≢ first_pointer - p → j ≢ 4 → j ≢ 5 → long new (slice_index (file ∷ extensions) (length extensions)) j ≡ long old (slice_index (file ∷ extensions) (length extensions)) j) →
-        long new (slice_index (file ∷ extensions) (length extensions)) (first_pointer - p) ≡ b → long new (slice_index (file ∷ extensions) (length extensions)) 2 ≡ p + 1 → (block_sum old (slice_index (file ∷ extensions) (length extensions)) ≡ 0 → block_sum new (slice_index (file ∷ extensions) (length extensions)) ≡ 0) →
-        long new file size_long ≡ long old file size_long → (length blocks ≡ 0 → long new file 4 ≡ b) → (0 < length blocks → long new file 4 ≡ long old file 4) →
+        ((j : ℕ) → j < 128 → j ≢ 2 → j ≢ FIRST_POINTER - p → j ≢ 4 → j ≢ 5 → long new (slice_index (file ∷ extensions) (length extensions)) j ≡ long old (slice_index (file ∷ extensions) (length extensions)) j) →
+        long new (slice_index (file ∷ extensions) (length extensions)) (FIRST_POINTER - p) ≡ b → long new (slice_index (file ∷ extensions) (length extensions)) 2 ≡ p + 1 → (block_sum old (slice_index (file ∷ extensions) (length extensions)) ≡ 0 → block_sum new (slice_index (file ∷ extensions) (length extensions)) ≡ 0) →
+        long new file FILE_SIZE ≡ long old file FILE_SIZE → (length blocks ≡ 0 → long new file 4 ≡ b) → (0 < length blocks → long new file 4 ≡ long old file 4) →
         (format ≡ Ofs → (i : ℕ) → suc i < length blocks → KeepsData old new (slice_index blocks i)) →
         (format ≡ Ofs → (i : ℕ) → suc i ≡ length blocks → ((j : ℕ) → j < 4 → long new (slice_index blocks i) j ≡ long old (slice_index blocks i) j) × (long new (slice_index blocks i) 4 ≡ b) × (block_sum old (slice_index blocks i) ≡ 0 → block_sum new (slice_index blocks i) ≡ 0)) →
         (format ≡ Ofs → HasOfsData new file size (length blocks) b × (long new b 4 ≡ 0)) → Skeleton new format file (blocks ++ b ∷ []) extensions size
@@ -163,15 +163,15 @@ module _ (old new : List ℕ) (format : Format) (file : ℕ) where
 
         last_holder : IsHolder new file (blocks ++ b ∷ []) extensions (length extensions)
         last_holder = record {
-          next = others next_extension (omega arith) (omega arith) (omega arith) (omega arith) (omega arith) ∙ old_holder.next;
+          next = others NEXT_EXTENSION (omega arith) (omega arith) (omega arith) (omega arith) (omega arith) ∙ old_holder.next;
           count = count ∙ omega (arith, placed, small, length_push blocks b);
           pointers = λ r l m. elim (cases_eq r p) [
-            | inl e ↦ ap (λ (n : ℕ). long new (slice_index (file ∷ extensions) (length extensions)) (first_pointer - n)) e ∙ pointer ∙ sym (pushed_last blocks b (72 * length extensions + r) (omega (arith, placed, e)))
-            | inr n ↦ others (first_pointer - r) (omega arith) (omega arith) (omega (arith, n, l, small)) (omega arith) (omega arith) ∙ old_holder.pointers r l (omega (arith, n, m, placed, length_push blocks b)) ∙ sym (pushed_before blocks b (72 * length extensions + r) (omega (arith, n, m, placed, length_push blocks b)))
+            | inl e ↦ ap (λ (n : ℕ). long new (slice_index (file ∷ extensions) (length extensions)) (FIRST_POINTER - n)) e ∙ pointer ∙ sym (pushed_last blocks b (72 * length extensions + r) (omega (arith, placed, e)))
+            | inr n ↦ others (FIRST_POINTER - r) (omega arith) (omega arith) (omega (arith, n, l, small)) (omega arith) (omega arith) ∙ old_holder.pointers r l (omega (arith, n, m, placed, length_push blocks b)) ∙ sym (pushed_before blocks b (72 * length extensions + r) (omega (arith, n, m, placed, length_push blocks b)))
           ];
           extension = λ l. extension_kept old new file (slice_index (file ∷ extensions) (length extensions))
               (others 0 (omega arith) (omega arith) (omega arith) (omega arith) (omega arith)) (others 1 (omega arith) (omega arith) (omega arith) (omega arith) (omega arith))
-              (others parent_long (omega arith) (omega arith) (omega arith) (omega arith) (omega arith)) (others secondary_type_long (omega arith) (omega arith) (omega arith) (omega arith) (omega arith))
+              (others PARENT (omega arith) (omega arith) (omega arith) (omega arith) (omega arith)) (others SECONDARY_TYPE (omega arith) (omega arith) (omega arith) (omega arith) (omega arith))
               (sum (old_holder.extension l).sum) (old_holder.extension l);
         }
 
@@ -202,9 +202,9 @@ module _ (old new : List ℕ) (format : Format) (file : ℕ) where
     -- another size, with at most as many blocks
     pub skeleton_resized : (d x size' : ℕ) → d ≤ length blocks → x ≤ length extensions → 72 * x ≤ d → (0 < x → 72 * x < d) → d ≤ 72 * suc x → (format ≡ Ofs → 488 * d ≤ size' + 487) → (format ≡ Ofs → 488 * (d - 1) ≤ size) →
         ((q : ℕ) → q < x → KeepsHolder old new (slice_index (file ∷ extensions) q)) →
-        ((j : ℕ) → j < 128 → j ≢ 2 → j ≢ next_extension → j ≢ 4 → j ≢ 5 → j ≢ size_long → long new (slice_index (file ∷ extensions) x) j ≡ long old (slice_index (file ∷ extensions) x) j) →
-        long new (slice_index (file ∷ extensions) x) 2 ≡ d - 72 * x → long new (slice_index (file ∷ extensions) x) next_extension ≡ 0 → (block_sum old (slice_index (file ∷ extensions) x) ≡ 0 → block_sum new (slice_index (file ∷ extensions) x) ≡ 0) →
-        long new file size_long ≡ size' → (d ≡ 0 → long new file 4 ≡ 0) → (0 < d → long new file 4 ≡ long old file 4) →
+        ((j : ℕ) → j < 128 → j ≢ 2 → j ≢ NEXT_EXTENSION → j ≢ 4 → j ≢ 5 → j ≢ FILE_SIZE → long new (slice_index (file ∷ extensions) x) j ≡ long old (slice_index (file ∷ extensions) x) j) →
+        long new (slice_index (file ∷ extensions) x) 2 ≡ d - 72 * x → long new (slice_index (file ∷ extensions) x) NEXT_EXTENSION ≡ 0 → (block_sum old (slice_index (file ∷ extensions) x) ≡ 0 → block_sum new (slice_index (file ∷ extensions) x) ≡ 0) →
+        long new file FILE_SIZE ≡ size' → (d ≡ 0 → long new file 4 ≡ 0) → (0 < d → long new file 4 ≡ long old file 4) →
         (format ≡ Ofs → (i : ℕ) → suc i < d → KeepsData old new (slice_index blocks i)) →
         (format ≡ Ofs → (i : ℕ) → suc i ≡ d → ((j : ℕ) → j < 3 → long new (slice_index blocks i) j ≡ long old (slice_index blocks i) j) × (long new (slice_index blocks i) 3 ≡ min 488 (size' - 488 * i)) × (long new (slice_index blocks i) 4 ≡ 0) × (block_sum old (slice_index blocks i) ≡ 0 → block_sum new (slice_index blocks i) ≡ 0)) →
         Skeleton new format file (take d blocks) (take x extensions) size'
@@ -242,14 +242,14 @@ module _ (old new : List ℕ) (format : Format) (file : ℕ) where
 
         last_holder : IsHolder new file (take d blocks) (take x extensions) x
         last_holder = record {
-          next = ap (λ (b : ℕ). long new b next_extension) here ∙ next ∙ sym (taken_past extensions x x fewer (omega arith));
+          next = ap (λ (b : ℕ). long new b NEXT_EXTENSION) here ∙ next ∙ sym (taken_past extensions x x fewer (omega arith));
           count = ap (λ (b : ℕ). long new b 2) here ∙ count ∙ omega (arith, dl, room);
           pointers = λ p l m.
-              ap (λ (b : ℕ). long new b (first_pointer - p)) here ∙ others (first_pointer - p) (omega arith) (omega arith) (omega arith) (omega arith) (omega arith) (omega arith)
+              ap (λ (b : ℕ). long new b (FIRST_POINTER - p)) here ∙ others (FIRST_POINTER - p) (omega arith) (omega arith) (omega arith) (omega arith) (omega arith) (omega arith)
               ∙ old_holder.pointers p l (omega (arith, m, dl, few)) ∙ sym (taken_before blocks d (72 * x + p) (omega (arith, m, dl)));
           extension = λ l. subst (HasExtension new file) (sym here) (extension_kept old new file (slice_index (file ∷ extensions) x)
               (others 0 (omega arith) (omega arith) (omega arith) (omega arith) (omega arith) (omega arith)) (others 1 (omega arith) (omega arith) (omega arith) (omega arith) (omega arith) (omega arith))
-              (others parent_long (omega arith) (omega arith) (omega arith) (omega arith) (omega arith) (omega arith)) (others secondary_type_long (omega arith) (omega arith) (omega arith) (omega arith) (omega arith) (omega arith))
+              (others PARENT (omega arith) (omega arith) (omega arith) (omega arith) (omega arith) (omega arith)) (others SECONDARY_TYPE (omega arith) (omega arith) (omega arith) (omega arith) (omega arith) (omega arith))
               (sum (old_holder.extension l).sum) (old_holder.extension l));
         }
 

@@ -2,9 +2,10 @@
 use Rattle.std.proofs.Common.{◌≡◌, ◌≢◌, ℕ, suc, ◌-◌, ◌/◌, ◌<◌, ◌≤◌, ◌⊎◌, inl, inr, true, false, List, [], ◌∷◌, ◌++◌, length, take, slice_index, refl, sym, ap, ◌∙◌, subst, arith}
 use Rattle.std.proofs.lemmas.Bool.{cases_Bool, cases_lt, cases_eq, cases_order, false≢true}
 use Rattle.std.proofs.lemmas.List.{length_push}
-use Rattle.adf_block.specs.Layout.{next_extension}
-use Rattle.adf_block.specs.declared.Format.{Format}
-use Rattle.adf_block.specs.Image.{block_sum, block_count, root_key, has_free_bit, IsInside, IsSize}
+use Rattle.adf_block.specs.declared.layout.TheConstants.{NEXT_EXTENSION}
+use Rattle.adf_block.specs.declared.layout.Format.{Format}
+use Rattle.adf_block.specs.Image.{block_sum, block_count, root_key, has_free_bit, IsInside}
+use Rattle.adf_block.specs.Whole.{IsSize}
 use Rattle.adf_block.specs.Frame.{SameBut}
 use Rattle.adf_block.proofs.Frames.{same_sum}
 use Rattle.ados_map.specs.Pages.{pages_of, page_block, page_of, HasBit}
@@ -14,14 +15,14 @@ use Rattle.ados_data.specs.Changing.{IsInUse, LawfulMap}
 use Rattle.ados_data.specs.steps.Blocks.{IsNewBlock, IsExtended, IsLengthened, IsResized}
 use Rattle.ados_data.proofs.Lists.{head_pushed_before, head_pushed_last, pushed_before, pushed_last}
 use Rattle.ados_data.proofs.Untouched.{untouched_sum}
-use Rattle.ados_data.proofs.Marks.{has_bit, page_kept}
-use Rattle.ados_data.proofs.Untouched.{untouched_sum}
+use Rattle.ados_data.proofs.Marks.{page_kept}
 use Rattle.std.proofs.lemmas.Bool.{true_from_ne_false}
 use Rattle.ados_data.specs.Others.{IsOther, IsDataField, Leaves, IsOwn, Gains, RisesBehind, WasFree}
 use Rattle.ados_data.proofs.Grown.{front_length, front_at, front_header}
 use Rattle.ados_data.proofs.Growing.{extended_owner, Lengthened, lengthened_owner}
 use Rattle.ados_data.proofs.Resizing.{Resized, resized_owner}
 use Rattle.ados_data.proofs.Standing.{Standing, root_free, pages_free, marks_stay, beside_new}
+use Rattle.ados_map.proofs.MarkLemmas.{bit_of_inside}
 
 -- nothing changes
 pub leaves_same : (image : List ℕ) (file : ℕ) (blocks extensions : List ℕ) → Leaves image file blocks extensions image
@@ -74,7 +75,7 @@ leaves_owned changed old new file blocks extensions h ok owner beside field summ
   same_length = h.same_length;
   pages = page_kept changed old new h ok.1 (root_free changed old new h ok owner);
   others = λ c k l o. h.same_byte c k l (beside c k o);
-  used = λ c i o. marks_stay changed old new h ok owner c (has_bit old c i) ∙ o.used i.0;
+  used = λ c i o. marks_stay changed old new h ok owner c (bit_of_inside old c i) ∙ o.used i.0;
   past_end = λ j b l. marks_stay changed old new h ok owner j b;
   header = λ k l n. h.same_byte file k l (λ at. n (field k at));
   header_sum = summed;
@@ -87,7 +88,7 @@ leaves_taken old b new file blocks extensions n ok m header_used = record {
   same_length = n.rest.same_length;
   pages = page_kept (λ c k. MapPlace old b c k ⊎ (c ≡ b)) old new n.rest ok.1 root_untaken;
   others = λ c k l o. n.rest.same_byte c k l (no c k o);
-  used = λ c i o. n.others c (has_bit old c i) (another c o) ∙ o.used i.0;
+  used = λ c i o. n.others c (bit_of_inside old c i) (another c o) ∙ o.used i.0;
   past_end = λ j h l. n.others j h (λ e. omega (arith, e, l, n.lowest.inside.1));
   header = λ k l f. n.rest.same_byte file k l (no_header k);
   header_sum = λ e. untouched_sum old new file (λ k l. n.rest.same_byte file k l (no_header k)) ∙ e;
@@ -207,25 +208,25 @@ module _ (old new : List ℕ) (format : Format) (file : ℕ) (blocks extensions 
     (inside : IsInside (block_count old) e) (used : IsInUse old e) (beside_headers : (q : ℕ) → q ≤ length extensions → slice_index (file ∷ extensions) q ≢ e) (beside_data : (i : ℕ) → i < length blocks → slice_index blocks i ≢ e) where
   pub leaves_extended : Leaves old file blocks (extensions ++ e ∷ []) new
   leaves_extended =
-      leaves_owned (λ c k. AtExtensionFields e c k ⊎ AtField (slice_index (file ∷ extensions) (length extensions)) next_extension c k) old new file blocks (extensions ++ e ∷ []) x.rest s.size_ok
+      leaves_owned (λ c k. AtExtensionFields e c k ⊎ AtField (slice_index (file ∷ extensions) (length extensions)) NEXT_EXTENSION c k) old new file blocks (extensions ++ e ∷ []) x.rest s.size_ok
       (extended_owner old new format file blocks extensions size e s x inside used beside_headers beside_data) beside field summed
     where
-      beside : (c k : ℕ) → IsOther old file blocks (extensions ++ e ∷ []) c → ¬ (AtExtensionFields e c k ⊎ AtField (slice_index (file ∷ extensions) (length extensions)) next_extension c k)
+      beside : (c k : ℕ) → IsOther old file blocks (extensions ++ e ∷ []) c → ¬ (AtExtensionFields e c k ⊎ AtField (slice_index (file ∷ extensions) (length extensions)) NEXT_EXTENSION c k)
       beside c k o (inl at) = o.beside_headers (suc (length extensions)) (omega (arith, length_push extensions e)) (at.0 ∙ sym (head_pushed_last file extensions e (suc (length extensions)) refl))
       beside c k o (inr at) = o.beside_headers (length extensions) (omega (arith, length_push extensions e)) (at.0 ∙ sym (head_pushed_before file extensions e (length extensions) (omega arith)))
 
-      field : (k : ℕ) → (AtExtensionFields e file k ⊎ AtField (slice_index (file ∷ extensions) (length extensions)) next_extension file k) → IsDataField (k / 4)
+      field : (k : ℕ) → (AtExtensionFields e file k ⊎ AtField (slice_index (file ∷ extensions) (length extensions)) NEXT_EXTENSION file k) → IsDataField (k / 4)
       field k (inl at) = absurd (beside_headers 0 (omega arith) at.0)
       field k (inr (at, inl z)) = inr (inr (inr (inr (inr z))))
       field k (inr (at, inr z)) = inr (inr (inl z))
 
       summed : block_sum old file ≡ 0 → block_sum new file ≡ 0
       summed z = elim (cases_lt 0 (length extensions)) [
-        | inl l ↦ same_sum (λ c k. AtExtensionFields e c k ⊎ AtField (slice_index (file ∷ extensions) (length extensions)) next_extension c k) old new x.rest file (λ k m. other k l) ∙ z
+        | inl l ↦ same_sum (λ c k. AtExtensionFields e c k ⊎ AtField (slice_index (file ∷ extensions) (length extensions)) NEXT_EXTENSION c k) old new x.rest file (λ k m. other k l) ∙ z
         | inr l ↦ let here : length extensions ≡ 0 = omega arith in ap (λ (n : ℕ). block_sum new (slice_index (file ∷ extensions) n)) (sym here) ∙ x.sum (ap (λ (n : ℕ). block_sum old (slice_index (file ∷ extensions) n)) here ∙ z)
       ]
         where
-          other : (k : ℕ) → 0 < length extensions → ¬ (AtExtensionFields e file k ⊎ AtField (slice_index (file ∷ extensions) (length extensions)) next_extension file k)
+          other : (k : ℕ) → 0 < length extensions → ¬ (AtExtensionFields e file k ⊎ AtField (slice_index (file ∷ extensions) (length extensions)) NEXT_EXTENSION file k)
           other k l (inl at) = beside_headers 0 (omega arith) at.0
           other k l (inr at) = s.places.headers_once 0 (length extensions) l (omega arith) at.0
 
@@ -278,14 +279,14 @@ pub gains_taken : (old : List ℕ) (b : ℕ) (new : List ℕ) (file : ℕ) (bloc
 gains_taken old b new file blocks extensions blocks' extensions' n headers datas own one one' = record {
   headers = λ q l. elim (headers q l) [ inl s ↦ inl s | inr e ↦ inr (omega (arith, e, n.lowest.inside.0), ap (has_free_bit old) e ∙ n.lowest.free) ];
   data_blocks_of = λ i l. elim (datas i l) [ inl s ↦ inl s | inr e ↦ inr (omega (arith, e, n.lowest.inside.0), ap (has_free_bit old) e ∙ n.lowest.free) ];
-  marks = λ c i u. n.others c (has_bit old c i) (λ e. false≢true (sym u ∙ ap (has_free_bit old) e ∙ n.lowest.free)) ∙ u;
+  marks = λ c i u. n.others c (bit_of_inside old c i) (λ e. false≢true (sym u ∙ ap (has_free_bit old) e ∙ n.lowest.free)) ∙ u;
   taken = λ c i f u. elim (cases_eq c b) [
     | inl e ↦ subst (IsOwn file blocks' extensions') (sym e) own
-    | inr ne ↦ absurd (false≢true (sym u ∙ n.others c (has_bit old c i) ne ∙ f))
+    | inr ne ↦ absurd (false≢true (sym u ∙ n.others c (bit_of_inside old c i) ne ∙ f))
   ];
   lowest = λ c d i p l f u. elim (cases_eq d b) [
-    | inl e ↦ n.others c (has_bit old c (p, omega (arith, l, i.1))) (omega (arith, l, e)) ∙ n.lowest.lowest c p (omega (arith, l, e))
-    | inr ne ↦ absurd (false≢true (sym u ∙ n.others d (has_bit old d i) ne ∙ f))
+    | inl e ↦ n.others c (bit_of_inside old c (p, omega (arith, l, i.1))) (omega (arith, l, e)) ∙ n.lowest.lowest c p (omega (arith, l, e))
+    | inr ne ↦ absurd (false≢true (sym u ∙ n.others d (bit_of_inside old d i) ne ∙ f))
   ];
   data_rises = λ i j l m k. absurd (omega (arith, l, m, k, one));
   extensions_rise = λ i j l m k. absurd (omega (arith, l, m, k, one'));
@@ -296,9 +297,9 @@ pub gains_kept : (old new new' : List ℕ) (file : ℕ) (blocks extensions block
 gains_kept old new new' file blocks extensions blocks' extensions' counts same g = record {
   headers = g.headers;
   data_blocks_of = g.data_blocks_of;
-  marks = λ c i u. same c (has_bit new c (i.0, omega (arith, i.1, counts))) ∙ g.marks c i u;
-  taken = λ c i f u. g.taken c i f (sym (same c (has_bit new c (i.0, omega (arith, i.1, counts)))) ∙ u);
-  lowest = λ c d i p l f u. same c (has_bit new c (p, omega (arith, l, i.1, counts))) ∙ g.lowest c d i p l f (sym (same d (has_bit new d (i.0, omega (arith, i.1, counts)))) ∙ u);
+  marks = λ c i u. same c (bit_of_inside new c (i.0, omega (arith, i.1, counts))) ∙ g.marks c i u;
+  taken = λ c i f u. g.taken c i f (sym (same c (bit_of_inside new c (i.0, omega (arith, i.1, counts)))) ∙ u);
+  lowest = λ c d i p l f u. same c (bit_of_inside new c (p, omega (arith, l, i.1, counts))) ∙ g.lowest c d i p l f (sym (same d (bit_of_inside new d (i.0, omega (arith, i.1, counts)))) ∙ u);
   data_rises = g.data_rises;
   extensions_rise = g.extensions_rise;
 }

@@ -1,20 +1,20 @@
 -- A file made longer within its last data block.
 use Rattle.std.proofs.Common.{◌≡◌, ◌≢◌, ℕ, ◌+◌, ◌-◌, ◌*◌, ◌/◌, ◌%◌, ◌<◌, ◌≤◌, inl, inr, List, ◌∷◌, ◌++◌, length, take, slice_index, refl, sym, ap, ap₂, ◌∙◌, subst, arith}
 use Rattle.std.proofs.lemmas.Bool.{cases_lt}
-use Rattle.adf_block.specs.Layout.{size_long}
-use Rattle.adf_block.specs.declared.Format.{Format}
-use Rattle.adf_block.specs.declared.Format.TheVariants.{Ofs}
-use Rattle.adf_block.specs.Image.{byte_at, bytes_at, long, block_count, IsSize, format_of}
-use Rattle.adf_block.specs.Whole.{free_bit_count}
+use Rattle.adf_block.specs.declared.layout.TheConstants.{FILE_SIZE}
+use Rattle.adf_block.specs.declared.layout.Format.{Format}
+use Rattle.adf_block.specs.declared.layout.Format.TheVariants.{Ofs}
+use Rattle.adf_block.specs.Image.{byte_at, bytes_at, long, block_count}
+use Rattle.adf_block.specs.Whole.{IsSize, free_bit_count}
+use Rattle.adf_block.specs.Fields.{format_of}
 use Rattle.adf_block.proofs.Blocks.{byte-bytes_at}
 use Rattle.ados_model.specs.Tree.{data_count, data_size, data_start}
-use Rattle.ados_model.specs.Stands.{file_byte}
+use Rattle.ados_model.specs.File.{file_byte, data_blocks, extension_blocks, contents}
 use Rattle.ados_data.specs.steps.Blocks.{IsResized}
 use Rattle.ados_data.proofs.Standing.{Standing, standing_of, writable_of, writable_file}
 use Rattle.std.proofs.lemmas.List.{take_all, length-append, get_or_append_left, get_or-append_right}
 use Rattle.std.proofs.Math.Nat.{mod-lt}
 use Rattle.ados_data.specs.declared.grow.End.{End}
-use Rattle.ados_model.specs.File.{data_blocks, extension_blocks, contents}
 use Rattle.ados_data.specs.Changing.{WritableFile}
 use Rattle.ados_data.specs.steps.FileEnd.{IsEnd, IsLonger}
 use Rattle.ados_data.proofs.Sizes.{few_bytes, whole_block, in_block, behind_start, filled_size, filled_place, in_count, more_blocks}
@@ -154,7 +154,7 @@ module _ (i0 i1 : List ℕ) (format : Format) (file : ℕ) (end : End) (part : �
 
 -- the same with the numbers of a call
 module _ (i0 i1 : List ℕ) (format : Format) (file : ℕ) (end : End) (part size room : ℕ) (w : WritableFile i0 file) (ok : IsSize (block_count i0)) (f : format ≡ format_of i0) (e : IsEnd i0 file end)
-    (room_is : room ≡ data_size format) (size_is : size ≡ long i0 file size_long) (started : size % room ≢ 0) (fits : part ≤ room - size % room)
+    (room_is : room ≡ data_size format) (size_is : size ≡ long i0 file FILE_SIZE) (started : size % room ≢ 0) (fits : part ≤ room - size % room)
     (y : IsResized i0 format file end.holder end.last end.count (size + part) i1) where
   size_here : size ≡ length (contents i0 file)
   size_here = size_is ∙ w.lawful.holds.size

@@ -14,9 +14,6 @@ pushed_last xs y i e = get_or_push xs y 0 i e
 pub pushed_past : (xs : List ℕ) (y i : ℕ) → length xs < i → slice_index (xs ++ y ∷ []) i ≡ 0
 pushed_past xs y i l = get_or_past (xs ++ y ∷ []) i 0 (omega (arith, length_push xs y))
 
-pub past : (xs : List ℕ) (i : ℕ) → length xs ≤ i → slice_index xs i ≡ 0
-past xs i l = get_or_past xs i 0 l
-
 pub head_pushed_before : (file : ℕ) (xs : List ℕ) (y q : ℕ) → q ≤ length xs → slice_index (file ∷ (xs ++ y ∷ [])) q ≡ slice_index (file ∷ xs) q
 head_pushed_before file xs y zero l = refl
 head_pushed_before file xs y (suc q) l = pushed_before xs y q (omega arith)

@@ -1,10 +1,11 @@
 -- A file that gets a data block leaves all other bytes untouched.
 use Rattle.std.proofs.Common.{◌≡◌, ◌≢◌, ℕ, suc, ◌+◌, ◌-◌, ◌*◌, ◌/◌, ◌%◌, ◌<◌, ◌≤◌, ◌⊎◌, inl, inr, List, [], ◌∷◌, ◌++◌, length, slice_index, refl, sym, ap, ◌∙◌, subst, arith}
 use Rattle.std.proofs.lemmas.List.{length_push}
-use Rattle.adf_block.specs.declared.Format.{Format}
-use Rattle.adf_block.specs.declared.Format.TheVariants.{Ofs, Ffs}
-use Rattle.adf_block.specs.Image.{byte_at, long, pointer_count, file_size, format_of}
-use Rattle.adf_block.specs.Layout.{pointer_count_long, first_pointer, size_long, next_extension, next_data}
+use Rattle.adf_block.specs.declared.layout.Format.{Format}
+use Rattle.adf_block.specs.declared.layout.Format.TheVariants.{Ofs}
+use Rattle.adf_block.specs.Image.{byte_at, long}
+use Rattle.adf_block.specs.Fields.{pointer_count, file_size, format_of}
+use Rattle.adf_block.specs.declared.layout.TheConstants.{POINTER_COUNT, FIRST_POINTER, FILE_SIZE, NEXT_EXTENSION, NEXT_DATA}
 use Rattle.adf_block.specs.Frame.{SameBut}
 use Rattle.adf_block.proofs.Frames.{same_long, same_trans, same_weaken}
 use Rattle.ados_map.specs.Pages.{pages_of, page_of}
@@ -15,26 +16,22 @@ use Rattle.ados_data.specs.Unnamed.{IsPointerField, IsHeaderField, data_end, IsB
 use Rattle.ados_data.proofs.Lists.{pushed_before, pushed_last}
 use Rattle.ados_data.proofs.Standing.{Standing, untaken, header_beside_new, data_beside_new}
 use Rattle.ados_data.proofs.Grown.{more_pointers, more_header}
-
--- the end of an OFS data block's bytes is after its header
-behind_header : (format : Format) (size i k : ℕ) → format ≡ Ofs → data_end format size i ≤ k → 24 ≤ k
-behind_header Ofs size i k e l = omega arith
-behind_header Ffs size i k e l = cc
+use Rattle.ados_data.proofs.CutKeeping.{behind_fields}
 
 module _ (i1 i2 i3 i4 : List ℕ) (format : Format) (file : ℕ) (blocks extensions : List ℕ) (size b size' : ℕ) (s : Standing i1 format file blocks extensions size) (n : IsNewBlock i1 b i2)
     (x : IsLengthened i2 format file (slice_index (file ∷ extensions) (length extensions)) (slice_index blocks (length blocks - 1)) (length blocks) b i3) (y : IsResized i3 format file (slice_index (file ∷ extensions) (length extensions)) b (length blocks + 1) size' i4)
     (least : 72 * length extensions ≤ length blocks) (room : length blocks < 72 * suc (length extensions)) where
   abbrev Set : ℕ → ℕ → Type 0
-  Set c k = (AtDataFields format b c k ⊎ (AtLink format (length blocks) (slice_index blocks (length blocks - 1)) c k ⊎ (AtFields (slice_index (file ∷ extensions) (length extensions)) (first_pointer - length blocks % 72) 2 c k ⊎ AtField file 4 c k)))
-      ⊎ (AtEnd format (length blocks + 1) b c k ⊎ (AtFields (slice_index (file ∷ extensions) (length extensions)) pointer_count_long next_extension c k ⊎ AtFields file next_data size_long c k))
+  Set c k = (AtDataFields format b c k ⊎ (AtLink format (length blocks) (slice_index blocks (length blocks - 1)) c k ⊎ (AtFields (slice_index (file ∷ extensions) (length extensions)) (FIRST_POINTER - length blocks % 72) 2 c k ⊎ AtField file 4 c k)))
+      ⊎ (AtEnd format (length blocks + 1) b c k ⊎ (AtFields (slice_index (file ∷ extensions) (length extensions)) POINTER_COUNT NEXT_EXTENSION c k ⊎ AtFields file NEXT_DATA FILE_SIZE c k))
 
   abbrev Changed : ℕ → ℕ → Type 0
   Changed c k = (MapPlace i1 b c k ⊎ (c ≡ b)) ⊎ Set c k
 
   set_rest : SameBut Set i2 i4
   set_rest =
-      same_trans Set i2 i3 i4 (same_weaken (λ c k. AtDataFields format b c k ⊎ (AtLink format (length blocks) (slice_index blocks (length blocks - 1)) c k ⊎ (AtFields (slice_index (file ∷ extensions) (length extensions)) (first_pointer - length blocks % 72) 2 c k ⊎ AtField file 4 c k))) Set i2 i3 (λ c k at. inl at) x.rest)
-      (same_weaken (λ c k. AtEnd format (length blocks + 1) b c k ⊎ (AtFields (slice_index (file ∷ extensions) (length extensions)) pointer_count_long next_extension c k ⊎ AtFields file next_data size_long c k)) Set i3 i4 (λ c k at. inr at) y.rest)
+      same_trans Set i2 i3 i4 (same_weaken (λ c k. AtDataFields format b c k ⊎ (AtLink format (length blocks) (slice_index blocks (length blocks - 1)) c k ⊎ (AtFields (slice_index (file ∷ extensions) (length extensions)) (FIRST_POINTER - length blocks % 72) 2 c k ⊎ AtField file 4 c k))) Set i2 i3 (λ c k at. inl at) x.rest)
+      (same_weaken (λ c k. AtEnd format (length blocks + 1) b c k ⊎ (AtFields (slice_index (file ∷ extensions) (length extensions)) POINTER_COUNT NEXT_EXTENSION c k ⊎ AtFields file NEXT_DATA FILE_SIZE c k)) Set i3 i4 (λ c k at. inr at) y.rest)
 
   rest : SameBut Changed i1 i4
   rest = same_trans Changed i1 i2 i4 (same_weaken (λ c k. MapPlace i1 b c k ⊎ (c ≡ b)) Changed i1 i2 (λ c k at. inl at) n.rest) (same_weaken Set Changed i2 i4 (λ c k at. inr at) set_rest)
@@ -49,7 +46,7 @@ module _ (i1 i2 i3 i4 : List ℕ) (format : Format) (file : ℕ) (blocks extensi
   beside_data = data_beside_new i1 b i2 n s.size_ok s.map format file blocks extensions size s
 
   -- the changes in a pointer block, without those in the header only
-  in_header : (q k : ℕ) → q ≤ length extensions → Changed (slice_index (file ∷ extensions) q) k → IsPointerField (pointer_count i4 (slice_index (file ∷ extensions) q)) (k / 4) ⊎ ((slice_index (file ∷ extensions) q ≡ file) × ((k / 4 ≡ 4) ⊎ (k / 4 ≡ size_long)))
+  in_header : (q k : ℕ) → q ≤ length extensions → Changed (slice_index (file ∷ extensions) q) k → IsPointerField (pointer_count i4 (slice_index (file ∷ extensions) q)) (k / 4) ⊎ ((slice_index (file ∷ extensions) q ≡ file) × ((k / 4 ≡ 4) ⊎ (k / 4 ≡ FILE_SIZE)))
   in_header q k l (inl at) = absurd (untaken i1 b i2 n s.size_ok s.map (slice_index (file ∷ extensions) q) k (s.headers_used q l) at)
   in_header q k l (inr (inl (inl at))) = absurd (beside_header q l at.1)
   in_header q k l (inr (inl (inr (inl at)))) = absurd (s.places.apart q (length blocks - 1) l (omega (arith, at.1)) at.2.0)
@@ -111,7 +108,7 @@ module _ (i1 i2 i3 i4 : List ℕ) (format : Format) (file : ℕ) (blocks extensi
   extension_field q k l at = elim (in_header (suc q) k (omega arith) at) [ inl z ↦ z | inr z ↦ absurd (s.places.headers_once 0 (suc q) (omega arith) (omega arith) (sym z.0)) ]
 
   end_behind : (i k d : ℕ) → data_end (format_of i1) d i ≤ k → ¬ ((format ≡ Ofs) × (k < 24))
-  end_behind i k d l at = omega (arith, at.1, behind_header (format_of i1) d i k (s.format_is ∙ at.0) l)
+  end_behind i k d l at = omega (arith, at.1, behind_fields (format_of i1) d i k (s.format_is ∙ at.0) l)
 
   first_untaken : long i2 file 4 ≡ long i1 file 4
   first_untaken = same_long (λ c k. MapPlace i1 b c k ⊎ (c ≡ b)) i1 i2 n.rest file 4 (omega arith) (λ k z. untaken i1 b i2 n s.size_ok s.map file k (s.headers_used 0 (omega arith)))
@@ -127,7 +124,7 @@ module _ (i1 i2 i3 i4 : List ℕ) (format : Format) (file : ℕ) (blocks extensi
     new_extension = λ q k l m r f. absurd (omega (arith, l, m));
     new_data = λ i k l m r d.
         let here : slice_index (blocks ++ b ∷ []) i ≡ b = pushed_last blocks b i (omega (arith, l, m, length_push blocks b)) in
-        ap (λ (c : ℕ). byte_at i4 c k) here ∙ set_rest.same_byte b k r (λ at. end_behind i k (long i4 file size_long) d (in_new k at)) ∙ n.empty k r;
+        ap (λ (c : ℕ). byte_at i4 c k) here ∙ set_rest.same_byte b k r (λ at. end_behind i k (long i4 file FILE_SIZE) d (in_new k at)) ∙ n.empty k r;
     first_taken = λ z l. y.first (omega arith) ∙ x.new_first z ∙ sym (pushed_last blocks b 0 z);
     first_given = λ l z. absurd (omega (arith, z, length_push blocks b));
     first_kept = λ e. elim e [

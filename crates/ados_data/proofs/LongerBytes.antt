@@ -2,21 +2,13 @@
 use Rattle.std.proofs.Common.{◌≡◌, ℕ, ◌+◌, ◌-◌, ◌*◌, ◌<◌, ◌≤◌, ◌++◌, inl, inr, List, length, min, replicate, take, slice_index, refl, sym, ap, ◌∙◌, arith}
 use Rattle.std.proofs.lemmas.Bool.{cases_lt}
 use Rattle.std.proofs.lemmas.List.{ext_get_or, get_or_append_left, get_or-append_right, get_or-take, get_or-replicate, length-append, length-replicate, take-append-le, take_all}
-use Rattle.adf_block.specs.declared.Format.{Format}
+use Rattle.adf_block.specs.declared.layout.Format.{Format}
 use Rattle.ados_model.specs.Tree.{data_count, data_size}
-use Rattle.ados_model.specs.Change.{overlaid}
+use Rattle.ados_model.specs.Edits.{overlaid}
 use Rattle.ados_data.specs.steps.FileEnd.{IsLonger}
 use Rattle.ados_data.proofs.Overlaid.{overlaid_before, overlaid_within, overlaid_behind, length-overlaid}
-use Rattle.ados_data.proofs.Sizes.{within_blocks}
 
 -- no more bytes
-pub longer_same : (format : Format) (xs : List ℕ) (size : ℕ) → length xs ≡ size → IsLonger format xs size xs
-longer_same format xs size e = record {
-  front = take_all (length xs) xs (omega arith);
-  count = e;
-  zeros = λ k l m. absurd (omega (arith, l, within_blocks format k (length xs) (omega (arith, m, e))));
-}
-
 -- more bytes within the last block
 pub longer_filled : (format : Format) (xs ys zs : List ℕ) (size : ℕ) → zs ≡ xs ++ ys → length zs ≡ size → size ≤ data_size format * data_count format (length xs) → IsLonger format xs size zs
 longer_filled format xs ys zs size e n within = record {

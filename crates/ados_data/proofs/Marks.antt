@@ -5,10 +5,7 @@ use Rattle.adf_block.specs.Frame.{SameBut}
 use Rattle.adf_block.proofs.Frames.{same_long, same_count}
 use Rattle.ados_map.specs.Pages.{LawfulPages, pages_of, page_block, HasBit}
 use Rattle.ados_data.specs.Changing.{IsInUse, LawfulMap}
-
--- a block inside the volume has a bit
-pub has_bit : (image : List ℕ) (c : ℕ) → IsInside (block_count image) c → HasBit image c
-has_bit image c h = (h.0, omega arith)
+use Rattle.ados_map.proofs.MarkLemmas.{bit_of_inside}
 
 module _ (changed : ℕ → ℕ → Type 0) (old new : List ℕ) (h : SameBut changed old new) (small : block_count old ≤ 101602) (root_free : (k : ℕ) → ¬ changed (root_key (block_count old)) k) where
   count : block_count new ≡ block_count old
@@ -53,7 +50,7 @@ module _ (changed : ℕ → ℕ → Type 0) (old new : List ℕ) (h : SameBut ch
     pub map_kept : 16 ≤ block_count old → LawfulMap old → LawfulMap new
     map_kept many m = record {
       pages = lawful_pages_kept m.pages;
-      root_marked = ap (λ (n : ℕ). has_free_bit new (root_key n)) count ∙ mark_kept (root_key (block_count old)) (has_bit old (root_key (block_count old)) (omega arith, omega arith)) ∙ m.root_marked;
+      root_marked = ap (λ (n : ℕ). has_free_bit new (root_key n)) count ∙ mark_kept (root_key (block_count old)) (bit_of_inside old (root_key (block_count old)) (omega arith, omega arith)) ∙ m.root_marked;
       pages_marked = λ p l. let a : p < pages_of old = omega (arith, pages_kept, l) in
-          ap (has_free_bit new) (page_kept p a) ∙ mark_kept (page_block old p) (has_bit old (page_block old p) (m.pages.inside p a)) ∙ m.pages_marked p a;
+          ap (has_free_bit new) (page_kept p a) ∙ mark_kept (page_block old p) (bit_of_inside old (page_block old p) (m.pages.inside p a)) ∙ m.pages_marked p a;
     }

@@ -2,7 +2,7 @@
 use Rattle.std.proofs.Common.{◌≡◌, ℕ, ◌+◌, ◌-◌, ◌<◌, ◌≤◌, ◌++◌, inl, inr, List, length, replicate, take, drop, slice_index, refl, sym, ap, ◌∙◌, arith}
 use Rattle.std.proofs.lemmas.Bool.{cases_lt}
 use Rattle.std.proofs.lemmas.List.{ext_get_or, get_or_append_left, get_or-append_right, get_or-take, get_or-drop, length-take, length-drop, length-append, length-replicate, get_or-replicate}
-use Rattle.ados_model.specs.Change.{overlaid}
+use Rattle.ados_model.specs.Edits.{overlaid}
 
 module _ (xs : List ℕ) (pos : ℕ) (ys : List ℕ) (room : pos ≤ length xs) where
   front : length (take pos xs) ≡ pos

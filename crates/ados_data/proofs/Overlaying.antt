@@ -1,18 +1,19 @@
 -- One step of a walk that overwrites a file.
 use Rattle.std.proofs.Common.{◌≡◌, ◌≢◌, ℕ, ◌+◌, ◌-◌, ◌*◌, ◌/◌, ◌%◌, ◌^◌, ◌<◌, ◌≤◌, min, List, length, take, drop, slice_index, ◌∷◌, sym, ap, ◌∙◌, subst, arith}
 use Rattle.std.proofs.lemmas.List.{length-take, length-drop}
-use Rattle.adf_block.specs.Layout.{first_pointer, size_long, next_extension}
-use Rattle.adf_block.specs.declared.Format.{Format}
-use Rattle.adf_block.specs.declared.Format.TheVariants.{Ofs}
-use Rattle.adf_block.specs.Image.{byte_at, long, block_sum, block_count, IsSize, format_of}
-use Rattle.adf_block.specs.Whole.{IsImage}
+use Rattle.adf_block.specs.declared.layout.TheConstants.{FIRST_POINTER, FILE_SIZE, NEXT_EXTENSION}
+use Rattle.adf_block.specs.declared.layout.Format.{Format}
+use Rattle.adf_block.specs.declared.layout.Format.TheVariants.{Ofs}
+use Rattle.adf_block.specs.Image.{byte_at, long, block_sum, block_count}
+use Rattle.adf_block.specs.Whole.{IsSize, IsImage}
+use Rattle.adf_block.specs.Fields.{format_of}
 use Rattle.adf_block.specs.Frame.{SameBut}
 use Rattle.adf_block.proofs.Longs.{long-below}
 use Rattle.adf_block.proofs.Frames.{same_count}
 use Rattle.ados_model.specs.Tree.{data_size, data_start}
 use Rattle.ados_data.specs.steps.Edits.{AtData}
 use Rattle.ados_model.specs.File.{LawfulFile, contents, data_blocks, extension_blocks, pointer_block}
-use Rattle.ados_model.specs.Change.{overlaid}
+use Rattle.ados_model.specs.Edits.{overlaid}
 use Rattle.ados_data.specs.Changing.{WritableFile}
 use Rattle.ados_data.proofs.Sizes.{few_bytes, part_bounds}
 use Rattle.ados_data.proofs.Places.{data_is, header_is, byte_within, holder_of, readable}
@@ -25,7 +26,7 @@ use Rattle.ados_data.proofs.Composing.{keeps_calls, whole_front}
 
 -- a file's size is below 2^32
 pub size_below : (image : List ℕ) (file : ℕ) → LawfulFile image file → IsImage image → length (contents image file) < 2 ^ 32
-size_below image file s i = omega (arith, s.holds.size, long-below image file size_long i)
+size_below image file s i = omega (arith, s.holds.size, long-below image file FILE_SIZE i)
 
 module _ (init i0 : List ℕ) (format : Format) (file pos : ℕ) (all : List ℕ) (done part room holder : ℕ) (w : WritableFile i0 file) (ok : IsSize (block_count i0)) (f : format_of i0 ≡ format) (room_is : room ≡ data_size format)
     (fits : pos + length all ≤ length (contents init file)) (test : done < length all) (written : contents i0 file ≡ overlaid (contents init file) pos (take done all)) (part_is : part ≡ min (room - (pos + done) % room) (length all - done))
@@ -51,7 +52,7 @@ module _ (init i0 : List ℕ) (format : Format) (file pos : ℕ) (all : List ℕ
   pub holder_is_inside : holder < block_count i0
   holder_is_inside = holder_inside i0 file (readable i0 file w.lawful) room room_here (pos + done) holder at_within holder_is
 
-  module _ (block : ℕ) (b : block ≡ long i0 holder (first_pointer - (pos + done) / room % 72)) where
+  module _ (block : ℕ) (b : block ≡ long i0 holder (FIRST_POINTER - (pos + done) / room % 72)) where
     pub block_is_inside : block < block_count i0
     block_is_inside = block_inside i0 file (readable i0 file w.lawful) room room_here (pos + done) holder block at_within holder_is b
 
@@ -120,7 +121,7 @@ module _ (init i0 : List ℕ) (format : Format) (file pos : ℕ) (all : List ℕ
       next_place : pos + done + part ≡ pos + (done + part)
       next_place = omega arith
 
-      pub holder_next : (next : ℕ) → (pos + done + part) % (72 * room) ≡ 0 → next ≡ long i1 holder next_extension → next ≡ pointer_block i1 file ((pos + (done + part)) / room / 72)
+      pub holder_next : (next : ℕ) → (pos + done + part) % (72 * room) ≡ 0 → next ≡ long i1 holder NEXT_EXTENSION → next ≡ pointer_block i1 file ((pos + (done + part)) / room / 72)
       holder_next next z n =
           on_to_next i1 file (readable i1 file turn.writable.lawful) room room_new (pos + done) part holder next bounds.0 bounds.1 z holder_new n ∙ ap (λ (k : ℕ). pointer_block i1 file (k / room / 72)) next_place
 

@@ -1,8 +1,8 @@
 -- The place of a call in a file.
 use Rattle.std.proofs.Common.{◌≡◌, ℕ, List, ◌∷◌, length, take, slice_index, sym, ap, ◌∙◌, arith}
 use Rattle.std.proofs.lemmas.List.{length-take}
-use Rattle.adf_block.specs.declared.Format.{Format}
-use Rattle.adf_block.specs.Image.{file_size, format_of}
+use Rattle.adf_block.specs.declared.layout.Format.{Format}
+use Rattle.adf_block.specs.Fields.{file_size, format_of}
 use Rattle.ados_data.specs.declared.place.Place.{Place}
 use Rattle.ados_model.specs.Tree.{data_count, extension_count}
 use Rattle.ados_model.specs.File.{contents, data_blocks, extension_blocks, pointer_block}

@@ -1,10 +1,9 @@
 -- The blocks and bytes of a file, as its size and pointers name them.
 use Rattle.std.proofs.Common.{◌≡◌, ℕ, zero, suc, ◌+◌, ◌/◌, ◌<◌, ◌≤◌, List, ◌∷◌, length, slice_index, refl, sym, ap, ◌∙◌, arith}
 use Rattle.std.proofs.lemmas.List.FromFn.{length-map-range_with_len, get_or-map-range_with_len}
-use Rattle.adf_block.specs.Image.{file_size, format_of}
+use Rattle.adf_block.specs.Fields.{file_size, format_of}
 use Rattle.ados_model.specs.Tree.{data_size, data_count, extension_count}
-use Rattle.ados_model.specs.File.{LawfulFile, ReadableFile, pointer_block, data_block, data_blocks, extension_blocks, contents}
-use Rattle.ados_model.specs.Stands.{file_byte}
+use Rattle.ados_model.specs.File.{LawfulFile, ReadableFile, pointer_block, data_block, data_blocks, extension_blocks, contents, file_byte}
 use Rattle.ados_data.proofs.Sizes.{in_count}
 
 module _ (image : List ℕ) (file : ℕ) where

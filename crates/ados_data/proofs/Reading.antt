@@ -3,19 +3,14 @@ use Rattle.std.proofs.Common.{◌≡◌, ℕ, ◌+◌, ◌-◌, ◌*◌, ◌/◌
 use Rattle.std.proofs.lemmas.List.{ext_get_or, get_or-take, get_or-drop, length-take, length-drop, take_at, drop_at, drop-drop, drop-take, take-take, append_assoc}
 use Rattle.std.proofs.Math.Seq.{take-add}
 use borrow.Rule.Slice.PartMut.{put_mid}
-use Rattle.adf_block.specs.declared.Format.{Format}
-use Rattle.adf_block.specs.Image.{byte_at, bytes_at, block_count, format_of}
+use Rattle.adf_block.specs.declared.layout.Format.{Format}
+use Rattle.adf_block.specs.Image.{byte_at, bytes_at, block_count}
+use Rattle.adf_block.specs.Fields.{format_of}
 use Rattle.ados_model.specs.Tree.{data_size, data_start}
 use Rattle.ados_model.specs.File.{data_block, contents}
 use Rattle.ados_data.proofs.Sizes.{same_block, whole_block}
 use Rattle.ados_data.proofs.Places.{data_is, byte_is, byte_within}
-
--- byte k of some bytes of a block
-pub bytes_at-at : (image : List ℕ) (b i n k : ℕ) → k < n → slice_index (bytes_at image b i n) k ≡ byte_at image b (i + k)
-unfolding bytes_at byte_at
-bytes_at-at image b i n k l =
-    let place : 512 * b + i + k ≡ 512 * b + (i + k) = omega arith in
-    get_or-take n (drop (512 * b + i) image) k 0 l ∙ get_or-drop (512 * b + i) image k 0 ∙ ap (slice_index image) place
+use Rattle.adf_block.proofs.Blocks.{byte-bytes_at}
 
 pub length-bytes_at : (image : List ℕ) (b i n : ℕ) → b < block_count image → i + n ≤ 512 → length (bytes_at image b i n) ≡ n
 unfolding bytes_at
@@ -42,7 +37,7 @@ module _ (image : List ℕ) (file : ℕ) where
       let small : j < part = omega (arith, l, left) in
       let same = same_block (format_of image) at j (omega (arith, small, fits, remainder)) in
       get_or-take part (drop from xs) j 0 small ∙ get_or-drop from xs j 0
-      ∙ bytes_at-at image (data_block image file i) H D (from + j) (omega (arith, small, fits))
+      ∙ byte-bytes_at image (data_block image file i) H D (from + j) (omega (arith, small, fits))
       ∙ ap₂ (λ (b k : ℕ). byte_at image (data_block image file b) k) (sym quotient ∙ sym same.0) (omega (arith, same.1, remainder))
       ∙ sym (contents-at (at + j) (omega (arith, small, within)))
       ∙ sym (get_or-take part (drop at (contents image file)) j 0 small ∙ get_or-drop at (contents image file) j 0))

@@ -2,11 +2,11 @@
 use Rattle.std.proofs.Common.{◌≡◌, ◌≢◌, ℕ, zero, suc, ◌+◌, ◌-◌, ◌*◌, ◌/◌, ◌<◌, ◌≤◌, ◌⊎◌, inl, inr, List, ◌∷◌, length, take, slice_index, refl, sym, ap, ◌∙◌, subst, arith}
 use Rattle.std.proofs.lemmas.Bool.{cases_lt}
 use Rattle.std.proofs.lemmas.List.{length-take-le}
-use Rattle.adf_block.specs.Layout.{pointer_count_long, size_long, next_extension, next_data}
-use Rattle.adf_block.specs.declared.Format.{Format}
-use Rattle.adf_block.specs.declared.Format.TheVariants.{Ofs}
-use Rattle.adf_block.specs.Image.{byte_at, long, block_sum, block_count, has_free_bit, IsInside, IsSize}
-use Rattle.adf_block.specs.Whole.{free_bit_count}
+use Rattle.adf_block.specs.declared.layout.TheConstants.{POINTER_COUNT, FILE_SIZE, NEXT_EXTENSION, NEXT_DATA}
+use Rattle.adf_block.specs.declared.layout.Format.{Format}
+use Rattle.adf_block.specs.declared.layout.Format.TheVariants.{Ofs}
+use Rattle.adf_block.specs.Image.{byte_at, long, block_sum, block_count, has_free_bit, IsInside}
+use Rattle.adf_block.specs.Whole.{IsSize, free_bit_count}
 use Rattle.adf_block.proofs.Frames.{same_long, same_count}
 use Rattle.ados_map.specs.Pages.{pages_of, page_block, HasBit}
 use Rattle.ados_model.specs.Tree.{extension_count}
@@ -22,7 +22,7 @@ use Rattle.ados_data.proofs.Standing.{Standing, format_kept, map_stays, use_stay
 module _ (old new : List ℕ) (format : Format) (file : ℕ) (blocks extensions : List ℕ) (size d e size' : ℕ) (s : Standing old format file blocks extensions size)
     (x : IsResized old format file (slice_index (file ∷ extensions) e) (slice_index blocks (d - 1)) d size' new) (few : d ≤ length blocks) (fewer : e ≤ length extensions) where
   abbrev pub Resized : ℕ → ℕ → Type 0
-  Resized c k = AtEnd format d (slice_index blocks (d - 1)) c k ⊎ (AtFields (slice_index (file ∷ extensions) e) pointer_count_long next_extension c k ⊎ AtFields file next_data size_long c k)
+  Resized c k = AtEnd format d (slice_index blocks (d - 1)) c k ⊎ (AtFields (slice_index (file ∷ extensions) e) POINTER_COUNT NEXT_EXTENSION c k ⊎ AtFields file NEXT_DATA FILE_SIZE c k)
 
   pub resized_owner : (c k : ℕ) → Resized c k → IsInUse old c × IsInside (block_count old) c
   resized_owner c k (inl at) = (subst (IsInUse old) (sym at.2.0) (s.data_used (d - 1) (omega (arith, at.1))), subst (IsInside (block_count old)) (sym at.2.0) (s.places.data_inside (d - 1) (omega (arith, at.1))))
@@ -45,7 +45,7 @@ module _ (old new : List ℕ) (format : Format) (file : ℕ) (blocks extensions 
   later_long q j l m n = same_long Resized old new x.rest (slice_index (file ∷ extensions) q) j l (λ k r. later_extension q k m n)
 
   -- an unchanged long of a pointer block
-  other_long : (q k j : ℕ) → k / 4 ≡ j → q ≤ e → (q ≡ e → (j ≢ 2) × (j ≢ next_extension)) → j ≢ 4 → j ≢ 5 → j ≢ size_long → ¬ Resized (slice_index (file ∷ extensions) q) k
+  other_long : (q k j : ℕ) → k / 4 ≡ j → q ≤ e → (q ≡ e → (j ≢ 2) × (j ≢ NEXT_EXTENSION)) → j ≢ 4 → j ≢ 5 → j ≢ FILE_SIZE → ¬ Resized (slice_index (file ∷ extensions) q) k
   other_long q k j m l a f g h (inl at) = s.places.apart q (d - 1) (omega arith) (omega (arith, at.1)) at.2.0
   other_long q k j m l a f g h (inr (inl (at, z))) = elim (cases_lt q e) [
     | inl r ↦ s.places.headers_once q e r fewer at
@@ -58,7 +58,7 @@ module _ (old new : List ℕ) (format : Format) (file : ℕ) (blocks extensions 
   other_long q k j m l a f g h (inr (inr (at, inr (inl z)))) = h (sym m ∙ z)
   other_long q k j m l a f g h (inr (inr (at, inr (inr z)))) = g (sym m ∙ z)
 
-  pub header_long : (q j : ℕ) → j < 128 → q ≤ e → (q ≡ e → (j ≢ 2) × (j ≢ next_extension)) → j ≢ 4 → j ≢ 5 → j ≢ size_long → long new (slice_index (file ∷ extensions) q) j ≡ long old (slice_index (file ∷ extensions) q) j
+  pub header_long : (q j : ℕ) → j < 128 → q ≤ e → (q ≡ e → (j ≢ 2) × (j ≢ NEXT_EXTENSION)) → j ≢ 4 → j ≢ 5 → j ≢ FILE_SIZE → long new (slice_index (file ∷ extensions) q) j ≡ long old (slice_index (file ∷ extensions) q) j
   header_long q j l m a f g h = same_long Resized old new x.rest (slice_index (file ∷ extensions) q) j l (λ k r. other_long q k j r m a f g h)
 
   -- a data block other than the last one, or any in FFS

@@ -1,8 +1,8 @@
 -- Numbers of blocks and bytes.
 use Rattle.std.proofs.Common.{◌≡◌, ◌≢◌, ℕ, ◌+◌, ◌-◌, ◌*◌, ◌/◌, ◌%◌, ◌<◌, ◌≤◌, min, arith}
 use Rattle.std.proofs.Math.Nat.{mod-lt}
-use Rattle.adf_block.specs.declared.Format.{Format}
-use Rattle.adf_block.specs.declared.Format.TheVariants.{Ofs, Ffs}
+use Rattle.adf_block.specs.declared.layout.Format.{Format}
+use Rattle.adf_block.specs.declared.layout.Format.TheVariants.{Ofs, Ffs}
 use Rattle.ados_model.specs.Tree.{block_cost, data_size, data_start, data_count, extension_count}
 
 -- the bytes after byte `at` in its data block
@@ -106,11 +106,6 @@ some_blocks Ffs a l = omega arith
 pub ofs_count : (format : Format) (d size : ℕ) → d ≡ data_count format size → format ≡ Ofs → (d ≡ (size + 487) / 488) × (488 * (d - 1) ≤ size)
 ofs_count Ofs d size e t = (omega arith, omega arith)
 ofs_count Ffs d size e t = cc
-
--- bytes within the blocks of a file
-pub within_blocks : (format : Format) (k size : ℕ) → k < size → k < data_size format * data_count format size
-within_blocks Ofs k size l = omega arith
-within_blocks Ffs k size l = omega arith
 
 -- a size beyond this many blocks needs more
 pub more_blocks : (format : Format) (d size : ℕ) → data_size format * d < size → d < data_count format size

@@ -3,11 +3,12 @@ use Rattle.std.proofs.Common.{◌≡◌, ℕ, zero, suc, ◌+◌, ◌/◌, ◌%�
 use Rattle.std.specs.List.{range_with_len}
 use Rattle.std.proofs.lemmas.List.{ext_get_or}
 use Rattle.std.proofs.lemmas.List.FromFn.{length-map-range_with_len, get_or-map-range_with_len}
-use Rattle.adf_block.specs.Image.{long, pointer, file_size, format_of}
-use Rattle.adf_block.specs.Layout.{next_extension}
+use Rattle.adf_block.specs.Image.{long}
+use Rattle.adf_block.specs.Fields.{pointer, file_size, format_of}
+use Rattle.adf_block.specs.declared.layout.TheConstants.{NEXT_EXTENSION}
 use Rattle.ados_model.specs.Tree.{data_count, extension_count}
-use Rattle.ados_model.specs.Stands.{HasFile, file_byte}
-use Rattle.ados_model.specs.File.{IsLawful, LawfulFile, pointer_block, data_block, data_blocks, extension_blocks, contents}
+use Rattle.ados_model.specs.Stands.{HasFile}
+use Rattle.ados_model.specs.File.{file_byte, IsLawful, LawfulFile, pointer_block, data_block, data_blocks, extension_blocks, contents}
 use Rattle.ados_data.proofs.Chains.{next_of}
 
 -- a list by its elements, as a function of their positions
@@ -20,12 +21,12 @@ listed_is f n xs e h =
 
 module _ (image : List ℕ) (file : ℕ) (blocks extensions bytes : List ℕ) where
   -- each pointer block is followed by the next one, or by 0
-  pub link_of : HasFile image (format_of image) file blocks extensions bytes → (q : ℕ) → q ≤ length extensions → long image (slice_index (file ∷ extensions) q) next_extension ≡ slice_index extensions q
-  link_of h q l = next_of image next_extension file (file ∷ extensions) (refl, h.chain) q (omega arith)
+  pub link_of : HasFile image (format_of image) file blocks extensions bytes → (q : ℕ) → q ≤ length extensions → long image (slice_index (file ∷ extensions) q) NEXT_EXTENSION ≡ slice_index extensions q
+  link_of h q l = next_of image NEXT_EXTENSION file (file ∷ extensions) (refl, h.chain) q (omega arith)
 
   pub pointer_block_is : HasFile image (format_of image) file blocks extensions bytes → (q : ℕ) → q ≤ length extensions → pointer_block image file q ≡ slice_index (file ∷ extensions) q
   pointer_block_is h zero l = refl
-  pointer_block_is h (suc q) l = ap (λ (b : ℕ). long image b next_extension) (pointer_block_is h q (omega arith)) ∙ link_of h q (omega arith)
+  pointer_block_is h (suc q) l = ap (λ (b : ℕ). long image b NEXT_EXTENSION) (pointer_block_is h q (omega arith)) ∙ link_of h q (omega arith)
 
   -- the pointer of each data block is in one of the pointer blocks
   pub holder_within : IsLawful image file blocks extensions bytes → (i : ℕ) → i < length blocks → i / 72 ≤ length extensions

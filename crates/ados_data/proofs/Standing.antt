@@ -1,18 +1,19 @@
 -- A file that can be changed, through the steps of a change.
 use Rattle.std.proofs.Common.{◌≡◌, ◌≢◌, ℕ, ◌<◌, ◌≤◌, ◌⊎◌, inl, inr, false, cond, eqb, List, ◌∷◌, length, slice_index, refl, sym, ap, ◌∙◌, subst, arith}
 use Rattle.std.proofs.lemmas.Bool.{false≢true}
-use Rattle.adf_block.specs.Layout.{size_long}
-use Rattle.adf_block.specs.declared.Format.{Format}
-use Rattle.adf_block.specs.declared.Format.TheVariants.{Ofs, Ffs}
-use Rattle.adf_block.specs.Image.{long, block_count, root_key, has_free_bit, IsInside, IsSize, format_of}
-use Rattle.adf_block.specs.Whole.{free_bit_count}
+use Rattle.adf_block.specs.declared.layout.TheConstants.{FILE_SIZE}
+use Rattle.adf_block.specs.declared.layout.Format.{Format}
+use Rattle.adf_block.specs.declared.layout.Format.TheVariants.{Ofs, Ffs}
+use Rattle.adf_block.specs.Image.{long, block_count, root_key, has_free_bit, IsInside}
+use Rattle.adf_block.specs.Whole.{IsSize, free_bit_count}
+use Rattle.adf_block.specs.Fields.{format_of}
 use Rattle.adf_block.specs.Frame.{SameBut}
 use Rattle.adf_block.proofs.Frames.{same_long, same_count}
 use Rattle.ados_map.specs.Pages.{pages_of, page_block, page_of, HasBit}
 use Rattle.ados_map.specs.Changes.{MapPlace}
 use Rattle.ados_model.specs.Tree.{data_count, extension_count}
-use Rattle.ados_model.specs.Stands.{HasFile, file_byte}
-use Rattle.ados_model.specs.File.{AreApart, extension_blocks, contents}
+use Rattle.ados_model.specs.Stands.{HasFile}
+use Rattle.ados_model.specs.File.{file_byte, AreApart, extension_blocks, contents}
 use Rattle.ados_data.specs.Changing.{IsInUse, LawfulMap, IsWritable}
 use Rattle.ados_data.specs.steps.Blocks.{IsNewBlock}
 use Rattle.ados_data.specs.Changing.{WritableFile}
@@ -21,7 +22,8 @@ use Rattle.ados_data.proofs.Untouched.{Untouched}
 use Rattle.ados_data.proofs.Skeleton.{Skeleton, skeleton_of, file_of}
 use Rattle.ados_data.proofs.GrowthSteps.{untouched_holder, untouched_data, skeleton_kept}
 use Rattle.ados_data.proofs.Counts.{as_many}
-use Rattle.ados_data.proofs.Marks.{has_bit, page_kept, in_use_kept, mark_kept, map_kept}
+use Rattle.ados_data.proofs.Marks.{page_kept, in_use_kept, mark_kept, map_kept}
+use Rattle.ados_map.proofs.MarkLemmas.{bit_of_inside}
 
 -- a file without its bytes; the bitmap is lawful and all blocks of the file are in use
 pub record Standing (image : List ℕ) (format : Format) (file : ℕ) (blocks extensions : List ℕ) (size : ℕ) : Type 0 where
@@ -81,20 +83,17 @@ module _ (changed : ℕ → ℕ → Type 0) (old new : List ℕ) (h : SameBut ch
   marks_stay = mark_kept changed old new h ok.1 root_free pages_free
 
   pub count_stays : free_bit_count new ≡ free_bit_count old
-  count_stays = as_many old new (same_count changed old new h) (λ j inside. marks_stay j (has_bit old j inside))
+  count_stays = as_many old new (same_count changed old new h) (λ j inside. marks_stay j (bit_of_inside old j inside))
 
   pub map_stays : LawfulMap old → LawfulMap new
   map_stays = map_kept changed old new h ok.1 root_free pages_free ok.0
 
   pub use_stays : (c : ℕ) → IsInside (block_count old) c → IsInUse old c → IsInUse new c
-  use_stays c inside u = in_use_kept changed old new h ok.1 root_free c (marks_stay c (has_bit old c inside)) u
+  use_stays c inside u = in_use_kept changed old new h ok.1 root_free c (marks_stay c (bit_of_inside old c inside)) u
 
 -- ---- a new block
 
 module _ (old : List ℕ) (b : ℕ) (new : List ℕ) (n : IsNewBlock old b new) (ok : IsSize (block_count old)) (m : LawfulMap old) where
-  taken : ℕ → ℕ → Type 0
-  taken c k = MapPlace old b c k ⊎ (c ≡ b)
-
   page_within : page_of b < pages_of old
   page_within = omega (arith, n.lowest.inside.0, n.lowest.inside.1)
 
@@ -124,7 +123,7 @@ module _ (old : List ℕ) (b : ℕ) (new : List ℕ) (n : IsNewBlock old b new) 
       no (inr e) = omega (arith, e, n.lowest.inside.0)
 
   pub still_in_use : (c : ℕ) → IsInside (block_count old) c → IsInUse old c → IsInUse new c
-  still_in_use c inside u = in_use_kept (λ c k. MapPlace old b c k ⊎ (c ≡ b)) old new n.rest ok.1 root_untaken c (n.others c (has_bit old c inside) (beside_new c u.marked)) u
+  still_in_use c inside u = in_use_kept (λ c k. MapPlace old b c k ⊎ (c ≡ b)) old new n.rest ok.1 root_untaken c (n.others c (bit_of_inside old c inside) (beside_new c u.marked)) u
 
   pages_same : (p : ℕ) → p < pages_of old → page_block new p ≡ page_block old p
   pages_same = page_kept (λ c k. MapPlace old b c k ⊎ (c ≡ b)) old new n.rest ok.1 root_untaken
@@ -141,11 +140,11 @@ module _ (old : List ℕ) (b : ℕ) (new : List ℕ) (n : IsNewBlock old b new) 
     pages = n.pages;
     root_marked =
         ap (λ (x : ℕ). has_free_bit new (root_key x)) same_blocks
-        ∙ n.others (root_key (block_count old)) (has_bit old (root_key (block_count old)) (omega (arith, ok.0), omega (arith, ok.0))) (beside_new (root_key (block_count old)) m.root_marked)
+        ∙ n.others (root_key (block_count old)) (bit_of_inside old (root_key (block_count old)) (omega (arith, ok.0), omega (arith, ok.0))) (beside_new (root_key (block_count old)) m.root_marked)
         ∙ m.root_marked;
     pages_marked = λ p l. let a : p < pages_of old = omega (arith, same_blocks, l) in
         ap (has_free_bit new) (pages_same p a)
-        ∙ n.others (page_block old p) (has_bit old (page_block old p) (m.pages.inside p a)) (beside_new (page_block old p) (m.pages_marked p a))
+        ∙ n.others (page_block old p) (bit_of_inside old (page_block old p) (m.pages.inside p a)) (beside_new (page_block old p) (m.pages_marked p a))
         ∙ m.pages_marked p a;
   }
 
@@ -159,7 +158,7 @@ module _ (old : List ℕ) (b : ℕ) (new : List ℕ) (n : IsNewBlock old b new) 
       size_ok = subst IsSize (sym same_blocks) ok;
       skeleton = skeleton_kept old new format file blocks extensions size s.skeleton
           (λ q l. untouched_holder old new (slice_index (file ∷ extensions) q) (untouched_new (slice_index (file ∷ extensions) q) (s.headers_used q l)))
-          (file_long size_long (omega arith)) (file_long 4 (omega arith))
+          (file_long FILE_SIZE (omega arith)) (file_long 4 (omega arith))
           (λ e i l. untouched_data old new (slice_index blocks i) (untouched_new (slice_index blocks i) (s.data_used i l)));
       places = subst (λ (x : ℕ). AreApart x file blocks extensions) (sym same_blocks) s.places;
       map = new_map;

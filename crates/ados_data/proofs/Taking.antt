@@ -1,15 +1,17 @@
 -- A free block, allocated and cleared.
 use Rattle.std.proofs.Common.{◌≡◌, ◌≢◌, ℕ, ◌<◌, ◌≤◌, inl, inr, List, false, sym, ap, ◌∙◌, arith}
 use Rattle.std.proofs.lemmas.Bool.{false≢true}
-use Rattle.adf_block.specs.Image.{byte_at, block_count, root_key, has_free_bit, IsSize}
+use Rattle.adf_block.specs.Image.{byte_at, block_count, root_key, has_free_bit}
+use Rattle.adf_block.specs.Whole.{IsSize}
 use Rattle.adf_block.specs.Frame.{InBlock, OnlyBlock}
 use Rattle.adf_block.proofs.Frames.{same_count, other_block_sum}
 use Rattle.ados_map.specs.Pages.{LawfulPages, IsLowestFree, pages_of, page_block, page_of, HasBit}
 use Rattle.ados_map.specs.Changes.{MapPlace, BitChanged}
 use Rattle.ados_data.specs.Changing.{LawfulMap}
 use Rattle.ados_data.specs.steps.Blocks.{IsNewBlock}
-use Rattle.ados_data.proofs.Marks.{has_bit, page_kept, mark_kept, lawful_pages_kept}
+use Rattle.ados_data.proofs.Marks.{page_kept, mark_kept, lawful_pages_kept}
 use Rattle.ados_data.proofs.Counts.{one_less}
+use Rattle.ados_map.proofs.MarkLemmas.{bit_of_inside}
 
 module _ (old : List ℕ) (b : ℕ) (mid new : List ℕ) (ok : IsSize (block_count old)) (m : LawfulMap old) (low : IsLowestFree old b) (taken : BitChanged old b false mid) (pages : LawfulPages mid) (cleared : OnlyBlock b mid new) where
   another : (c : ℕ) → has_free_bit old c ≡ false → c ≢ b
@@ -46,14 +48,14 @@ module _ (old : List ℕ) (b : ℕ) (mid new : List ℕ) (ok : IsSize (block_cou
   others j h ne = mark_new j (bit_mid j h) ∙ taken.others j h ne
 
   marked : has_free_bit new b ≡ false
-  marked = mark_new b (bit_mid b (has_bit old b low.inside)) ∙ taken.bit
+  marked = mark_new b (bit_mid b (bit_of_inside old b low.inside)) ∙ taken.bit
 
   pub new_block_taken : ((k : ℕ) → k < 512 → byte_at new b k ≡ 0) → IsNewBlock old b new
   new_block_taken empty = record {
     lowest = low;
     marked = marked;
     others = others;
-    count = one_less old new b low.inside (count_new ∙ count_mid) (λ j i ne. others j (has_bit old j i) ne) low.free marked;
+    count = one_less old new b low.inside (count_new ∙ count_mid) (λ j i ne. others j (bit_of_inside old j i) ne) low.free marked;
     page_sum = other_block_sum b mid new cleared (page_block old (page_of b)) (another (page_block old (page_of b)) (m.pages_marked (page_of b) within)) ∙ taken.sum;
     pages = lawful_pages_kept (InBlock b) mid new cleared small root_free page_free pages;
     empty = empty;

@@ -2,8 +2,9 @@
 use Rattle.std.proofs.Common.{◌≡◌, ◌≢◌, ℕ, suc, ◌+◌, ◌-◌, ◌*◌, ◌/◌, ◌%◌, ◌<◌, ◌≤◌, ◌++◌, List, length, take, drop, sym, ap, ◌∙◌, subst, arith}
 use Rattle.std.proofs.lemmas.List.{drop-drop, length-drop}
 use borrow.Rule.Slice.PartMut.{put_mid}
-use Rattle.adf_block.specs.Layout.{first_pointer, next_extension}
-use Rattle.adf_block.specs.Image.{long, bytes_at, block_count, format_of}
+use Rattle.adf_block.specs.declared.layout.TheConstants.{FIRST_POINTER, NEXT_EXTENSION}
+use Rattle.adf_block.specs.Image.{long, bytes_at, block_count}
+use Rattle.adf_block.specs.Fields.{format_of}
 use Rattle.ados_model.specs.Tree.{data_size, data_start}
 use Rattle.ados_model.specs.File.{ReadableFile, pointer_block, data_block, contents}
 use Rattle.ados_data.proofs.Sizes.{next_holder, same_holder}
@@ -19,21 +20,21 @@ module _ (image : List ℕ) (file : ℕ) (s : ReadableFile image file) (room : �
       omega (arith, e, here, s.headers_inside (at / data_size (format_of image) / 72) (holder_of image file (at / data_size (format_of image)) (byte_within image file at l)))
 
   -- the data block of a byte, by its pointer
-  pub block_is : (at holder block : ℕ) → holder ≡ pointer_block image file (at / room / 72) → block ≡ long image holder (first_pointer - at / room % 72) → block ≡ data_block image file (at / room)
-  block_is at holder block e b = b ∙ ap (λ (h : ℕ). long image h (first_pointer - at / room % 72)) e
+  pub block_is : (at holder block : ℕ) → holder ≡ pointer_block image file (at / room / 72) → block ≡ long image holder (FIRST_POINTER - at / room % 72) → block ≡ data_block image file (at / room)
+  block_is at holder block e b = b ∙ ap (λ (h : ℕ). long image h (FIRST_POINTER - at / room % 72)) e
 
-  pub block_inside : (at holder block : ℕ) → at < length (contents image file) → holder ≡ pointer_block image file (at / room / 72) → block ≡ long image holder (first_pointer - at / room % 72) → block < block_count image
+  pub block_inside : (at holder block : ℕ) → at < length (contents image file) → holder ≡ pointer_block image file (at / room / 72) → block ≡ long image holder (FIRST_POINTER - at / room % 72) → block < block_count image
   block_inside at holder block l e b =
       let here : data_block image file (at / room) ≡ data_block image file (at / data_size (format_of image)) = ap (λ (n : ℕ). data_block image file (at / n)) room_is in
       omega (arith, block_is at holder block e b, here, s.data_inside (at / data_size (format_of image)) (byte_within image file at l))
 
   -- the byte after a part is the first of the next pointer block
-  pub on_to_next : (at part holder next : ℕ) → 0 < part → at % room + part ≤ room → (at + part) % (72 * room) ≡ 0 → holder ≡ pointer_block image file (at / room / 72) → next ≡ long image holder next_extension → next ≡ pointer_block image file ((at + part) / room / 72)
+  pub on_to_next : (at part holder next : ℕ) → 0 < part → at % room + part ≤ room → (at + part) % (72 * room) ≡ 0 → holder ≡ pointer_block image file (at / room / 72) → next ≡ long image holder NEXT_EXTENSION → next ≡ pointer_block image file ((at + part) / room / 72)
   on_to_next at part holder next h l z e n =
       let P : ℕ → Type 0 = λ r. at % r + part ≤ r → (at + part) % (72 * r) ≡ 0 → (at + part) / r / 72 ≡ at / r / 72 + 1 in
       let steps : (at + part) / room / 72 ≡ at / room / 72 + 1 = subst P (sym room_is) (next_holder (format_of image) at part h) l z in
       let one : at / room / 72 + 1 ≡ suc (at / room / 72) = omega arith in
-      n ∙ ap (λ (b : ℕ). long image b next_extension) e ∙ ap (pointer_block image file) (sym (steps ∙ one))
+      n ∙ ap (λ (b : ℕ). long image b NEXT_EXTENSION) e ∙ ap (pointer_block image file) (sym (steps ∙ one))
 
   -- the byte after a part is in the same pointer block
   pub on_in_same : (at part holder : ℕ) → at % room + part ≤ room → (at + part) % (72 * room) ≢ 0 → holder ≡ pointer_block image file (at / room / 72) → holder ≡ pointer_block image file ((at + part) / room / 72)

@@ -1,10 +1,10 @@
 -- Writes of data bytes and of the size leave all other bytes untouched.
 use Rattle.std.proofs.Common.{◌≡◌, ℕ, suc, ◌+◌, ◌-◌, ◌/◌, ◌%◌, ◌<◌, ◌≤◌, ◌⊎◌, inl, inr, List, ◌∷◌, length, slice_index, sym, subst, arith}
 use Rattle.std.proofs.lemmas.Bool.{cases_lt, cases_eq}
-use Rattle.adf_block.specs.declared.Format.{Format}
-use Rattle.adf_block.specs.declared.Format.TheVariants.{Ofs, Ffs}
-use Rattle.adf_block.specs.Image.{pointer_count, file_size, format_of}
-use Rattle.adf_block.specs.Layout.{pointer_count_long, size_long, next_extension, next_data}
+use Rattle.adf_block.specs.declared.layout.Format.{Format}
+use Rattle.adf_block.specs.declared.layout.Format.TheVariants.{Ofs, Ffs}
+use Rattle.adf_block.specs.Fields.{pointer_count, file_size, format_of}
+use Rattle.adf_block.specs.declared.layout.TheConstants.{POINTER_COUNT, FILE_SIZE, NEXT_EXTENSION, NEXT_DATA}
 use Rattle.adf_block.specs.Frame.{SameBut}
 use Rattle.adf_block.proofs.Frames.{same_long}
 use Rattle.ados_model.specs.Tree.{data_size, data_start}
@@ -63,14 +63,14 @@ module _ (old : List ℕ) (format : Format) (file : ℕ) (blocks extensions : Li
 module _ (old new : List ℕ) (format : Format) (file : ℕ) (blocks extensions : List ℕ) (size size' : ℕ) (s : Standing old format file blocks extensions size) (some : 0 < length blocks)
     (y : IsResized old format file (slice_index (file ∷ extensions) (length extensions)) (slice_index blocks (length blocks - 1)) (length blocks) size' new) where
   abbrev Resized : ℕ → ℕ → Type 0
-  Resized c k = AtEnd format (length blocks) (slice_index blocks (length blocks - 1)) c k ⊎ (AtFields (slice_index (file ∷ extensions) (length extensions)) pointer_count_long next_extension c k ⊎ AtFields file next_data size_long c k)
+  Resized c k = AtEnd format (length blocks) (slice_index blocks (length blocks - 1)) c k ⊎ (AtFields (slice_index (file ∷ extensions) (length extensions)) POINTER_COUNT NEXT_EXTENSION c k ⊎ AtFields file NEXT_DATA FILE_SIZE c k)
 
   beside : (c k : ℕ) → IsBeside old file blocks extensions c → ¬ Resized c k
   beside c k o (inl at) = o.beside_data (length blocks - 1) (omega (arith, some)) at.2.0
   beside c k o (inr (inl at)) = o.beside_headers (length extensions) (omega arith) at.0
   beside c k o (inr (inr at)) = o.beside_headers 0 (omega arith) at.0
 
-  in_header : (q k : ℕ) → q ≤ length extensions → Resized (slice_index (file ∷ extensions) q) k → IsPointerField (pointer_count new (slice_index (file ∷ extensions) q)) (k / 4) ⊎ ((slice_index (file ∷ extensions) q ≡ file) × ((k / 4 ≡ 4) ⊎ (k / 4 ≡ size_long)))
+  in_header : (q k : ℕ) → q ≤ length extensions → Resized (slice_index (file ∷ extensions) q) k → IsPointerField (pointer_count new (slice_index (file ∷ extensions) q)) (k / 4) ⊎ ((slice_index (file ∷ extensions) q ≡ file) × ((k / 4 ≡ 4) ⊎ (k / 4 ≡ FILE_SIZE)))
   in_header q k l (inl at) = absurd (s.places.apart q (length blocks - 1) l (omega (arith, some)) at.2.0)
   in_header q k l (inr (inl (at, inl z))) = inl (inl z)
   in_header q k l (inr (inl (at, inr (inl z)))) = inl (inr (inr (inr z)))

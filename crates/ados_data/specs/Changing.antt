@@ -1,7 +1,8 @@
 -- Which files can be changed.
 use Rattle.std.specs.Prelude.{◌≡◌, ◌≢◌, ℕ, ◌+◌, ◌<◌, ◌≤◌, List, ◌∷◌, length, slice_index, false}
-use Rattle.adf_block.specs.declared.Format.TheVariants.{Ofs}
-use Rattle.adf_block.specs.Image.{block_count, block_sum, root_key, has_free_bit, format_of}
+use Rattle.adf_block.specs.declared.layout.Format.TheVariants.{Ofs}
+use Rattle.adf_block.specs.Image.{block_count, block_sum, root_key, has_free_bit}
+use Rattle.adf_block.specs.Fields.{format_of}
 use Rattle.adf_block.specs.Whole.{free_bit_count}
 use Rattle.ados_map.specs.Pages.{LawfulPages, pages_of, page_block}
 use Rattle.ados_map.specs.Changes.{SummedPages}

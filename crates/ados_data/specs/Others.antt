@@ -1,6 +1,6 @@
 -- What a call on a file leaves untouched in other blocks.
 use Rattle.std.specs.Prelude.{◌≡◌, ◌≢◌, ℕ, ◌/◌, ◌<◌, ◌≤◌, ◌⊎◌, List, ◌∷◌, length, slice_index, false, true}
-use Rattle.adf_block.specs.Layout.{sum_long, first_slot, pointer_count_long, first_pointer, size_long, next_extension, next_data, block_bytes, boot_blocks}
+use Rattle.adf_block.specs.declared.layout.TheConstants.{BOOT_BLOCKS, BLOCK_BYTES, CHECKSUM, FIRST_SLOT, POINTER_COUNT, FIRST_POINTER, FILE_SIZE, NEXT_EXTENSION, NEXT_DATA}
 use Rattle.adf_block.specs.Image.{byte_at, block_sum, block_count, has_free_bit, IsInside}
 use Rattle.ados_map.specs.Pages.{pages_of, page_block, HasBit}
 use Rattle.ados_model.specs.File.{data_blocks, extension_blocks}
@@ -12,7 +12,7 @@ SameByte old new b k = byte_at new b k ≡ byte_at old b k
 -- another block: a boot block or a block in use, but neither a bitmap block nor a block of the file
 pub record IsOther (image : List ℕ) (file : ℕ) (blocks extensions : List ℕ) (c : ℕ) : Type 0 where
   pub inside : c < block_count image
-  pub used : boot_blocks ≤ c → has_free_bit image c ≡ false
+  pub used : BOOT_BLOCKS ≤ c → has_free_bit image c ≡ false
   pub beside_pages : (p : ℕ) → p < pages_of image → c ≢ page_block image p
   pub beside_headers : (q : ℕ) → q ≤ length extensions → c ≢ slice_index (file ∷ extensions) q
   pub beside_data : (i : ℕ) → i < length blocks → c ≢ slice_index blocks i
@@ -21,18 +21,18 @@ pub record IsOther (image : List ℕ) (file : ℕ) (blocks extensions : List ℕ
 -- pointers, size, first extension block
 abbrev pub IsDataField : ℕ → Type 0
 IsDataField j =
-    (j ≡ pointer_count_long) ⊎ ((j ≡ next_data) ⊎ ((j ≡ sum_long)
-    ⊎ (((first_slot ≤ j) × (j ≤ first_pointer)) ⊎ ((j ≡ size_long) ⊎ (j ≡ next_extension)))))
+    (j ≡ POINTER_COUNT) ⊎ ((j ≡ NEXT_DATA) ⊎ ((j ≡ CHECKSUM)
+    ⊎ (((FIRST_SLOT ≤ j) × (j ≤ FIRST_POINTER)) ⊎ ((j ≡ FILE_SIZE) ⊎ (j ≡ NEXT_EXTENSION)))))
 
 -- other blocks are unchanged and still marked used; bits past the volume's end are unchanged; in the header only the
 -- fields of the data change; the bitmap blocks are the same blocks, and right checksums stay right
 pub record Leaves (old : List ℕ) (file : ℕ) (blocks extensions : List ℕ) (new : List ℕ) : Type 0 where
   pub same_length : length new ≡ length old
   pub pages : (p : ℕ) → p < pages_of old → page_block new p ≡ page_block old p
-  pub others : (c k : ℕ) → k < block_bytes → IsOther old file blocks extensions c → SameByte old new c k
+  pub others : (c k : ℕ) → k < BLOCK_BYTES → IsOther old file blocks extensions c → SameByte old new c k
   pub used : (c : ℕ) → IsInside (block_count old) c → IsOther old file blocks extensions c → has_free_bit new c ≡ false
   pub past_end : (j : ℕ) → HasBit old j → block_count old ≤ j → has_free_bit new j ≡ has_free_bit old j
-  pub header : (k : ℕ) → k < block_bytes → ¬ IsDataField (k / 4) → SameByte old new file k
+  pub header : (k : ℕ) → k < BLOCK_BYTES → ¬ IsDataField (k / 4) → SameByte old new file k
   pub header_sum : block_sum old file ≡ 0 → block_sum new file ≡ 0
   pub page_sums : (p : ℕ) → p < pages_of old → block_sum old (page_block old p) ≡ 0 → block_sum new (page_block old p) ≡ 0
 
@@ -48,7 +48,7 @@ IsOwn file blocks extensions c =
 
 -- the block was marked free before
 abbrev pub WasFree : List ℕ → ℕ → Type 0
-WasFree old c = (boot_blocks ≤ c) × (has_free_bit old c ≡ true)
+WasFree old c = (BOOT_BLOCKS ≤ c) × (has_free_bit old c ≡ true)
 
 -- position by position: the new block d is the old block c, or it was marked free before
 abbrev pub IsKeptOrTaken : List ℕ → Type 0 → ℕ → ℕ → Type 0
@@ -66,7 +66,7 @@ pub record Gains (old : List ℕ) (file : ℕ) (blocks extensions : List ℕ) (n
   pub data_blocks_of : (i : ℕ) → i < length blocks' → IsKeptOrTaken old (i < length blocks) (slice_index blocks i) (slice_index blocks' i)
   pub marks : (c : ℕ) → IsInside (block_count old) c → has_free_bit old c ≡ false → has_free_bit new c ≡ false
   pub taken : (c : ℕ) → IsInside (block_count old) c → has_free_bit old c ≡ true → has_free_bit new c ≡ false → IsOwn file blocks' extensions' c
-  pub lowest : (c d : ℕ) → IsInside (block_count old) d → boot_blocks ≤ c → c < d → has_free_bit old d ≡ true → has_free_bit new d ≡ false → has_free_bit new c ≡ false
+  pub lowest : (c d : ℕ) → IsInside (block_count old) d → BOOT_BLOCKS ≤ c → c < d → has_free_bit old d ≡ true → has_free_bit new d ≡ false → has_free_bit new c ≡ false
   pub data_rises : RisesBehind blocks blocks'
   pub extensions_rise : RisesBehind extensions extensions'
 

@@ -1,7 +1,7 @@
 //! A new block appended to those of a file.
 
 ghost use Rattle.std.specs.Prelude.{◌≡◌, ◌≢◌, ◌<◌, ◌≤◌, ◌-◌, ◌*◌, ◌+◌, ◌^◌, ◌%◌, ℕ};
-ghost use Rattle.adf_block.specs.Layout.{next_data, block_bytes};
+ghost use Rattle.adf_block.specs.declared.layout.TheConstants.{BLOCK_BYTES};
 ghost use Rattle.adf_block.specs.Image.{block_count, block_sum, byte_at, long};
 ghost use Rattle.adf_block.specs.Frame.{SameBut};
 ghost use Rattle.ados_data.specs.steps.Blocks.{AtLink, IsExtended, IsLengthened};
@@ -15,7 +15,7 @@ pub fn attach_extension(image: &mut Image, file: u32, holder: u32, e: u32)
     requires holder { holder < block_count image.old }
     requires inside { e < block_count image.old }
     requires apart { e ≢ holder }
-    requires empty { (k : ℕ) → k < block_bytes → byte_at image.old e k ≡ 0 }
+    requires empty { (k : ℕ) → k < BLOCK_BYTES → byte_at image.old e k ≡ 0 }
     ensures { IsExtended image.old file holder e image.new }
 {
     make_extension(image, e, file);
@@ -39,7 +39,7 @@ pub fn attach_data(
     requires last_apart { 0 < count → (last ≢ holder) × (last ≢ file) × (last ≢ b) }
     requires inside { b < block_count image.old }
     requires apart { (b ≢ holder) × (b ≢ file) }
-    requires empty { (k : ℕ) → k < block_bytes → byte_at image.old b k ≡ 0 }
+    requires empty { (k : ℕ) → k < BLOCK_BYTES → byte_at image.old b k ≡ 0 }
     requires fits { count + 1 < 2 ^ 32 }
     ensures { IsLengthened image.old format file holder last count b image.new }
 {
@@ -64,7 +64,7 @@ pub fn attach_data(
 /// Sets the link from `last` to the data block `b`. FFS has no such link.
 fn link_data(image: &mut Image, format: Format, last: u32, count: u32, b: u32)
     requires last { 0 < count → last < block_count image.old }
-    ensures link { format ≡ Format.Ofs → 0 < count → long image.new last next_data ≡ b }
+    ensures link { format ≡ Format.Ofs → 0 < count → long image.new last NEXT_DATA ≡ b }
     ensures sum { format ≡ Format.Ofs → 0 < count → block_sum image.old last ≡ 0 → block_sum image.new last ≡ 0 }
     ensures rest { SameBut (AtLink format count last) image.old image.new }
 {

@@ -1,7 +1,6 @@
 //! New blocks for a file.
 
 ghost use Rattle.std.specs.Prelude.{◌≡◌, ◌<◌, ◌%◌, false};
-ghost use Rattle.adf_block.specs.Layout.{table_longs};
 ghost use Rattle.adf_block.specs.Image.{IsInside, block_count, has_free_bit};
 ghost use Rattle.adf_block.specs.Whole.{free_bit_count};
 ghost use Rattle.ados_map.specs.Pages.{NoneFreeBelow};
@@ -35,7 +34,7 @@ pub fn pointer_room(image: &mut Image, file: u32, holder: u32, count: u32, from:
     requires below { NoneFreeBelow image.old from }
     requires inside { IsInside (block_count image.old) holder }
     requires used { has_free_bit image.old holder ≡ false }
-    requires free { 0 < count → count % table_longs ≡ 0 → 0 < free_bit_count image.old }
+    requires free { 0 < count → count % TABLE_LONGS ≡ 0 → 0 < free_bit_count image.old }
     ensures { HasPointerRoom image.old file holder count result image.new }
 {
     if count == 0 || count % TABLE_LONGS != 0 {

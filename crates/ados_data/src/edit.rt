@@ -1,41 +1,43 @@
 //! Edits of fields in one block. The checksum follows each edit: a right one stays right.
 
 ghost use Rattle.std.specs.Prelude.{◌≡◌, ◌≢◌, ℕ, ◌<◌, ◌+◌, ◌^◌, ◌⊎◌};
-ghost use Rattle.adf_block.specs.Image.{block_count, block_sum, byte_at, long, primary_type, own_key, sequence_number, held_count};
+ghost use Rattle.adf_block.specs.Image.{block_count, block_sum, byte_at, long};
+ghost use Rattle.adf_block.specs.Fields.{primary_type, own_key, sequence_number, held_count};
 ghost use Rattle.adf_block.specs.Frame.{SameBut, OnlyBlock};
-ghost use Rattle.adf_block.specs.Layout.{sum_long, next_data, data_type, block_longs};
+ghost use Rattle.adf_block.specs.declared.layout.TheConstants.{BLOCK_LONGS, NEXT_DATA};
 ghost use Rattle.ados_model.specs.Stands.{HasExtension};
 ghost use Rattle.ados_data.specs.steps.Edits.{AtField, AtFields, AtExtensionFields, AtDataFields};
 
 use adf_block::layout::{
-    DATA_TYPE, FILE_TYPE, LIST_TYPE, OWN_KEY, PARENT, PRIMARY_TYPE, SECONDARY_TYPE, SEQUENCE, SUM,
+    CHECKSUM, DATA_TYPE, FILE_TYPE, LIST_TYPE, OWN_KEY, PARENT, PRIMARY_TYPE, SECONDARY_TYPE,
+    SEQUENCE,
 };
 use adf_block::{Format, Image};
 
 /// Sets long `i` of block `b`.
 pub fn set_field(image: &mut Image, b: u32, i: u32, v: u32)
     requires block { b < block_count image.old }
-    requires place { i < block_longs }
-    requires not_sum { i ≢ sum_long }
+    requires place { i < BLOCK_LONGS }
+    requires not_sum { i ≢ CHECKSUM }
     ensures set { long image.new b i ≡ v }
     ensures sum { block_sum image.old b ≡ 0 → block_sum image.new b ≡ 0 }
-    ensures others { (c j : ℕ) → j < block_longs → (c ≢ b) ⊎ ((j ≢ i) × (j ≢ sum_long)) → long image.new c j ≡ long image.old c j }
+    ensures others { (c j : ℕ) → j < BLOCK_LONGS → (c ≢ b) ⊎ ((j ≢ i) × (j ≢ CHECKSUM)) → long image.new c j ≡ long image.old c j }
     ensures rest { SameBut (AtField b i) image.old image.new }
 {
     let old = image.long(b, i);
-    let sum = image.long(b, SUM).wrapping_add(old).wrapping_sub(v);
+    let sum = image.long(b, CHECKSUM).wrapping_add(old).wrapping_sub(v);
     image.set_long(b, i, v);
-    image.set_long(b, SUM, sum);
+    image.set_long(b, CHECKSUM, sum);
 }
 
 /// Sets longs `i` and `j` of block `b`.
 pub fn set_fields(image: &mut Image, b: u32, i: u32, v: u32, j: u32, w: u32)
     requires block { b < block_count image.old }
-    requires place { i < block_longs }
-    requires other_place { j < block_longs }
+    requires place { i < BLOCK_LONGS }
+    requires other_place { j < BLOCK_LONGS }
     requires apart { i ≢ j }
-    requires not_sum { i ≢ sum_long }
-    requires other_not_sum { j ≢ sum_long }
+    requires not_sum { i ≢ CHECKSUM }
+    requires other_not_sum { j ≢ CHECKSUM }
     ensures set { long image.new b i ≡ v }
     ensures other_set { long image.new b j ≡ w }
     ensures sum { block_sum image.old b ≡ 0 → block_sum image.new b ≡ 0 }
@@ -55,7 +57,7 @@ pub fn make_extension(image: &mut Image, b: u32, file: u32)
     image.set_long(b, OWN_KEY, b);
     image.set_long(b, PARENT, file);
     image.set_long(b, SECONDARY_TYPE, FILE_TYPE);
-    image.settle(b, SUM);
+    image.settle(b, CHECKSUM);
 }
 
 /// Makes the empty block `b` a data block of a file with this sequence number, from 1. It holds no data yet. In FFS it
@@ -63,11 +65,11 @@ pub fn make_extension(image: &mut Image, b: u32, file: u32)
 pub fn make_data(image: &mut Image, format: Format, b: u32, file: u32, sequence: u32)
     requires inside { b < block_count image.old }
     requires settled { block_sum image.old b ≡ 0 }
-    ensures primary { format ≡ Format.Ofs → primary_type image.new b ≡ data_type }
+    ensures primary { format ≡ Format.Ofs → primary_type image.new b ≡ DATA_TYPE }
     ensures header { format ≡ Format.Ofs → own_key image.new b ≡ file }
     ensures sequence { format ≡ Format.Ofs → sequence_number image.new b ≡ sequence }
     ensures held { held_count image.new b ≡ held_count image.old b }
-    ensures next { long image.new b next_data ≡ long image.old b next_data }
+    ensures next { long image.new b NEXT_DATA ≡ long image.old b NEXT_DATA }
     ensures sum { format ≡ Format.Ofs → block_sum image.new b ≡ 0 }
     ensures rest { SameBut (AtDataFields format b) image.old image.new }
 {

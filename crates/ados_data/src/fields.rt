@@ -1,8 +1,8 @@
 //! The fields that lead to a file's data.
 
 ghost use Rattle.std.specs.Prelude.{◌≡◌, ◌<◌, ◌-◌, ◌%◌, length};
-ghost use Rattle.adf_block.specs.Layout.{table_longs, first_pointer};
-ghost use Rattle.adf_block.specs.Image.{block_count, bytes_at, long, format_of};
+ghost use Rattle.adf_block.specs.Image.{block_count, bytes_at, long};
+ghost use Rattle.adf_block.specs.Fields.{format_of};
 ghost use Rattle.ados_model.specs.Tree.{data_size, data_start};
 
 use crate::cost::data_start;
@@ -19,7 +19,7 @@ pub fn format_of(image: &Image) -> Format
 /// The block number in data pointer `i` of a file. `holder` is the pointer block with this pointer.
 pub fn data_block(image: &Image, holder: u32, i: u64) -> u32
     requires { holder < block_count image.now }
-    ensures { result ≡ long image.now holder (first_pointer - i % table_longs) }
+    ensures { result ≡ long image.now holder (FIRST_POINTER - i % TABLE_LONGS) }
 {
     image.long(holder, FIRST_POINTER - (i % TABLE_LONGS as u64) as u32)
 }

@@ -1,12 +1,12 @@
 //! A file made longer.
 
 ghost use Rattle.std.specs.Prelude.{◌≡◌, ◌<◌, ◌≤◌, ◌+◌, ◌-◌, ◌*◌, ◌/◌, ◌^◌, ◌++◌, length, replicate, take};
-ghost use Rattle.adf_block.specs.Layout.{table_longs};
+ghost use Rattle.adf_block.specs.declared.layout.TheConstants.{TABLE_LONGS};
 ghost use Rattle.adf_block.specs.Whole.{free_bit_count};
 ghost use Rattle.ados_map.specs.Pages.{NoneFreeBelow};
 ghost use Rattle.ados_model.specs.Tree.{data_size};
 ghost use Rattle.ados_model.specs.File.{LawfulFile, contents, data_blocks, extension_blocks};
-ghost use Rattle.adf_block.specs.Image.{format_of};
+ghost use Rattle.adf_block.specs.Fields.{format_of};
 ghost use Rattle.ados_data.specs.Changing.{HasFree, PaysFor, WritableFile};
 ghost use Rattle.ados_data.specs.Place.{IsPlace};
 ghost use Rattle.ados_data.specs.steps.FileEnd.{IsEnd, IsLonger};
@@ -19,7 +19,7 @@ use crate::cost::{data_count, data_size, extension_count};
 use crate::fields::data_block;
 use crate::place::{Place, pointer_block};
 use crate::resize::resize;
-use adf_block::layout::{MOST_BLOCKS, SIZE};
+use adf_block::layout::{FILE_SIZE, MOST_BLOCKS};
 use adf_block::{Format, Image};
 
 /// The end of a file.
@@ -40,7 +40,7 @@ pub fn end_of(image: &Image, format: Format, file: u32, near: Place) -> End
     requires format { format ≡ format_of image.now }
     ensures { IsEnd image.now file result }
 {
-    let count = data_count(format, image.long(file, SIZE) as u64);
+    let count = data_count(format, image.long(file, FILE_SIZE) as u64);
     let holder = pointer_block(image, file, near, extension_count(count));
     let last = if count == 0 {
         0
@@ -77,7 +77,7 @@ fn fill_last(image: &mut Image, format: Format, file: u32, end: End, size: u32) 
 {
     prove!(image.blocks() <= MOST_BLOCKS);
     let room = data_size(format);
-    let old = image.long(file, SIZE);
+    let old = image.long(file, FILE_SIZE);
     let from = old as usize % room;
     if size == old || from == 0 {
         return old;
@@ -100,13 +100,13 @@ fn append(image: &mut Image, format: Format, file: u32, end: End, size: u32, fro
     requires full { length (contents image.old file) ≡ data_size format * end.count }
     requires over { data_size format * end.count < size }
     requires within { size ≤ data_size format * (end.count + 1) }
-    requires free { end.count / table_longs - (end.count - 1) / table_longs < free_bit_count image.old }
+    requires free { end.count / TABLE_LONGS - (end.count - 1) / TABLE_LONGS < free_bit_count image.old }
     ensures writable { WritableFile image.new file }
     ensures format { format_of image.new ≡ format }
     ensures end { IsEnd image.new file result }
     ensures count { result.count ≡ end.count + 1 }
     ensures bytes { contents image.new file ≡ contents image.old file ++ replicate (size - length (contents image.old file)) 0 }
-    ensures free { free_bit_count image.new + 1 + (end.count / table_longs - (end.count - 1) / table_longs) ≡ free_bit_count image.old }
+    ensures free { free_bit_count image.new + 1 + (end.count / TABLE_LONGS - (end.count - 1) / TABLE_LONGS) ≡ free_bit_count image.old }
     ensures leaves { LeavesOthers image.old file image.new }
     ensures gains { FileGains image.old file image.new }
     ensures blocks { take (length (data_blocks image.old file)) (data_blocks image.new file) ≡ data_blocks image.old file }
@@ -149,7 +149,7 @@ pub fn lengthen(image: &mut Image, file: u32, near: Place, size: u32, from: u32)
     ensures keeps { FileKeepsUnnamed image.old file image.new }
 {
     prove!(image.blocks() <= MOST_BLOCKS);
-    if image.long(file, SIZE) == size {
+    if image.long(file, FILE_SIZE) == size {
         return from;
     }
     let format = image.format();

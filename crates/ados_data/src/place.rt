@@ -1,15 +1,14 @@
 //! Positions among the pointer blocks of a file.
 
 ghost use Rattle.std.specs.Prelude.{◌≡◌, ◌≤◌, ◌/◌, List, ℕ, length, min};
-ghost use Rattle.adf_block.specs.Layout.{table_longs};
 ghost use Rattle.ados_model.specs.Tree.{data_size};
 ghost use Rattle.ados_model.specs.File.{ReadableFile, extension_blocks, pointer_block};
-ghost use Rattle.adf_block.specs.Image.{format_of};
+ghost use Rattle.adf_block.specs.Fields.{format_of};
 ghost use Rattle.ados_data.specs.Place.{IsPlace};
 
 use crate::cost::{data_count, data_size, extension_count};
 use adf_block::Image;
-use adf_block::layout::{NEXT_EXTENSION, SIZE, TABLE_LONGS};
+use adf_block::layout::{FILE_SIZE, NEXT_EXTENSION, TABLE_LONGS};
 
 /// A pointer block of a file (its header or an extension block), and the number of those before it. A call with a
 /// `Place` starts its walk there, and not at the header, unless it needs a pointer block before it.
@@ -39,10 +38,10 @@ pub fn place_at(image: &Image, file: u32, near: Place, pos: u64) -> Place
     requires readable { ReadableFile image.now file }
     requires near { IsPlace image.now file near }
     ensures place { IsPlace image.now file result }
-    ensures index { result.index ≡ min (pos / data_size (format_of image.now) / table_longs) (length (extension_blocks image.now file)) }
+    ensures index { result.index ≡ min (pos / data_size (format_of image.now) / TABLE_LONGS) (length (extension_blocks image.now file)) }
 {
     let format = image.format();
-    let last = extension_count(data_count(format, image.long(file, SIZE) as u64));
+    let last = extension_count(data_count(format, image.long(file, FILE_SIZE) as u64));
     let index = (pos / data_size(format) as u64 / TABLE_LONGS as u64).min(last);
     let block = pointer_block(image, file, near, index);
     Place { index, block }

@@ -7,7 +7,7 @@ ghost use Rattle.ados_model.specs.Tree.{data_size, data_start};
 ghost use Rattle.ados_data.specs.steps.Edits.{AtData};
 
 use crate::cost::data_start;
-use adf_block::layout::SUM;
+use adf_block::layout::CHECKSUM;
 use adf_block::{Format, Image};
 
 /// Overwrites the data of a data block, from byte `from` of its data.
@@ -20,6 +20,6 @@ pub fn put_data(image: &mut Image, format: Format, block: u32, from: usize, byte
 {
     image.put_bytes(block, data_start(format) + from, bytes);
     if format == Format::Ofs {
-        image.settle(block, SUM);
+        image.settle(block, CHECKSUM);
     }
 }

@@ -8,7 +8,7 @@ use crate::cost::data_size;
 use crate::fields::{data_block, data_in};
 use crate::place::{Place, pointer_block};
 use adf_block::Image;
-use adf_block::layout::{NEXT_EXTENSION, SIZE, TABLE_LONGS};
+use adf_block::layout::{FILE_SIZE, NEXT_EXTENSION, TABLE_LONGS};
 
 /// Copies bytes of a file from byte `pos` into the buffer, as many as exist and fit. It returns their number. The rest
 /// of the buffer is unchanged.
@@ -29,7 +29,7 @@ pub fn read_near(image: &Image, file: u32, near: Place, pos: u64, buffer: &mut [
 {
     let format = image.format();
     let room = data_size(format);
-    let size = image.long(file, SIZE) as u64;
+    let size = image.long(file, FILE_SIZE) as u64;
     if size <= pos {
         return 0;
     }

@@ -1,14 +1,14 @@
 //! The size of a file, and the fields that depend on it.
 
 ghost use Rattle.std.specs.Prelude.{◌≡◌, ◌≢◌, ◌<◌, ◌≤◌, ◌-◌, ◌*◌, ◌+◌, ◌^◌};
-ghost use Rattle.adf_block.specs.Image.{block_count, block_sum, long, held_count};
-ghost use Rattle.adf_block.specs.Layout.{next_data, ofs_room};
+ghost use Rattle.adf_block.specs.Image.{block_count, block_sum, long};
+ghost use Rattle.adf_block.specs.Fields.{held_count};
 ghost use Rattle.adf_block.specs.Frame.{SameBut};
 ghost use Rattle.ados_data.specs.steps.Blocks.{AtEnd, IsResized};
 
 use crate::edit::set_fields;
 use adf_block::layout::{
-    HELD, NEXT_DATA, NEXT_EXTENSION, OFS_ROOM, POINTER_COUNT, SIZE, TABLE_LONGS,
+    FILE_SIZE, HELD, NEXT_DATA, NEXT_EXTENSION, OFS_ROOM, POINTER_COUNT, TABLE_LONGS,
 };
 use adf_block::{Format, Image};
 
@@ -27,7 +27,7 @@ pub fn resize(
     requires holder { holder < block_count image.old }
     requires last { 0 < count → last < block_count image.old }
     requires apart { 0 < count → (last ≢ holder) × (last ≢ file) }
-    requires size { ofs_room * (count - 1) ≤ size }
+    requires size { OFS_ROOM * (count - 1) ≤ size }
     ensures { IsResized image.old format file holder last count size image.new }
 {
     end_data(image, format, last, count, size);
@@ -38,15 +38,15 @@ pub fn resize(
     } else {
         image.long(file, NEXT_DATA)
     };
-    set_fields(image, file, NEXT_DATA, first, SIZE, size);
+    set_fields(image, file, NEXT_DATA, first, FILE_SIZE, size);
 }
 
 /// Makes `last` the last data block of a file with `size` bytes. FFS data blocks have no fields for it.
 fn end_data(image: &mut Image, format: Format, last: u32, count: u32, size: u32)
     requires last { 0 < count → last < block_count image.old }
-    requires size { ofs_room * (count - 1) ≤ size }
-    ensures held { format ≡ Format.Ofs → 0 < count → held_count image.new last ≡ size - ofs_room * (count - 1) }
-    ensures next { format ≡ Format.Ofs → 0 < count → long image.new last next_data ≡ 0 }
+    requires size { OFS_ROOM * (count - 1) ≤ size }
+    ensures held { format ≡ Format.Ofs → 0 < count → held_count image.new last ≡ size - OFS_ROOM * (count - 1) }
+    ensures next { format ≡ Format.Ofs → 0 < count → long image.new last NEXT_DATA ≡ 0 }
     ensures sum { format ≡ Format.Ofs → 0 < count → block_sum image.old last ≡ 0 → block_sum image.new last ≡ 0 }
     ensures rest { SameBut (AtEnd format count last) image.old image.new }
 {

@@ -1,8 +1,8 @@
 //! A file made shorter.
 
 ghost use Rattle.std.specs.Prelude.{◌≡◌, ℕ, true, slice_index, ◌<◌, ◌≤◌, ◌+◌, ◌-◌, ◌%◌, length, take};
-ghost use Rattle.adf_block.specs.Layout.{table_longs, ofs_data_byte};
-ghost use Rattle.adf_block.specs.Image.{IsInside, has_free_bit, block_count, byte_at, long, format_of};
+ghost use Rattle.adf_block.specs.Image.{IsInside, has_free_bit, block_count, byte_at, long};
+ghost use Rattle.adf_block.specs.Fields.{format_of};
 ghost use Rattle.adf_block.specs.Whole.{free_bit_count};
 ghost use Rattle.ados_map.specs.Pages.{LawfulPages};
 ghost use Rattle.ados_model.specs.Tree.{block_cost, data_count, extension_count};
@@ -18,7 +18,7 @@ use crate::fields::data_block;
 use crate::place::{Place, pointer_block};
 use crate::resize::resize;
 use adf_block::Image;
-use adf_block::layout::{MOST_BLOCKS, NEXT_EXTENSION, SIZE, TABLE_LONGS};
+use adf_block::layout::{FILE_SIZE, MOST_BLOCKS, NEXT_EXTENSION, TABLE_LONGS};
 use ados_map::give_back;
 
 /// The current pointer block while blocks are freed, and the next one.
@@ -50,7 +50,7 @@ pub fn cut(image: &mut Image, file: u32, size: u32)
 {
     prove!(image.blocks() <= MOST_BLOCKS);
     let format = image.format();
-    let old = image.long(file, SIZE);
+    let old = image.long(file, FILE_SIZE);
     if size == old {
         return;
     }
@@ -72,7 +72,7 @@ pub fn cut(image: &mut Image, file: u32, size: u32)
 /// unchanged.
 fn enter(image: &mut Image, at: Cursor, i: u64) -> Cursor
     requires pages { LawfulPages image.old }
-    requires inside { 0 < i → i % table_longs ≡ 0 → IsInside (block_count image.old) at.next }
+    requires inside { 0 < i → i % TABLE_LONGS ≡ 0 → IsInside (block_count image.old) at.next }
     ensures { IsEntered image.old at.holder at.next i result.holder result.next image.new }
 {
     if i == 0 || i % TABLE_LONGS as u64 != 0 {

@@ -1,14 +1,15 @@
 //! Writes to a file.
 
 ghost use Rattle.std.specs.Prelude.{◌≡◌, ℕ, ◌<◌, ◌≤◌, ◌+◌, ◌-◌, ◌*◌, ◌++◌, length, max, min, replicate, take};
-ghost use Rattle.adf_block.specs.Image.{has_free_bit, format_of};
+ghost use Rattle.adf_block.specs.Image.{has_free_bit};
+ghost use Rattle.adf_block.specs.Fields.{format_of};
 ghost use Rattle.adf_block.specs.Whole.{free_bit_count};
 ghost use Rattle.ados_map.specs.Pages.{HasBit, NoneFreeBelow};
 ghost use Rattle.ados_model.specs.Tree.{data_count, data_size};
 ghost use Rattle.ados_data.specs.Others.{FileGains, LeavesOthers};
 ghost use Rattle.ados_data.specs.Unnamed.{FileKeepsUnnamed};
 ghost use Rattle.ados_model.specs.File.{contents, data_blocks, extension_blocks};
-ghost use Rattle.ados_model.specs.Change.{overlaid};
+ghost use Rattle.ados_model.specs.Edits.{overlaid};
 ghost use Rattle.ados_data.specs.Changing.{HasFree, PaysFor, SummedFile, WritableFile};
 ghost use Rattle.ados_data.specs.Place.{IsPlace};
 
@@ -18,7 +19,9 @@ use crate::grow::lengthen;
 use crate::place::{Place, pointer_block};
 use crate::put::put_data;
 use adf_block::Image;
-use adf_block::layout::{BOOT_BLOCKS, FFS_ROOM, MOST_BLOCKS, NEXT_EXTENSION, SIZE, TABLE_LONGS};
+use adf_block::layout::{
+    BOOT_BLOCKS, FFS_ROOM, FILE_SIZE, MOST_BLOCKS, NEXT_EXTENSION, TABLE_LONGS,
+};
 
 /// The most data bytes of a data block.
 const ROOM: usize = FFS_ROOM as usize;
@@ -143,7 +146,7 @@ pub fn write_near(
     ensures sums { SummedFile image.old file → SummedFile image.new file }
 {
     prove!(image.blocks() <= MOST_BLOCKS);
-    let size = (image.long(file, SIZE) as u64).max(pos + bytes.len() as u64);
+    let size = (image.long(file, FILE_SIZE) as u64).max(pos + bytes.len() as u64);
     write_longer(image, file, near, size as u32, pos, bytes, from)
 }
 
@@ -191,7 +194,7 @@ pub fn extend_near(image: &mut Image, file: u32, near: Place, size: u32, from: u
 {
     prove!(image.blocks() <= MOST_BLOCKS);
     let room = data_size(image.format());
-    let old = image.long(file, SIZE);
+    let old = image.long(file, FILE_SIZE);
     let part = (room - old as usize % room).min((size - old) as usize);
     let zeros = [0; ROOM];
     write_longer(image, file, near, size, old as u64, &zeros[..part], from)

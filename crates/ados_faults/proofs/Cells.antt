@@ -1,5 +1,5 @@
 -- The cells of faults, and the faults in the order of their cells.
-use Rattle.std.proofs.Common.{◌≡◌, ◌≢◌, ℕ, zero, suc, ◌+◌, ◌*◌, ◌<◌, ◌⊎◌, inl, inr, Bool, true, false, List, [], ◌∷◌, ◌++◌, length, get_or, set, replicate, refl, sym, ap, ◌∙◌, subst, arith, length-set, get_or-set_same, get_or-set_other}
+use Rattle.std.proofs.Common.{◌≡◌, ◌≢◌, ℕ, zero, suc, ◌+◌, ◌<◌, ◌⊎◌, inl, inr, Bool, true, false, List, [], ◌∷◌, ◌++◌, length, get_or, set, refl, sym, ap, ◌∙◌, subst, arith, length-set, get_or-set_same, get_or-set_other}
 use Rattle.std.proofs.lemmas.Bool.{cases_lt, cases_order, false≢true}
 use Rattle.std.proofs.lemmas.List.{length_push}
 use Rattle.std.proofs.lemmas.List.Elements.{All-push}
@@ -54,18 +54,6 @@ one_cell kind other block b e =
 
 pub cell_within : (image : List ℕ) (cells : List Bool) (kind : FaultKind) (block : ℕ) → AreNoted image cells → block < block_count image → cell_of kind block < length cells
 cell_within image cells kind block n l = omega (arith, rank_small kind, n.size, l)
-
--- at first no cell is set
-pub none_noted : (image : List ℕ) (count : ℕ) → count ≡ 17 * block_count image → (cells : List Bool) → cells ≡ replicate count false → length cells ≡ count → AreNoted image cells
-none_noted image count size cells none counted = record {
-  size = counted ∙ size;
-  shown = λ kind block e. absurd (false≢true (sym (unset count (cell_of kind block)) ∙ ap (λ (xs : List Bool). get_or xs (cell_of kind block) false) (sym none) ∙ e));
-}
-  where
-    unset : (n k : ℕ) → get_or (replicate n false) k false ≡ false
-    unset zero k = refl
-    unset (suc n) zero = refl
-    unset (suc n) (suc k) = unset n k
 
 -- one more cell is set
 pub noted_more : (image : List ℕ) (cells : List Bool) (kind : FaultKind) (block : ℕ) → AreNoted image cells → block < block_count image → Shows image kind block

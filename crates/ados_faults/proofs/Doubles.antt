@@ -61,22 +61,3 @@ started image im cells marks root steps noted none is only = record {
         let none_there : mark_at marks block ≡ None = ap (λ (ms : List (Option Mark)). mark_at ms block) none ∙ none_marked (block_count image) block in
         let h : None ≡ Some mark = sym none_there ∙ sym (more.others block other) ∙ e in
         cc h
-
--- a block found for the first time
-pub met_first : (image : List ℕ) (cells : List Bool) (marks : List (Option Mark)) (steps : List Step) (block : ℕ) (mark : Mark) → IsWalked image cells marks steps
-    → block < length marks → mark_at marks block ≡ None → PlaceNames image mark.holder mark.long block → IsWalked image cells (set marks block (Some mark)) steps
-met_first image cells marks steps block mark w within none names = record {
-  noted = w.noted;
-  size = length-set marks block (Some mark) ∙ w.size;
-  met = λ other m e. elim (cases_order other block) [
-    | inl here ↦ (let same : Some mark ≡ Some m = sym more.is ∙ ap (mark_at (set marks block (Some mark))) (sym here) ∙ e in
-        let is : mark ≡ m = cc same in
-        inr (subst (λ (x : Mark). PlaceNames image x.holder x.long other) is (subst (PlaceNames image mark.holder mark.long) (sym here) names)))
-    | inr (inl l) ↦ w.met other m (sym (more.others other (λ z. omega (arith, z, l))) ∙ e)
-    | inr (inr l) ↦ w.met other m (sym (more.others other (λ z. omega (arith, z, l))) ∙ e)
-  ];
-  reached = w.reached;
-}
-  where
-    more : IsMarkedMore marks (set marks block (Some mark)) block mark
-    more = marked_more marks block mark within none

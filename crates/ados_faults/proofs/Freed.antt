@@ -1,8 +1,6 @@
 -- A reached block that is marked free is a fault of the bitmap.
-use Rattle.std.proofs.Common.{◌≡◌, ℕ, zero, suc, ◌-◌, ◌/◌, ◌<◌, List, [], ◌∷◌, get_or, true, false, Option, Some, None, is_some, refl, sym, ap, ◌∙◌, arith}
-use Rattle.std.proofs.lemmas.Bool.{false≢true}
-use Rattle.adf_block.specs.Whole.{IsImage}
-use Rattle.adf_block.specs.Image.{HasFreeBit}
+use Rattle.std.proofs.Common.{◌≡◌, ℕ, ◌-◌, ◌/◌, ◌<◌, List, ◌∷◌, Option, Some, ◌∙◌, arith}
+use Rattle.adf_block.specs.Whole.{IsImage, HasFreeBit}
 use Rattle.ados_map.specs.Pages.{LawfulPages, pages_of}
 use Rattle.ados_model.specs.Faults.{InImage, IsReachedAndFree}
 use Rattle.ados_model.specs.Rebuilt.{HasValidBitmap}
@@ -10,23 +8,6 @@ use Rattle.ados_check.specs.declared.mark.Mark.{Mark}
 use Rattle.ados_check.specs.Marks.{mark_at, IsChecked}
 use Rattle.ados_check.proofs.Roles.{marked_inside}
 use Rattle.ados_faults.specs.steps.Walked.{IsMarkedFree}
-
-mark_got : (marks : List (Option Mark)) (block : ℕ) → mark_at marks block ≡ get_or marks block None
-mark_got [] block = refl
-mark_got (m ∷ ms) zero = refl
-mark_got (m ∷ ms) (suc block) = mark_got ms block
-
-mark_in : (o : Option Mark) → is_some o ≡ true → (mark : Mark) × (o ≡ Some mark)
-mark_in None e = absurd (false≢true e)
-mark_in (Some mark) e = (mark, refl)
-
--- a cell with a mark
-pub marked_by : (marks : List (Option Mark)) (block : ℕ) → is_some (get_or marks block None) ≡ true → (mark : Mark) × (mark_at marks block ≡ Some mark)
-marked_by marks block e = let at = mark_in (get_or marks block None) e in (at.0, mark_got marks block ∙ at.1)
-
--- a cell without a mark
-pub unmarked_by : (marks : List (Option Mark)) (block : ℕ) (mark : Mark) → is_some (get_or marks block None) ≡ false → mark_at marks block ≡ Some mark → ⊥
-unmarked_by marks block mark none e = false≢true (sym none ∙ ap is_some (sym (mark_got marks block) ∙ e))
 
 module _ (image : List ℕ) (marks : List (Option Mark)) (im : IsImage image) (c : IsChecked image marks) where
   pub inside : (block : ℕ) (mark : Mark) → mark_at marks block ≡ Some mark → InImage image block

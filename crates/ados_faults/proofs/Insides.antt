@@ -6,7 +6,7 @@ use Rattle.ados_model.specs.declared.fault.FaultKind.{FaultKind}
 use Rattle.ados_model.specs.declared.fault.FaultKind.TheVariants.{NotADosDisk, UnsupportedKind, BadSum, BadType, BadOwnKey, BadParent, BadPointer, BlockUsedTwice, WrongChain, BadName, DuplicateName, BadComment, BadCount, BadSequence, LinkEntry, MarkedFree, NoMemory}
 use Rattle.ados_model.specs.declared.role.Role.{Role}
 use Rattle.ados_model.specs.Faults
-use Rattle.ados_model.specs.Faults.{HasName, HasPointers, InImage, IsData, IsEntry, IsExtension, Reached, Shows, root_of}
+use Rattle.ados_model.specs.Faults.{HasName, HasPointers, InImage, Reached, Shows, root_of}
 use Rattle.ados_model.specs.Faults.Reached.{start, named}
 
 module _ (image : List ℕ) (im : IsImage image) where

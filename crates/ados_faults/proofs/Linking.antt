@@ -1,9 +1,7 @@
 -- The blocks along links, one more at a time, and the set of visited ones.
 use Rattle.std.proofs.Common.{◌≡◌, ◌≢◌, ℕ, ◌+◌, ◌-◌, ◌<◌, ◌⊎◌, inl, inr, Bool, true, false, cond, List, [], ◌∷◌, ◌++◌, length, slice_index, refl, sym, ap, ◌∙◌, subst, arith}
 use Rattle.std.specs.List.{Contains, list_any}
-use Rattle.std.specs.Ordering.{nat_cmp, is_eq}
-use Rattle.std.specs.declared.cmp.Ordering.{Ordering}
-use Rattle.std.specs.declared.cmp.Ordering.TheVariants.{Less, Equal, Greater}
+use Rattle.std.specs.Ordering.{nat_cmp}
 use Rattle.std.specs.FinMap.{nat_cmp-IsAntisymmetric}
 use Rattle.std.specs.BTreeMap.{is_at}
 use Rattle.std.specs.BTreeSet.{BTreeSet, contains}
@@ -14,6 +12,7 @@ use Rattle.std.proofs.lemmas.List.Quantifiers.{all_pairs_push}
 use Rattle.adf_block.specs.Image.{long}
 use Rattle.ados_model.specs.Faults.{InImage, LinkedOnce, LeadOn, FurtherAreInside, last_link}
 use Rattle.ados_faults.specs.steps.Chain.{HasMet, IsChain}
+use Rattle.ados_check.proofs.Entered.{is_equal}
 
 -- only the first block
 pub chain_start : (image : List ℕ) (link first : ℕ) → InImage image first → IsChain image link (first ∷ [])
@@ -72,11 +71,6 @@ module _ (image : List ℕ) (link : ℕ) (blocks : List ℕ) (c : IsChain image 
       ]
 
 -- ---- the set
-
-is_equal : (o : Ordering) → is_eq o ≡ true → o ≡ Equal
-is_equal Less e = absurd (cc e)
-is_equal Equal e = refl
-is_equal Greater e = absurd (cc e)
 
 same_block : (block other : ℕ) → is_at (nat_cmp block) other ≡ true → block ≡ other
 same_block block other e = nat_cmp-IsAntisymmetric block other (is_equal (nat_cmp block other) e)

@@ -1,6 +1,5 @@
 //! Blocks that the bitmap marks free.
 ghost use Rattle.std.specs.Prelude.{◌≡◌, ◌↔◌, ◌-◌, ◌/◌, IsTrue};
-ghost use Rattle.adf_block.specs.Layout.{boot_blocks, page_bits};
 ghost use Rattle.adf_block.specs.Whole.{IsImage};
 ghost use Rattle.adf_block.specs.Image.{has_free_bit};
 ghost use Rattle.ados_map.specs.Pages.{page_block};
@@ -33,7 +32,7 @@ pub(crate) fn is_marked_free(image: &Image, block: u32) -> bool
 /// The bitmap block with the bit of a block, by the root.
 fn page_of(image: &Image, block: u32) -> u32
     requires { InImage image.now block }
-    ensures { result ≡ page_block image.now ((block - boot_blocks) / page_bits) }
+    ensures { result ≡ page_block image.now ((block - BOOT_BLOCKS) / PAGE_BITS) }
 {
     prove!(image.blocks() <= MOST_BLOCKS);
     image.long(image.root(), FIRST_PAGE + (block - BOOT_BLOCKS) / PAGE_BITS)
@@ -42,7 +41,7 @@ fn page_of(image: &Image, block: u32) -> u32
 /// Whether the bit of a block is set in its bitmap block.
 fn has_bit(image: &Image, page: u32, block: u32) -> bool
     requires inside { InImage image.now block }
-    requires page { page ≡ page_block image.now ((block - boot_blocks) / page_bits) }
+    requires page { page ≡ page_block image.now ((block - BOOT_BLOCKS) / PAGE_BITS) }
     requires within { InImage image.now page }
     ensures { result ≡ has_free_bit image.now block }
 {

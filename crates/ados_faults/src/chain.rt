@@ -1,7 +1,6 @@
 //! The data blocks of an OFS file: their links and sequence numbers.
 ghost use Rattle.std.specs.Prelude.{◌≡◌, ◌≢◌, ◌<◌, ◌+◌, All, IfSome, IsTrue, length, slice_index, sum_by};
-ghost use Rattle.adf_block.specs.Image.{held_count, sequence_number};
-ghost use Rattle.adf_block.specs.Layout.{ofs_room};
+ghost use Rattle.adf_block.specs.Fields.{held_count, sequence_number};
 ghost use Rattle.ados_model.specs.Faults.{AreDataBlocks, HoldsOtherSize, InImage, IsOfs, LinksOn};
 ghost use Rattle.ados_faults.specs.steps.Chain.{HoldsTooLittle, IsPlaced};
 ghost use Rattle.ados_faults.specs.steps.Noted.{AreNoted};
@@ -9,7 +8,7 @@ ghost use Rattle.ados_faults.specs.steps.Noted.{AreNoted};
 use crate::bits::is_inside;
 use crate::notes::Notes;
 use adf_block::Image;
-use adf_block::layout::{HELD, NEXT_DATA, OFS_ROOM, SEQUENCE, SIZE};
+use adf_block::layout::{FILE_SIZE, HELD, NEXT_DATA, OFS_ROOM, SEQUENCE};
 use ados_model::FaultKind;
 
 /// Checks each data block of a file at its position, and the number of bytes that they hold together.
@@ -85,7 +84,7 @@ fn is_short(image: &Image, blocks: &[u32], i: usize, block: u32) -> bool
 /// Whether a data block claims more bytes than fit into it.
 fn holds_too_much(image: &Image, block: u32) -> bool
     requires { InImage image.now block }
-    ensures { IsTrue result → ofs_room < held_count image.now block }
+    ensures { IsTrue result → OFS_ROOM < held_count image.now block }
 {
     image.long(block, HELD) > OFS_ROOM
 }
@@ -118,7 +117,7 @@ fn holds_other_size(image: &Image, file: u32, blocks: &[u32]) -> bool
     ensures { IsTrue result → HoldsOtherSize image.now file }
 {
     match held_together(image, blocks) {
-        Some(sum) => sum != u64::from(image.long(file, SIZE)),
+        Some(sum) => sum != u64::from(image.long(file, FILE_SIZE)),
         None => false,
     }
 }

@@ -1,6 +1,5 @@
 //! The header and extension blocks of a file, and the data blocks in their pointers.
 ghost use Rattle.std.specs.Prelude.{◌≡◌, ◌<◌, ◌++◌, ◌∷◌, [], All, flat_map, false, IfOk, IfSome, slice_index};
-ghost use Rattle.adf_block.specs.Layout.{next_extension};
 ghost use Rattle.adf_block.specs.Image.{block_count};
 ghost use Rattle.ados_model.specs.Faults.{AreDataBlocks, InImage, IsFile, LinkedOnce, pointers_of};
 ghost use Rattle.ados_faults.specs.steps.Chain.{HasMet, IsChain};
@@ -26,7 +25,7 @@ pub(crate) fn headers_of(
     most: usize,
 ) -> Result<Option<Vec<u32>>, AllocError>
     requires { InImage image.now file }
-    ensures linked { IfOk result (λ found. IfSome found (λ headers. LinkedOnce image.now next_extension file headers.items)) }
+    ensures linked { IfOk result (λ found. IfSome found (λ headers. LinkedOnce image.now NEXT_EXTENSION file headers.items)) }
     ensures inside { IfOk result (λ found. IfSome found (λ headers. All (InImage image.now) headers.items)) }
 {
     let mut headers = Headers::start(alloc, image, file)?;
@@ -43,7 +42,7 @@ impl Headers {
     /// Only the header.
     fn start(alloc: Global, image: &Image, file: u32) -> Result<Headers, AllocError>
         requires { InImage image.now file }
-        ensures chain { IfOk result (λ headers. IsChain image.now next_extension headers.blocks.items) }
+        ensures chain { IfOk result (λ headers. IsChain image.now NEXT_EXTENSION headers.blocks.items) }
         ensures head { IfOk result (λ headers. slice_index headers.blocks.items 0 ≡ file) }
         ensures met { IfOk result (λ headers. HasMet headers.met headers.blocks.items) }
     {
@@ -68,12 +67,12 @@ impl Headers {
 
     /// Follows the link of the last block, unless it leads outside the image or back.
     fn go_on(&mut self, image: &Image) -> Result<bool, AllocError>
-        requires chain { IsChain image.now next_extension self.old.blocks.items }
+        requires chain { IsChain image.now NEXT_EXTENSION self.old.blocks.items }
         requires met { HasMet self.old.met self.old.blocks.items }
-        ensures chain { IfOk result (λ _. IsChain image.now next_extension self.new.blocks.items) }
+        ensures chain { IfOk result (λ _. IsChain image.now NEXT_EXTENSION self.new.blocks.items) }
         ensures met { IfOk result (λ _. HasMet self.new.met self.new.blocks.items) }
         ensures head { IfOk result (λ _. slice_index self.new.blocks.items 0 ≡ slice_index self.old.blocks.items 0) }
-        ensures whole { IfOk result (λ more. more ≡ false → LinkedOnce image.now next_extension (slice_index self.new.blocks.items 0) self.new.blocks.items) }
+        ensures whole { IfOk result (λ more. more ≡ false → LinkedOnce image.now NEXT_EXTENSION (slice_index self.new.blocks.items 0) self.new.blocks.items) }
     {
         let last = self.blocks[self.blocks.len() - 1];
         let next = image.long(last, NEXT_EXTENSION);
@@ -96,7 +95,7 @@ pub(crate) fn data_blocks(
     headers: &[u32],
 ) -> Result<Vec<u32>, AllocError>
     requires file { IsFile image.now file }
-    requires linked { LinkedOnce image.now next_extension file headers.now }
+    requires linked { LinkedOnce image.now NEXT_EXTENSION file headers.now }
     requires inside { All (InImage image.now) headers.now }
     ensures { IfOk result (λ blocks. AreDataBlocks image.now file blocks.items) }
 {

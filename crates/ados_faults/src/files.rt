@@ -1,6 +1,7 @@
 //! The files, checked against their sizes.
 ghost use Rattle.std.specs.Prelude.{◌≡◌, ◌≢◌, ◌<◌, All, IfOk, IsTrue, length};
-ghost use Rattle.adf_block.specs.Image.{file_size, block_count, format_of};
+ghost use Rattle.adf_block.specs.Image.{block_count};
+ghost use Rattle.adf_block.specs.Fields.{file_size, format_of};
 ghost use Rattle.ados_model.specs.Tree.{data_count};
 ghost use Rattle.ados_model.specs.Faults.{AreDataBlocks, InImage, IsFile};
 ghost use Rattle.ados_faults.specs.steps.Noted.{AreNoted};
@@ -11,7 +12,7 @@ use crate::file_blocks::{data_blocks, headers_of};
 use crate::notes::Notes;
 use crate::walk::{Step, most_steps};
 use adf_block::Image;
-use adf_block::layout::{FFS_ROOM, FILE_TYPE, KIND_BYTE, OFS_ROOM, SECONDARY_TYPE, SIZE};
+use adf_block::layout::{FFS_ROOM, FILE_SIZE, FILE_TYPE, KIND_BYTE, OFS_ROOM, SECONDARY_TYPE};
 use ados_model::{FaultKind, Role};
 use std::alloc::{AllocError, Global};
 
@@ -128,5 +129,5 @@ fn blocks_of_size(image: &Image, file: u32) -> u32
     } else {
         FFS_ROOM
     };
-    image.long(file, SIZE).div_ceil(room)
+    image.long(file, FILE_SIZE).div_ceil(room)
 }

@@ -21,13 +21,10 @@ mod notes;
 mod walk;
 
 // Their texts.
-mod counted;
 mod explained;
-mod held;
 mod marked;
 mod path;
-mod pointed;
-mod typed;
+mod texts;
 
 pub use ados_check::Mark;
 pub use explained::explain;

@@ -1,6 +1,6 @@
 //! The check of a block in a role, as far as it needs no other block.
 ghost use Rattle.std.specs.Prelude.{◌≡◌, ◌≢◌, ◌<◌, All, IsTrue, slice_index};
-ghost use Rattle.adf_block.specs.Layout.{block_longs};
+ghost use Rattle.adf_block.specs.declared.layout.TheConstants.{BLOCK_LONGS};
 ghost use Rattle.adf_block.specs.Image.{block_count, long};
 ghost use Rattle.ados_model.specs.declared.role.Role.TheVariants.{Root, Page, Entry, Data, Extension};
 ghost use Rattle.ados_model.specs.Faults.{HasPointers, InImage, IsFile, Reached, pointers_of, root_of};
@@ -72,7 +72,7 @@ fn look_root(image: &Image, block: u32, notes: &mut Notes)
 /// Whether a long is not the expected one.
 fn is_other(image: &Image, block: u32, i: u32, wanted: u32) -> bool
     requires inside { InImage image.now block }
-    requires long { i < block_longs }
+    requires long { i < BLOCK_LONGS }
     ensures { IsTrue result → long image.now block i ≢ wanted }
 {
     image.long(block, i) != wanted

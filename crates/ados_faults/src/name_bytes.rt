@@ -1,7 +1,6 @@
 //! The name of a root or entry, valid or not.
 ghost use Rattle.std.specs.Prelude.{◌≡◌, ◌↔◌, ◌<◌, ◌≤◌, IsTrue, length};
 ghost use Rattle.adf_block.specs.Whole.{text_at, IsImage};
-ghost use Rattle.adf_block.specs.Layout.{name_byte};
 ghost use Rattle.adf_block.specs.Image.{block_count, byte_at};
 ghost use Rattle.ados_name.specs.Name.{hash};
 ghost use Rattle.ados_model.specs.Faults.{HasBadName, HasName, HasShortName};
@@ -39,7 +38,7 @@ pub(crate) fn has_short_name(image: &Image, block: u32) -> bool
 fn short_text(image: &Image, block: u32) -> &[u8]
     requires inside { block < block_count image.now }
     requires short { HasShortName image.now block }
-    ensures text { result.now ≡ text_at image.now block name_byte }
+    ensures text { result.now ≡ text_at image.now block NAME_BYTE }
     ensures short { HasShortName image.now block }
     ensures few { length result.now ≤ 30 }
 {
@@ -76,7 +75,7 @@ fn hash_of(text: &[u8]) -> u32
 pub(crate) fn upper_name(image: &Image, block: u32) -> [u8; 31]
     requires image { IsImage image.now }
     requires inside { block < block_count image.now }
-    requires short { byte_at image.now block name_byte ≤ 30 }
+    requires short { byte_at image.now block NAME_BYTE ≤ 30 }
     ensures { result ≡ upper_name image.now block }
 {
     let len = image.byte(block, NAME_BYTE);

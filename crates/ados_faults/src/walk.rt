@@ -1,6 +1,6 @@
 //! The walk from the root over every place of every reached block, past all faults.
 ghost use Rattle.std.specs.Prelude.{◌≡◌, ◌≢◌, ◌<◌, ◌⊎◌, ◌∷◌, [], IfOk, IsTrue, None, replicate};
-ghost use Rattle.adf_block.specs.Layout.{block_longs};
+ghost use Rattle.adf_block.specs.declared.layout.TheConstants.{BLOCK_LONGS};
 ghost use Rattle.adf_block.specs.Whole.{IsImage};
 ghost use Rattle.adf_block.specs.Image.{block_count};
 ghost use Rattle.ados_model.specs.Faults.{InImage, IsPlace, PlaceNames, Reached};
@@ -110,7 +110,7 @@ impl Walk {
     fn pass(&mut self, image: &Image, step: Step, role: Role, i: u32) -> Result<(), AllocError>
         requires walked { IsWalked image.now self.old.notes.cells.items self.old.marks.items self.old.steps.items }
         requires step { IsStep image.now step }
-        requires long { i < block_longs }
+        requires long { i < BLOCK_LONGS }
         requires place { IsPlace image.now step.block step.role i role }
         ensures { IfOk result (λ _. IsWalked image.now self.new.notes.cells.items self.new.marks.items self.new.steps.items) }
     {

@@ -1,13 +1,14 @@
 -- DELETE_OBJECT.
 use Rattle.std.proofs.Common.{◌≡◌, ◌≢◌, ℕ, Bool, true, false, not, ◌==◌, List, [], ◌∷◌, Option, Some, Ok, IsSome, refl, sym, ap, ◌∙◌}
 use Rattle.std.proofs.lemmas.Bool.{ne_eqb}
-use Rattle.ados_name.specs.declared.Date3.{Date3}
+use Rattle.ados_name.specs.declared.stamp.Date3.{Date3}
 use Rattle.ados_name.specs.Name.{denies_delete}
 use Rattle.ados_model.specs.Tree.{Node, Tree, Proper, entries, root}
 use Rattle.ados_model.specs.Change.{removed}
 use Rattle.ados_model.proofs.Nodes.{some_in}
 use Rattle.ados_change.specs.Conditions.{CanRemove}
-use Rattle.ados_model.specs.Objects.{file_info, object, protection_in, protection_of}
+use Rattle.ados_model.specs.Objects.{file_info, object, protection_of}
+use Rattle.ados_model.specs.Parts.{protection_in}
 use Rattle.ados_model.specs.declared.dos_error.DosError.{DosError}
 use Rattle.ados_model.specs.declared.dos_error.DosError.TheVariants.{DeleteProtected, DeviceNotMounted, DirectoryNotEmpty, ObjectInUse, ObjectWrongType}
 use Rattle.ados_model.specs.declared.answer.FileInfo.{FileInfo}

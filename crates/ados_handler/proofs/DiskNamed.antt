@@ -1,15 +1,17 @@
 -- RENAME_DISK with a valid name.
-use Rattle.std.proofs.Common.{◌≡◌, ℕ, false, true, not, ◌==◌, List, [], ◌∷◌, length, None, Some, refl, arith}
-use Rattle.std.specs.Prelude.{is_none}
+use Rattle.std.proofs.Common.{◌≡◌, ℕ, Bool, false, true, cond, nat_lt, not, ◌==◌, List, [], ◌∷◌, length, None, Some, refl, arith}
+use Rattle.std.specs.Prelude.{◌||◌}
 use Rattle.std.specs.List.{list_any}
-use Rattle.std.proofs.lemmas.Bool.{le-ltb, ne_eqb, or_from}
+use Rattle.std.proofs.lemmas.Bool.{le-ltb, ne_eqb}
 use Rattle.std.proofs.lemmas.List.Folds.{list_any_none}
 use Rattle.std.proofs.lemmas.List.Elements.{All-from_get_or, All-get_or}
-use Rattle.ados_name.specs.declared.Date3.{Date3}
+use Rattle.ados_name.specs.declared.stamp.Date3.{Date3}
 use Rattle.ados_name.specs.declared.NameFault.{NameFault}
-use Rattle.ados_name.specs.Name.{first_fault, IsName, IsNameByte, is_separator}
+use Rattle.ados_name.specs.declared.NameFault.TheVariants as faults
+use Rattle.ados_name.specs.Name.{IsName, IsNameByte, is_separator}
+use Rattle.ados_name.specs.Fault.{first_fault}
 use Rattle.ados_model.specs.Tree.{Tree}
-use Rattle.ados_model.specs.Change.{disk_renamed}
+use Rattle.ados_model.specs.Edits.{disk_renamed}
 use Rattle.ados_model.specs.declared.dos_error.DosError.TheVariants.{DeviceNotMounted, InvalidComponentName}
 use Rattle.ados_model.specs.Packet.{dos_true}
 use Rattle.ados_model.specs.declared.packet.Packet.TheVariants.{RenameDisk}
@@ -19,9 +21,7 @@ use Rattle.ados_model.specs.Refusals.{first_refusal, is_name, refusal, refuse}
 use Rattle.ados_model.specs.Success.{after}
 use Rattle.ados_handler.specs.steps.Methods.{MethodMeans}
 use Rattle.ados_handler.proofs.Meant.{done, served_means}
-
-no_separator : (c : ℕ) → IsNameByte c → is_separator c ≡ false
-no_separator c byte = or_from (c == 47) (c == 58) (ne_eqb c 47 byte.no_slash) (ne_eqb c 58 byte.no_colon)
+use Rattle.ados_name.proofs.NameLemmas.{no_separator}
 
 -- a name has no fault
 pub is_named : (name : List ℕ) → IsName name → is_name name ≡ true
@@ -38,6 +38,16 @@ rename_disk_means t s new name now alive is same =
     served_means t (disk_renamed now name t) s new (RenameDisk name) now (done Empty) none
     (record { success = λ i. after (disk_renamed now name t) (same i) dos_true Empty; action = refl; res2 = refl })
 
+faulty : (a b c : Bool) (fault : NameFault) → cond a (Some faults.Empty) (cond b (Some faults.TooLong) (cond c (Some faults.Separator) None)) ≡ Some fault → not (a || b || c) ≡ false
+faulty true b c fault h = refl
+faulty false true c fault h = refl
+faulty false false true fault h = refl
+faulty false false false fault h = absurd (let conflict : None ≡ Some fault = h in cc)
+
+-- a text with a fault is no name
+unnamed : (name : List ℕ) (fault : NameFault) → first_fault name ≡ Some fault → is_name name ≡ false
+unnamed name fault has = faulty (length name == 0) (nat_lt 30 (length name)) (list_any is_separator name) fault has
+
 -- a text with a fault is refused
 pub no_name_refused : (t : Tree) (s : Session) (name : List ℕ) (fault : NameFault) → s.died ≡ false → first_fault name ≡ Some fault → refusal t s (RenameDisk name) ≡ Some InvalidComponentName
-no_name_refused t s name fault alive has = λ i. first_refusal (refuse DeviceNotMounted (alive i) ∷ refuse InvalidComponentName (not (is_none (has i))) ∷ [])
+no_name_refused t s name fault alive has = λ i. first_refusal (refuse DeviceNotMounted (alive i) ∷ refuse InvalidComponentName (not (unnamed name fault has i)) ∷ [])

@@ -3,14 +3,15 @@ use Rattle.std.proofs.Common.{◌≡◌, ℕ, ◌+◌, ◌-◌, Bool, true, fals
 use Rattle.adf_block.specs.Image.{block_count, has_free_bit}
 use Rattle.ados_map.specs.Pages.{IsLowestFree, NoneFree}
 use Rattle.ados_name.specs.Name.{IsName}
-use Rattle.ados_model.specs.Tree.{Tree, IsUnused}
+use Rattle.ados_model.specs.Tree.{Tree}
+use Rattle.ados_model.specs.Parts.{IsUnused}
 use Rattle.ados_model.specs.Stands.{Stands, Duty}
 use Rattle.ados_model.specs.Change.{child_of}
 use Rattle.ados_model.proofs.Counting.{free_bits_count}
 use Rattle.ados_model.proofs.Totals.{total-zero}
 use Rattle.ados_change.specs.Conditions.{CanMake, IsDirectoryKey}
 use Rattle.ados_change.proofs.Making.{unused}
-use Rattle.ados_model.specs.Objects.{lacks}
+use Rattle.ados_model.specs.Reads.{lacks}
 use Rattle.ados_model.specs.Success.{IsNewKey}
 use Rattle.ados_handler.proofs.Making.{no_child_new, none_there}
 
@@ -26,7 +27,7 @@ module _ (image : List ℕ) (t : Tree) (s : Stands image t) where
 
   -- the lowest free block is a new key
   pub new_key : (key : ℕ) → IsLowestFree image key → IsNewKey t key
-  new_key key low = (fresh key low, go (t.lost key) refl)
+  new_key key low = ((fresh key low).inside, (fresh key low).no_node, go (t.lost key) refl)
     where
       go : (o : Option (List ℕ)) → t.lost key ≡ o → o ≡ None
       go None e = refl

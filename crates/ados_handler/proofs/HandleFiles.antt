@@ -4,8 +4,9 @@ use Rattle.std.specs.Option.{option_map_or}
 use Rattle.std.specs.Prelude.{IfSome}
 use Rattle.std.specs.Ordering.{nat_cmp}
 use Rattle.std.specs.FinMap.{FinMap, get}
-use Rattle.ados_name.specs.declared.Date3.{Date3}
-use Rattle.ados_model.specs.Tree.{Content, Node, Tree, size_in, size_of}
+use Rattle.ados_name.specs.declared.stamp.Date3.{Date3}
+use Rattle.ados_model.specs.Tree.{Content, Node, Tree, size_of}
+use Rattle.ados_model.specs.Parts.{size_in, protection_in}
 use Rattle.ados_model.specs.Tree.Content.{File}
 use Rattle.ados_model.specs.Stands.{Stands}
 use Rattle.ados_model.specs.Change.{is_file}
@@ -19,7 +20,7 @@ use Rattle.ados_model.specs.declared.results.Results.{Results}
 use Rattle.ados_volume.specs.Shown.{Shown}
 use Rattle.ados_model.specs.Session.{Session, is_handle, handle_key, handle_position, HandlerState}
 use Rattle.ados_model.specs.declared.holds.HandleHold.{HandleHold}
-use Rattle.ados_model.specs.Objects.{protection_in, protection_of}
+use Rattle.ados_model.specs.Objects.{protection_of}
 use Rattle.ados_handler.specs.Keeps.{HasPathTexts}
 use Rattle.ados_handler.specs.Gives.{IsSoundHandler}
 use Rattle.ados_handler.specs.steps.Methods.{MethodGives, MethodMeans}

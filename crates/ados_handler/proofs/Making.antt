@@ -5,12 +5,14 @@ use Rattle.std.specs.Result.{result_err}
 use Rattle.std.proofs.lemmas.Bool.{cases_eq, false≢true, true≢false}
 use Rattle.std.proofs.lemmas.Slice.Eq.{bytes_eq-Decides}
 use Rattle.ados_model.proofs.KeyLists.{Contains-cases, Contains-nil}
-use Rattle.ados_name.specs.declared.Date3.{Date3}
+use Rattle.ados_name.specs.declared.stamp.Date3.{Date3}
 use Rattle.ados_name.specs.Name.{IsName, upper, front, last_name, steps}
 use Rattle.ados_name.specs.Path.{IsPathText}
-use Rattle.ados_model.specs.Tree.{Content, Node, Tree, Proper, entries, name_of, size_in}
+use Rattle.ados_model.specs.Tree.{Content, Node, Tree, Proper, entries, name_of}
+use Rattle.ados_model.specs.Parts.{IsUnused, size_in}
 use Rattle.ados_model.specs.Tree.Content.{Directory, File}
-use Rattle.ados_model.specs.Change.{child_of, holds_file, is_file, place_in, start_of, walk_steps, listed, made, new_node, rewritten, with_node}
+use Rattle.ados_model.specs.Change.{child_of, holds_file, is_file, place_in, start_of, walk_steps, listed, made, rewritten, with_node}
+use Rattle.ados_model.specs.Edits.{new_node}
 use Rattle.ados_model.specs.declared.dos_error.WalkFault.{WalkFault}
 use Rattle.ados_model.specs.declared.dos_error.WalkFault.TheVariants.{DirectoryNotFound}
 use Rattle.ados_model.specs.declared.dos_error.PlaceFault.TheVariants as faults
@@ -109,15 +111,18 @@ module _ (t : Tree) (s : Session) (proper : Proper t) (session : IsProperSession
   abbrev begun : Tree
   begun = with_node key (Some (new_node moment dir name content)) t
 
+  unused : IsUnused t key
+  unused = record { inside = fresh.0; no_node = fresh.1 }
+
   grown_proper : Proper grown_tree
-  grown_proper = made_is_proper t moment dir key name content proper can fresh.0 empty
+  grown_proper = made_is_proper t moment dir key name content proper can unused empty
 
   not_key : dir ≢ key
-  not_key = dir_not_key t moment dir key name content proper can fresh.0 empty
+  not_key = dir_not_key t moment dir key name content proper can unused empty
 
   begun_carried : (k : ℕ) → Carried (t.nodes k) (begun.nodes k)
   begun_carried k = elim (cases_eq k key) [
-    | inl same ↦ subst (λ (o : Option Node). Carried o (begun.nodes k)) (sym (ap t.nodes same ∙ fresh.0.no_node)) (carried_new (begun.nodes k))
+    | inl same ↦ subst (λ (o : Option Node). Carried o (begun.nodes k)) (sym (ap t.nodes same ∙ fresh.1)) (carried_new (begun.nodes k))
     | inr other ↦ carried_beside t key (Some (new_node moment dir name content)) k other
   ]
 
@@ -136,7 +141,7 @@ module _ (t : Tree) (s : Session) (proper : Proper t) (session : IsProperSession
 
   -- the new key is not held
   unheld : (exclusive : Bool) → IsFree s key exclusive
-  unheld exclusive hold e h = absurd (false≢true (sym (ap is_some fresh.0.no_node) ∙ session.on_keys hold key e h))
+  unheld exclusive hold e h = absurd (false≢true (sym (ap is_some fresh.1) ∙ session.on_keys hold key e h))
 
   pub made_lock : (exclusive : Bool) (result : After) → GivesLock grown_tree s key exclusive result → IsProperAfter result
   made_lock exclusive result w = same_after result _ w.2 (grown_proper, proper_with_lock grown_tree s holds_kept w.0 key exclusive (ap is_some here) (unheld exclusive))

@@ -1,7 +1,7 @@
 -- CREATE_DIR.
 use Rattle.std.proofs.Common.{◌≡◌, ℕ, pos, true, false, List, [], ◌∷◌, Option, None, Ok, refl, sym, ap, ◌∙◌}
 use Rattle.std.specs.Prelude.{is_some}
-use Rattle.ados_name.specs.declared.Date3.{Date3}
+use Rattle.ados_name.specs.declared.stamp.Date3.{Date3}
 use Rattle.ados_model.specs.Tree.{Tree, Proper}
 use Rattle.ados_model.specs.Tree.Content.{Directory}
 use Rattle.ados_model.specs.Stands.{Stands}
@@ -13,7 +13,8 @@ use Rattle.ados_model.specs.declared.packet.Packet.TheVariants.{CreateDir}
 use Rattle.ados_model.specs.declared.answer.Body.TheVariants.{Empty}
 use Rattle.ados_model.specs.Session.{Session, IsFreeNumber, with_lock}
 use Rattle.ados_handler.specs.ProperSession.{IsProperSession}
-use Rattle.ados_model.specs.Objects.{lacks, spot}
+use Rattle.ados_model.specs.Objects.{spot}
+use Rattle.ados_model.specs.Reads.{lacks}
 use Rattle.ados_model.specs.Resolved.{placed_at}
 use Rattle.ados_model.specs.Refusals.{first_refusal, refusal, refusals, refuse}
 use Rattle.ados_model.specs.Success.{GivesLock, IsNewKey, after}

@@ -3,7 +3,7 @@ use Rattle.std.proofs.Common.{◌≡◌, ℕ, Bool, false, List, [], ◌∷◌, 
 use Rattle.std.specs.Ordering.{nat_cmp}
 use Rattle.std.specs.FinMap.{FinMap}
 use Rattle.ados_map.specs.Pages.{IsLowestFree}
-use Rattle.ados_name.specs.declared.Date3.{Date3}
+use Rattle.ados_name.specs.declared.stamp.Date3.{Date3}
 use Rattle.ados_name.specs.Name.{IsName}
 use Rattle.ados_model.specs.Change.{made, child_of}
 use Rattle.ados_model.specs.Keys.{HasDirectory}
@@ -16,7 +16,7 @@ use Rattle.ados_model.specs.declared.dos_error.DosError.TheVariants.{DiskFull}
 use Rattle.ados_model.specs.declared.results.Results.{Results}
 use Rattle.ados_model.specs.declared.holds.HandleHold.{HandleHold}
 use Rattle.ados_model.specs.Session.{Session, HandlerState}
-use Rattle.ados_model.specs.Objects.{lacks}
+use Rattle.ados_model.specs.Reads.{lacks}
 use Rattle.ados_model.specs.Refusals.{first_refusal, refuse}
 use Rattle.ados_model.specs.Success.{MakesFile}
 use Rattle.ados_handler.specs.Gives.{IsSoundHandler}

@@ -3,10 +3,10 @@ use Rattle.std.proofs.Common.{◌≡◌, ◌≢◌, ℕ, pos, Bool, true, false,
 use Rattle.std.specs.Result.{result_err, result_unwrap_or}
 use Rattle.std.specs.Prelude.{length}
 use Rattle.std.proofs.lemmas.Bool.{le-leb, ne_eqb}
-use Rattle.ados_name.specs.declared.Date3.{Date3}
+use Rattle.ados_name.specs.declared.stamp.Date3.{Date3}
 use Rattle.ados_name.specs.Name.{IsComment}
 use Rattle.ados_model.specs.Tree.{Tree, root}
-use Rattle.ados_model.specs.Change.{with_comment, with_date, with_protection}
+use Rattle.ados_model.specs.Edits.{with_comment, with_date, with_protection}
 use Rattle.ados_model.specs.declared.dos_error.WalkFault.{WalkFault}
 use Rattle.ados_model.proofs.OneTree.{one_tree}
 use Rattle.ados_model.specs.declared.dos_error.DosError.{DosError}

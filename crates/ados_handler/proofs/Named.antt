@@ -1,6 +1,6 @@
 -- The texts of packets that are names or comments.
-use Rattle.std.proofs.Common.{◌≡◌, ◌≢◌, ℕ, zero, suc, ◌+◌, ◌-◌, ◌<◌, ◌≤◌, ◌==◌, Bool, true, false, cond, nat_lt, not, List, length, drop, get_or, All, Some, None, refl, sym, ap, subst, ◌∙◌, arith, get_or-drop, length-drop, ltb-false}
-use Rattle.std.specs.Prelude.{is_none}
+use Rattle.std.proofs.Common.{◌≡◌, ◌≢◌, ℕ, zero, suc, ◌+◌, ◌-◌, ◌<◌, ◌≤◌, ◌==◌, Bool, true, false, cond, nat_lt, not, List, length, drop, get_or, All, refl, sym, ap, subst, ◌∙◌, arith, get_or-drop, length-drop, ltb-false}
+use Rattle.std.specs.Prelude.{◌||◌}
 use Rattle.std.specs.List.{list_any, suffix_len}
 use Rattle.std.proofs.lemmas.List.Folds.{list_any_none, list_any_at}
 use Rattle.std.proofs.lemmas.List.Elements.{All-drop, All-from_get_or, All-get_or}
@@ -8,16 +8,9 @@ use Rattle.std.proofs.lemmas.List.Sums.{suffix_len_is}
 use Rattle.std.proofs.Common.{◌⊎◌, inl, inr}
 use Rattle.std.proofs.lemmas.Bool.{cases_eq, eq-eqb, false_from_ne_true, true≢false, leb-true}
 use Rattle.ados_name.specs.Name.{is_separator, IsComment, IsName, IsNameByte, last_name}
-use Rattle.ados_name.specs.declared.NameFault.TheVariants.{Empty, TooLong, Separator}
 use Rattle.ados_name.specs.Path.{IsPathText}
 use Rattle.ados_model.specs.Refusals.{is_name, is_comment}
-
-name_byte : (c : ℕ) → c < 256 → is_separator c ≡ false → IsNameByte c
-name_byte c byte plain = record {
-  byte = byte;
-  no_slash = λ e. true≢false (subst (λ x. is_separator x ≡ false) e plain);
-  no_colon = λ e. true≢false (subst (λ x. is_separator x ≡ false) e plain);
-}
+use Rattle.ados_name.proofs.NameLemmas.{name_byte}
 
 -- 1 to 30 bytes without a separator are a name
 pub plain_name : (text : List ℕ) → (length text == 0) ≡ false → nat_lt 30 (length text) ≡ false → All (λ c. c < 256) text → list_any is_separator text ≡ false → IsName text
@@ -28,7 +21,7 @@ plain_name text some short bytes plain = record {
       (false_from_ne_true _ (λ e. true≢false (sym (list_any_at is_separator text k 0 inside e) ∙ plain))));
 }
 
-no_fault : (a b c : Bool) → is_none (cond a (Some Empty) (cond b (Some TooLong) (cond c (Some Separator) None))) ≡ true → (a ≡ false) × (b ≡ false) × (c ≡ false)
+no_fault : (a b c : Bool) → not (a || b || c) ≡ true → (a ≡ false) × (b ≡ false) × (c ≡ false)
 no_fault false false false h = (refl, refl, refl)
 no_fault true b c h = absurd (true≢false (sym h))
 no_fault false true c h = absurd (true≢false (sym h))

@@ -1,7 +1,7 @@
 -- The places of packets, and the meaning of a refused packet.
 use Rattle.std.proofs.Common.{◌≡◌, ℕ, Bool, true, false, cond, not, List, [], ◌∷◌, Option, Some, MatchOption, Result, Ok, Err, option_map, refl, sym, ap, ◌∙◌, subst}
 use Rattle.std.specs.Result.{result_err, result_unwrap_or}
-use Rattle.ados_name.specs.declared.Date3.{Date3}
+use Rattle.ados_name.specs.declared.stamp.Date3.{Date3}
 use Rattle.ados_model.specs.Tree.{Tree}
 use Rattle.ados_model.specs.declared.dos_error.PlaceFault.{PlaceFault}
 use Rattle.ados_model.specs.declared.dos_error.DosError.{DosError}

@@ -6,8 +6,9 @@ use Rattle.std.specs.Option.{option_map_or}
 use Rattle.std.specs.FinMap.{get, insert}
 use Rattle.std.proofs.lemmas.Option.{none-some}
 use Rattle.std.proofs.lemmas.Bool.{leb-true}
-use Rattle.ados_name.specs.declared.Date3.{Date3}
-use Rattle.ados_model.specs.Tree.{Content, Tree, Proper, root, bytes_in, bytes_of, content_at, parent_of, size_in, size_of}
+use Rattle.ados_name.specs.declared.stamp.Date3.{Date3}
+use Rattle.ados_model.specs.Tree.{Content, Tree, Proper, root, bytes_in, bytes_of, content_at, parent_of, size_of}
+use Rattle.ados_model.specs.Parts.{size_in}
 use Rattle.ados_model.specs.Tree.Content.{Directory, File}
 use Rattle.ados_model.specs.Change.{is_file}
 use Rattle.ados_model.specs.declared.dos_error.DosError.{DosError}
@@ -19,7 +20,8 @@ use Rattle.ados_model.specs.declared.answer.Body.TheVariants.{Empty}
 use Rattle.ados_model.specs.Session.{Session, is_lock, is_held_exclusively, without_lock, at_position, handle_key, handle_position}
 use Rattle.ados_model.specs.declared.holds.LockHold.{LockHold}
 use Rattle.ados_model.specs.declared.holds.HandleHold.{HandleHold}
-use Rattle.ados_model.specs.Objects.{walk_error, lock_key, found, object, is_exclusive_mode, seek_target, is_bad_target, target_number}
+use Rattle.ados_model.specs.Objects.{walk_error, lock_key, found, object, is_exclusive_mode, is_bad_target, target_number}
+use Rattle.ados_model.specs.Reads.{seek_target}
 use Rattle.ados_model.specs.Refusals.{refuse, first_refusal, refusal, refusals, is_some_and}
 use Rattle.ados_model.specs.Success.{After, after, Success, GivesLock, GivesHandle}
 use Rattle.ados_model.specs.Meaning.{IsRefused, ServedOrNoMemory}

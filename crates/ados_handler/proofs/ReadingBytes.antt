@@ -3,7 +3,7 @@ use Rattle.std.proofs.Common.{◌≡◌, ℕ, ◌+◌, ◌-◌, ◌≤◌, min, 
 use Rattle.std.specs.Ordering.{nat_cmp}
 use Rattle.std.specs.FinMap.{FinMap, get}
 use Rattle.std.proofs.lemmas.List.{take_min}
-use Rattle.ados_name.specs.declared.Date3.{Date3}
+use Rattle.ados_name.specs.declared.stamp.Date3.{Date3}
 use Rattle.ados_name.specs.Name.{denies_read}
 use Rattle.ados_model.specs.Tree.{Tree, bytes_of, content_at, size_of}
 use Rattle.ados_model.specs.Stands.{Stands}
@@ -14,7 +14,8 @@ use Rattle.ados_model.specs.declared.answer.Body.TheVariants.{Buffer}
 use Rattle.ados_volume.specs.Shown.{Shown}
 use Rattle.ados_model.specs.Session.{Session, at_position, handle_key, HandlerState}
 use Rattle.ados_model.specs.declared.holds.HandleHold.{HandleHold}
-use Rattle.ados_model.specs.Objects.{bytes_read, protection_of}
+use Rattle.ados_model.specs.Objects.{protection_of}
+use Rattle.ados_model.specs.Reads.{bytes_read}
 use Rattle.ados_model.specs.Refusals.{first_refusal, refuse, refusal}
 use Rattle.ados_model.specs.Success.{after}
 use Rattle.ados_handler.specs.steps.Methods.{MethodGives, MethodMeans}

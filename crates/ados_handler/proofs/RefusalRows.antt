@@ -1,12 +1,10 @@
 -- Examples of refusals, computed from the definitions.
-use Rattle.std.specs.Prelude.{◌≡◌, ℕ, ◌==◌, if◌then◌else◌, List, [], ◌∷◌, pos, negsuc, codes, refl, replicate, Option, Some, None, true}
+use Rattle.std.specs.Prelude.{◌≡◌, ℕ, ◌==◌, if◌then◌else◌, List, [], ◌∷◌, pos, negsuc, codes, refl, replicate, Option, Some, None, true, ◌++◌, map}
 use Rattle.std.proofs.Common.{ap₂, sym, ◌∙◌}
-use Rattle.std.specs.Prelude.{◌++◌, map}
 use Rattle.std.specs.Ordering.{nat_cmp}
 use Rattle.std.specs.FinMap as numbered
 use Rattle.std.proofs.lemmas.List.{nil_from_length}
-use Rattle.adf_block.specs.declared.Format.TheVariants.{Ffs}
-use Rattle.ados_name.specs.declared.Date3.{Date3}
+use Rattle.adf_block.specs.declared.layout.Format.TheVariants.{Ffs}
 use Rattle.ados_name.specs.Name.{steps, steps_along, last_name, front}
 use Rattle.ados_model.specs.Tree.{Content, Node, Tree}
 use Rattle.ados_model.specs.Tree.Content.{Directory, File}
@@ -16,9 +14,7 @@ use Rattle.ados_model.specs.Session.{holds, opening_session}
 use Rattle.ados_model.specs.declared.holds.LockHold.{LockHold}
 use Rattle.ados_model.specs.declared.holds.HandleHold.{HandleHold}
 use Rattle.ados_model.specs.Refusals.{refusal}
-
-abbrev moment : Date3
-moment = record { days = 0; minutes = 0; ticks = 0 }
+use Rattle.ados_model.proofs.WorkedWalks.{moment}
 
 abbrev node : List ℕ → Option ℕ → ℕ → Content → Node
 node name parent bits content = record { name = name; parent = parent; protection = bits; date = moment; comment = []; content = content }

@@ -7,14 +7,14 @@ use Rattle.std.specs.FinMap as numbered
 use Rattle.std.specs.FinMap.{get, find, nat_cmp-IsAntisymmetric, get-from_sorted, get-from_entries, entries-from_sorted, same_map}
 use Rattle.std.proofs.lemmas.Bool.{eqb-true, false_from_ne_true, le-ltb, lt-ltb, ne_eqb, not-false}
 use Rattle.slab.specs.Slab.{Slab, RetainsFrom, entries_from}
-use Rattle.adf_block.specs.declared.Format.{Format}
-use Rattle.adf_block.specs.declared.Format.TheVariants.{Ofs, Ffs}
+use Rattle.adf_block.specs.declared.layout.Format.{Format}
+use Rattle.adf_block.specs.declared.layout.Format.TheVariants.{Ofs, Ffs}
 use Rattle.ados_model.specs.Tree.{block_cost, Tree, free, size_of, needs_more}
-use Rattle.ados_name.specs.declared.Date3.{Date3}
+use Rattle.ados_name.specs.declared.stamp.Date3.{Date3}
 use Rattle.ados_name.specs.Name.{denies_write}
 use Rattle.ados_model.specs.Stands.{Stands}
 use Rattle.ados_change.specs.NewBlocks.{KeepsRest}
-use Rattle.ados_model.specs.Change.{grown, shortened}
+use Rattle.ados_model.specs.Edits.{grown, shortened}
 use Rattle.ados_change.specs.Renewed.{NeedsMore}
 use Rattle.ados_model.specs.declared.dos_error.DosError.{DosError}
 use Rattle.ados_model.specs.declared.dos_error.DosError.TheVariants.{DiskFull, SeekError, WriteProtected}
@@ -26,7 +26,8 @@ use Rattle.ados_model.specs.declared.answer.Body.TheVariants.{Empty}
 use Rattle.ados_model.specs.declared.holds.HandleHold.{HandleHold}
 use Rattle.ados_model.specs.Session.{handle_key, positions_within, HandlerState}
 use Rattle.ados_handler.specs.steps.Table.{numbered_from_one}
-use Rattle.ados_model.specs.Objects.{handle_target, is_bad_target, protection_of, seek_target, target_number}
+use Rattle.ados_model.specs.Objects.{handle_target, is_bad_target, protection_of, target_number}
+use Rattle.ados_model.specs.Reads.{seek_target}
 use Rattle.ados_model.specs.Refusals.{first_refusal, refusal, refuse}
 use Rattle.ados_model.specs.Success.{after, resized}
 use Rattle.ados_model.specs.Meaning.{IsRefused, ServedOrNoMemory}

@@ -7,10 +7,12 @@ use Rattle.std.specs.Option.{option_map_or}
 use Rattle.std.specs.FinMap.{get, find, entries, get-entries, get-from_entries}
 use Rattle.std.proofs.lemmas.List.{length-replicate}
 use Rattle.std.proofs.lemmas.Bool.{cases_eq, false≢true, true≢false}
-use Rattle.ados_name.specs.declared.Date3.{Date3}
-use Rattle.ados_model.specs.Tree.{Content, Node, Tree, Proper, root, bytes_in, bytes_of, size_in, size_of}
+use Rattle.ados_name.specs.declared.stamp.Date3.{Date3}
+use Rattle.ados_model.specs.Tree.{Content, Node, Tree, Proper, root, bytes_in, bytes_of, size_of}
+use Rattle.ados_model.specs.Parts.{size_in}
 use Rattle.ados_model.specs.Tree.Content.{Directory, File}
-use Rattle.ados_model.specs.Change.{is_file, holds_file, grown, overlaid, rewritten, shortened, written}
+use Rattle.ados_model.specs.Change.{is_file, holds_file, rewritten, written}
+use Rattle.ados_model.specs.Edits.{grown, overlaid, shortened}
 use Rattle.ados_name.specs.Name.{without_archive}
 use Rattle.ados_change.proofs.Cases.{changed_node}
 use Rattle.ados_change.specs.Stamps.{touched}

@@ -2,7 +2,7 @@
 use Rattle.std.proofs.Common.{◌≡◌, ℕ, ℤ, pos, Bool, false, [], ◌∷◌, Option, Some, None, refl, sym, ap, ap₂, ◌∙◌, subst}
 use Rattle.std.specs.Ordering.{nat_cmp}
 use Rattle.std.specs.FinMap.{FinMap, get}
-use Rattle.ados_name.specs.declared.Date3.{Date3}
+use Rattle.ados_name.specs.declared.stamp.Date3.{Date3}
 use Rattle.ados_model.specs.Tree.{Tree, size_of}
 use Rattle.ados_model.specs.Stands.{Stands}
 use Rattle.ados_model.specs.declared.dos_error.DosError.TheVariants.{SeekError}
@@ -12,7 +12,8 @@ use Rattle.ados_model.specs.declared.results.Results.{Results}
 use Rattle.ados_model.specs.declared.answer.Body.TheVariants.{Empty}
 use Rattle.ados_model.specs.Session.{Session, at_position, handle_key, HandlerState}
 use Rattle.ados_model.specs.declared.holds.HandleHold.{HandleHold}
-use Rattle.ados_model.specs.Objects.{handle_target, is_bad_target, seek_target, target_number}
+use Rattle.ados_model.specs.Objects.{handle_target, is_bad_target, target_number}
+use Rattle.ados_model.specs.Reads.{seek_target}
 use Rattle.ados_model.specs.Refusals.{first_refusal, refuse, refusal}
 use Rattle.ados_model.specs.Success.{after}
 use Rattle.ados_handler.specs.steps.Methods.{MethodGives, MethodMeans}

@@ -1,24 +1,15 @@
 -- A file has at most as many data blocks as the volume has blocks, so its size is below 2^31.
-use Rattle.std.proofs.Common.{◌≡◌, ◌≢◌, ℕ, suc, ◌<◌, ◌≤◌, inl, inr, List, [], ◌∷◌, true, eqb, length, slice_index, Some, sym, ap, ◌∙◌, subst, arith}
-use Rattle.std.proofs.lemmas.Bool.{ne_eqb, cases_eq}
+use Rattle.std.proofs.Common.{◌≡◌, ◌≢◌, ℕ, ◌<◌, ◌≤◌, List, length, slice_index, Some, sym, ap, ◌∙◌, subst, arith}
 use Rattle.std.proofs.lemmas.Bool.Decides.{Decides-eqb}
 use Rattle.std.proofs.lemmas.List.{get_or_default}
 use Rattle.std.proofs.lemmas.Map.Made.{IsDistinct-from_AllPairs}
 use Rattle.std.proofs.lemmas.Map.Steps.{length-le_from_distinct_below}
-use Rattle.std.specs.List.{list_any}
-use Rattle.adf_block.specs.declared.Format.{Format}
-use Rattle.adf_block.specs.declared.Format.TheVariants.{Ofs, Ffs}
+use Rattle.adf_block.specs.declared.layout.Format.{Format}
+use Rattle.adf_block.specs.declared.layout.Format.TheVariants.{Ofs, Ffs}
 use Rattle.ados_model.specs.Tree.{data_count, Tree, size_of}
 use Rattle.ados_model.specs.Stands.{Duty, Stands}
 use Rattle.ados_model.proofs.Standing.{slice_get-index}
-
--- an element of a list is below the bound of the list
-below_bound : (xs : List ℕ) (n q : ℕ) → ((i : ℕ) → i < length xs → slice_index xs i < n) → list_any (eqb q) xs ≡ true → q < n
-below_bound [] n q small any = cc
-below_bound (x ∷ xs) n q small any = elim (cases_eq q x) [
-  | inl e ↦ omega (arith, e, small 0 (omega arith))
-  | inr ne ↦ below_bound xs n q (λ i l. small (suc i) (omega arith)) (rw (ne_eqb q x ne) at any)
-]
+use Rattle.ados_model.proofs.KeyLists.{below_bound}
 
 -- this many data blocks hold at most this many bytes
 size_bound : (format : Format) (size blocks : ℕ) → data_count format size ≤ blocks → blocks ≤ 101602 → size ≤ 52020224

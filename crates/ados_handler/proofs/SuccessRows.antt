@@ -4,8 +4,8 @@ use Rattle.std.proofs.Common.{◌∙◌, lit≤}
 use Rattle.std.specs.Ordering.{nat_cmp}
 use Rattle.std.specs.Cmp.{nat_cmp_total}
 use Rattle.std.specs.FinMap as numbered
-use Rattle.adf_block.specs.declared.Format.TheVariants.{Ffs}
-use Rattle.ados_name.specs.declared.Date3.{Date3}
+use Rattle.adf_block.specs.declared.layout.Format.TheVariants.{Ffs}
+use Rattle.ados_name.specs.declared.stamp.Date3.{Date3}
 use Rattle.ados_name.specs.Name.{steps, steps_along, last_name, front}
 use Rattle.ados_model.specs.Tree.{Node, Tree}
 use Rattle.ados_model.specs.Tree.Content.{Directory, File}

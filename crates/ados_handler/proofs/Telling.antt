@@ -3,7 +3,7 @@ use Rattle.std.proofs.Common.{◌≡◌, ◌≢◌, ℕ, true, false, inl, inr, 
 use Rattle.std.specs.Prelude.{◌∷◌, ◌==◌}
 use Rattle.std.specs.Result.{result_err}
 use Rattle.std.proofs.lemmas.Bool.{cases_eq}
-use Rattle.ados_name.specs.declared.Date3.{Date3}
+use Rattle.ados_name.specs.declared.stamp.Date3.{Date3}
 use Rattle.ados_name.specs.Path.{IsPathText}
 use Rattle.ados_model.specs.Tree.{Node, Tree, Proper, root}
 use Rattle.ados_model.specs.Change.{changed, stamped, with_node}

@@ -1,6 +1,6 @@
 -- A key is below another if a chain of parents leads to that. `is_under` finds this within as many steps as there are
 -- blocks.
-use Rattle.std.proofs.Common.{◌≡◌, ◌≢◌, ℕ, zero, suc, ◌+◌, ◌<◌, ◌≤◌, inl, inr, Bool, true, false, nat_eq, ◌==◌, List, [], ◌∷◌, length, Contains, Option, Some, None, refl, sym, ap, ◌∙◌, subst, arith, eq-eqb, eqb-true}
+use Rattle.std.proofs.Common.{◌≡◌, ◌≢◌, ℕ, zero, suc, ◌+◌, ◌<◌, ◌≤◌, inl, inr, Bool, true, false, nat_eq, ◌==◌, List, [], ◌∷◌, length, Contains, Option, None, refl, sym, ap, ◌∙◌, subst, arith, eq-eqb, eqb-true}
 use Rattle.std.specs.Prelude.{◌||◌, option_and_then}
 use Rattle.std.specs.List.{list_any}
 use Rattle.std.specs.Option.{option_map_or}
@@ -8,37 +8,16 @@ use Rattle.std.proofs.lemmas.Bool.{false≢true}
 use Rattle.std.proofs.lemmas.List.Elements.{Contains-get_or}
 use Rattle.std.proofs.lemmas.List.Kept.{AllPairs-cons}
 use Rattle.ados_model.proofs.KeyLists.{Once, Contains-cases, Contains-here, Contains-later, Contains-nil, length-once}
-use Rattle.ados_model.specs.Tree.{Tree, Proper, LeadsToRoot, parent_of, root}
+use Rattle.ados_model.specs.Tree.{Tree, Proper, LeadsToRoot, parent_of}
 use Rattle.ados_model.specs.Tree.LeadsToRoot.{at_root, by_parent}
 use Rattle.ados_model.proofs.Nodes.{parent_in, some_in}
 use Rattle.ados_change.specs.Conditions.{IsUnder}
 use Rattle.ados_change.specs.Conditions.IsUnder.{itself, by_parent as under_parent}
 use Rattle.ados_model.specs.Objects.{upward}
 use Rattle.ados_handler.specs.Keeps.{UnderIsTold}
+use Rattle.ados_volume.proofs.Loops.{no_loop, no_parent}
 
 module _ (t : Tree) (proper : Proper t) where
-  no_parent : (key dir : ℕ) → key ≡ root t → parent_of t key ≡ Some dir → ⊥
-  no_parent key dir e p =
-      let m = proper.root_node in
-      let none : parent_of t key ≡ None = ap (option_and_then (λ node. node.parent)) (ap t.nodes e ∙ m.1) ∙ m.2.no_parent in
-      cc (none, p)
-
-  -- one more step up
-  extended : (above key dir : ℕ) → parent_of t above ≡ Some dir → IsUnder t above key → IsUnder t dir key
-  extended above key dir p (itself e) = under_parent (ap (parent_of t) e ∙ p) (itself refl)
-  extended above key dir p (under_parent q u) = under_parent q (extended above _ dir p u)
-
-  -- no directory is below an object that it holds
-  no_loop : (key dir : ℕ) → LeadsToRoot t key → parent_of t key ≡ Some dir → IsUnder t key dir → ⊥
-  no_loop key dir (at_root e) p u = no_parent key dir e p
-  no_loop key dir (by_parent {dir = d} q rest) p u =
-      let same : d ≡ dir = cc (q, p) in
-      up (subst (λ (i : ℕ). LeadsToRoot t i) same rest) u (λ e f g. no_loop d e rest f g) same
-    where
-      up : LeadsToRoot t dir → IsUnder t key dir → ((e : ℕ) → parent_of t d ≡ Some e → IsUnder t d e → ⊥) → d ≡ dir → ⊥
-      up l (itself e) again same = again dir (ap (parent_of t) (same ∙ e) ∙ p) (itself (sym same))
-      up l (under_parent {dir = e} r v) again same = again e (ap (parent_of t) same ∙ r) (extended key e d q v)
-
   -- the key and all directories above it
   line : (key : ℕ) → LeadsToRoot t key → List ℕ
   line key (at_root e) = key ∷ []
@@ -55,7 +34,7 @@ module _ (t : Tree) (proper : Proper t) where
   on_line : (key above : ℕ) (l : LeadsToRoot t key) → IsUnder t above key → Contains (line key l) above
   unfolding line
   on_line key above (at_root e) (itself same) = subst (Contains (key ∷ [])) same (Contains-here key [])
-  on_line key above (at_root e) (under_parent {dir = d} q u) = absurd (no_parent key d e q)
+  on_line key above (at_root e) (under_parent {dir = d} q u) = absurd (no_parent t proper key d e q)
   on_line key above (by_parent {dir = dir} p rest) (itself same) = subst (Contains (key ∷ line dir rest)) same (Contains-here key (line dir rest))
   on_line key above (by_parent {dir = dir} p rest) (under_parent {dir = d} q u) =
       let same : d ≡ dir = cc (q, p) in
@@ -78,7 +57,7 @@ module _ (t : Tree) (proper : Proper t) where
   line_once key (at_root e) = λ i j d l m same. omega (arith, l, m)
   line_once key (by_parent {dir = dir} p rest) =
       AllPairs-cons (λ j k. j ≢ k) key (line dir rest)
-      (λ k d inside same. no_loop key dir (by_parent p rest) p (in_line dir key rest (subst (Contains (line dir rest)) (sym same) (Contains-get_or (line dir rest) k d inside))))
+      (λ k d inside same. no_loop t proper key dir (by_parent p rest) p (in_line dir key rest (subst (Contains (line dir rest)) (sym same) (Contains-get_or (line dir rest) k d inside))))
       (line_once dir rest)
 
   line_short : (key : ℕ) (l : LeadsToRoot t key) → length (line key l) ≤ t.blocks

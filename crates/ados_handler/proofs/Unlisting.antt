@@ -1,7 +1,7 @@
 -- Packets that remove an entry from its directory's list keep tree and session proper.
 use Rattle.std.proofs.Common.{◌≡◌, ◌≢◌, ℕ, inl, inr, Bool, true, false, not, nat_eq, ◌==◌, List, [], ◌∷◌, filter, Contains, Option, Some, None, option_map, refl, sym, ap, ◌∙◌, subst, eqb-true}
 use Rattle.std.proofs.lemmas.Bool.{false≢true, true≢false}
-use Rattle.ados_name.specs.declared.Date3.{Date3}
+use Rattle.ados_name.specs.declared.stamp.Date3.{Date3}
 use Rattle.ados_name.specs.Name.{Same}
 use Rattle.ados_name.specs.Path.{IsPathText}
 use Rattle.ados_model.specs.Tree.{Node, Tree, Proper, entries, name_of, parent_of, root}
@@ -69,9 +69,6 @@ delete_keeps lock path = by_success (DeleteObject lock path) (λ t s now result 
 -- ---- RENAME_OBJECT
 
 module _ (t : Tree) (proper : Proper t) (moment : Date3) (key dir : ℕ) (name : List ℕ) (can : CanRename t key dir name) where
-  entitled : Node → Node
-  entitled node = record node { name = name; parent = Some dir }
-
   abbrev loose : Tree
   loose = changed key (λ node. record node { name = name; parent = Some dir }) (left moment key t)
 

@@ -6,12 +6,13 @@ use Rattle.std.specs.FinMap.{FinMap, get}
 use Rattle.std.proofs.lemmas.Bool.{false_from_ne_true, ltb-true}
 use Rattle.std.proofs.lemmas.List.{nil_from_length}
 use Rattle.ados_model.specs.Tree.{block_cost, Tree, Proper, bytes_of, content_at, size_of, needs_more}
-use Rattle.ados_name.specs.declared.Date3.{Date3}
+use Rattle.ados_name.specs.declared.stamp.Date3.{Date3}
 use Rattle.ados_name.specs.Name.{denies_write}
 use Rattle.ados_change.specs.NewBlocks.{KeepsRest}
 use Rattle.ados_model.specs.Stands.{Stands}
 use Rattle.ados_model.specs.Keys.{HasFileKey, HasTree}
-use Rattle.ados_model.specs.Change.{holds_file, is_file, overlaid, written}
+use Rattle.ados_model.specs.Change.{holds_file, is_file, written}
+use Rattle.ados_model.specs.Edits.{overlaid}
 use Rattle.ados_change.specs.Renewed.{NeedsMore}
 use Rattle.ados_model.specs.declared.dos_error.DosError.TheVariants.{DiskFull, WriteProtected}
 use Rattle.ados_model.specs.declared.packet.Packet.TheVariants.{Write}

@@ -1,6 +1,6 @@
 -- Law: the meaning of packets keeps tree and session proper.
 use Rattle.std.specs.Prelude.{ℕ, IsSome, IsTrue, ◌↔◌}
-use Rattle.ados_name.specs.declared.Date3.{Date3}
+use Rattle.ados_name.specs.declared.stamp.Date3.{Date3}
 use Rattle.ados_name.specs.Path.{IsPathText}
 use Rattle.ados_model.specs.Tree.{Tree, Proper}
 use Rattle.ados_model.specs.declared.packet.Packet.{Packet}

@@ -1,7 +1,7 @@
 //! Packets that read, write and seek in the file of a handle.
 
 ghost use Rattle.std.specs.Prelude.{◌≡◌, ◌+◌, ◌-◌, ◌≤◌, [], ◌++◌, length, take, drop, min};
-ghost use Rattle.ados_name.specs.declared.Date3.{Date3 as Moment};
+ghost use Rattle.ados_name.specs.declared.stamp.Date3.{Date3 as Moment};
 ghost use Rattle.ados_model.specs.Keys.{HasFileKey, HasTree};
 ghost use Rattle.ados_model.specs.Tree.{Tree, bytes_of, size_of};
 ghost use Rattle.ados_model.specs.Stands.{Stands};

@@ -1,7 +1,7 @@
 //! Packets that open and close files.
 
 ghost use Rattle.std.specs.Prelude.{◌≡◌, IsTrue};
-ghost use Rattle.ados_name.specs.declared.Date3.{Date3 as Moment};
+ghost use Rattle.ados_name.specs.declared.stamp.Date3.{Date3 as Moment};
 ghost use Rattle.ados_model.specs.Keys.{HasKey};
 ghost use Rattle.ados_model.specs.declared.packet.Packet.TheVariants.{End, FindInput};
 ghost use Rattle.ados_handler.specs.steps.Methods.{MethodGives};

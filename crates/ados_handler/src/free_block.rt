@@ -3,7 +3,7 @@
 ghost use Rattle.std.specs.Prelude.{◌≡◌, not};
 ghost use Rattle.ados_model.specs.Tree.{Tree};
 ghost use Rattle.ados_model.specs.Stands.{Stands};
-ghost use Rattle.ados_model.specs.Objects.{lacks};
+ghost use Rattle.ados_model.specs.Reads.{lacks};
 
 use crate::handler::Handler;
 

@@ -1,7 +1,7 @@
 //! Packets of locks.
 
 ghost use Rattle.std.specs.Prelude.{◌≡◌, false};
-ghost use Rattle.ados_name.specs.declared.Date3.{Date3 as Moment};
+ghost use Rattle.ados_name.specs.declared.stamp.Date3.{Date3 as Moment};
 ghost use Rattle.ados_model.specs.Keys.{HasKey};
 ghost use Rattle.ados_model.specs.declared.packet.Packet.TheVariants.{CopyDir, FreeLock, LocateObject, Parent, SameLock};
 ghost use Rattle.ados_model.specs.Session.{is_in_use};

@@ -1,7 +1,7 @@
 //! The handler as a server of packets.
 
 ghost use Rattle.std.specs.Prelude.{ℤ};
-ghost use Rattle.ados_name.specs.declared.Date3.{Date3 as Moment};
+ghost use Rattle.ados_name.specs.declared.stamp.Date3.{Date3 as Moment};
 ghost use Rattle.ados_model.specs.declared.packet.Packet.TheVariants.{Die, Other};
 ghost use Rattle.ados_handler.specs.Gives.{HandlerGives};
 ghost use Rattle.ados_handler.specs.steps.Methods.{MethodGives};

@@ -1,7 +1,8 @@
 //! The target of a SEEK or a SET_FILE_SIZE.
 
 ghost use Rattle.std.specs.Prelude.{◌≡◌, MatchOption, pos, true, false, option_map};
-ghost use Rattle.ados_model.specs.Objects.{is_bad_target, seek_target, target_number};
+ghost use Rattle.ados_model.specs.Objects.{is_bad_target, target_number};
+ghost use Rattle.ados_model.specs.Reads.{seek_target};
 
 /// The target in bytes from the start of a file with this size, for a handle at this position. Mode -1 counts from the
 /// start, 0 from the position, 1 from the end. Any other mode has no target.

@@ -1,7 +1,7 @@
 //! Packets that describe the volume or an object.
 
 ghost use Rattle.std.specs.Prelude.{◌≡◌};
-ghost use Rattle.ados_name.specs.declared.Date3.{Date3 as Moment};
+ghost use Rattle.ados_name.specs.declared.stamp.Date3.{Date3 as Moment};
 ghost use Rattle.ados_model.specs.Tree.{Tree};
 ghost use Rattle.ados_model.specs.Stands.{Stands};
 ghost use Rattle.ados_model.specs.Change.{entries_after};

@@ -2,7 +2,7 @@
 use Rattle.std.proofs.Common.{◌≡◌, ◌≢◌, ℕ, ◌+◌, ◌-◌, ◌*◌, ◌/◌, ◌%◌, ◌<◌, ◌≤◌, inl, inr, Bool, cond, List, arith, ap, sym, ◌∙◌}
 use Rattle.std.specs.Int.{bit_at}
 use Rattle.std.proofs.lemmas.Bool.{cases_lt}
-use Rattle.adf_block.specs.Layout.{boot_blocks, page_longs, map_longs, long_bits, page_bits}
+use Rattle.adf_block.specs.declared.layout.TheConstants.{BOOT_BLOCKS, PAGE_LONGS, MAP_LONGS, LONG_BITS, PAGE_BITS}
 use Rattle.adf_block.specs.Image.{long, block_count, block_sum}
 use Rattle.adf_block.specs.Frame.{SameBut, InBlock, OnlyBlock}
 use Rattle.adf_block.proofs.Frames.{same_trans, same_refl, same_weaken, other_block_long, other_block_sum}
@@ -14,7 +14,7 @@ use Rattle.ados_map.proofs.PageLemmas.{same_page}
 
 -- the first p bitmap blocks are written, and nothing else changed
 pub record IsBegun (old : List ℕ) (named : List Bool) (p : ℕ) (image : List ℕ) : Type 0 where
-  pub longs : (q : ℕ) → q < p → (j : ℕ) → j < map_longs → IsUnnamedBits named (map_longs * q + j) (long image (page_block old q) (1 + j))
+  pub longs : (q : ℕ) → q < p → (j : ℕ) → j < MAP_LONGS → IsUnnamedBits named (MAP_LONGS * q + j) (long image (page_block old q) (1 + j))
   pub sums : (q : ℕ) → q < p → block_sum image (page_block old q) ≡ 0
   pub rest : SameBut (InPages old) old image
 
@@ -26,12 +26,12 @@ begun_none image named = record {
 }
 
 -- the root names the bitmap blocks as before while only these are written
-pub begun_page : (old : List ℕ) (named : List Bool) (p : ℕ) (image : List ℕ) → LawfulPages old → IsBegun old named p image → (q : ℕ) → q < page_longs → page_block image q ≡ page_block old q
+pub begun_page : (old : List ℕ) (named : List Bool) (p : ℕ) (image : List ℕ) → LawfulPages old → IsBegun old named p image → (q : ℕ) → q < PAGE_LONGS → page_block image q ≡ page_block old q
 begun_page old named p image lawful h q lt = same_page (InPages old) old image h.rest (λ k low high at. lawful.beside_root at.0 at.1 (sym at.2)) q lt
 
 -- one more bitmap block
 pub begun_more : (old : List ℕ) (named : List Bool) (p page : ℕ) (image new : List ℕ) → LawfulPages old → p < pages_of old → page ≡ page_block old p → IsBegun old named p image
-    → ((j : ℕ) → j < map_longs → IsUnnamedBits named (map_longs * p + j) (long new page (1 + j))) → block_sum new page ≡ 0 → OnlyBlock page image new → IsBegun old named (p + 1) new
+    → ((j : ℕ) → j < MAP_LONGS → IsUnnamedBits named (MAP_LONGS * p + j) (long new page (1 + j))) → block_sum new page ≡ 0 → OnlyBlock page image new → IsBegun old named (p + 1) new
 begun_more old named p page image new lawful lt at h longs sum rest =
     let apart : (q : ℕ) → q < p → page_block old q ≢ page = λ q below e.
     let same : q ≡ p = lawful.apart q p (omega arith) lt (e ∙ at) in
@@ -45,7 +45,7 @@ begun_more old named p page image new lawful lt at h longs sum rest =
             let e : q ≡ p = omega arith in
             ap (λ (b : ℕ). bit_at (long new b (1 + j)) i) (ap (page_block old) e ∙ sym at)
             ∙ longs j j_lt i i_lt
-            ∙ ap (λ (r : ℕ). cond (is_unnamed named (2 + 32 * (map_longs * r + j) + i)) 1 0) (sym e)
+            ∙ ap (λ (r : ℕ). cond (is_unnamed named (2 + 32 * (MAP_LONGS * r + j) + i)) 1 0) (sym e)
       ];
       sums = λ q below. elim (cases_lt q p) [
         | inl before ↦ other_block_sum page image new rest (page_block old q) (apart q before) ∙ h.sums q before
@@ -59,12 +59,12 @@ pub begun_all : (old : List ℕ) (named : List Bool) (p : ℕ) (image : List ℕ
 begun_all old named p image lawful size all h = record {
   marks = λ k has.
       let q : page_of k < pages_of old = omega (arith, has.0, has.1) in
-      let j : (k - boot_blocks) % page_bits / long_bits < map_longs = omega arith in
-      let at : 2 + 32 * (map_longs * page_of k + (k - boot_blocks) % page_bits / long_bits) + (k - 2) % 32 ≡ k = omega (arith, has.0) in
+      let j : (k - BOOT_BLOCKS) % PAGE_BITS / LONG_BITS < MAP_LONGS = omega arith in
+      let at : 2 + 32 * (MAP_LONGS * page_of k + (k - BOOT_BLOCKS) % PAGE_BITS / LONG_BITS) + (k - 2) % 32 ≡ k = omega (arith, has.0) in
       marked-is image k
       ∙ ap (λ (b : ℕ). mark (long image b (map_long k)) ((k - 2) % 32)) (begun_page old named p image lawful h (page_of k) (omega arith))
       ∙ mark-bit (long image (page_block old (page_of k)) (map_long k)) ((k - 2) % 32) (is_unnamed named k)
-      (h.longs (page_of k) (omega arith) ((k - boot_blocks) % page_bits / long_bits) j ((k - 2) % 32) (omega arith)
+      (h.longs (page_of k) (omega arith) ((k - BOOT_BLOCKS) % PAGE_BITS / LONG_BITS) j ((k - 2) % 32) (omega arith)
       ∙ ap (λ (m : ℕ). cond (is_unnamed named m) 1 0) at);
   sums = λ q lt. h.sums q (omega arith);
   rest = h.rest;

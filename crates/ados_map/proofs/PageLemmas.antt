@@ -2,10 +2,9 @@
 use Rattle.std.proofs.Common.{◌≡◌, ◌≢◌, ℕ, ◌+◌, ◌-◌, ◌/◌, ◌%◌, ◌<◌, ◌≤◌, ◌⊎◌, inl, inr, Bool, List, arith, ap, ap₂, sym, ◌∙◌}
 use Rattle.std.proofs.lemmas.Bool.{cases_eq}
 use Rattle.std.specs.Int.{bit_at}
-use Rattle.adf_block.specs.declared.layout.TheConstants.{BITMAP_EXTENSION}
-use Rattle.adf_block.specs.Layout.{first_page, page_longs}
+use Rattle.adf_block.specs.declared.layout.TheConstants.{FIRST_PAGE, PAGE_LONGS, BITMAP_EXTENSION}
 use Rattle.adf_block.specs.Image.{long, block_count, block_sum, root_key, page_count, IsInside}
-use Rattle.adf_block.specs.Frame.{SameBut, AtLong, InBlock, OnlyLong, OnlyBlock}
+use Rattle.adf_block.specs.Frame.{SameBut, AtLong, OnlyLong}
 use Rattle.adf_block.proofs.Frames.{same_count, same_long, same_trans, same_weaken, other_long}
 use Rattle.ados_map.specs.Pages.{LawfulPages, page_block, pages_of, page_of, map_long, HasBit}
 use Rattle.ados_map.specs.Changes.{InPages, MapPlace, BitChanged}
@@ -13,11 +12,11 @@ use Rattle.ados_map.specs.Bits.{IsBitPut}
 use Rattle.ados_map.proofs.BitLemmas.{mark, marked-is, mark-bit, mark-same}
 
 -- the root names the same bitmap blocks if its longs for them did not change
-pub same_page : (changed : ℕ → ℕ → Type 0) (old new : List ℕ) → SameBut changed old new → ((k : ℕ) → first_page ≤ k / 4 → k / 4 < BITMAP_EXTENSION → ¬ changed (root_key (block_count old)) k)
-    → (p : ℕ) → p < page_longs → page_block new p ≡ page_block old p
+pub same_page : (changed : ℕ → ℕ → Type 0) (old new : List ℕ) → SameBut changed old new → ((k : ℕ) → FIRST_PAGE ≤ k / 4 → k / 4 < BITMAP_EXTENSION → ¬ changed (root_key (block_count old)) k)
+    → (p : ℕ) → p < PAGE_LONGS → page_block new p ≡ page_block old p
 same_page changed old new h un p lt =
-    ap (λ (n : ℕ). long new (root_key n) (first_page + p)) (same_count changed old new h)
-    ∙ same_long changed old new h (root_key (block_count old)) (first_page + p) (omega arith) (λ k e. un k (omega arith) (omega arith))
+    ap (λ (n : ℕ). long new (root_key n) (FIRST_PAGE + p)) (same_count changed old new h)
+    ∙ same_long changed old new h (root_key (block_count old)) (FIRST_PAGE + p) (omega arith) (λ k e. un k (omega arith) (omega arith))
 
 -- bitmap blocks that the root names as before are lawful as before
 pub lawful_kept : (old new : List ℕ) → LawfulPages old → block_count new ≡ block_count old → ((p : ℕ) → p < pages_of old → page_block new p ≡ page_block old p) → LawfulPages new
@@ -39,7 +38,7 @@ lawful_kept old new h count same =
     }
 
 -- a change outside those longs keeps the bitmap blocks lawful
-pub lawful_beside_root : (changed : ℕ → ℕ → Type 0) (old new : List ℕ) → SameBut changed old new → ((k : ℕ) → first_page ≤ k / 4 → k / 4 < BITMAP_EXTENSION → ¬ changed (root_key (block_count old)) k)
+pub lawful_beside_root : (changed : ℕ → ℕ → Type 0) (old new : List ℕ) → SameBut changed old new → ((k : ℕ) → FIRST_PAGE ≤ k / 4 → k / 4 < BITMAP_EXTENSION → ¬ changed (root_key (block_count old)) k)
     → block_count old ≤ 101602 → LawfulPages old → LawfulPages new
 lawful_beside_root changed old new h un size lawful =
     lawful_kept old new lawful (same_count changed old new h) (λ p lt. same_page changed old new h un p (omega arith))
@@ -48,11 +47,6 @@ lawful_beside_root changed old new h un size lawful =
 pub lawful_in_pages : (old new : List ℕ) → SameBut (InPages old) old new → block_count old ≤ 101602 → LawfulPages old → LawfulPages new
 lawful_in_pages old new h size lawful =
     lawful_beside_root (InPages old) old new h (λ k low high at. lawful.beside_root at.0 at.1 (sym at.2)) size lawful
-
--- a change inside one bitmap block keeps them lawful
-pub lawful_at_page : (old new : List ℕ) (p : ℕ) → p < pages_of old → OnlyBlock (page_block old p) old new → block_count old ≤ 101602 → LawfulPages old → LawfulPages new
-lawful_at_page old new p lt h size lawful =
-    lawful_beside_root (InBlock (page_block old p)) old new h (λ k low high at. lawful.beside_root p lt (sym at)) size lawful
 
 -- a long other than the changed one and the checksum
 kept_long : (b l : ℕ) (old mid new : List ℕ) → OnlyLong b l old mid → OnlyLong b 0 mid new
@@ -108,7 +102,7 @@ marked_by old mid new k free lawful size inside first second put sum =
     same_trans (MapPlace old k) old mid new
     (same_weaken (AtLong b (map_long k)) (MapPlace old k) old mid (λ c i at. (at.0, inr at.1)) first)
     (same_weaken (AtLong b 0) (MapPlace old k) mid new (λ c i at. (at.0, inl at.1)) second) in
-    let page : (p : ℕ) → p < page_longs → page_block new p ≡ page_block old p = same_page (MapPlace old k) old new rest (λ i low high at. lawful.beside_root (page_of k) k_page (sym at.0)) in
+    let page : (p : ℕ) → p < PAGE_LONGS → page_block new p ≡ page_block old p = same_page (MapPlace old k) old new rest (λ i low high at. lawful.beside_root (page_of k) k_page (sym at.0)) in
     record {
       bit =
           marked-is new k
@@ -116,7 +110,7 @@ marked_by old mid new k free lawful size inside first second put sum =
           ∙ ap (λ (v : ℕ). mark v ((k - 2) % 32)) (other_long b 0 mid new second b (map_long k) k_place (inr k_behind))
           ∙ mark-bit (long mid b (map_long k)) ((k - 2) % 32) free put.bit;
       others = λ j has ne.
-          let j_page : page_of j < page_longs = omega (arith, has.0, has.1) in
+          let j_page : page_of j < PAGE_LONGS = omega (arith, has.0, has.1) in
           marked-is new j
           ∙ ap (λ (c : ℕ). mark (long new c (map_long j)) ((j - 2) % 32)) (page (page_of j) j_page)
           ∙ other_mark old mid new k free lawful size inside first second put j has ne

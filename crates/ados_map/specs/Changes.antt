@@ -1,6 +1,6 @@
 -- Changes of the bitmap.
 use Rattle.std.specs.Prelude.{◌≡◌, ◌≢◌, ◌⊎◌, ℕ, ◌/◌, ◌<◌, List, Bool, false, Option, MatchOption}
-use Rattle.adf_block.specs.declared.layout.TheConstants.{PAGE_SUM}
+use Rattle.adf_block.specs.declared.layout.TheConstants.{PAGE_CHECKSUM}
 use Rattle.adf_block.specs.Image.{block_sum, has_free_bit}
 use Rattle.adf_block.specs.Frame.{SameBut}
 use Rattle.ados_map.specs.Bits.{is_unnamed}
@@ -8,7 +8,7 @@ use Rattle.ados_map.specs.Pages.{page_block, page_of, pages_of, map_long, HasBit
 
 -- the bytes that a change of block k's bit may write: the long with the bit, and the checksum of its bitmap block
 abbrev pub MapPlace : List ℕ → ℕ → ℕ → ℕ → Type 0
-MapPlace image k c i = (c ≡ page_block image (page_of k)) × ((i / 4 ≡ PAGE_SUM) ⊎ (i / 4 ≡ map_long k))
+MapPlace image k c i = (c ≡ page_block image (page_of k)) × ((i / 4 ≡ PAGE_CHECKSUM) ⊎ (i / 4 ≡ map_long k))
 
 -- the bit of block k is set if `free`, else clear; the sum of its bitmap block, every other bit and every other
 -- byte are unchanged

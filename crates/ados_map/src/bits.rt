@@ -1,8 +1,9 @@
 //! One bitmap block, and one long of it.
 
 ghost use Rattle.std.specs.Prelude.{◌≡◌, ◌<◌, ◌≤◌, ◌+◌, ◌*◌, length};
-ghost use Rattle.adf_block.specs.Layout.{boot_blocks, long_bits, map_longs, page_longs};
-ghost use Rattle.adf_block.specs.Image.{IsInside, IsSize, block_count};
+ghost use Rattle.adf_block.specs.declared.layout.TheConstants.{PAGE_LONGS};
+ghost use Rattle.adf_block.specs.Image.{IsInside, block_count};
+ghost use Rattle.adf_block.specs.Whole.{IsSize};
 ghost use Rattle.ados_map.specs.Pages.{LawfulPages, page_block, pages_of};
 ghost use Rattle.ados_map.specs.Bits.{IsBitPut, IsFreeBits, IsUnnamedBits, is_unnamed};
 
@@ -27,7 +28,7 @@ pub fn page_at(image: &Image, p: u32) -> u32
 /// blocks.
 pub fn free_bits(image: &Image, w: u32) -> u32
     requires pages { LawfulPages image.now }
-    requires within { boot_blocks + long_bits * w < block_count image.now }
+    requires within { BOOT_BLOCKS + LONG_BITS * w < block_count image.now }
     ensures { IsFreeBits image.now w result }
 {
     let bits = image.long(
@@ -44,7 +45,7 @@ pub fn free_bits(image: &Image, w: u32) -> u32
 
 /// The bits with bit `i` set (`free`) or cleared.
 pub fn with_bit(bits: u32, i: u32, free: bool) -> u32
-    requires { i < long_bits }
+    requires { i < LONG_BITS }
     ensures { IsBitPut bits i free result }
 {
     if free {
@@ -56,7 +57,7 @@ pub fn with_bit(bits: u32, i: u32, free: bool) -> u32
 
 /// Long `w` of the bitmap in which each block that is not named is free. Bits past the volume's end are 0.
 pub fn unnamed_bits(named: &[bool], w: u32) -> u32
-    requires { w < page_longs * map_longs }
+    requires { w < PAGE_LONGS * MAP_LONGS }
     ensures { IsUnnamedBits named.now w result }
 {
     let mut bits = 0;

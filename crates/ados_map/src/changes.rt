@@ -9,7 +9,7 @@ ghost use Rattle.ados_map.specs.Changes.{BitChanged, SummedPages, TakesFirst};
 use crate::bits::{page_at, with_bit};
 use crate::reading::first_free;
 use adf_block::Image;
-use adf_block::layout::{BOOT_BLOCKS, FIRST_MAP_LONG, LONG_BITS, PAGE_BITS, PAGE_SUM};
+use adf_block::layout::{BOOT_BLOCKS, FIRST_MAP_LONG, LONG_BITS, PAGE_BITS, PAGE_CHECKSUM};
 
 /// Marks the lowest free block used and returns it, or `None` if no block is free. The bytes of the block do not
 /// change.
@@ -66,9 +66,9 @@ fn put_mark(image: &mut Image, b: u32, free: bool)
     let old = image.long(page, long);
     let new = with_bit(old, (b - BOOT_BLOCKS) % LONG_BITS, free);
     let sum = image
-        .long(page, PAGE_SUM)
+        .long(page, PAGE_CHECKSUM)
         .wrapping_add(old)
         .wrapping_sub(new);
     image.set_long(page, long, new);
-    image.set_long(page, PAGE_SUM, sum);
+    image.set_long(page, PAGE_CHECKSUM, sum);
 }

@@ -1,9 +1,8 @@
 //! Reads of the bitmap.
 
 ghost use Rattle.std.specs.Prelude.{◌≡◌, ◌+◌, ◌-◌, ◌/◌, ◌≤◌, MatchBool, MatchOption};
-ghost use Rattle.adf_block.specs.Layout.{boot_blocks, long_bits};
-ghost use Rattle.adf_block.specs.Whole.{IsImage, free_bit_count};
-ghost use Rattle.adf_block.specs.Image.{IsInside, IsSize, block_count, has_free_bit};
+ghost use Rattle.adf_block.specs.Whole.{IsImage, free_bit_count, IsSize};
+ghost use Rattle.adf_block.specs.Image.{IsInside, block_count, has_free_bit};
 ghost use Rattle.ados_map.specs.Pages.{IsLowestFree, LawfulPages, NoneFree, NoneFreeBelow};
 
 use crate::bits::{free_bits, page_at};
@@ -71,14 +70,14 @@ pub fn first_free(image: &Image, from: u32) -> Option<u32>
 
 /// The index, over all bitmap blocks, of the long with the bit of block `b`. A boot block counts as block 2.
 fn map_long_of(b: u32) -> u32
-    ensures { result ≡ (b - boot_blocks) / long_bits }
+    ensures { result ≡ (b - BOOT_BLOCKS) / LONG_BITS }
 {
     b.saturating_sub(BOOT_BLOCKS) / LONG_BITS
 }
 
 /// The number of bitmap longs that have bits of blocks in the volume.
 fn map_longs(image: &Image) -> u32
-    ensures count { result ≡ (block_count image.now - boot_blocks + (long_bits - 1)) / long_bits }
+    ensures count { result ≡ (block_count image.now - BOOT_BLOCKS + (LONG_BITS - 1)) / LONG_BITS }
     ensures size { IsSize (block_count image.now) }
     ensures image { IsImage image.now }
 {

@@ -1,7 +1,7 @@
 //! Rebuilding of the whole bitmap.
 
 ghost use Rattle.std.specs.Prelude.{◌≡◌, ◌<◌, ◌+◌, ◌*◌, ℕ, length};
-ghost use Rattle.adf_block.specs.Layout.{first_map_long, map_longs, page_longs};
+ghost use Rattle.adf_block.specs.declared.layout.TheConstants.{PAGE_LONGS};
 ghost use Rattle.adf_block.specs.Whole.{IsImage};
 ghost use Rattle.adf_block.specs.Image.{block_count, block_sum, long};
 ghost use Rattle.adf_block.specs.Frame.{OnlyBlock};
@@ -10,7 +10,7 @@ ghost use Rattle.ados_map.specs.Bits.{IsUnnamedBits};
 ghost use Rattle.ados_map.specs.Changes.{PagesRebuilt};
 
 use crate::bits::{page_at, unnamed_bits};
-use adf_block::layout::{FIRST_MAP_LONG, MAP_LONGS, PAGE_SUM};
+use adf_block::layout::{FIRST_MAP_LONG, MAP_LONGS, PAGE_CHECKSUM};
 use adf_block::{Image, page_count};
 
 /// Marks a block free exactly if it is not named. `named` has one truth value for each block, boot blocks included.
@@ -32,8 +32,8 @@ pub fn rebuild(image: &mut Image, named: &[bool])
 /// Writes bitmap block `p` of the volume. Its block number is `page`.
 fn fill_page(image: &mut Image, page: u32, p: u32, named: &[bool])
     requires inside { page < block_count image.old }
-    requires page { p < page_longs }
-    ensures longs { (j : ℕ) → j < map_longs → IsUnnamedBits named.now (map_longs * p + j) (long image.new page (first_map_long + j)) }
+    requires page { p < PAGE_LONGS }
+    ensures longs { (j : ℕ) → j < MAP_LONGS → IsUnnamedBits named.now (MAP_LONGS * p + j) (long image.new page (FIRST_MAP_LONG + j)) }
     ensures sum { block_sum image.new page ≡ 0 }
     ensures rest { OnlyBlock page image.old image.new }
     ensures image { IsImage image.new }
@@ -45,5 +45,5 @@ fn fill_page(image: &mut Image, page: u32, p: u32, named: &[bool])
             unnamed_bits(named, MAP_LONGS * p + j),
         );
     }
-    image.settle(page, PAGE_SUM);
+    image.settle(page, PAGE_CHECKSUM);
 }

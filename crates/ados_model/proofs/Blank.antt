@@ -2,15 +2,18 @@
 use Rattle.std.proofs.Common.{◌≡◌, ◌≢◌, ℕ, zero, suc, ◌+◌, ◌-◌, ◌<◌, ◌≤◌, ◌⊎◌, inl, inr, Bool, true, false, cond, ◌==◌, List, [], ◌∷◌, length, filter, slice_index, slice_get, Contains, AllPairs, Some, None, IsSome, option_map, option_and_then, refl, sym, ap, ◌∙◌, subst, arith, eq-eqb, eqb-true}
 use Rattle.std.proofs.lemmas.Bool.{cases_order, false≢true}
 use Rattle.std.proofs.lemmas.List.{get_or_default}
-use Rattle.adf_block.specs.declared.Format.{Format}
-use Rattle.adf_block.specs.Image.{IsSize, IsInside, HasFreeBit, root_key, page_count, long, block_sum}
-use Rattle.ados_name.specs.declared.Date3.{Date3}
+use Rattle.adf_block.specs.declared.layout.Format.{Format}
+use Rattle.adf_block.specs.Image.{IsInside, root_key, page_count, long, block_sum}
+use Rattle.adf_block.specs.Whole.{IsSize, HasFreeBit}
+use Rattle.ados_name.specs.declared.stamp.Date3.{Date3}
 use Rattle.ados_name.specs.Name.{slot, IsName, IsComment}
-use Rattle.ados_model.specs.Tree.{Node, Tree, Proper, LeadsToRoot, name_of, entries, entries_in, parent_of, size_of, size_in, data_count}
+use Rattle.ados_model.specs.Tree.{Node, Tree, Proper, LeadsToRoot, name_of, entries, entries_in, parent_of, size_of, data_count}
+use Rattle.ados_model.specs.Parts.{size_in}
 use Rattle.ados_model.specs.Tree.Content.{Directory}
 use Rattle.ados_model.specs.Stands.{Layout, Fits, Duty, HasDuty, Named, Stands, HasNode, HasRoot, in_slot}
 use Rattle.ados_model.specs.Blank.{blank_root, blank_tree, IsBlank}
 use Rattle.ados_model.specs.Laws.{BlankStands}
+use Rattle.ados_model.proofs.Counting.{no_data}
 
 -- n numbers from a on
 from : ℕ → ℕ → List ℕ
@@ -42,10 +45,6 @@ get-from a (suc n) (suc i) l = get-from (suc a) n i (omega arith) ∙ ap Some (o
 
 empty_comment : IsComment []
 empty_comment = record { short = omega arith; bytes = λ k d l. absurd (omega (arith, l)) }
-
-data_count-none : (format : Format) → data_count format 0 ≡ 0
-data_count-none Format.Ofs = refl
-data_count-none Format.Ffs = refl
 
 module _ (format : Format) (n : ℕ) (name : List ℕ) (moment : Date3) where
   abbrev t : Tree
@@ -136,7 +135,7 @@ module _ (format : Format) (n : ℕ) (name : List ℕ) (moment : Date3) where
   fits : IsSize n → Fits t layout
   fits size = record {
     pages = length-from (root_key n + 1) (page_count n);
-    file_data = λ file. sym (ap (data_count format) (no_size file) ∙ data_count-none format);
+    file_data = λ file. sym (ap (data_count format) (no_size file) ∙ no_data format);
     extensions = λ file. refl;
     inside = λ b duty h. inside size b duty (only_duty b duty h);
     lost = λ block bytes e. absurd (cc e);

@@ -3,8 +3,9 @@ use Rattle.std.proofs.Common.{◌≡◌, ◌≢◌, ℕ, suc, ◌+◌, ◌-◌, 
 use Rattle.std.specs.List.{AllByRecursion, list_all}
 use Rattle.std.proofs.lemmas.Bool.{cases_lt, agree_below_at, and_parts, or_cases, false≢true, le-ltb, lt-leb, leb-true}
 use Rattle.std.proofs.lemmas.List.{get_or-replicate}
-use Rattle.adf_block.specs.Image.{IsInside, HasFreeBit, has_free_bit, block_count, root_key, page_count, byte_at, bytes_at, long, block_sum, HasText}
-use Rattle.adf_block.specs.Layout.{name_byte}
+use Rattle.adf_block.specs.Image.{IsInside, has_free_bit, block_count, root_key, page_count, byte_at, bytes_at, long, block_sum, HasText}
+use Rattle.adf_block.specs.Whole.{HasFreeBit}
+use Rattle.adf_block.specs.declared.layout.TheConstants.{NAME_BYTE}
 use Rattle.ados_model.specs.declared.role.Role.TheVariants.{Root}
 use Rattle.ados_model.specs.Kept.{IsField}
 use Rattle.ados_model.specs.Laws.{HasBlankImage}
@@ -72,7 +73,7 @@ table s l =
     long_root (6 + s) (omega arith)
     ∙ eqb-true (slice_index root_longs (6 + s)) 0 (agree_below_at (λ k. slice_index root_longs (6 + k) == 0) (λ k. true) 72 s refl l)
 
-root_name : HasText image 880 name_byte (codes "Work")
+root_name : HasText image 880 NAME_BYTE (codes "Work")
 unfolding image of_longs
 root_name = record { counted = byte-joined blocks full 1760 880 432 (omega arith) (omega arith); follows = bytes-joined blocks full 1760 880 433 4 (omega arith) (omega arith) }
 

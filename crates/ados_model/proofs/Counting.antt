@@ -1,10 +1,11 @@
 -- The number of blocks marked free is the number of blocks that the tree does not use.
 use Rattle.std.proofs.Common.{◌≡◌, ◌≢◌, ℕ, zero, suc, ◌+◌, ◌-◌, ◌<◌, Bool, true, false, cond, List, [], ◌∷◌, length, slice_index, slice_get, Option, Some, None, is_some, option_map, refl, sym, ap, ◌∙◌, arith}
 use Rattle.std.proofs.lemmas.Bool.{false≢true}
-use Rattle.adf_block.specs.declared.Format.{Format}
-use Rattle.adf_block.specs.declared.Format.TheVariants.{Ofs, Ffs}
+use Rattle.adf_block.specs.declared.layout.Format.{Format}
+use Rattle.adf_block.specs.declared.layout.Format.TheVariants.{Ofs, Ffs}
 use Rattle.adf_block.specs.Image.{IsInside, has_free_bit, block_count, total}
-use Rattle.ados_model.specs.Tree.{Content, Node, Tree, content_at, size_in, size_of, cost_in, used, free, data_count, extension_count}
+use Rattle.ados_model.specs.Tree.{Content, Node, Tree, content_at, size_of, cost_in, used, free, data_count, extension_count}
+use Rattle.ados_model.specs.Parts.{size_in}
 use Rattle.ados_model.specs.Tree.Content.{Directory, File}
 use Rattle.ados_model.specs.Stands.{Duty, HasDuty, Named, Stands}
 use Rattle.ados_model.specs.Laws.{FreeBitsCount}

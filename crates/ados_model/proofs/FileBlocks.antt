@@ -2,19 +2,20 @@
 use Rattle.std.proofs.Common.{◌≡◌, ◌≢◌, ℕ, zero, suc, ◌+◌, ◌-◌, ◌*◌, ◌/◌, ◌%◌, ◌<◌, ◌≤◌, min, ◌⊎◌, inl, inr, List, [], ◌∷◌, ◌++◌, length, take, drop, flat_map, slice_index, refl, sym, ap, ap₂, ◌∙◌, subst, arith, add-one, le-leb}
 use Rattle.std.proofs.lemmas.Bool.{cases_lt}
 use Rattle.std.proofs.lemmas.List.{get_or_default, ext_get_or, nil_from_length, length_push, get_or_push, get_or_append_left, length-take, length-drop, get_or-take, get_or-drop, drop-drop, take-append-drop}
-use Rattle.adf_block.specs.declared.Format.{Format}
-use Rattle.adf_block.specs.Image.{Chained, pointer, pointer_count, long, format_of}
-use Rattle.adf_block.specs.Layout.{next_extension}
+use Rattle.adf_block.specs.declared.layout.Format.{Format}
+use Rattle.adf_block.specs.Image.{Chained, long}
+use Rattle.adf_block.specs.Fields.{pointer, pointer_count, format_of}
+use Rattle.adf_block.specs.declared.layout.TheConstants.{NEXT_EXTENSION}
 use Rattle.ados_model.specs.Tree.{data_count, extension_count}
 use Rattle.ados_model.specs.Stands.{HasFile}
 use Rattle.ados_model.specs.Faults.{InImage, LinkedOnce, first_pointers, pointers_of, AreDataBlocks}
 use Rattle.ados_model.proofs.Standing.{Chained-first, Chained-more}
 
-length-first_pointers : (image : List ℕ) (block n : ℕ) → length (first_pointers image block n) ≡ n
+pub length-first_pointers : (image : List ℕ) (block n : ℕ) → length (first_pointers image block n) ≡ n
 length-first_pointers image block zero = refl
 length-first_pointers image block (suc n) = length_push (first_pointers image block n) (pointer image block n) ∙ omega (arith, length-first_pointers image block n)
 
-first_pointers-at : (image : List ℕ) (block n i : ℕ) → i < n → slice_index (first_pointers image block n) i ≡ pointer image block i
+pub first_pointers-at : (image : List ℕ) (block n i : ℕ) → i < n → slice_index (first_pointers image block n) i ≡ pointer image block i
 first_pointers-at image block zero i l = absurd (omega arith)
 first_pointers-at image block (suc n) i l = go (first_pointers-at image block n i) (cases_lt i n)
   where
@@ -25,7 +26,7 @@ first_pointers-at image block (suc n) i l = go (first_pointers-at image block n 
         get_or_push (first_pointers image block n) (pointer image block n) 0 i (length-first_pointers image block n ∙ here) ∙ ap (pointer image block) here
 
 -- a list cut into parts of 72 is the concatenation of the parts
-chunks : (f : ℕ → List ℕ) (hs blocks : List ℕ) → ((i : ℕ) → i < length hs → f (slice_index hs i) ≡ take 72 (drop (72 * i) blocks)) → length blocks ≤ 72 * length hs → flat_map f hs ≡ blocks
+pub chunks : (f : ℕ → List ℕ) (hs blocks : List ℕ) → ((i : ℕ) → i < length hs → f (slice_index hs i) ≡ take 72 (drop (72 * i) blocks)) → length blocks ≤ 72 * length hs → flat_map f hs ≡ blocks
 chunks f [] blocks h l = sym (nil_from_length blocks (omega (arith, l)))
 chunks f (x ∷ hs) blocks h l =
     let rest = chunks f hs (drop 72 blocks)
@@ -35,23 +36,23 @@ chunks f (x ∷ hs) blocks h l =
 
 module _ (image : List ℕ) (format : Format) (file : ℕ) (blocks extensions bytes : List ℕ) (h : HasFile image format file blocks extensions bytes) where
   -- a header block is followed by the next extension block
-  link_is : (i : ℕ) → i < length extensions → long image (slice_index (file ∷ extensions) i) next_extension ≡ slice_index extensions i
+  link_is : (i : ℕ) → i < length extensions → long image (slice_index (file ∷ extensions) i) NEXT_EXTENSION ≡ slice_index extensions i
   link_is zero l = go extensions h.chain l
     where
-      go : (xs : List ℕ) → Chained image next_extension (long image file next_extension) xs → 0 < length xs → long image file next_extension ≡ slice_index xs 0
+      go : (xs : List ℕ) → Chained image NEXT_EXTENSION (long image file NEXT_EXTENSION) xs → 0 < length xs → long image file NEXT_EXTENSION ≡ slice_index xs 0
       go [] c l = absurd (omega arith)
       go (x ∷ xs) c l = c.0
   link_is (suc i) l =
-      elim (Chained-more image next_extension (long image file next_extension) extensions i h.chain (omega arith)) [
+      elim (Chained-more image NEXT_EXTENSION (long image file NEXT_EXTENSION) extensions i h.chain (omega arith)) [
         | inl g ↦ g.1
         | inr g ↦ absurd (omega (arith, g.0, l))
       ]
 
   -- the last one is followed by none
-  pub link_within : (i : ℕ) → i ≤ length extensions → long image (slice_index (file ∷ extensions) i) next_extension ≢ 0 → i < length extensions
-  link_within zero l n = (Chained-first image next_extension (long image file next_extension) extensions h.chain n).0
+  pub link_within : (i : ℕ) → i ≤ length extensions → long image (slice_index (file ∷ extensions) i) NEXT_EXTENSION ≢ 0 → i < length extensions
+  link_within zero l n = (Chained-first image NEXT_EXTENSION (long image file NEXT_EXTENSION) extensions h.chain n).0
   link_within (suc i) l n =
-      elim (Chained-more image next_extension (long image file next_extension) extensions i h.chain (omega arith)) [
+      elim (Chained-more image NEXT_EXTENSION (long image file NEXT_EXTENSION) extensions i h.chain (omega arith)) [
         | inl g ↦ g.0
         | inr g ↦ absurd (n g.1)
       ]
@@ -87,7 +88,7 @@ pub record IsWhole (image : List ℕ) (file : ℕ) (blocks extensions bytes : Li
   pub once : (p q : ℕ) → p ≤ length extensions → q ≤ length extensions → slice_index (file ∷ extensions) p ≡ slice_index (file ∷ extensions) q → p ≡ q
 
 module _ (image : List ℕ) (file : ℕ) (blocks extensions bytes : List ℕ) (w : IsWhole image file blocks extensions bytes) where
-  module _ (headers : List ℕ) (once : LinkedOnce image next_extension file headers) where
+  module _ (headers : List ℕ) (once : LinkedOnce image NEXT_EXTENSION file headers) where
     headers_at : (i : ℕ) → i < length headers → (i ≤ length extensions) × (slice_index headers i ≡ slice_index (file ∷ extensions) i)
     headers_at zero l = (omega arith, once.head)
     headers_at (suc i) l =
@@ -95,7 +96,7 @@ module _ (image : List ℕ) (file : ℕ) (blocks extensions bytes : List ℕ) (w
         let more : i + 1 < length headers = omega arith in
         let linked = once.linked i more in
         let inside = once.inside i more in
-        let link : long image (slice_index (file ∷ extensions) i) next_extension ≡ slice_index headers (i + 1) = ap (λ (b : ℕ). long image b next_extension) (sym before.1) ∙ linked in
+        let link : long image (slice_index (file ∷ extensions) i) NEXT_EXTENSION ≡ slice_index headers (i + 1) = ap (λ (b : ℕ). long image b NEXT_EXTENSION) (sym before.1) ∙ linked in
         let within = link_within image (format_of image) file blocks extensions bytes w.holds i before.0 (λ z. omega (arith, inside.0, link, z)) in
         (within, ap (slice_index headers) (sym (add-one i)) ∙ sym link ∙ link_is image (format_of image) file blocks extensions bytes w.holds i within)
 
@@ -103,7 +104,7 @@ module _ (image : List ℕ) (file : ℕ) (blocks extensions bytes : List ℕ) (w
     no_more : length headers - 1 < length extensions → ⊥
     no_more l =
         let last = headers_at (length headers - 1) (omega (arith, once.not_empty)) in
-        let link : long image (slice_index headers (length headers - 1)) next_extension ≡ slice_index extensions (length headers - 1) = ap (λ (b : ℕ). long image b next_extension) last.1 ∙ link_is image (format_of image) file blocks extensions bytes w.holds (length headers - 1) l in
+        let link : long image (slice_index headers (length headers - 1)) NEXT_EXTENSION ≡ slice_index extensions (length headers - 1) = ap (λ (b : ℕ). long image b NEXT_EXTENSION) last.1 ∙ link_is image (format_of image) file blocks extensions bytes w.holds (length headers - 1) l in
         let again = once.whole (subst (InImage image) (sym link) (w.inside (length headers - 1) l)) in
         let place = headers_at again.0 again.1 in
         let same : slice_index (file ∷ extensions) again.0 ≡ slice_index (file ∷ extensions) (suc (length headers - 1)) = sym place.1 ∙ get_or_default headers again.0 0 _ again.1 ∙ again.2 ∙ link in

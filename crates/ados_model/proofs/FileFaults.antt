@@ -2,10 +2,11 @@
 use Rattle.std.proofs.Common.{◌≡◌, ℕ, suc, ◌+◌, ◌-◌, ◌*◌, ◌/◌, ◌<◌, ◌≤◌, min, inl, inr, List, [], ◌∷◌, length, drop, sum_by, slice_index, refl, sym, ap, ◌∙◌, subst, arith, add-one, ◌==◌, if◌then◌else◌}
 use Rattle.std.proofs.lemmas.List.{get_or-take, get_or_past}
 use Rattle.std.proofs.lemmas.List.Sums.{sum_by-cons}
-use Rattle.adf_block.specs.declared.Format.{Format}
-use Rattle.adf_block.specs.declared.Format.TheVariants.{Ofs, Ffs}
-use Rattle.adf_block.specs.Image.{Chained, pointer_count, held_count, long, format_of}
-use Rattle.adf_block.specs.Layout.{next_data, next_extension}
+use Rattle.adf_block.specs.declared.layout.Format.{Format}
+use Rattle.adf_block.specs.declared.layout.Format.TheVariants.{Ofs, Ffs}
+use Rattle.adf_block.specs.Image.{Chained, long}
+use Rattle.adf_block.specs.Fields.{pointer_count, held_count, format_of}
+use Rattle.adf_block.specs.declared.layout.TheConstants.{NEXT_EXTENSION, NEXT_DATA}
 use Rattle.ados_model.specs.Tree.{data_count}
 use Rattle.ados_model.specs.Stands.{HasOfsData}
 use Rattle.ados_model.specs.declared.role.Role.TheVariants as roles
@@ -15,7 +16,7 @@ use Rattle.ados_model.proofs.FileBlocks.{IsWhole, link_within, data_are, pointer
 use Rattle.ados_model.proofs.Standing.{Chained-more}
 
 -- a linked list starts with its first block, or with 0
-chain_head : (image : List ℕ) (link first : ℕ) (xs : List ℕ) → Chained image link first xs → first ≡ slice_index xs 0
+pub chain_head : (image : List ℕ) (link first : ℕ) (xs : List ℕ) → Chained image link first xs → first ≡ slice_index xs 0
 chain_head image link first [] c = c
 chain_head image link first (x ∷ xs) c = c.0
 
@@ -87,18 +88,18 @@ module _ (image : List ℕ) (are : AreWhole image) where
 
   -- ---- the links from data block to data block
 
-  pub first_link : IsOfs image → (file : ℕ) → IsFile image file → long image file next_data ≡ slice_index (pointers_of image file) 0
+  pub first_link : IsOfs image → (file : ℕ) → IsFile image file → long image file NEXT_DATA ≡ slice_index (pointers_of image file) 0
   first_link o file h =
       let f = are.file file h in
       let first = ap (λ (xs : List ℕ). slice_index xs 0) (pointers_are image (format_of image) file f.blocks f.extensions f.bytes f.whole.holds 0 (omega arith)) ∙ get_or-take 72 (drop (72 * 0) f.blocks) 0 0 (omega arith) in
-      chain_head image next_data (long image file next_data) f.blocks (f.whole.holds.ofs_chain (ofs o)) ∙ sym first
+      chain_head image NEXT_DATA (long image file NEXT_DATA) f.blocks (f.whole.holds.ofs_chain (ofs o)) ∙ sym first
 
-  pub next_link : IsOfs image → (file i block : ℕ) (blocks : List ℕ) → IsDataAt image file blocks i block → long image block next_data ≡ slice_index blocks (i + 1)
+  pub next_link : IsOfs image → (file i block : ℕ) (blocks : List ℕ) → IsDataAt image file blocks i block → long image block NEXT_DATA ≡ slice_index blocks (i + 1)
   next_link o file i block blocks h =
       let d = known_data file i block blocks h in
       let f = d.of_file in
-      let next = chain_next image next_data (long image file next_data) f.blocks i (f.whole.holds.ofs_chain (ofs o)) d.within in
-      ap (λ (b : ℕ). long image b next_data) (sym d.here) ∙ next ∙ ap (λ (xs : List ℕ). slice_index xs (i + 1)) (sym d.same)
+      let next = chain_next image NEXT_DATA (long image file NEXT_DATA) f.blocks i (f.whole.holds.ofs_chain (ofs o)) d.within in
+      ap (λ (b : ℕ). long image b NEXT_DATA) (sym d.here) ∙ next ∙ ap (λ (xs : List ℕ). slice_index xs (i + 1)) (sym d.same)
 
   -- ---- the sequence numbers and the counts
 
@@ -131,7 +132,7 @@ module _ (image : List ℕ) (are : AreWhole image) where
   no_bad_count block (Faults.HasBadCount.not_full h l n) =
       let p = pointer_block block h in
       let f = p.of_file in
-      let more = link_within image (format_of image) p.file f.blocks f.extensions f.bytes f.whole.holds p.place p.within (λ z. n (ap (λ (b : ℕ). long image b next_extension) (sym p.here) ∙ z)) in
+      let more = link_within image (format_of image) p.file f.blocks f.extensions f.bytes f.whole.holds p.place p.within (λ z. n (ap (λ (b : ℕ). long image b NEXT_EXTENSION) (sym p.here) ∙ z)) in
       omega (arith, counted block p, l, more, f.whole.extensions_fit)
   no_bad_count block (Faults.HasBadCount.no_pointer h z) =
       let e = are.extension h.0 block h.1 in

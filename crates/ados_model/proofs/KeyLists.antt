@@ -1,11 +1,12 @@
 -- Lists of keys without duplicates.
-use Rattle.std.proofs.Common.{◌≡◌, ◌≢◌, ℕ, zero, suc, ◌<◌, ◌≤◌, ◌⊎◌, inl, inr, Bool, true, false, cond, eqb, ◌==◌, not, List, [], ◌∷◌, ◌++◌, length, get_or, filter, AllPairs, Contains, refl, sym, ap, ap₂, ◌∙◌, subst, arith, eq-eqb}
+use Rattle.std.proofs.Common.{◌≡◌, ◌≢◌, ℕ, zero, suc, ◌<◌, ◌≤◌, ◌⊎◌, inl, inr, Bool, true, false, cond, eqb, ◌==◌, not, List, [], ◌∷◌, ◌++◌, length, get_or, filter, AllPairs, Contains, refl, sym, ap, ap₂, ◌∙◌, subst, arith, eq-eqb, slice_index}
 use Rattle.std.proofs.lemmas.Bool.{ne_eqb, cases_eq}
 use Rattle.std.proofs.lemmas.Bool.Decides.{Decides-eqb}
-use Rattle.std.proofs.lemmas.List.Elements.{Contains-append_left, Contains-append_right, filter-append}
+use Rattle.std.proofs.lemmas.List.Elements.{Contains-append_left, Contains-append_right, filter-append, Contains-append_cases, Contains-get_or}
 use Rattle.std.proofs.lemmas.Map.Made.{IsDistinct-from_AllPairs}
 use Rattle.std.proofs.lemmas.Map.Steps.{length-le_from_distinct_below}
 use Rattle.std.specs.List.{list_any}
+use Rattle.std.proofs.lemmas.List.Kept.{AllPairs-cons}
 
 pub Contains-here : (x : ℕ) (xs : List ℕ) → Contains (x ∷ xs) x
 Contains-here x xs = (0, omega arith, refl)
@@ -110,3 +111,23 @@ Contains-filter key (y ∷ ys) x m = go (is_not key y) (Contains-filter key ys x
     go : (b : Bool) → (Contains (filter (is_not key) ys) x → Contains ys x) → Contains (cond b (y ∷ filter (is_not key) ys) (filter (is_not key) ys)) x → Contains (y ∷ ys) x
     go true below m = elim (Contains-cases y (filter (is_not key) ys) x m) [ inl e ↦ subst (λ (z : ℕ). Contains (y ∷ ys) z) e (Contains-here y ys) | inr n ↦ Contains-later y ys x (below n) ]
     go false below m = Contains-later y ys x (below m)
+
+-- one more in front
+pub Once-cons : (x : ℕ) (xs : List ℕ) → ¬ Contains xs x → Once xs → Once (x ∷ xs)
+Once-cons x xs n h = AllPairs-cons (λ j k. j ≢ k) x xs (λ k d l e. n (subst (Contains xs) (sym e) (Contains-get_or xs k d l))) h
+
+-- two lists without common elements
+pub Once-append : (xs ys : List ℕ) → Once xs → Once ys → ((x : ℕ) → Contains xs x → ¬ Contains ys x) → Once (xs ++ ys)
+Once-append [] ys h g apart = g
+Once-append (x ∷ xs) ys h g apart =
+    Once-cons x (xs ++ ys)
+    (λ m. elim (Contains-append_cases xs ys x m) [ inl a ↦ Once-head x xs h a | inr b ↦ apart x (Contains-here x xs) b ])
+    (Once-append xs ys (Once-tail x xs h) g (λ y c. apart y (Contains-later x xs y c)))
+
+-- an element of a list is below the bound of the list
+pub below_bound : (xs : List ℕ) (n q : ℕ) → ((i : ℕ) → i < length xs → slice_index xs i < n) → list_any (eqb q) xs ≡ true → q < n
+below_bound [] n q small any = cc
+below_bound (x ∷ xs) n q small any = elim (cases_eq q x) [
+  | inl e ↦ omega (arith, e, small 0 (omega arith))
+  | inr ne ↦ below_bound xs n q (λ i l. small (suc i) (omega arith)) (rw (ne_eqb q x ne) at any)
+]

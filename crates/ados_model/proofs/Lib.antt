@@ -12,12 +12,12 @@ pub mod NoFaults
 pub mod Blank
 pub mod Blocks
 pub mod BlankWork
-mod WorkedWalks
+pub mod WorkedWalks
 pub mod Totals
 pub mod Counting
 mod SmallBelow
 mod SmallRows
-mod SmallNodes
+pub mod SmallNodes
 mod SmallDuties
 mod SmallFields
 mod SmallImages

@@ -2,14 +2,15 @@
 use Rattle.std.proofs.Common.{◌≡◌, ℕ, zero, suc, ◌+◌, ◌*◌, ◌<◌, ◌≤◌, ◌⊎◌, inl, inr, List, [], ◌∷◌, length, take, drop, slice_index, Contains, refl, sym, ap, ap₂, ◌∙◌, subst, arith, ◌==◌, if◌then◌else◌}
 use Rattle.std.proofs.lemmas.List.{get_or_default, get_or-take, get_or-drop, take-take}
 use Rattle.std.proofs.lemmas.List.Elements.{All-contains}
-use Rattle.adf_block.specs.declared.Format.{Format}
-use Rattle.adf_block.specs.declared.Format.TheVariants.{Ofs, Ffs}
-use Rattle.adf_block.specs.Image.{byte_at, bytes_at, long, block_sum, primary_type, parent_key, secondary_type, HasText, format_of}
+use Rattle.adf_block.specs.declared.layout.Format.{Format}
+use Rattle.adf_block.specs.declared.layout.Format.TheVariants.{Ofs, Ffs}
+use Rattle.adf_block.specs.Image.{byte_at, bytes_at, long, block_sum, HasText}
+use Rattle.adf_block.specs.Fields.{primary_type, parent_key, secondary_type, format_of}
 use Rattle.ados_name.specs.Name.{Same, slot, IsName, IsNameByte}
 use Rattle.ados_model.specs.declared.fault.FaultKind.TheVariants.{NotADosDisk, UnsupportedKind, BadSum, BadType, BadOwnKey, BadParent, BadPointer, BlockUsedTwice, WrongChain, BadName, DuplicateName, BadComment, BadCount, BadSequence, LinkEntry, MarkedFree, NoMemory}
 use Rattle.ados_model.specs.Tree.{Content, Node, Tree, root, name_of, size_of, data_count}
 use Rattle.ados_model.specs.Tree.Content.{Directory, File}
-use Rattle.adf_block.specs.Layout.{file_type, comment_byte, name_byte}
+use Rattle.adf_block.specs.declared.layout.TheConstants.{FILE_TYPE, COMMENT_BYTE, NAME_BYTE}
 use Rattle.adf_block.specs.Whole.{text_at}
 use Rattle.ados_model.specs.Stands.{Duty, HasDuty, Stands, HasNode, HasEntry, format_byte, kind_bytes, type_of, HasFile, HasExtension, HasOfsData}
 use Rattle.ados_model.specs.Faults
@@ -33,7 +34,7 @@ front_of : (image : List ℕ) (b i m n : ℕ) → m ≤ n → bytes_at image b i
 unfolding bytes_at
 front_of image b i m n l = sym (take-take m n (drop (512 * b + i) image) l)
 
-text_is : (image : List ℕ) (b i : ℕ) (text : List ℕ) → HasText image b i text → text_at image b i ≡ text
+pub text_is : (image : List ℕ) (b i : ℕ) (text : List ℕ) → HasText image b i text → text_at image b i ≡ text
 text_is image b i text h = ap (bytes_at image b (i + 1)) h.counted ∙ h.follows
 
 ofs_byte : (f : Format) → format_byte f ≡ 0 → f ≡ Ofs
@@ -112,7 +113,7 @@ module _ (image : List ℕ) (t : Tree) (s : Stands image t) where
       let fields = (s.files file f.node f.bytes f.at f.content).ofs_data (ofs o) at.0 at.1.within in
       record { size = length f.bytes; place = at.0; fields = subst (HasOfsData image file (length f.bytes) at.0) at.1.here fields }
 
-  entry_type : (c : Content) → (type_of c ≡ 2) ⊎ (type_of c ≡ file_type)
+  entry_type : (c : Content) → (type_of c ≡ 2) ⊎ (type_of c ≡ FILE_TYPE)
   entry_type (Directory keys) = inl refl
   entry_type (File bytes) = inr refl
 
@@ -158,7 +159,7 @@ module _ (image : List ℕ) (t : Tree) (s : Stands image t) where
   no_wrong_chain : (block : ℕ) → Faults.IsInWrongChain image block → ⊥
   no_wrong_chain block h =
       let e = entry h.reached in
-      h.wrong (ap slot (text_is image block name_byte e.of_node.node.name e.as_node.name) ∙ e.of_node.slotted)
+      h.wrong (ap slot (text_is image block NAME_BYTE e.of_node.node.name e.as_node.name) ∙ e.of_node.slotted)
 
   -- a block with a name is a node
   record NamedNode (block : ℕ) : Type 0 where
@@ -174,10 +175,10 @@ module _ (image : List ℕ) (t : Tree) (s : Stands image t) where
       let e = entry h.2 in
       record { node = e.of_node.node; fields = e.as_node; name = s.proper.name block e.of_node.node e.of_node.at }
 
-  no_separator : (block c : ℕ) → HasName image block → Contains (text_at image block name_byte) c → IsNameByte c
+  no_separator : (block c : ℕ) → HasName image block → Contains (text_at image block NAME_BYTE) c → IsNameByte c
   no_separator block c h m =
       let n = named_node block h in
-      All-contains IsNameByte n.node.name c n.name.plain (subst (λ (text : List ℕ). Contains text c) (text_is image block name_byte n.node.name n.fields.name) m)
+      All-contains IsNameByte n.node.name c n.name.plain (subst (λ (text : List ℕ). Contains text c) (text_is image block NAME_BYTE n.node.name n.fields.name) m)
 
   no_bad_name : (block : ℕ) → Faults.HasBadName image block → ⊥
   no_bad_name block (Faults.HasBadName.empty h e) =
@@ -193,12 +194,12 @@ module _ (image : List ℕ) (t : Tree) (s : Stands image t) where
       let f = entry h.other_reached in
       let name_e : name_of t block ≡ e.of_node.node.name = rw e.of_node.at refl in
       let name_f : name_of t h.other ≡ f.of_node.node.name = rw f.of_node.at refl in
-      let text_e = name_e ∙ sym (text_is image block name_byte e.of_node.node.name e.as_node.name) in
-      let text_f = name_f ∙ sym (text_is image h.other name_byte f.of_node.node.name f.as_node.name) in
-      let same : Same (name_of t block) (name_of t h.other) = subst (λ (n : List ℕ). Same n (name_of t h.other)) (sym text_e) (subst (Same (text_at image block name_byte)) (sym text_f) h.same) in
+      let text_e = name_e ∙ sym (text_is image block NAME_BYTE e.of_node.node.name e.as_node.name) in
+      let text_f = name_f ∙ sym (text_is image h.other NAME_BYTE f.of_node.node.name f.as_node.name) in
+      let same : Same (name_of t block) (name_of t h.other) = subst (λ (n : List ℕ). Same n (name_of t h.other)) (sym text_e) (subst (Same (text_at image block NAME_BYTE)) (sym text_f) h.same) in
       h.two (s.proper.unlike h.dir block h.other e.of_node.listed f.of_node.listed same)
 
-  short_comment : {dir r block : ℕ} → Reached image block (roles.Entry dir r) → byte_at image block comment_byte ≤ 79
+  short_comment : {dir r block : ℕ} → Reached image block (roles.Entry dir r) → byte_at image block COMMENT_BYTE ≤ 79
   short_comment {block = block} h =
       let e = entry h in
       let valid = s.proper.comment block e.of_node.node e.of_node.at in
@@ -213,7 +214,7 @@ module _ (image : List ℕ) (t : Tree) (s : Stands image t) where
       let e = entry h.2 in
       go (type_of e.of_node.node.content) (entry_type e.of_node.node.content) e.as_entry.secondary l
     where
-      go : (c : ℕ) → (c ≡ 2) ⊎ (c ≡ file_type) → secondary_type image block ≡ c → IsLinkType (secondary_type image block) → ⊥
+      go : (c : ℕ) → (c ≡ 2) ⊎ (c ≡ FILE_TYPE) → secondary_type image block ≡ c → IsLinkType (secondary_type image block) → ⊥
       go n (inl a) b (inl c) = omega (arith, a, b, c)
       go n (inl a) b (inr (inl c)) = omega (arith, a, b, c)
       go n (inl a) b (inr (inr c)) = omega (arith, a, b, c)

@@ -1,20 +1,25 @@
 -- An image represents at most one tree.
-use Rattle.std.proofs.Common.{◌≡◌, ◌≢◌, ℕ, zero, suc, ◌+◌, ◌/◌, ◌%◌, ◌<◌, ◌⊎◌, inl, inr, List, [], ◌∷◌, length, slice_index, slice_get, Contains, Option, Some, None, IsSome, is_some, option_map, refl, sym, ap, ap₂, ◌∙◌, subst, arith}
+use Rattle.std.proofs.Common.{◌≡◌, ◌≢◌, ℕ, ◌+◌, ◌/◌, ◌%◌, ◌<◌, ◌⊎◌, inl, inr, List, [], ◌∷◌, length, slice_index, slice_get, Contains, Option, Some, None, IsSome, is_some, option_map, refl, sym, ap, ap₂, ◌∙◌, subst, arith}
 use Rattle.std.specs.List.{AllByRecursion}
 use Rattle.std.proofs.lemmas.List.{ext_get_or, nil_from_length, get_or_default}
 use Rattle.std.proofs.lemmas.Bool.{false≢true}
 use Rattle.std.proofs.lemmas.List.Elements.{recursion_from_All}
-use Rattle.adf_block.specs.declared.Format.{Format}
-use Rattle.adf_block.specs.declared.Format.TheVariants.{Ofs, Ffs}
-use Rattle.adf_block.specs.Image.{root_key, page_count, IsInside, long, bytes_at, HasText, table_entry, pointer}
-use Rattle.ados_model.specs.Tree.{Content, Node, Tree, LeadsToRoot, root, content_at, entries_in, entries, size_in, size_of, data_count, extension_count}
+use Rattle.adf_block.specs.declared.layout.Format.{Format}
+use Rattle.adf_block.specs.declared.layout.Format.TheVariants.{Ofs, Ffs}
+use Rattle.adf_block.specs.Image.{root_key, page_count, IsInside, long, bytes_at, HasText}
+use Rattle.adf_block.specs.Fields.{table_entry, pointer}
+use Rattle.ados_model.specs.Tree.{Content, Node, Tree, LeadsToRoot, root, content_at, entries_in, entries, size_of, data_count, extension_count}
+use Rattle.ados_model.specs.Parts.{size_in}
 use Rattle.ados_model.specs.Tree.Content.{Directory, File}
 use Rattle.ados_model.specs.Tree.LeadsToRoot.{at_root, by_parent}
-use Rattle.ados_model.specs.Stands.{Layout, Fits, Duty, HasDuty, Stands, in_slot, format_byte, type_of, date_at, file_byte}
-use Rattle.adf_block.specs.Layout.{next_in_chain, next_extension, name_byte, comment_byte}
+use Rattle.ados_model.specs.Stands.{Layout, Fits, Duty, HasDuty, Stands, format_byte, type_of, date_at, in_slot}
+use Rattle.ados_model.specs.File.{file_byte}
+use Rattle.adf_block.specs.declared.layout.TheConstants.{COMMENT_BYTE, NAME_BYTE, NEXT_IN_CHAIN, NEXT_EXTENSION}
 use Rattle.ados_model.specs.Laws.{OneTree}
 use Rattle.ados_model.proofs.Lists.{joined-same, Chained-one}
 use Rattle.ados_model.proofs.Nodes.{entry_node, parent_lists, in_slot_not_zero, entries_by_slot, entries_of_directory, parent_in, content_in}
+use Rattle.ados_model.proofs.Counting.{no_data as data_count-zero}
+use Rattle.ados_model.proofs.Standing.{slice_get-index}
 
 format_byte-one : (f g : Format) → format_byte f ≡ format_byte g → f ≡ g
 format_byte-one Ofs Ofs e = refl
@@ -28,22 +33,13 @@ HasText-one image block i a b h k =
     let same : length a ≡ length b = sym h.counted ∙ k.counted in
     sym h.follows ∙ ap (λ (n : ℕ). bytes_at image block (i + 1) n) same ∙ k.follows
 
-slice_get-inside : (xs : List ℕ) (i : ℕ) → i < length xs → slice_get xs i ≡ Some (slice_index xs i)
-slice_get-inside [] i l = absurd (omega arith)
-slice_get-inside (x ∷ xs) zero l = refl
-slice_get-inside (x ∷ xs) (suc i) l = slice_get-inside xs i (omega arith)
-
 -- no extension or data block of a file is block 0
 extensions_not_zero : (t : Tree) (l : Layout) → Fits t l → (file : ℕ) → AllByRecursion (λ b. b ≢ 0) (l.extensions file)
 extensions_not_zero t l fits file =
     recursion_from_All (λ b. b ≢ 0) (l.extensions file)
     (λ k d m z.
-    let inside = fits.inside (slice_index (l.extensions file) k) (Duty.Extension file k) (slice_get-inside (l.extensions file) k m) in
+    let inside = fits.inside (slice_index (l.extensions file) k) (Duty.Extension file k) (slice_get-index (l.extensions file) k m) in
     omega (arith, inside.0, z, get_or_default (l.extensions file) k d 0 m))
-
-data_count-zero : (format : Format) → data_count format 0 ≡ 0
-data_count-zero Ofs = refl
-data_count-zero Ffs = refl
 
 module _ (image : List ℕ) (t u : Tree) (s : Stands image t) (r : Stands image u) where
   blocks_same : t.blocks ≡ u.blocks
@@ -61,7 +57,7 @@ module _ (image : List ℕ) (t u : Tree) (s : Stands image t) (r : Stands image 
   keys_same : (dir : ℕ) (a b : Node) (js ks : List ℕ) → t.nodes dir ≡ Some a → u.nodes dir ≡ Some b → a.content ≡ Directory js → b.content ≡ Directory ks → js ≡ ks
   keys_same dir a b js ks e f c d =
       let slots : (n : ℕ) → n < 72 → in_slot t dir n ≡ in_slot u dir n = λ n l.
-      Chained-one image next_in_chain (table_entry image dir n) (in_slot t dir n) (in_slot u dir n)
+      Chained-one image NEXT_IN_CHAIN (table_entry image dir n) (in_slot t dir n) (in_slot u dir n)
       (s.chains dir a js n e c l) (r.chains dir b ks n f d l)
       (in_slot_not_zero t s.proper dir n) (in_slot_not_zero u r.proper dir n) in
       sym (entries_of_directory t s.proper dir a js e c)
@@ -73,7 +69,7 @@ module _ (image : List ℕ) (t u : Tree) (s : Stands image t) (r : Stands image 
   -- a file in both trees has the same extension blocks
   extensions_same : (file : ℕ) (a b : Node) (xs ys : List ℕ) → t.nodes file ≡ Some a → u.nodes file ≡ Some b → a.content ≡ File xs → b.content ≡ File ys → s.layout.extensions file ≡ r.layout.extensions file
   extensions_same file a b xs ys e f c d =
-      Chained-one image next_extension (long image file next_extension) (s.layout.extensions file) (r.layout.extensions file)
+      Chained-one image NEXT_EXTENSION (long image file NEXT_EXTENSION) (s.layout.extensions file) (r.layout.extensions file)
       (s.files file a xs e c).chain (r.files file b ys f d).chain
       (extensions_not_zero t s.layout s.fits file) (extensions_not_zero u r.layout r.fits file)
 
@@ -116,8 +112,8 @@ module _ (image : List ℕ) (t u : Tree) (s : Stands image t) (r : Stands image 
   child_same key dir a b e f p q =
       let h = s.entries key dir a e p in
       let k = r.entries key dir b f q in
-      let name = HasText-one image key name_byte a.name b.name (s.nodes key a e).name (r.nodes key b f).name in
-      let comment = HasText-one image key comment_byte a.comment b.comment h.comment k.comment in
+      let name = HasText-one image key NAME_BYTE a.name b.name (s.nodes key a e).name (r.nodes key b f).name in
+      let comment = HasText-one image key COMMENT_BYTE a.comment b.comment h.comment k.comment in
       let content = content_same key a b e f (sym h.secondary ∙ k.secondary) in
       let parent : a.parent ≡ b.parent = p ∙ sym q in
       let protected : a.protection ≡ b.protection = sym h.protection_field ∙ k.protection_field in
@@ -131,7 +127,7 @@ module _ (image : List ℕ) (t u : Tree) (s : Stands image t) (r : Stands image 
       let n = r.proper.root_node in
       let at_t : t.nodes key ≡ Some m.0 = ap t.nodes e ∙ m.1 in
       let at_u : u.nodes key ≡ Some n.0 = ap u.nodes (e ∙ root_same) ∙ n.1 in
-      let name = HasText-one image key name_byte m.0.name n.0.name (s.nodes key m.0 at_t).name (r.nodes key n.0 at_u).name in
+      let name = HasText-one image key NAME_BYTE m.0.name n.0.name (s.nodes key m.0 at_t).name (r.nodes key n.0 at_u).name in
       let parent : m.0.parent ≡ n.0.parent = m.2.no_parent ∙ sym n.2.no_parent in
       let protected : m.0.protection ≡ n.0.protection = m.2.no_protection ∙ sym n.2.no_protection in
       let date : m.0.date ≡ n.0.date = sym (s.nodes key m.0 at_t).date ∙ (r.nodes key n.0 at_u).date in

@@ -1,8 +1,8 @@
 -- The use of each block: the three nodes, the bitmap block and the file's data block.
 use Rattle.std.proofs.Common.{◌≡◌, ℕ, zero, suc, List, [], ◌∷◌, length, slice_get, Option, Some, IsSome, refl, option_map, subst, arith}
 use Rattle.std.proofs.lemmas.Bool.{false≢true}
-use Rattle.adf_block.specs.declared.Format.{Format}
-use Rattle.adf_block.specs.declared.Format.TheVariants.{Ofs, Ffs}
+use Rattle.adf_block.specs.declared.layout.Format.{Format}
+use Rattle.adf_block.specs.declared.layout.Format.TheVariants.{Ofs, Ffs}
 use Rattle.adf_block.specs.Image.{IsInside}
 use Rattle.ados_model.specs.Tree.{data_count, extension_count, Content, Tree, size_of}
 use Rattle.ados_model.specs.Tree.Content.{File}

@@ -2,10 +2,11 @@
 use Rattle.std.proofs.Common.{◌≡◌, ℕ, ◌+◌, ◌*◌, ◌<◌, Bool, true, cond, not, ◌==◌, List, [], ◌∷◌, length, slice_index, refl, sym, ap, ◌∙◌, subst, arith, codes, ◌%◌, ◌^◌, drop}
 use Rattle.std.specs.Option.{is_some}
 use Rattle.std.proofs.lemmas.Bool.{agree_below}
-use Rattle.adf_block.specs.declared.Format.{Format}
-use Rattle.adf_block.specs.declared.Format.TheVariants.{Ofs, Ffs}
-use Rattle.adf_block.specs.Image.{has_free_bit, byte_at, bytes_at, long, block_sum, table_entry}
-use Rattle.adf_block.specs.Layout.{next_in_chain, table_longs, first_slot}
+use Rattle.adf_block.specs.declared.layout.Format.{Format}
+use Rattle.adf_block.specs.declared.layout.Format.TheVariants.{Ofs, Ffs}
+use Rattle.adf_block.specs.Image.{has_free_bit, byte_at, bytes_at, long, block_sum}
+use Rattle.adf_block.specs.Fields.{table_entry}
+use Rattle.adf_block.specs.declared.layout.TheConstants.{TABLE_LONGS, FIRST_SLOT, NEXT_IN_CHAIN}
 use Rattle.adf_block.proofs.Blocks.{long-bytes_at}
 use Rattle.adf_block.proofs.Totals.{total-same}
 use Rattle.ados_name.specs.Name.{slot, hash}
@@ -28,9 +29,9 @@ sum_by image b e = sym (ap (λ (n : ℕ). n % 2 ^ 32) (total-same (long image b)
 abbrev one_slot : List ℕ → ℕ → ℕ → Bool
 one_slot block slot key = all_below (λ s. table_entry block 0 s == cond (slot == s) key 0) 72
 
-table_by : (image : List ℕ) (dir slot key : ℕ) → one_slot (bytes_at image dir 0 512) slot key ≡ true → (s : ℕ) → s < table_longs → table_entry image dir s ≡ cond (slot == s) key 0
+table_by : (image : List ℕ) (dir slot key : ℕ) → one_slot (bytes_at image dir 0 512) slot key ≡ true → (s : ℕ) → s < TABLE_LONGS → table_entry image dir s ≡ cond (slot == s) key 0
 table_by image dir slot key e s l =
-    sym (long_alone image dir (first_slot + s) (omega arith)) ∙ equal_below (table_entry (bytes_at image dir 0 512) 0) (λ k. cond (slot == k) key 0) 72 e s l
+    sym (long_alone image dir (FIRST_SLOT + s) (omega arith)) ∙ equal_below (table_entry (bytes_at image dir 0 512) 0) (λ k. cond (slot == k) key 0) 72 e s l
 
 -- blocks 2 to 15 are marked free exactly if they have no use
 abbrev pub has_bits : List ℕ → Bool
@@ -47,10 +48,10 @@ pub record HasBlocks (format : Format) (image : List ℕ) : Type 0 where
   pub letters_entry : HasEntry image 2 letters 8
   pub hello_entry : HasEntry image 3 hello 2
   pub page : block_sum image 9 ≡ 0
-  pub small_table : (s : ℕ) → s < table_longs → table_entry image 8 s ≡ cond (slot letters.name == s) 2 0
-  pub letters_table : (s : ℕ) → s < table_longs → table_entry image 2 s ≡ cond (slot hello.name == s) 3 0
-  pub small_links : long image 2 next_in_chain ≡ 0
-  pub letters_links : long image 3 next_in_chain ≡ 0
+  pub small_table : (s : ℕ) → s < TABLE_LONGS → table_entry image 8 s ≡ cond (slot letters.name == s) 2 0
+  pub letters_table : (s : ℕ) → s < TABLE_LONGS → table_entry image 2 s ≡ cond (slot hello.name == s) 3 0
+  pub small_links : long image 2 NEXT_IN_CHAIN ≡ 0
+  pub letters_links : long image 3 NEXT_IN_CHAIN ≡ 0
   pub file : HasFile image format 3 (4 ∷ []) [] (codes "Hi Amiga")
   pub bits : has_bits image ≡ true
 

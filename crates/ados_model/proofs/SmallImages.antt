@@ -2,9 +2,11 @@
 use Rattle.std.proofs.Common.{◌≡◌, ℕ, ◌+◌, ◌-◌, ◌<◌, Bool, true, false, cond, not, ◌==◌, List, [], ◌∷◌, Option, Some, None, refl, sym, ap, ◌∙◌, subst, arith}
 use Rattle.std.specs.Option.{is_some}
 use Rattle.std.proofs.lemmas.Bool.{agree_below_at, false≢true}
-use Rattle.adf_block.specs.declared.Format.{Format}
-use Rattle.adf_block.specs.Image.{IsInside, HasFreeBit, has_free_bit, long, block_sum, Chained, table_entry}
-use Rattle.adf_block.specs.Layout.{next_in_chain, table_longs}
+use Rattle.adf_block.specs.declared.layout.Format.{Format}
+use Rattle.adf_block.specs.Image.{IsInside, has_free_bit, long, block_sum, Chained}
+use Rattle.adf_block.specs.Whole.{HasFreeBit}
+use Rattle.adf_block.specs.Fields.{table_entry}
+use Rattle.adf_block.specs.declared.layout.TheConstants.{TABLE_LONGS, NEXT_IN_CHAIN}
 use Rattle.ados_name.specs.Name.{slot}
 use Rattle.ados_model.specs.Stands.{HasFile, Duty, Named, Stands, HasNode, HasEntry, in_slot}
 use Rattle.ados_model.specs.Tree.{Node, Tree}
@@ -15,7 +17,7 @@ use Rattle.ados_model.proofs.SmallFields.{HasBlocks, has_blocks}
 use Rattle.ados_model.proofs.SmallDuties.{layout, duty_of, has_duty, duty_is, fits}
 
 -- the hash chain with the only entry, and the empty hash chains
-one_entry : (image : List ℕ) (first key : ℕ) (here : Bool) → first ≡ cond here key 0 → long image key next_in_chain ≡ 0 → Chained image next_in_chain first (cond here (key ∷ []) [])
+one_entry : (image : List ℕ) (first key : ℕ) (here : Bool) → first ≡ cond here key 0 → long image key NEXT_IN_CHAIN ≡ 0 → Chained image NEXT_IN_CHAIN first (cond here (key ∷ []) [])
 one_entry image first key true e last = (e, last)
 one_entry image first key false e last = e
 
@@ -26,8 +28,8 @@ module _ (format : Format) where
   abbrev h : HasBlocks format (image format)
   h = has_blocks format
 
-  chains : (dir : ℕ) (node : Node) → nodes dir ≡ Some node → (keys : List ℕ) (s : ℕ) → node.content ≡ Directory keys → s < table_longs → Chained (image format) next_in_chain (table_entry (image format) dir s) (in_slot t dir s)
-  chains = each (λ dir node. (keys : List ℕ) (s : ℕ) → node.content ≡ Directory keys → s < table_longs → Chained (image format) next_in_chain (table_entry (image format) dir s) (in_slot t dir s))
+  chains : (dir : ℕ) (node : Node) → nodes dir ≡ Some node → (keys : List ℕ) (s : ℕ) → node.content ≡ Directory keys → s < TABLE_LONGS → Chained (image format) NEXT_IN_CHAIN (table_entry (image format) dir s) (in_slot t dir s)
+  chains = each (λ dir node. (keys : List ℕ) (s : ℕ) → node.content ≡ Directory keys → s < TABLE_LONGS → Chained (image format) NEXT_IN_CHAIN (table_entry (image format) dir s) (in_slot t dir s))
       (λ keys s e l. one_entry (image format) (table_entry (image format) 8 s) 2 (slot letters.name == s) (h.small_table s l) h.small_links)
       (λ keys s e l. one_entry (image format) (table_entry (image format) 2 s) 3 (slot hello.name == s) (h.letters_table s l) h.letters_links)
       (λ keys s e l. absurd (cc e))

@@ -1,6 +1,6 @@
 -- The tree is proper.
 use Rattle.std.proofs.Common.{◌≡◌, ◌≢◌, ℕ, ◌<◌, ◌≤◌, ◌⊎◌, inl, inr, List, [], ◌∷◌, length, Contains, AllPairs, Some, None, refl, sym, arith, codes}
-use Rattle.adf_block.specs.declared.Format.{Format}
+use Rattle.adf_block.specs.declared.layout.Format.{Format}
 use Rattle.ados_name.specs.Name.{slot, IsName, IsComment}
 use Rattle.ados_model.proofs.KeyLists.{Contains-nil, Contains-here, Contains-cases}
 use Rattle.ados_model.specs.Tree.{Node, Tree, Proper, LeadsToRoot, entries, name_of, parent_of}

@@ -4,12 +4,13 @@ use Rattle.std.specs.Bool.{⊤}
 use Rattle.std.proofs.lemmas.Bool.{cases_order}
 use Rattle.std.proofs.lemmas.List.Elements.{All-filter, All-contains_itself, filter_passes}
 use Rattle.std.proofs.lemmas.List.Kept.{AllPairs-filter}
-use Rattle.adf_block.specs.Image.{block_count, root_key, page_count, long, table_entry, pointer, pointer_count, secondary_type, Chained}
+use Rattle.adf_block.specs.Image.{block_count, root_key, page_count, long, Chained}
+use Rattle.adf_block.specs.Fields.{table_entry, pointer, pointer_count, secondary_type}
 use Rattle.ados_name.specs.Name.{slot}
 use Rattle.ados_model.specs.Tree.{Content, Node, Tree, root, entries, name_of}
 use Rattle.ados_model.specs.Tree.Content.{Directory, File}
-use Rattle.ados_model.specs.Stands.{Duty, HasDuty, Stands, in_slot, type_of}
-use Rattle.adf_block.specs.Layout.{next_in_chain, next_extension, file_type}
+use Rattle.ados_model.specs.Stands.{Duty, HasDuty, Stands, type_of, in_slot}
+use Rattle.adf_block.specs.declared.layout.TheConstants.{FILE_TYPE, NEXT_IN_CHAIN, NEXT_EXTENSION}
 use Rattle.ados_model.specs.declared.role.Role.{Role}
 use Rattle.ados_model.specs.declared.role.Role.TheVariants as roles
 use Rattle.ados_model.specs.Faults.{IsPlace, Reached, root_of, InImage}
@@ -92,9 +93,9 @@ module _ (image : List ℕ) (t : Tree) (s : Stands image t) where
   long_of roles.Root k = 0
   long_of roles.Page k = 79 + k
   long_of (roles.Entry dir r) zero = 6 + r
-  long_of (roles.Entry dir r) (suc k) = next_in_chain
+  long_of (roles.Entry dir r) (suc k) = NEXT_IN_CHAIN
   long_of (roles.Data file) k = 77 - k % 72
-  long_of (roles.Extension file) k = next_extension
+  long_of (roles.Extension file) k = NEXT_EXTENSION
 
   -- a place leads to a position in the list of the next role, and only that long names it
   pub record LeadsTo (block i : ℕ) (next : Role) : Type 0 where
@@ -112,7 +113,7 @@ module _ (image : List ℕ) (t : Tree) (s : Stands image t) where
   directory_type (Directory keys) e = (keys, refl)
   directory_type (File bytes) e = absurd (omega (arith, e))
 
-  file_type_is : (c : Content) → type_of c ≡ file_type → (bytes : List ℕ) × (c ≡ File bytes)
+  file_type_is : (c : Content) → type_of c ≡ FILE_TYPE → (bytes : List ℕ) × (c ≡ File bytes)
   file_type_is (Directory keys) e = absurd (omega (arith, e))
   file_type_is (File bytes) e = (bytes, refl)
 
@@ -191,7 +192,7 @@ module _ (image : List ℕ) (t : Tree) (s : Stands image t) where
   -- a slot of a directory leads to the first entry of its hash chain
   slot_leads : (dir r : ℕ) (a : Node) (keys : List ℕ) → t.nodes dir ≡ Some a → a.content ≡ Directory keys → r < 72 → table_entry image dir r ≢ 0 → LeadsTo dir (6 + r) (roles.Entry dir r)
   slot_leads dir r a keys e c l n =
-      let first = Chained-first image next_in_chain (table_entry image dir r) (in_slot t dir r) (s.chains dir a keys r e c l) n in
+      let first = Chained-first image NEXT_IN_CHAIN (table_entry image dir r) (in_slot t dir r) (s.chains dir a keys r e c l) n in
       record { place = 0; not_root = λ z. cc z; stands = record { within = first.0; here = first.1; holder = l }; by_block = refl; by_long = refl }
 
   -- a pointer of a file leads to a data block
@@ -221,7 +222,7 @@ module _ (image : List ℕ) (t : Tree) (s : Stands image t) where
       let n = entry_at dir r k block h in
       (s.entries block dir n.node n.at n.parent).secondary
 
-  pub file_at : (dir r k block : ℕ) → StandsAt (roles.Entry dir r) k block → secondary_type image block ≡ file_type → IsFileNode block
+  pub file_at : (dir r k block : ℕ) → StandsAt (roles.Entry dir r) k block → secondary_type image block ≡ FILE_TYPE → IsFileNode block
   file_at dir r k block h e =
       let n = entry_at dir r k block h in
       let c = file_type_is n.node.content (sym (entry_fields dir r k block h) ∙ e) in
@@ -249,8 +250,8 @@ module _ (image : List ℕ) (t : Tree) (s : Stands image t) where
   leads {block = block} k h (next_entry {dir = dir} {s = r} n) =
       let m = directory_node t s.proper dir block (entry_at dir r k block h).listed in
       let chain = s.chains dir m.0 m.1 r m.2 m.3 h.holder in
-      let here = ap (λ (b : ℕ). long image b next_in_chain) h.here in
-      elim (Chained-more image next_in_chain (table_entry image dir r) (in_slot t dir r) k chain h.within) [
+      let here = ap (λ (b : ℕ). long image b NEXT_IN_CHAIN) h.here in
+      elim (Chained-more image NEXT_IN_CHAIN (table_entry image dir r) (in_slot t dir r) k chain h.within) [
         | inl g ↦ record { place = suc k; not_root = λ z. cc z; stands = record { within = g.0; here = sym g.1 ∙ here; holder = h.holder }; by_block = sym h.here; by_long = refl }
         | inr g ↦ absurd (n (sym here ∙ g.1))
       ]
@@ -258,15 +259,15 @@ module _ (image : List ℕ) (t : Tree) (s : Stands image t) where
       pointer_leads block (file_at dir r k block h e) 0 i (omega arith) p.0
   leads {block = block} k h (first_extension {dir = dir} {s = r} e n) =
       let f = file_at dir r k block h e in
-      let first = Chained-first image next_extension (long image block next_extension) (s.layout.extensions block) (s.files block f.node f.bytes f.at f.content).chain n in
+      let first = Chained-first image NEXT_EXTENSION (long image block NEXT_EXTENSION) (s.layout.extensions block) (s.files block f.node f.bytes f.at f.content).chain n in
       record { place = 0; not_root = λ z. cc z; stands = record { within = first.0; here = first.1; holder = f }; by_block = refl; by_long = refl }
   leads {block = block} k h (extension_pointer {file = file} {i = i} p) =
       let count : i < pointer_count image (slice_index (file ∷ s.layout.extensions file) (suc k)) = subst (λ (b : ℕ). i < pointer_count image b) (sym h.here) p.0 in
       subst (λ (b : ℕ). LeadsTo b (77 - i) (roles.Data file)) h.here (pointer_leads file h.holder (suc k) i (omega (arith, h.within)) count)
   leads {block = block} k h (further_extension {file = file} n) =
       let f = h.holder in
-      let here = ap (λ (b : ℕ). long image b next_extension) h.here in
-      elim (Chained-more image next_extension (long image file next_extension) (s.layout.extensions file) k (s.files file f.node f.bytes f.at f.content).chain h.within) [
+      let here = ap (λ (b : ℕ). long image b NEXT_EXTENSION) h.here in
+      elim (Chained-more image NEXT_EXTENSION (long image file NEXT_EXTENSION) (s.layout.extensions file) k (s.files file f.node f.bytes f.at f.content).chain h.within) [
         | inl g ↦ record { place = suc k; not_root = λ z. cc z; stands = record { within = g.0; here = sym g.1 ∙ here; holder = f }; by_block = sym h.here; by_long = refl }
         | inr g ↦ absurd (n (sym here ∙ g.1))
       ]

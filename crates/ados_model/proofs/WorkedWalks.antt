@@ -1,7 +1,7 @@
 -- Worked examples of walks and places: directories `a`, `b` and a file `f` in the root of a volume of 1,760 blocks.
 use Rattle.std.proofs.Common.{◌≡◌, ℕ, List, [], ◌∷◌, Option, Some, None, Ok, Err, codes, refl, cond, ◌==◌}
-use Rattle.adf_block.specs.declared.Format.TheVariants.{Ffs}
-use Rattle.ados_name.specs.declared.Date3.{Date3}
+use Rattle.adf_block.specs.declared.layout.Format.TheVariants.{Ffs}
+use Rattle.ados_name.specs.declared.stamp.Date3.{Date3}
 use Rattle.ados_name.specs.Name.{steps, steps_along, front, last_name}
 use Rattle.ados_model.specs.declared.dos_error.WalkFault.TheVariants.{DirectoryNotFound, ObjectNotFound, WrongType}
 use Rattle.ados_model.specs.declared.dos_error.PlaceFault.TheVariants as faults
@@ -9,7 +9,7 @@ use Rattle.ados_model.specs.Tree.{Content, Node, Tree, used, free}
 use Rattle.ados_model.specs.Tree.Content.{Directory, File}
 use Rattle.ados_model.specs.Change.{walk, place}
 
-abbrev moment : Date3
+abbrev pub moment : Date3
 moment = record { days = 0; minutes = 0; ticks = 0 }
 
 abbrev node : List ℕ → Option ℕ → Content → Node

@@ -1,13 +1,10 @@
--- Where a path leads in a tree, and the operations on a tree. The time stamp `moment` is the first argument of an
--- operation, the tree the last.
-use Rattle.std.specs.Prelude.{ℕ, nat_lt, Bool, true, false, ◌==◌, ◌||◌, if◌then◌else◌, List, [], ◌∷◌, length, map, find, Option, Some, ok_or, Result, Ok, Err, bytes_eq, ◌+◌, ◌-◌, ◌++◌, take, drop, not, nat_le, replicate, filter, None, option_map}
+-- Where a path leads in a tree, and the operations on a tree: each takes the time stamp `moment` first and the tree last.
+use Rattle.std.specs.Prelude.{ℕ, nat_lt, Bool, true, false, ◌==◌, ◌||◌, if◌then◌else◌, List, [], ◌∷◌, length, map, find, Option, Some, ok_or, Result, Ok, Err, bytes_eq, ◌+◌, ◌++◌, take, drop, not, nat_le, filter, None, option_map}
 use Rattle.std.specs.List.{list_any}
 use Rattle.std.specs.Option.{option_map_or}
-use Rattle.ados_name.specs.Name.{upper, Step, is_from_root, steps, front, last_name, slot, without_archive}
-use Rattle.ados_name.specs.Name.Step.{ToParent, ToChild}
-use Rattle.ados_name.specs.declared.Date3.{Date3}
-use Rattle.ados_model.specs.Tree.{Content, Tree, root, content_at, entries, name_of, parent_of, behind, Node, bytes_of}
-use Rattle.ados_model.specs.Tree.Content.{File, Directory}
+use Rattle.ados_name.specs.Name.{upper, Step, is_from_root, steps, front, last_name, slot, without_archive, Step.ToParent, Step.ToChild}
+use Rattle.ados_name.specs.declared.stamp.Date3.{Date3}
+use Rattle.ados_model.specs.Tree.{Content, Tree, root, content_at, entries, name_of, parent_of, behind, Node, bytes_of, Content.File, Content.Directory}
 use Rattle.ados_model.specs.declared.dos_error.WalkFault.{WalkFault}
 use Rattle.ados_model.specs.declared.dos_error.WalkFault.TheVariants.{DirectoryNotFound, ObjectNotFound, WrongType}
 use Rattle.ados_model.specs.declared.dos_error.PlaceFault.{PlaceFault}
@@ -71,10 +68,6 @@ place_in t (Ok key) name =
 abbrev pub place : Tree → ℕ → List ℕ → Result (ℕ × List ℕ) PlaceFault
 place t start path = place_in t (walk_steps t (start_of t start path) (steps (front path)) DirectoryNotFound) (last_name path)
 
--- the list with ys over its elements from position pos; it grows if ys reach past its end
-abbrev pub overlaid : List ℕ → ℕ → List ℕ → List ℕ
-overlaid xs pos ys = take pos xs ++ ys ++ drop (pos + length ys) xs
-
 -- the tree with this node at a key, or without one
 abbrev pub with_node : ℕ → Option Node → Tree → Tree
 with_node key node t = record t { nodes = λ k. if k == key then node else t.nodes k }
@@ -104,13 +97,11 @@ entered moment dir key t = listed moment dir (enter (λ k. slot (name_of t k)) k
 abbrev pub left : Date3 → ℕ → Tree → Tree
 left moment key t = option_map_or (λ dir. listed moment dir (filter (λ k. not (k == key)) (entries t dir)) t) (parent_of t key) t
 
--- a new entry: protection 0 and no comment
-abbrev pub new_node : Date3 → ℕ → List ℕ → Content → Node
-new_node moment dir name content = record { name = name; parent = Some dir; protection = 0; date = moment; comment = []; content = content }
-
--- a directory gets a new entry
+-- a directory gets a new entry, with protection 0 and no comment
 abbrev pub made : Date3 → ℕ → ℕ → List ℕ → Content → Tree → Tree
-made moment dir key name content t = stamped moment (entered moment dir key (with_node key (Some (new_node moment dir name content)) t))
+made moment dir key name content t =
+    let node : Node = record { name = name; parent = Some dir; protection = 0; date = moment; comment = []; content = content } in
+    stamped moment (entered moment dir key (with_node key (Some node) t))
 
 -- an entry is removed
 abbrev pub removed : Date3 → ℕ → Tree → Tree
@@ -129,29 +120,8 @@ rewritten moment key bytes t =
 -- bytes are written into a file from a position; they may reach past its end; no bytes change nothing
 abbrev pub written : Date3 → ℕ → ℕ → List ℕ → Tree → Tree
 written moment key pos [] t = t
-written moment key pos (c ∷ cs) t = rewritten moment key (overlaid (bytes_of t key) pos (c ∷ cs)) t
-
--- a file is cut to a size
-abbrev pub shortened : Date3 → ℕ → ℕ → Tree → Tree
-shortened moment key size t = rewritten moment key (take size (bytes_of t key)) t
-
--- a file grows to a size, with zeros
-abbrev pub grown : Date3 → ℕ → ℕ → Tree → Tree
-grown moment key size t = rewritten moment key (bytes_of t key ++ replicate (size - length (bytes_of t key)) 0) t
-
--- the protection, comment or date of a node is set
-abbrev pub with_protection : Date3 → ℕ → ℕ → Tree → Tree
-with_protection moment key bits t = stamped moment (changed key (λ node. record node { protection = bits }) t)
-
-abbrev pub with_comment : Date3 → ℕ → List ℕ → Tree → Tree
-with_comment moment key comment t = stamped moment (changed key (λ node. record node { comment = comment }) t)
-
-abbrev pub with_date : Date3 → ℕ → Date3 → Tree → Tree
-with_date moment key date t = stamped moment (changed key (λ node. record node { date = date }) t)
-
--- the volume is renamed
-abbrev pub disk_renamed : Date3 → List ℕ → Tree → Tree
-disk_renamed moment name t = stamped moment (changed (root t) (λ node. record node { name = name }) t)
+written moment key pos (c ∷ cs) t =
+    rewritten moment key (take pos (bytes_of t key) ++ (c ∷ cs) ++ drop (pos + length (c ∷ cs)) (bytes_of t key)) t
 
 -- the entries of a directory after a key; the directory's own key is before all
 abbrev pub entries_after : Tree → ℕ → ℕ → Option (List ℕ)

@@ -1,6 +1,8 @@
 -- The faults of an image, defined without a tree.
 use Rattle.std.specs.Prelude.{◌≡◌, ◌≢◌, nat_le, if◌then◌else◌, ℕ, zero, suc, ◌+◌, ◌-◌, ◌/◌, ◌<◌, ◌≤◌, ◌⊎◌, ⊤, List, [], ◌∷◌, ◌++◌, length, flat_map, slice_index, sum_by, All, AllPairs, Contains, Option, Some, None, ℤ, pos}
-use Rattle.adf_block.specs.Image.{block_count, root_key, page_count, byte_at, bytes_at, long, block_sum, IsInside, HasFreeBit, format_of, primary_type, own_key, pointer_count, sequence_number, held_count, table_entry, pointer, file_size, parent_key, secondary_type}
+use Rattle.adf_block.specs.Image.{block_count, root_key, page_count, byte_at, bytes_at, long, block_sum, IsInside}
+use Rattle.adf_block.specs.Whole.{HasFreeBit, text_at}
+use Rattle.adf_block.specs.Fields.{format_of, primary_type, own_key, pointer_count, sequence_number, held_count, table_entry, pointer, file_size, parent_key, secondary_type}
 use Rattle.ados_name.specs.Name.{Same, slot}
 use Rattle.ados_model.specs.declared.role.Role.{Role}
 use Rattle.ados_model.specs.declared.role.Role.TheVariants.{Root, Page, Entry, Data, Extension}
@@ -9,9 +11,7 @@ use Rattle.ados_model.specs.declared.fault.FaultKind.TheVariants.{NotADosDisk, U
 use Rattle.ados_model.specs.Packet.{error_number}
 use Rattle.ados_model.specs.declared.dos_error.DosError.TheVariants as errors
 use Rattle.ados_model.specs.Tree.{data_count}
-use Rattle.adf_block.specs.declared.layout.TheConstants.{LIST_TYPE, SOFT_LINK_TYPE, DIRECTORY_LINK_TYPE, FILE_LINK_TYPE}
-use Rattle.adf_block.specs.Layout.{next_data, next_in_chain, next_extension, file_type, comment_byte, name_byte, boot_blocks, kind_byte, header_type, data_type, root_type, directory_type, table_size_long, table_longs, first_slot, first_pointer, bitmap_flag, bitmap_valid, first_page, page_bits, ofs_room}
-use Rattle.adf_block.specs.Whole.{text_at}
+use Rattle.adf_block.specs.declared.layout.TheConstants.{BOOT_BLOCKS, KIND_BYTE, HEADER_TYPE, DATA_TYPE, LIST_TYPE, ROOT_TYPE, DIRECTORY_TYPE, FILE_TYPE, SOFT_LINK_TYPE, DIRECTORY_LINK_TYPE, FILE_LINK_TYPE, TABLE_LONGS, TABLE_SIZE, FIRST_SLOT, FIRST_POINTER, BITMAP_FLAG, BITMAP_VALID, FIRST_PAGE, COMMENT_BYTE, NAME_BYTE, NEXT_IN_CHAIN, NEXT_EXTENSION, NEXT_DATA, OFS_ROOM, PAGE_BITS}
 
 -- the block number of the root
 abbrev pub root_of : List ℕ → ℕ
@@ -27,11 +27,11 @@ LeadsInside image block i = InImage image (long image block i)
 
 -- the header is that of a directory
 abbrev pub HasDirectoryType : List ℕ → ℕ → Type 0
-HasDirectoryType image block = secondary_type image block ≡ directory_type
+HasDirectoryType image block = secondary_type image block ≡ DIRECTORY_TYPE
 
 -- the header is that of a file
 abbrev pub HasFileType : List ℕ → ℕ → Type 0
-HasFileType image block = secondary_type image block ≡ file_type
+HasFileType image block = secondary_type image block ≡ FILE_TYPE
 
 -- the slot has a hash chain
 abbrev pub HasChain : List ℕ → ℕ → ℕ → Type 0
@@ -39,24 +39,24 @@ HasChain image block s = table_entry image block s ≢ 0
 
 -- an extension block follows
 abbrev pub IsContinued : List ℕ → ℕ → Type 0
-IsContinued image block = long image block next_extension ≢ 0
+IsContinued image block = long image block NEXT_EXTENSION ≢ 0
 
 -- pointer i is in use, and the number of pointers is at most 72
 abbrev pub IsPointer : List ℕ → ℕ → ℕ → Type 0
-IsPointer image block i = (i < pointer_count image block) × (pointer_count image block ≤ table_longs)
+IsPointer image block i = (i < pointer_count image block) × (pointer_count image block ≤ TABLE_LONGS)
 
 -- long i of a block in a role is a place: it has the number of another block, and the place determines that block's
 -- role
 pub data IsPlace (image : List ℕ) : ℕ → Role → ℕ → Role → Type 0 where
-  root_page : {block i : ℕ} → i < page_count (block_count image) → IsPlace image block Root (first_page + i) Page
-  root_slot : {block s : ℕ} → s < table_longs → HasChain image block s → IsPlace image block Root (first_slot + s) (Entry block s)
-  directory_slot : {block dir r s : ℕ} → HasDirectoryType image block → s < table_longs → HasChain image block s
-      → IsPlace image block (Entry dir r) (first_slot + s) (Entry block s)
-  next_entry : {block dir s : ℕ} → long image block next_in_chain ≢ 0 → IsPlace image block (Entry dir s) next_in_chain (Entry dir s)
-  header_pointer : {block dir s i : ℕ} → HasFileType image block → IsPointer image block i → IsPlace image block (Entry dir s) (first_pointer - i) (Data block)
-  first_extension : {block dir s : ℕ} → HasFileType image block → IsContinued image block → IsPlace image block (Entry dir s) next_extension (Extension block)
-  extension_pointer : {block file i : ℕ} → IsPointer image block i → IsPlace image block (Extension file) (first_pointer - i) (Data file)
-  further_extension : {block file : ℕ} → IsContinued image block → IsPlace image block (Extension file) next_extension (Extension file)
+  root_page : {block i : ℕ} → i < page_count (block_count image) → IsPlace image block Root (FIRST_PAGE + i) Page
+  root_slot : {block s : ℕ} → s < TABLE_LONGS → HasChain image block s → IsPlace image block Root (FIRST_SLOT + s) (Entry block s)
+  directory_slot : {block dir r s : ℕ} → HasDirectoryType image block → s < TABLE_LONGS → HasChain image block s
+      → IsPlace image block (Entry dir r) (FIRST_SLOT + s) (Entry block s)
+  next_entry : {block dir s : ℕ} → long image block NEXT_IN_CHAIN ≢ 0 → IsPlace image block (Entry dir s) NEXT_IN_CHAIN (Entry dir s)
+  header_pointer : {block dir s i : ℕ} → HasFileType image block → IsPointer image block i → IsPlace image block (Entry dir s) (FIRST_POINTER - i) (Data block)
+  first_extension : {block dir s : ℕ} → HasFileType image block → IsContinued image block → IsPlace image block (Entry dir s) NEXT_EXTENSION (Extension block)
+  extension_pointer : {block file i : ℕ} → IsPointer image block i → IsPlace image block (Extension file) (FIRST_POINTER - i) (Data file)
+  further_extension : {block file : ℕ} → IsContinued image block → IsPlace image block (Extension file) NEXT_EXTENSION (Extension file)
 
 -- the reached blocks, each with a role: the root, and each block that a place of a reached block names
 pub data Reached (image : List ℕ) : ℕ → Role → Type 0 where
@@ -92,7 +92,7 @@ IsData image block = (file : ℕ) × Reached image block (Data file)
 
 -- the volume is OFS; only in OFS have data blocks a checksum and fields
 abbrev pub IsOfs : List ℕ → Type 0
-IsOfs image = byte_at image 0 kind_byte ≡ 0
+IsOfs image = byte_at image 0 KIND_BYTE ≡ 0
 
 -- the link of each block but the last is the next block
 abbrev pub LeadOn : List ℕ → ℕ → List ℕ → Type 0
@@ -104,7 +104,7 @@ FurtherAreInside image blocks = (i : ℕ) → i + 1 < length blocks → InImage 
 
 -- the link of the data block at position i is the next of these data blocks, or 0 after the last
 abbrev pub LinksOn : List ℕ → ℕ → List ℕ → ℕ → Type 0
-LinksOn image block blocks i = long image block next_data ≡ slice_index blocks (i + 1)
+LinksOn image block blocks i = long image block NEXT_DATA ≡ slice_index blocks (i + 1)
 
 -- no block occurs twice
 abbrev pub AreDistinct : List ℕ → Type 0
@@ -134,13 +134,13 @@ first_pointers image block (suc n) = first_pointers image block n ++ pointer ima
 
 -- the data pointers of a block; none if their number is more than 72
 abbrev pub pointers_of : List ℕ → ℕ → List ℕ
-pointers_of image block = if nat_le (pointer_count image block) table_longs then first_pointers image block (pointer_count image block) else []
+pointers_of image block = if nat_le (pointer_count image block) TABLE_LONGS then first_pointers image block (pointer_count image block) else []
 
 -- the data blocks of a file: the pointers of its header, then of each extension block
 pub record AreDataBlocks (image : List ℕ) (file : ℕ) (blocks : List ℕ) : Type 0 where
   pub is_file : IsFile image file
   pub headers : List ℕ
-  pub linked : LinkedOnce image next_extension file headers
+  pub linked : LinkedOnce image NEXT_EXTENSION file headers
   pub pointed : blocks ≡ flat_map (pointers_of image) headers
 
 -- the number of data blocks for the size of a file
@@ -191,14 +191,14 @@ pub record HasBadSum (image : List ℕ) (block : ℕ) : Type 0 where
 
 -- a wrong type, or a wrong table size
 pub data HasBadType (image : List ℕ) (block : ℕ) : Type 0 where
-  root_primary : block ≡ root_of image → primary_type image block ≢ header_type → HasBadType image block
-  root_table : block ≡ root_of image → long image block table_size_long ≢ table_longs → HasBadType image block
-  root_secondary : block ≡ root_of image → secondary_type image block ≢ root_type → HasBadType image block
-  entry_primary : IsEntry image block → primary_type image block ≢ header_type → HasBadType image block
+  root_primary : block ≡ root_of image → primary_type image block ≢ HEADER_TYPE → HasBadType image block
+  root_table : block ≡ root_of image → long image block TABLE_SIZE ≢ TABLE_LONGS → HasBadType image block
+  root_secondary : block ≡ root_of image → secondary_type image block ≢ ROOT_TYPE → HasBadType image block
+  entry_primary : IsEntry image block → primary_type image block ≢ HEADER_TYPE → HasBadType image block
   entry_secondary : IsEntry image block → ¬ HasDirectoryType image block → ¬ HasFileType image block → ¬ HasLinkType image block → HasBadType image block
   extension_primary : IsExtension image block → primary_type image block ≢ LIST_TYPE → HasBadType image block
   extension_secondary : IsExtension image block → ¬ HasFileType image block → HasBadType image block
-  data_primary : IsOfs image → IsData image block → primary_type image block ≢ data_type → HasBadType image block
+  data_primary : IsOfs image → IsData image block → primary_type image block ≢ DATA_TYPE → HasBadType image block
 
 -- the own number of an entry or extension block is wrong
 pub data HasBadOwnKey (image : List ℕ) (block : ℕ) : Type 0 where
@@ -215,7 +215,7 @@ pub data HasBadParent (image : List ℕ) (block : ℕ) : Type 0 where
 -- a place names a block outside the image; or, in OFS, the link from one data block to the next is wrong
 pub data HasBadPointer (image : List ℕ) (block : ℕ) : Type 0 where
   outside : {i : ℕ} {role next : Role} → Reached image block role → IsPlace image block role i next → ¬ LeadsInside image block i → HasBadPointer image block
-  first_data : IsOfs image → IsFile image block → long image block next_data ≢ slice_index (pointers_of image block) 0 → HasBadPointer image block
+  first_data : IsOfs image → IsFile image block → long image block NEXT_DATA ≢ slice_index (pointers_of image block) 0 → HasBadPointer image block
   further_data : {file i : ℕ} {blocks : List ℕ} → IsOfs image → IsDataAt image file blocks i block → ¬ LinksOn image block blocks i → HasBadPointer image block
 
 -- long i of a reached block is a place that names the block
@@ -238,7 +238,7 @@ pub data IsUsedTwice (image : List ℕ) (block : ℕ) : Type 0 where
 
 -- the length of an entry's name is at most 30; a longer name is bad, and is no fault of the chain or a duplicate
 abbrev pub HasShortName : List ℕ → ℕ → Type 0
-HasShortName image block = byte_at image block name_byte ≤ 30
+HasShortName image block = byte_at image block NAME_BYTE ≤ 30
 
 -- an entry is in another hash chain than that of its name
 pub record IsInWrongChain (image : List ℕ) (block : ℕ) : Type 0 where
@@ -246,7 +246,7 @@ pub record IsInWrongChain (image : List ℕ) (block : ℕ) : Type 0 where
   pub slot_of_chain : ℕ
   pub reached : Reached image block (Entry dir slot_of_chain)
   pub short : HasShortName image block
-  pub wrong : slot (text_at image block name_byte) ≢ slot_of_chain
+  pub wrong : slot (text_at image block NAME_BYTE) ≢ slot_of_chain
 
 -- a root or entry has a name
 pub data HasName (image : List ℕ) (block : ℕ) : Type 0 where
@@ -255,10 +255,10 @@ pub data HasName (image : List ℕ) (block : ℕ) : Type 0 where
 
 -- the name is empty, longer than 30 bytes, or has a `/` or `:`
 pub data HasBadName (image : List ℕ) (block : ℕ) : Type 0 where
-  empty : HasName image block → byte_at image block name_byte ≡ 0 → HasBadName image block
-  long_name : HasName image block → 30 < byte_at image block name_byte → HasBadName image block
-  slash : HasName image block → Contains (text_at image block name_byte) 47 → HasBadName image block
-  colon : HasName image block → Contains (text_at image block name_byte) 58 → HasBadName image block
+  empty : HasName image block → byte_at image block NAME_BYTE ≡ 0 → HasBadName image block
+  long_name : HasName image block → 30 < byte_at image block NAME_BYTE → HasBadName image block
+  slash : HasName image block → Contains (text_at image block NAME_BYTE) 47 → HasBadName image block
+  colon : HasName image block → Contains (text_at image block NAME_BYTE) 58 → HasBadName image block
 
 -- another entry of the same directory has the same name
 pub record HasDuplicateName (image : List ℕ) (block : ℕ) : Type 0 where
@@ -271,12 +271,12 @@ pub record HasDuplicateName (image : List ℕ) (block : ℕ) : Type 0 where
   pub two : block ≢ other
   pub short : HasShortName image block
   pub other_short : HasShortName image other
-  pub same : Same (text_at image block name_byte) (text_at image other name_byte)
+  pub same : Same (text_at image block NAME_BYTE) (text_at image other NAME_BYTE)
 
 -- the comment of a directory or file is longer than 79 bytes
 pub data HasBadComment (image : List ℕ) (block : ℕ) : Type 0 where
-  directory_comment : IsDirectory image block → 79 < byte_at image block comment_byte → HasBadComment image block
-  file_comment : IsFile image block → 79 < byte_at image block comment_byte → HasBadComment image block
+  directory_comment : IsDirectory image block → 79 < byte_at image block COMMENT_BYTE → HasBadComment image block
+  file_comment : IsFile image block → 79 < byte_at image block COMMENT_BYTE → HasBadComment image block
 
 -- a file header or extension block has data pointers
 pub data HasPointers (image : List ℕ) (block : ℕ) : Type 0 where
@@ -285,13 +285,13 @@ pub data HasPointers (image : List ℕ) (block : ℕ) : Type 0 where
 
 -- a count or a size does not match the blocks of the file
 pub data HasBadCount (image : List ℕ) (block : ℕ) : Type 0 where
-  over : HasPointers image block → table_longs < pointer_count image block → HasBadCount image block
-  not_full : HasPointers image block → pointer_count image block < table_longs → IsContinued image block → HasBadCount image block
+  over : HasPointers image block → TABLE_LONGS < pointer_count image block → HasBadCount image block
+  not_full : HasPointers image block → pointer_count image block < TABLE_LONGS → IsContinued image block → HasBadCount image block
   no_pointer : IsExtension image block → pointer_count image block ≡ 0 → HasBadCount image block
   wrong_size : {blocks : List ℕ} → AreDataBlocks image block blocks → length blocks ≢ count_of_size image block → HasBadCount image block
-  held_not_full : IsOfs image → IsInnerData image block → held_count image block ≢ ofs_room → HasBadCount image block
+  held_not_full : IsOfs image → IsInnerData image block → held_count image block ≢ OFS_ROOM → HasBadCount image block
   held_none : {file i : ℕ} {blocks : List ℕ} → IsOfs image → IsDataAt image file blocks i block → held_count image block ≡ 0 → HasBadCount image block
-  held_over : {file i : ℕ} {blocks : List ℕ} → IsOfs image → IsDataAt image file blocks i block → ofs_room < held_count image block → HasBadCount image block
+  held_over : {file i : ℕ} {blocks : List ℕ} → IsOfs image → IsDataAt image file blocks i block → OFS_ROOM < held_count image block → HasBadCount image block
   wrong_sum : IsOfs image → HoldsOtherSize image block → HasBadCount image block
 
 -- an OFS data block whose sequence number is not its position in the file, from 1
@@ -305,16 +305,16 @@ pub record HasBadSequence (image : List ℕ) (block : ℕ) : Type 0 where
 
 -- a reached block is marked free; the bitmap is valid, and the bitmap block with its bit is inside the image
 pub record IsReachedAndFree (image : List ℕ) (block : ℕ) : Type 0 where
-  pub valid : long image (root_of image) bitmap_flag ≡ bitmap_valid
+  pub valid : long image (root_of image) BITMAP_FLAG ≡ BITMAP_VALID
   pub role : Role
   pub reached : Reached image block role
-  pub page : InImage image (long image (root_of image) (first_page + (block - boot_blocks) / page_bits))
+  pub page : InImage image (long image (root_of image) (FIRST_PAGE + (block - BOOT_BLOCKS) / PAGE_BITS))
   pub free : HasFreeBit image block
 
 -- the image shows the fault at the block
 abbrev pub Shows : List ℕ → FaultKind → ℕ → Type 0
 Shows image NotADosDisk block = (bytes_at image 0 0 3 ≢ 68 ∷ 79 ∷ 83 ∷ []) × (block ≡ 0)
-Shows image UnsupportedKind block = (bytes_at image 0 0 3 ≡ 68 ∷ 79 ∷ 83 ∷ []) × (1 < byte_at image 0 kind_byte) × (block ≡ 0)
+Shows image UnsupportedKind block = (bytes_at image 0 0 3 ≡ 68 ∷ 79 ∷ 83 ∷ []) × (1 < byte_at image 0 KIND_BYTE) × (block ≡ 0)
 Shows image BadSum block = HasBadSum image block
 Shows image BadType block = HasBadType image block
 Shows image BadOwnKey block = HasBadOwnKey image block

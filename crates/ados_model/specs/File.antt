@@ -1,10 +1,16 @@
 -- The file with a header: its blocks and its bytes, by the pointers; and when it is lawful or can be read.
 use Rattle.std.specs.Prelude.{◌≡◌, ◌≢◌, ℕ, zero, suc, ◌+◌, ◌/◌, ◌%◌, ◌<◌, ◌≤◌, List, ◌∷◌, length, map, slice_index}
 use Rattle.std.specs.List.{range_with_len}
-use Rattle.adf_block.specs.Image.{long, block_count, IsInside, pointer, file_size, format_of}
-use Rattle.adf_block.specs.Layout.{next_extension, table_longs}
-use Rattle.ados_model.specs.Tree.{data_count, extension_count}
-use Rattle.ados_model.specs.Stands.{file_byte, HasFile}
+use Rattle.adf_block.specs.Image.{byte_at, long, block_count, IsInside}
+use Rattle.adf_block.specs.Fields.{pointer, file_size, format_of}
+use Rattle.adf_block.specs.declared.layout.TheConstants.{TABLE_LONGS, NEXT_EXTENSION}
+use Rattle.adf_block.specs.declared.layout.Format.{Format}
+use Rattle.ados_model.specs.Tree.{data_count, data_size, data_start, extension_count}
+use Rattle.ados_model.specs.Stands.{HasFile}
+
+-- byte k of a file with these data blocks; each data block but the last is full
+abbrev pub file_byte : Format → List ℕ → List ℕ → ℕ → ℕ
+file_byte format image blocks k = byte_at image (slice_index blocks (k / data_size format)) (data_start format + k % data_size format)
 
 -- the blocks of a file are inside the volume, and no two are the same
 pub record AreApart (n file : ℕ) (blocks extensions : List ℕ) : Type 0 where
@@ -24,11 +30,11 @@ pub record IsLawful (image : List ℕ) (file : ℕ) (blocks extensions bytes : L
 -- pointer block q of a file: 0 is the header, and each has a link to the next
 abbrev pub pointer_block : List ℕ → ℕ → ℕ → ℕ
 pointer_block image file zero = file
-pointer_block image file (suc q) = long image (pointer_block image file q) next_extension
+pointer_block image file (suc q) = long image (pointer_block image file q) NEXT_EXTENSION
 
 -- data block i of a file, by its pointer
 abbrev pub data_block : List ℕ → ℕ → ℕ → ℕ
-data_block image file i = pointer image (pointer_block image file (i / table_longs)) (i % table_longs)
+data_block image file i = pointer image (pointer_block image file (i / TABLE_LONGS)) (i % TABLE_LONGS)
 
 -- the data blocks of a file, as many as its size needs
 unfoldable pub data_blocks : List ℕ → ℕ → List ℕ

@@ -1,8 +1,8 @@
 -- Laws about the definitions.
 use Rattle.std.specs.Prelude.{◌≡◌, ℕ, List, codes}
-use Rattle.adf_block.specs.declared.Format.{Format}
-use Rattle.adf_block.specs.declared.Format.TheVariants.{Ffs}
-use Rattle.ados_name.specs.declared.Date3.{Date3}
+use Rattle.adf_block.specs.declared.layout.Format.{Format}
+use Rattle.adf_block.specs.declared.layout.Format.TheVariants.{Ffs}
+use Rattle.ados_name.specs.declared.stamp.Date3.{Date3}
 use Rattle.adf_block.specs.Whole.{free_bit_count}
 use Rattle.ados_name.specs.Name.{IsName}
 use Rattle.ados_model.specs.declared.fault.FaultKind.{FaultKind}

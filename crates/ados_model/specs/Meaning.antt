@@ -1,10 +1,11 @@
 -- The meaning of a packet: it is refused with the first refusal that holds, and served if none holds.
 use Rattle.std.specs.Prelude.{◌≡◌, ◌⊎◌, ℕ, ℤ, pos, negsuc, Bool, true, false, not, ◌&&◌, ◌||◌, ◌==◌, is_some, IsTrue, MatchOption}
-use Rattle.ados_name.specs.declared.Date3.{Date3}
+use Rattle.ados_name.specs.declared.stamp.Date3.{Date3}
 use Rattle.ados_model.specs.Tree.{Tree, parent_of}
 use Rattle.ados_model.specs.declared.dos_error.DosError.{DosError}
 use Rattle.ados_model.specs.declared.dos_error.DosError.TheVariants.{DeviceNotMounted, NoFreeStore}
-use Rattle.ados_model.specs.Packet.{error_number, no_lock, action_of, failure_of, handed_back}
+use Rattle.ados_model.specs.Packet.{error_number, action_of, refused_answer}
+use Rattle.ados_model.specs.declared.packet.TheConstants.{NO_LOCK}
 use Rattle.ados_model.specs.declared.packet.Packet.{Packet}
 use Rattle.ados_model.specs.declared.packet.Packet.TheVariants.{LocateObject, CopyDir, CreateDir, Parent, FindUpdate, FindInput, FindOutput}
 use Rattle.ados_model.specs.declared.answer.Answer.{Answer}
@@ -16,7 +17,7 @@ use Rattle.ados_model.specs.Success.{after, Success}
 -- the packet, if not refused, makes a lock or a handle; there may be no memory or number for it
 abbrev pub makes_hold : Tree → Session → Packet → Bool
 makes_hold t s (LocateObject lock path mode) = true
-makes_hold t s (CopyDir lock) = not (lock == no_lock)
+makes_hold t s (CopyDir lock) = not (lock == NO_LOCK)
 makes_hold t s (Parent lock) = is_some (parent_of t (lock_key t s lock))
 makes_hold t s (CreateDir lock path) = true
 makes_hold t s (FindInput lock path) = true
@@ -28,7 +29,7 @@ makes_hold t s _ = false
 pub record IsRefused (t : Tree) (s : Session) (packet : Packet) (error : DosError) (new_tree : Tree) (new_session : Session) (answer : Answer) : Type 0 where
   pub tree : new_tree ≡ t
   pub session : new_session ≡ s
-  pub answered : answer ≡ record { action = action_of packet; res1 = failure_of packet; res2 = pos (error_number error); body = handed_back packet }
+  pub answered : answer ≡ refused_answer packet error
 
 -- the packet is served
 pub record IsServed (t : Tree) (s : Session) (packet : Packet) (now : Date3) (new_tree : Tree) (new_session : Session) (answer : Answer) : Type 0 where
@@ -45,13 +46,8 @@ ServedOrNoMemory t s packet now new_tree new_session answer =
 -- with a time stamp, a packet turns a tree and a session into new ones and gives this answer
 abbrev pub Meaning : Tree → Session → Packet → Date3 → Tree → Session → Answer → Type 0
 Meaning t s packet now new_tree new_session answer =
-    MatchOption (refusal t s packet)
-    (ServedOrNoMemory t s packet now new_tree new_session answer)
+    MatchOption (refusal t s packet) (ServedOrNoMemory t s packet now new_tree new_session answer)
     (λ error. IsRefused t s packet error new_tree new_session answer)
-
--- the value of `died` for a session
-abbrev pub has_died : Session → Bool
-has_died s = s.died
 
 -- tests of a result: it is this number, and it is DOSTRUE
 abbrev pub is_number : ℕ → ℤ → Bool

@@ -1,13 +1,12 @@
--- The terms of packets: objects of locks and paths, free space, and positions; the descriptions of an object and of a
--- volume.
-use Rattle.std.specs.Prelude.{ℕ, zero, suc, ◌+◌, ℤ, pos, negsuc, ◌+ℤ◌, nat_abs, int_le, nat_lt, Bool, true, false, not, ◌&&◌, ◌==◌, if◌then◌else◌, List, [], ◌∷◌, take, drop, length, Option, None, Some, option_map, Result, ◌-◌}
+-- The terms of packets: objects of locks and paths, and positions; the descriptions of an object and of a volume.
+use Rattle.std.specs.Prelude.{ℕ, zero, suc, ◌+◌, ℤ, pos, negsuc, ◌+ℤ◌, nat_abs, int_le, Bool, true, false, not, ◌&&◌, ◌==◌, if◌then◌else◌, List, [], ◌∷◌, length, Option, None, Some, option_map, Result, ◌-◌}
 use Rattle.std.specs.List.{list_any}
 use Rattle.std.specs.Option.{option_map_or}
 use Rattle.std.specs.Result.{result_unwrap_or}
 use Rattle.std.specs.FinMap as numbered
-use Rattle.adf_block.specs.declared.Format.{Format}
-use Rattle.adf_block.specs.Layout.{boot_blocks}
-use Rattle.ados_model.specs.Tree.{Node, Tree, root, bytes_of, free, parent_of, size_of, Content, cost_in, size_in, data_size}
+use Rattle.adf_block.specs.declared.layout.Format.{Format}
+use Rattle.adf_block.specs.declared.layout.TheConstants.{BOOT_BLOCKS}
+use Rattle.ados_model.specs.Tree.{Node, Tree, root, free, parent_of, size_of, Content, cost_in, bytes_in, data_size, Content.Directory, Content.File}
 use Rattle.ados_model.specs.Change.{child_of, place, walk}
 use Rattle.ados_model.specs.declared.dos_error.WalkFault.{WalkFault}
 use Rattle.ados_model.specs.declared.dos_error.WalkFault.TheVariants as walks
@@ -15,9 +14,8 @@ use Rattle.ados_model.specs.declared.dos_error.PlaceFault.{PlaceFault}
 use Rattle.ados_model.specs.declared.dos_error.PlaceFault.TheVariants as places
 use Rattle.ados_model.specs.declared.dos_error.DosError.{DosError}
 use Rattle.ados_model.specs.declared.dos_error.DosError.TheVariants.{DirectoryNotFound, InvalidComponentName, ObjectNotFound, ObjectWrongType}
-use Rattle.ados_model.specs.Packet.{no_lock}
+use Rattle.ados_model.specs.declared.packet.TheConstants.{NO_LOCK}
 use Rattle.ados_model.specs.Session.{Session, handle_key, handle_position}
-use Rattle.ados_model.specs.Tree.Content.{Directory, File}
 use Rattle.ados_model.specs.declared.answer.FileInfo.{FileInfo}
 use Rattle.ados_model.specs.Stands.{format_byte}
 use Rattle.ados_model.specs.declared.answer.DiskInfo.{DiskInfo}
@@ -34,9 +32,9 @@ place_error places.ObjectNotFound = ObjectNotFound
 place_error places.WrongType = ObjectWrongType
 place_error places.InvalidName = InvalidComponentName
 
--- the object of a lock; `no_lock` means the root
+-- the object of a lock; `NO_LOCK` means the root
 abbrev pub lock_key : Tree → Session → ℕ → ℕ
-lock_key t s lock = if lock == no_lock then root t else option_map_or (λ l. l.key) (numbered.get s.locks lock) 0
+lock_key t s lock = if lock == NO_LOCK then root t else option_map_or (λ l. l.key) (numbered.get s.locks lock) 0
 
 -- the result of a walk along a path from a lock, and the object at its end
 abbrev pub found : Tree → Session → ℕ → List ℕ → Result ℕ WalkFault
@@ -63,11 +61,8 @@ abbrev pub standing : Tree → Session → ℕ → List ℕ → Option ℕ
 standing t s lock path = child_of t (spot_directory t s lock path) (spot_name t s lock path)
 
 -- the protection bits of a node
-abbrev pub protection_in : Option Node → ℕ
-protection_in node = option_map_or (λ a. a.protection) node 0
-
 abbrev pub protection_of : Tree → ℕ → ℕ
-protection_of t key = protection_in (t.nodes key)
+protection_of t key = option_map_or (λ node. node.protection) (t.nodes key) 0
 
 -- the key, and n directories above it
 abbrev pub upward : Tree → ℕ → ℕ → List ℕ
@@ -77,10 +72,6 @@ upward t (suc n) key = key ∷ option_map_or (upward t n) (parent_of t key) []
 -- the key is `above`, or is below it; the search covers as many directories as there are blocks
 abbrev pub is_under : Tree → ℕ → ℕ → Bool
 is_under t above key = list_any (λ k. k == above) (upward t t.blocks key)
-
--- fewer than this many blocks are free
-abbrev pub lacks : Tree → ℕ → Bool
-lacks t blocks = nat_lt (free t) blocks
 
 -- mode -1 means an exclusive lock, any other mode a shared one
 abbrev pub is_exclusive_mode : ℤ → Bool
@@ -94,13 +85,10 @@ seek_base position size (pos zero) = Some position
 seek_base position size (pos (suc zero)) = Some size
 seek_base position size _ = None
 
--- the target, if the mode is one of these
-abbrev pub seek_target : ℕ → ℕ → ℤ → ℤ → Option ℤ
-seek_target position size offset mode = option_map (λ base. pos base +ℤ offset) (seek_base position size mode)
-
--- the target of a packet with a handle
+-- the target of a packet with a handle, if the mode is one of these
 abbrev pub handle_target : Tree → Session → ℕ → ℤ → ℤ → Option ℤ
-handle_target t s handle offset mode = seek_target (handle_position s handle) (size_of t (handle_key s handle)) offset mode
+handle_target t s handle offset mode =
+    option_map (λ base. pos base +ℤ offset) (seek_base (handle_position s handle) (size_of t (handle_key s handle)) mode)
 
 -- there is no target, or it is not between 0 and the limit
 abbrev pub is_bad_target : ℕ → Option ℤ → Bool
@@ -109,10 +97,6 @@ is_bad_target limit target = not (option_map_or (λ z. int_le (pos 0) z && int_l
 -- a target as a number
 abbrev pub target_number : Option ℤ → ℕ
 target_number target = option_map_or nat_abs target 0
-
--- the bytes that a READ returns
-abbrev pub bytes_read : Tree → Session → ℕ → List ℕ → List ℕ
-bytes_read t s handle buffer = take (length buffer) (drop (handle_position s handle) (bytes_of t (handle_key s handle)))
 
 -- 1 for the root, 2 for any other directory, -3 for a file
 abbrev pub entry_type : Option ℕ → Content → ℤ
@@ -127,19 +111,18 @@ file_info format key node = record {
   entry_type = entry_type node.parent node.content;
   name = node.name;
   protection = record { 0 = node.protection };
-  size = size_in (Some node.content);
+  size = length (bytes_in (Some node.content));
   blocks = cost_in format (Some node.content);
   date = node.date;
   comment = node.comment;
 }
 
--- a valid volume: the number of blocks after the boot blocks, of those in use, the data bytes of a block, and `DOS`
--- with the kind
+-- a valid volume: its blocks after the boot blocks, those in use, the data bytes of a block, and `DOS` with the kind
 abbrev pub disk_info : Tree → DiskInfo
 disk_info t = record {
   state = 82;
-  blocks = t.blocks - boot_blocks;
-  used = t.blocks - boot_blocks - free t;
+  blocks = t.blocks - BOOT_BLOCKS;
+  used = t.blocks - BOOT_BLOCKS - free t;
   bytes_per_block = data_size t.format;
   disk_type = 0x444F5300 + format_byte t.format;
 }

@@ -1,22 +1,20 @@
--- The refusals of each packet. All rows have them in this order:
---
--- the handler has died, an unknown action, a lock or handle that is not held, the walk or the place, the name or the
--- comment, the type, the two of EXAMINE_NEXT, what exists, what is in use, what is not empty, the protection, the
--- position, the free space, the memory.
---
--- `DeviceNotMounted` comes before each row (`refusal`), and `NoFreeStore` after it (`Meaning`).
-use Rattle.std.specs.Prelude.{ℕ, ◌+◌, Bool, true, false, not, ◌&&◌, ◌==◌, nat_le, max, if◌then◌else◌, List, [], ◌∷◌, length, Option, None, Some, is_some, is_none, option_map}
+-- The refusals of each packet. All rows have them in this order: the handler has died, an unknown action, a lock or handle
+-- that is not held, the walk or the place, the name or the comment, the type, the two of EXAMINE_NEXT, what exists, what is
+-- in use, what is not empty, the protection, the position, the free space, the memory. `DeviceNotMounted` comes before each
+-- row (`refusal`), and `NoFreeStore` after it (`Meaning`).
+use Rattle.std.specs.Prelude.{ℕ, ◌+◌, Bool, true, false, not, ◌&&◌, ◌||◌, ◌==◌, nat_le, nat_lt, max, if◌then◌else◌, List, [], ◌∷◌, length, Option, None, Some, is_some, is_none, option_map}
+use Rattle.std.specs.List.{list_any}
 use Rattle.std.specs.Option.{option_map_or}
 use Rattle.std.specs.Result.{result_err}
-use Rattle.ados_name.specs.Name.{first_fault, denies_delete, denies_write, denies_read}
-use Rattle.ados_model.specs.Tree.{Tree, root, entries, parent_of, size_of, needs_more}
+use Rattle.ados_name.specs.Name.{is_separator, denies_delete, denies_write, denies_read}
+use Rattle.ados_model.specs.Tree.{Tree, root, entries, parent_of, size_of, free, needs_more}
 use Rattle.ados_model.specs.Change.{is_file, entries_after}
 use Rattle.ados_model.specs.declared.dos_error.DosError.{DosError}
 use Rattle.ados_model.specs.declared.dos_error.DosError.TheVariants.{ActionNotKnown, CommentTooBig, DeleteProtected, DeviceNotMounted, DirectoryNotEmpty, DiskFull, InvalidComponentName, InvalidLock, NoMoreEntries, ObjectExists, ObjectInUse, ObjectNotFound, ObjectWrongType, ReadProtected, SeekError, WriteProtected}
 use Rattle.ados_model.specs.declared.packet.Packet.{Packet}
 use Rattle.ados_model.specs.declared.packet.Packet.TheVariants.{Die, LocateObject, RenameDisk, FreeLock, DeleteObject, RenameObject, CopyDir, SetProtect, CreateDir, ExamineObject, ExamineNext, DiskInfo, Info, SetComment, Parent, SetDate, SameLock, Read, Write, FindUpdate, FindInput, FindOutput, End, Seek, SetFileSize, Other}
-use Rattle.ados_model.specs.Session.{Session, has_holds, is_held, is_held_exclusively, is_in_use, is_lock, is_exclusive_lock, is_handle, handle_key, handle_position}
-use Rattle.ados_model.specs.Objects.{walk_error, place_error, lock_key, found, object, placed, spot_directory, standing, protection_of, is_under, lacks, is_exclusive_mode, handle_target, is_bad_target, target_number}
+use Rattle.ados_model.specs.Session.{Session, holds, is_held, is_held_exclusively, is_in_use, is_lock, is_exclusive_lock, is_handle, handle_key, handle_position}
+use Rattle.ados_model.specs.Objects.{walk_error, place_error, lock_key, found, object, placed, spot_directory, standing, protection_of, is_under, is_exclusive_mode, handle_target, is_bad_target, target_number}
 
 -- this error if the condition holds
 abbrev pub refuse : DosError → Bool → Option DosError
@@ -37,9 +35,9 @@ abbrev pub is_empty : List ℕ → Bool
 is_empty [] = true
 is_empty (x ∷ xs) = false
 
--- the text is a name, and the text is short enough for a comment
+-- the text has 1 to 30 bytes without `/` and `:`, and the text is short enough for a comment
 abbrev pub is_name : List ℕ → Bool
-is_name text = is_none (first_fault text)
+is_name text = not (length text == 0 || nat_lt 30 (length text) || list_any is_separator text)
 
 abbrev pub is_comment : List ℕ → Bool
 is_comment text = nat_le (length text) 79
@@ -50,7 +48,7 @@ is_directory_there t there = is_some_and (λ key. not (is_file t key)) there
 
 -- a file would have to be made, and no block is free
 abbrev pub has_no_room : Tree → Option ℕ → Bool
-has_no_room t there = is_none there && lacks t 1
+has_no_room t there = is_none there && nat_lt (free t) 1
 
 module _ (t : Tree) (s : Session) where
   -- no lock, or no handle, has this number
@@ -70,147 +68,90 @@ module _ (t : Tree) (s : Session) where
 
   -- one row for each packet
   abbrev pub refusals : Packet → List (Option DosError)
-  refusals Die =
-      refuse ObjectInUse (has_holds s)
-      ∷ []
+  refusals Die = refuse ObjectInUse (nat_lt 0 (length (holds s))) ∷ []
   refusals (LocateObject lock path mode) =
       let key = object t s lock path in
-      unknown_lock lock
-      ∷ walk_refusal lock path
-      ∷ refuse ObjectInUse (is_in_use s key (is_exclusive_mode mode))
-      ∷ []
-  refusals (RenameDisk name) =
-      refuse InvalidComponentName (not (is_name name))
-      ∷ []
-  refusals (FreeLock lock) =
-      unknown_lock lock
-      ∷ []
+      unknown_lock lock ∷ walk_refusal lock path
+      ∷ refuse ObjectInUse (is_in_use s key (is_exclusive_mode mode)) ∷ []
+  refusals (RenameDisk name) = refuse InvalidComponentName (not (is_name name)) ∷ []
+  refusals (FreeLock lock) = unknown_lock lock ∷ []
   refusals (DeleteObject lock path) =
       let key = object t s lock path in
-      unknown_lock lock
-      ∷ walk_refusal lock path
+      unknown_lock lock ∷ walk_refusal lock path
       ∷ refuse ObjectWrongType (key == root t)
       ∷ refuse ObjectInUse (is_held s key)
       ∷ refuse DirectoryNotEmpty (not (is_empty (entries t key)))
-      ∷ refuse DeleteProtected (denies_delete (protection_of t key))
-      ∷ []
+      ∷ refuse DeleteProtected (denies_delete (protection_of t key)) ∷ []
   refusals (RenameObject from_lock from to_lock to) =
       let key = object t s from_lock from in
-      unknown_lock from_lock
-      ∷ unknown_lock to_lock
-      ∷ walk_refusal from_lock from
-      ∷ place_refusal to_lock to
+      unknown_lock from_lock ∷ unknown_lock to_lock ∷ walk_refusal from_lock from ∷ place_refusal to_lock to
       ∷ refuse ObjectWrongType (key == root t)
       ∷ refuse ObjectExists (is_some_and (λ other. not (other == key)) (standing t s to_lock to))
       ∷ refuse ObjectInUse (is_held_exclusively s key)
-      ∷ refuse ObjectInUse (is_under t key (spot_directory t s to_lock to))
-      ∷ []
-  refusals (CopyDir lock) =
-      unknown_lock lock
-      ∷ refuse ObjectInUse (is_exclusive_lock s lock)
-      ∷ []
+      ∷ refuse ObjectInUse (is_under t key (spot_directory t s to_lock to)) ∷ []
+  refusals (CopyDir lock) = unknown_lock lock ∷ refuse ObjectInUse (is_exclusive_lock s lock) ∷ []
   refusals (SetProtect lock path bits) =
-      let key = object t s lock path in
-      unknown_lock lock
-      ∷ walk_refusal lock path
-      ∷ refuse ObjectWrongType (key == root t)
-      ∷ []
+      unknown_lock lock ∷ walk_refusal lock path ∷ refuse ObjectWrongType (object t s lock path == root t) ∷ []
   refusals (CreateDir lock path) =
-      unknown_lock lock
-      ∷ place_refusal lock path
+      unknown_lock lock ∷ place_refusal lock path
       ∷ refuse ObjectExists (is_some (standing t s lock path))
-      ∷ refuse DiskFull (lacks t 1)
-      ∷ []
-  refusals (ExamineObject lock) =
-      unknown_lock lock
-      ∷ []
+      ∷ refuse DiskFull (nat_lt (free t) 1) ∷ []
+  refusals (ExamineObject lock) = unknown_lock lock ∷ []
   refusals (ExamineNext lock key) =
       let dir = lock_key t s lock in
       let behind = entries_after t dir key in
       unknown_lock lock
       ∷ refuse ObjectWrongType (is_file t dir)
       ∷ refuse ObjectNotFound (is_none behind)
-      ∷ refuse NoMoreEntries (is_some_and is_empty behind)
-      ∷ []
+      ∷ refuse NoMoreEntries (is_some_and is_empty behind) ∷ []
   refusals DiskInfo = []
-  refusals (Info lock) =
-      unknown_lock lock
-      ∷ []
+  refusals (Info lock) = unknown_lock lock ∷ []
   refusals (SetComment lock path comment) =
-      let key = object t s lock path in
-      unknown_lock lock
-      ∷ walk_refusal lock path
+      unknown_lock lock ∷ walk_refusal lock path
       ∷ refuse CommentTooBig (not (is_comment comment))
-      ∷ refuse ObjectWrongType (key == root t)
-      ∷ []
+      ∷ refuse ObjectWrongType (object t s lock path == root t) ∷ []
   refusals (Parent lock) =
-      unknown_lock lock
-      ∷ refuse ObjectInUse (is_some_and (λ dir. is_held_exclusively s dir) (parent_of t (lock_key t s lock)))
-      ∷ []
+      unknown_lock lock ∷ refuse ObjectInUse (is_some_and (λ dir. is_held_exclusively s dir) (parent_of t (lock_key t s lock))) ∷ []
   refusals (SetDate lock path date) =
-      let key = object t s lock path in
-      unknown_lock lock
-      ∷ walk_refusal lock path
-      ∷ refuse ObjectWrongType (key == root t)
-      ∷ []
-  refusals (SameLock first second) =
-      unknown_lock first
-      ∷ unknown_lock second
-      ∷ []
+      unknown_lock lock ∷ walk_refusal lock path ∷ refuse ObjectWrongType (object t s lock path == root t) ∷ []
+  refusals (SameLock first second) = unknown_lock first ∷ unknown_lock second ∷ []
   refusals (Read handle buffer) =
-      let key = handle_key s handle in
-      unknown_handle handle
-      ∷ refuse ReadProtected (denies_read (protection_of t key))
-      ∷ []
+      unknown_handle handle ∷ refuse ReadProtected (denies_read (protection_of t (handle_key s handle))) ∷ []
   refusals (Write handle bytes) =
       let key = handle_key s handle in
       unknown_handle handle
       ∷ refuse WriteProtected (denies_write (protection_of t key))
-      ∷ refuse DiskFull (needs_more t key (max (size_of t key) (handle_position s handle + length bytes)))
-      ∷ []
+      ∷ refuse DiskFull (needs_more t key (max (size_of t key) (handle_position s handle + length bytes))) ∷ []
   refusals (FindUpdate lock path) =
       let there = standing t s lock path in
-      unknown_lock lock
-      ∷ place_refusal lock path
+      unknown_lock lock ∷ place_refusal lock path
       ∷ refuse ObjectWrongType (is_directory_there t there)
       ∷ refuse ObjectInUse (is_some_and (λ key. is_in_use s key false) there)
-      ∷ refuse DiskFull (has_no_room t there)
-      ∷ []
+      ∷ refuse DiskFull (has_no_room t there) ∷ []
   refusals (FindInput lock path) =
       let key = object t s lock path in
-      unknown_lock lock
-      ∷ walk_refusal lock path
+      unknown_lock lock ∷ walk_refusal lock path
       ∷ refuse ObjectWrongType (not (is_file t key))
-      ∷ refuse ObjectInUse (is_in_use s key false)
-      ∷ []
+      ∷ refuse ObjectInUse (is_in_use s key false) ∷ []
   refusals (FindOutput lock path) =
       let there = standing t s lock path in
-      unknown_lock lock
-      ∷ place_refusal lock path
+      unknown_lock lock ∷ place_refusal lock path
       ∷ refuse ObjectWrongType (is_directory_there t there)
       ∷ refuse ObjectInUse (is_some_and (λ key. is_in_use s key true) there)
       ∷ refuse DeleteProtected (is_some_and (λ key. denies_delete (protection_of t key)) there)
       ∷ refuse WriteProtected (is_some_and (λ key. denies_write (protection_of t key)) there)
-      ∷ refuse DiskFull (has_no_room t there)
-      ∷ []
-  refusals (End handle) =
-      unknown_handle handle
-      ∷ []
+      ∷ refuse DiskFull (has_no_room t there) ∷ []
+  refusals (End handle) = unknown_handle handle ∷ []
   refusals (Seek handle offset mode) =
-      unknown_handle handle
-      ∷ refuse SeekError (is_bad_target (size_of t (handle_key s handle)) (handle_target t s handle offset mode))
-      ∷ []
+      unknown_handle handle ∷ refuse SeekError (is_bad_target (size_of t (handle_key s handle)) (handle_target t s handle offset mode)) ∷ []
   refusals (SetFileSize handle offset mode) =
       let key = handle_key s handle in
       let target = handle_target t s handle offset mode in
       unknown_handle handle
       ∷ refuse WriteProtected (denies_write (protection_of t key))
       ∷ refuse SeekError (is_bad_target 2147483647 target)
-      ∷ refuse DiskFull (needs_more t key (target_number target))
-      ∷ []
-  refusals (Other action) =
-      Some ActionNotKnown
-      ∷ []
+      ∷ refuse DiskFull (needs_more t key (target_number target)) ∷ []
+  refusals (Other action) = Some ActionNotKnown ∷ []
 
   -- the refusal of a packet, if any; a dead handler refuses each packet
   abbrev pub refusal : Packet → Option DosError

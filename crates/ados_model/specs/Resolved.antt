@@ -6,13 +6,13 @@ use Rattle.ados_model.specs.declared.dos_error.WalkFault.{WalkFault}
 use Rattle.ados_model.specs.declared.dos_error.PlaceFault.{PlaceFault}
 use Rattle.ados_model.specs.declared.dos_error.DosError.{DosError}
 use Rattle.ados_model.specs.declared.dos_error.DosError.TheVariants.{InvalidLock}
-use Rattle.ados_model.specs.Packet.{no_lock}
+use Rattle.ados_model.specs.declared.packet.TheConstants.{NO_LOCK}
 use Rattle.ados_model.specs.Session.{Session, is_lock}
 use Rattle.ados_model.specs.Objects.{walk_error, place_error, found, placed}
 
 -- the object of a lock, or none if no lock has this number
 abbrev pub lock_object : Tree → Session → ℕ → Option ℕ
-lock_object t s lock = if lock == no_lock then Some (root t) else option_map (λ l. l.key) (numbered.get s.locks lock)
+lock_object t s lock = if lock == NO_LOCK then Some (root t) else option_map (λ l. l.key) (numbered.get s.locks lock)
 
 -- the object at the end of a path, or the error: of a lock that is not held, or of the walk
 abbrev pub walk_result : Result ℕ WalkFault → Result ℕ DosError

@@ -1,15 +1,14 @@
 -- The locks and handles in use, and how contracts see a handler.
-use Rattle.std.specs.Prelude.{◌≡◌, ℕ, ◌≤◌, Bool, false, ◌==◌, ◌&&◌, ◌||◌, nat_lt, if◌then◌else◌, List, ◌++◌, map, length, None}
+use Rattle.std.specs.Prelude.{◌≡◌, ℕ, ◌≤◌, Bool, false, ◌==◌, ◌&&◌, ◌||◌, nat_lt, if◌then◌else◌, List, ◌++◌, map, None}
 use Rattle.std.specs.List.{list_any}
 use Rattle.std.specs.Option.{option_map_or}
 use Rattle.std.specs.Ordering.{nat_cmp}
 use Rattle.std.specs.FinMap as numbered
-use Rattle.ados_model.specs.Packet.{no_lock}
+use Rattle.ados_model.specs.declared.packet.TheConstants.{NO_LOCK}
 use Rattle.ados_model.specs.declared.holds.LockHold.{LockHold}
 use Rattle.ados_model.specs.declared.holds.HandleHold.{HandleHold}
 
--- the locks and the handles by their numbers, and whether the handler has died; locks and handles are numbered
--- separately
+-- the locks by their numbers and the handles by theirs, and whether the handler has died
 pub record Session : Type 0 where
   pub locks : numbered.FinMap nat_cmp LockHold
   pub handles : numbered.FinMap nat_cmp HandleHold
@@ -23,9 +22,6 @@ opening_session = record { locks = numbered.empty; handles = numbered.empty; die
 abbrev pub holds : Session → List (ℕ × Bool)
 holds s = map (λ l. (l.key, l.exclusive)) (numbered.values s.locks) ++ map (λ h. (h.key, h.exclusive)) (numbered.values s.handles)
 
-abbrev pub has_holds : Session → Bool
-has_holds s = nat_lt 0 (length (holds s))
-
 -- some hold is on the object, and some exclusive hold is
 abbrev pub is_held : Session → ℕ → Bool
 is_held s key = list_any (λ hold. hold.0 == key) (holds s)
@@ -37,13 +33,13 @@ is_held_exclusively s key = list_any (λ hold. (hold.0 == key) && hold.1) (holds
 abbrev pub is_in_use : Session → ℕ → Bool → Bool
 is_in_use s key exclusive = if exclusive then is_held s key else is_held_exclusively s key
 
--- `no_lock`, and the numbers of all locks
+-- `NO_LOCK`, and the numbers of all locks
 abbrev pub is_lock : Session → ℕ → Bool
-is_lock s lock = (lock == no_lock) || numbered.contains_key s.locks lock
+is_lock s lock = (lock == NO_LOCK) || numbered.contains_key s.locks lock
 
--- the lock is exclusive; `no_lock` is not
+-- the lock is exclusive; `NO_LOCK` is not
 abbrev pub is_exclusive_lock : Session → ℕ → Bool
-is_exclusive_lock s lock = if lock == no_lock then false else option_map_or (λ l. l.exclusive) (numbered.get s.locks lock) false
+is_exclusive_lock s lock = if lock == NO_LOCK then false else option_map_or (λ l. l.exclusive) (numbered.get s.locks lock) false
 
 -- the numbers of all handles
 abbrev pub is_handle : Session → ℕ → Bool

@@ -1,11 +1,10 @@
 -- A volume of 16 blocks with a directory, which has a file with bytes and a comment: its tree, and its image in both
 -- formats.
 use Rattle.std.specs.Prelude.{◌≡◌, ℕ, ◌+◌, ◌==◌, if◌then◌else◌, List, [], ◌∷◌, codes, Option, Some, None, Ok}
-use Rattle.adf_block.specs.declared.Format.{Format}
-use Rattle.adf_block.specs.declared.Format.TheVariants.{Ofs, Ffs}
-use Rattle.adf_block.specs.declared.layout.TheConstants.{PAGE_SUM, SEQUENCE, HELD}
-use Rattle.adf_block.specs.Layout.{primary_type_long, own_key_long, sum_long, secondary_type_long, header_type, data_type, root_type, directory_type, file_type, table_size_long, table_longs, first_slot, pointer_count_long, first_pointer, bitmap_flag, bitmap_valid, first_page, first_map_long, disk_date_long, creation_date_long, date_long, protection_long, size_long, comment_byte, name_byte, parent_long, next_data, ofs_data_byte}
-use Rattle.ados_name.specs.declared.Date3.{Date3}
+use Rattle.adf_block.specs.declared.layout.Format.{Format}
+use Rattle.adf_block.specs.declared.layout.Format.TheVariants.{Ofs, Ffs}
+use Rattle.adf_block.specs.declared.layout.TheConstants.{PRIMARY_TYPE, OWN_KEY, CHECKSUM, SECONDARY_TYPE, HEADER_TYPE, DATA_TYPE, ROOT_TYPE, DIRECTORY_TYPE, FILE_TYPE, TABLE_LONGS, TABLE_SIZE, FIRST_SLOT, POINTER_COUNT, FIRST_POINTER, BITMAP_FLAG, BITMAP_VALID, FIRST_PAGE, DISK_DATE, CREATION_DATE, PROTECTION, FILE_SIZE, COMMENT_BYTE, DATE, NAME_BYTE, PARENT, SEQUENCE, HELD, NEXT_DATA, OFS_DATA_BYTE, PAGE_CHECKSUM, FIRST_MAP_LONG}
+use Rattle.ados_name.specs.declared.stamp.Date3.{Date3}
 use Rattle.ados_model.specs.Tree.{Node, Tree, root, bytes_of}
 use Rattle.ados_model.specs.Tree.Content.{Directory, File}
 use Rattle.ados_model.specs.Change.{walk}
@@ -52,33 +51,33 @@ boot format = Bytes 0 (kind_bytes format) ∷ []
 -- block 2, the directory: the name of its entry has slot 1
 abbrev pub letters_block : List Field
 letters_block =
-    Long primary_type_long header_type ∷ Long own_key_long 2 ∷ Long sum_long 0x844E11F6 ∷ Long (first_slot + 1) 3
-    ∷ Date date_long moment ∷ Text name_byte (codes "Letters") ∷ Long parent_long 8 ∷ Long secondary_type_long directory_type ∷ []
+    Long PRIMARY_TYPE HEADER_TYPE ∷ Long OWN_KEY 2 ∷ Long CHECKSUM 0x844E11F6 ∷ Long (FIRST_SLOT + 1) 3
+    ∷ Date DATE moment ∷ Text NAME_BYTE (codes "Letters") ∷ Long PARENT 8 ∷ Long SECONDARY_TYPE DIRECTORY_TYPE ∷ []
 
 -- block 3, the file header: its only data block is block 4
 abbrev pub hello_block : List Field
 hello_block =
-    Long primary_type_long header_type ∷ Long own_key_long 3 ∷ Long pointer_count_long 1 ∷ Long next_data 4 ∷ Long sum_long 0xA8139791
-    ∷ Long first_pointer 4 ∷ Long protection_long 1 ∷ Long size_long 8 ∷ Text comment_byte (codes "A greeting")
-    ∷ Date date_long moment ∷ Text name_byte (codes "hello") ∷ Long parent_long 2 ∷ Long secondary_type_long file_type ∷ []
+    Long PRIMARY_TYPE HEADER_TYPE ∷ Long OWN_KEY 3 ∷ Long POINTER_COUNT 1 ∷ Long NEXT_DATA 4 ∷ Long CHECKSUM 0xA8139791
+    ∷ Long FIRST_POINTER 4 ∷ Long PROTECTION 1 ∷ Long FILE_SIZE 8 ∷ Text COMMENT_BYTE (codes "A greeting")
+    ∷ Date DATE moment ∷ Text NAME_BYTE (codes "hello") ∷ Long PARENT 2 ∷ Long SECONDARY_TYPE FILE_TYPE ∷ []
 
 -- block 4, the data: in OFS after fields of its own
 abbrev pub data_block : Format → List Field
 data_block Ofs =
-    Long primary_type_long data_type ∷ Long own_key_long 3 ∷ Long SEQUENCE 1 ∷ Long HELD 8 ∷ Long sum_long 0x4A2D784A
-    ∷ Bytes ofs_data_byte (codes "Hi Amiga") ∷ []
+    Long PRIMARY_TYPE DATA_TYPE ∷ Long OWN_KEY 3 ∷ Long SEQUENCE 1 ∷ Long HELD 8 ∷ Long CHECKSUM 0x4A2D784A
+    ∷ Bytes OFS_DATA_BYTE (codes "Hi Amiga") ∷ []
 data_block Ffs = Bytes 0 (codes "Hi Amiga") ∷ []
 
 -- block 8, the root: the name of its entry has slot 10, and the bitmap block is block 9
 abbrev pub root_block : List Field
 root_block =
-    Long primary_type_long header_type ∷ Long table_size_long table_longs ∷ Long sum_long 0x8E40539A ∷ Long (first_slot + 10) 2
-    ∷ Long bitmap_flag bitmap_valid ∷ Long first_page 9 ∷ Date date_long moment ∷ Text name_byte (codes "Small")
-    ∷ Date disk_date_long moment ∷ Date creation_date_long made_at ∷ Long secondary_type_long root_type ∷ []
+    Long PRIMARY_TYPE HEADER_TYPE ∷ Long TABLE_SIZE TABLE_LONGS ∷ Long CHECKSUM 0x8E40539A ∷ Long (FIRST_SLOT + 10) 2
+    ∷ Long BITMAP_FLAG BITMAP_VALID ∷ Long FIRST_PAGE 9 ∷ Date DATE moment ∷ Text NAME_BYTE (codes "Small")
+    ∷ Date DISK_DATE moment ∷ Date CREATION_DATE made_at ∷ Long SECONDARY_TYPE ROOT_TYPE ∷ []
 
 -- block 9, the bitmap block: blocks 5 to 7 and 10 to 15 are free, with bits 3 to 5 and 8 to 13
 abbrev pub page_block : List Field
-page_block = Long PAGE_SUM 0xFFFFC0C8 ∷ Long first_map_long 0x3F38 ∷ []
+page_block = Long PAGE_CHECKSUM 0xFFFFC0C8 ∷ Long FIRST_MAP_LONG 0x3F38 ∷ []
 
 -- the image of the volume
 abbrev pub image : Format → List ℕ

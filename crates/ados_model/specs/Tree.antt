@@ -1,21 +1,21 @@
 -- A volume as a tree, without blocks, and the number of blocks that it needs.
 use Rattle.std.specs.Prelude.{ℕ, ◌+◌, ◌-◌, ◌/◌, ◌==◌, if◌then◌else◌, List, [], ◌∷◌, Option, Some, None, ◌≡◌, ◌≢◌, ◌≤◌, ◌↔◌, length, Contains, AllPairs, is_some, option_map, option_and_then, cond, Bool, nat_lt}
-use Rattle.adf_block.specs.declared.layout.TheConstants.{FFS_ROOM}
-use Rattle.adf_block.specs.Layout.{table_longs, ofs_data_byte, ofs_room, boot_blocks}
-use Rattle.adf_block.specs.declared.Format.{Format}
-use Rattle.adf_block.specs.declared.Format.TheVariants.{Ofs, Ffs}
-use Rattle.adf_block.specs.Image.{root_key, page_count, IsInside, IsSize, total}
-use Rattle.ados_name.specs.declared.Date3.{Date3}
+use Rattle.std.specs.Option.{option_map_or}
+use Rattle.adf_block.specs.declared.layout.TheConstants.{FEWEST_BLOCKS, MOST_BLOCKS, BOOT_BLOCKS, TABLE_LONGS, OFS_DATA_BYTE, OFS_ROOM, FFS_ROOM}
+use Rattle.adf_block.specs.declared.layout.Format.{Format}
+use Rattle.adf_block.specs.declared.layout.Format.TheVariants.{Ofs, Ffs}
+use Rattle.adf_block.specs.Image.{root_key, page_count, IsInside, total}
+use Rattle.ados_name.specs.declared.stamp.Date3.{Date3}
 use Rattle.ados_name.specs.Name.{Same, slot, IsName, IsComment}
 
 -- bytes of a file in one data block
 abbrev pub data_size : Format → ℕ
-data_size Ofs = ofs_room
+data_size Ofs = OFS_ROOM
 data_size Ffs = FFS_ROOM
 
 -- bytes of a data block before its data
 abbrev pub data_start : Format → ℕ
-data_start Ofs = ofs_data_byte
+data_start Ofs = OFS_DATA_BYTE
 data_start Ffs = 0
 
 -- the number of data blocks of a file of this size
@@ -24,7 +24,7 @@ data_count format size = (size + data_size format - 1) / data_size format
 
 -- the number of extension blocks of a file with d data blocks; 72 pointers are in the header
 abbrev pub extension_count : ℕ → ℕ
-extension_count d = (d + (table_longs - 1)) / table_longs - 1
+extension_count d = (d + (TABLE_LONGS - 1)) / TABLE_LONGS - 1
 
 -- the number of data and extension blocks of a file of this size
 abbrev pub block_cost : Format → ℕ → ℕ
@@ -75,15 +75,6 @@ entries_in _ = []
 abbrev pub entries : Tree → ℕ → List ℕ
 entries t key = entries_in (content_at t key)
 
--- the number of bytes of a file, 0 for a directory
-abbrev pub size_in : Option Content → ℕ
-size_in (Some (File bytes)) = length bytes
-size_in _ = 0
-
--- the size of a file; a directory has size 0
-abbrev pub size_of : Tree → ℕ → ℕ
-size_of t key = size_in (content_at t key)
-
 -- the bytes of a file
 abbrev pub bytes_in : Option Content → List ℕ
 bytes_in (Some (File bytes)) = bytes
@@ -93,14 +84,13 @@ bytes_in _ = []
 abbrev pub bytes_of : Tree → ℕ → List ℕ
 bytes_of t key = bytes_in (content_at t key)
 
--- the name of a node, empty if there is no node
-abbrev pub name_in : Option Node → List ℕ
-name_in (Some node) = node.name
-name_in None = []
+-- the size of a file; a directory has size 0
+abbrev pub size_of : Tree → ℕ → ℕ
+size_of t key = length (bytes_of t key)
 
--- the name of a node
+-- the name of a node, empty if there is no node
 abbrev pub name_of : Tree → ℕ → List ℕ
-name_of t key = name_in (t.nodes key)
+name_of t key = option_map_or (λ node. node.name) (t.nodes key) []
 
 -- the directory of a node
 abbrev pub parent_of : Tree → ℕ → Option ℕ
@@ -121,7 +111,7 @@ pub record IsRoot (node : Node) : Type 0 where
 
 -- the nodes form one tree, and its lists are in order
 pub record Proper (t : Tree) : Type 0 where
-  pub size : IsSize t.blocks
+  pub size : (FEWEST_BLOCKS ≤ t.blocks) × (t.blocks ≤ MOST_BLOCKS)
   -- a key is the number of a block inside the volume
   pub inside : (key : ℕ) (node : Node) → t.nodes key ≡ Some node → IsInside t.blocks key
   pub root_node : (node : Node) × (t.nodes (root t) ≡ Some node) × IsRoot node
@@ -139,30 +129,18 @@ pub record Proper (t : Tree) : Type 0 where
 abbrev pub cost_in : Format → Option Content → ℕ
 cost_in format None = 0
 cost_in format (Some (Directory keys)) = 1
-cost_in format (Some (File bytes)) =
-    let d = data_count format (length bytes) in
-    1 + d + extension_count d
-
--- the number of blocks of a key's node
-abbrev pub cost_of : Tree → ℕ → ℕ
-cost_of t key = cost_in t.format (content_at t key)
+cost_in format (Some (File bytes)) = let d = data_count format (length bytes) in 1 + d + extension_count d
 
 -- the number of blocks of all nodes, the bitmap and the lost blocks
 abbrev pub used : Tree → ℕ
 used t =
-    total (cost_of t) t.blocks
-    + page_count t.blocks
+    total (λ key. cost_in t.format (content_at t key)) t.blocks + page_count t.blocks
     + total (λ block. cond (is_some (t.lost block)) 1 0) t.blocks
 
 -- the number of free blocks
 abbrev pub free : Tree → ℕ
-free t = t.blocks - boot_blocks - used t
+free t = t.blocks - BOOT_BLOCKS - used t
 
 -- for this size the file needs more new blocks than are free
 abbrev pub needs_more : Tree → ℕ → ℕ → Bool
 needs_more t file size = nat_lt (free t + block_cost t.format (size_of t file)) (block_cost t.format size)
-
--- a block of the volume that is no node's key
-pub record IsUnused (t : Tree) (key : ℕ) : Type 0 where
-  pub inside : IsInside t.blocks key
-  pub no_node : t.nodes key ≡ None

@@ -1,9 +1,10 @@
 -- An image written out block by block, each by its fields.
 use Rattle.std.specs.Prelude.{ℕ, List, [], ◌∷◌, length, replicate, fold, flat_map}
 use Rattle.std.specs.Int.{bytes_high_first}
-use Rattle.adf_block.specs.Layout.{long_byte, block_bytes}
-use Rattle.ados_name.specs.declared.Date3.{Date3}
-use Rattle.ados_model.specs.Change.{overlaid}
+use Rattle.adf_block.specs.declared.layout.TheConstants.{BLOCK_BYTES}
+use Rattle.adf_block.specs.Image.{long_byte}
+use Rattle.ados_name.specs.declared.stamp.Date3.{Date3}
+use Rattle.ados_model.specs.Edits.{overlaid}
 
 -- a field of a block: a number in a long, a date from a long, bytes from a byte, or a text after its length
 pub data Field : Type 0 where
@@ -21,7 +22,7 @@ with_field block (Text i text) = overlaid block i (length text ∷ text)
 
 -- a block of zeros with these fields
 abbrev pub block_of : List Field → List ℕ
-block_of fields = fold with_field (replicate block_bytes 0) fields
+block_of fields = fold with_field (replicate BLOCK_BYTES 0) fields
 
 -- the blocks of an image, one after the other
 abbrev pub image_of : List (List Field) → List ℕ

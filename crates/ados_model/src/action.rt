@@ -1,8 +1,41 @@
 //! The action of a packet, and its number.
 ghost use Rattle.std.specs.Prelude.{◌≡◌};
-ghost use Rattle.ados_model.specs.Packet.{action_number, action_of, kind_of};
+ghost use Rattle.ados_model.specs.Packet.{action_of};
+ghost use Rattle.ados_model.specs.Actions.{action_number, kind_of};
 
-use crate::packet::{Action, Packet};
+use crate::packet::Packet;
+
+/// An action, under its name in the AmigaDOS Technical Reference.
+#[derive(Clone, Copy, Debug, PartialEq, Eq)]
+pub enum Action {
+    Die,
+    LocateObject,
+    RenameDisk,
+    FreeLock,
+    DeleteObject,
+    RenameObject,
+    CopyDir,
+    SetProtect,
+    CreateDir,
+    ExamineObject,
+    ExamineNext,
+    DiskInfo,
+    Info,
+    SetComment,
+    Parent,
+    SetDate,
+    SameLock,
+    Read,
+    Write,
+    FindUpdate,
+    FindInput,
+    FindOutput,
+    End,
+    Seek,
+    SetFileSize,
+    /// An action without a name here, by its number.
+    Other(i32),
+}
 
 impl Action {
     /// The number of the action.
@@ -43,7 +76,8 @@ impl Action {
 impl Packet {
     /// The action of the packet.
     pub fn kind(&self) -> Action
-        ensures { result ≡ kind_of self.now }
+        ensures kind { result ≡ kind_of self.now }
+        ensures number { action_number result ≡ action_of self.now }
     {
         match self {
             Packet::Die => Action::Die,

@@ -11,7 +11,6 @@ pub struct LockHold {
 #[derive(Clone, Copy, Debug, PartialEq, Eq)]
 pub struct HandleHold {
     pub key: u32,
-    /// In bytes from the start of the file.
-    pub position: u32,
+    pub position: u32, // In bytes from the start of the file.
     pub exclusive: bool,
 }

@@ -23,6 +23,7 @@ mod witness;
 // Locks and handles.
 mod holds;
 
+pub use action::Action;
 pub use answer::{Answer, Body, DiskInfo, FileInfo};
 pub use buffer::Buffer;
 pub use dos_error::{DosError, PlaceFault, WalkFault};
@@ -30,7 +31,7 @@ pub use fault::{FaultKind, VolumeFault};
 pub use full::Full;
 pub use holds::{HandleHold, LockHold};
 pub use laws::{blank_stands, faults_have_no_tree, free_bits_count, has_blank_image, one_tree};
-pub use packet::{Action, NO_LOCK, Packet};
+pub use packet::{NO_LOCK, Packet};
 pub use results::Results;
 pub use role::Role;
 pub use text::Text;

@@ -1,4 +1,4 @@
-//! The packets and their actions.
+//! The packets.
 
 use crate::buffer::Buffer;
 use crate::text::Text;
@@ -8,7 +8,6 @@ use ados_name::Date3;
 pub const NO_LOCK: u32 = 0;
 
 /// A packet with the arguments of its action. The actions are those of the AmigaDOS Technical Reference.
-///
 /// A `lock` of `NO_LOCK` means the root. A path starts at the object of the lock before it.
 #[derive(Drop)]
 pub enum Packet {
@@ -59,8 +58,7 @@ pub enum Packet {
     ExamineObject {
         lock: u32,
     },
-    /// EXAMINE_NEXT (24): describes the entry of a directory after the one with this key. The directory's own key asks
-    /// for the first entry.
+    /// EXAMINE_NEXT (24): describes the entry after the one with this key, or the first for the directory's own key.
     ExamineNext {
         lock: u32,
         key: u32,
@@ -112,8 +110,7 @@ pub enum Packet {
         lock: u32,
         path: Text,
     },
-    /// FINDOUTPUT (1006): an exclusive handle on a file without bytes. A missing file is made, an existing one is
-    /// emptied.
+    /// FINDOUTPUT (1006): an exclusive handle on a file without bytes. A missing file is made, another one emptied.
     FindOutput {
         lock: u32,
         path: Text,
@@ -138,36 +135,4 @@ pub enum Packet {
     Other {
         action: i32,
     },
-}
-
-/// An action, under its name in the AmigaDOS Technical Reference.
-#[derive(Clone, Copy, Debug, PartialEq, Eq)]
-pub enum Action {
-    Die,
-    LocateObject,
-    RenameDisk,
-    FreeLock,
-    DeleteObject,
-    RenameObject,
-    CopyDir,
-    SetProtect,
-    CreateDir,
-    ExamineObject,
-    ExamineNext,
-    DiskInfo,
-    Info,
-    SetComment,
-    Parent,
-    SetDate,
-    SameLock,
-    Read,
-    Write,
-    FindUpdate,
-    FindInput,
-    FindOutput,
-    End,
-    Seek,
-    SetFileSize,
-    /// An action without a name here, by its number.
-    Other(i32),
 }

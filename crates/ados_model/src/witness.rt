@@ -3,7 +3,7 @@
 //! They show that volumes with files exist in both formats. So theorems about images that represent a tree are not
 //! empty.
 
-ghost use Rattle.adf_block.specs.declared.Format.TheVariants.{Ofs, Ffs};
+ghost use Rattle.adf_block.specs.declared.layout.Format.TheVariants.{Ofs, Ffs};
 ghost use Rattle.ados_model.specs.Stands.{Stands};
 ghost use Rattle.ados_model.specs.Small.{image, tree, HasHello};
 

@@ -1,7 +1,7 @@
 -- Lemmas for the functions of each module, in the order of the definitions.
-mod NameLemmas
+pub mod NameLemmas
 mod PathLemmas
-mod SeparatorLemmas
+pub mod SeparatorLemmas
 mod ProtectionLemmas
 mod DateLemmas
 mod ShortTextLemmas

@@ -8,7 +8,8 @@ use Rattle.std.proofs.lemmas.List.Elements.{All-from_get_or, All-get_or}
 use Rattle.std.proofs.lemmas.Bool.{eq-eqb, eqb-true, le-ltb, false_from_ne_true, or_from, true≢false}
 use Rattle.ados_name.specs.declared.NameFault.{NameFault}
 use Rattle.ados_name.specs.declared.NameFault.TheVariants.{Separator}
-use Rattle.ados_name.specs.Name.{upper, hash, is_separator, first_fault, IsName, IsNameByte, Same}
+use Rattle.ados_name.specs.Name.{upper, hash, is_separator, IsName, IsNameByte, Same}
+use Rattle.ados_name.specs.Fault.{first_fault}
 use Rattle.ados_name.specs.Path.{SameNameSameSlot}
 
 -- one step of the hash, with a byte that is in upper case
@@ -45,14 +46,14 @@ same_case a b = (
   λ e. sym (map-after to_ascii_lowercase upper lower-upper a) ∙ ap (map to_ascii_lowercase) e ∙ map-after to_ascii_lowercase upper lower-upper b,
 )
 
-name_byte : (c : ℕ) → c < 256 → is_separator c ≡ false → IsNameByte c
+pub name_byte : (c : ℕ) → c < 256 → is_separator c ≡ false → IsNameByte c
 name_byte c byte plain = record {
   byte = byte;
   no_slash = λ e. true≢false (subst (λ x. is_separator x ≡ false) e plain);
   no_colon = λ e. true≢false (subst (λ x. is_separator x ≡ false) e plain);
 }
 
-no_separator : (c : ℕ) → IsNameByte c → is_separator c ≡ false
+pub no_separator : (c : ℕ) → IsNameByte c → is_separator c ≡ false
 no_separator c b = or_from (c == 47) (c == 58) (false_from_ne_true _ (λ e. b.no_slash (eqb-true c 47 e))) (false_from_ne_true _ (λ e. b.no_colon (eqb-true c 58 e)))
 
 -- a text of 1 to 30 bytes without a separator is a name

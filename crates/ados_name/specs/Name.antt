@@ -1,10 +1,7 @@
--- Names and comments, as lists of bytes; paths: their steps, their last name, and the prefix before it; and protection bits.
--- Bits not named here keep their values.
-use Rattle.std.specs.Prelude.{◌≡◌, ◌≢◌, ℕ, ◌+◌, ◌-◌, ◌*◌, ◌%◌, ◌<◌, ◌≤◌, ◌==◌, ◌&&◌, ◌||◌, Bool, nat_le, nat_lt, if◌then◌else◌, List, map, length, fold, All, Option, None, Some, [], ◌∷◌, take}
+-- Names and comments, as lists of bytes; the steps of a path, its last name and the prefix before it; protection bits.
+use Rattle.std.specs.Prelude.{◌≡◌, ◌≢◌, ℕ, ◌+◌, ◌-◌, ◌*◌, ◌%◌, ◌<◌, ◌≤◌, ◌==◌, ◌&&◌, ◌||◌, Bool, nat_le, if◌then◌else◌, List, map, length, fold, All, [], ◌∷◌, take}
 use Rattle.std.specs.List.{list_any, after_first, after_last, slice_split}
 use Rattle.std.specs.Int.{bit_at}
-use Rattle.ados_name.specs.declared.NameFault.{NameFault}
-use Rattle.ados_name.specs.declared.NameFault.TheVariants.{Empty, TooLong, Separator}
 
 -- the byte `/`, which ends a component of a path
 abbrev pub is_slash : ℕ → Bool
@@ -46,32 +43,20 @@ pub record IsName (name : List ℕ) : Type 0 where
   pub short : length name ≤ 30
   pub plain : All IsNameByte name
 
--- the first fault of a text as a name, or none
-abbrev pub first_fault : List ℕ → Option NameFault
-first_fault text =
-    if length text == 0 then Some Empty
-    else if nat_lt 30 (length text) then Some TooLong
-    else if list_any is_separator text then Some Separator
-    else None
-
 -- a comment has at most 79 bytes
 pub record IsComment (comment : List ℕ) : Type 0 where
   pub short : length comment ≤ 79
   pub bytes : All (λ c. c < 256) comment
 
--- the bit of this number is set
-abbrev pub is_set : ℕ → ℕ → Bool
-is_set bits number = bit_at bits number == 1
-
 -- a set bit of 0 to 3 denies
 abbrev pub denies_delete : ℕ → Bool
-denies_delete bits = is_set bits 0
+denies_delete bits = bit_at bits 0 == 1
 
 abbrev pub denies_write : ℕ → Bool
-denies_write bits = is_set bits 2
+denies_write bits = bit_at bits 2 == 1
 
 abbrev pub denies_read : ℕ → Bool
-denies_read bits = is_set bits 3
+denies_read bits = bit_at bits 3 == 1
 
 -- the bits with bit 4 clear
 abbrev pub without_archive : ℕ → ℕ
@@ -86,10 +71,6 @@ pub data Step : Type 0 where
 abbrev pub is_from_root : List ℕ → Bool
 is_from_root path = list_any is_colon path
 
--- the part with the steps: everything after the first `:`, or the whole path if it has none
-abbrev pub walked_part : List ℕ → List ℕ
-walked_part path = if is_from_root path then after_first is_colon path else path
-
 -- the parts are split at slashes; a part that is not empty is a step to a child, an empty part before a slash is a
 -- step to the parent, and an empty last part is no step
 abbrev pub steps_of_parts : List (List ℕ) → List Step
@@ -102,9 +83,9 @@ steps_of_parts ((c ∷ cs) ∷ rest) = ToChild (c ∷ cs) ∷ steps_of_parts res
 unfoldable pub steps_along : List ℕ → List Step
 steps_along walked = steps_of_parts (slice_split is_slash walked)
 
--- the steps of a path
+-- the steps of a path: those after the first `:`, or of the whole path if it has none
 unfoldable pub steps : List ℕ → List Step
-steps path = steps_along (walked_part path)
+steps path = steps_along (if is_from_root path then after_first is_colon path else path)
 
 -- the longest suffix without `/` and `:`
 unfoldable pub last_name : List ℕ → List ℕ

@@ -1,6 +1,10 @@
 -- The letters of the protection bits.
-use Rattle.std.specs.Prelude.{ℕ, Bool, not, if◌then◌else◌, List, [], ◌∷◌}
-use Rattle.ados_name.specs.Name.{is_set}
+use Rattle.std.specs.Prelude.{ℕ, Bool, ◌==◌, not, if◌then◌else◌, List, [], ◌∷◌}
+use Rattle.std.specs.Int.{bit_at}
+
+-- the bit of this number is set
+abbrev pub is_set : ℕ → ℕ → Bool
+is_set bits number = bit_at bits number == 1
 
 -- bit 4: the file has not changed since it was archived
 abbrev pub is_archived : ℕ → Bool

@@ -1,6 +1,7 @@
 //! Names of files and directories.
 ghost use Rattle.std.specs.Prelude.{◌≡◌, ◌↔◌, ◌<◌, IsTrue, IsOk, IfOk, IfErr, Some, List, ℕ};
-ghost use Rattle.ados_name.specs.Name.{hash, slot, upper as upper_of, Same, IsName, first_fault};
+ghost use Rattle.ados_name.specs.Name.{hash, slot, upper as upper_of, Same, IsName};
+ghost use Rattle.ados_name.specs.Fault.{first_fault};
 ghost use Rattle.ados_name.specs.Path.{SameNameSameSlot};
 
 use crate::NameFault;

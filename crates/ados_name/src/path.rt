@@ -1,8 +1,8 @@
 //! Paths and their steps.
 ghost use Rattle.std.specs.Prelude.{◌≡◌, ◌↔◌, IsTrue, IsOk, IfOk, false};
 ghost use Rattle.std.specs.List.{list_any, before_first, after_first};
-ghost use Rattle.ados_name.specs.Name.{is_slash, is_separator, is_from_root, walked_part, steps, front, last_name};
-ghost use Rattle.ados_name.specs.Path.{IsPathText};
+ghost use Rattle.ados_name.specs.Name.{is_slash, is_separator, is_from_root, steps, front, last_name};
+ghost use Rattle.ados_name.specs.Path.{walked_part, IsPathText};
 
 use crate::short_text::ShortText;
 use bstr::ByteSlice;

@@ -1,5 +1,5 @@
 -- Ends that grow.
-use Rattle.std.proofs.Common.{◌≡◌, ℕ, List, [], ◌++◌, length, Some, slice_get, refl, sym, ap, subst, ◌∙◌, append_assoc, append-nil, arith}
+use Rattle.std.proofs.Common.{◌≡◌, ℕ, List, ◌++◌, length, Some, slice_get, sym, ap, subst, ◌∙◌, append_assoc, arith}
 use Rattle.std.proofs.lemmas.Option.{slice_get_within, slice_get-get_or}
 use Rattle.std.proofs.Math.ListN.{get_or}
 use Rattle.port_history.specs.History.{Serving}
@@ -8,9 +8,6 @@ use Rattle.port_ends.specs.Ends.{ClientView, HandlerView, AreEnds, Serves}
 use Rattle.ados_port.specs.Grown.{Grown}
 
 module _ {Q M A : Type 0} where
-  pub grown_refl : (a : ClientView Q M A) → Grown a a
-  grown_refl a = record { port = refl; mark = refl; ring = refl; number = refl; put = ([], sym (append-nil a.put)); taken = ([], sym (append-nil a.taken)); knows = λ h. h }
-
   pub grown_more : (a b c : ClientView Q M A) → Grown a b → Grown b c → Grown a c
   grown_more a b c h g = record {
     port = g.port ∙ h.port;

@@ -8,7 +8,8 @@ use Rattle.std.proofs.Math.Seq.{take-append_seam, take-append-add, drop-append-a
 use Rattle.std.proofs.lemmas.Option.{none-some, same_Some}
 use Rattle.port_history.proofs.Events.{filter_map-take}
 use Rattle.port_history.proofs.Serving.{run-length, run-append, last_server-append, packets_by-append, answers_to-append}
-use Rattle.port_history.specs.History.{ClientState, PortState, Serving, Event, events_of, packets_by, accepted_in, moments_in, taken_in, served_count, accepted_count, taken_count, packets_of, answers_to, client_state, Run, last_server, queue, client_now, OutcomeFits, PortHistory, moment_served}
+use Rattle.port_history.specs.History.{ClientState, PortState, Serving, Event, events_of, packets_by, accepted_in, moments_in, taken_in, served_count, taken_count, client_state, Run, last_server, queue, client_now, OutcomeFits, PortHistory, moment_served}
+use Rattle.port_history.specs.Lawful.{accepted_count, packets_of, answers_to}
 use Rattle.port_history.specs.declared.step.Step.{Step}
 use Rattle.port_history.specs.declared.step.Outcome.{Outcome}
 
@@ -19,11 +20,6 @@ events-push [] [] step outcome e = refl
 events-push [] (o ∷ os) step outcome e = absurd (omega (arith, e))
 events-push (s ∷ ss) [] step outcome e = absurd (omega (arith, e))
 events-push (s ∷ ss) (o ∷ os) step outcome e = ap (λ es. record { step = s; outcome = o } ∷ es) (events-push ss os step outcome (omega (arith, e)))
-
-pub length-events : {Q M A : Type 0} (steps : List (Step Q M)) (outcomes : List (Outcome Q A)) → length outcomes ≡ length steps → length (events_of steps outcomes) ≡ length steps
-length-events [] outcomes e = refl
-length-events (s ∷ ss) [] e = absurd (omega (arith, e))
-length-events (s ∷ ss) (o ∷ os) e = ap suc (length-events ss os (omega (arith, e)))
 
 -- an element of a list after a push, with its index
 pub slice_get-push_at : {A : Type 0} (xs : List A) (y : A) (i : ℕ) (x : A) → slice_get (xs ++ y ∷ []) i ≡ Some x

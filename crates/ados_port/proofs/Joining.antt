@@ -10,7 +10,8 @@ use Rattle.std.proofs.Math.Seq.{take-append-add, drop-append-add}
 use Rattle.port_history.proofs.Events.{filter_map-take}
 use Rattle.port_history.proofs.Numbers.{eq_true, eq_false}
 use Rattle.port_history.proofs.Serving.{run-append, last_server-append, packets_by-append, packets_by-own, packets_by-other, answers_to-append}
-use Rattle.port_history.specs.History.{ClientState, PortState, Serving, Event, events_of, packets_by, accepted_in, moments_in, taken_in, served_count, accepted_count, taken_count, packets_of, answers_to, client_state, Run, last_server, queue, client_now, PutFits, take_outcome, OutcomeFits, PortHistory, moment_served}
+use Rattle.port_history.specs.History.{ClientState, PortState, Serving, Event, events_of, packets_by, accepted_in, moments_in, taken_in, served_count, taken_count, client_state, Run, last_server, queue, client_now, PutFits, take_outcome, OutcomeFits, PortHistory, moment_served}
+use Rattle.port_history.specs.Lawful.{accepted_count, packets_of, answers_to}
 use Rattle.port_history.specs.declared.step.Step.{Step}
 use Rattle.port_history.specs.declared.step.Step.TheVariants.{Put, Serve, Take}
 use Rattle.port_history.specs.declared.step.Reply.{Reply}

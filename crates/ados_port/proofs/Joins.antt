@@ -7,7 +7,7 @@ use Rattle.port_ends.specs.Ends.{ClientView}
 use Rattle.port_ends.proofs.Moves.{get_end}
 use Rattle.ados_port.specs.Grown.{Did, EachDid}
 
-nil_of : {X : Type 0} (xs : List X) → length xs ≡ 0 → xs ≡ []
+pub nil_of : {X : Type 0} (xs : List X) → length xs ≡ 0 → xs ≡ []
 nil_of [] e = refl
 nil_of (x ∷ xs) e = absurd (omega arith)
 

@@ -1,17 +1,17 @@
 -- Lemmas on the visible state of an exchange.
-use Rattle.std.proofs.Common.{◌≡◌, ◌≢◌, ℕ, zero, suc, ◌+◌, ◌-◌, ◌<◌, ◌≤◌, Bool, true, false, cond, List, [], ◌∷◌, ◌++◌, length, slice_get, slice_set, Some, None, refl, sym, ap, ◌∙◌, inl, inr, arith, subst, MatchOption}
+use Rattle.std.proofs.Common.{◌≡◌, ◌≢◌, ℕ, zero, suc, ◌+◌, ◌-◌, ◌≤◌, Bool, false, cond, List, [], ◌∷◌, ◌++◌, slice_get, slice_set, Some, None, refl, sym, ap, ◌∙◌, inl, inr, arith, subst, MatchOption}
 use Rattle.std.specs.Prelude.{Option}
 use Rattle.std.specs.Bool.{MatchBool}
 use Rattle.std.specs.Option.{option_map}
 use Rattle.std.proofs.lemmas.List.{map-set, map-append}
-use Rattle.std.proofs.lemmas.Option.{slice_get-map, slice_get_past, same_Some}
+use Rattle.std.proofs.lemmas.Option.{slice_get-map, same_Some}
 use Rattle.port_history.specs.History.{ClientState, PortState, client_state}
 use Rattle.ados_port.specs.View.{clients_view, waiting_view}
 use Rattle.port_history.specs.Steps.{PutGives, ServeGives, TakeGives}
 use Rattle.ados_port.specs.declared.counts.Client.{Client}
 use Rattle.ados_port.specs.declared.exchange.Waiting.{Waiting}
-use Rattle.port_history.specs.declared.step.PutRefused.TheVariants.{Closed, NoRoom}
-use Rattle.port_history.specs.declared.step.Outcome.TheVariants.{Accepted, Refused, Served, Taken, Nothing, NoClient}
+use Rattle.port_history.specs.declared.step.PutRefused.TheVariants.{NoRoom}
+use Rattle.port_history.specs.declared.step.Outcome.TheVariants.{Accepted, Refused, Served, Taken, Nothing}
 use Rattle.port_history.proofs.Numbers.{eq_false}
 
 -- the visible state of a client, and of an exchange
@@ -27,14 +27,6 @@ pub client_state-found : {A : Type 0} (cs : List (Client A)) (client : ℕ) (c :
 client_state-found cs client c not_zero found =
     ap (λ b. cond b None (slice_get (clients_view cs) (client - 1))) (eq_false client 0 not_zero)
     ∙ slice_get-map client_view cs (client - 1) ∙ ap (option_map client_view) found
-
-pub client_state-zero : {A : Type 0} (cs : List (ClientState A)) → client_state cs 0 ≡ None
-client_state-zero cs = refl
-
-pub client_state-past : {A : Type 0} (cs : List (Client A)) (client : ℕ) → length cs < client → client_state (clients_view cs) client ≡ None
-client_state-past cs client past =
-    ap (λ b. cond b None (slice_get (clients_view cs) (client - 1))) (eq_false client 0 (λ e. absurd (omega (arith, e, past))))
-    ∙ slice_get-map client_view cs (client - 1) ∙ ap (option_map client_view) (slice_get_past cs (client - 1) (omega (arith, past)))
 
 -- a client whose visible state is unchanged
 pub view_same : {A : Type 0} (cs : List (Client A)) (p : ℕ) (old new : Client A) → slice_get cs p ≡ Some old → client_view new ≡ client_view old → clients_view (slice_set cs p new) ≡ clients_view cs
@@ -52,22 +44,10 @@ view_pushed ws w = map-append _ ws (w ∷ [])
 pub MatchOption-some : {A : Type 0} (o : Option A) (x : A) (P : Type 0) (Q : A → Type 0) → o ≡ Some x → Q x → MatchOption o P Q
 MatchOption-some o x P Q e q = subst (λ v. MatchOption v P Q) (sym e) q
 
-pub MatchOption-none : {A : Type 0} (o : Option A) (P : Type 0) (Q : A → Type 0) → o ≡ None → P → MatchOption o P Q
-MatchOption-none o P Q e p = subst (λ v. MatchOption v P Q) (sym e) p
-
 pub MatchBool-at : (b c : Bool) (P Q : Type 0) → b ≡ c → MatchBool c P Q → MatchBool b P Q
 MatchBool-at b c P Q e h = subst (λ v. MatchBool v P Q) (sym e) h
 
 module _ {S Q A : Type 0} (has_died : S → Bool) (server : S) (cs : List (Client A)) (ws : List (Waiting Q)) (client : ℕ) (packet : Q) where
-  -- there is no such client
-  pub put_unknown : client_state (clients_view cs) client ≡ None → PutGives has_died (port_view server cs ws) client packet (NoClient (Some packet)) (port_view server cs ws)
-  put_unknown none = MatchOption-none (client_state (clients_view cs) client) _ _ none (refl, refl)
-
-  -- the server has died
-  pub put_closed : (c : Client A) → client ≢ 0 → slice_get cs (client - 1) ≡ Some c → has_died server ≡ true
-      → PutGives has_died (port_view server cs ws) client packet (Refused (Closed packet)) (port_view server cs ws)
-  put_closed c not_zero found dead = MatchOption-some (client_state (clients_view cs) client) (client_view c) _ _ (client_state-found cs client c not_zero found) (MatchBool-at (has_died server) true _ _ dead (refl, refl))
-
   -- there is no room, and the client's visible state is unchanged
   pub put_no_room : (c new : Client A) → client ≢ 0 → slice_get cs (client - 1) ≡ Some c → has_died server ≡ false → client_view new ≡ client_view c
       → PutGives has_died (port_view server cs ws) client packet (Refused (NoRoom packet)) (port_view server (slice_set cs (client - 1) new) ws)

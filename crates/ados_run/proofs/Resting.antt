@@ -3,7 +3,7 @@ use Rattle.std.proofs.Common.{◌≡◌, ◌≢◌, ℕ, zero, suc, ◌+◌, pos
 use Rattle.std.specs.Prelude.{All}
 use Rattle.std.proofs.lemmas.List.Elements.{All-nil, All-cons}
 use Rattle.std.proofs.lemmas.Option.{none-some, same_Some}
-use Rattle.ados_name.specs.declared.Date3.{Date3}
+use Rattle.ados_name.specs.declared.stamp.Date3.{Date3}
 use Rattle.ados_model.specs.Tree.{Tree}
 use Rattle.ados_port.specs.History.{Serving, Run, last_server}
 use Rattle.ados_model.specs.declared.packet.Packet.{Packet}
@@ -15,7 +15,8 @@ use Rattle.ados_model.specs.Meaning.{Meaning, IsRefused, ServedOrNoMemory, is_cl
 use Rattle.ados_handler.specs.Gives.{HandlerGives}
 use Rattle.ados_handler.specs.steps.Closes.{serves_closing}
 use Rattle.ados_handler.proofs.Holding.{true_false}
-use Rattle.ados_run.specs.Runs.{handler_died, IsTooLate, handler_after, RestsAfter}
+use Rattle.ados_run.specs.Runs.{handler_died, handler_after, RestsAfter}
+use Rattle.ados_run.specs.Opened.{IsTooLate}
 use Rattle.ados_run.specs.Laws.{DeadHandlersRest}
 
 -- after death each packet is refused

@@ -1,6 +1,6 @@
 -- A run over the volume from `check`.
 use Rattle.std.proofs.Common.{◌≡◌, ℕ, Bool, true, false, List, ap, ◌∙◌, subst}
-use Rattle.ados_name.specs.declared.Date3.{Date3}
+use Rattle.ados_name.specs.declared.stamp.Date3.{Date3}
 use Rattle.ados_model.specs.Tree.{Tree}
 use Rattle.ados_model.specs.Stands.{Stands}
 use Rattle.ados_model.specs.Accepted.{Accepts}
@@ -14,7 +14,9 @@ use Rattle.ados_model.specs.declared.answer.Answer.{Answer}
 use Rattle.ados_model.specs.Session.{opening_session, HandlerState}
 use Rattle.ados_handler.specs.Gives.{HandlerGives}
 use Rattle.ados_handler.specs.steps.Closes.{serves_dead}
-use Rattle.ados_run.specs.Runs.{handler_died, BothSides, FollowsTree, beside, both_died, handler_over, handlers_of, port_beside, SaysValid, port_over}
+use Rattle.ados_run.specs.Runs.{handler_died, BothSides, FollowsTree, handler_over, port_beside}
+use Rattle.ados_run.specs.TreeLists.{both_died, beside, handlers_of}
+use Rattle.ados_run.specs.Opened.{SaysValid, port_over}
 use Rattle.ados_run.specs.Keeping.{KeepsVolume, ServesBoth}
 use Rattle.ados_run.proofs.Following.{handlers_run, histories_follow_trees}
 use Rattle.ados_run.proofs.Resting.{dead_handlers_rest}

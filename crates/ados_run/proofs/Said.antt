@@ -1,9 +1,8 @@
 -- The output of a client's script so far, line by line.
-use Rattle.std.proofs.Common.{◌≡◌, ℕ, ◌+◌, inl, inr, Bool, true, false, List, [], ◌∷◌, ◌++◌, length, refl, sym, ap, subst, ◌∙◌, arith, append-nil, length-append}
+use Rattle.std.proofs.Common.{◌≡◌, ℕ, ◌+◌, inl, inr, Bool, true, false, List, [], ◌∷◌, ◌++◌, length, refl, sym, ap, subst, ◌∙◌, arith, length-append}
 use Rattle.std.specs.Prelude.{Option}
 use Rattle.std.specs.Bool.{MatchBool}
 use Rattle.std.proofs.lemmas.List.{map-append}
-use Rattle.std.proofs.lemmas.Option.{none-some}
 use Rattle.ados_model.specs.declared.packet.Packet.{Packet}
 use Rattle.ados_model.specs.declared.answer.Answer.{Answer}
 use Rattle.ados_port.specs.Lawful.{numbered}
@@ -15,13 +14,13 @@ use Rattle.adf_script.specs.declared.ending.ClientEnding.TheVariants.{Done, Scri
 use Rattle.adf_script.specs.Lines.{kept_lines, is_too_long}
 use Rattle.adf_script.specs.Values.{answer_value, answer_values}
 use Rattle.adf_script.specs.Text.{reply_line, reply_lines, closed_line, fault_line, no_reply_line, no_room_line}
-use Rattle.adf_script.specs.Packets.{ArePackets, NextPuts, NextIsFaulty, NoneIsLeft}
+use Rattle.adf_script.specs.Packets.{ArePackets, NextPuts, NextIsFaulty}
 use Rattle.adf_script.specs.Spoken.{SpokenEnd, Spoken}
 use Rattle.adf_script.proofs.Pushing.{reply_lines-push, packets-push, packets-answered}
 use Rattle.ados_run.specs.declared.asking.Stopped.{Stopped}
 use Rattle.ados_run.specs.declared.asking.Stopped.TheVariants.{Closed, NoRoom, NoReply}
 use Rattle.ados_run.specs.Asking.{Replied, StoppedBy, stop_line, stop_ending}
-use Rattle.ados_run.specs.Scripts.{IsUnused, Tells}
+use Rattle.ados_run.specs.Scripts.{Tells}
 
 module _ (client : ℕ) (script : List ℕ) where
   -- after this many replies with these values: these packets were put, answered with these answers, and this text was
@@ -32,25 +31,6 @@ module _ (client : ℕ) (script : List ℕ) where
     pub values_are : values ≡ answer_values answers
     pub each : ArePackets (kept_lines script) answers puts
     pub text_is : text ≡ reply_lines client 1 answers
-
-  -- before the first line
-  pub nothing_said : SoFar 0 [] [] [] []
-  nothing_said = record {
-    many_puts = refl;
-    many_answers = refl;
-    values_are = refl;
-    each = λ i packet e. absurd (none-some packet e);
-    text_is = refl;
-  }
-
-  -- a script that is too long
-  pub said_long : (knows : Bool) → is_too_long script ≡ true → Spoken client script [] [] knows (fault_line client 0) Script
-  said_long knows long =
-      let Runs : Type 0 = (answers : List Answer) × ([] ≡ numbered 1 answers) × ArePackets (kept_lines script) answers []
-      × (last : List ℕ) × SpokenEnd client (kept_lines script) answers 0 knows last Script × (fault_line client 0 ≡ reply_lines client 1 answers ++ last)
-      in let Faulty : Type 0 = (◌≡◌ {A = List Packet} [] []) × (◌≡◌ {A = List (Reply Answer)} [] []) × (fault_line client 0 ≡ fault_line client 0) × (Script ≡ Script)
-      in let faulty : Faulty = (refl, refl, refl, refl)
-      in subst (λ b. MatchBool b Faulty Runs) (sym long) faulty
 
   -- a script that is not too long, by its end
   spoken_by : (puts : List Packet) (answers : List Answer) (knows : Bool) (text last : List ℕ) (ending : ClientEnding) → is_too_long script ≡ false
@@ -66,13 +46,6 @@ module _ (client : ℕ) (script : List ℕ) where
   module _ (short : is_too_long script ≡ false) (count : ℕ) (values : List (Option ℕ)) (text : List ℕ) (puts : List Packet) (answers : List Answer) (sofar : SoFar count values text puts answers) where
     as_many : length puts ≡ length answers
     as_many = sofar.many_puts ∙ sym sofar.many_answers
-
-    -- no line is left
-    pub said_all : (knows : Bool) → NoneIsLeft (kept_lines script) count → Spoken client script puts (numbered 1 answers) knows text Done
-    said_all knows none =
-        spoken_by puts answers knows text [] Done short sofar.each
-        (as_many, inl (subst (NoneIsLeft (kept_lines script)) (sym sofar.many_puts) none, refl))
-        (sofar.text_is ∙ sym (append-nil (reply_lines client 1 answers)))
 
     -- a faulty line
     pub said_fault : (knows : Bool) (number : ℕ) → NextIsFaulty (kept_lines script) values count number
@@ -142,16 +115,6 @@ module _ {M : Type 0} (client : ℕ) (script : List ℕ) where
       subst (λ (n : ℕ). Spoken n script end.put (numbered 1 (answers_of end.taken)) end.knows told ended) is_client
       (subst (λ (t : List ℕ). Spoken client script end.put (numbered 1 (answers_of end.taken)) end.knows t ended) (sym is_text)
       (subst (λ (e : ClientEnding). Spoken client script end.put (numbered 1 (answers_of end.taken)) end.knows text e) (sym is_ending) spoken))
-
-  -- before the first line
-  pub begins : (end : ClientView Packet M Answer) → IsUnused end → SaidBy 0 [] [] end
-  begins end unused = subst (λ p. SoFar client script 0 [] [] p (answers_of end.taken)) (sym unused.0)
-      (subst (λ t. SoFar client script 0 [] [] [] (answers_of t)) (sym unused.1) (nothing_said client script))
-
-  -- a script that is too long
-  pub begins_long : (end : ClientView Packet M Answer) → IsUnused end → is_too_long script ≡ true → SpokenBy end (fault_line client 0) Script
-  begins_long end unused long = subst (λ p. Spoken client script p (numbered 1 (answers_of end.taken)) end.knows (fault_line client 0) Script) (sym unused.0)
-      (subst (λ t. Spoken client script [] (numbered 1 (answers_of t)) end.knows (fault_line client 0) Script) (sym unused.1) (said_long client script end.knows long))
 
   module _ (short : is_too_long script ≡ false) (count : ℕ) (values : List (Option ℕ)) (text : List ℕ) (old : ClientView Packet M Answer) (said : SaidBy count values text old)
       (packet : Packet) (next : NextPuts (kept_lines script) values count packet) (new : ClientView Packet M Answer) where

@@ -5,7 +5,7 @@ use Rattle.std.specs.declared.alloc.Global.{Global}
 use Rattle.std.proofs.lemmas.List.{length-map}
 use Rattle.std.proofs.lemmas.Option.{slice_get_within, slice_get_cases}
 use mathlib.Core.List.{map-map}
-use Rattle.ados_name.specs.declared.Date3.{Date3}
+use Rattle.ados_name.specs.declared.stamp.Date3.{Date3}
 use Rattle.ados_model.specs.Tree.{Tree}
 use Rattle.ados_model.specs.Stands.{Stands}
 use Rattle.ados_model.proofs.OneTree.{one_tree}
@@ -23,8 +23,8 @@ use Rattle.ados_handler.specs.Gives.{HandlerGives}
 use Rattle.adf_script.specs.declared.ending.ClientEnding.{ClientEnding}
 use Rattle.adf_script.specs.Spoken.{Spoken}
 use Rattle.ados_run.specs.Scripts.{Tells, EachTells}
-use Rattle.ados_run.specs.Runs.{handler_died, beside, both_died, handler_over, handlers_of}
-use Rattle.ados_run.specs.TreeLists.{ListsFollowTree}
+use Rattle.ados_run.specs.Runs.{handler_died, handler_over}
+use Rattle.ados_run.specs.TreeLists.{both_died, beside, handlers_of, ListsFollowTree}
 use Rattle.ados_run.specs.ServesVolume.{EachSpeaks}
 use Rattle.ados_run.specs.Keeping.{KeepsServed, ServesBoth}
 use Rattle.ados_run.proofs.Closed.{spoken_closed}

@@ -1,6 +1,6 @@
 -- What no packet changes: packet by packet, the image of a handler next to the tree that it represents.
 use Rattle.std.specs.Prelude.{ℕ, Bool, List}
-use Rattle.ados_name.specs.declared.Date3.{Date3}
+use Rattle.ados_name.specs.declared.stamp.Date3.{Date3}
 use Rattle.ados_model.specs.Accepted.{Accepts}
 use Rattle.ados_model.specs.declared.packet.Packet.{Packet}
 use Rattle.ados_model.specs.declared.answer.Answer.{Answer}

@@ -1,16 +1,16 @@
 -- The result of a run of port steps over an image: the headline. Before it stand the port of a handler, the handler side by
 -- side with the tree that its image represents, in one history of both, and packets after a handler's death.
-use Rattle.std.specs.Prelude.{Bool, List, ◌≡◌, ℕ, map, ◌+◌, pos, true, take, drop, slice_get, Some, All}
+use Rattle.std.specs.Prelude.{Bool, List, ◌≡◌, ℕ, map, ◌+◌, true, take, drop, slice_get, Some, All}
 use Rattle.adf_block.specs.Image.{block_count, long, root_key}
-use Rattle.adf_block.specs.Layout.{bitmap_flag, bitmap_valid}
-use Rattle.ados_name.specs.declared.Date3.{Date3}
+use Rattle.adf_block.specs.declared.layout.TheConstants.{BITMAP_FLAG, BITMAP_VALID}
+use Rattle.ados_name.specs.declared.stamp.Date3.{Date3}
 use Rattle.ados_model.specs.Tree.{Tree}
 use Rattle.ados_model.specs.declared.packet.Packet.{Packet}
 use Rattle.ados_model.specs.declared.answer.Answer.{Answer}
-use Rattle.ados_model.specs.Meaning.{Meaning, has_died, is_closing}
+use Rattle.ados_model.specs.Meaning.{Meaning, is_closing}
 use Rattle.ados_model.specs.Session.{HandlerState, opening_session}
 use Rattle.ados_model.specs.Stands.{Stands}
-use Rattle.ados_model.specs.Packet.{error_number, action_of, failure_of, handed_back}
+use Rattle.ados_model.specs.Packet.{refused_answer}
 use Rattle.ados_model.specs.declared.dos_error.DosError.TheVariants.{DeviceNotMounted}
 use Rattle.ados_port.specs.History.{PortState, Serving, ServerMeaning, PortHistory, last_server, opening_port, ClosedOnceDead}
 use Rattle.ados_port.specs.Step.{Step}
@@ -27,13 +27,9 @@ PacketSteps = List (Step Packet Date3)
 abbrev pub PacketOutcomes : Type 0
 PacketOutcomes = List (Outcome Packet Answer)
 
--- served packets
-abbrev pub ServedPackets : Type 0
-ServedPackets = List (Serving Packet Date3 Answer)
-
 -- whether a handler has died
 abbrev pub handler_died : HandlerState → Bool
-handler_died handler = has_died handler.session
+handler_died handler = handler.session.died
 
 -- a handler, and the tree of its image
 pub record BothSides : Type 0 where
@@ -45,54 +41,30 @@ pub record MeansBoth (old : BothSides) (packet : Packet) (now : Date3) (new : Bo
   pub means : Meaning old.tree old.handler.session packet now new.tree new.handler.session answer
   pub stands : Stands new.handler.image new.tree
 
-abbrev pub both_died : BothSides → Bool
-both_died both = handler_died both.handler
-
--- the handlers of these
-abbrev pub handlers_of : List BothSides → List HandlerState
-handlers_of states = map (λ s. s.handler) states
-
--- a handler with this tree beside it, and its port
-abbrev pub beside : Tree → HandlerState → BothSides
-beside t handler = record { tree = t; handler = handler }
-
+-- a port of a handler with this tree beside it
 abbrev pub port_beside : Tree → HandlerPort → PortState BothSides Packet Answer
-port_beside t port = record { server = beside t port.server; clients = port.clients; waiting = port.waiting }
+port_beside t port = record { server = record { tree = t; handler = port.server }; clients = port.clients; waiting = port.waiting }
 
 -- a handler over this image, alive and without locks and handles
 abbrev pub handler_over : List ℕ → Bool → HandlerState
 handler_over image was_validated = record { image = image; was_validated = was_validated; session = opening_session }
 
--- from this tree, the steps had these outcomes; at each packet tree and image changed together in this way, and at the
--- end the image represents the resulting tree
+-- from this tree, the steps had these outcomes; tree and image changed together, and the last image represents the last tree
 pub record FollowsTree (together : ServerMeaning BothSides Packet Date3 Answer) (t : Tree) (opening : HandlerPort) (steps : PacketSteps) (outcomes : PacketOutcomes) (closing : HandlerPort) : Type 0 where
   pub last_tree : Tree
-  pub history : PortHistory together both_died (port_beside t opening) steps outcomes (port_beside last_tree closing)
+  pub history : PortHistory together (λ (both : BothSides). handler_died both.handler) (port_beside t opening) steps outcomes (port_beside last_tree closing)
   pub stands : Stands closing.server.image last_tree
   pub validated : closing.server.was_validated ≡ opening.server.was_validated
 
--- the answer of a dead handler: the packet is refused
-abbrev pub late_answer : Packet → Answer
-late_answer packet = record {
-  action = action_of packet;
-  res1 = failure_of packet;
-  res2 = pos (error_number DeviceNotMounted);
-  body = handed_back packet;
-}
-
--- a packet was refused because the handler was dead
-abbrev pub IsTooLate : Serving Packet Date3 Answer → Type 0
-IsTooLate s = s.answer ≡ late_answer s.packet
-
 -- this handler served packets one after the other, and each led to one of these handlers
-module _ (opening : HandlerState) (served : ServedPackets) (servers : List HandlerState) where
+module _ (opening : HandlerState) (served : List (Serving Packet Date3 Answer)) (servers : List HandlerState) where
   -- the handler after the first packets
   abbrev pub handler_after : ℕ → HandlerState
   handler_after count = last_server opening (take count servers)
 
   -- each packet after the first `count` is refused, and no byte of the image changes
   pub record RestsAfter (count : ℕ) : Type 0 where
-    pub too_late : All IsTooLate (drop count served)
+    pub too_late : All (λ (s : Serving Packet Date3 Answer). s.answer ≡ refused_answer s.packet DeviceNotMounted) (drop count served)
     pub image : (more : ℕ) → (handler_after (count + more)).image ≡ (handler_after count).image
 
   -- the handler rests after its death, so after each answer that closes
@@ -100,27 +72,19 @@ module _ (opening : HandlerState) (served : ServedPackets) (servers : List Handl
     pub dead : (count : ℕ) → handler_died (handler_after count) ≡ true → RestsAfter count
     pub closing : (place : ℕ) (s : Serving Packet Date3 Answer) → slice_get served place ≡ Some s → is_closing s.answer ≡ true → RestsAfter (place + 1)
 
--- a port with this many clients at a handler over this image, before any put
-abbrev pub port_over : List ℕ → Bool → ℕ → HandlerPort
-port_over image was_validated clients = opening_port (handler_over image was_validated) clients
-
--- the root says that the bitmap is valid
-abbrev pub SaysValid : List ℕ → Type 0
-SaysValid image = long image (root_key (block_count image)) bitmap_flag ≡ bitmap_valid
-
 -- The image, or that image with a new bitmap if its root says that the bitmap is not valid, represents exactly one
 -- tree. At a port over it, image and tree went through the steps together in this way. After the handler's death each
 -- put was refused as closed, each packet was refused, and no byte changed.
 pub record RunsWith (together : ServerMeaning BothSides Packet Date3 Answer) (image : List ℕ) (clients : ℕ) (steps : PacketSteps) (outcomes : PacketOutcomes) (closing : HandlerPort) : Type 0 where
   pub checked : List ℕ
   pub was_validated : Bool
-  pub as_it_is : SaysValid image → checked ≡ image
+  pub as_it_is : long image (root_key (block_count image)) BITMAP_FLAG ≡ BITMAP_VALID → checked ≡ image
   pub tree : Tree
   pub stands : Stands checked tree
   pub only : (other : Tree) → Stands checked other → other ≡ tree
-  pub follows : FollowsTree together tree (port_over checked was_validated clients) steps outcomes closing
+  pub follows : FollowsTree together tree (opening_port (handler_over checked was_validated) clients) steps outcomes closing
   pub closed : ClosedOnceDead follows.history
-  pub rests : RestsOnceDead (handler_over checked was_validated) follows.history.served (handlers_of follows.history.servers)
+  pub rests : RestsOnceDead (handler_over checked was_validated) follows.history.served (map (λ both. both.handler) follows.history.servers)
 
 -- each packet was answered according to its meaning for the tree, and the tree changed accordingly
 abbrev pub RunsVolume : List ℕ → ℕ → PacketSteps → PacketOutcomes → HandlerPort → Type 0

@@ -1,7 +1,7 @@
 -- The result of scripts run as clients of a handler over a volume.
 use Rattle.std.specs.Prelude.{◌≡◌, ℕ, ◌+◌, Bool, List, Vec, length, map, Some, slice_get}
 use Rattle.std.specs.declared.alloc.Global.{Global}
-use Rattle.ados_name.specs.declared.Date3.{Date3}
+use Rattle.ados_name.specs.declared.stamp.Date3.{Date3}
 use Rattle.ados_model.specs.Tree.{Tree}
 use Rattle.ados_model.specs.Stands.{Stands}
 use Rattle.ados_port.specs.History.{ServerMeaning}
@@ -12,8 +12,8 @@ use Rattle.ados_model.specs.declared.answer.Answer.{Answer}
 use Rattle.ados_model.specs.Session.{HandlerState}
 use Rattle.adf_script.specs.declared.ending.ClientEnding.{ClientEnding}
 use Rattle.adf_script.specs.Spoken.{Spoken}
-use Rattle.ados_run.specs.TreeLists.{PacketLists, ListsFollowTree}
-use Rattle.ados_run.specs.Runs.{ServedPackets, handler_died, BothSides, MeansBoth, beside, both_died, handler_over, handlers_of, RestsOnceDead}
+use Rattle.ados_run.specs.TreeLists.{PacketLists, ListsFollowTree, ServedPackets, beside, handlers_of, both_died}
+use Rattle.ados_run.specs.Runs.{handler_died, BothSides, MeansBoth, handler_over, RestsOnceDead}
 
 -- the bytes of each script
 abbrev pub scripts_of : {G : Type 0} → List (Vec ℕ Global × G) → List (List ℕ)

@@ -1,11 +1,11 @@
 -- A port whose server is a tree with its locks and handles: the meaning of packets, without an image.
 use Rattle.std.specs.Prelude.{Bool}
-use Rattle.ados_name.specs.declared.Date3.{Date3}
+use Rattle.ados_name.specs.declared.stamp.Date3.{Date3}
 use Rattle.ados_model.specs.Tree.{Tree}
 use Rattle.ados_model.specs.declared.packet.Packet.{Packet}
 use Rattle.ados_model.specs.declared.answer.Answer.{Answer}
 use Rattle.ados_model.specs.Session.{Session, HandlerState}
-use Rattle.ados_model.specs.Meaning.{Meaning, has_died}
+use Rattle.ados_model.specs.Meaning.{Meaning}
 use Rattle.ados_port.specs.History.{PortState}
 use Rattle.ados_run.specs.Runs.{HandlerPort}
 
@@ -20,7 +20,7 @@ means old packet now new answer = Meaning old.tree old.session packet now new.tr
 
 -- whether a tree's server has died
 abbrev pub tree_died : TreeState → Bool
-tree_died state = has_died state.session
+tree_died state = state.session.died
 
 -- a handler with this tree in place of its image, and its port
 abbrev pub with_tree : Tree → HandlerState → TreeState

@@ -2,12 +2,13 @@
 use Rattle.std.proofs.Common.{◌≡◌, ℕ, ◌+◌, ◌-◌, ◌*◌, ◌<◌, ◌≤◌, ◌⊎◌, inl, inr, Bool, true, false, List, [], ◌∷◌, length, replicate, slice_index, refl, sym, ap, ◌∙◌, arith, zero-add}
 use Rattle.std.proofs.lemmas.Bool.{cases_lt, false≢true}
 use Rattle.std.proofs.lemmas.List.{get_or-replicate}
-use Rattle.adf_block.specs.declared.Format.{Format}
-use Rattle.adf_block.specs.Image.{IsSize, IsInside, block_count, byte_at, bytes_at, long, block_sum, root_key, page_count, has_free_bit, HasText}
+use Rattle.adf_block.specs.declared.layout.Format.{Format}
+use Rattle.adf_block.specs.Image.{IsInside, block_count, byte_at, bytes_at, long, block_sum, root_key, page_count, has_free_bit, HasText}
+use Rattle.adf_block.specs.Whole.{IsSize}
 use Rattle.adf_block.specs.Frame.{SameBut, InBlock, OnlyBlock, Within}
 use Rattle.adf_block.proofs.Frames.{same_count, same_long, same_bytes_at, same_sum}
-use Rattle.ados_name.specs.declared.Date3.{Date3}
-use Rattle.ados_map.specs.Pages.{LawfulPages, page_block, pages_of, HasBit}
+use Rattle.ados_name.specs.declared.stamp.Date3.{Date3}
+use Rattle.ados_map.specs.Pages.{page_block, pages_of, HasBit}
 use Rattle.ados_map.specs.Bits.{is_unnamed}
 use Rattle.ados_map.specs.Changes.{InPages, PagesRebuilt}
 use Rattle.ados_model.specs.declared.role.Role.TheVariants.{Root}
@@ -24,13 +25,6 @@ module _ (n : ℕ) (name : List ℕ) (moment : Date3) (image : List ℕ) (size :
 
   pub blank_pages : pages_of image ≡ page_count n
   blank_pages = ap page_count count
-
-  pub blank_lawful : LawfulPages image
-  blank_lawful = record {
-    inside = λ p l. let at = blank_page p (omega (arith, l, blank_pages)) in omega (arith, at, l, blank_pages, count, size.0);
-    apart = λ p q l m e. let at = blank_page p (omega (arith, l, blank_pages)) in let also = blank_page q (omega (arith, m, blank_pages)) in omega (arith, at, also, e);
-    beside_root = λ p l e. let at = blank_page p (omega (arith, l, blank_pages)) in omega (arith, at, e, count);
-  }
 
 -- byte i of the boot blocks, in the second block
 byte_next : (image : List ℕ) (i : ℕ) → 512 ≤ i → byte_at image 0 i ≡ byte_at image 1 (i - 512)

@@ -1,25 +1,17 @@
 -- The fields of a blank root, written one after the other.
 use Rattle.std.proofs.Common.{◌≡◌, ◌≢◌, ℕ, ◌+◌, ◌-◌, ◌*◌, ◌/◌, ◌^◌, ◌<◌, ◌≤◌, ◌⊎◌, inl, inr, List, length, refl, sym, ap, ◌∙◌, subst, arith}
 use Rattle.adf_block.specs.Image.{byte_at, long, block_sum, root_key, page_count, HasText}
-use Rattle.adf_block.specs.Frame.{SameBut, AtLong, InBlock, OnlyLong, OnlyBlock, Within}
+use Rattle.adf_block.specs.Frame.{SameBut, AtLong, OnlyLong, Within}
 use Rattle.std.proofs.lemmas.Bool.{cases_lt, cases_eq}
-use Rattle.adf_block.proofs.Frames.{same_trans, same_weaken, same_long, same_bytes_at}
+use Rattle.adf_block.proofs.Frames.{same_weaken, same_long, same_bytes_at}
 use Rattle.adf_block.proofs.Longs.{long-bytes}
-use Rattle.ados_name.specs.declared.Date3.{Date3}
+use Rattle.ados_name.specs.declared.stamp.Date3.{Date3}
 use Rattle.ados_model.specs.Stands.{date_at}
 use Rattle.ados_volume.specs.steps.BlankParts.{IsBlankRoot, HasBlankFields, IsBetweenFields}
 
 -- a long is four bytes
 pub within_long : (b i : ℕ) (old new : List ℕ) → OnlyLong b i old new → SameBut (Within b (4 * i) (4 * i + 4)) old new
 within_long b i old new h = same_weaken (AtLong b i) (Within b (4 * i) (4 * i + 4)) old new (λ c k at. (at.0, omega (arith, at.1), omega (arith, at.1))) h
-
--- a wider range of bytes
-pub within_more : (b low high low' high' : ℕ) (old new : List ℕ) → low' ≤ low → high ≤ high' → SameBut (Within b low high) old new → SameBut (Within b low' high') old new
-within_more b low high low' high' old new l m h = same_weaken (Within b low high) (Within b low' high') old new (λ c k at. (at.0, omega (arith, at.1, l), omega (arith, at.2, m))) h
-
--- a change inside a range is a change inside the block
-pub within_block : (b low high : ℕ) (old new : List ℕ) → SameBut (Within b low high) old new → OnlyBlock b old new
-within_block b low high old new h = same_weaken (Within b low high) (InBlock b) old new (λ c k at. at.0) h
 
 -- a long outside the range
 pub long_beside : (b low high : ℕ) (old new : List ℕ) → SameBut (Within b low high) old new → (i : ℕ) → i < 128 → (4 * i + 4 ≤ low) ⊎ (high ≤ 4 * i) → long new b i ≡ long old b i
@@ -183,10 +175,3 @@ module _ (n r : ℕ) (name : List ℕ) (moment : Date3) (r_is : r ≡ root_key n
         sum = sum;
         zero = between;
       })
-
-  pub only_root : OnlyBlock r z0 z10
-  only_root =
-      let b = same_trans (InBlock r) in
-      b z0 z9 z10 (b z0 z8 z9 (b z0 z7 z8 (b z0 z6 z7 (b z0 z5 z6 (b z0 z4 z5 (b z0 z3 z4 (b z0 z2 z3 (b z0 z1 z2
-      (within_block r 0 4 z0 z1 f1) (within_block r 12 16 z1 z2 f2)) (within_block r 312 316 z2 z3 f3)) (within_block r 316 (316 + 4 * page_count n) z3 z4 f4))
-      (within_block r 420 432 z4 z5 f5)) (within_block r 432 (433 + length name) z5 z6 f6)) (within_block r 472 484 z6 z7 f7)) (within_block r 484 496 z7 z8 f8)) (within_block r 508 512 z8 z9 f9)) (within_block r 20 24 z9 z10 f10)

@@ -1,7 +1,8 @@
 -- A bound below which no block is free, after a change.
 use Rattle.std.proofs.Common.{◌≡◌, ℕ, ◌/◌, ◌<◌, Bool, true, false, inl, inr, List, length, IsSome, refl, sym, ap, ◌∙◌, arith}
 use Rattle.std.proofs.lemmas.Bool.{false≢true}
-use Rattle.adf_block.specs.Image.{HasFreeBit, IsInside, block_count, has_free_bit}
+use Rattle.adf_block.specs.Image.{IsInside, block_count, has_free_bit}
+use Rattle.adf_block.specs.Whole.{HasFreeBit}
 use Rattle.adf_block.proofs.Frames.{same_count}
 use Rattle.ados_map.specs.Pages.{NoneFreeBelow, page_block, pages_of}
 use Rattle.ados_map.proofs.MarkLemmas.{bit_of_inside, mark_kept}

@@ -1,10 +1,8 @@
 -- In an image that represents a tree, the hash chains of its directories are lawful.
-use Rattle.std.proofs.Common.{◌≡◌, ◌≢◌, ℕ, ◌+◌, ◌<◌, ◌==◌, List, Contains, Some, None, sym, ap, ◌∙◌, subst}
+use Rattle.std.proofs.Common.{◌≡◌, ◌≢◌, ℕ, ◌<◌, ◌==◌, List, Contains, Some, None, sym, ap, ◌∙◌, subst}
 use Rattle.std.proofs.lemmas.List.{get_or_default}
 use Rattle.std.proofs.lemmas.List.Kept.{AllPairs-filter}
-use Rattle.adf_block.specs.Image.{bytes_at, HasText}
-use Rattle.adf_block.specs.Layout.{name_byte}
-use Rattle.adf_block.specs.Whole.{text_at}
+use Rattle.adf_block.specs.declared.layout.TheConstants.{NAME_BYTE}
 use Rattle.ados_name.specs.Name.{slot, IsName}
 use Rattle.ados_chain.specs.Chains.{LawfulChains, IsEntryBlock, name_at}
 use Rattle.ados_change.proofs.Writable.{inside, key_serves}
@@ -13,14 +11,11 @@ use Rattle.ados_model.specs.Tree.Content.{Directory}
 use Rattle.ados_model.specs.Tree.LeadsToRoot.{at_root, by_parent}
 use Rattle.ados_model.specs.Stands.{Duty, Stands, in_slot}
 use Rattle.ados_model.proofs.Standing.{root_is, entry_at, IsEntryNode}
-
--- the text of a block
-pub text_is : (image : List ℕ) (block i : ℕ) (text : List ℕ) → HasText image block i text → text_at image block i ≡ text
-text_is image block i text h = ap (bytes_at image block (i + 1)) h.counted ∙ h.follows
+use Rattle.ados_model.proofs.NoFaults.{text_is}
 
 module _ (image : List ℕ) (t : Tree) (s : Stands image t) where
   pub name_is : (key : ℕ) (node : Node) → t.nodes key ≡ Some node → name_at image key ≡ node.name
-  name_is key node e = text_is image key name_byte node.name (s.nodes key node e).name
+  name_is key node e = text_is image key NAME_BYTE node.name (s.nodes key node e).name
 
   pub name_valid : (key : ℕ) (node : Node) → t.nodes key ≡ Some node → IsName (name_at image key)
   name_valid key node e = subst IsName (sym (name_is key node e)) (s.proper.name key node e)

@@ -3,7 +3,8 @@ use Rattle.std.proofs.Common.{◌≡◌, ℕ, inl, inr, List, map, Contains, Opt
 use Rattle.std.proofs.lemmas.Bool.{ne_eqb, cases_eq}
 use Rattle.std.proofs.lemmas.Slice.Eq.{bytes_eq-Decides}
 use Rattle.ados_name.specs.Name.{upper, Same}
-use Rattle.ados_model.specs.Tree.{Node, Tree, entries, entries_in, name_in, name_of}
+use Rattle.ados_model.specs.Tree.{Node, Tree, entries, entries_in, name_of}
+use Rattle.ados_model.specs.Parts.{name_in}
 use Rattle.ados_model.specs.Stands.{Stands}
 use Rattle.ados_model.specs.Change.{child_of, changed}
 use Rattle.ados_model.proofs.OneTree.{one_tree}

@@ -2,9 +2,10 @@
 use Rattle.std.proofs.Common.{◌≡◌, ◌≢◌, ℕ, ◌+◌, ◌-◌, ◌*◌, ◌≤◌, inl, inr, true, false, List, length, take, drop, Option, Some, pos, negsuc, refl, sym, ap, ◌∙◌, arith}
 use Rattle.std.proofs.lemmas.Bool.{false≢true, true≢false}
 use Rattle.std.proofs.lemmas.List.{drop-drop, drop-take, take-take}
-use Rattle.adf_block.specs.declared.Format.{Format}
+use Rattle.adf_block.specs.declared.layout.Format.{Format}
 use Rattle.adf_block.specs.Image.{block_count, bytes_at, root_key}
-use Rattle.ados_model.specs.Tree.{data_count, extension_count, Content, Node, Tree, cost_in, size_in}
+use Rattle.ados_model.specs.Tree.{data_count, extension_count, Content, Node, Tree, cost_in}
+use Rattle.ados_model.specs.Parts.{size_in}
 use Rattle.ados_model.specs.Tree.Content.{Directory, File}
 use Rattle.ados_model.specs.Stands.{Stands, HasEntry}
 use Rattle.ados_model.specs.Change.{is_file, holds_file}

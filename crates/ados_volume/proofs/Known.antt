@@ -3,17 +3,19 @@ use Rattle.std.proofs.Common.{◌≡◌, ◌≢◌, ℕ, zero, suc, ◌+◌, ◌
 use Rattle.std.proofs.lemmas.Bool.{ne_eqb, cases_eq}
 use Rattle.std.proofs.lemmas.List.{length-append, length-take, length-drop}
 use Rattle.lru.proofs.Splits.{Contains-nil}
-use Rattle.adf_block.specs.declared.Format.{Format}
-use Rattle.adf_block.specs.declared.Format.TheVariants.{Ofs, Ffs}
-use Rattle.ados_name.specs.declared.Date3.{Date3}
-use Rattle.ados_model.specs.Tree.{data_count, extension_count, Content, Node, Tree, content_at, bytes_in as bytes_held, size_in, bytes_of, size_of}
+use Rattle.adf_block.specs.declared.layout.Format.{Format}
+use Rattle.adf_block.specs.declared.layout.Format.TheVariants.{Ofs, Ffs}
+use Rattle.ados_name.specs.declared.stamp.Date3.{Date3}
+use Rattle.ados_model.specs.Tree.{data_count, extension_count, Content, Node, Tree, content_at, bytes_in as bytes_held, bytes_of, size_of}
+use Rattle.ados_model.specs.Parts.{size_in}
 use Rattle.ados_data.specs.declared.place.Place.{Place}
 use Rattle.ados_model.specs.File.{LawfulFile, extension_blocks}
 use Rattle.ados_data.specs.Place.{IsAmong}
 use Rattle.ados_model.specs.Tree.Content.{File}
 use Rattle.ados_model.specs.Keys.{HasFileKey}
 use Rattle.ados_model.specs.Stands.{Stands}
-use Rattle.ados_model.specs.Change.{changed, rewritten, written, grown, overlaid}
+use Rattle.ados_model.specs.Change.{changed, rewritten, written}
+use Rattle.ados_model.specs.Edits.{grown, overlaid}
 use Rattle.ados_name.specs.Name.{without_archive}
 use Rattle.ados_change.specs.NewBlocks.{KeepsRest}
 use Rattle.ados_change.specs.Untold.{AgreeInFront}

@@ -1,5 +1,5 @@
--- `check` decides; blank images; the description of a tree by its image; the caches through each change; and the bound
--- of free blocks.
+-- `check` decides; blank images; the description of a tree by its image; the caches through each change; the bound of
+-- free blocks; and everything below a directory.
 pub mod Decided
 pub mod BlankRoot
 pub mod BlankMarks
@@ -17,3 +17,13 @@ pub mod Kept
 pub mod Known
 pub mod Bounds
 pub mod Listed
+pub mod Loops
+pub mod DirectoryKeys
+pub mod Distinct
+pub mod Waiting
+pub mod GoingBelow
+pub mod AllBelow
+pub mod PathWalks
+pub mod Taking
+pub mod WholeFile
+pub mod LastName

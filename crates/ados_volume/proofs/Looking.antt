@@ -1,13 +1,13 @@
 -- The tree, in terms of the hash chains, files and longs of its image.
-use Rattle.std.proofs.Common.{◌≡◌, ℕ, zero, suc, ◌+◌, inl, inr, Bool, true, false, nat_eq, ◌==◌, List, [], ◌∷◌, ◌++◌, filter, map, find, Contains, Option, Some, None, IsSome, bytes_eq, refl, sym, ap, ◌∙◌, subst, arith, eq-eqb, zero-add}
+use Rattle.std.proofs.Common.{◌≡◌, ℕ, zero, suc, ◌+◌, inl, inr, Bool, true, false, nat_eq, ◌==◌, List, [], ◌∷◌, ◌++◌, map, find, Contains, Option, Some, None, IsSome, bytes_eq, refl, sym, ap, ◌∙◌, subst, arith, eq-eqb, zero-add}
 use Rattle.std.proofs.lemmas.Bool.{false≢true}
 use Rattle.std.proofs.lemmas.List.{append-nil}
-use Rattle.std.proofs.lemmas.List.Elements.{All-filter, All-contains, All-contains_itself, Contains-append_right}
+use Rattle.std.proofs.lemmas.List.Elements.{Contains-append_right}
 use Rattle.std.proofs.lemmas.Slice.Eq.{bytes_eq-Decides}
 use Rattle.ados_name.specs.Name.{upper, slot, Same}
 use Rattle.ados_name.specs.Path.{SameNameSameSlot}
 use Rattle.adf_block.specs.Image.{long}
-use Rattle.adf_block.specs.Layout.{file_type}
+use Rattle.adf_block.specs.declared.layout.TheConstants.{FILE_TYPE}
 use Rattle.ados_chain.specs.Chains.{InChains, LawfulChains, name_at, chains_from, entries_of}
 use Rattle.ados_model.specs.Tree.{behind, Content, Node, Tree, root, content_at, entries, name_of}
 use Rattle.ados_chain.specs.Look.{FindsNamed, first_left}
@@ -16,22 +16,12 @@ use Rattle.ados_chain.proofs.Found.{listed_same}
 use Rattle.ados_chain.specs.declared.read.Next.TheVariants.{Entry}
 use Rattle.ados_chain.proofs.Order.{behind-later, chains_from-split, entry-in_chains, first-entry}
 use Rattle.ados_model.specs.Tree.Content.{Directory, File}
-use Rattle.ados_model.specs.Stands.{Stands, in_slot, type_of}
+use Rattle.ados_model.specs.Stands.{Stands, type_of, in_slot}
 use Rattle.ados_model.specs.Change.{child_of, is_file, holds_file, entries_after}
 use Rattle.ados_model.proofs.Lists.{joined}
 use Rattle.ados_model.proofs.Nodes.{some_in, content_in, entry_node, entries_by_slot, root_or_parent}
 use Rattle.ados_volume.proofs.Bridge.{lawful_chains, name_is}
-
-Contains-filter-in : (p : ℕ → Bool) (xs : List ℕ) (x : ℕ) → Contains xs x → p x ≡ true → Contains (filter p xs) x
-Contains-filter-in p [] x c e = absurd (Contains-nil x c)
-Contains-filter-in p (y ∷ ys) x c e = go (p y) refl (λ m. Contains-filter-in p ys x m e)
-  where
-    go : (b : Bool) → p y ≡ b → (Contains ys x → Contains (filter p ys) x) → Contains (filter p (y ∷ ys)) x
-    go true h rest = rw h (elim (Contains-cases y ys x c) [ inl same ↦ subst (Contains (y ∷ filter p ys)) same (Contains-here y (filter p ys)) | inr later ↦ Contains-later y (filter p ys) x (rest later) ])
-    go false h rest = rw h (elim (Contains-cases y ys x c) [ inl same ↦ absurd (false≢true (sym h ∙ ap p same ∙ e)) | inr later ↦ rest later ])
-
-Contains-filter-out : (p : ℕ → Bool) (xs : List ℕ) (x : ℕ) → Contains (filter p xs) x → Contains xs x
-Contains-filter-out p xs x c = All-contains (Contains xs) (filter p xs) x (All-filter p (Contains xs) xs (All-contains_itself xs)) c
+use Rattle.ados_change.proofs.Entering.{Contains-part, Contains-passes}
 
 -- `find` returns the only element that passes
 find_one : (p : ℕ → Bool) (xs : List ℕ) (x : ℕ) → Contains xs x → p x ≡ true → ((y : ℕ) → Contains xs y → p y ≡ true → y ≡ x) → find p xs ≡ Some x
@@ -93,7 +83,7 @@ module _ (image : List ℕ) (t : Tree) (s : Stands image t) where
 
   -- an entry with the name is in the name's slot
   in_own_slot : SameNameSameSlot → (dir key : ℕ) (name : List ℕ) → Contains (entries t dir) key → Same (name_of t key) name → Contains (in_slot t dir (slot name)) key
-  in_own_slot law dir key name c same = Contains-filter-in (λ k. slot (name_of t k) == slot name) (entries t dir) key c (eq-eqb (slot (name_of t key)) (slot name) (law (name_of t key) name same))
+  in_own_slot law dir key name c same = Contains-passes (λ k. slot (name_of t k) == slot name) (entries t dir) key c (eq-eqb (slot (name_of t key)) (slot name) (law (name_of t key) name same))
 
   -- the directory has a child with this name
   pub is_child : (dir key : ℕ) (name : List ℕ) → Contains (entries t dir) key → Same (name_of t key) name → child_of t dir name ≡ Some key
@@ -112,7 +102,7 @@ module _ (image : List ℕ) (t : Tree) (s : Stands image t) where
       sym (no_child dir name (λ key c same. h key (in_own_slot law dir key name c same) (subst (λ (xs : List ℕ). Same xs name) (sym (named_same dir key c)) same)))
   child_is law dir name (Some key) h =
       let listed : Contains (in_slot t dir (slot name)) key = subst (λ (xs : List ℕ). Contains xs key) (sym h.split) (Contains-append_right h.front (key ∷ h.back) key (Contains-here key h.back)) in
-      let entry = Contains-filter-out (λ k. slot (name_of t k) == slot name) (entries t dir) key listed in
+      let entry = Contains-part (λ k. slot (name_of t k) == slot name) (entries t dir) key listed in
       sym (is_child dir key name entry (subst (λ (xs : List ℕ). Same xs name) (named_same dir key entry) h.same))
 
   -- ---- the entries in order
@@ -131,7 +121,7 @@ module _ (image : List ℕ) (t : Tree) (s : Stands image t) where
 
   -- ---- a file
 
-  pub is_file_is : (key v : ℕ) → IsSome (t.nodes key) → v ≡ long image key 127 → nat_eq v file_type ≡ is_file t key
+  pub is_file_is : (key v : ℕ) → IsSome (t.nodes key) → v ≡ long image key 127 → nat_eq v FILE_TYPE ≡ is_file t key
   is_file_is key v h e =
       let n = some_in (t.nodes key) h in
       rw n.1 (elim (root_or_parent t s.proper key n.0 n.1) [
@@ -143,7 +133,7 @@ module _ (image : List ℕ) (t : Tree) (s : Stands image t) where
         | inr p ↦ by_content n.0.content (e ∙ (s.entries key p.0 n.0 n.1 p.1).secondary)
       ])
     where
-      by_content : (c : Content) → v ≡ type_of c → nat_eq v file_type ≡ holds_file (Some c)
+      by_content : (c : Content) → v ≡ type_of c → nat_eq v FILE_TYPE ≡ holds_file (Some c)
       by_content (Directory keys) is = rw is refl
       by_content (File bytes) is = rw is refl
 

@@ -1,9 +1,10 @@
 -- Cached children after a change of a file's bytes, and what contracts see of it.
 use Rattle.std.proofs.Common.{◌≡◌, ℕ, Bool, List, [], ◌∷◌, Some, Result, Ok, Err, IsErrAnd, MatchResult, option_map, refl, sym, ap, ◌∙◌}
-use Rattle.ados_name.specs.declared.Date3.{Date3}
+use Rattle.ados_name.specs.declared.stamp.Date3.{Date3}
 use Rattle.ados_model.specs.Tree.{Node, Tree, content_at, entries_in, bytes_of}
 use Rattle.ados_model.specs.Tree.Content.{File}
-use Rattle.ados_model.specs.Change.{rewritten, written, overlaid}
+use Rattle.ados_model.specs.Change.{rewritten, written}
+use Rattle.ados_model.specs.Edits.{overlaid}
 use Rattle.ados_name.specs.Name.{without_archive}
 use Rattle.ados_volume.specs.Shown.{Shown}
 use Rattle.ados_volume.proofs.Children.{AllStay, changed_stay}

@@ -1,13 +1,11 @@
 -- Steps from node to node.
-use Rattle.std.proofs.Common.{◌≡◌, ◌≢◌, ℕ, inl, inr, Bool, true, false, List, [], ◌∷◌, find, Contains, Option, Some, None, IsSome, option_map, refl, sym, ap, ◌∙◌, subst}
-use Rattle.std.proofs.lemmas.Bool.{false≢true, true≢false}
+use Rattle.std.proofs.Common.{◌≡◌, ◌≢◌, ℕ, inl, inr, Bool, true, false, List, [], ◌∷◌, find, Contains, Some, None, IsSome, refl, sym, ap, ◌∙◌, subst}
 use Rattle.adf_block.specs.Image.{long, block_count, root_key}
 use Rattle.ados_name.specs.Name.{IsName, Same}
 use Rattle.ados_model.proofs.KeyLists.{Contains-here, Contains-later}
-use Rattle.ados_model.specs.Tree.{Content, Node, Tree, content_at, entries, name_of, parent_of}
-use Rattle.ados_model.specs.Tree.Content.{Directory, File}
+use Rattle.ados_model.specs.Tree.{Node, Tree, entries, name_of, parent_of}
 use Rattle.ados_model.specs.Stands.{Stands}
-use Rattle.ados_model.specs.Change.{child_of, is_file, holds_file}
+use Rattle.ados_model.specs.Change.{child_of}
 use Rattle.ados_model.proofs.Nodes.{some_in, entry_node, directory_node, root_or_parent}
 use Rattle.ados_model.proofs.Standing.{root_is}
 use Rattle.ados_volume.proofs.Looking.{no_child}
@@ -24,18 +22,6 @@ find-is p (y ∷ ys) x e = go (p y) refl (λ m. find-is p ys x m)
 module _ (image : List ℕ) (t : Tree) (s : Stands image t) where
   pub has_node : (key : ℕ) (node : Node) → t.nodes key ≡ Some node → IsSome (t.nodes key)
   has_node key node e = rw e refl
-
-  -- a node other than a file is a directory
-  pub directory_at : (key : ℕ) → IsSome (t.nodes key) → is_file t key ≡ false → (keys : List ℕ) × (content_at t key ≡ Some (Directory keys))
-  directory_at key = go (t.nodes key)
-    where
-      go : (o : Option Node) → IsSome o → holds_file (option_map (λ node. node.content) o) ≡ false → (keys : List ℕ) × (option_map (λ node. node.content) o ≡ Some (Directory keys))
-      go None h not_file = absurd (false≢true h)
-      go (Some a) h not_file = by_content a.content not_file
-        where
-          by_content : (c : Content) → holds_file (Some c) ≡ false → (keys : List ℕ) × (Some c ≡ Some (Directory keys))
-          by_content (Directory keys) not_file = (keys, refl)
-          by_content (File bytes) not_file = absurd (true≢false not_file)
 
   -- a child is a node
   pub child_node : (dir key : ℕ) (name : List ℕ) → child_of t dir name ≡ Some key → IsSome (t.nodes key)

@@ -1,7 +1,11 @@
--- What contracts see of a volume, and the results of its calls. Definitions for steps are in `steps`.
+-- What contracts see of a volume and of the entries below a directory, and the results of its calls. Definitions for steps are in `steps`.
 pub mod Shown
 pub mod Checked
 pub use Rattle.ados_model.specs.Objects
+pub use Rattle.ados_model.specs.Reads
 pub mod Order
 pub mod Refused
+pub mod Located
+pub mod Below
+pub mod Paths
 pub mod steps

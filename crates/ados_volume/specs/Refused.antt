@@ -1,7 +1,7 @@
 -- A refused change: nothing changes, and why.
 use Rattle.std.specs.Prelude.{◌≡◌, ℕ, List, Result, MatchResult}
 use Rattle.ados_map.specs.Pages.{NoneFree}
-use Rattle.ados_name.specs.declared.Date3.{Date3}
+use Rattle.ados_name.specs.declared.stamp.Date3.{Date3}
 use Rattle.ados_change.specs.Renewed.{CannotGrow, CannotWrite, Grows, Writes}
 use Rattle.ados_volume.specs.Shown.{Shown}
 

@@ -1,7 +1,8 @@
--- Definitions for steps: a step of a walk, the caches of names, places and listed entries, and the parts of a blank
--- image.
+-- Definitions for steps: a step of a walk, the caches of names, places and listed entries, the parts of a blank
+-- image, and the stack of a walk over everything below a directory.
 pub mod PathStep
 pub mod Cache
 pub mod Places
 pub mod Listed
 pub mod BlankParts
+pub mod Stack

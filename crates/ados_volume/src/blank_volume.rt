@@ -1,9 +1,9 @@
 //! A blank volume: an empty root in the middle, followed by the bitmap blocks.
 
 ghost use Rattle.std.specs.Prelude.{◌≡◌, ◌<◌, ◌+◌, ◌*◌, ℕ, length, IfOk, false};
-ghost use Rattle.adf_block.specs.Whole.{IsImage};
-ghost use Rattle.adf_block.specs.Image.{IsSize, block_count, byte_at, bytes_at, long, page_count, root_key};
-ghost use Rattle.adf_block.specs.Layout.{long_byte, kind_byte, first_page, block_bytes};
+ghost use Rattle.adf_block.specs.Whole.{IsImage, IsSize};
+ghost use Rattle.adf_block.specs.Image.{long_byte, block_count, byte_at, bytes_at, long, page_count, root_key};
+ghost use Rattle.adf_block.specs.declared.layout.TheConstants.{KIND_BYTE};
 ghost use Rattle.adf_block.specs.Frame.{OnlyBlock, SameBut, Within};
 ghost use Rattle.ados_name.specs.Name.{IsName};
 ghost use Rattle.ados_model.specs.Stands.{kind_bytes};
@@ -15,8 +15,8 @@ use crate::places::PlaceCache;
 use crate::told::ToldCache;
 use crate::volume::Volume;
 use adf_block::layout::{
-    BITMAP_FLAG, BITMAP_VALID, BLOCK_BYTES, CREATION_DATE, DATE, DISK_DATE, FIRST_PAGE,
-    HEADER_TYPE, NAME_BYTE, PRIMARY_TYPE, ROOT_TYPE, SECONDARY_TYPE, SUM, TABLE_LONGS, TABLE_SIZE,
+    BITMAP_FLAG, BITMAP_VALID, BLOCK_BYTES, CHECKSUM, CREATION_DATE, DATE, DISK_DATE, FIRST_PAGE,
+    HEADER_TYPE, NAME_BYTE, PRIMARY_TYPE, ROOT_TYPE, SECONDARY_TYPE, TABLE_LONGS, TABLE_SIZE,
 };
 use adf_block::{Format, Image, page_count};
 use ados_change::{put_date, put_text};
@@ -68,7 +68,7 @@ fn blank_image(
 /// An image of zeros.
 fn zero_image(alloc: Global, blocks: u32) -> Result<Image, AllocError>
     requires { IsSize blocks }
-    ensures whole { IfOk result (λ image. length image ≡ block_bytes * blocks) }
+    ensures whole { IfOk result (λ image. length image ≡ BLOCK_BYTES * blocks) }
     ensures zero { IfOk result (λ image. (b i : ℕ) → byte_at image b i ≡ 0) }
 {
     let bytes = vec![in alloc; 0_u8; BLOCK_BYTES as usize * blocks as usize]?;
@@ -95,7 +95,7 @@ fn named_blocks(alloc: Global, blocks: u32) -> Result<Vec<bool>, AllocError>
 /// Writes the four bytes of the kind: `DOS` and 0 (OFS) or 1 (FFS).
 fn put_kind(image: &mut Image, format: Format)
     ensures kind { bytes_at image.new 0 0 4 ≡ kind_bytes format }
-    ensures rest { SameBut (Within 0 0 (kind_byte + 1)) image.old image.new }
+    ensures rest { SameBut (Within 0 0 (KIND_BYTE + 1)) image.old image.new }
 {
     prove!(image.blocks() >= 16);
     let kind = match format {
@@ -107,7 +107,7 @@ fn put_kind(image: &mut Image, format: Format)
 
 /// Turns the root block, which is empty, into the root of a blank volume.
 fn put_root(image: &mut Image, name: &Name, moment: Date3)
-    requires { (i : ℕ) → i < block_bytes → byte_at image.old (root_key (block_count image.old)) i ≡ 0 }
+    requires { (i : ℕ) → i < BLOCK_BYTES → byte_at image.old (root_key (block_count image.old)) i ≡ 0 }
     ensures name { IsName name.now }
     ensures root { IsBlankRoot (block_count image.old) name.now moment image.new }
     ensures rest { OnlyBlock (root_key (block_count image.old)) image.old image.new }
@@ -123,14 +123,14 @@ fn put_root(image: &mut Image, name: &Name, moment: Date3)
     put_date(image, root, DISK_DATE, moment);
     put_date(image, root, CREATION_DATE, moment);
     image.set_long(root, SECONDARY_TYPE, ROOT_TYPE);
-    image.settle(root, SUM);
+    image.settle(root, CHECKSUM);
 }
 
 /// Makes the blocks after the root the bitmap blocks.
 fn name_pages(image: &mut Image, root: u32)
     requires { root ≡ root_key (block_count image.old) }
-    ensures named { (p : ℕ) → p < page_count (block_count image.old) → long image.new root (first_page + p) ≡ root + 1 + p }
-    ensures rest { SameBut (Within root (long_byte first_page) (long_byte first_page + 4 * page_count (block_count image.old))) image.old image.new }
+    ensures named { (p : ℕ) → p < page_count (block_count image.old) → long image.new root (FIRST_PAGE + p) ≡ root + 1 + p }
+    ensures rest { SameBut (Within root (long_byte FIRST_PAGE) (long_byte FIRST_PAGE + 4 * page_count (block_count image.old))) image.old image.new }
 {
     for p in 0..page_count(image.blocks()) {
         image.set_long(root, FIRST_PAGE + p, root + 1 + p);

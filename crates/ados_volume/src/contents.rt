@@ -4,7 +4,7 @@ ghost use Rattle.std.specs.Prelude.{◌≡◌, ◌<◌, ◌≤◌};
 ghost use Rattle.ados_model.specs.Tree.{Tree, size_of};
 ghost use Rattle.ados_model.specs.Stands.{Stands};
 ghost use Rattle.ados_model.specs.Keys.{HasFileKey};
-ghost use Rattle.ados_model.specs.Change.{shortened};
+ghost use Rattle.ados_model.specs.Edits.{shortened};
 ghost use Rattle.ados_change.specs.NewBlocks.{KeepsRest, TakesNone};
 ghost use Rattle.ados_volume.specs.Refused.{GrowsOrRefuses, WritesOrRefuses};
 

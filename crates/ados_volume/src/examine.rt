@@ -3,8 +3,9 @@
 ghost use Rattle.std.specs.Prelude.{◌≡◌, ◌<◌, ◌≤◌, ◌+◌, Some, length};
 ghost use Rattle.adf_block.specs.Image.{block_count, byte_at};
 ghost use Rattle.adf_block.specs.Whole.{text_at};
-ghost use Rattle.adf_block.specs.Layout.{block_bytes};
-ghost use Rattle.ados_model.specs.Tree.{Node, Tree, cost_in, size_in};
+ghost use Rattle.adf_block.specs.declared.layout.TheConstants.{BLOCK_BYTES};
+ghost use Rattle.ados_model.specs.Tree.{Node, Tree, cost_in};
+ghost use Rattle.ados_model.specs.Parts.{size_in};
 ghost use Rattle.ados_model.specs.Stands.{Stands};
 ghost use Rattle.ados_model.specs.Keys.{HasKey, HasTree};
 ghost use Rattle.ados_model.specs.Objects.{entry_type, file_info};
@@ -12,7 +13,7 @@ ghost use Rattle.ados_model.specs.Objects.{entry_type, file_info};
 use crate::look::is_file_in;
 use crate::volume::Volume;
 use adf_block::Image;
-use adf_block::layout::{COMMENT_BYTE, DATE, NAME_BYTE, PROTECTION, SIZE};
+use adf_block::layout::{COMMENT_BYTE, DATE, FILE_SIZE, NAME_BYTE, PROTECTION};
 use ados_data::blocks_of;
 use ados_model::FileInfo;
 use ados_name::{Comment, Date3, Name, Protect};
@@ -84,7 +85,7 @@ fn size_in(image: &Image, key: u32) -> u32
     ensures { (t : Tree) (node : Node) → Stands image.now t → t.nodes key ≡ Some node → result ≡ size_in (Some node.content) }
 {
     if is_file_in(image, key) {
-        image.long(key, SIZE)
+        image.long(key, FILE_SIZE)
     } else {
         0
     }
@@ -169,8 +170,8 @@ fn comment_of(text: &[u8]) -> Comment
 /// The text of a block after its length byte `at`.
 fn text_in(image: &Image, key: u32, at: u32) -> &[u8]
     requires inside { key < block_count image.now }
-    requires place { at < block_bytes }
-    requires room { at + 1 + byte_at image.now key at ≤ block_bytes }
+    requires place { at < BLOCK_BYTES }
+    requires room { at + 1 + byte_at image.now key at ≤ BLOCK_BYTES }
     ensures { result.now ≡ text_at image.now key at }
 {
     let start = at as usize + 1;

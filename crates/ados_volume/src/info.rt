@@ -1,7 +1,7 @@
 //! The description of a volume.
 
 ghost use Rattle.std.specs.Prelude.{◌≡◌};
-ghost use Rattle.ados_model.specs.Tree.{Tree};
+ghost use Rattle.ados_model.specs.Tree.{Tree, free};
 ghost use Rattle.ados_model.specs.Stands.{Stands};
 ghost use Rattle.ados_model.specs.Keys.{HasTree};
 ghost use Rattle.ados_model.specs.Objects.{disk_info};
@@ -51,4 +51,13 @@ fn info_of(image: &Image) -> DiskInfo
             disk_type: DOS + 1,
         },
     }
+}
+
+/// The number of free blocks.
+pub fn free_blocks(volume: &Volume) -> u32
+    ensures { (t : Tree) → Stands volume.now.image t → result ≡ free t }
+{
+    prove!(volume.image().blocks() >= 16);
+    let info = volume.info();
+    info.blocks - info.used
 }

@@ -1,6 +1,7 @@
 //! An OFS or FFS volume on an image: the tree of directories and files that the image represents.
 #![tactic(auto)]
 
+mod below;
 mod blank_volume;
 mod cache;
 mod checking;
@@ -10,17 +11,23 @@ mod examine;
 mod info;
 mod laws;
 mod look;
+mod paths;
 mod places;
 mod stamp;
 mod told;
 mod volume;
 mod walk;
+mod whole_file;
 
 pub use ados_chain::Next;
 pub use ados_change::NodeKind;
 pub use ados_check::Rejected;
 pub use ados_model::{DiskInfo, FaultKind, FileInfo, Full, PlaceFault, VolumeFault, WalkFault};
+pub use below::{Below, entries_below};
 pub use blank_volume::blank;
 pub use checking::check;
+pub use info::free_blocks;
 pub use laws::check_decides;
+pub use paths::{Stopped, locate, place};
 pub use volume::Volume;
+pub use whole_file::read_file;

@@ -1,13 +1,14 @@
 //! Changes of an object's metadata, and of the volume's name.
 
 ghost use Rattle.std.specs.Prelude.{◌≡◌, ◌+◌, length};
-ghost use Rattle.adf_block.specs.Layout.{long_byte, protection_long, comment_byte, date_long, name_byte};
+ghost use Rattle.adf_block.specs.declared.layout.TheConstants.{PROTECTION, COMMENT_BYTE, DATE, NAME_BYTE};
+ghost use Rattle.adf_block.specs.Image.{long_byte};
 ghost use Rattle.ados_model.specs.Tree.{Tree};
 ghost use Rattle.ados_model.specs.Stands.{Stands};
 ghost use Rattle.ados_model.specs.Keys.{HasEntryKey};
 ghost use Rattle.ados_model.specs.Faults.{root_of};
 ghost use Rattle.ados_change.specs.NewBlocks.{KeepsRest};
-ghost use Rattle.ados_model.specs.Change.{disk_renamed, with_comment, with_date, with_protection};
+ghost use Rattle.ados_model.specs.Edits.{disk_renamed, with_comment, with_date, with_protection};
 ghost use Rattle.ados_change.specs.Places.{OnlyRestamped};
 
 use crate::volume::Volume;
@@ -21,7 +22,7 @@ impl Volume {
         requires { HasEntryKey self.old.image key }
         ensures stands { (t : Tree) → Stands self.old.image t → Stands self.new.image (with_protection moment key bits.0 t) }
         ensures keeps { KeepsRest self.old.image self.new.image }
-        ensures rest { OnlyRestamped key (long_byte protection_long) (long_byte (protection_long + 1)) self.old.image self.new.image }
+        ensures rest { OnlyRestamped key (long_byte PROTECTION) (long_byte (PROTECTION + 1)) self.old.image self.new.image }
         ensures validated { self.new.was_validated ≡ self.old.was_validated }
     {
         set_protection(&mut self.image, key, bits, moment);
@@ -33,7 +34,7 @@ impl Volume {
         requires { HasEntryKey self.old.image key }
         ensures stands { (t : Tree) → Stands self.old.image t → Stands self.new.image (with_comment moment key comment t) }
         ensures keeps { KeepsRest self.old.image self.new.image }
-        ensures rest { OnlyRestamped key comment_byte (comment_byte + 1 + length comment) self.old.image self.new.image }
+        ensures rest { OnlyRestamped key COMMENT_BYTE (COMMENT_BYTE + 1 + length comment) self.old.image self.new.image }
         ensures validated { self.new.was_validated ≡ self.old.was_validated }
     {
         set_comment(&mut self.image, key, &comment, moment);
@@ -45,7 +46,7 @@ impl Volume {
         requires { HasEntryKey self.old.image key }
         ensures stands { (t : Tree) → Stands self.old.image t → Stands self.new.image (with_date moment key date t) }
         ensures keeps { KeepsRest self.old.image self.new.image }
-        ensures rest { OnlyRestamped key (long_byte date_long) (long_byte (date_long + 3)) self.old.image self.new.image }
+        ensures rest { OnlyRestamped key (long_byte DATE) (long_byte (DATE + 3)) self.old.image self.new.image }
         ensures validated { self.new.was_validated ≡ self.old.was_validated }
     {
         set_date(&mut self.image, key, date, moment);
@@ -56,7 +57,7 @@ impl Volume {
     pub fn rename_disk(&mut self, name: Name, moment: Date3)
         ensures stands { (t : Tree) → Stands self.old.image t → Stands self.new.image (disk_renamed moment name t) }
         ensures keeps { KeepsRest self.old.image self.new.image }
-        ensures rest { OnlyRestamped (root_of self.old.image) name_byte (name_byte + 1 + length name) self.old.image self.new.image }
+        ensures rest { OnlyRestamped (root_of self.old.image) NAME_BYTE (NAME_BYTE + 1 + length name) self.old.image self.new.image }
         ensures validated { self.new.was_validated ≡ self.old.was_validated }
     {
         rename_disk(&mut self.image, &name, moment);

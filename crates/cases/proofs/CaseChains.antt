@@ -1,10 +1,9 @@
 -- If the image stands for a tree, the hash chains of a directory are lawful. An entry that is removed from them may be
 -- inserted again.
-use Rattle.std.proofs.Common.{◌≡◌, ℕ, ◌+◌, Bool, true, false, cond, not, ◌==◌, inl, inr, List, [], ◌∷◌, filter, Contains, Option, Some, refl, sym, ◌∙◌, subst, eq-eqb}
+use Rattle.std.proofs.Common.{◌≡◌, ℕ, ◌+◌, List, ◌∷◌, Contains, Option, Some, sym, subst}
 use Rattle.std.proofs.lemmas.List.Elements.{Contains-append_right}
-use Rattle.std.proofs.lemmas.Bool.{false≢true}
 use Rattle.adf_block.specs.Image.{block_count}
-use Rattle.adf_block.specs.Layout.{first_slot}
+use Rattle.adf_block.specs.declared.layout.TheConstants.{FIRST_SLOT}
 use Rattle.adf_block.proofs.Frames.{same_count}
 use Rattle.ados_chain.specs.Chains.{HasChains, InChains, IsEntryBlock, LawfulChains, name_at, slot_at, without}
 use Rattle.ados_chain.specs.Links.{IsLink}
@@ -14,10 +13,11 @@ use Rattle.ados_chain.specs.Relinks.{AtLinks, CanInsert, CanUnlink, Unlinks, lin
 use Rattle.ados_chain.proofs.Chaining.{entry-kept}
 use Rattle.ados_chain.proofs.Changes.{slot-small, slot_at-small}
 use Rattle.ados_chain.proofs.Framing.{link_long-is, name-kept}
-use Rattle.ados_model.proofs.KeyLists.{Contains-cases, Contains-here, Contains-nil, is_not}
+use Rattle.ados_model.proofs.KeyLists.{Contains-here}
 use Rattle.ados_model.specs.Stands.{in_slot}
 use Rattle.ados_model.specs.Keys.{HasDirectory, HasTree}
 use Rattle.ados_volume.proofs.Looking.{chains_of}
+use Rattle.ados_change.proofs.Entering.{Contains-left}
 
 pub has_chains : (image : List ℕ) (dir : ℕ) → HasTree image → HasDirectory image dir → HasChains image dir
 has_chains image dir (t, s) directory = (in_slot t dir, chains_of image t s dir (directory t s))
@@ -33,34 +33,25 @@ can_unlink image dir name key found (chains, h) finds is =
       listed = (slot name, slot-small name, subst (λ (xs : List ℕ). Contains xs key) (sym first.split) (Contains-append_right first.front (key ∷ first.back) key (Contains-here key first.back)));
     }
 
--- a removed key is not in the rest
-left_out : (key : ℕ) (xs : List ℕ) → ¬ Contains (filter (is_not key) xs) key
-left_out key [] = Contains-nil key
-left_out key (x ∷ xs) = go (x == key) refl (left_out key xs)
-  where
-    go : (b : Bool) → (x == key) ≡ b → ¬ Contains (filter (is_not key) xs) key → ¬ Contains (cond (not b) (x ∷ filter (is_not key) xs) (filter (is_not key) xs)) key
-    go true e below m = below m
-    go false e below m = elim (Contains-cases x (filter (is_not key) xs) key m) [ inl same ↦ false≢true (sym e ∙ eq-eqb x key same) | inr n ↦ below n ]
-
 module _ (old new : List ℕ) (dir key : ℕ) (chains : ℕ → List ℕ) (h : LawfulChains old dir chains) (listed : InChains chains key) (u : Unlinks dir key chains old new) where
   was : IsEntryBlock old dir key
   was = h.entry listed.0 key listed.1 listed.2
 
-  at : IsLink (link_long (first_slot + slot_at old key) u.front)
+  at : IsLink (link_long (FIRST_SLOT + slot_at old key) u.front)
   at = link_long-is (slot_at old key) u.front (slot_at-small old key)
 
   name : name_at new key ≡ name_at old key
-  name = name-kept (link_block dir u.front) (link_long (first_slot + slot_at old key) u.front) key old new at u.relinks.rest key was.inside.1 was.name
+  name = name-kept (link_block dir u.front) (link_long (FIRST_SLOT + slot_at old key) u.front) key old new at u.relinks.rest key was.inside.1 was.name
 
   count : block_count new ≡ block_count old
-  count = same_count (AtLinks (link_block dir u.front) (link_long (first_slot + slot_at old key) u.front) key) old new u.relinks.rest
+  count = same_count (AtLinks (link_block dir u.front) (link_long (FIRST_SLOT + slot_at old key) u.front) key) old new u.relinks.rest
 
   put_back : CanInsert new dir key
   put_back = record {
     chains = without chains key;
     lawful = u.lawful;
     entry = entry-kept old new dir key count name was;
-    absent = λ there. left_out key (chains there.0) there.2;
+    absent = λ there. Contains-left key (chains there.0) there.2;
   }
 
 -- .. and inserted again

@@ -8,7 +8,7 @@ use crate::fixtures::{FLOPPY, work};
 use crate::on_volume::expect;
 use crate::rows::{Came, came_of, cut, long_of, parts};
 use adf_block::Image;
-use adf_block::layout::{FIRST_SLOT, NEXT_IN_CHAIN, SUM};
+use adf_block::layout::{CHECKSUM, FIRST_SLOT, NEXT_IN_CHAIN};
 use ados_chain::{Next, after, find, insert_last, is_empty, unlink};
 use ados_name::Name;
 use ados_volume::Volume;
@@ -20,10 +20,10 @@ use std::test::Fail;
 fn three_directories(alloc: Global) -> Result<Volume, Fail> {
     let mut image = work(alloc, FLOPPY)?.into_image();
     let root = [(FIRST_SLOT + 6, 10), (FIRST_SLOT + 7, 12)];
-    settle(&mut image, 880, SUM, &root);
+    settle(&mut image, 880, CHECKSUM, &root);
     settle(&mut image, 881, 0, &[(1, 0xffff_f8ff)]);
     put_directory(&mut image, 10, 880, 0x0141_0000);
-    settle(&mut image, 10, SUM, &[(NEXT_IN_CHAIN, 11)]);
+    settle(&mut image, 10, CHECKSUM, &[(NEXT_IN_CHAIN, 11)]);
     put_directory(&mut image, 11, 880, 0x0244_5000);
     put_directory(&mut image, 12, 880, 0x0142_0000);
     Ok(checked(alloc, image)?)

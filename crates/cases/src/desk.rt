@@ -1,5 +1,5 @@
 //! A handler that is asked once more if it answers out of memory.
-ghost use Rattle.adf_block.specs.Image.{IsSize};
+ghost use Rattle.adf_block.specs.Whole.{IsSize};
 
 use crate::fixtures::{START, work};
 use crate::rows::{cut, parts};

@@ -44,7 +44,7 @@ pub(crate) fn put_directory(image: &mut Image, block: u32, parent: u32, name: u3
         (PARENT, parent),
         (SECONDARY_TYPE, DIRECTORY_TYPE),
     ];
-    settle(image, block, SUM, &longs);
+    settle(image, block, CHECKSUM, &longs);
 }
 
 /// The volume `Work` of 160 blocks, with directories `A` in block 2 and `DP` in block 3. `A` holds a file `f` of 73
@@ -53,12 +53,12 @@ pub(crate) fn put_directory(image: &mut Image, block: u32, parent: u32, name: u3
 pub(crate) fn filled(alloc: Global, format: Format) -> Result<Image, Fail> {
     let mut image = work(alloc, 160)?.into_image();
     let root = [(BITMAP_FLAG, 0), (FIRST_SLOT + 6, 2)];
-    settle(&mut image, 80, SUM, &root);
+    settle(&mut image, 80, CHECKSUM, &root);
     put_directory(&mut image, 2, 80, 0x0141_0000);
     settle(
         &mut image,
         2,
-        SUM,
+        CHECKSUM,
         &[(NEXT_IN_CHAIN, 3), (FIRST_SLOT + 11, 4)],
     );
     put_directory(&mut image, 3, 80, 0x0244_5000);
@@ -83,13 +83,13 @@ fn put_header(image: &mut Image, size: u32) {
         (OWN_KEY, 4),
         (POINTER_COUNT, TABLE_LONGS),
         (NEXT_DATA, 5),
-        (SIZE, size),
+        (FILE_SIZE, size),
         (NAME, 0x0166_0000),
         (PARENT, 2),
         (NEXT_EXTENSION, 77),
         (SECONDARY_TYPE, FILE_TYPE),
     ];
-    settle(image, 4, SUM, &header);
+    settle(image, 4, CHECKSUM, &header);
     let extension = [
         (PRIMARY_TYPE, LIST_TYPE),
         (OWN_KEY, 77),
@@ -98,7 +98,7 @@ fn put_header(image: &mut Image, size: u32) {
         (PARENT, 4),
         (SECONDARY_TYPE, FILE_TYPE),
     ];
-    settle(image, 77, SUM, &extension);
+    settle(image, 77, CHECKSUM, &extension);
 }
 
 /// Writes the fields of the file's data blocks in OFS.
@@ -116,6 +116,6 @@ fn put_data(image: &mut Image) {
             (HELD, if i == 72 { 1 } else { OFS_ROOM }),
             (NEXT_DATA, next),
         ];
-        settle(image, block, SUM, &fields);
+        settle(image, block, CHECKSUM, &fields);
     }
 }

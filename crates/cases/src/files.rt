@@ -9,7 +9,7 @@ use crate::fixtures::{FLOPPY, work};
 use crate::on_volume::expect;
 use crate::rows::{cut, long_of, parts};
 use adf_block::Image;
-use adf_block::layout::{FILE_TYPE, SUM};
+use adf_block::layout::{CHECKSUM, FILE_TYPE};
 use ados_data::{blocks_of, extend, format_of, read_at, write_at};
 use ados_map::count_free;
 use ados_name::PathText;
@@ -22,7 +22,7 @@ use std::test::Fail;
 /// `0123`, 512 to 515 are `4567`, and 596 to 599 are `89AB`. The bytes after the last one do not belong to the file.
 fn file_of_600_bytes(alloc: Global) -> Result<Volume, Fail> {
     let mut image = work(alloc, FLOPPY)?.into_image();
-    settle(&mut image, 880, SUM, &[(17, 2)]);
+    settle(&mut image, 880, CHECKSUM, &[(17, 2)]);
     settle(&mut image, 881, 0, &[(1, 0xffff_fff8)]);
     put_directory(&mut image, 2, 880, 0x0166_0000);
     let file = [
@@ -33,7 +33,7 @@ fn file_of_600_bytes(alloc: Global) -> Result<Volume, Fail> {
         (81, 600),
         (127, FILE_TYPE),
     ];
-    settle(&mut image, 2, SUM, &file);
+    settle(&mut image, 2, CHECKSUM, &file);
     put(&mut image, 3, &[(127, 0x3031_3233)]);
     put(
         &mut image,

@@ -1,6 +1,6 @@
 //! Handlers over a blank volume `Work`.
 ghost use Rattle.std.specs.Prelude.{◌≡◌, false, IfOk};
-ghost use Rattle.adf_block.specs.Image.{IsSize};
+ghost use Rattle.adf_block.specs.Whole.{IsSize};
 
 use adf_block::Format;
 use ados_handler::Handler;

@@ -4,7 +4,7 @@
 //! call answers out of memory, the test checks what the call left and repeats it. If the growth was one of the test
 //! itself, the test ends with the error out of memory.
 ghost use Rattle.std.specs.Prelude.{◌≤◌};
-ghost use Rattle.adf_block.specs.Image.{IsSize};
+ghost use Rattle.adf_block.specs.Whole.{IsSize};
 
 use crate::desk::{ENTRIES, expect_hold, handler_of, serve_rows};
 use crate::drawn::{put, put_directory, settle};
@@ -12,7 +12,7 @@ use crate::ends_tests::{BATCH_REFUSED, GATHER_REFUSED, PORT_REFUSED, expect};
 use crate::fixtures::{FLOPPY, START, blank_handler, work};
 use crate::steps::{Got, steps_of, stray};
 use adf_block::Image;
-use adf_block::layout::{BITMAP_FLAG, FIRST_SLOT, SUM};
+use adf_block::layout::{BITMAP_FLAG, CHECKSUM, FIRST_SLOT};
 use adf_script::{TryFault, run_script};
 use ados_handler::Handler;
 use ados_name::Date3;
@@ -57,7 +57,7 @@ fn refused_blank(rt: HostRuntime) -> Result<(), Fail> {
 /// block is 81. This many names make three levels of the sorted set in which the check keeps them.
 fn deep(alloc: Global, flag: u32) -> Result<Image, AllocError> {
     let mut image = work(alloc, 160)?.into_image();
-    settle(&mut image, 80, SUM, &[(BITMAP_FLAG, flag)]);
+    settle(&mut image, 80, CHECKSUM, &[(BITMAP_FLAG, flag)]);
     put(
         &mut image,
         81,
@@ -66,7 +66,7 @@ fn deep(alloc: Global, flag: u32) -> Result<Image, AllocError> {
     let mut holder = 80;
     for block in 2..160 {
         if block != 80 && block != 81 {
-            settle(&mut image, holder, SUM, &[(FIRST_SLOT + 9, block)]);
+            settle(&mut image, holder, CHECKSUM, &[(FIRST_SLOT + 9, block)]);
             put_directory(&mut image, block, holder, 0x0164_0000);
             holder = block;
         }

@@ -14,10 +14,10 @@ use std::test::Fail;
 fn small_volume(alloc: Global) -> Result<Image, AllocError> {
     let mut image = work(alloc, 16)?.into_image();
     put(&mut image, 0, &[(KIND, 0x444f_5300)]);
-    settle(&mut image, 8, SUM, &[(FIRST_SLOT + 6, 10)]);
+    settle(&mut image, 8, CHECKSUM, &[(FIRST_SLOT + 6, 10)]);
     put_directory(&mut image, 10, 8, 0x0141_0000);
     let behind = [(NEXT_IN_CHAIN, 11), (FIRST_SLOT + 11, 15)];
-    settle(&mut image, 10, SUM, &behind);
+    settle(&mut image, 10, CHECKSUM, &behind);
     put_directory(&mut image, 15, 10, 0x0166_0000);
     put_directory(&mut image, 11, 8, 0x0244_5000);
     let file = [(FIRST_POINTER, 13), (NEXT_EXTENSION, 12)];
@@ -26,7 +26,7 @@ fn small_volume(alloc: Global) -> Result<Image, AllocError> {
         11,
         &[(POINTER_COUNT, 1), (SECONDARY_TYPE, FILE_TYPE)],
     );
-    settle(&mut image, 11, SUM, &file);
+    settle(&mut image, 11, CHECKSUM, &file);
     let extension = [
         (FIRST_POINTER, 14),
         (PARENT, 11),
@@ -37,12 +37,12 @@ fn small_volume(alloc: Global) -> Result<Image, AllocError> {
         12,
         &[(PRIMARY_TYPE, LIST_TYPE), (OWN_KEY, 12), (POINTER_COUNT, 1)],
     );
-    settle(&mut image, 12, SUM, &extension);
+    settle(&mut image, 12, CHECKSUM, &extension);
     for block in 13..15 {
         settle(
             &mut image,
             block,
-            SUM,
+            CHECKSUM,
             &[(PRIMARY_TYPE, DATA_TYPE), (OWN_KEY, 11)],
         );
     }

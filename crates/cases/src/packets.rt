@@ -35,78 +35,31 @@ size 1 0 1 = 1022 3
 other -3 = -3 1";
 
 /// The number of fields of a packet.
+#[rattlefmt::skip]
 fn fields_of(packet: &Packet) -> u32 {
     match packet {
         Packet::Die | Packet::DiskInfo => 0,
         Packet::RenameDisk { name: _ }
-        | Packet::FreeLock { lock: _ }
-        | Packet::CopyDir { lock: _ }
-        | Packet::ExamineObject { lock: _ }
-        | Packet::Info { lock: _ }
-        | Packet::Parent { lock: _ }
-        | Packet::End { handle: _ }
-        | Packet::Other { action: _ } => 1,
-        Packet::DeleteObject { lock: _, path: _ }
-        | Packet::CreateDir { lock: _, path: _ }
-        | Packet::ExamineNext { lock: _, key: _ }
-        | Packet::SameLock {
-            first: _,
-            second: _,
-        }
-        | Packet::Read {
-            handle: _,
-            buffer: _,
-        }
-        | Packet::Write {
-            handle: _,
-            bytes: _,
-        }
-        | Packet::FindUpdate { lock: _, path: _ }
-        | Packet::FindInput { lock: _, path: _ }
+        | Packet::FreeLock { lock: _ } | Packet::CopyDir { lock: _ } | Packet::ExamineObject { lock: _ }
+        | Packet::Info { lock: _ } | Packet::Parent { lock: _ }
+        | Packet::End { handle: _ } | Packet::Other { action: _ } => 1,
+        Packet::DeleteObject { lock: _, path: _ } | Packet::CreateDir { lock: _, path: _ }
+        | Packet::ExamineNext { lock: _, key: _ } | Packet::SameLock { first: _, second: _ }
+        | Packet::Read { handle: _, buffer: _ } | Packet::Write { handle: _, bytes: _ }
+        | Packet::FindUpdate { lock: _, path: _ } | Packet::FindInput { lock: _, path: _ }
         | Packet::FindOutput { lock: _, path: _ } => 2,
         _ => more_fields_of(packet),
     }
 }
 
 /// The number of fields of a packet with more than two.
+#[rattlefmt::skip]
 fn more_fields_of(packet: &Packet) -> u32 {
     match packet {
-        Packet::LocateObject {
-            lock: _,
-            path: _,
-            mode: _,
-        }
-        | Packet::SetProtect {
-            lock: _,
-            path: _,
-            bits: _,
-        }
-        | Packet::SetComment {
-            lock: _,
-            path: _,
-            comment: _,
-        }
-        | Packet::SetDate {
-            lock: _,
-            path: _,
-            date: _,
-        }
-        | Packet::Seek {
-            handle: _,
-            offset: _,
-            mode: _,
-        }
-        | Packet::SetFileSize {
-            handle: _,
-            offset: _,
-            mode: _,
-        } => 3,
-        Packet::RenameObject {
-            from_lock: _,
-            from: _,
-            to_lock: _,
-            to: _,
-        } => 4,
+        Packet::LocateObject { lock: _, path: _, mode: _ } | Packet::SetProtect { lock: _, path: _, bits: _ }
+        | Packet::SetComment { lock: _, path: _, comment: _ } | Packet::SetDate { lock: _, path: _, date: _ }
+        | Packet::Seek { handle: _, offset: _, mode: _ } | Packet::SetFileSize { handle: _, offset: _, mode: _ } => 3,
+        Packet::RenameObject { from_lock: _, from: _, to_lock: _, to: _ } => 4,
         _ => 0,
     }
 }

@@ -27,18 +27,22 @@ fn expect<R: Threads + Wait + Abort + Copy + Send + Drop + 'static>(
     Ok(())
 }
 
-#[test]
-fn four_threads_put(rt: HostRuntime) -> Result<(), Fail> {
-    let plan = Plan {
-        clients: 4,
-        ring: 8,
-        puts: 1_000,
+/// A race without a DIE, whose clients take no replies.
+fn puts_only(clients: usize, ring: usize, puts: usize) -> Plan {
+    Plan {
+        clients,
+        ring,
+        puts,
         die_at: None,
         takes: false,
-    };
+    }
+}
+
+#[test]
+fn four_threads_put(rt: HostRuntime) -> Result<(), Fail> {
     let wanted =
         "alive, untaken 1 1-1000 0 209, untaken 2 1-1000 0 209, untaken 3 1-1000 0 209, untaken 4 1-1000 0 209";
-    expect(&rt, rt.alloc(), plan, wanted)
+    expect(&rt, rt.alloc(), puts_only(4, 8, 1_000), wanted)
 }
 
 /// Each client puts all its packets before it takes a reply, so replies wait beside a ring of one place until a batch
@@ -46,11 +50,8 @@ fn four_threads_put(rt: HostRuntime) -> Result<(), Fail> {
 #[test]
 fn put_ahead(rt: HostRuntime) -> Result<(), Fail> {
     let plan = Plan {
-        clients: 2,
-        ring: 1,
-        puts: 100,
-        die_at: None,
         takes: true,
+        ..puts_only(2, 1, 100)
     };
     expect(&rt, rt.alloc(), plan, "alive, untaken 1, untaken 2")
 }
@@ -60,11 +61,8 @@ fn put_ahead(rt: HostRuntime) -> Result<(), Fail> {
 #[test]
 fn racing_die(rt: HostRuntime) -> Result<(), Fail> {
     let plan = Plan {
-        clients: 4,
-        ring: 8,
-        puts: 1_000,
         die_at: Some(500),
-        takes: false,
+        ..puts_only(4, 8, 1_000)
     };
     let server = Placed {
         server: blank_handler(rt.alloc())?,

@@ -1,7 +1,7 @@
 -- Dates and times of a host.
 use Rattle.std.proofs.Common.{◌≡◌, ◌+◌, ◌*◌, ◌<◌, ◌≤◌, ⊎_elim, arith}
 use Rattle.std.proofs.lemmas.Bool.{cases_lt}
-use Rattle.ados_name.specs.declared.Date3.{Date3}
+use Rattle.ados_name.specs.declared.stamp.Date3.{Date3}
 use Rattle.host_trees.specs.Dates.{ticks_of, first_ticks, last_day, nanos_of, IsWithinDay, IsDateAt}
 
 -- a number of ticks belongs to one date

@@ -6,10 +6,7 @@ use Rattle.adf_text.specs.HostNames.{IsHostName}
 use Rattle.host_trees.specs.Notes.{note_of}
 use Rattle.host_trees.specs.Paths.{IsBelow, below}
 use Rattle.host_trees.specs.Paths.IsBelow.{one, more}
-
--- neither NUL nor `/`
-abbrev IsPlain : ℕ → Type 0
-IsPlain c = (c ≢ 0) × (c ≢ 47)
+use Rattle.adf_text.proofs.HostLemmas.{IsPlain}
 
 ending_plain : All IsPlain (codes ".uaem")
 ending_plain =

@@ -1,6 +1,6 @@
 -- Dates as times of a host, in nanoseconds since 1970, and the way back.
 use Rattle.std.specs.Prelude.{◌≡◌, ℕ, ◌+◌, ◌*◌, ◌<◌, ◌≤◌}
-use Rattle.ados_name.specs.declared.Date3.{Date3}
+use Rattle.ados_name.specs.declared.stamp.Date3.{Date3}
 
 -- the ticks from 1 January 1978 to a date
 abbrev pub ticks_of : Date3 → ℕ

@@ -69,8 +69,6 @@ impl Display for PassedOver {
 pub enum PassedWhy {
     #[error("is a symbolic link to a directory")]
     LinkToDirectory,
-    #[error("is a symbolic link that leads nowhere")]
-    DeadLink,
     #[error("is neither a file nor a directory")]
     NeitherKind,
     #[error("belongs to no file")]
@@ -124,8 +122,9 @@ enum Look {
 
 /// The files and directories that these arguments name, with everything below them.
 ///
-/// A symbolic link to a regular file counts as that file. Any other link, and anything that is neither a file nor a
-/// directory, is skipped. A file whose name ends in `.uaem` is the note of the file beside it, and not an entry.
+/// A symbolic link to a regular file counts as that file. One that leads nowhere is a fault, as a path without a file
+/// is. Any other link, and anything that is neither a file nor a directory, is skipped. A file whose name ends in
+/// `.uaem` is the note of the file beside it, and not an entry.
 pub fn host_tree<R: Files>(rt: &R, alloc: Global, words: &[&str]) -> Result<HostTree, WalkFault> {
     let mut tree = HostTree {
         entries: Vec::new(alloc),
@@ -222,7 +221,7 @@ fn look_at<R: Files>(rt: &R, alloc: Global, path: &str) -> Result<Look, WalkFaul
         Ok(behind) if behind.is_file() => Ok(Look::File(behind)),
         Ok(behind) if behind.is_dir() => Ok(Look::Other(PassedWhy::LinkToDirectory)),
         Ok(_) => Ok(Look::Other(PassedWhy::NeitherKind)),
-        Err(_) => Ok(Look::Other(PassedWhy::DeadLink)),
+        Err(error) => Err(read_fault(alloc, path, error)),
     }
 }
 

@@ -4,7 +4,7 @@ ghost use Rattle.host_trees.specs.Writing.{MayStand};
 
 use crate::dates::host_time;
 use crate::paths::{HostPath, target_path};
-use adf_host::{OwnedFile, ReplaceFault, replace_found};
+use adf_host::{OwnedFile, ReplaceFault, refuse_length, replace_found};
 use ados_name::Date3;
 use std::alloc::{AllocError, Global};
 use std::fmt::{Display, Formatter};
@@ -69,7 +69,7 @@ pub enum WriteWhy {
     #[error("would be written twice")]
     Twice,
     #[error("cannot be written: {0}")]
-    Host(Error),
+    Host(#[from] Error),
     #[error("{0}")]
     Replace(ReplaceFault),
     #[error("cannot be written: there is not enough memory")]
@@ -79,12 +79,6 @@ pub enum WriteWhy {
 impl From<AllocError> for WriteWhy {
     fn from(_error: AllocError) -> WriteWhy {
         WriteWhy::Memory
-    }
-}
-
-impl From<Error> for WriteWhy {
-    fn from(error: Error) -> WriteWhy {
-        WriteWhy::Host(error)
     }
 }
 
@@ -336,6 +330,7 @@ fn write_file<R: Files>(
 where
     R::File: OwnedFile,
 {
+    refuse_length(rt, bytes.len() as u64)?;
     match File::create_new(rt, path) {
         Ok(file) => {
             let done = fill_new(file, bytes, time);

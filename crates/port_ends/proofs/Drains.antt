@@ -4,14 +4,10 @@ use Rattle.std.proofs.lemmas.List.{map-append}
 use Rattle.port_history.specs.declared.step.Reply.{Reply}
 use Rattle.port_history.specs.Lawful.{numbered}
 use Rattle.port_ends.specs.Gathering.{answers}
+use Rattle.port_history.proofs.Replies.{numbered-append}
 
 pub count_more : {X : Type 0} (past past' : List X) (e : X) (n : ℕ) → past' ≡ past ++ e ∷ [] → n ≡ length past → n + 1 ≡ length past'
 count_more past past' e n is count = ap (λ (k : ℕ). k + 1) count ∙ (sym (length-append past (e ∷ [])) ∙ ap (λ l. length l) (sym is))
-
-numbered_append : {A : Type 0} (n : ℕ) (xs ys : List A) → numbered n (xs ++ ys) ≡ numbered n xs ++ numbered (n + length xs) ys
-numbered_append n [] ys = ap (λ (k : ℕ). numbered k ys) (let z : n ≡ n + 0 = omega arith in z)
-numbered_append n (x ∷ xs) ys =
-    ap (λ l. record { number = n; answer = x } ∷ l) (numbered_append (n + 1) xs ys ∙ ap (λ (k : ℕ). numbered (n + 1) xs ++ numbered k ys) (let z : n + 1 + length xs ≡ n + length (x ∷ xs) = omega arith in z))
 
 module _ {M A : Type 0} where
   length-answers : (xs : List (M × A)) → length (answers xs) ≡ length xs
@@ -21,7 +17,7 @@ module _ {M A : Type 0} where
   pub numbered_answers : (n : ℕ) (xs ys : List (M × A)) → numbered n (answers (xs ++ ys)) ≡ numbered n (answers xs) ++ numbered (n + length xs) (answers ys)
   numbered_answers n xs ys =
       ap (λ l. numbered n l) (map-append (λ (r : M × A). r.1) xs ys)
-      ∙ (numbered_append n (answers xs) (answers ys) ∙ ap (λ (k : ℕ). numbered n (answers xs) ++ numbered (n + k) (answers ys)) (length-answers xs))
+      ∙ (numbered-append n (answers xs) (answers ys) ∙ ap (λ (k : ℕ). numbered n (answers xs) ++ numbered (n + k) (answers ys)) (length-answers xs))
 
   pub drain_more : (n c num : ℕ) (all rest rest' : List (M × A)) (items0 items items' : List (Reply A)) (xs : List (M × A)) (x : M × A)
       → all ≡ xs ++ rest → length xs ≡ c → items ≡ items0 ++ numbered (n + 1) (answers xs) → rest ≡ x ∷ rest' → num ≡ n + c → items' ≡ items ++ record { number = num + 1; answer = x.1 } ∷ []

@@ -5,7 +5,7 @@ use Rattle.std.proofs.lemmas.Option.{slice_get_within, slice_get-get_or, get_or_
 use Rattle.std.proofs.Math.ListN.{get_or}
 use native.Mathlib.Decide.{ℕ_discrete}
 use mathlib.Core.Logic.{dite}
-use Rattle.std.proofs.lemmas.List.Sums.{sum_by-set, sum_by_push, sum_by-cons, sum_by-take-le}
+use Rattle.std.proofs.lemmas.List.Sums.{sum_by-set, sum_by_push, sum_by-cons}
 use Rattle.port_history.specs.History.{packets_by}
 use Rattle.port_ends.specs.steps.Rule.{total}
 use Rattle.port_ends.specs.Rings.{OutView, Each, EachLooked, EachOffers, EachOffersFirst, EachStaysPosted, Offers, OffersFirst, StaysPosted, all_of, waiting_count}
@@ -53,9 +53,6 @@ module _ {T : Type 0} where
   abbrev pub DoneBelow : (OutView T → OutView T → Type 0) → ℕ → ℕ → OutView T → OutView T → Type 0
   DoneBelow R i k old new = (k < i → R old new) × (i ≤ k → new ≡ old)
 
-  pub none_done : (R : OutView T → OutView T → Type 0) (xs : List (OutView T)) → Each (DoneBelow R 0) xs xs
-  none_done R xs = (refl, λ k o e. (o, e, (λ l. absurd (omega (arith, l)), λ _. refl)))
-
   pub one_done : (R : OutView T → OutView T → Type 0) (xs ys : List (OutView T)) (i : ℕ) (o p : OutView T)
       → Each (DoneBelow R i) xs ys → i < length ys → o ≡ get_or ys i o → R o p → Each (DoneBelow R (i + 1)) xs (set ys i p)
   one_done R xs ys i o p h within at step = (
@@ -68,9 +65,6 @@ module _ {T : Type 0} where
         (λ (other : k ≢ i). (b.0, get_set_other ys i k p other ∙ b.1, (λ l. b.2.0 (omega (arith, other, l)), λ l. b.2.1 (omega (arith, l)))))
         (same_or_not k i),
   )
-
-  pub all_done : (R : OutView T → OutView T → Type 0) (xs ys : List (OutView T)) (n : ℕ) → length ys ≤ n → Each (DoneBelow R n) xs ys → Each (λ _ o p. R o p) xs ys
-  all_done R xs ys n whole h = (h.0, λ k o e. let a = h.1 k o e in let within = slice_get_within ys k a.0 a.1 in (a.0, a.1, a.2.0 (omega (arith, whole, within))))
 
   -- the first waiting replies were posted, in order
   abbrev pub Posts : OutView T → OutView T → Type 0
@@ -240,9 +234,6 @@ module _ {T : Type 0} where
         ap (λ (k : ℕ). k + length p.waiting) was ∙ (sym (sum_by_push f (take i xs) p) ∙ ap (λ l. waiting_count l) (sym (take_more_set xs i p within))),
         omega arith,
       )
-
-  pub waiting_take : (xs : List (OutView T)) (i : ℕ) → waiting_count (take i xs) ≤ waiting_count xs
-  waiting_take xs i = sum_by-take-le (λ (x : OutView T). length x.waiting) xs i
 
   -- no more replies wait than were sent
   pub waiting_few : (m : ℕ) (os : List (OutView T)) (sent : List (ℕ × T)) → ((k : ℕ) (o : OutView T) → slice_get os k ≡ Some o → all_of o ≡ packets_by (m + k + 1) sent)

@@ -5,15 +5,12 @@ use Rattle.port_ends.specs.declared.desk.Entry.{Entry}
 use Rattle.port_history.specs.History.{Serving, Run, last_server}
 use Rattle.port_history.specs.Lawful.{MeaningRun, AllAt}
 use Rattle.port_ends.specs.steps.Entries.{served_of}
+use Rattle.port_history.proofs.Serving.{last_server-append}
 
 -- a server that is alive later was alive before
 pub still_alive : (a b : Bool) → (a ≡ true → b ≡ true) → b ≡ false → a ≡ b
 still_alive true b h e = sym (h refl)
 still_alive false b h e = sym e
-
-last_append : {S : Type 0} (s : S) (ts us : List S) → last_server s (ts ++ us) ≡ last_server (last_server s ts) us
-last_append s [] us = refl
-last_append s (t ∷ ts) us = last_append t ts us
 
 module _ {S Q M A : Type 0} (gives : S → Q → M → S → A → Type 0) where
   run_append : (s : S) (xs ys : List (Serving Q M A)) (ts us : List S) → Run gives s xs ts → Run gives (last_server s ts) ys us → Run gives s (xs ++ ys) (ts ++ us)
@@ -32,7 +29,7 @@ module _ {S Q M A : Type 0} (gives : S → Q → M → S → A → Type 0) where
   meaning_append s t u xs ys h g = (
     h.0 ++ g.0,
     run_append s xs ys h.0 g.0 h.1 (subst (λ (v : S). Run gives v ys g.0) (sym h.2) g.1),
-    last_append s h.0 g.0 ∙ (ap (λ (v : S). last_server v g.0) h.2 ∙ g.2),
+    last_server-append s h.0 g.0 ∙ (ap (λ (v : S). last_server v g.0) h.2 ∙ g.2),
   )
 
   pub desk_step : (past past' : List (Entry S Q A M)) (e : Entry S Q A M) (s t u : S) → past' ≡ past ++ e ∷ [] → MeaningRun gives s (served_of past) t

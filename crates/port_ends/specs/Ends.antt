@@ -5,8 +5,8 @@ use Rattle.crossbeam_queue.specs.SegTies.{SegId}
 use Rattle.port_history.specs.declared.step.Reply.{Reply}
 use Rattle.port_history.specs.declared.step.PutRefused.{PutRefused}
 use Rattle.port_history.specs.declared.step.PutRefused.TheVariants.{Closed, NoRoom}
-use Rattle.port_history.specs.History.{ServerMeaning, Serving, packets_by, packets_of}
-use Rattle.port_history.specs.Lawful.{MeaningRun, AllAt}
+use Rattle.port_history.specs.History.{ServerMeaning, Serving, packets_by}
+use Rattle.port_history.specs.Lawful.{packets_of, MeaningRun, AllAt}
 use Rattle.port_ends.specs.Rings.{RingId, OutView, all_of, AreEmpty, EachStaysPosted, HavePlaces}
 
 -- a client's end: its port, mark and ring, its number, its put list, its taken list with time stamps, and whether it

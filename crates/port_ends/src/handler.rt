@@ -47,7 +47,7 @@ pub struct HandlerEnd<S: Server> {
 
 impl<S: Server> Model for HandlerEnd<S> {
     ghost use Rattle.std.specs.Prelude.{◌≡◌, ◌+◌, [], ℕ, length, Some, slice_get};
-    ghost use Rattle.port_history.specs.History.{packets_of};
+    ghost use Rattle.port_history.specs.Lawful.{packets_of};
     ghost use Rattle.port_ends.specs.Rings.{all_of};
     ghost use Rattle.port_ends.specs.Ends.{OfClients};
     ghost use Rattle.port_ends.specs.Ends.{HandlerView, replies_to};

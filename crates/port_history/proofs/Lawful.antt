@@ -6,8 +6,8 @@ use Rattle.std.specs.Option.{option_map}
 use Rattle.std.proofs.lemmas.List.{take-append-drop, length-replicate}
 use Rattle.std.proofs.lemmas.Option.{none-some, same_Some, slice_get_within}
 use Rattle.std.proofs.lemmas.Bool.Decides.{eqb_tells}
-use Rattle.port_history.specs.History.{ClientState, PortState, client_state, opening_port, Serving, packets_by, packets_of, answers_to, Event, events_of, packet_accepted, accepted_in, taken_in, taken_count, client_now, OutcomeFits, PutFits, PortHistory, served_by, server_by}
-use Rattle.port_history.specs.Lawful.{numbered, ClientLists, Lawful}
+use Rattle.port_history.specs.History.{ClientState, PortState, client_state, opening_port, Serving, packets_by, Event, events_of, packet_accepted, accepted_in, taken_in, taken_count, client_now, OutcomeFits, PutFits, PortHistory, server_by}
+use Rattle.port_history.specs.Lawful.{served_by, packets_of, answers_to, numbered, ClientLists, Lawful}
 use Rattle.port_history.specs.Lists.{ListsOf}
 use Rattle.port_history.specs.declared.step.Step.{Step}
 use Rattle.port_history.specs.declared.step.Step.TheVariants.{Put, Serve, Take}

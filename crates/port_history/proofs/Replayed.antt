@@ -7,8 +7,8 @@ use Rattle.std.proofs.lemmas.List.{append-nil, take_all, length-map, length-repl
 use Rattle.std.proofs.lemmas.List.Elements.{filter_map-append}
 use Rattle.std.proofs.lemmas.Option.{none-some, same_Some, slice_get-map, slice_get_past, slice_get_within}
 use Rattle.std.proofs.Math.Seq.{take-append_seam, drop-append_seam}
-use Rattle.port_history.specs.History.{ClientState, PortState, client_state, opening_port, Serving, packets_by, packets_of, answers_to, last_server, Event, events_of, packet_accepted, moment_served, reply_taken, accepted_in, moments_in, taken_in, served_count, taken_count, queue, client_now, PutFits, take_outcome, OutcomeFits, served_by, server_by, PortHistory}
-use Rattle.port_history.specs.Lawful.{numbered, ClientLists, Lawful}
+use Rattle.port_history.specs.History.{ClientState, PortState, client_state, opening_port, Serving, packets_by, last_server, Event, events_of, packet_accepted, moment_served, reply_taken, accepted_in, moments_in, taken_in, served_count, taken_count, queue, client_now, PutFits, take_outcome, OutcomeFits, server_by, PortHistory}
+use Rattle.port_history.specs.Lawful.{served_by, packets_of, answers_to, numbered, ClientLists, Lawful}
 use Rattle.port_history.specs.Lists.{ListsOf, HasHistory}
 use Rattle.port_history.specs.Laws.{ListsHaveAHistory}
 use Rattle.port_history.specs.declared.step.Step.{Step}

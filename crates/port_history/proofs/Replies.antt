@@ -5,8 +5,8 @@ use Rattle.std.proofs.lemmas.List.{append-nil, take_all, take-append-drop}
 use Rattle.std.proofs.lemmas.List.Elements.{filter_map-append}
 use Rattle.std.proofs.lemmas.Option.{none-some, same_Some}
 use Rattle.std.proofs.lemmas.Bool.Decides.{eqb_tells}
-use Rattle.port_history.specs.History.{ClientState, PortState, client_state, Serving, packets_by, answers_to, Event, events_of, reply_taken, taken_in, taken_count, served_count, served_by, server_by, take_outcome, OutcomeFits, PortHistory}
-use Rattle.port_history.specs.Lawful.{numbered}
+use Rattle.port_history.specs.History.{ClientState, PortState, client_state, Serving, packets_by, Event, events_of, reply_taken, taken_in, taken_count, served_count, server_by, take_outcome, OutcomeFits, PortHistory}
+use Rattle.port_history.specs.Lawful.{served_by, answers_to, numbered}
 use Rattle.port_history.specs.declared.step.Step.{Step}
 use Rattle.port_history.specs.declared.step.Step.TheVariants.{Put, Serve, Take}
 use Rattle.port_history.specs.declared.step.Reply.{Reply}

@@ -2,7 +2,8 @@
 use Rattle.std.proofs.Common.{◌≡◌, ◌≢◌, ℕ, suc, cond, List, [], ◌∷◌, ◌++◌, map, length, sym, ap, ◌∙◌, refl}
 use Rattle.std.proofs.lemmas.List.{map-append}
 use Rattle.std.proofs.lemmas.List.Elements.{filter-append}
-use Rattle.port_history.specs.History.{Serving, packets_by, answers_to, Run, last_server}
+use Rattle.port_history.specs.History.{Serving, packets_by, Run, last_server}
+use Rattle.port_history.specs.Lawful.{answers_to}
 use Rattle.port_history.proofs.Numbers.{eq_true, eq_false}
 
 pub run-length : {S Q M A : Type 0} (gives : S → Q → M → S → A → Type 0) (old : S) (served : List (Serving Q M A)) (servers : List S) → Run gives old served servers → length servers ≡ length served

@@ -1,10 +1,9 @@
 -- A port, the packets that its server has served, and the history of the port, defined by counts of the events before each
 -- step. A put appends its packet to the port's list and a serve removes the first one, as PutMsg and GetMsg do (ROM Kernel
 -- Manual, message ports). The last definitions are of a port after its server's death.
-use Rattle.std.specs.Prelude.{ℕ, ◌-◌, ◌==◌, if◌then◌else◌, List, [], slice_get, replicate, Option, None, ◌≡◌, ◌∷◌, map, filter, ◌⊎◌, ◌+◌, Bool, ◌++◌, length, take, drop, Some, MatchOption, true}
+use Rattle.std.specs.Prelude.{ℕ, ◌-◌, ◌==◌, if◌then◌else◌, List, [], slice_get, replicate, Option, option_map, None, ◌≡◌, ◌∷◌, map, filter, ◌⊎◌, ◌+◌, Bool, ◌++◌, length, take, drop, Some, MatchOption, true}
 use Rattle.std.specs.Bool.{MatchBool}
 use Rattle.std.specs.List.{filter_map}
-use Rattle.std.specs.Option.{option_map}
 use Rattle.port_history.specs.declared.step.Step.{Step}
 use Rattle.port_history.specs.declared.step.Step.TheVariants.{Put, Serve, Take}
 use Rattle.port_history.specs.declared.step.PutRefused.TheVariants.{Closed, NoRoom}
@@ -43,17 +42,7 @@ pub record Serving (Q M A : Type 0) : Type 0 where
 abbrev pub packets_by : {Q : Type 0} → ℕ → List (ℕ × Q) → List Q
 packets_by client packets = map (λ p. p.1) (filter (λ p. p.0 == client) packets)
 
-module _ {Q M A : Type 0} where
-  -- the served packets, each with its client
-  abbrev pub packets_of : List (Serving Q M A) → List (ℕ × Q)
-  packets_of served = map (λ s. (s.client, s.packet)) served
-
-  -- the answers to this client's packets, in order
-  abbrev pub answers_to : ℕ → List (Serving Q M A) → List A
-  answers_to client served = packets_by client (map (λ s. (s.client, s.answer)) served)
-
--- the meaning of a server: when it serves a packet with a time stamp, the old server may become the new one and give
--- this answer
+-- the meaning of a server: by a packet with a time stamp the old server may become the new one and give this answer
 abbrev pub ServerMeaning : Type 0 → Type 0 → Type 0 → Type 0 → Type 1
 ServerMeaning S Q M A = S → Q → M → S → A → Type 0
 
@@ -108,12 +97,9 @@ module _ {Q M A : Type 0} where
   abbrev pub taken_in : List (Event Q M A) → List (ℕ × Reply A)
   taken_in events = filter_map (λ e. reply_taken e.step e.outcome) events
 
-  -- the number of packets served in these events, of this client's packets accepted, and of its replies taken
+  -- the number of packets served in these events, and of this client's replies taken
   abbrev pub served_count : List (Event Q M A) → ℕ
   served_count events = length (moments_in events)
-
-  abbrev pub accepted_count : ℕ → List (Event Q M A) → ℕ
-  accepted_count client events = length (packets_by client (accepted_in events))
 
   abbrev pub taken_count : ℕ → List (Event Q M A) → ℕ
   taken_count client events = length (packets_by client (taken_in events))
@@ -125,17 +111,15 @@ queue opening before = opening.waiting ++ accepted_in before
 -- a client after these events, in which these packets were served
 abbrev pub client_now : {Q M A : Type 0} → List (Serving Q M A) → List (Event Q M A) → ℕ → ClientState A → ClientState A
 client_now served before number c = record {
-  accepted = c.accepted + accepted_count number before;
+  accepted = c.accepted + length (packets_by number (accepted_in before));
   taken = c.taken + taken_count number before;
-  untaken = drop (taken_count number before) (c.untaken ++ answers_to number served);
+  untaken = drop (taken_count number before) (c.untaken ++ packets_by number (map (λ s. (s.client, s.answer)) served));
 }
 
--- the outcome of a put by a client: closed exactly if the server is dead; otherwise accepted with the client's next
--- number, or no room
+-- the outcome of a put: closed exactly if the server is dead; otherwise accepted with the client's next number, or no room
 abbrev pub PutFits : {Q A : Type 0} → Bool → Q → ClientState A → Outcome Q A → Type 0
 PutFits died packet c outcome =
-    MatchBool died
-    (outcome ≡ Refused (Closed packet))
+    MatchBool died (outcome ≡ Refused (Closed packet))
     ((outcome ≡ Accepted (c.accepted + 1)) ⊎ (outcome ≡ Refused (NoRoom packet)))
 
 -- the outcome of a take: the client's first remaining reply with the next number, or nothing
@@ -146,20 +130,15 @@ take_outcome taken (answer ∷ answers) = Taken (record { number = taken + 1; an
 -- the outcome fits the state before the step: the packets served so far, whether the server was dead, and the events
 abbrev pub OutcomeFits : {S Q M A : Type 0} → PortState S Q A → List (Serving Q M A) → Bool → List (Event Q M A) → Step Q M → Outcome Q A → Type 0
 OutcomeFits opening served died before (Put client packet) outcome =
-    MatchOption (client_state opening.clients client)
-    (outcome ≡ NoClient (Some packet))
+    MatchOption (client_state opening.clients client) (outcome ≡ NoClient (Some packet))
     (λ c. PutFits died packet (client_now served before client c) outcome)
 OutcomeFits opening served died before (Serve moment) outcome =
     outcome ≡ (if length served == length (queue opening before) then Idle else Served)
 OutcomeFits opening served died before (Take client) outcome =
-    MatchOption (client_state opening.clients client)
-    (outcome ≡ NoClient None)
+    MatchOption (client_state opening.clients client) (outcome ≡ NoClient None)
     (λ c. outcome ≡ take_outcome (client_now served before client c).taken (client_now served before client c).untaken)
 
--- the packets served in the events so far, and the server after them
-abbrev pub served_by : {Q M A : Type 0} → List (Event Q M A) → List (Serving Q M A) → List (Serving Q M A)
-served_by before served = take (served_count before) served
-
+-- the server after these events
 abbrev pub server_by : {S Q M A : Type 0} → List (Event Q M A) → S → List S → S
 server_by before opening servers = last_server opening (take (served_count before) servers)
 
@@ -171,13 +150,13 @@ pub record PortHistory {S Q M A : Type 0} (gives : ServerMeaning S Q M A) (has_d
   pub servers : List S
   pub meaning : Run gives opening.server served servers
   -- the served packets are the first ones of the port, each with the time stamp of its serve
-  pub in_order : packets_of served ≡ take (length served) (queue opening (events_of steps outcomes))
+  pub in_order : map (λ s. (s.client, s.packet)) served ≡ take (length served) (queue opening (events_of steps outcomes))
   pub moments : map (λ s. s.moment) served ≡ moments_in (events_of steps outcomes)
   -- there is an outcome for each step, and it fits the state before it
   pub as_long : length outcomes ≡ length steps
   pub fits : (i : ℕ) (e : Event Q M A) → slice_get (events_of steps outcomes) i ≡ Some e
       → let before = take i (events_of steps outcomes)
-      in OutcomeFits opening (served_by before served) (has_died (server_by before opening.server servers)) before e.step e.outcome
+      in OutcomeFits opening (take (served_count before) served) (has_died (server_by before opening.server servers)) before e.step e.outcome
   -- the closing port: the server after the last packet, the packets not served, and the counts of each client
   pub closing_server : closing.server ≡ last_server opening.server servers
   pub closing_waiting : closing.waiting ≡ drop (length served) (queue opening (events_of steps outcomes))

@@ -1,7 +1,24 @@
 -- When the lists of a port's ends belong to one history.
-use Rattle.std.specs.Prelude.{◌≡◌, ℕ, List, [], ◌∷◌, ◌+◌, ◌≤◌, ◌++◌, length, slice_get, Some}
-use Rattle.port_history.specs.History.{Serving, packets_by, packets_of, answers_to, ServerMeaning, Run, last_server}
+use Rattle.std.specs.Prelude.{◌≡◌, ℕ, List, [], ◌∷◌, ◌+◌, ◌≤◌, ◌++◌, length, map, slice_get, Some, take}
+use Rattle.port_history.specs.History.{Event, Serving, accepted_in, packets_by, served_count, ServerMeaning, Run, last_server}
 use Rattle.port_history.specs.declared.step.Reply.{Reply}
+
+-- the packets served in these events
+abbrev pub served_by : {Q M A : Type 0} → List (Event Q M A) → List (Serving Q M A) → List (Serving Q M A)
+served_by before served = take (served_count before) served
+
+module _ {Q M A : Type 0} where
+  -- the served packets, each with its client
+  abbrev pub packets_of : List (Serving Q M A) → List (ℕ × Q)
+  packets_of served = map (λ s. (s.client, s.packet)) served
+
+  -- the answers to this client's packets, in order
+  abbrev pub answers_to : ℕ → List (Serving Q M A) → List A
+  answers_to client served = packets_by client (map (λ s. (s.client, s.answer)) served)
+
+  -- the number of this client's packets accepted in these events
+  abbrev pub accepted_count : ℕ → List (Event Q M A) → ℕ
+  accepted_count client events = length (packets_by client (accepted_in events))
 
 -- these packets may get these answers, and lead from the opening server to the closing one
 abbrev pub MeaningRun : {S Q M A : Type 0} → ServerMeaning S Q M A → S → List (Serving Q M A) → S → Type 0

@@ -3,46 +3,33 @@
 /// A step of a client or of the handler at a port.
 #[derive(Debug, PartialEq, Eq, Drop)]
 pub enum Step<Q, M> {
-    /// A client puts a packet, as with `PutMsg`.
-    Put { client: usize, packet: Q },
-    /// The handler serves the first waiting packet, as after `GetMsg`.
-    Serve { moment: M },
-    /// A client takes its first reply.
-    Take { client: usize },
+    Put { client: usize, packet: Q }, // A client puts a packet, as with `PutMsg`.
+    Serve { moment: M }, // The handler serves the first waiting packet, as after `GetMsg`.
+    Take { client: usize }, // A client takes its first reply.
 }
 
 /// A refused put. It returns the packet and changes nothing.
 #[derive(Debug, PartialEq, Eq, Drop)]
 pub enum PutRefused<Q> {
-    /// The server has died.
-    Closed(Q),
-    /// No memory is left for the packet or its reply, or a counter is at its maximum.
-    NoRoom(Q),
+    Closed(Q), // The server has died.
+    NoRoom(Q), // No memory is left for the packet or its reply, or a counter is at its maximum.
 }
 
 /// A reply, with the number of the client's packet.
 #[derive(Debug, PartialEq, Eq, Drop)]
 pub struct Reply<A> {
-    /// The number of the client's packet, from 1.
-    pub number: u64,
+    pub number: u64, // The number of the client's packet, from 1.
     pub answer: A,
 }
 
 /// The outcome of a step.
 #[derive(Debug, PartialEq, Eq, Drop)]
 pub enum Outcome<Q, A> {
-    /// The packet waits at the port. The number counts this client's accepted packets from 1.
-    Accepted(u64),
-    /// The packet was refused.
-    Refused(PutRefused<Q>),
-    /// A packet was served, and its reply is ready for the client.
-    Served,
-    /// No packet waits.
-    Idle,
-    /// The client's first reply that was not taken yet.
-    Taken(Reply<A>),
-    /// The client has no reply.
-    Nothing,
-    /// No client has this number. The packet of a put is returned.
-    NoClient(Option<Q>),
+    Accepted(u64), // It waits at the port. The number counts the client's accepted packets from 1.
+    Refused(PutRefused<Q>), // The packet was refused.
+    Served, // A packet was served, and its reply is ready for the client.
+    Idle, // No packet waits.
+    Taken(Reply<A>), // The client's first reply that was not taken yet.
+    Nothing, // The client has no reply.
+    NoClient(Option<Q>), // No client has this number. The packet of a put is returned.
 }

@@ -1,8 +1,9 @@
 -- A sound file in parts: its pointer blocks, its data blocks, and that all of these are distinct.
 use Rattle.std.specs.Prelude.{◌≡◌, ◌≢◌, ℕ, zero, suc, ◌-◌, ◌*◌, ◌<◌, ◌≤◌, min, List, length, slice_index}
-use Rattle.adf_block.specs.declared.Format.TheVariants.{Ofs}
-use Rattle.adf_block.specs.Image.{block_count, long, IsInside, pointer_count, file_size, format_of}
-use Rattle.adf_block.specs.Layout.{next_data, table_longs}
+use Rattle.adf_block.specs.declared.layout.Format.TheVariants.{Ofs}
+use Rattle.adf_block.specs.Image.{block_count, long, IsInside}
+use Rattle.adf_block.specs.Fields.{pointer_count, file_size, format_of}
+use Rattle.adf_block.specs.declared.layout.TheConstants.{TABLE_LONGS, NEXT_DATA}
 use Rattle.ados_model.specs.Tree.{data_count, extension_count}
 use Rattle.ados_model.specs.Stands.{HasExtension, HasOfsData}
 use Rattle.ados_model.specs.File.{pointer_block, data_block}
@@ -19,7 +20,7 @@ extensions_needed image file = extension_count (data_needed image file)
 pub record IsHolder (image : List ℕ) (file q block : ℕ) : Type 0 where
   pub inside : IsInside (block_count image) block
   pub fields : 0 < q → HasExtension image file block
-  pub counted : pointer_count image block ≡ min table_longs (data_needed image file - table_longs * q)
+  pub counted : pointer_count image block ≡ min TABLE_LONGS (data_needed image file - TABLE_LONGS * q)
 
 -- the header and the extension blocks have the right fields for their positions
 pub record HasHolders (image : List ℕ) (file : ℕ) : Type 0 where
@@ -30,7 +31,7 @@ pub record HasHolders (image : List ℕ) (file : ℕ) : Type 0 where
 pub record IsDataBlock (image : List ℕ) (file i before block : ℕ) : Type 0 where
   pub inside : IsInside (block_count image) block
   pub fields : format_of image ≡ Ofs → HasOfsData image file (file_size image file) i block
-  pub linked : format_of image ≡ Ofs → long image before next_data ≡ block
+  pub linked : format_of image ≡ Ofs → long image before NEXT_DATA ≡ block
 
 -- the block before data block i: the header, or the data block before it
 abbrev pub data_before : List ℕ → ℕ → ℕ → ℕ
@@ -40,7 +41,7 @@ data_before image file (suc i) = data_block image file i
 -- the data blocks have the right fields for their positions
 pub record HasData (image : List ℕ) (file : ℕ) : Type 0 where
   pub block : (i : ℕ) → i < data_needed image file → IsDataBlock image file i (data_before image file i) (data_block image file i)
-  pub ends : format_of image ≡ Ofs → long image (data_before image file (data_needed image file)) next_data ≡ 0
+  pub ends : format_of image ≡ Ofs → long image (data_before image file (data_needed image file)) NEXT_DATA ≡ 0
 
 -- the blocks are distinct
 abbrev pub AreOnce : List ℕ → Type 0

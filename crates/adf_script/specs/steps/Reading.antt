@@ -1,6 +1,6 @@
 -- Fields at the start of bytes.
 use Rattle.std.specs.Prelude.{◌≡◌, ℕ, ℤ, List, [], ◌∷◌, ◌++◌, Option, MatchOption}
-use Rattle.ados_name.specs.declared.Date3.{Date3}
+use Rattle.ados_name.specs.declared.stamp.Date3.{Date3}
 use Rattle.adf_script.specs.Pieces.{IsSplit}
 use Rattle.adf_script.specs.Grammar.{Field, Value, Number, Signed, Text, LongText, Zeros, SpellsFields}
 

@@ -1,6 +1,6 @@
 -- The words at the start of lines, and the packets of each.
 use Rattle.std.specs.Prelude.{◌≡◌, ℕ, ℤ, List, Option, codes, MatchOption}
-use Rattle.ados_name.specs.declared.Date3.{Date3}
+use Rattle.ados_name.specs.declared.stamp.Date3.{Date3}
 use Rattle.ados_model.specs.declared.packet.Packet.{Packet}
 use Rattle.ados_model.specs.declared.packet.Packet.TheVariants as packet
 use Rattle.adf_script.specs.declared.words.Word.{Word}

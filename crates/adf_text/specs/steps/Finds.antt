@@ -4,7 +4,7 @@ use Rattle.std.specs.Borrow.{Bor}
 use Rattle.std.specs.Fmt.{decimal}
 use Rattle.jiff.specs.Types.{Date}
 use Rattle.jiff.specs.Words.{date_text}
-use Rattle.ados_name.specs.declared.Date3.{Date3}
+use Rattle.ados_name.specs.declared.stamp.Date3.{Date3}
 use Rattle.ados_name.specs.CivilDay.{IsDaysAfterEpoch}
 use Rattle.ados_name.specs.Date.{civil_text}
 use Rattle.adf_text.specs.Dated.{IsStamp, StandsApart, BeginsWithDate}

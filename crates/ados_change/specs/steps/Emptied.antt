@@ -1,8 +1,9 @@
 -- An entry just before its removal.
 use Rattle.std.specs.Prelude.{◌≡◌, ◌≢◌, ℕ, ◌/◌, ◌<◌, List}
-use Rattle.adf_block.specs.Layout.{next_in_chain, sum_long, block_bytes}
-use Rattle.adf_block.specs.Image.{byte_at, HasFreeBit}
-use Rattle.ados_name.specs.declared.Date3.{Date3}
+use Rattle.adf_block.specs.declared.layout.TheConstants.{BLOCK_BYTES, CHECKSUM, NEXT_IN_CHAIN}
+use Rattle.adf_block.specs.Image.{byte_at}
+use Rattle.adf_block.specs.Whole.{HasFreeBit}
+use Rattle.ados_name.specs.declared.stamp.Date3.{Date3}
 use Rattle.ados_model.specs.Change.{removed}
 use Rattle.ados_model.specs.Faults.{InImage}
 use Rattle.ados_change.specs.NewBlocks.{IsLeftField, TakesNone}
@@ -23,12 +24,12 @@ Empties moment key old new = (t : Tree) → Stands old t → (u : Tree) × Stand
 
 -- the entry's own block is unchanged outside those fields
 abbrev pub KeepsEntry : ℕ → List ℕ → List ℕ → Type 0
-KeepsEntry key old new = (i : ℕ) → i < block_bytes → ¬ IsLeftField i → byte_at new key i ≡ byte_at old key i
+KeepsEntry key old new = (i : ℕ) → i < BLOCK_BYTES → ¬ IsLeftField i → byte_at new key i ≡ byte_at old key i
 
 -- no block is allocated and only this one is freed; blocks free afterwards are unchanged, this one except for its
 -- next-in-chain long and its checksum
 pub record GivesBack (key : ℕ) (old new : List ℕ) : Type 0 where
   pub none : TakesNone old new
   pub given : (block : ℕ) → InImage old block → block ≢ key → HasFreeBit new block → HasFreeBit old block
-  pub freed : (block i : ℕ) → InImage old block → block ≢ key → HasFreeBit new block → i < block_bytes → byte_at new block i ≡ byte_at old block i
-  pub own : (i : ℕ) → i < block_bytes → i / 4 ≢ next_in_chain → i / 4 ≢ sum_long → byte_at new key i ≡ byte_at old key i
+  pub freed : (block i : ℕ) → InImage old block → block ≢ key → HasFreeBit new block → i < BLOCK_BYTES → byte_at new block i ≡ byte_at old block i
+  pub own : (i : ℕ) → i < BLOCK_BYTES → i / 4 ≢ NEXT_IN_CHAIN → i / 4 ≢ CHECKSUM → byte_at new key i ≡ byte_at old key i

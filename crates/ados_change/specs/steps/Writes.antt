@@ -1,9 +1,10 @@
 -- The bytes that each step of a change of entries writes into one block.
 use Rattle.std.specs.Prelude.{◌≡◌, ◌⊎◌, ℕ, ◌+◌, ◌/◌, ◌<◌, ◌≤◌, List, length}
-use Rattle.adf_block.specs.Image.{block_sum, HasText, parent_key}
-use Rattle.adf_block.specs.Layout.{name_byte, sum_long, parent_long}
+use Rattle.adf_block.specs.Image.{block_sum, HasText}
+use Rattle.adf_block.specs.Fields.{parent_key}
+use Rattle.adf_block.specs.declared.layout.TheConstants.{CHECKSUM, NAME_BYTE, PARENT}
 use Rattle.adf_block.specs.Frame.{SameBut}
-use Rattle.ados_name.specs.declared.Date3.{Date3}
+use Rattle.ados_name.specs.declared.stamp.Date3.{Date3}
 use Rattle.ados_model.specs.Stands.{date_at}
 
 -- the bytes of these longs
@@ -12,7 +13,7 @@ AtLongs At b i = At b (i / 4)
 
 -- the three longs of a date from long i of a block, and the block's checksum
 abbrev pub AtDate : ℕ → ℕ → ℕ → ℕ → Type 0
-AtDate block i b j = (b ≡ block) × ((j ≡ sum_long) ⊎ ((i ≤ j) × (j < i + 3)))
+AtDate block i b j = (b ≡ block) × ((j ≡ CHECKSUM) ⊎ ((i ≤ j) × (j < i + 3)))
 
 -- a date was written into a block, and its checksum is right
 pub record Dated (block i : ℕ) (moment : Date3) (old new : List ℕ) : Type 0 where
@@ -22,11 +23,11 @@ pub record Dated (block i : ℕ) (moment : Date3) (old new : List ℕ) : Type 0 
 
 -- the bytes of a name with n bytes, of the directory's number and of the checksum
 abbrev pub AtTitle : ℕ → ℕ → ℕ → ℕ → Type 0
-AtTitle key n b i = (b ≡ key) × ((i / 4 ≡ sum_long) ⊎ (((name_byte ≤ i) × (i < name_byte + 1 + n)) ⊎ (i / 4 ≡ parent_long)))
+AtTitle key n b i = (b ≡ key) × ((i / 4 ≡ CHECKSUM) ⊎ (((NAME_BYTE ≤ i) × (i < NAME_BYTE + 1 + n)) ⊎ (i / 4 ≡ PARENT)))
 
 -- an entry got a name and a directory, and its checksum is right
 pub record Titled (key dir : ℕ) (name : List ℕ) (old new : List ℕ) : Type 0 where
   pub rest : SameBut (AtTitle key (length name)) old new
-  pub named : HasText new key name_byte name
+  pub named : HasText new key NAME_BYTE name
   pub parent : parent_key new key ≡ dir
   pub summed : block_sum new key ≡ 0

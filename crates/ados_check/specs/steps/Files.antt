@@ -1,7 +1,8 @@
 -- What is known of a file before its check, and the results of the parts of that check.
 use Rattle.std.specs.Prelude.{◌≡◌, ◌≢◌, ℕ, suc, ◌+◌, ◌*◌, ◌<◌, ◌≤◌, List, length, slice_index, Bool, false}
-use Rattle.adf_block.specs.Image.{long, block_sum, Chained, primary_type, pointer_count, sequence_number, held_count, pointer, file_size}
-use Rattle.adf_block.specs.Layout.{next_data, next_extension, header_type, table_longs, ofs_room}
+use Rattle.adf_block.specs.Image.{long, block_sum, Chained}
+use Rattle.adf_block.specs.Fields.{primary_type, pointer_count, sequence_number, held_count, pointer, file_size}
+use Rattle.adf_block.specs.declared.layout.TheConstants.{HEADER_TYPE, TABLE_LONGS, NEXT_EXTENSION, NEXT_DATA, OFS_ROOM}
 use Rattle.ados_model.specs.Stands.{HasExtension, HasOfsData}
 use Rattle.ados_model.specs.File.{pointer_block, data_blocks}
 use Rattle.ados_model.specs.declared.role.Role.TheVariants.{Extension}
@@ -19,7 +20,7 @@ pointed_block image file q i = pointer image (pointer_block image file q) i
 -- a file whose blocks are all reached, inside the image and sound, with this many distinct extension blocks
 pub record IsReachedFile (image : List ℕ) (file : ℕ) : Type 0 where
   pub is_file : IsFile image file
-  pub primary : primary_type image file ≡ header_type
+  pub primary : primary_type image file ≡ HEADER_TYPE
   pub sum : block_sum image file ≡ 0
   pub extensions : ℕ
   pub ends : pointer_block image file (suc extensions) ≡ 0
@@ -33,8 +34,8 @@ pub record IsReachedFile (image : List ℕ) (file : ℕ) : Type 0 where
 -- the count of a pointer block: at most 72, exactly 72 if another block follows, and positive unless it is the header
 pub record HasCount (image : List ℕ) (block : ℕ) (is_header : Bool) (count : ℕ) : Type 0 where
   pub counted : pointer_count image block ≡ count
-  pub few : count ≤ table_longs
-  pub full : long image block next_extension ≢ 0 → count ≡ table_longs
+  pub few : count ≤ TABLE_LONGS
+  pub full : long image block NEXT_EXTENSION ≢ 0 → count ≡ TABLE_LONGS
   pub some : is_header ≡ false → 0 < count
 
 -- the header and the extension blocks have this many data pointers, 72 in each but the last
@@ -42,9 +43,9 @@ pub record HasCounts (image : List ℕ) (file count : ℕ) : Type 0 where
   pub extensions : ℕ
   pub ends : pointer_block image file (suc extensions) ≡ 0
   pub goes_on : (q : ℕ) → q < extensions → pointer_block image file (suc q) ≢ 0
-  pub full : (q : ℕ) → q < extensions → pointer_count image (pointer_block image file q) ≡ table_longs
-  pub rest : table_longs * extensions + pointer_count image (pointer_block image file extensions) ≡ count
-  pub few : pointer_count image (pointer_block image file extensions) ≤ table_longs
+  pub full : (q : ℕ) → q < extensions → pointer_count image (pointer_block image file q) ≡ TABLE_LONGS
+  pub rest : TABLE_LONGS * extensions + pointer_count image (pointer_block image file extensions) ≡ count
+  pub few : pointer_count image (pointer_block image file extensions) ≤ TABLE_LONGS
   pub some : 0 < extensions → 0 < pointer_count image (pointer_block image file extensions)
 
 -- the block is the data block at this position of some file with this many data blocks
@@ -59,10 +60,10 @@ pub record HasPlace (image : List ℕ) (block place count held : ℕ) : Type 0 w
   pub sequence : sequence_number image block ≡ place + 1
   pub holds : held_count image block ≡ held
   pub some : 0 < held
-  pub few : held ≤ ofs_room
-  pub full : place + 1 < count → held ≡ ofs_room
+  pub few : held ≤ OFS_ROOM
+  pub full : place + 1 < count → held ≡ OFS_ROOM
 
 -- the data blocks of an OFS file link to each other in order, and have the fields of their positions
 pub record IsLinked (image : List ℕ) (file : ℕ) : Type 0 where
-  pub chain : Chained image next_data (long image file next_data) (data_blocks image file)
+  pub chain : Chained image NEXT_DATA (long image file NEXT_DATA) (data_blocks image file)
   pub fields : (i : ℕ) → i < length (data_blocks image file) → HasOfsData image file (file_size image file) i (slice_index (data_blocks image file) i)

@@ -1,6 +1,6 @@
 -- The end of a file, and bytes appended there.
 use Rattle.std.specs.Prelude.{◌≡◌, ℕ, ◌-◌, ◌*◌, ◌<◌, ◌≤◌, List, ◌∷◌, length, slice_index, take}
-use Rattle.adf_block.specs.declared.Format.{Format}
+use Rattle.adf_block.specs.declared.layout.Format.{Format}
 use Rattle.ados_data.specs.declared.grow.End.{End}
 use Rattle.ados_model.specs.Tree.{data_count, data_size}
 use Rattle.ados_model.specs.File.{data_blocks, extension_blocks}

@@ -2,8 +2,8 @@
 use Rattle.std.specs.Prelude.{◌≡◌, ◌≢◌, ℕ, ◌+◌, ◌<◌, ◌⊎◌, List, length, All, Contains, true}
 use Rattle.std.specs.Ordering.{nat_cmp}
 use Rattle.std.specs.BTreeSet.{BTreeSet, contains}
-use Rattle.adf_block.specs.Image.{held_count}
-use Rattle.adf_block.specs.Layout.{ofs_room}
+use Rattle.adf_block.specs.Fields.{held_count}
+use Rattle.adf_block.specs.declared.layout.TheConstants.{OFS_ROOM}
 use Rattle.ados_model.specs.Faults.{AreDistinct, FurtherAreInside, InImage, IsDataAt, LeadOn}
 
 -- the first blocks along the links, each once
@@ -25,4 +25,4 @@ IsPlaced image blocks i block = (file : ℕ) × IsDataAt image file blocks i blo
 
 -- the data block is empty, or is not full although others follow
 abbrev pub HoldsTooLittle : List ℕ → List ℕ → ℕ → ℕ → Type 0
-HoldsTooLittle image blocks i block = (held_count image block ≡ 0) ⊎ ((held_count image block ≢ ofs_room) × (i + 1 < length blocks))
+HoldsTooLittle image blocks i block = (held_count image block ≡ 0) ⊎ ((held_count image block ≢ OFS_ROOM) × (i + 1 < length blocks))

@@ -1,7 +1,7 @@
 -- Facts about the names of entries.
 use Rattle.std.specs.Prelude.{◌≡◌, ◌≢◌, ℕ, List}
 use Rattle.adf_block.specs.Whole.{text_at}
-use Rattle.adf_block.specs.Layout.{name_byte}
+use Rattle.adf_block.specs.declared.layout.TheConstants.{NAME_BYTE}
 use Rattle.ados_name.specs.Name.{slot}
 use Rattle.ados_model.specs.declared.role.Role.TheVariants.{Entry}
 use Rattle.ados_model.specs.Faults.{HasShortName, InImage, Reached}
@@ -11,7 +11,7 @@ use Rattle.ados_faults.specs.declared.names.EntryName.{EntryName}
 -- the name is short enough, and has another slot than this chain
 pub record IsOfOtherSlot (image : List ℕ) (block chain : ℕ) : Type 0 where
   pub short : HasShortName image block
-  pub wrong : slot (text_at image block name_byte) ≢ chain
+  pub wrong : slot (text_at image block NAME_BYTE) ≢ chain
 
 -- the block is an entry of the directory, with this name
 pub record IsEntryName (image : List ℕ) (entry : EntryName) : Type 0 where

@@ -1,7 +1,8 @@
 -- The progress of a walk past the faults of an image.
 use Rattle.std.specs.Prelude.{◌≡◌, ℕ, ◌+◌, ◌-◌, ◌/◌, ◌⊎◌, List, length, All, Bool, Option, Some}
-use Rattle.adf_block.specs.Layout.{boot_blocks, first_page, page_bits}
-use Rattle.adf_block.specs.Image.{HasFreeBit, block_count, long}
+use Rattle.adf_block.specs.declared.layout.TheConstants.{BOOT_BLOCKS, FIRST_PAGE, PAGE_BITS}
+use Rattle.adf_block.specs.Image.{block_count, long}
+use Rattle.adf_block.specs.Whole.{HasFreeBit}
 use Rattle.ados_model.specs.declared.role.Role.TheVariants.{Root}
 use Rattle.ados_model.specs.Faults.{InImage, PlaceNames, Reached, root_of}
 use Rattle.ados_model.specs.Rebuilt.{HasValidBitmap}
@@ -13,7 +14,7 @@ use Rattle.ados_faults.specs.steps.Noted.{AreNoted}
 -- the bitmap is valid, and a bitmap block inside the image marks the block free
 pub record IsMarkedFree (image : List ℕ) (block : ℕ) : Type 0 where
   pub valid : HasValidBitmap image
-  pub page : InImage image (long image (root_of image) (first_page + (block - boot_blocks) / page_bits))
+  pub page : InImage image (long image (root_of image) (FIRST_PAGE + (block - BOOT_BLOCKS) / PAGE_BITS))
   pub free : HasFreeBit image block
 
 -- the block is reached in this role

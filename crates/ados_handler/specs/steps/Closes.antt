@@ -4,7 +4,7 @@ use Rattle.std.specs.Prelude.{Option, Result, ◌&&◌, ◌||◌, option_map}
 use Rattle.std.specs.Bool.{MatchBool}
 use Rattle.std.specs.Result.{result_err}
 use Rattle.std.proofs.lemmas.Option.{none-some, same_Some}
-use Rattle.ados_name.specs.declared.Date3.{Date3}
+use Rattle.ados_name.specs.declared.stamp.Date3.{Date3}
 use Rattle.ados_model.specs.Tree.{Tree}
 use Rattle.ados_model.specs.declared.dos_error.WalkFault.{WalkFault}
 use Rattle.ados_model.specs.declared.dos_error.WalkFault.TheVariants as walks

@@ -1,6 +1,6 @@
 -- The effect of a step that writes into a file or changes its size.
 use Rattle.std.specs.Prelude.{◌≡◌, ℕ, ◌+◌, ◌≤◌, true, false, List, length, max, Result, MatchResult}
-use Rattle.ados_name.specs.declared.Date3.{Date3}
+use Rattle.ados_name.specs.declared.stamp.Date3.{Date3}
 use Rattle.ados_model.specs.Tree.{Tree, size_of, needs_more}
 use Rattle.ados_model.specs.Change.{written}
 use Rattle.ados_model.specs.Stands.{Stands}

@@ -1,5 +1,5 @@
 -- The results of a packet's method. With the packet's action they are the answer.
-use Rattle.ados_name.specs.declared.Date3.{Date3}
+use Rattle.ados_name.specs.declared.stamp.Date3.{Date3}
 use Rattle.ados_model.specs.Tree.{Tree}
 use Rattle.ados_model.specs.Packet.{action_of}
 use Rattle.ados_model.specs.declared.packet.Packet.{Packet}

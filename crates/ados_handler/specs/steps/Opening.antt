@@ -3,7 +3,7 @@ use Rattle.std.specs.Prelude.{◌≡◌, ◌⊎◌, ℕ, pos, Bool, true, false,
 use Rattle.std.specs.Ordering.{nat_cmp}
 use Rattle.std.specs.FinMap as numbered
 use Rattle.ados_name.specs.Name.{denies_delete, denies_write}
-use Rattle.ados_name.specs.declared.Date3.{Date3}
+use Rattle.ados_name.specs.declared.stamp.Date3.{Date3}
 use Rattle.ados_model.specs.Change.{rewritten, is_file}
 use Rattle.ados_change.specs.NewBlocks.{KeepsRest}
 use Rattle.ados_model.specs.Tree.{Tree}
@@ -15,7 +15,8 @@ use Rattle.ados_model.specs.declared.results.Results.{Results}
 use Rattle.ados_model.specs.declared.answer.Body.TheVariants.{Empty, Handle}
 use Rattle.ados_model.specs.declared.holds.HandleHold.{HandleHold}
 use Rattle.ados_model.specs.Session.{Session, IsFreeNumber, is_in_use, HandlerState}
-use Rattle.ados_model.specs.Objects.{lacks, protection_of}
+use Rattle.ados_model.specs.Objects.{protection_of}
+use Rattle.ados_model.specs.Reads.{lacks}
 use Rattle.ados_model.specs.Refusals.{first_refusal, refuse}
 use Rattle.ados_model.specs.Success.{After, GivesHandle, after}
 

@@ -1,7 +1,7 @@
 -- What is gathered of a handler's port after its clients are done.
 use Rattle.std.specs.Prelude.{◌≡◌, ℕ, List, Vec, length}
 use Rattle.std.specs.declared.alloc.Global.{Global}
-use Rattle.ados_name.specs.declared.Date3.{Date3}
+use Rattle.ados_name.specs.declared.stamp.Date3.{Date3}
 use Rattle.ados_model.specs.declared.packet.Packet.{Packet}
 use Rattle.ados_model.specs.declared.answer.Answer.{Answer}
 use Rattle.ados_port.specs.Reply.{Reply}

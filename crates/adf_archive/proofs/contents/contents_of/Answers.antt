@@ -1,11 +1,12 @@
 use Rattle.std.proofs.Common.{◌≡◌, ℕ, ◌<◌, List, [], length, get_or, IsSome, ap, sym, ◌∙◌, subst, arith}
 use Rattle.ados_model.specs.declared.answer.FileInfo.{FileInfo}
-use Rattle.ados_model.specs.Tree.{entries, name_in, name_of, root}
+use Rattle.ados_model.specs.Tree.{entries, name_of, root}
+use Rattle.ados_model.specs.Parts.{name_in}
 use Rattle.ados_model.proofs.Nodes.{some_in}
-use Rattle.adf_transfer.specs.Located.{Located}
-use Rattle.adf_transfer.specs.Below.{AreBelow}
+use Rattle.ados_volume.specs.Located.{Located}
+use Rattle.ados_volume.specs.Below.{AreBelow}
 use Rattle.adf_archive.specs.Report.{file_count}
-use Rattle.adf_archive.proofs.Under.{there_below}
+use Rattle.ados_volume.proofs.AllBelow.{there_below}
 use Rattle.adf_archive.proofs.contents.contents_of.Goals as goal
 
 pub count_files-files-requires : goal.count_files-files-requires

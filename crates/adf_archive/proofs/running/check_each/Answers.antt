@@ -2,7 +2,7 @@ use Rattle.std.proofs.Common.{ℕ, List, map, ap, subst, ◌∙◌, arith}
 use Rattle.std.proofs.lemmas.List.{length-map}
 use Rattle.std.specs.Io.KnownBytes.{Appends}
 use Rattle.std.specs.String.{string_bytes}
-use Rattle.adf_listing.specs.Fronts.{WritesFront}
+use Rattle.adf_io.specs.Prefix.{WritesFront}
 use Rattle.adf_archive.specs.declared.report.ImageReport.{ImageReport}
 use Rattle.adf_archive.specs.Lines.{told_from}
 use Rattle.adf_archive.specs.Status.{tallied}

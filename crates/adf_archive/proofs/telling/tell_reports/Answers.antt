@@ -1,7 +1,7 @@
 use Rattle.std.proofs.Common.{ℕ, List, subst, ◌∙◌}
 use Rattle.std.proofs.lemmas.Result.{on_err_weaker, on_ok_weaker}
 use Rattle.std.specs.Io.KnownBytes.{Appends}
-use Rattle.adf_listing.specs.Fronts.{WritesFront}
+use Rattle.adf_io.specs.Prefix.{WritesFront}
 use Rattle.adf_archive.proofs.telling.tell_reports.Goals as goal
 
 pub returns-clause-ok : goal.returns-clause-ok

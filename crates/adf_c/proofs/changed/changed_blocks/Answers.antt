@@ -1,4 +1,4 @@
-use Rattle.std.proofs.Common.{◌≡◌, List, ℕ, sym, ap, ◌∙◌}
+use Rattle.std.proofs.Common.{sym, ap, ◌∙◌}
 use Rattle.adf_c.specs.Changed.{differs}
 use Rattle.adf_c.proofs.Changing.{one_that_differs, one_that_is_same}
 use Rattle.adf_c.proofs.changed.changed_blocks.Goals.{then-differs+in_ok-push, else-differs}

@@ -1,4 +1,4 @@
-use Rattle.std.proofs.Common.{◌≡◌, ap, ◌∙◌}
+use Rattle.std.proofs.Common.{ap, ◌∙◌}
 use Rattle.adf_c.proofs.Changing.{tells}
 use Rattle.adf_c.specs.declared.desk.Desk.{Desk}
 use Rattle.adf_c.proofs.changed.copy_changed.Goals as goal

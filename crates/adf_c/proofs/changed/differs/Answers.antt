@@ -1,4 +1,4 @@
-use Rattle.std.proofs.Common.{◌≡◌, ap, ◌∙◌, not}
+use Rattle.std.proofs.Common.{ap, ◌∙◌, not}
 use Rattle.std.specs.Prelude.{bytes_eq}
 use Rattle.adf_block.specs.Image.{bytes_at}
 use Rattle.adf_c.proofs.Changing.{block_of}

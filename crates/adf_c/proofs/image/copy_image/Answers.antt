@@ -1,4 +1,4 @@
-use Rattle.std.proofs.Common.{◌≡◌, ap, ◌∙◌}
+use Rattle.std.proofs.Common.{ap, ◌∙◌}
 use Rattle.adf_c.proofs.Coming.{copies}
 use Rattle.adf_c.specs.declared.desk.Desk.{Desk}
 use Rattle.adf_c.proofs.image.copy_image.Goals as goal

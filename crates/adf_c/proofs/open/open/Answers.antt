@@ -1,4 +1,4 @@
-use Rattle.std.proofs.Common.{◌≡◌, refl, sym, ◌∙◌}
+use Rattle.std.proofs.Common.{refl, sym, ◌∙◌}
 use Rattle.adf_c.proofs.Coming.{some_is_open, none_is_closed, opens}
 use Rattle.adf_c.proofs.open.open.Goals as goal
 

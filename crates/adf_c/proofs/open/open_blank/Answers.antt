@@ -1,4 +1,4 @@
-use Rattle.std.proofs.Common.{◌≡◌, refl, sym, inr, ◌∙◌, w32}
+use Rattle.std.proofs.Common.{refl, sym, inr, ◌∙◌, w32}
 use Rattle.std.proofs.lemmas.Int.{to_z-of_z}
 use Rattle.adf_c.proofs.Coming.{some_is_open, none_is_closed, blanks}
 use Rattle.adf_c.proofs.open.open_blank.Goals as goal

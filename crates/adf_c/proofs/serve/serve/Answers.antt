@@ -1,4 +1,4 @@
-use Rattle.std.proofs.Common.{◌≡◌, ap, ◌∙◌}
+use Rattle.std.proofs.Common.{ap, ◌∙◌}
 use Rattle.adf_c.specs.Spelling.{packet_of}
 use Rattle.adf_c.proofs.Coming.{serves}
 use Rattle.adf_c.proofs.serve.serve.Goals as goal

@@ -1,5 +1,5 @@
 use Rattle.std.proofs.Common.{subst, sym}
-use Rattle.adf_jobs.specs.declared.job.ImageJob.{ImageJob}
+use Rattle.adf_words.specs.declared.job.ImageJob.{ImageJob}
 use Rattle.adf_commands.specs.Commands.{DoesJob}
 use Rattle.adf_commands.proofs.Printing.{PrintsNothing, blank_no_refusal, job_silent, job_silent_fault}
 use Rattle.adf_commands.proofs.jobs.do_job.Goals as goal

@@ -1,7 +1,7 @@
 use Rattle.std.proofs.Common.{ℕ, List, subst}
 use Rattle.std.specs.Io.KnownBytes.{Appends}
 use Rattle.std.specs.String.{string_bytes}
-use Rattle.adf_listing.specs.Fronts.{WritesFront}
+use Rattle.adf_io.specs.Prefix.{WritesFront}
 use Rattle.adf_commands.proofs.Printing.{job_broken, job_failed, job_told, job_unsaid, none_told, some_told}
 use Rattle.adf_commands.proofs.jobs.run_job.Goals as goal
 

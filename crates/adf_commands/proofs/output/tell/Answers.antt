@@ -1,4 +1,4 @@
-use Rattle.adf_listing.proofs.Fronts.{writes_first}
+use Rattle.adf_io.proofs.Prefixes.{writes_first}
 use Rattle.adf_commands.proofs.output.tell.Goals as goal
 
 pub returns-in-Err-clause-front : goal.returns-in-Err-clause-front

@@ -1,6 +1,6 @@
 use Rattle.std.proofs.Common.{◌≡◌, ◌<◌, ◌+◌, ◌/◌, ◌++◌, ℕ, suc, List, sym, ap, ◌∙◌, subst, arith, below_more}
 use Rattle.adf_block.specs.Image.{long}
-use Rattle.adf_block.specs.Layout.{next_data}
+use Rattle.adf_block.specs.declared.layout.TheConstants.{NEXT_DATA}
 use Rattle.ados_model.specs.File.{data_block, data_blocks}
 use Rattle.ados_data.proofs.Sizes.{in_extensions}
 use Rattle.adf_salvage.specs.steps.Parts.{HasData, IsDataBlock, data_needed, data_before}
@@ -62,11 +62,11 @@ returns c =
     c.is_last.result
     (λ yes. (
       whole_data c.args.image.now c.args.file c.loop-i.i count c.loop-i.invariant.sound
-          (λ ofs. ap (λ (b : ℕ). long c.args.image.now b next_data) (sym c.loop-i.invariant.before) ∙ c.is_last.ensures.0 yes ofs),
+          (λ ofs. ap (λ (b : ℕ). long c.args.image.now b NEXT_DATA) (sym c.loop-i.invariant.before) ∙ c.is_last.ensures.0 yes ofs),
       all_data c.args.image.now c.args.file c.loop-i.blocks.items c.loop-i.i c.loop-i.invariant.blocks count
           ∙ ap (λ (xs : List ℕ). xs ++ data_blocks c.args.image.now c.args.file) (sym c.requires.blocks),
     ))
     (λ no h.
     let ends = c.is_last.ensures.1 (λ ofs.
-    ap (λ (b : ℕ). long c.args.image.now b next_data) (c.loop-i.invariant.before ∙ ap (data_before c.args.image.now c.args.file) count) ∙ h.ends ofs) in
+    ap (λ (b : ℕ). long c.args.image.now b NEXT_DATA) (c.loop-i.invariant.before ∙ ap (data_before c.args.image.now c.args.file) count) ∙ h.ends ofs) in
     absurd (cc (ends, no)))

@@ -1,6 +1,6 @@
 use Rattle.std.proofs.Common.{◌++◌, ◌∷◌, [], All, IsSome, List, map, sym, ap, ap₂, ◌∙◌, subst}
 use Rattle.std.proofs.lemmas.List.{take_all, take_more}
-use Rattle.adf_transfer.specs.Located.{Located}
+use Rattle.ados_volume.specs.Located.{Located}
 use Rattle.adf_salvage.specs.Salvaged.{IsOfTree, located_of}
 use Rattle.adf_salvage.proofs.Growing.{all_more, located_more}
 use Rattle.adf_salvage.proofs.listing.entries_of.Goals as goal

@@ -1,9 +1,8 @@
-use Rattle.std.proofs.Common.{◌≡◌, ℕ, [], false, All, map, get_or, sym, ◌∙◌, subst}
-use Rattle.std.proofs.lemmas.List.{get_or_default}
+use Rattle.std.proofs.Common.{◌≡◌, ℕ, [], All, map, sym, ◌∙◌, subst}
 use Rattle.ados_model.specs.Stands.{Stands}
 use Rattle.ados_model.specs.Tree.{Tree, entries}
-use Rattle.adf_transfer.specs.Below.{AreBelow}
-use Rattle.adf_transfer.proofs.Denying.{below_there}
+use Rattle.ados_volume.specs.Below.{AreBelow}
+use Rattle.ados_volume.proofs.AllBelow.{there_below}
 use Rattle.adf_salvage.specs.Salvaged.{AreOfTree, IsOfTree, located_of}
 use Rattle.adf_salvage.proofs.Answering.{both_ok}
 use Rattle.adf_salvage.proofs.listing.volume_entries.Goals as goal
@@ -11,7 +10,7 @@ use Rattle.adf_salvage.proofs.listing.volume_entries.Goals as goal
 pub entries_of-requires : goal.entries_of-requires
 entries_of-requires c = λ k d l t s.
     let below : AreBelow t [] (entries t c.root.result) c.deref.result.now = subst (AreBelow t [] (entries t c.root.result)) (sym c.deref.ensures.value) (c.in_ok-below.ensures.below t s) in
-    below_there t s.proper c.root.result false c.deref.result.now below (get_or c.deref.result.now k d) k l (get_or_default c.deref.result.now k d (get_or c.deref.result.now k d) l)
+    there_below t s.proper c.root.result c.deref.result.now below k d l
 
 pub returns : goal.returns
 returns c =

@@ -1,7 +1,7 @@
 use Rattle.std.proofs.Common.{◌≡◌, length, sym, ap, ◌∙◌}
 use Rattle.ados_model.specs.File.{contents}
 use Rattle.ados_data.proofs.Places.{readable}
-use Rattle.adf_transfer.proofs.Whole.{read_whole, written_back}
+use Rattle.ados_volume.proofs.WholeFile.{read_whole, written_back}
 use Rattle.adf_salvage.proofs.state.whole_bytes.Goals as goal
 
 pub read_at-requires : goal.read_at-requires

@@ -5,7 +5,7 @@ use Rattle.std.specs.Str.{IsUtf8, chars}
 use Rattle.std.proofs.lemmas.List.Elements.{All-same}
 use Rattle.std.proofs.lemmas.Str.{chars_from_encodes}
 use Rattle.adf_text.specs.Letters.{IsByte, letters}
-use Rattle.ados_name.specs.declared.Date3.{Date3}
+use Rattle.ados_name.specs.declared.stamp.Date3.{Date3}
 use Rattle.adf_text.specs.Dated.{IsStamp, BeginsWithDate, HasNoDate}
 use Rattle.adf_text.specs.UaemReads.{IsUaemFaultOf}
 use Rattle.adf_text.proofs.ReadsLemmas.{line-read, line-fault, bits-fault, date-fault, comment-fault, note-read}

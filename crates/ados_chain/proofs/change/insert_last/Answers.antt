@@ -1,5 +1,5 @@
 use Rattle.std.proofs.Common.{◌≡◌, ◌<◌, ◌+◌, ℕ, List, Contains, sym, ap, ◌∙◌, subst}
-use Rattle.adf_block.specs.Layout.{first_slot}
+use Rattle.adf_block.specs.declared.layout.TheConstants.{FIRST_SLOT}
 use Rattle.ados_chain.specs.Chains.{slot_at}
 use Rattle.ados_chain.specs.Relinks.{Relinks, link_block, link_long}
 use Rattle.ados_chain.proofs.Changes.{slot_at-small, inserted}
@@ -39,7 +39,7 @@ returns-clause-inserts c =
     let to = c.link_to-end.ensures chains h in
     let whole = leads_to_end image c.args.dir chains h s (small image c.args.key s c.slot_of-slot.ensures) c.link_to-end.result.block c.link_to-end.result.long to in
     let at_block : c.link_to-end.result.block ≡ link_block c.args.dir (chains (slot_at image c.args.key)) = to.at_block ∙ ap (link_block c.args.dir) (sym whole) ∙ ap (λ (t : ℕ). link_block c.args.dir (chains t)) c.slot_of-slot.ensures in
-    let at_long : c.link_to-end.result.long ≡ link_long (first_slot + slot_at image c.args.key) (chains (slot_at image c.args.key)) = to.at_long ∙ ap (link_long (first_slot + s)) (sym whole) ∙ ap (λ (t : ℕ). link_long (first_slot + t) (chains t)) c.slot_of-slot.ensures in
+    let at_long : c.link_to-end.result.long ≡ link_long (FIRST_SLOT + slot_at image c.args.key) (chains (slot_at image c.args.key)) = to.at_long ∙ ap (link_long (FIRST_SLOT + s)) (sym whole) ∙ ap (λ (t : ℕ). link_long (FIRST_SLOT + t) (chains t)) c.slot_of-slot.ensures in
     inserted image c.relink.new.image c.args.dir c.args.key chains h r.entry (λ m. r.absent (listed_same image c.args.dir c.args.key chains r.chains h r.lawful m))
-    (subst (λ (b : ℕ). Relinks b (link_long (first_slot + slot_at image c.args.key) (chains (slot_at image c.args.key))) c.args.key c.args.key image c.relink.new.image) at_block
+    (subst (λ (b : ℕ). Relinks b (link_long (FIRST_SLOT + slot_at image c.args.key) (chains (slot_at image c.args.key))) c.args.key c.args.key image c.relink.new.image) at_block
     (subst (λ (i : ℕ). Relinks c.link_to-end.result.block i c.args.key c.args.key image c.relink.new.image) at_long c.relink.ensures.relinks))

@@ -1,6 +1,6 @@
 use Rattle.std.proofs.Common.{◌≡◌, ◌<◌, ◌+◌, ◌++◌, ◌∷◌, ℕ, List, Contains, sym, ap, ◌∙◌, subst}
 use Rattle.adf_block.specs.Image.{long}
-use Rattle.adf_block.specs.Layout.{next_in_chain, first_slot}
+use Rattle.adf_block.specs.declared.layout.TheConstants.{FIRST_SLOT, NEXT_IN_CHAIN}
 use Rattle.ados_chain.specs.Chains.{IsEntryBlock, slot_at}
 use Rattle.ados_chain.specs.Relinks.{Relinks, CanUnlink, link_long}
 use Rattle.ados_chain.proofs.Changes.{slot_at-small, unlinked}
@@ -55,8 +55,8 @@ returns-clause-unlinks c =
     let listed_here : Contains (chains s) key = subst (λ (t : ℕ). Contains (chains t) key) (sym c.slot_of-slot.ensures) listed in
     let at = entry_follows image c.args.dir chains h s (small image key s c.slot_of-slot.ensures) key c.link_to-link.result.block c.link_to-link.result.long to listed_here in
     let split : chains (slot_at image key) ≡ to.front ++ key ∷ at.0 = ap chains (sym c.slot_of-slot.ensures) ∙ at.1 in
-    let at_long : c.link_to-link.result.long ≡ link_long (first_slot + slot_at image key) to.front = to.at_long ∙ ap (λ (t : ℕ). link_long (first_slot + t) to.front) c.slot_of-slot.ensures in
+    let at_long : c.link_to-link.result.long ≡ link_long (FIRST_SLOT + slot_at image key) to.front = to.at_long ∙ ap (λ (t : ℕ). link_long (FIRST_SLOT + t) to.front) c.slot_of-slot.ensures in
     unlinked image c.relink.new.image c.args.dir key chains to.front at.0 h split
-    (subst (λ (b : ℕ). Relinks b (link_long (first_slot + slot_at image key) to.front) (long image key next_in_chain) key image c.relink.new.image) to.at_block
-    (subst (λ (i : ℕ). Relinks c.link_to-link.result.block i (long image key next_in_chain) key image c.relink.new.image) at_long
+    (subst (λ (b : ℕ). Relinks b (link_long (FIRST_SLOT + slot_at image key) to.front) (long image key NEXT_IN_CHAIN) key image c.relink.new.image) to.at_block
+    (subst (λ (i : ℕ). Relinks c.link_to-link.result.block i (long image key NEXT_IN_CHAIN) key image c.relink.new.image) at_long
     (subst (λ (n : ℕ). Relinks c.link_to-link.result.block c.link_to-link.result.long n key image c.relink.new.image) c.long-next.ensures c.relink.ensures.relinks)))

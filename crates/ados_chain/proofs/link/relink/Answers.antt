@@ -1,5 +1,5 @@
 use Rattle.std.proofs.Common.{◌<◌, inl, inr, ◌∙◌, arith}
-use Rattle.adf_block.specs.Layout.{sum_long, next_in_chain}
+use Rattle.adf_block.specs.declared.layout.TheConstants.{CHECKSUM, NEXT_IN_CHAIN}
 use Rattle.adf_block.specs.Frame.{AtLong}
 use Rattle.adf_block.proofs.Frames.{same_trans, same_weaken, other_block_sum, block_from_long}
 use Rattle.ados_chain.specs.Relinks.{AtLinks}
@@ -20,19 +20,19 @@ returns-clause-relinks c =
           same_trans at old two four
           (same_trans at old one two
           (same_weaken (AtLong c.args.link.block c.args.link.long) at old one (λ b i e. inl (inl e)) c.set_long.ensures.rest)
-          (same_weaken (AtLong c.args.link.block sum_long) at one two (λ b i e. inl (inr e)) c.settle.ensures.rest))
+          (same_weaken (AtLong c.args.link.block CHECKSUM) at one two (λ b i e. inl (inr e)) c.settle.ensures.rest))
           (same_trans at two three four
-          (same_weaken (AtLong c.args.key next_in_chain) at two three (λ b i e. inr (inl e)) c.set_long-2.ensures.rest)
-          (same_weaken (AtLong c.args.key sum_long) at three four (λ b i e. inr (inr e)) c.settle-2.ensures.rest));
+          (same_weaken (AtLong c.args.key NEXT_IN_CHAIN) at two three (λ b i e. inr (inl e)) c.set_long-2.ensures.rest)
+          (same_weaken (AtLong c.args.key CHECKSUM) at three four (λ b i e. inr (inr e)) c.settle-2.ensures.rest));
       link =
           c.settle-2.ensures.others c.args.link.block c.args.link.long small (inl c.requires.apart)
           ∙ c.set_long-2.ensures.others c.args.link.block c.args.link.long small (inl c.requires.apart)
           ∙ c.settle.ensures.others c.args.link.block c.args.link.long small (inr (elim c.requires.long [ inl t ↦ λ e. absurd (omega (arith, t.0, e)) | inr t ↦ λ e. absurd (omega (arith, t, e)) ]))
           ∙ c.set_long.ensures.long;
       link_sum =
-          other_block_sum c.args.key three four (block_from_long c.args.key sum_long three four c.settle-2.ensures.rest) c.args.link.block c.requires.apart
-          ∙ other_block_sum c.args.key two three (block_from_long c.args.key next_in_chain two three c.set_long-2.ensures.rest) c.args.link.block c.requires.apart
+          other_block_sum c.args.key three four (block_from_long c.args.key CHECKSUM three four c.settle-2.ensures.rest) c.args.link.block c.requires.apart
+          ∙ other_block_sum c.args.key two three (block_from_long c.args.key NEXT_IN_CHAIN two three c.set_long-2.ensures.rest) c.args.link.block c.requires.apart
           ∙ c.settle.ensures.sum;
-      key_link = c.settle-2.ensures.others c.args.key next_in_chain (omega arith) (inr (omega arith)) ∙ c.set_long-2.ensures.long;
+      key_link = c.settle-2.ensures.others c.args.key NEXT_IN_CHAIN (omega arith) (inr (omega arith)) ∙ c.set_long-2.ensures.long;
       key_sum = c.settle-2.ensures.sum;
     }

@@ -1,6 +1,6 @@
 use Rattle.std.proofs.Common.{◌≡◌, ◌-◌, ℕ, Some, ap, sym, ◌∙◌, subst, arith}
 use Rattle.adf_block.specs.Image.{Chained}
-use Rattle.adf_block.specs.Layout.{next_in_chain}
+use Rattle.adf_block.specs.declared.layout.TheConstants.{NEXT_IN_CHAIN}
 use Rattle.ados_chain.specs.Chains.{chains_from}
 use Rattle.ados_chain.specs.Look.{first_left}
 use Rattle.ados_chain.proofs.Order.{first-here, first-later, first-all}
@@ -11,14 +11,14 @@ use Rattle.ados_chain.proofs.read.first_from.Goals as goal
 pub returns-then-key-ne0 : goal.returns-then-key-ne0
 returns-then-key-ne0 c =
     λ chains h.
-    let spelled = subst (λ (first : ℕ). Chained c.args.image.now next_in_chain first (chains c.loop-s.s)) (sym c.long-key.ensures) (h.spelled c.loop-s.s c.loop-s-test.true) in
+    let spelled = subst (λ (first : ℕ). Chained c.args.image.now NEXT_IN_CHAIN first (chains c.loop-s.s)) (sym c.long-key.ensures) (h.spelled c.loop-s.s c.loop-s-test.true) in
     let b = begun c.args.image.now c.long-key.result (chains c.loop-s.s) spelled c.if-key-ne0.true in
     sym (c.loop-s.invariant chains h ∙ first-here chains c.loop-s.s c.long-key.result b.0 c.loop-s-test.true b.1)
 
 pub loop-s-preserved : goal.loop-s-preserved
 loop-s-preserved c =
     λ chains h.
-    let spelled = subst (λ (first : ℕ). Chained c.args.image.now next_in_chain first (chains c.loop-s.s)) (sym c.long-key.ensures ∙ c.if-key-ne0.false) (h.spelled c.loop-s.s c.loop-s-test.true) in
+    let spelled = subst (λ (first : ℕ). Chained c.args.image.now NEXT_IN_CHAIN first (chains c.loop-s.s)) (sym c.long-key.ensures ∙ c.if-key-ne0.false) (h.spelled c.loop-s.s c.loop-s-test.true) in
     let none = ended c.args.image.now (chains c.loop-s.s) (none_zero c.args.image.now c.args.dir chains h c.loop-s.s c.loop-s-test.true) spelled in
     c.loop-s.invariant chains h ∙ first-later chains c.loop-s.s c.loop-s-test.true none
 

@@ -2,7 +2,7 @@ use Rattle.std.proofs.Common.{◌≡◌, ℕ, List, length, take, ap, ◌∙◌,
 use Rattle.std.proofs.lemmas.Bool.{false≢true}
 use Rattle.std.proofs.lemmas.List.{length-take}
 use Rattle.ados_model.specs.Tree.{data_count, extension_count, bytes_of}
-use Rattle.adf_block.specs.Image.{format_of}
+use Rattle.adf_block.specs.Fields.{format_of}
 use Rattle.ados_model.specs.File.{data_blocks, extension_blocks, contents}
 use Rattle.ados_model.specs.Stands.{Stands}
 use Rattle.ados_model.specs.Change.{rewritten}

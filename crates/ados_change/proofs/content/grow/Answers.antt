@@ -2,7 +2,7 @@ use Rattle.std.proofs.Common.{◌≡◌, ◌≢◌, ℕ, ◌+◌, ◌-◌, ◌++
 use Rattle.std.proofs.lemmas.List.{length-append, length-replicate}
 use Rattle.adf_block.specs.Whole.{free_bit_count}
 use Rattle.ados_model.specs.Tree.{block_cost, bytes_of}
-use Rattle.adf_block.specs.Image.{format_of}
+use Rattle.adf_block.specs.Fields.{format_of}
 use Rattle.ados_model.specs.File.{data_blocks, extension_blocks, contents}
 use Rattle.ados_model.specs.Stands.{Stands}
 use Rattle.ados_model.specs.Change.{rewritten}

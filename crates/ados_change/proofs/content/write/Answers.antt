@@ -1,12 +1,13 @@
 use Rattle.std.proofs.Common.{◌≡◌, ◌≢◌, ℕ, ◌+◌, ◌≤◌, ◌++◌, max, List, [], ◌∷◌, length, take, drop, ap, ◌∙◌, sym, subst, refl, arith, eqb-true}
 use Rattle.std.proofs.lemmas.Bool.{eqb-false, ltb-true}
 use Rattle.std.proofs.lemmas.List.{length-append, length-take, length-drop}
-use Rattle.ados_name.specs.declared.Date3.{Date3}
+use Rattle.ados_name.specs.declared.stamp.Date3.{Date3}
 use Rattle.adf_block.specs.Whole.{free_bit_count}
 use Rattle.ados_model.specs.Tree.{block_cost, Tree, bytes_of, size_of}
-use Rattle.adf_block.specs.Image.{format_of}
+use Rattle.adf_block.specs.Fields.{format_of}
 use Rattle.ados_model.specs.File.{data_blocks, extension_blocks, contents}
-use Rattle.ados_model.specs.Change.{overlaid, rewritten, written}
+use Rattle.ados_model.specs.Change.{rewritten, written}
+use Rattle.ados_model.specs.Edits.{overlaid}
 use Rattle.ados_data.specs.Changing.{HasFree}
 use Rattle.ados_model.specs.Stands.{Stands}
 use Rattle.ados_change.specs.Renewed.{NeedsMore}

@@ -1,7 +1,7 @@
 use Rattle.std.proofs.Common.{◌≡◌, ◌≢◌, sym, ◌∙◌}
-use Rattle.adf_block.specs.Layout.{file_type}
-use Rattle.adf_block.specs.Image.{secondary_type}
-use Rattle.ados_model.specs.Change.{shortened}
+use Rattle.adf_block.specs.declared.layout.TheConstants.{FILE_TYPE}
+use Rattle.adf_block.specs.Fields.{secondary_type}
+use Rattle.ados_model.specs.Edits.{shortened}
 use Rattle.ados_change.proofs.Keeping.{same_keeps}
 use Rattle.ados_change.proofs.Emptier.{cut_to_nothing, entry_cut, is_file, kept_as_is, key_inside}
 use Rattle.ados_change.proofs.entry_removed.empty.Goals as goal
@@ -11,12 +11,12 @@ long-requires-clause-block c = key_inside c.args.image.now c.requires.tree.0 c.r
 
 pub returns-then-long-clause-empties : goal.returns-then-long-clause-empties
 returns-then-long-clause-empties c = λ t s.
-    let other : secondary_type c.args.image.now c.args.key ≢ file_type = λ e. c.if-long.true (c.long.ensures ∙ e) in
+    let other : secondary_type c.args.image.now c.args.key ≢ FILE_TYPE = λ e. c.if-long.true (c.long.ensures ∙ e) in
     (t, s, kept_as_is c.args.image.now t s c.args.key (c.requires.can t s) c.args.moment other)
 
 pub cut-requires-clause-file : goal.cut-requires-clause-file
 cut-requires-clause-file c = λ t s.
-    let typed : secondary_type c.args.image.now c.args.key ≡ file_type = sym c.long.ensures ∙ c.if-long.false in
+    let typed : secondary_type c.args.image.now c.args.key ≡ FILE_TYPE = sym c.long.ensures ∙ c.if-long.false in
     is_file c.args.image.now t s c.args.key (c.requires.can t s) typed
 
 pub returns-clause-empties : goal.returns-clause-empties

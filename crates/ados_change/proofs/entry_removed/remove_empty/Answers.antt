@@ -1,5 +1,5 @@
 use Rattle.std.proofs.Common.{refl}
-use Rattle.adf_block.specs.Image.{parent_key}
+use Rattle.adf_block.specs.Fields.{parent_key}
 use Rattle.ados_change.proofs.Removed.{from_inside, gone, gone_gives, gone_kept_since, gone_untold, key_inside, key_still, pages_still, unlinkable}
 use Rattle.ados_change.proofs.entry_removed.remove_empty.Goals as goal
 

@@ -1,5 +1,5 @@
 use Rattle.std.proofs.Common.{refl}
-use Rattle.adf_block.specs.Image.{parent_key}
+use Rattle.adf_block.specs.Fields.{parent_key}
 use Rattle.ados_change.proofs.Renamed.{dir_inside, from_inside, insertable, key_inside, key_still, moved, moved_behind, moved_gives_none, moved_keeps, moved_none, unlinkable}
 use Rattle.ados_change.proofs.entry_renamed.rename.Goals as goal
 

@@ -1,6 +1,6 @@
 use Rattle.std.proofs.Common.{◌≡◌, Bool, true, false, MatchBool, length, sym, ap, ap₂, ◌∙◌, arith}
 use Rattle.ados_model.specs.Tree.{block_cost}
-use Rattle.adf_block.specs.Image.{format_of}
+use Rattle.adf_block.specs.Fields.{format_of}
 use Rattle.ados_model.specs.File.{contents}
 use Rattle.ados_change.proofs.Writable.{lawful_pages}
 use Rattle.ados_change.proofs.Renewed.{size_in}

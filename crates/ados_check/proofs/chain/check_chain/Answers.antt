@@ -1,7 +1,8 @@
 use Rattle.std.proofs.Common.{◌≡◌, ◌<◌, ◌≤◌, ◌+◌, ◌-◌, ◌/◌, ◌%◌, ℕ, suc, ◌∷◌, take, slice_index, refl, sym, ap, ◌∙◌, subst, arith, below_more}
 use Rattle.std.specs.List.{sum_by}
-use Rattle.adf_block.specs.Image.{long, held_count}
-use Rattle.adf_block.specs.Layout.{next_data}
+use Rattle.adf_block.specs.Image.{long}
+use Rattle.adf_block.specs.Fields.{held_count}
+use Rattle.adf_block.specs.declared.layout.TheConstants.{NEXT_DATA}
 use Rattle.ados_model.specs.declared.fault.FaultKind.TheVariants.{BadCount, BadPointer}
 use Rattle.ados_model.specs.Faults.{HasBadPointer}
 use Rattle.ados_check.proofs.Shown.{shown}
@@ -35,7 +36,7 @@ returns-then-long-block c =
     shown c.args.source.now.bytes c.bad_link.result BadPointer c.loop-place.before c.bad_link.ensures.kind c.bad_link.ensures.block
     (subst (HasBadPointer c.args.source.now.bytes) (sym c.loop-place.invariant.before)
     (link_shown c.args.source.now.bytes c.args.file c.args.count c.requires.reached c.requires.counts c.requires.ofs c.loop-place.place (omega (arith, c.loop-place-test.true))
-    (λ z. c.if-long-block.true (c.long.ensures ∙ ap (λ (b : ℕ). long c.args.source.now.bytes b next_data) c.loop-place.invariant.before ∙ z ∙ sym block))))
+    (λ z. c.if-long-block.true (c.long.ensures ∙ ap (λ (b : ℕ). long c.args.source.now.bytes b NEXT_DATA) c.loop-place.invariant.before ∙ z ∙ sym block))))
 
 pub held_in-requires-clause-inside : goal.held_in-requires-clause-inside
 held_in-requires-clause-inside c =
@@ -73,7 +74,7 @@ loop-place-preserved c =
       ];
       before = let next : c.loop-place.place + 1 ≡ suc c.loop-place.place = omega arith in
           block ∙ ap (slice_index (c.args.file ∷ blocks_upto c.args.source.now.bytes c.args.file c.args.count)) (sym next);
-      linked = below_more _ _ c.loop-place.invariant.linked (record { named = ap (λ (b : ℕ). long c.args.source.now.bytes b next_data) (sym c.loop-place.invariant.before) ∙ sym c.long.ensures ∙ c.if-long-block.false ∙ block });
+      linked = below_more _ _ c.loop-place.invariant.linked (record { named = ap (λ (b : ℕ). long c.args.source.now.bytes b NEXT_DATA) (sym c.loop-place.invariant.before) ∙ sym c.long.ensures ∙ c.if-long-block.false ∙ block });
       placed = below_more _ _ c.loop-place.invariant.placed here;
       sum = more ∙ sum_more c.args.source.now.bytes c.args.file c.args.count c.requires.reached c.requires.counts c.loop-place.place c.loop-place.sum c.in_ok-held_in.field-0 c.loop-place-test.true c.loop-place.invariant.sum held;
       few = omega (arith, more, few, c.loop-place.invariant.few);
@@ -92,7 +93,7 @@ returns-then-long-ne0 c =
     shown c.args.source.now.bytes c.bad_link-then-long-ne0.result BadPointer c.loop-place.before c.bad_link-then-long-ne0.ensures.kind c.bad_link-then-long-ne0.ensures.block
     (subst (HasBadPointer c.args.source.now.bytes) (sym c.loop-place.invariant.before)
     (link_shown c.args.source.now.bytes c.args.file c.args.count c.requires.reached c.requires.counts c.requires.ofs c.loop-place.place (omega (arith, c.loop-place.auto.place-end))
-    (λ z. c.if-long-ne0.true (c.long-2.ensures ∙ ap (λ (b : ℕ). long c.args.source.now.bytes b next_data) c.loop-place.invariant.before ∙ z
+    (λ z. c.if-long-ne0.true (c.long-2.ensures ∙ ap (λ (b : ℕ). long c.args.source.now.bytes b NEXT_DATA) c.loop-place.invariant.before ∙ z
     ∙ past_blocks c.args.source.now.bytes c.args.file c.args.count c.loop-place.place (omega (arith, c.loop-place-test.false))))))
 
 pub long-requires-3-clause-block : goal.long-requires-3-clause-block
@@ -115,7 +116,7 @@ returns c =
     let sum = ap (λ (k : ℕ). sum_by (held_count c.args.source.now.bytes) (take k (blocks_upto c.args.source.now.bytes c.args.file c.args.count))) (sym last) ∙ sym c.loop-place.invariant.sum in
     linked_file c.args.source.now.bytes c.args.file c.args.count c.requires.reached c.requires.counts c.requires.ofs c.requires.size
     (subst (λ (n : ℕ). (k : ℕ) → k < n → IsLinkedAt c.args.source.now.bytes c.args.file c.args.count k) last c.loop-place.invariant.linked)
-    (ap (λ (k : ℕ). long c.args.source.now.bytes (slice_index (c.args.file ∷ blocks_upto c.args.source.now.bytes c.args.file c.args.count) k) next_data) (sym last)
-    ∙ ap (λ (b : ℕ). long c.args.source.now.bytes b next_data) (sym c.loop-place.invariant.before) ∙ sym c.long-2.ensures ∙ c.if-long-ne0.false)
+    (ap (λ (k : ℕ). long c.args.source.now.bytes (slice_index (c.args.file ∷ blocks_upto c.args.source.now.bytes c.args.file c.args.count) k) NEXT_DATA) (sym last)
+    ∙ ap (λ (b : ℕ). long c.args.source.now.bytes b NEXT_DATA) (sym c.loop-place.invariant.before) ∙ sym c.long-2.ensures ∙ c.if-long-ne0.false)
     (subst (λ (n : ℕ). (k : ℕ) → k < n → IsPlacedAt c.args.source.now.bytes c.args.file c.args.count k) last c.loop-place.invariant.placed)
     (sum ∙ c.if-sum-from.false ∙ c.from-2.ensures ∙ c.long-3.ensures)

@@ -1,5 +1,5 @@
 use Rattle.std.proofs.Common.{◌≡◌, ◌≢◌, ℕ, suc, ◌<◌}
-use Rattle.adf_block.specs.Image.{pointer_count}
+use Rattle.adf_block.specs.Fields.{pointer_count}
 use Rattle.ados_model.specs.File.{pointer_block}
 use Rattle.ados_check.proofs.counts.count_blocks.Given as goal
 

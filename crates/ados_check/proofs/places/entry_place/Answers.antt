@@ -1,6 +1,6 @@
 use Rattle.std.proofs.Common.{◌≡◌, ◌-◌, sym, ◌∙◌, arith}
-use Rattle.adf_block.specs.Image.{secondary_type}
-use Rattle.adf_block.specs.Layout.{file_type}
+use Rattle.adf_block.specs.Fields.{secondary_type}
+use Rattle.adf_block.specs.declared.layout.TheConstants.{FILE_TYPE}
 use Rattle.ados_model.specs.declared.role.Role.{Role}
 use Rattle.ados_model.specs.declared.role.Role.TheVariants.{Entry, Extension, Data}
 use Rattle.ados_model.specs.Faults.{IsPlace}
@@ -38,7 +38,7 @@ returns-then-is_named-2 c =
 pub returns-then-is_pointer : goal.returns-then-is_pointer
 returns-then-is_pointer c =
     let image = c.args.source.now.bytes in
-    let kind : secondary_type image c.args.block ≡ file_type = sym c.long-kind.ensures ∙ c.if-kind.true in
+    let kind : secondary_type image c.args.block ≡ FILE_TYPE = sym c.long-kind.ensures ∙ c.if-kind.true in
     let at = c.is_pointer.ensures.0 c.if-is_pointer.true in
     is_only (λ (next : Role). IsPlace image c.args.block (Entry c.args.dir c.args.slot) c.args.i next) (Data c.args.block)
     (pointer_place image c.args.block c.args.i c.args.dir c.args.slot kind at.0 at.1)
@@ -52,7 +52,7 @@ returns-then-is_pointer c =
 pub returns-then-is_named-3 : goal.returns-then-is_named-3
 returns-then-is_named-3 c =
     let image = c.args.source.now.bytes in
-    let kind : secondary_type image c.args.block ≡ file_type = sym c.long-kind.ensures ∙ c.if-kind-2.true in
+    let kind : secondary_type image c.args.block ≡ FILE_TYPE = sym c.long-kind.ensures ∙ c.if-kind-2.true in
     let here = c.if-i-eq-NEXT_EXTENSION.true in
     is_only (λ (next : Role). IsPlace image c.args.block (Entry c.args.dir c.args.slot) c.args.i next) (Extension c.args.block)
     (first_place image c.args.block c.args.i c.args.dir c.args.slot kind here (λ z. c.if-is_named-3.true (c.long-is_named.ensures ∙ z)))

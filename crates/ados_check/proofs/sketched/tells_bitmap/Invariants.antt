@@ -1,5 +1,5 @@
 use Rattle.std.proofs.Common.{◌≢◌, ◌<◌, ℕ}
-use Rattle.adf_block.specs.Image.{primary_type}
+use Rattle.adf_block.specs.Fields.{primary_type}
 use Rattle.ados_map.specs.Pages.{page_block}
 use Rattle.ados_check.proofs.sketched.tells_bitmap.Given as goal
 

@@ -1,16 +1,13 @@
-use Rattle.std.proofs.Common.{◌≡◌, ◌<◌, ℕ, ◌+◌, ◌-◌, ◌%◌, ◌^◌, inr, List, sym, arith}
+use Rattle.std.proofs.Common.{◌≡◌, ◌<◌, ℕ, ◌+◌, ◌-◌, ◌%◌, ◌^◌, inr, sym, arith}
 use Rattle.adf_block.specs.Image.{long, block_sum}
 use Rattle.adf_block.proofs.Frames.{changed_sum}
+use Rattle.adf_block.proofs.Totals.{sum_fits}
 use Rattle.ados_data.proofs.edit.set_field.Goals as goal
 
 -- the checksum balances the change of the field
 taken_up : (s0 s1 s2 check old v sum : ℕ) → s0 ≡ 0 → (s1 + old) % 2 ^ 32 ≡ (s0 + v) % 2 ^ 32 → (s2 + check) % 2 ^ 32 ≡ (s1 + sum) % 2 ^ 32 → sum ≡ ((check + old) % 2 ^ 32 + (2 ^ 32 - v)) % 2 ^ 32 → v < 2 ^ 32
     → s2 < 2 ^ 32 → s2 ≡ 0
 taken_up s0 s1 s2 check old v sum z first second up fits small = omega arith
-
-sum_fits : (image : List ℕ) (b : ℕ) → block_sum image b < 2 ^ 32
-unfolding block_sum
-sum_fits image b = omega arith
 
 pub returns-clause-sum : goal.returns-clause-sum
 returns-clause-sum c z =

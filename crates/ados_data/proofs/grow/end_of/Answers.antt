@@ -1,7 +1,7 @@
 use Rattle.std.proofs.Common.{◌≡◌, ◌<◌, ◌-◌, ◌/◌, ◌%◌, ◌∷◌, ℕ, length, slice_index, sym, ap, ◌∙◌, arith}
 use Rattle.std.proofs.lemmas.List.{get_or_past}
-use Rattle.adf_block.specs.Layout.{first_pointer}
-use Rattle.adf_block.specs.declared.Format.{Format}
+use Rattle.adf_block.specs.declared.layout.TheConstants.{FIRST_POINTER}
+use Rattle.adf_block.specs.declared.layout.Format.{Format}
 use Rattle.adf_block.specs.Image.{long}
 use Rattle.ados_model.specs.Tree.{data_count, extension_count}
 use Rattle.ados_model.specs.File.{data_blocks, extension_blocks, contents, pointer_block}
@@ -37,8 +37,8 @@ returns c =
             let here : c.data_count-count.result - 1 ≡ length (data_blocks c.args.image.now c.args.file) - 1 = omega (arith, count) in
             let row : c.extension_count.result ≡ (length (data_blocks c.args.image.now c.args.file) - 1) / 72 = omega (arith, place, c.requires.lawful.extensions_fit, some) in
             w.last-is ∙ w.data_block-last.ensures
-            ∙ ap (λ (b : ℕ). long c.args.image.now b (first_pointer - (c.data_count-count.result - 1) % 72)) (c.pointer_block-holder.ensures ∙ ap (pointer_block c.args.image.now c.args.file) row)
-            ∙ ap (λ (n : ℕ). long c.args.image.now (pointer_block c.args.image.now c.args.file ((length (data_blocks c.args.image.now c.args.file) - 1) / 72)) (first_pointer - n % 72)) here
+            ∙ ap (λ (b : ℕ). long c.args.image.now b (FIRST_POINTER - (c.data_count-count.result - 1) % 72)) (c.pointer_block-holder.ensures ∙ ap (pointer_block c.args.image.now c.args.file) row)
+            ∙ ap (λ (n : ℕ). long c.args.image.now (pointer_block c.args.image.now c.args.file ((length (data_blocks c.args.image.now c.args.file) - 1) / 72)) (FIRST_POINTER - n % 72)) here
             ∙ data_is c.args.image.now c.args.file (length (data_blocks c.args.image.now c.args.file) - 1) (omega arith)
       ];
     }

@@ -3,7 +3,7 @@ use Rattle.std.proofs.lemmas.List.{length-append, length-replicate}
 use Rattle.ados_model.specs.Tree.{block_cost, data_count, data_size, extension_count}
 use Rattle.ados_model.specs.File.{contents, data_blocks, extension_blocks}
 use Rattle.ados_data.proofs.Sizes.{few_bytes, one_more_cost}
-use Rattle.adf_block.specs.declared.Format.{Format}
+use Rattle.adf_block.specs.declared.layout.Format.{Format}
 use Rattle.adf_block.specs.Image.{block_count, IsInside}
 use Rattle.adf_block.specs.Whole.{free_bit_count}
 use Rattle.ados_data.proofs.Leaving.{leaves_both, beside_gains, gains_both}

@@ -3,7 +3,7 @@ use Rattle.adf_block.specs.Whole.{free_bit_count}
 use Rattle.ados_map.specs.Pages.{NoneFreeBelow}
 use Rattle.ados_model.specs.Tree.{block_cost, data_size}
 use Rattle.ados_model.specs.File.{contents, data_blocks, extension_blocks}
-use Rattle.adf_block.specs.Image.{format_of}
+use Rattle.adf_block.specs.Fields.{format_of}
 use Rattle.ados_data.specs.Changing.{WritableFile}
 use Rattle.ados_data.specs.Others.{Gains, LeavesOthers}
 use Rattle.ados_data.specs.Unnamed.{KeepsUnnamed}

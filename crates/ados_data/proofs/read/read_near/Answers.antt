@@ -1,7 +1,8 @@
 use Rattle.std.proofs.Common.{◌≡◌, ◌-◌, ◌+◌, ◌/◌, ◌%◌, ◌<◌, ◌≤◌, ℕ, List, take, drop, length, refl, sym, ap, ap₂, ◌∙◌, subst, arith}
 use borrow.Rule.Slice.PartMut.{put_mid}
-use Rattle.adf_block.specs.declared.Format.{Format}
-use Rattle.adf_block.specs.Image.{bytes_at, format_of}
+use Rattle.adf_block.specs.declared.layout.Format.{Format}
+use Rattle.adf_block.specs.Image.{bytes_at}
+use Rattle.adf_block.specs.Fields.{format_of}
 use Rattle.ados_model.specs.Tree.{data_size, data_start}
 use Rattle.ados_model.specs.File.{extension_blocks, pointer_block, contents}
 use Rattle.ados_data.proofs.Places.{size_is, byte_within, holder_of}

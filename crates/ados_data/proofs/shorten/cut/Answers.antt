@@ -1,7 +1,8 @@
 use Rattle.std.proofs.Common.{◌≡◌, ◌≤◌, ◌-◌, ◌+◌, ◌/◌, ◌%◌, ◌∷◌, suc, ℕ, length, slice_index, refl, sym, ap, ◌∙◌, subst, arith}
-use Rattle.adf_block.specs.Layout.{first_pointer}
-use Rattle.adf_block.specs.declared.Format.{Format}
-use Rattle.adf_block.specs.Image.{block_count, long, IsInside, format_of}
+use Rattle.adf_block.specs.declared.layout.TheConstants.{FIRST_POINTER}
+use Rattle.adf_block.specs.declared.layout.Format.{Format}
+use Rattle.adf_block.specs.Image.{block_count, long, IsInside}
+use Rattle.adf_block.specs.Fields.{format_of}
 use Rattle.ados_model.specs.Tree.{data_count, extension_count}
 use Rattle.ados_model.specs.File.{contents, data_blocks, extension_blocks, pointer_block}
 use Rattle.ados_data.specs.steps.Blocks.{IsResized}
@@ -29,17 +30,17 @@ pub resize-requires-clause-file : goal.resize-requires-clause-file
 resize-requires-clause-file c = (readable c.args.image.now c.args.file c.requires.writable.lawful).headers_inside 0 (omega arith)
 
 pub resize-requires-clause-holder : goal.resize-requires-clause-holder
-resize-requires-clause-holder c = holder_is_inside c.args.image.now c.args.file c.args.size c.data_count-count.result c.requires.writable (omega (arith, c.blocks-2.ensures.count, c.blocks-2.ensures.size), omega (arith, c.blocks-2.ensures.count, c.blocks-2.ensures.size)) (omega (arith, c.requires.shorter, c.if-size-old.false, c.long-old.ensures, c.requires.writable.lawful.holds.size)) (c.data_count-count.ensures ∙ ap (λ (f : Format). data_count f c.args.size) c.format-format.ensures) c.pointer_block-holder.result c.data_block-last.result c.long-next.result (c.pointer_block-holder.ensures ∙ ap (pointer_block c.args.image.now c.args.file) c.extension_count.ensures) (c.data_block-last.ensures ∙ ap (λ (n : ℕ). long c.args.image.now c.pointer_block-holder.result (first_pointer - n % 72)) c.saturating_sub.ensures) c.long-next.ensures
+resize-requires-clause-holder c = holder_is_inside c.args.image.now c.args.file c.args.size c.data_count-count.result c.requires.writable (omega (arith, c.blocks-2.ensures.count, c.blocks-2.ensures.size), omega (arith, c.blocks-2.ensures.count, c.blocks-2.ensures.size)) (omega (arith, c.requires.shorter, c.if-size-old.false, c.long-old.ensures, c.requires.writable.lawful.holds.size)) (c.data_count-count.ensures ∙ ap (λ (f : Format). data_count f c.args.size) c.format-format.ensures) c.pointer_block-holder.result c.data_block-last.result c.long-next.result (c.pointer_block-holder.ensures ∙ ap (pointer_block c.args.image.now c.args.file) c.extension_count.ensures) (c.data_block-last.ensures ∙ ap (λ (n : ℕ). long c.args.image.now c.pointer_block-holder.result (FIRST_POINTER - n % 72)) c.saturating_sub.ensures) c.long-next.ensures
 
 pub resize-requires-clause-last : goal.resize-requires-clause-last
-resize-requires-clause-last c = λ l. last_inside c.args.image.now c.args.file c.args.size c.data_count-count.result c.requires.writable (omega (arith, c.blocks-2.ensures.count, c.blocks-2.ensures.size), omega (arith, c.blocks-2.ensures.count, c.blocks-2.ensures.size)) (omega (arith, c.requires.shorter, c.if-size-old.false, c.long-old.ensures, c.requires.writable.lawful.holds.size)) (c.data_count-count.ensures ∙ ap (λ (f : Format). data_count f c.args.size) c.format-format.ensures) c.pointer_block-holder.result c.data_block-last.result c.long-next.result (c.pointer_block-holder.ensures ∙ ap (pointer_block c.args.image.now c.args.file) c.extension_count.ensures) (c.data_block-last.ensures ∙ ap (λ (n : ℕ). long c.args.image.now c.pointer_block-holder.result (first_pointer - n % 72)) c.saturating_sub.ensures) c.long-next.ensures
+resize-requires-clause-last c = λ l. last_inside c.args.image.now c.args.file c.args.size c.data_count-count.result c.requires.writable (omega (arith, c.blocks-2.ensures.count, c.blocks-2.ensures.size), omega (arith, c.blocks-2.ensures.count, c.blocks-2.ensures.size)) (omega (arith, c.requires.shorter, c.if-size-old.false, c.long-old.ensures, c.requires.writable.lawful.holds.size)) (c.data_count-count.ensures ∙ ap (λ (f : Format). data_count f c.args.size) c.format-format.ensures) c.pointer_block-holder.result c.data_block-last.result c.long-next.result (c.pointer_block-holder.ensures ∙ ap (pointer_block c.args.image.now c.args.file) c.extension_count.ensures) (c.data_block-last.ensures ∙ ap (λ (n : ℕ). long c.args.image.now c.pointer_block-holder.result (FIRST_POINTER - n % 72)) c.saturating_sub.ensures) c.long-next.ensures
 
 pub resize-requires-clause-apart : goal.resize-requires-clause-apart
-resize-requires-clause-apart c = λ l. last_apart c.args.image.now c.args.file c.args.size c.data_count-count.result c.requires.writable (omega (arith, c.blocks-2.ensures.count, c.blocks-2.ensures.size), omega (arith, c.blocks-2.ensures.count, c.blocks-2.ensures.size)) (omega (arith, c.requires.shorter, c.if-size-old.false, c.long-old.ensures, c.requires.writable.lawful.holds.size)) (c.data_count-count.ensures ∙ ap (λ (f : Format). data_count f c.args.size) c.format-format.ensures) c.pointer_block-holder.result c.data_block-last.result c.long-next.result (c.pointer_block-holder.ensures ∙ ap (pointer_block c.args.image.now c.args.file) c.extension_count.ensures) (c.data_block-last.ensures ∙ ap (λ (n : ℕ). long c.args.image.now c.pointer_block-holder.result (first_pointer - n % 72)) c.saturating_sub.ensures) c.long-next.ensures
+resize-requires-clause-apart c = λ l. last_apart c.args.image.now c.args.file c.args.size c.data_count-count.result c.requires.writable (omega (arith, c.blocks-2.ensures.count, c.blocks-2.ensures.size), omega (arith, c.blocks-2.ensures.count, c.blocks-2.ensures.size)) (omega (arith, c.requires.shorter, c.if-size-old.false, c.long-old.ensures, c.requires.writable.lawful.holds.size)) (c.data_count-count.ensures ∙ ap (λ (f : Format). data_count f c.args.size) c.format-format.ensures) c.pointer_block-holder.result c.data_block-last.result c.long-next.result (c.pointer_block-holder.ensures ∙ ap (pointer_block c.args.image.now c.args.file) c.extension_count.ensures) (c.data_block-last.ensures ∙ ap (λ (n : ℕ). long c.args.image.now c.pointer_block-holder.result (FIRST_POINTER - n % 72)) c.saturating_sub.ensures) c.long-next.ensures
 
 pub loop-i-init : goal.loop-i-init
 loop-i-init c =
-    cutting_begun c.args.image.now c.args.file c.args.size c.data_count-count.result c.requires.writable (omega (arith, c.blocks-2.ensures.count, c.blocks-2.ensures.size), omega (arith, c.blocks-2.ensures.count, c.blocks-2.ensures.size)) (omega (arith, c.requires.shorter, c.if-size-old.false, c.long-old.ensures, c.requires.writable.lawful.holds.size)) (c.data_count-count.ensures ∙ ap (λ (f : Format). data_count f c.args.size) c.format-format.ensures) c.pointer_block-holder.result c.data_block-last.result c.long-next.result (c.pointer_block-holder.ensures ∙ ap (pointer_block c.args.image.now c.args.file) c.extension_count.ensures) (c.data_block-last.ensures ∙ ap (λ (n : ℕ). long c.args.image.now c.pointer_block-holder.result (first_pointer - n % 72)) c.saturating_sub.ensures) c.long-next.ensures c.resize.new.image (subst (λ (f : Format). IsResized c.args.image.now f c.args.file c.pointer_block-holder.result c.data_block-last.result c.data_count-count.result c.args.size c.resize.new.image) c.format-format.ensures c.resize.ensures)
+    cutting_begun c.args.image.now c.args.file c.args.size c.data_count-count.result c.requires.writable (omega (arith, c.blocks-2.ensures.count, c.blocks-2.ensures.size), omega (arith, c.blocks-2.ensures.count, c.blocks-2.ensures.size)) (omega (arith, c.requires.shorter, c.if-size-old.false, c.long-old.ensures, c.requires.writable.lawful.holds.size)) (c.data_count-count.ensures ∙ ap (λ (f : Format). data_count f c.args.size) c.format-format.ensures) c.pointer_block-holder.result c.data_block-last.result c.long-next.result (c.pointer_block-holder.ensures ∙ ap (pointer_block c.args.image.now c.args.file) c.extension_count.ensures) (c.data_block-last.ensures ∙ ap (λ (n : ℕ). long c.args.image.now c.pointer_block-holder.result (FIRST_POINTER - n % 72)) c.saturating_sub.ensures) c.long-next.ensures c.resize.new.image (subst (λ (f : Format). IsResized c.args.image.now f c.args.file c.pointer_block-holder.result c.data_block-last.result c.data_count-count.result c.args.size c.resize.new.image) c.format-format.ensures c.resize.ensures)
 
 pub enter-cursor-requires-clause-pages : goal.enter-cursor-requires-clause-pages
 enter-cursor-requires-clause-pages c = c.loop-i.invariant.stands.map.pages

@@ -1,6 +1,6 @@
 use Rattle.std.proofs.Common.{◌≡◌, ◌-◌, ◌++◌, ℕ, length, replicate, take, ap, ◌∙◌, refl, arith}
 use Rattle.ados_model.specs.File.{contents}
-use Rattle.ados_model.specs.Change.{overlaid}
+use Rattle.ados_model.specs.Edits.{overlaid}
 use Rattle.ados_data.proofs.Overlaid.{zeros_over}
 use Rattle.ados_data.proofs.Sizes.{few_bytes}
 use Rattle.ados_data.proofs.Summed.{summed_after}

@@ -1,11 +1,12 @@
 use Rattle.std.proofs.Common.{ℕ, ◌-◌, ◌≡◌, ◌≤◌, ◌<◌, ◌+◌, ◌/◌, take, length}
-use Rattle.adf_block.specs.Image.{has_free_bit, block_count, IsSize, format_of}
-use Rattle.adf_block.specs.Whole.{free_bit_count}
+use Rattle.adf_block.specs.Image.{has_free_bit, block_count}
+use Rattle.adf_block.specs.Whole.{IsSize, free_bit_count}
+use Rattle.adf_block.specs.Fields.{format_of}
 use Rattle.ados_map.specs.Pages.{HasBit}
 use Rattle.ados_data.specs.Others.{LeavesOthers}
 use Rattle.ados_data.specs.Unnamed.{KeepsUnnamed}
 use Rattle.ados_model.specs.File.{contents, data_blocks, extension_blocks, pointer_block}
-use Rattle.ados_model.specs.Change.{overlaid}
+use Rattle.ados_model.specs.Edits.{overlaid}
 use Rattle.ados_data.specs.Changing.{WritableFile}
 use Rattle.ados_data.proofs.write.overlay.Given as goal
 

@@ -1,6 +1,6 @@
 use Rattle.std.proofs.Common.{◌≡◌, ℕ, List, length, take, ap, ◌∙◌, arith, ◌/◌, sym, subst}
 use Rattle.ados_model.specs.File.{contents, data_blocks, extension_blocks}
-use Rattle.adf_block.specs.Image.{format_of}
+use Rattle.adf_block.specs.Fields.{format_of}
 use Rattle.ados_data.specs.Others.{Gains}
 use Rattle.ados_data.proofs.Leaving.{leaves_both, beside_gains, gains_kept}
 use Rattle.ados_data.proofs.Overlaid.{length-overlaid}
@@ -8,7 +8,7 @@ use Rattle.ados_data.proofs.LongerBytes.{overlaid_longer}
 use Rattle.ados_data.proofs.Composing.{HasGrown, keeps_calls, whole_front}
 use Rattle.ados_data.proofs.Placed.{among_more}
 use Rattle.ados_data.proofs.Bounds.{below_stays}
-use Rattle.ados_data.proofs.Marks.{has_bit}
+use Rattle.ados_map.proofs.MarkLemmas.{bit_of_inside}
 use Rattle.ados_data.proofs.write.write_longer.Goals as goal
 
 pub returns-clause-bytes : goal.returns-clause-bytes
@@ -44,7 +44,7 @@ returns-clause-keeps c =
 pub returns-clause-below : goal.returns-clause-below
 returns-clause-below c =
     below_stays c.lengthen-bound.new.image c.overlay.new.image c.lengthen-bound.result (ap (λ (n : ℕ). n / 512) c.overlay.ensures.leaves.same_length)
-    (λ b inside used. c.overlay.ensures.marks b (has_bit c.lengthen-bound.new.image b inside) ∙ used) c.lengthen-bound.ensures.below
+    (λ b inside used. c.overlay.ensures.marks b (bit_of_inside c.lengthen-bound.new.image b inside) ∙ used) c.lengthen-bound.ensures.below
 
 pub overlay-requires-clause-near : goal.overlay-requires-clause-near
 overlay-requires-clause-near c = among_more c.args.file (extension_blocks c.args.image.now c.args.file) (extension_blocks c.lengthen-bound.new.image c.args.file) c.args.near c.lengthen-bound.ensures.extensions c.requires.near

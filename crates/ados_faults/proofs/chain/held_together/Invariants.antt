@@ -1,6 +1,6 @@
 use Rattle.std.proofs.Common.{◌≡◌, ◌<◌, ℕ, take, slice_index_or}
 use Rattle.std.specs.List.{sum_by}
-use Rattle.adf_block.specs.Image.{held_count}
+use Rattle.adf_block.specs.Fields.{held_count}
 use Rattle.ados_model.specs.Faults.{InImage}
 use Rattle.ados_faults.proofs.chain.held_together.Given as goal
 

@@ -1,11 +1,11 @@
 use Rattle.std.proofs.Common.{◌≡◌, slice_index}
-use Rattle.adf_block.specs.Layout.{next_extension}
+use Rattle.adf_block.specs.declared.layout.TheConstants.{NEXT_EXTENSION}
 use Rattle.ados_faults.specs.steps.Chain.{HasMet, IsChain}
 use Rattle.ados_faults.proofs.file_blocks.headers_of.Given as goal
 
 abbrev pub invariant-loop-passed : goal.invariant-loop-passed
 invariant-loop-passed l = record {
-  chain : IsChain l.image next_extension l.headers.blocks.items;
+  chain : IsChain l.image NEXT_EXTENSION l.headers.blocks.items;
   met : HasMet l.headers.met l.headers.blocks.items;
   head : slice_index l.headers.blocks.items 0 ≡ l.file;
 }

@@ -1,8 +1,9 @@
 use Rattle.std.proofs.Common.{sym, refl, ◌∙◌, arith, below_more}
 use Rattle.std.proofs.lemmas.Bool.{false≢true}
-use Rattle.ados_faults.proofs.Freed.{marked_by, unmarked_by, inside, none_below, is_marked_free, free_shown}
+use Rattle.ados_faults.proofs.Freed.{inside, none_below, is_marked_free, free_shown}
 use Rattle.ados_faults.proofs.first.reached_and_free.Goals as goal
 use Rattle.ados_faults.proofs.first.reached_and_free.Goals.{else-is_some-via-then-is_some+else-is_marked_free, else-is_some-via-else-is_some}
+use Rattle.ados_check.proofs.Free.{marked_by, unmarked_by}
 
 pub loop-block-init : goal.loop-block-init
 loop-block-init c = none_below c.args.image.now c.args.marks.now c.blocks-block-end.ensures.image c.requires.checked

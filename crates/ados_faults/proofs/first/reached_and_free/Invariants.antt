@@ -1,5 +1,5 @@
 use Rattle.std.proofs.Common.{◌≡◌, ◌<◌, ℕ, Some}
-use Rattle.adf_block.specs.Image.{HasFreeBit}
+use Rattle.adf_block.specs.Whole.{HasFreeBit}
 use Rattle.ados_check.specs.declared.mark.Mark.{Mark}
 use Rattle.ados_check.specs.Marks.{mark_at}
 use Rattle.ados_faults.proofs.first.reached_and_free.Given as goal

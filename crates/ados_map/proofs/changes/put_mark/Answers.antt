@@ -7,16 +7,13 @@ use Rattle.ados_map.specs.Changes.{BitChanged}
 use Rattle.ados_map.specs.Bits.{IsBitPut}
 use Rattle.ados_map.proofs.PageLemmas.{marked_by}
 use Rattle.ados_map.proofs.MarkLemmas.{marked_sums}
+use Rattle.adf_block.proofs.Totals.{sum_fits}
 use Rattle.ados_map.proofs.changes.put_mark.Goals as goal
 
 -- the checksum balances the change of the other long
 taken_up : (s0 s1 s2 check old v sum : ℕ) → (s1 + old) % 2 ^ 32 ≡ (s0 + v) % 2 ^ 32 → (s2 + check) % 2 ^ 32 ≡ (s1 + sum) % 2 ^ 32 → sum ≡ ((check + old) % 2 ^ 32 + (2 ^ 32 - v)) % 2 ^ 32 → v < 2 ^ 32
     → s0 < 2 ^ 32 → s2 < 2 ^ 32 → s2 ≡ s0
 taken_up s0 s1 s2 check old v sum first second up fits was now = omega arith
-
-sum_fits : (image : List ℕ) (b : ℕ) → block_sum image b < 2 ^ 32
-unfolding block_sum
-sum_fits image b = omega arith
 
 -- the same with names for the bitmap block, the old long and the new one
 by_page : (old mid new : List ℕ) (k page v u check sum : ℕ) (free : Bool) → page ≡ page_block old (page_of k) → v ≡ long old page (map_long k) → long mid page (map_long k) ≡ u → u < 2 ^ 32

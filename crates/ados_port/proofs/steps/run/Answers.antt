@@ -1,4 +1,4 @@
-use Rattle.std.proofs.Common.{◌≡◌, Bool, List, [], ◌∷◌, ◌++◌, length, drop, arith, refl, sym, ap, subst, ◌∙◌, append_assoc}
+use Rattle.std.proofs.Common.{◌≡◌, Bool, List, [], ◌∷◌, ◌++◌, length, drop, arith, sym, ap, subst, ◌∙◌, append_assoc}
 use Rattle.std.proofs.lemmas.List.{append-nil}
 use Rattle.port_history.specs.History.{PortState, PortHistory, events_of, queue}
 use Rattle.port_history.specs.Steps.{FirstAreServed}
@@ -7,6 +7,7 @@ use Rattle.port_history.specs.declared.step.Outcome.{Outcome}
 use Rattle.port_history.proofs.Closing.{dead-closed, dead-closing}
 use Rattle.ados_port.proofs.Histories.{served_length}
 use Rattle.ados_port.proofs.Grows.{grown_nil, grow}
+use Rattle.ados_port.proofs.Joins.{nil_of}
 use Rattle.ados_port.proofs.steps.run.Goals as goal
 
 pub loop-step-init : goal.loop-step-init
@@ -22,15 +23,11 @@ loop-step-preserved g c =
       omega (arith, old.3, c.push_reserved.ensures.len, c.push_reserved.ensures.capacity, c.in-Some.ensures.len),
     )
 
-no_items : {A : Type 0} (xs : List A) → length xs ≡ 0 → xs ≡ []
-no_items [] e = refl
-no_items (x ∷ xs) e = absurd (omega (arith, e))
-
 -- all steps are done
 whole_history : {S Q M A : Type 0} (gives : S → Q → M → S → A → Type 0) (has_died : S → Bool) (opening : PortState S Q A) (done rest steps : List (Step Q M)) (outcomes : List (Outcome Q A)) (closing : PortState S Q A)
     → done ++ rest ≡ steps → length rest ≡ 0 → PortHistory gives has_died opening done outcomes closing → PortHistory gives has_died opening steps outcomes closing
 whole_history gives has_died opening done rest steps outcomes closing split none h =
-    let whole : done ≡ steps = sym (append-nil done) ∙ ap (λ l. done ++ l) (sym (no_items rest none)) ∙ split
+    let whole : done ≡ steps = sym (append-nil done) ∙ ap (λ l. done ++ l) (sym (nil_of rest none)) ∙ split
     in subst (λ l. PortHistory gives has_died opening l outcomes closing) whole h
 
 -- in a history the first packets are served

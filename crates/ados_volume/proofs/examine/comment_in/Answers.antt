@@ -1,8 +1,8 @@
 use Rattle.std.proofs.Common.{length, sym, ap, ◌∙◌, arith}
 use Rattle.ados_model.specs.Tree.{Node}
-use Rattle.ados_volume.proofs.Bridge.{text_is}
 use Rattle.ados_model.proofs.Nodes.{some_in}
 use Rattle.ados_volume.proofs.Examining.{entry_of, root_node_is}
+use Rattle.ados_model.proofs.NoFaults.{text_is}
 use Rattle.ados_volume.proofs.examine.comment_in.Goals as goal
 
 pub returns-then-key-root : goal.returns-then-key-root

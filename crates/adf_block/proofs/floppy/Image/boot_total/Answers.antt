@@ -3,7 +3,7 @@ use Rattle.std.proofs.lemmas.Bool.Decides.{nat_tests}
 use Rattle.adf_block.specs.Image.{total, long}
 use Rattle.adf_block.specs.Boot.{boot_long}
 use Rattle.adf_block.proofs.Totals.{total-more}
-use Rattle.adf_block.proofs.floppy.Image.boot_total.Goals.{then-k-ne-BOOT_SUM, else-k-ne-BOOT_SUM}
+use Rattle.adf_block.proofs.floppy.Image.boot_total.Goals.{then-k-ne-BOOT_CHECKSUM, else-k-ne-BOOT_CHECKSUM}
 use Rattle.adf_block.proofs.floppy.Image.boot_total.Goals as goal
 
 -- the checksum's own long counts as 0
@@ -20,12 +20,12 @@ pub loop-k-preserved : goal.loop-k-preserved
 loop-k-preserved c =
     let image = c.args.self.now in
     let more = total-more (boot_long image) c.loop-k.k in
-    elim c.if-k-ne-BOOT_SUM.branch [
-      | then-k-ne-BOOT_SUM w ↦
-          let here = other image c.loop-k.k w.if-k-ne-BOOT_SUM.true in
+    elim c.if-k-ne-BOOT_CHECKSUM.branch [
+      | then-k-ne-BOOT_CHECKSUM w ↦
+          let here = other image c.loop-k.k w.if-k-ne-BOOT_CHECKSUM.true in
           record { sum = omega (arith, more, here); bound = omega arith }
-      | else-k-ne-BOOT_SUM w ↦
-          let here = own image c.loop-k.k w.if-k-ne-BOOT_SUM.false in
+      | else-k-ne-BOOT_CHECKSUM w ↦
+          let here = own image c.loop-k.k w.if-k-ne-BOOT_CHECKSUM.false in
           record { sum = omega (arith, more, here); bound = omega arith }
     ]
 

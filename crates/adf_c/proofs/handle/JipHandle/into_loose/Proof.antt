@@ -1,17 +1,16 @@
 -- `into_loose` distinguishes a box from none by the pointer.
-use Rattle.std.proofs.Common.{◌≡◌, List, [], ◌∷◌, ◌++◌, refl, sym, ap, ◌∙◌, subst, lit<}
-use mir.Val.{Val, vptr, vcons, vnil, has_ty}
+use Rattle.std.proofs.Common.{◌≡◌, List, [], ◌∷◌, ◌++◌, refl, sym, subst, lit<}
+use mir.Val.{Val, vptr, vcons, vnil}
 use base.Logic.{SProp, ent, emp, id⊢}
-use base.Fml.{ftrue}
 use prog.Wp.{WpFn}
-use types.Kit.{‵, raw, ◌⊛◌, some, later, at_ret, ◌$◌, ◌∵◌, !, qed, by, move, keep, drop, split, join, fsplit, fjoin, fpick, fpack, pick, suffices, use0, use1, await, rewrite, feq_l}
+use types.Kit.{‵, raw, ◌⊛◌, at_ret, ◌$◌, ◌∵◌, !, qed, by, move, keep, split, fsplit, fjoin, suffices, use0, use1}
 use types.Run.{stop, fld, lit, of_opd, bin, no_more, and_then, first, branches, exec, returns, enter}
-use types.ByLocal.{alloc_all, pass_all, free_all, look_at, get, get_in, sets, sets_last, lands_as, env}
+use types.ByLocal.{alloc_all, pass_all, free_all, look_at, get, get_in, sets, sets_last, env}
 use types.Part.{agg, sub, whole}
 use types.Match.{live}
 use contract.Monad.{fact, fact_i}
 use contract.Running.{tables}
-use denote.Exit.{yes, no}
+use denote.Exit.{yes}
 use denote.RattleType.{RattleType, owns}
 use denote.Signature.{types_at, type_at, plain}
 use denote.RawPtr.{Ptr, block_ptr, null_ptr, ptr_val, tests_null}
@@ -20,7 +19,6 @@ use denote.Param.{layout}
 use denote.Triple.Entry.{alive}
 use denote.Triple.Walked.{Stays, stay_dropped, walk_of, Goes-dropped}
 use Rattle.std.specs.declared.option.Option.TheVariants.{None, Some}
-use Rattle.core.proofs.alloc.Calls.{Goes-blank}
 use Rattle.core.proofs.alloc.Shapes.{after}
 use Rattle.core.proofs.cell.Inside.{Good, one}
 use Rattle.core.proofs.option.Made.{Some-of, none_of}
@@ -29,7 +27,7 @@ use Rattle.std.proofs.alloc.Global.TheLaws as heap_laws
 use Rattle.std.specs.contracts.impls.GlobalAllocator.TheImpl.{ghosts}
 use Rattle.std_alloc.proofs.ResultValues.{and_tt}
 use Rattle.std.proofs.raw_atomic.Walks.{proved_at, leaves}
-use Rattle.adf_c.proofs.Values.{R, both, Loose, loose_good, loose_in, loose_out, Handle, handle_good, handle_in, handle_out, either_held}
+use Rattle.adf_c.proofs.Values.{R, both, Loose, loose_good, loose_in, Handle, handle_good, handle_out, either_held}
 use Rattle.adf_c.specs.contracts.handle.JipHandle.into_loose.{ended, clauses}
 use Rattle.adf_c.specs.contracts.handle.JipHandle.into_loose.Key.{name as #self}
 use Rattle.adf_c.proofs.handle.JipHandle.into_loose.Statement.{statement}

@@ -2,7 +2,7 @@ use Rattle.std.proofs.Common.{◌≡◌, ◌-◌, ◌<◌, ℕ, List, length, sl
 use Rattle.std.proofs.lemmas.Bool.{false≢true}
 use Rattle.std.proofs.lemmas.List.{get_or_default}
 use Rattle.adf_block.specs.Image.{long}
-use Rattle.adf_block.specs.Layout.{next_extension}
+use Rattle.adf_block.specs.declared.layout.TheConstants.{NEXT_EXTENSION}
 use Rattle.ados_model.specs.Faults.{last_link}
 use Rattle.ados_faults.specs.steps.Chain.{IsChain}
 use Rattle.ados_faults.proofs.Linking.{chain_whole, chain_more, head_kept}
@@ -14,8 +14,8 @@ returns-then-not-is_inside-clause-whole c = λ _.
     let place : c.len.result - 1 ≡ length blocks - 1 = omega (arith, c.len.ensures, c.args.self.now.blocks.ok.0) in
     let within : c.len.result - 1 < length blocks = omega (arith, c.requires.chain.not_empty, place) in
     let last = c.index-last.ensures ∙ get_or_default blocks (c.len.result - 1) c.index-last.result.now 0 within ∙ ap (slice_index blocks) place in
-    let link : last_link c.args.image.now next_extension blocks ≡ c.long-next.result = sym (c.long-next.ensures ∙ ap (λ (b : ℕ). long c.args.image.now b next_extension) last) in
-    chain_whole c.args.image.now next_extension blocks c.requires.chain c.long-next.result link (λ inside. absurd (false≢true (sym c.if-not-is_inside.true ∙ c.is_inside.ensures.1 inside)))
+    let link : last_link c.args.image.now NEXT_EXTENSION blocks ≡ c.long-next.result = sym (c.long-next.ensures ∙ ap (λ (b : ℕ). long c.args.image.now b NEXT_EXTENSION) last) in
+    chain_whole c.args.image.now NEXT_EXTENSION blocks c.requires.chain c.long-next.result link (λ inside. absurd (false≢true (sym c.if-not-is_inside.true ∙ c.is_inside.ensures.1 inside)))
 
 pub returns-then-contains-clause-whole : goal.returns-then-contains-clause-whole
 returns-then-contains-clause-whole c = λ _.
@@ -23,8 +23,8 @@ returns-then-contains-clause-whole c = λ _.
     let place : c.len.result - 1 ≡ length blocks - 1 = omega (arith, c.len.ensures, c.args.self.now.blocks.ok.0) in
     let within : c.len.result - 1 < length blocks = omega (arith, c.requires.chain.not_empty, place) in
     let last = c.index-last.ensures ∙ get_or_default blocks (c.len.result - 1) c.index-last.result.now 0 within ∙ ap (slice_index blocks) place in
-    let link : last_link c.args.image.now next_extension blocks ≡ c.long-next.result = sym (c.long-next.ensures ∙ ap (λ (b : ℕ). long c.args.image.now b next_extension) last) in
-    chain_whole c.args.image.now next_extension blocks c.requires.chain c.long-next.result link (λ inside. c.requires.met.listed c.long-next.result (sym c.contains.ensures ∙ c.if-contains.true))
+    let link : last_link c.args.image.now NEXT_EXTENSION blocks ≡ c.long-next.result = sym (c.long-next.ensures ∙ ap (λ (b : ℕ). long c.args.image.now b NEXT_EXTENSION) last) in
+    chain_whole c.args.image.now NEXT_EXTENSION blocks c.requires.chain c.long-next.result link (λ inside. c.requires.met.listed c.long-next.result (sym c.contains.ensures ∙ c.if-contains.true))
 
 pub returns-clause-chain : goal.returns-clause-chain
 returns-clause-chain c =
@@ -32,9 +32,9 @@ returns-clause-chain c =
     let place : c.len.result - 1 ≡ length blocks - 1 = omega (arith, c.len.ensures, c.args.self.now.blocks.ok.0) in
     let within : c.len.result - 1 < length blocks = omega (arith, c.requires.chain.not_empty, place) in
     let last = c.index-last.ensures ∙ get_or_default blocks (c.len.result - 1) c.index-last.result.now 0 within ∙ ap (slice_index blocks) place in
-    let link : last_link c.args.image.now next_extension blocks ≡ c.long-next.result = sym (c.long-next.ensures ∙ ap (λ (b : ℕ). long c.args.image.now b next_extension) last) in
-    subst (IsChain c.args.image.now next_extension) (sym c.in_ok-add.ensures.blocks)
-    (chain_more c.args.image.now next_extension blocks c.requires.chain c.long-next.result link (c.if-not-is_inside.ensures.0 refl)
+    let link : last_link c.args.image.now NEXT_EXTENSION blocks ≡ c.long-next.result = sym (c.long-next.ensures ∙ ap (λ (b : ℕ). long c.args.image.now b NEXT_EXTENSION) last) in
+    subst (IsChain c.args.image.now NEXT_EXTENSION) (sym c.in_ok-add.ensures.blocks)
+    (chain_more c.args.image.now NEXT_EXTENSION blocks c.requires.chain c.long-next.result link (c.if-not-is_inside.ensures.0 refl)
     (λ has. false≢true (c.if-contains.ensures ∙ c.requires.met.held c.long-next.result has)))
 
 pub returns-clause-head : goal.returns-clause-head

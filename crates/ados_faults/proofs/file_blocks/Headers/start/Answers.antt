@@ -1,5 +1,5 @@
 use Rattle.std.proofs.Common.{List, ℕ, [], ◌∷◌, ◌++◌, slice_index, sym, ap, ◌∙◌, subst}
-use Rattle.adf_block.specs.Layout.{next_extension}
+use Rattle.adf_block.specs.declared.layout.TheConstants.{NEXT_EXTENSION}
 use Rattle.ados_faults.specs.steps.Chain.{HasMet, IsChain}
 use Rattle.ados_faults.proofs.Linking.{chain_start, met_none}
 use Rattle.ados_faults.proofs.file_blocks.Headers.start.Goals as goal
@@ -9,8 +9,8 @@ add-requires c = subst (HasMet c.new-met.result) (sym c.new-blocks.ensures.items
 
 pub returns-clause-chain : goal.returns-clause-chain
 returns-clause-chain c =
-    subst (IsChain c.args.image.now next_extension) (sym (c.in_ok-add.ensures.blocks ∙ ap (λ (xs : List ℕ). xs ++ c.args.file ∷ []) c.new-blocks.ensures.items))
-    (chain_start c.args.image.now next_extension c.args.file c.requires)
+    subst (IsChain c.args.image.now NEXT_EXTENSION) (sym (c.in_ok-add.ensures.blocks ∙ ap (λ (xs : List ℕ). xs ++ c.args.file ∷ []) c.new-blocks.ensures.items))
+    (chain_start c.args.image.now NEXT_EXTENSION c.args.file c.requires)
 
 pub returns-clause-head : goal.returns-clause-head
 returns-clause-head c = ap (λ (xs : List ℕ). slice_index xs 0) (c.in_ok-add.ensures.blocks ∙ ap (λ (xs : List ℕ). xs ++ c.args.file ∷ []) c.new-blocks.ensures.items)

@@ -13,7 +13,7 @@ use Rattle.ados_model.specs.declared.packet.Packet.TheVariants.{CreateDir}
 use Rattle.ados_model.specs.declared.results.Results.{Results}
 use Rattle.ados_model.specs.Session.{Session, IsFreeNumber, with_lock, HandlerState}
 use Rattle.ados_model.specs.declared.holds.LockHold.{LockHold}
-use Rattle.ados_model.specs.Objects.{lacks}
+use Rattle.ados_model.specs.Reads.{lacks}
 use Rattle.ados_handler.specs.steps.Methods.{MethodMeans}
 use Rattle.ados_handler.proofs.Leaving.{leaves_rest}
 use Rattle.ados_handler.proofs.FreeBlock.{can_make_new, new_key, none_free_lacks, not_lacking}

@@ -1,7 +1,7 @@
 use Rattle.std.proofs.Common.{rules, ◌≡◌, false, sym, ap, ◌∙◌, subst}
 use Rattle.ados_name.specs.Name.{IsName}
 use Rattle.ados_model.specs.Stands.{Stands}
-use Rattle.ados_model.specs.Objects.{lacks}
+use Rattle.ados_model.specs.Reads.{lacks}
 use Rattle.ados_model.specs.Session.{HandlerState}
 use Rattle.ados_handler.specs.steps.Opening.{BringsHandle}
 use Rattle.ados_handler.proofs.FreeBlock.{none_free_lacks, not_lacking}

@@ -1,8 +1,9 @@
 use Rattle.std.proofs.Common.{◌≡◌, ℕ, List, Some, sym, ap, ◌∙◌, subst, refl}
-use Rattle.ados_name.specs.Name.{IsName, first_fault}
+use Rattle.ados_name.specs.Name.{IsName}
+use Rattle.ados_name.specs.Fault.{first_fault}
 use Rattle.ados_model.specs.Stands.{Stands}
 use Rattle.ados_change.specs.NewBlocks.{KeepsRest}
-use Rattle.ados_model.specs.Change.{disk_renamed}
+use Rattle.ados_model.specs.Edits.{disk_renamed}
 use Rattle.ados_model.specs.declared.dos_error.DosError.TheVariants.{InvalidComponentName}
 use Rattle.ados_model.specs.declared.packet.Packet.TheVariants.{RenameDisk}
 use Rattle.ados_model.specs.declared.results.Results.{Results}

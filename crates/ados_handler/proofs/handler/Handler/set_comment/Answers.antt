@@ -1,9 +1,9 @@
 use Rattle.ados_name.specs.Name.{IsComment}
-use Rattle.std.proofs.Common.{rules, ℕ, List, refl, ◌≡◌, ◌≢◌, sym, ap, ◌∙◌, subst, refl}
+use Rattle.std.proofs.Common.{rules, ℕ, List, refl, ◌≡◌, ◌≢◌, sym, ap, ◌∙◌, subst}
 use Rattle.ados_model.specs.Tree.{root}
 use Rattle.ados_model.specs.Stands.{Stands}
 use Rattle.ados_change.specs.NewBlocks.{KeepsRest}
-use Rattle.ados_model.specs.Change.{with_comment}
+use Rattle.ados_model.specs.Edits.{with_comment}
 use Rattle.ados_model.specs.declared.packet.Packet.TheVariants.{SetComment}
 use Rattle.ados_model.specs.declared.results.Results.{Results}
 use Rattle.ados_model.specs.Session.{Session, HandlerState}

@@ -2,7 +2,7 @@ use Rattle.std.proofs.Common.{◌≡◌, ◌≢◌, sym, ap, ◌∙◌, subst, r
 use Rattle.ados_model.specs.Tree.{root}
 use Rattle.ados_model.specs.Stands.{Stands}
 use Rattle.ados_change.specs.NewBlocks.{KeepsRest}
-use Rattle.ados_model.specs.Change.{with_date}
+use Rattle.ados_model.specs.Edits.{with_date}
 use Rattle.ados_model.specs.declared.packet.Packet.TheVariants.{SetDate}
 use Rattle.ados_model.specs.declared.results.Results.{Results}
 use Rattle.ados_model.specs.Session.{Session, HandlerState}

@@ -4,7 +4,8 @@ use Rattle.ados_name.specs.Name.{denies_write}
 use Rattle.ados_model.specs.Stands.{Stands}
 use Rattle.ados_model.specs.declared.packet.Packet.TheVariants.{SetFileSize}
 use Rattle.ados_model.specs.Session.{Session, HandlerState}
-use Rattle.ados_model.specs.Objects.{is_bad_target, seek_target, target_number}
+use Rattle.ados_model.specs.Objects.{is_bad_target, target_number}
+use Rattle.ados_model.specs.Reads.{seek_target}
 use Rattle.ados_handler.specs.Gives.{IsSoundHandler}
 use Rattle.ados_handler.proofs.Meant.{sound_after}
 use Rattle.ados_handler.proofs.Rewriting.{set_file_size_keeps}

@@ -1,6 +1,6 @@
 use Rattle.std.proofs.Common.{refl, sym, subst}
 use Rattle.ados_model.specs.Stands.{Stands}
-use Rattle.ados_model.specs.Change.{shortened}
+use Rattle.ados_model.specs.Edits.{shortened}
 use Rattle.ados_volume.specs.Shown.{Shown}
 use Rattle.ados_volume.proofs.Bounds.{below_boot}
 use Rattle.ados_volume.proofs.Children.{all_carried}

@@ -3,7 +3,7 @@ use Rattle.ados_map.specs.Pages.{NoneFreeBelow}
 use Rattle.ados_data.proofs.Places.{readable}
 use Rattle.ados_model.specs.Tree.{Tree}
 use Rattle.ados_model.specs.Stands.{Stands}
-use Rattle.ados_model.specs.Change.{grown}
+use Rattle.ados_model.specs.Edits.{grown}
 use Rattle.ados_change.specs.Renewed.{Grows}
 use Rattle.ados_volume.specs.Refused.{RefusesGrowth}
 use Rattle.ados_volume.specs.Shown.{Shown}

@@ -1,7 +1,8 @@
 use Rattle.std.proofs.Common.{◌+◌, refl, sym, subst}
-use Rattle.adf_block.specs.Layout.{long_byte, date_long}
+use Rattle.adf_block.specs.declared.layout.TheConstants.{DATE}
+use Rattle.adf_block.specs.Image.{long_byte}
 use Rattle.ados_model.specs.Stands.{Stands}
-use Rattle.ados_model.specs.Change.{with_date}
+use Rattle.ados_model.specs.Edits.{with_date}
 use Rattle.ados_volume.specs.Shown.{Shown}
 use Rattle.ados_volume.proofs.Bounds.{below_restamped}
 use Rattle.ados_volume.proofs.Children.{all_carried, changed_stay}
@@ -16,7 +17,7 @@ invariant_of-self c =
         all_carried c.self.inside.image c.set_date.new.image t (with_date c.args.moment c.args.key c.args.date t) s (c.set_date.ensures.stands t s)
             c.self.inside.names.pairs.entries c.self.invariant.0.0.0.1 c.self.inside.told.entries.entries c.self.invariant.0.0.1
             (changed_stay t c.args.key (λ node. record node { date = c.args.date }) (λ a e. refl) (λ dir a m e. refl)),
-        below_restamped c.self.inside.image c.set_date.new.image t s c.args.key (long_byte date_long) (long_byte (date_long + 3)) (c.requires t (subst (λ (shown : Shown). Stands shown.image t) c.self.view_is s)).0 c.set_date.ensures.rest c.set_date.ensures.keeps c.self.inside.free_from c.self.invariant.0.1,
+        below_restamped c.self.inside.image c.set_date.new.image t s c.args.key (long_byte DATE) (long_byte (DATE + 3)) (c.requires t (subst (λ (shown : Shown). Stands shown.image t) c.self.view_is s)).0 c.set_date.ensures.rest c.set_date.ensures.keeps c.self.inside.free_from c.self.invariant.0.1,
       ),
       known_carried c.self.inside.image c.set_date.new.image c.set_date.ensures.keeps t (with_date c.args.moment c.args.key c.args.date t) s (c.set_date.ensures.stands t s) refl
           c.self.inside.places.places.entries c.self.invariant.1 (changed_last t c.args.key (λ node. record node { date = c.args.date }) (λ a. refl)),

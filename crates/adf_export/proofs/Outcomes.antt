@@ -1,0 +1,12 @@
+-- Facts about a success or an error, whatever it is.
+use Rattle.std.proofs.Common.{Result, Ok, Err, OnOk, OnErr}
+
+-- what always holds also holds after an error
+pub at_any_err : {T E Q : Type 0} (r : Result T E) → Q → OnErr r Q
+at_any_err (Ok x) q = tt
+at_any_err (Err e) q = q
+
+-- a consequence of two facts about a success
+pub on_ok_both : {T E P Q R : Type 0} (r : Result T E) → (P → Q → R) → OnOk r P → OnOk r Q → OnOk r R
+on_ok_both (Ok x) f p q = f p q
+on_ok_both (Err e) f p q = tt

@@ -1,0 +1,8 @@
+-- The text of a volume, and its entries as files of the host. Definitions for steps are in `steps`.
+pub mod Info
+pub mod Listing
+pub mod Words
+pub mod Printing
+pub mod Items
+pub mod Rescue
+pub mod steps

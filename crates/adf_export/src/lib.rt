@@ -1,0 +1,29 @@
+//! Output from a volume: the text of the volume, its entries as files and directories of the host, and the bytes of a
+//! file.
+#![tactic(auto)]
+
+mod damaged;
+mod entry;
+mod extracting;
+mod fault;
+mod front;
+mod info;
+mod items;
+mod keys;
+mod lines;
+mod listing;
+mod output;
+mod paths;
+mod print;
+mod print_fault;
+mod words;
+
+pub use damaged::{Rescue, extract_damaged};
+pub use extracting::extract;
+pub use fault::OutFault;
+pub use info::write_info;
+pub use items::outgoing;
+pub use listing::write_list;
+pub use print::print_file;
+pub use print_fault::PrintFault;
+pub use words::locate_word;

@@ -1,0 +1,85 @@
+//! The lines of a listing.
+ghost use Rattle.std.specs.Prelude.{◌≡◌, ◌++◌, OnOk};
+ghost use Rattle.ados_name.specs.Protection.{letters};
+ghost use Rattle.adf_script.specs.Text.{line, spaced};
+ghost use Rattle.adf_export.specs.Listing.{right_in, shown, size_text};
+ghost use Rattle.adf_export.specs.steps.Going.{PushesLine};
+
+use adf_text::letter_text;
+use ados_model::FileInfo;
+use itoa::Buffer;
+use std::alloc::{AllocError, Global};
+
+/// The entry type of a file.
+const FILE: i32 = -3;
+
+/// As many spaces as a size has places.
+const BLANKS: &[u8] = b"        ";
+
+/// Appends the line of an entry: its size or `dir`, right-aligned in 8 places, then its protection bits, its date and
+/// its path.
+pub(crate) fn push_entry(
+    alloc: Global,
+    text: &mut Vec<u8>,
+    info: &FileInfo,
+    path: &[u8],
+    letters: bool,
+) -> Result<(), AllocError>
+    ensures { OnOk result (PushesLine letters text.old.items text.new.items info.now path.now) }
+{
+    let mut digits = Buffer::new();
+    let size = size_word(&mut digits, info);
+    let date = info.date.text(alloc)?;
+    push_right(text, size.as_bytes())?;
+    push_spaced(text, &info.protection.letters())?;
+    push_spaced(text, date.as_bytes())?;
+    text.push(b' ')?;
+    push_names(alloc, text, path, letters)?;
+    text.push(b'\n')?;
+    Ok(())
+}
+
+/// Appends names: their bytes, or the letters of these bytes.
+pub(crate) fn push_names(
+    alloc: Global,
+    text: &mut Vec<u8>,
+    names: &[u8],
+    letters: bool,
+) -> Result<(), AllocError>
+    ensures { OnOk result (text.new.items ≡ text.old.items ++ shown letters names.now) }
+{
+    if letters {
+        let letters = letter_text(alloc, names)?;
+        text.extend_from_slice(letters.as_bytes())
+    } else {
+        text.extend_from_slice(names)
+    }
+}
+
+/// The size of a file as a number, or `dir`.
+fn size_word<'a>(digits: &'a mut Buffer, info: &FileInfo) -> &'a str
+    ensures { result.now ≡ size_text info.now }
+{
+    if info.entry_type == FILE {
+        digits.format(info.size)
+    } else {
+        "dir"
+    }
+}
+
+/// Appends a word, right-aligned in 8 places.
+fn push_right(text: &mut Vec<u8>, word: &[u8]) -> Result<(), AllocError>
+    ensures { OnOk result (text.new.items ≡ text.old.items ++ right_in 8 word.now) }
+{
+    text.extend_from_slice(&BLANKS[word.len().min(8)..])?;
+    text.extend_from_slice(word)?;
+    Ok(())
+}
+
+/// Appends a space and a word.
+fn push_spaced(text: &mut Vec<u8>, word: &[u8]) -> Result<(), AllocError>
+    ensures { OnOk result (text.new.items ≡ text.old.items ++ spaced word.now) }
+{
+    text.push(b' ')?;
+    text.extend_from_slice(word)
+}

@@ -1,0 +1,147 @@
+//! The listing of everything below a directory of a volume.
+ghost use Rattle.std.specs.Prelude.{◌≡◌, ℕ, [], List, IfOk, OnOk, OnErr};
+ghost use Rattle.std.specs.Io.KnownBytes.{Appends};
+ghost use Rattle.ados_model.specs.Keys.{HasDirectory};
+ghost use Rattle.ados_model.specs.Stands.{Stands};
+ghost use Rattle.ados_model.specs.Tree.{Tree};
+ghost use Rattle.adf_script.specs.Streams.{Writes};
+ghost use Rattle.adf_io.specs.Prefix.{WritesFront, WritesFrontOf};
+ghost use Rattle.ados_volume.specs.Located.{Located};
+ghost use Rattle.adf_export.specs.Listing.{BeginsList, IsList};
+ghost use Rattle.adf_export.specs.steps.Levels.{ArePlacesInDirectories, IsSoFar};
+ghost use Rattle.adf_export.specs.steps.Going.{GoesOn, Passes, Starts};
+
+use crate::front::front_of;
+use crate::keys::{describe, entry_behind, is_directory};
+use crate::lines::{push_entry, push_names};
+use crate::output::write_text;
+use crate::print_fault::PrintFault;
+use ados_volume::Volume;
+use std::alloc::{AllocError, Global};
+use std::io::Write;
+
+/// The number of bytes of text after which it is written.
+const ENOUGH: usize = 65_536;
+
+/// A directory being listed: its entry listed last, or the directory itself, and the length of its path.
+#[derive(Clone, Copy)]
+pub struct Level {
+    dir: u32,
+    last: u32,
+    path: usize,
+}
+
+/// The directories from the first down to the current one, the path of the entry listed last, and the text not written
+/// yet.
+#[derive(Drop)]
+pub struct Listing {
+    levels: Vec<Level>,
+    path: Vec<u8>,
+    text: Vec<u8>,
+}
+
+/// Writes the volume's name, and a line for each entry below a directory. A path starts at the root, and a directory
+/// comes directly before its contents. Names are printed as their bytes, or with `letters` as the letters of these
+/// bytes.
+///
+/// If the writer fails or memory runs out, it has written a prefix of that text.
+pub fn write_list<W: Write>(
+    alloc: Global,
+    volume: &Volume,
+    dir: u32,
+    letters: bool,
+    writer: &mut W,
+) -> Result<(), PrintFault>
+    requires { HasDirectory volume.now.image dir }
+    ensures ok { OnOk result ((t : Tree) → Stands volume.now.image t → Writes (W.contents writer.old) (W.contents writer.new) (IsList t dir letters)) }
+    ensures front { OnErr result ((t : Tree) → Stands volume.now.image t
+        → WritesFrontOf (W.contents writer.old) (W.contents writer.new) (BeginsList t dir letters)) }
+{
+    let mut listing = Listing::start(alloc, volume, dir, letters)?;
+    for _ in 0..2 * volume.image().blocks() as u64 {
+        if !listing.go_on(alloc, volume, letters)? {
+            break;
+        }
+        listing.write_when_long(writer)?;
+    }
+    listing.write(writer)
+}
+
+impl Listing {
+    /// The line for the volume, before the first entry of a directory.
+    fn start(alloc: Global, volume: &Volume, dir: u32, letters: bool) -> Result<Listing, AllocError>
+        requires { HasDirectory volume.now.image dir }
+        ensures places { IfOk result (λ made. ArePlacesInDirectories volume.now.image made.levels.items) }
+        ensures starts { IfOk result (λ made. (t : Tree) → Stands volume.now.image t → Starts t dir letters made) }
+    {
+        let mut text = Vec::new(alloc);
+        text.extend_from_slice(b"Volume ")?;
+        let volume_name = volume.examine(volume.root()).name;
+        push_names(alloc, &mut text, volume_name.bytes(), letters)?;
+        text.push(b'\n')?;
+        let path = front_of(alloc, volume, dir)?;
+        let mut levels = Vec::new(alloc);
+        levels.push(Level {
+            dir,
+            last: dir,
+            path: path.len(),
+        })?;
+        Ok(Listing { levels, path, text })
+    }
+
+    /// Moves on to the next entry of the current directory, or back to the directory above it. The result is false if
+    /// no directory is left.
+    fn go_on(&mut self, alloc: Global, volume: &Volume, letters: bool) -> Result<bool, AllocError>
+        requires { ArePlacesInDirectories volume.now.image self.old.levels.items }
+        ensures places { OnOk result (ArePlacesInDirectories volume.now.image self.new.levels.items) }
+        ensures goes { IfOk result (λ goes. (t : Tree) (dir : ℕ) → Stands volume.now.image t → (first left : List Located)
+            → IsSoFar t dir self.old.levels.items self.old.path.items first left → GoesOn t dir letters self.old self.new first left goes) }
+    {
+        let Some(level) = self.levels.pop() else {
+            return Ok(false);
+        };
+        let Some(key) = entry_behind(volume, level.dir, level.last) else {
+            return Ok(true);
+        };
+        self.levels.push(Level { last: key, ..level })?;
+        let info = describe(volume, key);
+        self.path.truncate(level.path);
+        self.path.extend_from_slice(info.name.bytes())?;
+        push_entry(alloc, &mut self.text, &info, self.path.as_slice(), letters)?;
+        if is_directory(&info) {
+            self.path.push(b'/')?;
+            self.levels.push(Level {
+                dir: key,
+                last: key,
+                path: self.path.len(),
+            })?;
+        }
+        Ok(true)
+    }
+
+    /// Writes the text if it is long enough.
+    fn write_when_long<W: Write>(&mut self, writer: &mut W) -> Result<(), PrintFault>
+        ensures levels { self.new.levels.items ≡ self.old.levels.items }
+        ensures path { self.new.path.items ≡ self.old.path.items }
+        ensures ok { OnOk result (Passes (W.contents writer.old) (W.contents writer.new) self.old.text.items self.new.text.items) }
+        ensures front { OnErr result (WritesFront (W.contents writer.old) (W.contents writer.new) self.old.text.items) }
+    {
+        if self.text.len() < ENOUGH {
+            return Ok(());
+        }
+        self.write(writer)
+    }
+
+    /// Writes the text that is not written yet.
+    fn write<W: Write>(&mut self, writer: &mut W) -> Result<(), PrintFault>
+        ensures levels { self.new.levels.items ≡ self.old.levels.items }
+        ensures path { self.new.path.items ≡ self.old.path.items }
+        ensures ok { OnOk result (Passes (W.contents writer.old) (W.contents writer.new) self.old.text.items self.new.text.items) }
+        ensures all { OnOk result (self.new.text.items ≡ []) }
+        ensures front { OnErr result (WritesFront (W.contents writer.old) (W.contents writer.new) self.old.text.items) }
+    {
+        write_text(self.text.as_slice(), writer)?;
+        self.text.clear();
+        Ok(())
+    }
+}

@@ -1,0 +1,45 @@
+//! The limit that the host sets on the length of files.
+ghost use Rattle.std.specs.Prelude.{◌≤◌, ◌↔◌, IsOk};
+
+use adf_io::read_some;
+use std::fs;
+use std::io::{Error, ErrorKind};
+use std::rt::Files;
+
+/// Fails if a file of this length would exceed the process's limit on the length of files (`ulimit -f`).
+///
+/// To be called before the file is made: a write past the limit ends the process by a signal. Where the host does not
+/// say what the limit is, there is none.
+pub fn refuse_length<R: Files>(rt: &R, length: u64) -> Result<(), Error> {
+    within(length, file_limit(rt).unwrap_or(u64::MAX))
+}
+
+/// Fails for a length over a limit.
+fn within(length: u64, most: u64) -> Result<(), Error>
+    ensures { IsOk result ↔ length ≤ most }
+{
+    if length <= most {
+        return Ok(());
+    }
+    let message = "it would be longer than the limit on files (ulimit -f)";
+    Err(Error::new(ErrorKind::FileTooLarge, message))
+}
+
+/// The limit on the length of files, if the host says that there is one.
+fn file_limit<R: Files>(rt: &R) -> Option<u64> {
+    let mut file = fs::open(rt, "/proc/self/limits").ok()?;
+    let mut bytes = [0; 4_096];
+    let count = read_some(&mut file, &mut bytes).ok()?;
+    limit_in(str::from_utf8(bytes.get(..count)?).ok()?)
+}
+
+/// The limit on the length of files in the host's table of limits. A line has the name of a limit, and the number that
+/// holds.
+fn limit_in(table: &str) -> Option<u64> {
+    for line in table.lines() {
+        if let Some(numbers) = line.strip_prefix("Max file size") {
+            return numbers.split_ascii_whitespace().next()?.parse().ok();
+        }
+    }
+    None
+}

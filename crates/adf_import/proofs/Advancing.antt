@@ -1,0 +1,14 @@
+-- What is to be done later is still valid after more was put.
+use Rattle.std.proofs.Common.{List, ℕ}
+use Rattle.std.proofs.lemmas.List.Elements.{All-weaker}
+use Rattle.ados_model.specs.Keys.{HasDirectory, HasEntryKey}
+use Rattle.adf_import.specs.declared.progress.Made.{Made}
+use Rattle.adf_import.specs.declared.progress.Progress.{Progress}
+use Rattle.adf_import.specs.Progress.{IsProgress}
+use Rattle.adf_import.specs.Put.{KeepsKeys}
+
+pub progress_kept : (old new : List ℕ) (progress : Progress) → KeepsKeys old new → IsProgress old progress → IsProgress new progress
+progress_kept old new progress kept was = record {
+  dirs = All-weaker (HasDirectory old) (HasDirectory new) kept.directory progress.dirs.items was.dirs;
+  made = All-weaker (λ (made : Made). HasEntryKey old made.key) (λ (made : Made). HasEntryKey new made.key) (λ made is. kept.entry made.key is) progress.made.items was.made;
+}

@@ -1,0 +1,22 @@
+-- Targets that are found, and changes of them.
+use Rattle.std.proofs.Common.{◌≡◌, Option, Result, Ok, Err, sym, ◌∙◌, subst}
+use Rattle.std.specs.Prelude.{MatchResult}
+use Rattle.ados_model.specs.Tree.{Tree}
+use Rattle.ados_model.specs.Stands.{Stands}
+use Rattle.ados_volume.specs.Shown.{Shown}
+use Rattle.adf_import.specs.Changes.{Changes}
+
+-- a target that is found
+pub at_found : {K E : Type 0} (P : K → Type 0) (Q : E → Type 0) (r : Result K E) (found : K) → r ≡ Ok found → P found → MatchResult r P Q
+at_found {K} {E} P Q r found is p = subst (λ (x : Result K E). MatchResult x P Q) (sym is) p
+
+-- a change with another form of its refusal and of its effect on trees
+pub same_changes : {A E : Type 0} (refusal other : Tree → Option E) (change again : A → Tree → Tree) (old new : Shown) (r : Result A E)
+    → ((t : Tree) → Stands old.image t → other t ≡ refusal t) → ((a : A) (t : Tree) → Stands old.image t → again a t ≡ change a t)
+    → Changes refusal change old new r → Changes other again old new r
+same_changes refusal other change again old new (Ok a) refuses makes h = λ t s. (refuses t s ∙ (h t s).0, subst (Stands new.image) (sym (makes a t s)) (h t s).1)
+same_changes refusal other change again old new (Err error) refuses makes h = (h.0, λ t s. refuses t s ∙ h.1 t s)
+
+-- a read of a volume before a change
+pub changed_from : {A E : Type 0} (refusal : Tree → Option E) (change : A → Tree → Tree) (old looked new : Shown) (r : Result A E) → looked ≡ old → Changes refusal change looked new r → Changes refusal change old new r
+changed_from refusal change old looked new r same h = subst (λ (v : Shown). Changes refusal change v new r) same h

@@ -1,0 +1,15 @@
+-- A change is made whole or refused, what a sequence of changes keeps, and how a command ends.
+pub mod Turns
+pub mod Pruning
+pub mod Denying
+pub mod Rows
+pub mod Moving
+pub mod Filling
+pub mod Rooms
+pub mod Finding
+pub mod Turning
+pub mod Telling
+pub mod Keeping
+pub mod Putting
+pub mod Advancing
+pub mod Booting

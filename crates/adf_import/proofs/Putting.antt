@@ -1,0 +1,133 @@
+-- A file or directory put under a name: in place of the entry with the name, or new.
+use Rattle.std.proofs.Common.{◌≡◌, ℕ, Bool, false, true, not, if◌then◌else◌, List, [], ◌∷◌, Option, Some, None, option_map, Result, Ok, Err, refl, sym, ap, ◌∙◌, subst, is_some}
+use Rattle.std.specs.Prelude.{◌&&◌, OnOk, IfOk}
+use Rattle.std.specs.Option.{option_map_or}
+use Rattle.ados_name.specs.declared.stamp.Date3.{Date3}
+use Rattle.ados_name.specs.Name.{denies_delete, denies_write}
+use Rattle.ados_model.specs.declared.dos_error.DosError.TheVariants.{DeleteProtected, DiskFull, ObjectExists, ObjectWrongType, WriteProtected}
+use Rattle.ados_model.specs.Tree.{Node, Tree, free}
+use Rattle.ados_model.specs.Parts.{IsUnused}
+use Rattle.ados_model.specs.Tree.Content.{Directory, File}
+use Rattle.ados_model.specs.Stands.{Stands}
+use Rattle.ados_model.specs.Keys.{HasDirectory, HasEntryKey, HasKey, HasTree}
+use Rattle.ados_model.specs.Change.{made, child_of, is_file}
+use Rattle.ados_change.specs.Conditions.{IsDirectoryKey}
+use Rattle.ados_volume.specs.Shown.{Shown}
+use Rattle.ados_model.specs.Objects.{protection_of}
+use Rattle.ados_model.specs.Reads.{lacks}
+use Rattle.ados_model.specs.Refusals.{first_refusal, refuse}
+use Rattle.ados_handler.proofs.Placed.{passed}
+use Rattle.ados_handler.proofs.Rewriting.{file_node}
+use Rattle.ados_handler.proofs.Walked.{child_is_key}
+use Rattle.adf_import.specs.declared.new_file.NewFile.{NewFile}
+use Rattle.adf_import.specs.declared.new_file.NotPut.{NotPut}
+use Rattle.adf_import.specs.declared.new_file.NotPut.TheVariants.{NoRoom, Refused}
+use Rattle.adf_import.specs.Changes.{Changes, added, filled}
+use Rattle.adf_import.specs.Refusals.{add_refusal, make_refusal, more_blocks, or_no_room, replace_refusal}
+use Rattle.adf_import.proofs.Filling.{IsEntry, after_change}
+use Rattle.adf_import.specs.Put.{KeepsKeys, enter_refusal, entered, new_refusal, put, put_refusal}
+use Rattle.adf_import.proofs.Keeping.{content_made, entry_made, keeps_added, keeps_filled, keeps_keys, keeps_made}
+
+-- a child is a node
+pub child_key : (image : List ℕ) (dir : ℕ) (name : List ℕ) (key : ℕ) → ((t : Tree) → Stands image t → child_of t dir name ≡ Some key) → HasKey image key
+child_key image dir name key is t s = child_is_key t s.proper dir name key (is t s)
+
+-- ---- nothing has the name
+
+module _ (t : Tree) (dir : ℕ) (name : List ℕ) (none : child_of t dir name ≡ None) where
+  pub put_new : (size : ℕ) (force : Bool) → put_refusal dir name size force t ≡ add_refusal dir name size t
+  put_new size force =
+      ap (λ (o : Option ℕ). option_map_or (λ (key : ℕ). if force then replace_refusal key size false t else Some (Refused ObjectExists)) o (add_refusal dir name size t)) none
+
+  pub put_new_tree : (moment : Date3) (file : NewFile) (key : ℕ) → put moment dir name file key t ≡ added moment dir key name file t
+  put_new_tree moment file key = ap (λ (o : Option ℕ). option_map_or (λ (there : ℕ). filled moment there file t) o (added moment dir key name file t)) none
+
+  pub enter_new : (force : Bool) → enter_refusal dir name force t ≡ new_refusal t
+  enter_new force =
+      ap (λ (o : Option ℕ). option_map_or (λ (key : ℕ). if is_file t key then Some (Refused (if force then ObjectWrongType else ObjectExists)) else None) o (new_refusal t)) none
+
+  -- a directory cannot be made only if no block is free
+  pub made_has_room : make_refusal dir name t ≡ None → new_refusal t ≡ None
+  made_has_room allowed = go (lacks t 1) (sym (passed ObjectExists (is_some (child_of t dir name)) (refuse DiskFull (lacks t 1) ∷ []) (ap is_some none)) ∙ allowed)
+    where
+      go : (b : Bool) → first_refusal (refuse DiskFull b ∷ []) ≡ None → (if b then Some (NoRoom 1 (free t)) else None) ≡ None
+      go true e = absurd (cc e)
+      go false e = refl
+
+  pub enter_new_tree : (moment : Date3) (key : ℕ) → entered moment dir name key t ≡ made moment dir key name (Directory []) t
+  enter_new_tree moment key = ap (λ (o : Option ℕ). option_map_or (λ (there : ℕ). t) o (made moment dir key name (Directory []) t)) none
+
+-- ---- an entry has it
+
+module _ (t : Tree) (dir : ℕ) (name : List ℕ) (there : ℕ) (is : child_of t dir name ≡ Some there) where
+  pub put_over : (size : ℕ) (force : Bool) → force ≡ true → put_refusal dir name size force t ≡ replace_refusal there size false t
+  put_over size force forced =
+      ap (λ (o : Option ℕ). option_map_or (λ (key : ℕ). if force then replace_refusal key size false t else Some (Refused ObjectExists)) o (add_refusal dir name size t)) is
+      ∙ ap (λ (b : Bool). if b then replace_refusal there size false t else Some (Refused ObjectExists)) forced
+
+  pub put_over_tree : (moment : Date3) (file : NewFile) (key : ℕ) → put moment dir name file key t ≡ filled moment there file t
+  put_over_tree moment file key = ap (λ (o : Option ℕ). option_map_or (λ (k : ℕ). filled moment k file t) o (added moment dir key name file t)) is
+
+  pub enter_there : (force : Bool) → is_file t there ≡ false → enter_refusal dir name force t ≡ None
+  enter_there force directory =
+      ap (λ (o : Option ℕ). option_map_or (λ (key : ℕ). if is_file t key then Some (Refused (if force then ObjectWrongType else ObjectExists)) else None) o (new_refusal t)) is
+      ∙ ap (λ (b : Bool). if b then Some (Refused (if force then ObjectWrongType else ObjectExists)) else None) directory
+
+  pub enter_there_tree : (moment : Date3) (key : ℕ) → entered moment dir name key t ≡ t
+  enter_there_tree moment key = ap (λ (o : Option ℕ). option_map_or (λ (k : ℕ). t) o (made moment dir key name (Directory []) t)) is
+
+-- only a file can be replaced
+replaced_is_file : (t : Tree) (key size : ℕ) (force : Bool) → replace_refusal key size force t ≡ None → is_file t key ≡ true
+replaced_is_file t key size force none = go (is_file t key) none
+  where
+    go : (b : Bool)
+        → or_no_room (first_refusal (refuse ObjectWrongType (not b) ∷ refuse DeleteProtected (not force && denies_delete (protection_of t key)) ∷ refuse WriteProtected (not force && denies_write (protection_of t key)) ∷ [])) (more_blocks t key size) (free t) ≡ None
+        → b ≡ true
+    go true e = refl
+    go false e = absurd (cc e)
+
+-- ---- what is unchanged
+
+-- a new file keeps every directory and entry
+pub add_keeps : (refusal : Tree → Option NotPut) (moment : Date3) (dir : ℕ) (name : List ℕ) (file : NewFile) (old new : Shown) (r : Result ℕ NotPut) → HasTree old.image → HasDirectory old.image dir
+    → Changes refusal (λ key t. added moment dir key name file t) old new r → IfOk r (λ key. (t : Tree) → Stands old.image t → IsUnused t key) → OnOk r (KeepsKeys old.image new.image)
+add_keeps refusal moment dir name file old new (Ok key) has directory h unused =
+    keeps_keys old.image new.image (added moment dir key name file) has (λ t s. (h t s).1)
+    (λ t s. keeps_added t moment dir key name (File []) (directory t s) (unused t s).no_node file refl)
+add_keeps refusal moment dir name file old new (Err error) has directory h unused = tt
+
+-- the same for a volume in which the name was looked up before
+pub add_keeps_from : (refusal : Tree → Option NotPut) (moment : Date3) (dir : ℕ) (name : List ℕ) (file : NewFile) (old looked new : Shown) (r : Result ℕ NotPut) → looked ≡ old → HasTree old.image → HasDirectory old.image dir
+    → Changes refusal (λ key t. added moment dir key name file t) looked new r → IfOk r (λ key. (t : Tree) → Stands looked.image t → IsUnused t key) → OnOk r (KeepsKeys old.image new.image)
+add_keeps_from refusal moment dir name file old looked new r same has directory h unused =
+    add_keeps refusal moment dir name file old new r has directory (subst (λ (v : Shown). Changes refusal (λ key t. added moment dir key name file t) v new r) same h)
+    (subst (λ (v : Shown). IfOk r (λ key. (t : Tree) → Stands v.image t → IsUnused t key)) same unused)
+
+-- a replaced file keeps them too
+pub replace_keeps : (moment : Date3) (key size : ℕ) (force : Bool) (file : NewFile) (old new : List ℕ) → HasTree old
+    → ((t : Tree) → Stands old t → (replace_refusal key size force t ≡ None) × Stands new (filled moment key file t)) → KeepsKeys old new
+replace_keeps moment key size force file old new has h =
+    keeps_keys old new (filled moment key file) has (λ t s. (h t s).1)
+    (λ t s.
+    let f = file_node t key (replaced_is_file t key size force (h t s).0) in
+    keeps_filled t moment key file f.bytes (ap (option_map (λ (node : Node). node.content)) f.at ∙ ap Some f.content))
+
+-- a new directory keeps them, and is a directory itself
+module _ (moment : Date3) (dir key : ℕ) (name : List ℕ) (old new : List ℕ) (has : HasTree old) (directory : HasDirectory old dir)
+    (stands : (t : Tree) → Stands old t → Stands new (made moment dir key name (Directory []) t)) (unused : (t : Tree) → Stands old t → IsUnused t key) where
+  pub made_keeps : KeepsKeys old new
+  made_keeps = keeps_keys old new (made moment dir key name (Directory [])) has stands (λ t s. keeps_made t moment dir key name (Directory []) (directory t s) (unused t s).no_node)
+
+  pub made_directory : HasDirectory new key
+  made_directory u r =
+      let t = has.0 in
+      let s = has.1 in
+      after_change (λ (v : Tree). IsDirectoryKey v key) (made moment dir key name (Directory [])) old new t s stands
+      ([], content_made t moment dir key name (Directory []) (directory t s) (unused t s).no_node) u r
+
+  pub made_entry : HasEntryKey new key
+  made_entry u r =
+      let t = has.0 in
+      let s = has.1 in
+      after_change (IsEntry key) (made moment dir key name (Directory [])) old new t s stands
+      (entry_made t moment dir key name (Directory []) (directory t s) (unused t s).no_node s.proper) u r

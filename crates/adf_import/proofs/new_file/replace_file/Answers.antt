@@ -1,0 +1,96 @@
+use Rattle.std.proofs.Common.{◌≡◌, ℕ, Bool, Option, None, false, true, not, List, [], ◌∷◌, length, refl, sym, ap, ◌∙◌}
+use Rattle.std.specs.Prelude.{◌&&◌}
+use Rattle.ados_name.specs.Name.{denies_delete, denies_write}
+use Rattle.ados_model.specs.declared.dos_error.DosError.{DosError}
+use Rattle.ados_model.specs.declared.dos_error.DosError.TheVariants.{DeleteProtected, ObjectWrongType, WriteProtected}
+use Rattle.ados_model.specs.Tree.{free as free_of, Tree}
+use Rattle.ados_model.specs.Change.{is_file}
+use Rattle.ados_model.specs.Objects.{protection_of}
+use Rattle.ados_model.specs.Refusals.{first_refusal, refuse}
+use Rattle.ados_handler.proofs.Placed.{passed}
+use Rattle.adf_import.specs.declared.new_file.NotPut.{NotPut}
+use Rattle.adf_import.specs.Refusals.{more_blocks, or_no_room}
+use Rattle.adf_import.proofs.Rooms.{as_told, has_room, no_room}
+use Rattle.adf_import.proofs.Rows.{stops}
+use Rattle.adf_import.specs.InTurn.KeepsInTurn.{none}
+use Rattle.adf_import.proofs.new_file.replace_file.Goals as goal
+
+-- the protection bits of the file, and their refusals
+abbrev bits_refuse : ℕ → Bool → Tree → List (Option DosError)
+bits_refuse key force t = refuse DeleteProtected (not force && denies_delete (protection_of t key)) ∷ refuse WriteProtected (not force && denies_write (protection_of t key)) ∷ []
+
+-- a file is not a directory
+a_file : (key : ℕ) (force : Bool) (t : Tree) → is_file t key ≡ true → first_refusal (refuse ObjectWrongType (not (is_file t key)) ∷ bits_refuse key force t) ≡ first_refusal (bits_refuse key force t)
+a_file key force t file = passed ObjectWrongType (not (is_file t key)) (bits_refuse key force t) (ap not file)
+
+-- a file whose protection bits allow it is refused only if too few blocks are free
+abbrev room_of : ℕ → ℕ → Tree → Option DosError → Option NotPut
+room_of key size t error = or_no_room error (more_blocks t key size) (free_of t)
+
+allowed : (key : ℕ) (force : Bool) (t : Tree) → is_file t key ≡ true → not force && denies_delete (protection_of t key) ≡ false → not force && denies_write (protection_of t key) ≡ false
+    → first_refusal (refuse ObjectWrongType (not (is_file t key)) ∷ bits_refuse key force t) ≡ None
+allowed key force t file deletes writes =
+    a_file key force t file ∙ passed DeleteProtected _ (refuse WriteProtected (not force && denies_write (protection_of t key)) ∷ []) deletes ∙ passed WriteProtected _ [] writes
+
+pub returns-then-not-is_file-clause-done : goal.returns-then-not-is_file-clause-done
+returns-then-not-is_file-clause-done c = (
+  refl,
+  λ t s.
+      ap (room_of c.args.key (length c.args.file.now.bytes.now) t)
+      (stops ObjectWrongType (not (is_file t c.args.key)) (bits_refuse c.args.key c.args.force t) (ap not (sym (c.is_file.ensures.file t s) ∙ c.if-not-is_file.true))),
+)
+
+pub returns-then-is_denied-clause-done : goal.returns-then-is_denied-clause-done
+returns-then-is_denied-clause-done c = (
+  refl,
+  λ t s.
+      ap (room_of c.args.key (length c.args.file.now.bytes.now) t)
+      (a_file c.args.key c.args.force t (sym (c.is_file.ensures.file t s) ∙ c.if-not-is_file.false)
+      ∙ stops DeleteProtected _ (refuse WriteProtected (not c.args.force && denies_write (protection_of t c.args.key)) ∷ []) (sym (c.is_denied.ensures t s) ∙ c.if-is_denied.true)),
+)
+
+pub returns-then-is_write_denied-clause-done : goal.returns-then-is_write_denied-clause-done
+returns-then-is_write_denied-clause-done c = (
+  refl,
+  λ t s.
+      ap (room_of c.args.key (length c.args.file.now.bytes.now) t)
+      (a_file c.args.key c.args.force t (sym (c.is_file.ensures.file t s) ∙ c.if-not-is_file.false)
+      ∙ passed DeleteProtected _ (refuse WriteProtected (not c.args.force && denies_write (protection_of t c.args.key)) ∷ []) (sym (c.is_denied.ensures t s) ∙ c.if-is_denied.false)
+      ∙ stops WriteProtected _ [] (sym (c.is_write_denied.ensures t s) ∙ c.if-is_write_denied.true)),
+)
+
+pub returns-in-Err-clause-done : goal.returns-in-Err-clause-done
+returns-in-Err-clause-done c = (
+  refl,
+  λ t s.
+      let size : ℕ = length c.args.file.now.bytes.now in
+      let full = c.in-Err.ensures t s in
+      ap (room_of c.args.key size t)
+      (allowed c.args.key c.args.force t (sym (c.is_file.ensures.file t s) ∙ c.if-not-is_file.false) (sym (c.is_denied.ensures t s) ∙ c.if-is_denied.false) (sym (c.is_write_denied.ensures t s) ∙ c.if-is_write_denied.false))
+      ∙ no_room (more_blocks t c.args.key size) (free_of t) c.more_blocks-needed.result c.in-Err.refused (c.more_blocks-needed.ensures t s) full.0 full.1,
+)
+
+pub fill-requires-clause-room : goal.fill-requires-clause-room
+fill-requires-clause-room c = λ t s.
+    as_told c.more_blocks-needed.result (more_blocks t c.args.key (length c.args.file.now.bytes.now)) (free_of t) (c.more_blocks-needed.ensures t s) (c.in_default.ensures t s)
+
+pub returns-clause-done : goal.returns-clause-done
+returns-clause-done c = λ t s.
+    let size : ℕ = length c.args.file.now.bytes.now in (
+      ap (room_of c.args.key size t)
+          (allowed c.args.key c.args.force t (sym (c.is_file.ensures.file t s) ∙ c.if-not-is_file.false) (sym (c.is_denied.ensures t s) ∙ c.if-is_denied.false) (sym (c.is_write_denied.ensures t s) ∙ c.if-is_write_denied.false))
+          ∙ has_room (more_blocks t c.args.key size) (free_of t) c.more_blocks-needed.result (c.more_blocks-needed.ensures t s) (c.in_default.ensures t s),
+      c.fill.ensures.stands t s,
+    )
+
+pub returns-then-not-is_file-clause-keeps : goal.returns-then-not-is_file-clause-keeps
+returns-then-not-is_file-clause-keeps c = none
+
+pub returns-then-is_denied-clause-keeps : goal.returns-then-is_denied-clause-keeps
+returns-then-is_denied-clause-keeps c = none
+
+pub returns-then-is_write_denied-clause-keeps : goal.returns-then-is_write_denied-clause-keeps
+returns-then-is_write_denied-clause-keeps c = none
+
+pub returns-in-Err-clause-keeps : goal.returns-in-Err-clause-keeps
+returns-in-Err-clause-keeps c = none

@@ -1,0 +1,13 @@
+use Rattle.std.proofs.Common.{ℕ, List, [], ◌∷◌, sym, subst}
+use Rattle.std.specs.Prelude.{All}
+use Rattle.std.proofs.lemmas.List.Elements.{All-append, All-cons, All-nil}
+use Rattle.ados_model.specs.Keys.{HasDirectory, HasEntryKey}
+use Rattle.adf_import.specs.declared.progress.Made.{Made}
+use Rattle.adf_import.proofs.progress.Progress.push.Goals as goal
+
+pub returns : goal.returns
+returns c = λ image dir was. record {
+  dirs = subst (λ (xs : List ℕ). All (HasDirectory image) xs) (sym c.in_ok-push.ensures.items)
+      (All-append (HasDirectory image) c.mark.new.self.dirs.items (c.args.dir ∷ []) (subst (λ (xs : List ℕ). All (HasDirectory image) xs) (sym c.mark.ensures.dirs) was.dirs) (All-cons (HasDirectory image) c.args.dir [] dir (All-nil (HasDirectory image))));
+  made = subst (λ (xs : List Made). All (λ (made : Made). HasEntryKey image made.key) xs) (sym c.mark.ensures.made) was.made;
+}

@@ -1,0 +1,15 @@
+use Rattle.std.proofs.Common.{List, [], ◌∷◌, sym, subst}
+use Rattle.std.specs.Prelude.{All}
+use Rattle.std.proofs.lemmas.List.Elements.{All-append, All-cons, All-nil}
+use Rattle.ados_model.specs.Keys.{HasEntryKey}
+use Rattle.adf_import.specs.declared.progress.Made.{Made}
+use Rattle.adf_import.proofs.progress.Progress.push_made.Goals as goal
+
+pub returns : goal.returns
+returns c = λ image dir entry was.
+    let pushed : Made = record { key = c.args.key; noted = c.args.noted } in
+    c.in_ok-push-2.ensures image dir (record {
+      dirs = was.dirs;
+      made = subst (λ (xs : List Made). All (λ (made : Made). HasEntryKey image made.key) xs) (sym c.in_ok-push.ensures.items)
+          (All-append (λ (made : Made). HasEntryKey image made.key) c.args.self.now.made.items (pushed ∷ []) was.made (All-cons (λ (made : Made). HasEntryKey image made.key) pushed [] entry (All-nil _)));
+    })

@@ -1,0 +1,39 @@
+-- Changes that are made whole or not at all, and their effects on a tree.
+use Rattle.std.specs.Prelude.{◌≡◌, ◌+◌, ◌*◌, ◌/◌, ◌%◌, ℕ, List, [], Option, None, Some, Result, MatchResult}
+use Rattle.ados_name.specs.declared.stamp.Date3.{Date3}
+use Rattle.ados_model.specs.Tree.{Tree}
+use Rattle.ados_model.specs.Tree.Content.{File}
+use Rattle.ados_model.specs.Stands.{Stands}
+use Rattle.ados_model.specs.Change.{made, rewritten}
+use Rattle.ados_model.specs.Edits.{with_comment, with_date, with_protection}
+use Rattle.ados_volume.specs.Shown.{Shown}
+use Rattle.ados_model.specs.Objects.{protection_of}
+use Rattle.adf_import.specs.declared.new_file.NewFile.{NewFile}
+
+-- no refusal holds, and the new image represents the changed tree; or this error refuses the change, and the volume is
+-- unchanged
+abbrev pub Changes : {A E : Type 0} → (Tree → Option E) → (A → Tree → Tree) → Shown → Shown → Result A E → Type 0
+Changes refusal change old new result =
+    MatchResult result
+    (λ a. (t : Tree) → Stands old.image t → (refusal t ≡ None) × Stands new.image (change a t))
+    (λ error. (new ≡ old) × ((t : Tree) → Stands old.image t → refusal t ≡ Some error))
+
+-- the low eight bits of `low`, and the others of `bits`
+abbrev pub with_low_bits : ℕ → ℕ → ℕ
+with_low_bits bits low = 256 * (bits / 256) + low % 256
+
+-- the low eight protection bits of an object are set, and the others stay
+abbrev pub protected : Date3 → ℕ → ℕ → Tree → Tree
+protected moment key low t = with_protection moment key (with_low_bits (protection_of t key) low) t
+
+-- a file gets these protection bits, this comment and this date
+abbrev pub described : Date3 → ℕ → NewFile → Tree → Tree
+described moment key file t = with_date moment key file.date (with_comment moment key file.comment (with_protection moment key file.protection.0 t))
+
+-- a file gets these bytes in place of its own, and this metadata
+abbrev pub filled : Date3 → ℕ → NewFile → Tree → Tree
+filled moment key file t = described moment key file (rewritten moment key file.bytes.now t)
+
+-- a new file in a directory
+abbrev pub added : Date3 → ℕ → ℕ → List ℕ → NewFile → Tree → Tree
+added moment dir key name file t = filled moment key file (made moment dir key name (File []) t)

@@ -1,0 +1,102 @@
+-- The effect of each command that changes a volume.
+use Rattle.std.specs.Prelude.{◌≡◌, ◌∷◌, ℕ, Bool, false, true, List, [], Result, Ok, Err, OnOk, map, ⊤}
+use Rattle.std.specs.Str.{chars}
+use Rattle.ados_name.specs.declared.stamp.Date3.{Date3}
+use Rattle.ados_model.specs.declared.dos_error.DosError.{DosError}
+use Rattle.ados_model.specs.Change.{made, removed, renamed}
+use Rattle.ados_model.specs.Edits.{disk_renamed, with_comment}
+use Rattle.ados_model.specs.Stands.{Stands}
+use Rattle.ados_model.specs.Tree.{Tree}
+use Rattle.ados_model.specs.Tree.Content.{Directory}
+use Rattle.ados_model.specs.Parts.{IsUnused}
+use Rattle.ados_volume.specs.Shown.{Shown}
+use Rattle.adf_words.specs.declared.change.Change.{Change}
+use Rattle.adf_words.specs.declared.change.Change.TheVariants.{Add, Comment, Delete, MakeDirectories, Protect, Relabel, Rename}
+use Rattle.adf_text.specs.ProtectionLetters.{AreLetters, protection_of}
+use Rattle.adf_import.specs.Changes.{Changes, protected}
+use Rattle.adf_import.specs.Pruned.{Prunes}
+use Rattle.adf_import.specs.Refusals.{delete_refusal, make_refusal, root_refusal}
+use Rattle.adf_import.specs.Paths.{ChangesAt, comment_refusal, entry_move_refusal, move_ends, object_at, place_at, relabel_refusal}
+use Rattle.adf_import.specs.Put.{KeepsKeys}
+use Rattle.adf_import.specs.Turns.{EndsAt, EndsInTurn, ReadsFirst}
+use Rattle.adf_import.specs.Words.{IsBitsFault, IsRefusal}
+use Rattle.adf_import.specs.declared.each.Each.{Each}
+use Rattle.adf_import.specs.declared.each.Each.TheVariants as each
+use Rattle.adf_import.specs.declared.each.Each.TheVariants.{Make}
+use Rattle.adf_import.specs.declared.fault.InFault.{InFault}
+use Rattle.adf_import.specs.declared.fault.InFault.TheVariants.{Bits, Memory, Refused}
+use Rattle.adf_import.specs.declared.paths.MoveFault.{MoveFault}
+use Rattle.adf_import.specs.declared.paths.MoveFault.TheVariants.{New, Old}
+
+-- a directory is made at a path, under a new key
+abbrev pub MakesAt : Date3 → List ℕ → Shown → Shown → Result ℕ DosError → Type 0
+MakesAt moment path old new result =
+    ChangesAt (place_at path) (λ to. Changes (make_refusal to.0 to.1) (λ key t. made moment to.0 key to.1 (Directory []) t)) old new result
+
+abbrev pub Makes : Date3 → List ℕ → Shown → Shown → Result Unit DosError → Type 0
+Makes moment path old new (Ok _) = (key : ℕ) × MakesAt moment path old new (Ok key) × ((t : Tree) → Stands old.image t → IsUnused t key)
+Makes moment path old new (Err error) = MakesAt moment path old new (Err error)
+
+-- the entry at a path is deleted: with everything below it, or only if nothing is
+abbrev pub Deletes : Date3 → Bool → Bool → List ℕ → Shown → Shown → Result Unit DosError → Type 0
+Deletes moment true force path old new result = ChangesAt (object_at path) (λ key. Prunes moment key force) old new result
+Deletes moment false force path old new result =
+    ChangesAt (object_at path) (λ key. Changes (delete_refusal key force) (λ _ t. removed moment key t)) old new result
+
+-- the effect of a command at each of its paths
+abbrev pub Does : Date3 → Each → List ℕ → Shown → Shown → Result Unit DosError → Type 0
+Does moment Make = Makes moment
+Does moment (each.Delete all force) = Deletes moment all force
+
+-- the entry at one path moves to another
+abbrev pub Moves : Date3 → List ℕ → List ℕ → Shown → Shown → Result Unit MoveFault → Type 0
+Moves moment from to old new result =
+    ChangesAt (move_ends from to) (λ m. Changes (entry_move_refusal m) (λ _ t. renamed moment m.0 m.1.0 m.1.1 t)) old new result
+
+-- the fault of a move has the argument of its path
+abbrev pub IsMoveRefusal : List ℕ → List ℕ → MoveFault → InFault → Type 0
+IsMoveRefusal from to (Old error) fault = IsRefusal error from fault
+IsMoveRefusal from to (New error) fault = IsRefusal error to fault
+
+-- the move by two arguments is made, or refused
+abbrev pub EndsMove : Date3 → List ℕ → List ℕ → Shown → Shown → Result Unit InFault → Type 0
+EndsMove moment from to old new (Ok _) = Moves moment (chars from) (chars to) old new (Ok tt)
+EndsMove moment from to old new (Err (Refused told)) = (fault : MoveFault) × Moves moment (chars from) (chars to) old new (Err fault) × IsMoveRefusal from to fault (Refused told)
+EndsMove moment from to old new (Err Memory) = ⊤
+EndsMove moment from to old new (Err _) = ⊥
+
+-- the low eight protection bits of the entry at a path are set
+abbrev pub Protects : Date3 → List ℕ → ℕ → Shown → Shown → Result Unit DosError → Type 0
+Protects moment path bits old new result = ChangesAt (object_at path) (λ key. Changes (root_refusal key) (λ _ t. protected moment key bits t)) old new result
+
+-- the protection bits of an argument are set, or this is refused; or the argument has none, and nothing changes
+abbrev pub EndsProtect : Date3 → List ℕ → List ℕ → Shown → Shown → Result Unit InFault → Type 0
+EndsProtect moment path bits old new (Ok _) = AreLetters (chars bits) × Protects moment (chars path) (protection_of (chars bits)) old new (Ok tt)
+EndsProtect moment path bits old new (Err (Bits text)) = (new ≡ old) × IsBitsFault bits (Bits text)
+EndsProtect moment path bits old new (Err fault) = EndsAt (Protects moment (chars path) (protection_of (chars bits))) path old new (Err fault)
+
+-- the entry at a path gets a comment
+abbrev pub Comments : Date3 → List ℕ → List ℕ → Shown → Shown → Result Unit DosError → Type 0
+Comments moment path text old new result = ChangesAt (object_at path) (λ key. Changes (comment_refusal key text) (λ _ t. with_comment moment key text t)) old new result
+
+-- the volume is renamed
+abbrev pub Relabels : Date3 → List ℕ → Shown → Shown → Result Unit DosError → Type 0
+Relabels moment name old new result = Changes (relabel_refusal name) (λ _ t. disk_renamed moment name t) old new result
+
+-- a result without its value
+abbrev pub without_answer : {A E : Type 0} → Result A E → Result Unit E
+without_answer (Ok _) = Ok tt
+without_answer (Err error) = Err error
+
+-- the effect of a command on a volume, or its fault; `add` removes no directory and no entry
+abbrev pub ChangesVolume : Change → Date3 → Shown → Shown → Result Unit InFault → Type 0
+ChangesVolume (Add files to force) moment old new result = OnOk result (KeepsKeys old.image new.image)
+ChangesVolume (MakeDirectories paths) moment old new result =
+    let words = map (λ word. word.now) paths.items in ReadsFirst words (EndsInTurn (Makes moment) words) old new result
+ChangesVolume (Delete paths all force) moment old new result =
+    let words = map (λ word. word.now) paths.items in ReadsFirst words (EndsInTurn (Deletes moment all force) words) old new result
+ChangesVolume (Rename from to) moment old new result = ReadsFirst (from.now ∷ to.now ∷ []) (EndsMove moment from.now to.now) old new result
+ChangesVolume (Protect path letters) moment old new result = ReadsFirst (path.now ∷ letters.now ∷ []) (EndsProtect moment path.now letters.now) old new result
+ChangesVolume (Comment path text) moment old new result =
+    ReadsFirst (path.now ∷ text.now ∷ []) (EndsAt (Comments moment (chars path.now) (chars text.now)) path.now) old new result
+ChangesVolume (Relabel name) moment old new result = ReadsFirst (name.now ∷ []) (EndsAt (Relabels moment (chars name.now)) name.now) old new result

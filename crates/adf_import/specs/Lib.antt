@@ -1,0 +1,14 @@
+-- Changes of a volume: of one object, at a path, in turn, by files that are put in; and the boot block. Definitions for
+-- steps are in `steps`.
+pub mod Changes
+pub mod InTurn
+pub mod Refusals
+pub mod Pruned
+pub mod Words
+pub mod Paths
+pub mod Turns
+pub mod Put
+pub mod Commands
+pub mod Progress
+pub mod Boot
+pub mod steps

@@ -1,0 +1,42 @@
+-- An entry removed with everything below it.
+use Rattle.std.specs.Prelude.{◌≡◌, ◌≢◌, ℕ, Bool, false, if◌then◌else◌, None, Result, MatchResult, IsTrue}
+use Rattle.ados_name.specs.declared.stamp.Date3.{Date3}
+use Rattle.ados_name.specs.Name.{denies_delete}
+use Rattle.ados_model.specs.declared.dos_error.DosError.{DosError}
+use Rattle.ados_model.specs.declared.dos_error.DosError.TheVariants.{DeleteProtected, NoFreeStore, ObjectWrongType}
+use Rattle.ados_model.specs.Tree.{Tree, root}
+use Rattle.ados_model.specs.Stands.{Stands}
+use Rattle.ados_model.specs.Change.{removed}
+use Rattle.ados_change.specs.Conditions.{IsUnder}
+use Rattle.ados_volume.specs.Shown.{Shown}
+use Rattle.ados_model.specs.Objects.{is_under, protection_of}
+
+-- the entry leaves its directory as in `removed`, and no node at or below it is left
+abbrev pub pruned : Date3 → ℕ → Tree → Tree
+pruned moment key t =
+    let u = removed moment key t in
+    record u { nodes = λ k. if is_under t key k then None else u.nodes k }
+
+-- without `force`, a protection bit of the entry or of one below it denies deletion
+abbrev pub IsDenied : Tree → ℕ → Bool → Type 0
+IsDenied t key force = (force ≡ false) × ((k : ℕ) × IsUnder t key k × IsTrue (denies_delete (protection_of t k)))
+
+-- an entry can be removed with everything below it: it is not the root, and no protection bit denies it
+pub record CanPrune (t : Tree) (key : ℕ) (force : Bool) : Type 0 where
+  pub not_root : key ≢ root t
+  pub allowed : ¬ IsDenied t key force
+
+-- why it cannot: it is the root, a protection bit denies it, or there was no memory for the list of entries below it
+abbrev pub CannotPrune : Tree → ℕ → Bool → DosError → Type 0
+CannotPrune t key force ObjectWrongType = key ≡ root t
+CannotPrune t key force DeleteProtected = (key ≢ root t) × IsDenied t key force
+CannotPrune t key force NoFreeStore = key ≢ root t
+CannotPrune t key force _ = ⊥
+
+-- the new image represents the tree without the entry and everything below it; or this error refuses it, and the
+-- volume is unchanged
+abbrev pub Prunes : {A : Type 0} → Date3 → ℕ → Bool → Shown → Shown → Result A DosError → Type 0
+Prunes moment key force old new result =
+    MatchResult result
+    (λ _. (t : Tree) → Stands old.image t → CanPrune t key force × Stands new.image (pruned moment key t))
+    (λ error. (new ≡ old) × ((t : Tree) → Stands old.image t → CannotPrune t key force error))

@@ -1,0 +1,42 @@
+-- Arguments of a command as bytes of an Amiga's text, and their faults.
+use Rattle.std.specs.Prelude.{◌≡◌, ℕ, List, All, Contains, ⊤}
+use Rattle.std.specs.Str.{chars}
+use Rattle.std.specs.String.{string_bytes}
+use Rattle.ados_model.specs.declared.dos_error.DosError.{DosError}
+use Rattle.adf_text.specs.Letters.{IsByte, letters}
+use Rattle.adf_text.specs.ProtectionLetters.{AreLetters}
+use Rattle.adf_import.specs.declared.fault.InFault.{InFault}
+use Rattle.adf_import.specs.declared.fault.InFault.TheVariants.{Bits, Letter, Memory, Refused}
+use Rattle.adf_import.specs.declared.words.Word.{Word}
+
+-- the bytes are those of the argument's letters
+abbrev pub IsSpelled : Word → Type 0
+IsSpelled word = letters word.bytes.items ≡ word.text.now
+
+-- a text with a letter past U+00FF
+abbrev pub IsForeign : List ℕ → Type 0
+IsForeign text = ¬ All IsByte (chars text)
+
+-- the fault is about this argument, which has such a letter; or memory ran out
+abbrev pub IsLetterFault : List ℕ → InFault → Type 0
+IsLetterFault word (Letter text) = (string_bytes text ≡ word) × IsForeign word
+IsLetterFault word Memory = ⊤
+IsLetterFault word _ = ⊥
+
+-- the fault is about one of these arguments
+abbrev pub IsLetterFaultIn : List (List ℕ) → InFault → Type 0
+IsLetterFaultIn words (Letter text) = Contains words (string_bytes text) × IsForeign (string_bytes text)
+IsLetterFaultIn words Memory = ⊤
+IsLetterFaultIn words _ = ⊥
+
+-- the fault is this error for the argument, or there was no memory to report it
+abbrev pub IsRefusal : DosError → List ℕ → InFault → Type 0
+IsRefusal error word (Refused refused) = (refused.error ≡ error) × (string_bytes refused.path ≡ word)
+IsRefusal error word Memory = ⊤
+IsRefusal error word _ = ⊥
+
+-- the fault is about this argument, which has no protection bits; or memory ran out
+abbrev pub IsBitsFault : List ℕ → InFault → Type 0
+IsBitsFault word (Bits text) = (string_bytes text ≡ word) × (¬ AreLetters (chars word))
+IsBitsFault word Memory = ⊤
+IsBitsFault word _ = ⊥

@@ -1,0 +1,2 @@
+-- Definitions for steps: the cut of a file that is too long.
+pub mod CutBack

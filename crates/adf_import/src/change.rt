@@ -1,0 +1,69 @@
+//! The changes of a volume by commands.
+
+ghost use Rattle.adf_import.specs.Commands.{ChangesVolume, without_answer};
+
+use crate::adding::{How, add};
+use crate::each::{Each, change_each};
+use crate::fault::InFault;
+use crate::single::{rename, set_bits, set_comment, set_name};
+use adf_words::Change;
+use ados_name::Date3;
+use ados_volume::Volume;
+use host_trees::PassedOver;
+use std::alloc::Global;
+use std::rt::Files;
+
+/// Makes a change with this time stamp. For `add`, it returns what was skipped.
+///
+/// After a fault the volume may be changed in part, and its image must not be written.
+pub fn change_volume<R: Files>(
+    rt: &R,
+    alloc: Global,
+    volume: &mut Volume,
+    change: &Change<'_>,
+    moment: Date3,
+) -> Result<Vec<PassedOver>, InFault>
+    ensures { ChangesVolume change.now moment volume.old volume.new (without_answer result) }
+{
+    match change {
+        Change::Add { files, to, force } => {
+            let how = How {
+                force: *force,
+                moment,
+            };
+            add(rt, alloc, volume, files.as_slice(), *to, how)
+        }
+        other => match change_entries(alloc, volume, other, moment) {
+            Ok(()) => Ok(Vec::new(alloc)),
+            Err(fault) => Err(fault),
+        },
+    }
+}
+
+/// Makes a change that reads nothing from the host.
+fn change_entries(
+    alloc: Global,
+    volume: &mut Volume,
+    change: &Change<'_>,
+    moment: Date3,
+) -> Result<(), InFault>
+    ensures { ChangesVolume change.now moment volume.old volume.new result }
+{
+    match change {
+        Change::Add { .. } => Ok(()),
+        Change::MakeDirectories { paths } => {
+            change_each(alloc, volume, paths.as_slice(), Each::Make, moment)
+        }
+        Change::Delete { paths, all, force } => {
+            let each = Each::Delete {
+                all: *all,
+                force: *force,
+            };
+            change_each(alloc, volume, paths.as_slice(), each, moment)
+        }
+        Change::Rename { old, new } => rename(alloc, volume, *old, *new, moment),
+        Change::Protect { path, letters } => set_bits(alloc, volume, *path, *letters, moment),
+        Change::Comment { path, text } => set_comment(alloc, volume, *path, *text, moment),
+        Change::Relabel { name } => set_name(alloc, volume, *name, moment),
+    }
+}

@@ -1,0 +1,102 @@
+//! Paths that are changed one after the other.
+
+ghost use Rattle.std.specs.Prelude.{All, map};
+ghost use Rattle.std.specs.Str.{chars};
+ghost use Rattle.adf_import.specs.Commands.{Does};
+ghost use Rattle.adf_import.specs.Turns.{EndsAt, EndsInTurn, ReadsFirst};
+ghost use Rattle.adf_import.specs.Words.{IsSpelled};
+
+use crate::fault::InFault;
+use crate::paths::{delete_all_at, delete_at, make_at};
+use crate::words::{Word, words_of};
+use ados_model::DosError;
+use ados_name::Date3;
+use ados_volume::Volume;
+use std::alloc::Global;
+
+/// The change at each path.
+#[derive(Clone, Copy)]
+pub(crate) enum Each {
+    /// Make a directory.
+    Make,
+    /// Delete the entry; with `all` everything below it too, with `force` protected entries too.
+    Delete { all: bool, force: bool },
+}
+
+/// Changes the volume at each of these paths in turn, up to the first refusal.
+pub(crate) fn change_each(
+    alloc: Global,
+    volume: &mut Volume,
+    paths: &[&str],
+    each: Each,
+    moment: Date3,
+) -> Result<(), InFault>
+    ensures { let words = map (λ word. word.now) paths.now in ReadsFirst words (EndsInTurn (Does moment each) words) volume.old volume.new result }
+{
+    let words = match words_of(alloc, paths) {
+        Ok(words) => words,
+        Err(fault) => return Err(fault),
+    };
+    change_words(alloc, volume, words.as_slice(), each, moment)
+}
+
+fn change_words(
+    alloc: Global,
+    volume: &mut Volume,
+    words: &[Word<'_>],
+    each: Each,
+    moment: Date3,
+) -> Result<(), InFault>
+    requires { All IsSpelled words.now }
+    ensures { EndsInTurn (Does moment each) (map (λ word. word.text.now) words.now) volume.old volume.new result }
+{
+    for word in words {
+        match change_word(alloc, volume, word, each, moment) {
+            Ok(()) => {}
+            Err(fault) => return Err(fault),
+        }
+        prove!(volume.image().blocks() >= 16);
+    }
+    Ok(())
+}
+
+/// Changes the volume at the path of an argument.
+fn change_word(
+    alloc: Global,
+    volume: &mut Volume,
+    word: &Word<'_>,
+    each: Each,
+    moment: Date3,
+) -> Result<(), InFault>
+    requires { IsSpelled word.now }
+    ensures { EndsAt (Does moment each (chars word.now.text.now)) word.now.text.now volume.old volume.new result }
+{
+    match change_at(alloc, volume, word.bytes(), each, moment) {
+        Ok(()) => Ok(()),
+        Err(error) => Err(word.refused(alloc, error)),
+    }
+}
+
+/// Changes the volume at a path.
+fn change_at(
+    alloc: Global,
+    volume: &mut Volume,
+    path: &[u8],
+    each: Each,
+    moment: Date3,
+) -> Result<(), DosError>
+    ensures { Does moment each path.now volume.old volume.new result }
+{
+    match each {
+        Each::Make => match make_at(volume, path, moment) {
+            Ok(_) => Ok(()),
+            Err(error) => Err(error),
+        },
+        Each::Delete { all, force } => {
+            if all {
+                return delete_all_at(alloc, volume, path, force, moment);
+            }
+            delete_at(volume, path, force, moment)
+        }
+    }
+}

@@ -1,0 +1,119 @@
+//! Why a change was not made.
+
+ghost use Rattle.adf_import.specs.Words.{IsRefusal};
+
+use adf_text::UaemFault;
+use adf_words::Refused;
+use ados_model::DosError;
+use host_trees::WalkFault;
+use std::alloc::{AllocError, AllocFailed, Global};
+use std::{error, fmt};
+use thiserror::Error;
+
+/// Why a change was not made. The volume may be changed in part, so its image must not be written.
+#[derive(Debug, Drop, Error)]
+pub enum InFault {
+    /// Any error of AmigaDOS other than 221.
+    #[error("{0}")]
+    Refused(Refused),
+    /// Error 221: a file or directory needs this many more blocks, and this many are free.
+    #[error("disk is full: {needed} blocks are needed and {free} are free")]
+    NoRoom {
+        path: String,
+        needed: u64,
+        free: u32,
+    },
+    /// An argument has a letter past U+00FF.
+    #[error("'{0}' has a letter that no byte of an Amiga's text stands for")]
+    Letter(String),
+    /// An argument is not a set of protection bits.
+    #[error("'{0}' is no protection: some of the letters hsparwed, or eight places with a letter or a dash each")]
+    Bits(String),
+    /// The walk over files of the host failed.
+    #[error("{0}")]
+    Host(WalkFault),
+    /// A file of the host cannot be read.
+    #[error("'{0}' cannot be read")]
+    Read(String),
+    /// A note beside a file cannot be read.
+    #[error("'{path}' {fault}")]
+    Note {
+        path: String,
+        fault: NoteFault,
+    },
+    #[error("there is not enough memory")]
+    Memory,
+}
+
+impl From<AllocError> for InFault {
+    ghost use Rattle.std.specs.Prelude.{◌≡◌};
+    ghost use Rattle.adf_import.specs.declared.fault.InFault.TheVariants.{Memory};
+
+    ghost from_gives = { λ _ fault. fault ≡ Memory };
+
+    fn from(_error: AllocError) -> InFault {
+        InFault::Memory
+    }
+}
+
+impl<T: Drop> From<AllocFailed<T>> for InFault {
+    ghost use Rattle.std.specs.Prelude.{◌≡◌};
+    ghost use Rattle.adf_import.specs.declared.fault.InFault.TheVariants.{Memory};
+
+    ghost from_gives = { λ _ fault. fault ≡ Memory };
+
+    fn from(_error: AllocFailed<T>) -> InFault {
+        InFault::Memory
+    }
+}
+
+impl From<WalkFault> for InFault {
+    fn from(fault: WalkFault) -> InFault {
+        match fault {
+            WalkFault::Memory => InFault::Memory,
+            other => InFault::Host(other),
+        }
+    }
+}
+
+/// The fault of a note.
+#[derive(Clone, Copy, Debug)]
+pub struct NoteFault(pub UaemFault);
+
+impl fmt::Display for NoteFault {
+    fn fmt<W: fmt::Write>(&self, f: &mut fmt::Formatter<W>) -> fmt::Result {
+        match self.0 {
+            UaemFault::NotUtf8 { .. } => write!(f, "is not UTF-8"),
+            UaemFault::NoByte { .. } => write!(f, "has a letter that no byte stands for"),
+            UaemFault::Control { .. } => write!(
+                f,
+                "has more than one line, or a letter without a picture"
+            ),
+            UaemFault::NoProtection => write!(
+                f,
+                "does not begin with eight protection letters and a space"
+            ),
+            UaemFault::NoDate => write!(f, "has no date behind the protection letters"),
+            UaemFault::LongComment { length } => write!(
+                f,
+                "has a comment of {length} bytes, and 79 are the most"
+            ),
+            UaemFault::Memory => write!(f, "was not read: there is not enough memory"),
+        }
+    }
+}
+
+impl error::Error for NoteFault {}
+
+/// An error of AmigaDOS, with a path.
+pub(crate) fn refused(alloc: Global, path: &str, error: DosError) -> InFault
+    ensures { IsRefusal error path.now result }
+{
+    if error == DosError::NoFreeStore {
+        return InFault::Memory;
+    }
+    match String::from_str(alloc, path) {
+        Ok(path) => InFault::Refused(Refused { error, path }),
+        Err(_) => InFault::Memory,
+    }
+}

@@ -1,0 +1,68 @@
+//! Changes of an object's metadata, and of the volume's name.
+
+ghost use Rattle.std.specs.Prelude.{◌≡◌};
+ghost use Rattle.ados_model.specs.Edits.{disk_renamed, with_comment};
+ghost use Rattle.ados_model.specs.Keys.{HasKey};
+ghost use Rattle.ados_change.specs.NewBlocks.{KeepsRest};
+ghost use Rattle.ados_model.specs.Stands.{Stands};
+ghost use Rattle.ados_model.specs.Tree.{Tree};
+ghost use Rattle.ados_model.specs.Objects.{protection_of};
+ghost use Rattle.adf_import.specs.Changes.{Changes, protected};
+ghost use Rattle.adf_import.specs.Refusals.{root_refusal};
+
+use ados_model::DosError;
+use ados_name::{Comment, Date3, Name, Protect};
+use ados_volume::Volume;
+
+/// Sets the low eight protection bits of an entry. The others stay. The disk date becomes `moment`.
+///
+/// Error: 212 for the root.
+#[tactic(auto, using(ados_change::proofs::Keeping::same_keeps))]
+pub fn protect(volume: &mut Volume, key: u32, bits: Protect, moment: Date3) -> Result<(), DosError>
+    requires { HasKey volume.old.image key }
+    ensures done { Changes (root_refusal key) (λ _ t. protected moment key bits.0 t) volume.old volume.new result }
+    ensures keeps { KeepsRest volume.old.image volume.new.image }
+    ensures validated { volume.new.was_validated ≡ volume.old.was_validated }
+{
+    if key == volume.root() {
+        return Err(DosError::ObjectWrongType);
+    }
+    let old = protection_in(volume, key);
+    let new = 256 * (old.0 / 256) + bits.0 % 256;
+    volume.set_protect(key, Protect(new), moment);
+    Ok(())
+}
+
+/// The protection bits of an object.
+pub(crate) fn protection_in(volume: &Volume, key: u32) -> Protect
+    requires { HasKey volume.now.image key }
+    ensures { (t : Tree) → Stands volume.now.image t → result.0 ≡ protection_of t key }
+{
+    volume.examine(key).protection
+}
+
+/// Sets the comment of an entry. The disk date becomes `moment`.
+///
+/// Error: 212 for the root.
+#[tactic(auto, using(ados_change::proofs::Keeping::same_keeps))]
+pub fn comment(volume: &mut Volume, key: u32, text: &Comment, moment: Date3) -> Result<(), DosError>
+    requires { HasKey volume.old.image key }
+    ensures done { Changes (root_refusal key) (λ _ t. with_comment moment key text.now t) volume.old volume.new result }
+    ensures keeps { KeepsRest volume.old.image volume.new.image }
+    ensures validated { volume.new.was_validated ≡ volume.old.was_validated }
+{
+    if key == volume.root() {
+        return Err(DosError::ObjectWrongType);
+    }
+    volume.set_comment(key, *text, moment);
+    Ok(())
+}
+
+/// Renames the volume. The disk date becomes `moment`.
+pub fn relabel(volume: &mut Volume, name: Name, moment: Date3)
+    ensures stands { (t : Tree) → Stands volume.old.image t → Stands volume.new.image (disk_renamed moment name t) }
+    ensures keeps { KeepsRest volume.old.image volume.new.image }
+    ensures validated { volume.new.was_validated ≡ volume.old.was_validated }
+{
+    volume.rename_disk(name, moment);
+}

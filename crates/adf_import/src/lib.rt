@@ -1,0 +1,30 @@
+//! Changes of a volume in memory by commands: each is made whole or not at all. Entries and their metadata, files of the
+//! host that are put in, and the boot block of an image.
+#![tactic(auto)]
+
+mod adding;
+mod boot;
+mod change;
+mod each;
+mod entries;
+mod fault;
+mod fields;
+mod host_files;
+mod in_turn;
+mod new_file;
+mod paths;
+mod progress;
+mod prune;
+mod put;
+mod room;
+mod single;
+mod words;
+
+pub use boot::{LongBoot, boot_image};
+pub use change::change_volume;
+pub use entries::{delete, make_directory, move_entry};
+pub use fault::{InFault, NoteFault};
+pub use fields::{comment, protect, relabel};
+pub use in_turn::outside_stays;
+pub use new_file::{NewFile, NotPut, add_file, replace_file};
+pub use prune::delete_all;

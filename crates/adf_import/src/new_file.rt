@@ -1,0 +1,184 @@
+//! Files put into a volume: new ones, or in place of existing ones.
+
+ghost use Rattle.std.specs.Prelude.{◌≡◌, ◌<◌, ◌≤◌, ◌&&◌, not, length, IfOk, MatchResult};
+ghost use Rattle.ados_name.specs.Name.{denies_write};
+ghost use Rattle.ados_model.specs.Tree.{Tree, free};
+ghost use Rattle.ados_model.specs.Parts.{IsUnused};
+ghost use Rattle.ados_model.specs.Stands.{Stands};
+ghost use Rattle.ados_model.specs.Keys.{HasDirectory, HasEntryKey, HasFileKey, HasKey};
+ghost use Rattle.ados_change.specs.NewBlocks.{KeepsRest};
+ghost use Rattle.ados_model.specs.Objects.{protection_of};
+ghost use Rattle.adf_import.specs.Changes.{Changes, added, described, filled};
+ghost use Rattle.adf_import.specs.InTurn.{KeepsInTurn};
+ghost use Rattle.adf_import.specs.Refusals.{add_refusal, more_blocks, replace_refusal};
+ghost use Rattle.adf_import.specs.steps.CutBack.{cut_back};
+ghost use Rattle.adf_import.specs.declared.new_file.NotPut.TheVariants.{NoRoom};
+
+use crate::entries::is_denied;
+use crate::fields::protection_in;
+use crate::room::{more_blocks, new_file_blocks};
+use ados_model::DosError;
+use ados_name::{Comment, Date3, Name, Protect};
+use ados_volume::{NodeKind, Volume, free_blocks};
+
+/// The contents and metadata of a file: its bytes, all 32 protection bits, its comment and its own date.
+#[derive(Clone, Copy)]
+pub struct NewFile<'a> {
+    pub bytes: &'a [u8],
+    pub date: Date3,
+    pub protection: Protect,
+    pub comment: Comment,
+}
+
+/// Why a file was not put into a volume. The volume is unchanged.
+#[derive(Clone, Copy, Debug, PartialEq, Eq)]
+pub enum NotPut {
+    /// An error other than 221.
+    Refused(DosError),
+    /// Error 221: the number of free blocks needed, and the number of free blocks.
+    NoRoom { needed: u64, free: u32 },
+}
+
+impl NotPut {
+    ghost use Rattle.adf_import.specs.Refusals.{put_error};
+
+    /// The DOS error.
+    pub fn error(self) -> DosError
+        ensures { result ≡ put_error self }
+    {
+        match self {
+            NotPut::Refused(error) => error,
+            NotPut::NoRoom { .. } => DosError::DiskFull,
+        }
+    }
+}
+
+/// Puts a new file into a directory and returns its key. The date of the directory and the disk date become `moment`.
+///
+/// Errors: 203 if an entry has the name, 221 if the file needs more blocks than are free. It allocates no memory.
+/// [`place`](ados_volume::place) has the errors of a path that names no place: 204, 205, 210 and 212.
+pub fn add_file(
+    volume: &mut Volume,
+    dir: u32,
+    name: Name,
+    file: &NewFile<'_>,
+    moment: Date3,
+) -> Result<u32, NotPut>
+    requires { HasDirectory volume.old.image dir }
+    ensures added { Changes (add_refusal dir name (length file.now.bytes.now)) (λ key t. added moment dir key name file.now t) volume.old volume.new result }
+    ensures unused { IfOk result (λ key. (t : Tree) → Stands volume.old.image t → IsUnused t key) }
+    ensures keeps { KeepsInTurn volume.old.image volume.new.image }
+    ensures validated { volume.new.was_validated ≡ volume.old.was_validated }
+{
+    prove!(volume.image().blocks() >= 16);
+    if volume.child(dir, &name).is_some() {
+        return Err(NotPut::Refused(DosError::ObjectExists));
+    }
+    let needed = new_file_blocks(volume, file.bytes.len());
+    if let Err(refused) = need_free(volume, needed) {
+        return Err(refused);
+    }
+    let Ok(key) = volume.create(dir, name, NodeKind::File, moment) else {
+        unreachable!()
+    };
+    fill(volume, key, file, moment);
+    Ok(key)
+}
+
+/// Replaces the bytes, protection bits, comment and date of a file. With `force` a protected one too. The disk date
+/// becomes `moment`.
+///
+/// Errors: 212 for a directory; 222 and 223 if a protection bit denies deletion or writing; 221 if it needs more
+/// additional blocks than are free. It allocates no memory.
+pub fn replace_file(
+    volume: &mut Volume,
+    key: u32,
+    file: &NewFile<'_>,
+    force: bool,
+    moment: Date3,
+) -> Result<(), NotPut>
+    requires { HasKey volume.old.image key }
+    ensures done { Changes (replace_refusal key (length file.now.bytes.now) force) (λ _ t. filled moment key file.now t) volume.old volume.new result }
+    ensures keeps { KeepsInTurn volume.old.image volume.new.image }
+    ensures validated { volume.new.was_validated ≡ volume.old.was_validated }
+{
+    if !volume.is_file(key) {
+        return Err(NotPut::Refused(DosError::ObjectWrongType));
+    }
+    if is_denied(volume, key, force) {
+        return Err(NotPut::Refused(DosError::DeleteProtected));
+    }
+    if is_write_denied(volume, key, force) {
+        return Err(NotPut::Refused(DosError::WriteProtected));
+    }
+    let needed = more_blocks(volume, key, file.bytes.len());
+    if let Err(refused) = need_free(volume, needed) {
+        return Err(refused);
+    }
+    fill(volume, key, file, moment);
+    Ok(())
+}
+
+/// Whether a protection bit of a file denies writing, without `force`.
+fn is_write_denied(volume: &Volume, key: u32, force: bool) -> bool
+    requires { HasKey volume.now.image key }
+    ensures { (t : Tree) → Stands volume.now.image t → result ≡ not force && denies_write (protection_of t key) }
+{
+    let denied = protection_in(volume, key).denies_write();
+    !force && denied
+}
+
+/// Checks that at least this many blocks are free.
+fn need_free(volume: &Volume, needed: u64) -> Result<(), NotPut>
+    ensures { (t : Tree) → Stands volume.now.image t
+        → MatchResult result (λ _. needed ≤ free t) (λ refused. (free t < needed) × (refused ≡ NoRoom needed (free t))) }
+{
+    let free = free_blocks(volume);
+    if (free as u64) < needed {
+        return Err(NotPut::NoRoom { needed, free });
+    }
+    Ok(())
+}
+
+/// Replaces the bytes, protection bits, comment and date of a file. Enough blocks are free.
+fn fill(volume: &mut Volume, key: u32, file: &NewFile<'_>, moment: Date3)
+    requires key { HasFileKey volume.old.image key }
+    requires room { (t : Tree) → Stands volume.old.image t → more_blocks t key (length file.now.bytes.now) ≤ free t }
+    ensures stands { (t : Tree) → Stands volume.old.image t → Stands volume.new.image (filled moment key file.now t) }
+    ensures keeps { KeepsInTurn volume.old.image volume.new.image }
+    ensures validated { volume.new.was_validated ≡ volume.old.was_validated }
+{
+    prove!(volume.image().blocks() >= 16);
+    let Ok(()) = volume.write(key, 0, file.bytes, moment) else {
+        unreachable!()
+    };
+    cut_behind(volume, key, file.bytes.len(), moment);
+    describe(volume, key, file, moment);
+}
+
+/// Cuts a file if it is longer than `size` bytes.
+#[tactic(auto, using(ados_change::proofs::Keeping::same_keeps))]
+fn cut_behind(volume: &mut Volume, key: u32, size: usize, moment: Date3)
+    requires { HasFileKey volume.old.image key }
+    ensures stands { (t : Tree) → Stands volume.old.image t → Stands volume.new.image (cut_back moment key size t) }
+    ensures keeps { KeepsRest volume.old.image volume.new.image }
+    ensures validated { volume.new.was_validated ≡ volume.old.was_validated }
+{
+    if volume.examine(key).size as usize <= size {
+        return;
+    }
+    volume.cut(key, size as u32, moment);
+}
+
+/// Sets the metadata of a file.
+fn describe(volume: &mut Volume, key: u32, file: &NewFile<'_>, moment: Date3)
+    requires { HasEntryKey volume.old.image key }
+    ensures stands { (t : Tree) → Stands volume.old.image t → Stands volume.new.image (described moment key file.now t) }
+    ensures keeps { KeepsInTurn volume.old.image volume.new.image }
+    ensures validated { volume.new.was_validated ≡ volume.old.was_validated }
+{
+    prove!(volume.image().blocks() >= 16);
+    volume.set_protect(key, file.protection, moment);
+    volume.set_comment(key, file.comment, moment);
+    volume.set_date(key, file.date, moment);
+}

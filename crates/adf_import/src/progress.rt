@@ -1,0 +1,99 @@
+//! The progress of putting files and directories of the host into a volume.
+
+ghost use Rattle.std.specs.Prelude.{◌≡◌, List, ℕ, IfOk, OnOk};
+ghost use Rattle.ados_model.specs.Keys.{HasDirectory, HasEntryKey};
+ghost use Rattle.adf_import.specs.Progress.{IsProgress};
+ghost use Rattle.adf_import.specs.Put.{KeepsKeys};
+
+use crate::put::note_directory;
+use adf_text::Uaem;
+use ados_name::Date3;
+use ados_volume::Volume;
+use std::alloc::{AllocError, Global};
+
+/// The files and directories put so far.
+#[derive(Drop)]
+pub(crate) struct Progress {
+    /// For each file or directory of the host, in order: its directory on the volume, or the one that it was put into.
+    dirs: Vec<u32>,
+    /// For each block, whether it is the header of an entry that was put or used.
+    is_put: Vec<bool>,
+    /// The new directories, and their metadata.
+    made: Vec<Made>,
+}
+
+/// A directory that was made.
+#[derive(Clone, Copy)]
+struct Made {
+    key: u32,
+    noted: Uaem,
+}
+
+impl Progress {
+    /// No progress, for a volume of `blocks` blocks.
+    pub fn new(alloc: Global, blocks: u32) -> Result<Progress, AllocError>
+        ensures { IfOk result (λ progress. (image : List ℕ) → IsProgress image progress) }
+    {
+        Ok(Progress {
+            dirs: Vec::new(alloc),
+            is_put: vec![in alloc; false; blocks as usize]?,
+            made: Vec::new(alloc),
+        })
+    }
+
+    /// The directory on the volume for the host directory with this index; the top one if there is none.
+    pub fn directory(&self, parent: Option<usize>, top: u32) -> u32
+        ensures { (image : List ℕ) → HasDirectory image top → IsProgress image self.now → HasDirectory image result }
+    {
+        match parent {
+            Some(place) if place < self.dirs.len() => self.dirs[place],
+            _ => top,
+        }
+    }
+
+    /// Whether this object was put or used.
+    pub fn has_put(&self, key: Option<u32>) -> bool {
+        match key {
+            Some(key) => self.is_put.get(key as usize).copied().unwrap_or(false),
+            None => false,
+        }
+    }
+
+    /// Notes an object that was put or used, and the directory for its own entries.
+    pub fn push(&mut self, key: u32, dir: u32) -> Result<(), AllocError>
+        ensures { OnOk result ((image : List ℕ) → HasDirectory image dir → IsProgress image self.old → IsProgress image self.new) }
+    {
+        self.mark(key);
+        self.dirs.push(dir)?;
+        Ok(())
+    }
+
+    /// Notes a new directory, whose metadata is set later.
+    pub fn push_made(&mut self, key: u32, noted: Uaem) -> Result<(), AllocError>
+        ensures { OnOk result ((image : List ℕ) → HasDirectory image key → HasEntryKey image key → IsProgress image self.old → IsProgress image self.new) }
+    {
+        self.made.push(Made { key, noted })?;
+        self.push(key, key)?;
+        Ok(())
+    }
+
+    /// Marks a block.
+    fn mark(&mut self, key: u32)
+        ensures dirs { self.new.dirs.items ≡ self.old.dirs.items }
+        ensures made { self.new.made.items ≡ self.old.made.items }
+    {
+        if let Some(is_put) = self.is_put.get_mut(key as usize) {
+            *is_put = true;
+        }
+    }
+
+    /// Sets the metadata of the new directories.
+    pub fn note_directories(self, volume: &mut Volume, moment: Date3)
+        requires { IsProgress volume.old.image self }
+        ensures { KeepsKeys volume.old.image volume.new.image }
+    {
+        for made in self.made.iter() {
+            note_directory(volume, made.key, &made.noted, moment);
+        }
+    }
+}

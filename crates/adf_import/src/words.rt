@@ -1,0 +1,91 @@
+//! Arguments as bytes of an Amiga's text.
+
+ghost use Rattle.std.specs.Prelude.{◌≡◌, IfErr, IfOk, OnOk, All, map};
+ghost use Rattle.std.specs.Str.{chars};
+ghost use Rattle.adf_text.specs.Letters.{letters};
+ghost use Rattle.adf_text.specs.ProtectionLetters.{AreLetters, protection_of};
+ghost use Rattle.adf_import.specs.Words.{IsBitsFault, IsLetterFault, IsLetterFaultIn, IsRefusal, IsSpelled};
+
+use crate::fault::{InFault, refused};
+use adf_text::{LettersFault, letter_bytes, letters_come_back, protection_of_letters};
+use ados_model::DosError;
+use ados_name::Protect;
+use std::alloc::Global;
+
+/// An argument, and the bytes of its letters.
+#[derive(Drop)]
+pub(crate) struct Word<'a> {
+    text: &'a str,
+    bytes: Vec<u8>,
+}
+
+impl<'a> Word<'a> {
+    /// An argument without a letter past U+00FF.
+    pub fn new(alloc: Global, text: &'a str) -> Result<Word<'a>, InFault>
+        ensures same { IfOk result (λ word. word.text.now ≡ text.now) }
+        ensures spelled { IfOk result IsSpelled }
+        ensures fault { IfErr result (IsLetterFault text.now) }
+    {
+        match letter_bytes(alloc, text) {
+            Ok(bytes) => Ok(Word { text, bytes }),
+            Err(LettersFault::NoByte { .. }) => {
+                Err(InFault::Letter(String::from_str(alloc, text)?))
+            }
+            Err(LettersFault::Memory) => Err(InFault::Memory),
+        }
+    }
+
+    /// The bytes of its letters.
+    pub fn bytes(&self) -> &[u8]
+        requires { IsSpelled self.now }
+        ensures { result.now ≡ chars self.now.text.now }
+    {
+        are_bytes_of(self.bytes.as_slice(), self.text);
+        self.bytes.as_slice()
+    }
+
+    /// An error of AmigaDOS, with this argument.
+    pub fn refused(&self, alloc: Global, error: DosError) -> InFault
+        ensures { IsRefusal error self.now.text.now result }
+    {
+        refused(alloc, self.text, error)
+    }
+
+    /// The protection bits for the argument's letters.
+    pub fn protection(&self, alloc: Global) -> Result<Protect, InFault>
+        requires { IsSpelled self.now }
+        ensures letters { OnOk result (AreLetters (chars self.now.text.now)) }
+        ensures bits { IfOk result (λ bits. bits.0 ≡ protection_of (chars self.now.text.now)) }
+        ensures fault { IfErr result (IsBitsFault self.now.text.now) }
+    {
+        match protection_of_letters(self.bytes()) {
+            Some(bits) => Ok(bits),
+            None => Err(InFault::Bits(String::from_str(alloc, self.text)?)),
+        }
+    }
+}
+
+/// The bytes are those of the text's letters.
+fn are_bytes_of(bytes: &[u8], text: &str)
+    requires { letters bytes.now ≡ text.now }
+    ensures { bytes.now ≡ chars text.now }
+{
+    letters_come_back();
+}
+
+/// Arguments without a letter past U+00FF.
+pub(crate) fn words_of<'a>(alloc: Global, texts: &[&'a str]) -> Result<Vec<Word<'a>>, InFault>
+    ensures texts { IfOk result (λ words. map (λ word. word.text.now) words.items ≡ map (λ text. text.now) texts.now) }
+    ensures spelled { IfOk result (λ words. All IsSpelled words.items) }
+    ensures fault { IfErr result (IsLetterFaultIn (map (λ text. text.now) texts.now)) }
+{
+    let mut words = Vec::new(alloc);
+    for text in texts {
+        let word = match Word::new(alloc, *text) {
+            Ok(word) => word,
+            Err(fault) => return Err(fault),
+        };
+        words.push(word)?;
+    }
+    Ok(words)
+}

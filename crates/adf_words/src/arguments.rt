@@ -1,0 +1,56 @@
+//! The arguments of a command, as `clap` parsed them.
+use crate::fault::WordsFault;
+use crate::letters::letters_of;
+use clap::ArgMatches;
+use std::alloc::Global;
+
+/// The parsed arguments of a command, and the allocator for lists and for the texts of faults.
+#[derive(Clone, Copy)]
+pub(crate) struct Arguments<'a, 'b> {
+    pub(crate) alloc: Global,
+    pub(crate) words: &'b ArgMatches<'a>,
+}
+
+impl<'a> Arguments<'a, '_> {
+    pub(crate) fn flag(&self, id: &str) -> bool {
+        self.words.get_flag(id)
+    }
+
+    /// An optional argument.
+    pub(crate) fn given(&self, id: &str) -> Option<&'a str> {
+        self.words.get_str(id)
+    }
+
+    /// A required argument.
+    pub(crate) fn word(&self, id: &str) -> Result<&'a str, WordsFault> {
+        match self.given(id) {
+            Some(word) => Ok(word),
+            None => Err(self.missing(id)),
+        }
+    }
+
+    /// The fault of a missing argument.
+    pub(crate) fn missing(&self, id: &str) -> WordsFault {
+        WordsFault::usage(format!(in self.alloc;
+            "error: <{id}> is missing\n\nFor more information, try '--help'.\n"
+        ))
+    }
+
+    /// The values of an argument that can have many.
+    pub(crate) fn words(&self, id: &str) -> Result<Vec<&'a str>, WordsFault> {
+        Ok(Vec::from_slice(self.alloc, self.words.get_strs(id).unwrap_or(&[]))?)
+    }
+
+    /// A required argument whose letters are bytes.
+    pub(crate) fn letters(&self, id: &str) -> Result<&'a str, WordsFault> {
+        letters_of(self.alloc, self.word(id)?)
+    }
+
+    /// The paths of a command.
+    pub(crate) fn paths(&self) -> Result<Vec<&'a str>, WordsFault> {
+        for path in self.words.get_strs("PATH").unwrap_or(&[]) {
+            letters_of(self.alloc, *path)?;
+        }
+        self.words("PATH")
+    }
+}

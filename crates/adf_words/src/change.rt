@@ -1,0 +1,34 @@
+//! The jobs of commands that change an image, as values.
+
+use ados_name::Date3;
+
+/// A change of a volume, and the file for the changed image.
+#[derive(Drop)]
+pub struct ChangeJob<'a> {
+    pub image: &'a str,
+    /// The file for the changed image, in place of the image's own.
+    pub out: Option<&'a str>,
+    /// The time stamp of the change; by default the host's clock.
+    pub moment: Option<Date3>,
+    pub change: Change<'a>,
+}
+
+/// A change of a volume. It is made whole or not at all.
+#[derive(Drop)]
+#[rattlefmt::skip]
+pub enum Change<'a> {
+    /// `add`: puts files and directories of the host into a directory.
+    Add { files: Vec<&'a str>, to: &'a str, force: bool },
+    /// `mkdir`: makes directories.
+    MakeDirectories { paths: Vec<&'a str> },
+    /// `delete`: deletes entries. With `all`, everything below a directory too; with `force`, protected entries too.
+    Delete { paths: Vec<&'a str>, all: bool, force: bool },
+    /// `rename`: moves an entry to another name or directory.
+    Rename { old: &'a str, new: &'a str },
+    /// `protect`: sets the eight low protection bits, given by letters.
+    Protect { path: &'a str, letters: &'a str },
+    /// `comment`: sets a comment.
+    Comment { path: &'a str, text: &'a str },
+    /// `relabel`: renames the volume.
+    Relabel { name: &'a str },
+}

@@ -1,0 +1,60 @@
+//! The jobs of the program, as values.
+ghost use Rattle.std.specs.Prelude.{◌<◌, length};
+
+use crate::change::ChangeJob;
+use crate::query::{CheckJob, ExtractJob, ListJob, SalvageJob};
+use adf_block::Format;
+use ados_name::Date3;
+
+/// A job of the program.
+#[derive(Drop)]
+pub enum Job<'a> {
+    /// No arguments: a script from standard input over a blank floppy.
+    Script,
+    /// A command with its arguments.
+    OnImage(ImageJob<'a>),
+}
+
+/// A command on an image file.
+///
+/// Names and paths of host files are the arguments themselves. So are names, paths and comments in an image: a letter
+/// U+0000 to U+00FF is the byte with its number. Any other letter is no byte.
+#[derive(Drop)]
+#[rattlefmt::skip]
+pub enum ImageJob<'a> {
+    /// `blank`: makes a blank image of `blocks` blocks. With `letters` the letters of the name are bytes; otherwise
+    /// the name has the bytes of the argument.
+    Blank { format: Format, blocks: u32, moment: Date3, name: &'a str, letters: bool, file: &'a str },
+    /// `info`: describes the disk, and says whether it is bootable.
+    Info { file: &'a str },
+    /// `check`: checks images.
+    Check(CheckJob<'a>),
+    /// `list`: lists directories and files.
+    List(ListJob<'a>),
+    /// `extract`: copies entries to files and directories of the host.
+    Extract(ExtractJob<'a>),
+    /// `extract --damaged`: copies what can be trusted of a possibly damaged image.
+    Salvage(SalvageJob<'a>),
+    /// `print`: prints the bytes of a file.
+    Print { image: &'a str, path: &'a str },
+    /// A command that changes the volume.
+    Change(ChangeJob<'a>),
+    /// `boot`: installs the boot block of a file, or removes it. The image goes to `out`, or to its own file.
+    Boot { image: &'a str, out: Option<&'a str>, file: Option<&'a str> },
+    /// `serve`: runs scripts over an image.
+    Serve(ServeJob<'a>),
+}
+
+/// The arguments of `serve`.
+#[derive(Drop)]
+pub struct ServeJob<'a> {
+    pub image: &'a str,
+    /// The scripts of clients 1, 2 and so on.
+    pub scripts: Vec<&'a str>,
+    /// The file for the resulting image.
+    pub out: Option<&'a str>,
+    /// The number of tries of a client for each put and each reply.
+    pub turns: u64,
+    pub moment: Date3,
+    ghost some: { 0 < length scripts.items },
+}

@@ -1,0 +1,50 @@
+//! The jobs of commands that change no image, as values.
+ghost use Rattle.std.specs.Prelude.{◌<◌, length};
+
+/// The arguments of `check`.
+#[derive(Drop)]
+pub struct CheckJob<'a> {
+    /// Image files, and directories with image files in them.
+    pub files: Vec<&'a str>,
+    /// Whether every fault of an image is reported; otherwise the first one.
+    pub all: bool,
+    /// Whether the report on each image is a JSON object.
+    pub json: bool,
+    /// The number of images checked in parallel; by default the number of processors.
+    pub jobs: Option<u32>,
+    ghost some: { 0 < length files.items },
+}
+
+/// The arguments of `list`.
+#[derive(Drop)]
+pub struct ListJob<'a> {
+    pub image: &'a str,
+    /// The directory to list; by default the root.
+    pub path: Option<&'a str>,
+    /// Whether names are printed as letters; otherwise as their bytes.
+    pub letters: bool,
+}
+
+/// The arguments of `extract`.
+#[derive(Drop)]
+pub struct ExtractJob<'a> {
+    pub image: &'a str,
+    /// The entries, each with everything below it; by default all entries of the root.
+    pub paths: Vec<&'a str>,
+    /// The host directory to write to.
+    pub to: &'a str,
+    /// Whether a note `.uaem` is written beside each entry.
+    pub meta: bool,
+    /// Whether existing files of the host are replaced.
+    pub force: bool,
+}
+
+/// The arguments of `extract --damaged`.
+#[derive(Drop)]
+pub struct SalvageJob<'a> {
+    pub image: &'a str,
+    /// The host directory to write to.
+    pub to: &'a str,
+    /// Whether a note `.uaem` is written beside each entry.
+    pub meta: bool,
+}

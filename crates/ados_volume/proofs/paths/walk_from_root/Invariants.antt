@@ -1,0 +1,16 @@
+use Rattle.std.proofs.Common.{◌≡◌}
+use Rattle.ados_name.specs.Name.{steps}
+use Rattle.ados_model.specs.Tree.{Tree}
+use Rattle.ados_model.specs.Stands.{Stands}
+use Rattle.ados_model.specs.Keys.{HasKey}
+use Rattle.ados_volume.proofs.PathWalks.{HasCome}
+use Rattle.ados_volume.proofs.paths.walk_from_root.Given as goal
+
+abbrev pub invariant-loop-step : goal.invariant-loop-step
+invariant-loop-step l = record {
+  can : (goal.iterator-loop-step).can_next l.steps;
+  finite : (goal.iterator-loop-step).is_finite l.steps;
+  same : l.volume ≡ l.initial.volume;
+  key : HasKey l.initial.volume.image l.key;
+  come : (t : Tree) → Stands l.initial.volume.image t → HasCome t (steps l.path) l.last l.key l.steps;
+}

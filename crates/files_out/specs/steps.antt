@@ -1,2 +1,0 @@
--- Definitions for steps: entries below the path of a directory.
-pub mod Behind
