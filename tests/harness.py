@@ -11,7 +11,6 @@ import os
 import re
 import resource
 import shutil
-import signal
 import subprocess
 import sys
 import tempfile
@@ -264,13 +263,9 @@ def upper(name: bytes) -> bytes:
 
 
 def limited(what: int, most: int) -> Callable[[], None]:
-    """For `before` of a run: the host limits a resource to this, where `what` is one of resource.RLIMIT_*."""
-
-    def limit() -> None:
-        signal.signal(signal.SIGXFSZ, signal.SIG_IGN)
-        resource.setrlimit(what, (most, most))
-
-    return limit
+    """For `before` of a run: the host limits a resource to this, where `what` is one of resource.RLIMIT_*. Signals are as a
+    shell leaves them: a write past RLIMIT_FSIZE ends the process."""
+    return partial(resource.setrlimit, what, (most, most))
 
 
 # ---- calls of the host, by strace

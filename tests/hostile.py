@@ -1,6 +1,6 @@
 #!/usr/bin/env python3
 """Tests the program against attackers: a process that swaps files in its directory, endless input, and an image made to exhaust
-resources.
+resources. It also tests limits on the length of files, and commands that are killed.
 
     tests/hostile.py [PROGRAM]
 
@@ -15,10 +15,14 @@ soon.
 The made floppies consist of headers only, which claim huge files over the same blocks. The size of their salvaged files and the
 memory that the salvage uses must be bounded.
 
+A limit on the length of files is set as a shell sets it, so that a write past it would end the program. Commands are killed by
+the signals of a terminal, and the next command must remove what they left.
+
 The test reports the checks that it skips on this machine.
 """
 from __future__ import annotations
 
+import fcntl
 import os
 import resource
 import shutil
@@ -27,12 +31,13 @@ import stat
 import subprocess
 import sys
 import time
+import unicodedata
 from pathlib import Path
-from typing import Callable, List, NamedTuple, NoReturn, Optional, Sequence, Tuple
+from typing import Callable, Dict, List, NamedTuple, NoReturn, Optional, Sequence, Tuple
 
 sys.dont_write_bytecode = True
 
-from harness import BLOCK, MOMENT, Image, Report, Room, has_strace, injected, limited, traced, try_all
+from harness import BLOCK, MOMENT, Image, Report, Room, fault_of, has_strace, injected, limited, traced, try_all
 
 # A user other than root, and two groups, by numbers that need no name.
 OTHER, GROUP, SECOND = 65_534, 65_534, 65_533
@@ -351,6 +356,112 @@ def owners(room: Shared) -> None:
         room.report.hold(name, fault_of_owner(room, CHANGE.words, PLACE, (after, group, mode), before))
 
 
+# ---- limits and leftovers
+
+
+def files_below(top: str) -> Dict[str, bytes]:
+    """The regular files below a directory, with their bytes."""
+    paths = [f"{folder}/{it}" for folder, _, files in os.walk(top) for it in files]
+    return {it: Path(it).read_bytes() for it in paths}
+
+
+def short_files(room: Shared) -> None:
+    """Under a limit on the length of files no file is begun that would exceed it."""
+    cases = [(it.name, it.words) for it in WRITINGS]
+    cases.append(("a file that is new", ["blank", *MOMENT, "Work", "theirs/new.adf"]))
+    cases.append(("a boot block", ["boot", *MOMENT, "theirs/image.adf"]))
+    cases.append(("files out", ["extract", "--to", "theirs/out/new", "full.adf"]))
+    for name, words in cases:
+        for most in (0, 1_000):
+            room.refresh()
+            before = files_below("theirs")
+            ran = room.run(*words, before=limited(resource.RLIMIT_FSIZE, most))
+            fault = fault_of(ran, 2, None, "limit on files")
+            if fault is None and files_below("theirs") != before:
+                fault = f"there is {sorted(files_below('theirs'))}"
+            room.report.hold(f"files of at most {most} bytes, {name}", fault)
+
+
+def beside(number: int) -> str:
+    """The file beside an image of the other user, by its number."""
+    return f"theirs/.adf_serve-{number}.new"
+
+
+def still_there() -> List[int]:
+    """The numbers of the files beside that are there."""
+    return [it for it in range(1_000) if os.path.lexists(beside(it))]
+
+
+def leftovers(room: Shared) -> None:
+    """A command removes the temporary files that others of its user left, and no other files of such names."""
+    room.refresh()
+    for number in range(1_000):
+        room.write(beside(number), b"left")
+    room.report.check("a thousand temporary files that were left", room.run(*CHANGE.words))
+    room.report.same("a thousand temporary files are removed", still_there(), [])
+    room.refresh()
+    for number in (0, 3, 999):
+        room.write(beside(number), b"kept")
+    os.symlink("../victim", beside(1))
+    os.mkdir(beside(2))
+    os.mkfifo(beside(4))
+    room.give(beside(3))
+    with open(beside(0), "rb") as locked:
+        fcntl.flock(locked, fcntl.LOCK_EX)
+        room.report.check("some temporary files that were left", room.run(*CHANGE.words))
+    stay = [0, 1, 2, 4] if room.owner is None else [0, 1, 2, 3, 4]
+    room.report.same("no file of another user, of another kind or that is locked is removed", still_there(), stay)
+    room.report.same("a link under such a name leads to the same file", room.content("victim"), b"kept")
+
+
+def heeds_signals() -> None:
+    """Signals of the terminal end this process, even if the test runs in the background."""
+    for it in (signal.SIGINT, signal.SIGTERM, signal.SIGHUP):
+        signal.signal(it, signal.SIG_DFL)
+
+
+def killed(room: Shared) -> None:
+    """After a kill by a signal of the terminal the next command removes the temporary file."""
+    for writing in WRITINGS:
+        for name in ("INT", "TERM", "HUP"):
+            room.refresh()
+            number = room.number_of(writing.words, "write", writing.beside)
+            room.run(*writing.words, front=injected(f"write:signal=SIG{name}:when={number}"), before=heeds_signals)
+            fault = None if os.path.exists(writing.beside) else "it was not killed in mid-change"
+            ran = room.run(*writing.words)
+            if os.path.lexists(writing.beside):
+                fault = "the temporary file is still there"
+            room.report.hold(f"killed by {name}, {writing.name}", fault or fault_of(ran, 0, None))
+
+
+def at_once(room: Shared) -> None:
+    """Commands that change images of one directory at the same time do not take each other's files for leftovers."""
+    room.refresh()
+    images = [f"theirs/{it}.adf" for it in range(6)]
+    for it in images:
+        room.write(it, room.empty)
+    faults = []
+    for turn in range(20):
+        words = [[str(room.program), "mkdir", *MOMENT, it, f"d{turn}"] for it in images]
+        began = [subprocess.Popen(it, stdout=subprocess.DEVNULL, stderr=subprocess.PIPE) for it in words]
+        faults += [texts for it in began for texts in [it.communicate()[1]] if it.returncode != 0]
+    room.report.expect("six changes at once, twenty times", not faults, faults[:3])
+    room.report.same("they leave no temporary file", still_there(), [])
+
+
+def links_to_nothing(room: Shared) -> None:
+    """A link that leads nowhere is a file that is not there."""
+    os.mkdir("folder")
+    for place in ("lost", "folder/lost"):
+        os.symlink("nowhere", place)
+    for words in (["missing"], ["lost"], ["folder"], ["one", "lost"]):
+        ran = room.run("add", "--out", "added.adf", "empty.adf", *words)
+        fault = fault_of(ran, 2, b"", "cannot be read: ") or ("an image is written" if os.path.exists("added.adf") else None)
+        room.report.hold(f"add of {' and '.join(words)}", fault)
+    os.remove("lost")
+    shutil.rmtree("folder")
+
+
 # ---- endless input
 
 
@@ -376,6 +487,8 @@ def endless(room: Shared) -> None:
 # ---- harmful disks
 
 SLOTS, FILE = 72, 0xFFFFFFFD
+# Letters that steer a terminal, as they are in a name on the disk and as a path of the host, and as they are printed.
+STEERS, SHOWN = "\x1b[2J\x07\x9b1m\x7f\n", b"%1B[2J%07%9B1m%7F%0A"
 # The memory that a rescue may use in addition to the image.
 MEMORY = 64 << 20
 
@@ -466,10 +579,55 @@ def holes(room: Shared) -> None:
         room.report.expect(f"a file of which {name} of 60 blocks is there", (ran.status, found) == (3, wanted), f"{ran}, {len(found)} bytes")
 
 
+def put_name(image: Image, block: int, name: bytes) -> None:
+    """Writes another name into a header, whose checksum is then wrong."""
+    start = block * BLOCK + 432
+    image.data[start : start + 1 + len(name)] = bytes([len(name)]) + name
+
+
+def terminals(room: Shared) -> None:
+    """No name steers the terminal through standard error."""
+    image = Image(room.full)
+    put_name(image, image.blocks // 2, STEERS.encode("latin-1"))
+    image.settle(image.blocks // 2)
+    header = next(it for it in range(2, image.blocks) if image.long(it, 127) == FILE and image.text(it, 432) == b"one")
+    put_name(image, header, STEERS.encode("latin-1"))
+    room.write("steers.adf", bytes(image.data))
+    room.write(STEERS, bytes(image.data))
+    os.mkfifo(f"{STEERS}.pipe")
+    for name, words, status in (
+        ("a fault of one image", ["check", "steers.adf"], 3),
+        ("all faults of two images", ["check", "--all", "steers.adf", STEERS], 3),
+        ("a file that is not there", ["list", f"no{STEERS}"], 2),
+        ("a file that is skipped", ["add", "empty.adf", f"{STEERS}.pipe"], 0),
+        ("an argument that is wrong", [f"no{STEERS}"], 1),
+        ("a number that is wrong", ["blank", "--blocks", f"no{STEERS}", "Work", "x.adf"], 1),
+    ):
+        ran = room.run(*words)
+        # (a line feed of an argument stays where a text has several lines)
+        shown = SHOWN if status != 1 else SHOWN.replace(b"%0A", b"\n")
+        bad = [it for it in ran.texts.decode() if unicodedata.category(it) == "Cc" and it != "\n"]
+        fault = f"{bad} is printed" if bad else None if shown in ran.texts else "the name is not printed"
+        if ran.status != status:
+            fault = "another status"
+        room.report.hold(f"control characters, {name}", fault and f"{fault}: {ran}")
+    for it in ("steers.adf", STEERS, f"{STEERS}.pipe"):
+        os.remove(it)
+
+
 def checks(room: Shared) -> None:
     room.set_up()
     strace = has_strace("delay_exit=1")
     endless(room)
+    short_files(room)
+    leftovers(room)
+    at_once(room)
+    links_to_nothing(room)
+    terminals(room)
+    if strace:
+        killed(room)
+    else:
+        room.report.lacks("commands that are killed", "strace")
     floppies(room)
     holes(room)
     modes(room)

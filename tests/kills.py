@@ -27,7 +27,7 @@ from harness import MOMENT, Call, Ran, Room, has_strace, injected, limited, trac
 WRITES = """flock write pwrite64 writev pwritev fsync fdatasync ftruncate fallocate sendfile copy_file_range fchmod chmod fchmodat rename
 renameat renameat2 link linkat unlink unlinkat symlink symlinkat mkdir mkdirat""".split()
 OPENS = "open openat creat".split()
-# These may fail without harm: an owner that cannot be given away, a time.
+# These may fail without harm: an owner that cannot be given away, a time. So may the lock of a temporary file.
 HARMLESS = "chown fchown lchown fchownat utimensat".split()
 READS = "read pread64 readv preadv".split()
 IMAGE = "image.adf"
@@ -90,18 +90,15 @@ class Change:
         return None if ran.texts.strip() else "it told nothing"
 
     def fault_of_kill(self) -> Optional[str]:
-        """What is wrong after a kill: the file is neither the old one nor the new one, or the command cannot be
-        repeated."""
+        """What is wrong after a kill: the file is neither the old one nor the new one, or the command cannot be repeated and
+        then leave no file beside it."""
         if self.now() not in (self.old, self.new):
             return "the file is neither the old one nor the new one"
         if self.now() == self.old:
-            left = {it: self.room.content(it) for it in self.left()}
             ran = self.run()
             if not self.is_done(ran):
                 return f"it does not go on from there: status {ran.status}, {ran.texts[:200]!r}"
-            if any(not os.path.exists(it) or self.room.content(it) != data for it, data in left.items()):
-                return "a file that was there was taken for another one"
-        return None
+        return f"{self.left()} is left" if self.left() else None
 
 
 def put_files(room: Room) -> None:
@@ -149,7 +146,8 @@ def writes_of(change: Change) -> List[Tuple[Call, bool]]:
         opens_to_read = call.name in OPENS and not placed and not re.search("O_WRONLY|O_RDWR|O_CREAT", call.about)
         prints = call.name == "write" and re.match("[12]<", call.about)
         if not (opens_to_read or prints or call.answer.startswith("-")):
-            writes.append((call, placed or call.name in HARMLESS))
+            locks_beside = call.name == "flock" and "/.adf_serve-" in call.about
+            writes.append((call, placed or locks_beside or call.name in HARMLESS))
             placed = placed or call.name.startswith("rename")
     change.restore()
     return writes
@@ -206,6 +204,8 @@ def limits(change: Change) -> None:
     for most in (0, 1, 512, 8_192, len(change.new) // 2, len(change.new) - 1):
         ran = change.room.run(*change.words, before=limited(resource.RLIMIT_FSIZE, most))
         change.hold(f"only {most} bytes are taken", change.fault_of(ran))
+    ran = change.room.run(*change.words, before=limited(resource.RLIMIT_FSIZE, len(change.new)))
+    change.hold("just its bytes are taken", None if change.is_done(ran) else str(ran))
 
 
 def tree_in_part(room: Room) -> None:
@@ -246,26 +246,26 @@ def killed_in_time(change: Change) -> None:
 
 
 def taken_names(change: Change) -> None:
-    """A file with the name for the file beside is unchanged, and so is a link to one."""
+    """What has a name for the file beside, and is no file that a command left, is unchanged: a link to a file, a file that
+    is locked, and a directory."""
     room = change.room
     room.write("elsewhere", b"kept")
-    # The names that the program uses are seen when each of them is taken.
     names = [f".adf_serve-{it}.new" for it in range(1_000)]
     os.symlink("elsewhere", names[0])
     room.write(names[1], b"kept")
-    os.mkdir(names[2])
-    ran = change.run()
-    change.report.expect("names that are taken: it is done", change.is_done(ran), ran)
-    is_kept = os.path.islink(names[0]) and room.content("elsewhere") == room.content(names[1]) == b"kept" and os.listdir(names[2]) == []
-    change.report.expect("names that are taken: they stay", is_kept and not os.path.exists(names[3]), "one has changed")
-    assert change.old is not None
-    room.write(change.target, change.old)
-    for it in names[3:]:
-        room.write(it, b"kept")
-    ran = change.run()
-    change.report.expect("a thousand names that are taken", ran.status == 2 and ran.texts != b"" and change.now() == change.old, ran)
-    change.report.expect("a thousand names: they stay", all(room.content(it) == b"kept" for it in names[3:]), "one has changed")
-    os.rmdir(names[2])
+    for it in names[2:]:
+        os.mkdir(it)
+    with open(names[1], "rb") as locked:
+        fcntl.flock(locked, fcntl.LOCK_EX)
+        ran = change.run()
+        change.report.expect("a thousand names that are taken", ran.status == 2 and ran.texts != b"" and change.now() == change.old, ran)
+        os.rmdir(names[500])
+        ran = change.run()
+        change.report.expect("one name that is not taken: it is done", change.is_done(ran) and not os.path.exists(names[500]), ran)
+        is_kept = os.path.islink(names[0]) and room.content("elsewhere") == room.content(names[1]) == b"kept"
+    for it in names[2:500] + names[501:]:
+        os.rmdir(it)
+    change.report.expect("names that are taken: they stay", is_kept, "one has changed")
     change.restore()
 
 

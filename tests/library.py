@@ -21,7 +21,7 @@ from walk import LIBRARY, code_of, first_floppy, first_program, link_lines, page
 
 TESTS, EXAMPLES = TOP / "tests" / "c", TOP / "examples" / "c"
 HEADER = TOP / "bindings/c/jiponuwha.h"
-PACKET = TOP / "crates/ados_model/specs/Packet.antt"
+PACKET, ACTIONS = (TOP / f"crates/ados_model/specs/{it}.antt" for it in ("Packet", "Actions"))
 FAULTS, STATUS, CALLS = (TOP / f"crates/adf_c/specs/{it}.antt" for it in ("Faults", "Status", "Calls"))
 BUILT = TOP / "crates/adf_c/out/libadf_c.a"
 STRICT = ["-Wall", "-Wextra", "-Wpedantic", "-Werror"]
@@ -112,7 +112,7 @@ def numbers(tried: Library) -> None:
     """The numbers in the header."""
     report = tried.report
     actions = declared_numbers("JIP_ACTION_")
-    report.hold("the numbers of actions", other_than(actions, proved_numbers(PACKET, "action_number")))
+    report.hold("the numbers of actions", other_than(actions, proved_numbers(ACTIONS, "action_number")))
     errors = proved_numbers(PACKET, "error_number")
     report.hold("the numbers of errors", other_than(declared_numbers("JIP_ERROR_"), errors))
     faults = [it for it in declared_numbers("JIP_FAULT_") if it[0] != "NONE"]
