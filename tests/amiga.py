@@ -22,6 +22,8 @@ from library import Library, put_in_place
 C = TOP / "tests" / "c"
 HEADER = TOP / "bindings/c/jiponuwha_amiga.h"
 SOURCE = Path("here/share/jiponuwha/amiga.c")
+# The other C files of the library, which are compiled with sanitizers too.
+OTHERS = [str(it) for it in sorted((TOP / "bindings/c/src").glob("*.c")) if it.name != "amiga.c"]
 STRICT = ["-Wall", "-Wextra", "-Wpedantic", "-Wconversion", "-Werror", "-g", "-O1", "-Ihere/include"]
 LINKED = ["-Lhere/lib", "-ljiponuwha"]
 SANITIZED = ["-fsanitize=address,undefined", "-fno-sanitize-recover=all"]
@@ -68,10 +70,10 @@ def in_c(tried: Library, compiler: str) -> bool:
     if not has_sanitizers(tried, compiler):
         report.skip(f"{compiler} with sanitizers", "there is no library of them")
         return False
-    sanitized = [*words, *SANITIZED, test, str(SOURCE), *LINKED, "-o", f"{compiler}-sanitized"]
+    sanitized = [*words, *SANITIZED, test, str(SOURCE), *OTHERS, *LINKED, "-o", f"{compiler}-sanitized"]
     if builds(report, f"{compiler} amiga with sanitizers", sanitized):
         tried.passes(f"{compiler} amiga with sanitizers runs", [f"./{compiler}-sanitized"])
-    twin = [*words, *SANITIZED, str(C / "amiga_twin.c"), str(SOURCE), *LINKED, "-o", f"{compiler}-twin"]
+    twin = [*words, *SANITIZED, str(C / "amiga_twin.c"), str(SOURCE), *OTHERS, *LINKED, "-o", f"{compiler}-twin"]
     if builds(report, f"{compiler} sessions beside a twin", twin):
         tried.passes(f"{compiler} sessions beside a twin run", [f"./{compiler}-twin", "1", "500"])
     return True
@@ -87,7 +89,7 @@ def in_cpp(tried: Library, compiler: str) -> None:
 
 def random_packets(tried: Library, compiler: str, seconds: float, seed: int) -> None:
     """Runs random packets for a time in seconds. A failure reports its seed and its round."""
-    words = [compiler, "-std=c11", *STRICT, *SANITIZED, str(C / "amiga_fuzz.c"), str(SOURCE), *LINKED, *WRAPPED]
+    words = [compiler, "-std=c11", *STRICT, *SANITIZED, str(C / "amiga_fuzz.c"), str(SOURCE), *OTHERS, *LINKED, *WRAPPED]
     if not builds(tried.report, f"{compiler} random packets", [*words, "-o", f"{compiler}-fuzz"]):
         return
     ran = run([f"./{compiler}-fuzz", str(seed), str(seconds)], longest=None)

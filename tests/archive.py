@@ -634,12 +634,12 @@ class Damages:
             data[BLOCK * first : BLOCK * (first + 22)] = random.Random(number).randbytes(22 * BLOCK)
             yield self.struck(number, bytes(data), range(first, first + 22))
 
-    def changed(self) -> Iterator[Struck]:
-        """One to eight bytes after the boot blocks are changed."""
+    def changed(self, first: int) -> Iterator[Struck]:
+        """One to eight bytes from this one on are changed."""
         for number in range(DAMAGED):
             chance = random.Random(number)
             data = bytearray(self.good)
-            places = [chance.randrange(2 * BLOCK, len(data)) for _ in range(chance.randint(1, 8))]
+            places = [chance.randrange(first, len(data)) for _ in range(chance.randint(1, 8))]
             for place in places:
                 data[place] ^= chance.randint(1, 255)
             yield self.struck(number, bytes(data), [it // BLOCK for it in places])
@@ -674,8 +674,8 @@ def damages(room: Room) -> None:
         said = kind[0] if kind else "--ofs"
         tried = Damages(room, kind)
         tried.all_true(f"salvage {said}: each track that is noise", tried.noise())
-        tried.all_true(f"salvage {said}: {DAMAGED} volumes with a few changed bytes", tried.changed())
-        tried.all_true(f"serve {said}: {DAMAGED} volumes with a few changed bytes", tried.changed(), mistaken)
+        tried.all_true(f"salvage {said}: {DAMAGED} volumes with a few changed bytes behind the boot blocks", tried.changed(2 * BLOCK))
+        tried.all_true(f"serve {said}: {DAMAGED} volumes with a few changed bytes", tried.changed(0), mistaken)
         tried.all_true(f"salvage {said}: each long that is another", tried.swept())
 
 

@@ -322,6 +322,7 @@ class Growths:
             Ran(2, b"", b"adf_serve: " + no_memory): "memory",
             Ran(2, b"", b"adf_serve: a thread cannot be made\n"): "thread",
             Ran(2, replies + b"2.41 1 0\n", b"adf_serve: 'grown.adf' cannot be written: " + no_memory): "written",
+            Ran(2, replies + b"2.41 1 0\n", b"adf_serve: 'grown.adf' cannot be written: no file can be made beside it: out of memory\n"): "written",
         }
 
     def built(self) -> bool:
@@ -494,7 +495,7 @@ def held_images(tried: Commands) -> None:
             lacking("mkdir in an image that is held", "mkdir moved.adf more", "'moved.adf'", HELD),
             lacking("blank over an image that is held", "blank Work moved.adf", "'moved.adf'", HELD),
             lacking("mkdir --out over an image that is held", "mkdir ffs.adf more --out moved.adf", "'moved.adf'", HELD),
-            row("check of an image that is held", "check moved.adf", 0, "ok\n"),
+            row("check of an image that is held", "check moved.adf", 0, "ok\n", "'moved.adf'", "the state saved last is read"),
             row("serve: a refused image goes before a held --out", "serve --out moved.adf write other", 3, "refused NotWholeBlocks 0\n"),
             lacking("serve: a missing script goes before a held --out", "serve --out moved.adf ffs.adf none", "'none' cannot be read"),
             row("serve: the work goes before a held --out", "serve --out moved.adf ffs.adf other", 2, "1.1 0 209\n", "'moved.adf'", HELD),

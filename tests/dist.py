@@ -1,8 +1,9 @@
 #!/usr/bin/env python3
 """Packs the archive of tools/dist.sh, unpacks it elsewhere, and tests its contents without the kit: the checksums, the tours of
-README and QUICKSTART, the library with the first program of its page, the mount, the manual pages and the completions.
+README and QUICKSTART, the library with the first program of its page, the mount, the manual pages and the completions. Packs
+the Debian packages of tools/dist.sh too, tests them with lintian, installs them in an empty directory, and uses them there.
 
-    tests/dist.py [ARCHIVE]     tests this archive instead of a new one
+    tests/dist.py [ARCHIVE]     tests this archive instead of a new one, and no packages
 
 The environment variables PROGRAM and LIBRARY mean the same as in tools/dist.sh. The test reports and skips checks whose tools
 are missing. It proves nothing.
@@ -23,6 +24,8 @@ from harness import TOP, Failed, Report, Room, built_program, done, run, wait_un
 from walk import first_program, link_lines, section_of, walk
 
 DIST = str(TOP / "tools" / "dist.sh")
+# What lintian may say of the packages, with the reasons.
+ALLOWED = TOP / "tools" / "debian.lintian"
 COMPILER = os.environ.get("CC") or "cc"
 BARE_PATH = "/usr/bin:/bin"
 PAGES = "share/doc/jiponuwha"
@@ -31,6 +34,25 @@ OFFERED = """
 completions=$1
 shift
 source "$completions" && COMP_WORDS=(adf_serve "$@") COMP_CWORD=$# && compopt() { :; } && _adf_serve && echo "${COMPREPLY[*]}"
+"""
+# Imports the package for Python and uses it, below the directory in the first argument.
+IMPORTS = """import importlib.metadata, sys
+import jiponuwha as jip
+assert jip.__file__.startswith(sys.argv[1]), jip.__file__
+assert importlib.metadata.version("jiponuwha") == jip.version()
+with jip.create("Work") as floppy:
+    floppy["f"] = b"text"
+    assert floppy.read("F") == b"text" and jip.check(floppy.image()) == ()
+    floppy.close(discard=True)
+"""
+# Builds the file in the variable TOUR with the static library and with the shared one.
+CMAKE = """cmake_minimum_required(VERSION 3.10)
+project(tour C)
+find_package(jiponuwha REQUIRED)
+foreach(kind jiponuwha shared)
+    add_executable(tour-${kind} ${TOUR})
+    target_link_libraries(tour-${kind} jiponuwha::${kind})
+endforeach()
 """
 # The completions: the check's name, the completions, and the words.
 OFFERS = [
@@ -86,8 +108,6 @@ def lacking(program: Path) -> Optional[str]:
         return f"there is no {program}"
     if not os.environ.get("LIBRARY") and not (TOP / "crates/adf_c/out/libadf_c.a").is_file():
         return "there is no library for C"
-    if not shutil.which("pkg-config") or run(["pkg-config", "--exists", "fuse3"]).status != 0:
-        return "there is no libfuse 3 (Debian: libfuse3-dev)"
     return None if shutil.which(COMPILER) else "there is no C compiler"
 
 
@@ -98,7 +118,8 @@ def pack(tried: Elsewhere) -> Optional[Path]:
         tried.report.skip("the archive", lacks)
         return None
     archive, again = tried.top / "archive.tar.gz", tried.top / "again.tar.gz"
-    tried.report.succeeds("the archive is packed", [DIST, str(archive)])
+    ran = run([DIST, str(archive)], longest=None)
+    tried.report.expect("the archive is packed", ran.status == 0, ran)
     ran = run([DIST, str(again)], longest=None)
     same = ran.status == 0 and archive.read_bytes() == again.read_bytes()
     tried.report.expect("packed again it has the same bytes", same, ran)
@@ -130,7 +151,7 @@ def files(tried: Elsewhere) -> None:
 
 def manual(tried: Elsewhere) -> None:
     """`man` shows each page without a warning."""
-    for page in ("adf_serve", "adf_mount"):
+    for page in sorted(it.name for it in (tried.dist / "bin").iterdir()):
         file = tried.dist / f"share/man/man1/{page}.1.gz"
         if shutil.which("man") and file.is_file():
             ran = run(["man", "--warnings", "-l", str(file)])
@@ -217,10 +238,136 @@ def use_mount(tried: Elsewhere) -> None:
 
 
 def mount(tried: Elsewhere) -> None:
-    if Path("/dev/fuse").is_char_device() and shutil.which("fusermount3"):
+    if not (tried.dist / "bin/adf_mount").exists():
+        tried.report.lacks("the mount", "libfuse 3 (Debian: libfuse3-dev, pkgconf)")
+    elif Path("/dev/fuse").is_char_device() and shutil.which("fusermount3"):
         tried.report.ends("the mount", partial(use_mount, tried))
     else:
         tried.report.lacks("the mount", "/dev/fuse, or no fusermount3")
+
+
+# ---- The Debian packages ----
+
+def packed(tried: Elsewhere) -> List[Path]:
+    """The new Debian packages. The list is empty if the machine cannot pack them."""
+    lacks = lacking(tried.program)
+    tools = [it for it in ("dpkg-deb", "dpkg-shlibdeps", "strip", "nm") if not shutil.which(it)]
+    if lacks or tools:
+        tried.report.skip("the Debian packages", lacks or f"there is no {tools[0]} (Debian: dpkg-dev, binutils)")
+        return []
+    for folder in ("packages", "packages again"):
+        ran = run([DIST, "--debian", folder], longest=None)
+        tried.report.expect(f"{folder} are packed", ran.status == 0, ran)
+    files, again = (sorted(Path(it).glob("*.deb")) for it in ("packages", "packages again"))
+    names = [it.name.partition("_")[0] for it in files]
+    tried.report.same("the packages", names, ["jiponuwha", "libjiponuwha-dev", "libjiponuwha1", "python3-jiponuwha"])
+    same = [it.read_bytes() for it in files] == [it.read_bytes() for it in again]
+    tried.report.expect("packed again they have the same bytes", same)
+    return [it.resolve() for it in files]
+
+
+def lintian(report: Report, files: List[Path]) -> None:
+    """lintian says of the packages only what the list allows, and each tag of the list."""
+    if not shutil.which("lintian"):
+        report.lacks("what lintian says", "lintian")
+        return
+    words = ["lintian", "--allow-root", "--no-cfg", "--color", "never", "--tag-display-limit", "0", *map(str, files)]
+    lines = re.findall(r"(?m)^[EWX]: ([a-z0-9-]+): ([a-z0-9-]+)(.*)$", run(words, longest=None).output.decode())
+    rows = [it.split(None, 1) for it in ALLOWED.read_text().splitlines() if it and not it.startswith("#")]
+    report.expect("the list gives reasons", all(len(it) == 2 for it in rows), rows)
+    listed = {it[0] for it in rows}
+    report.same("lintian says no more than the list", [it for it in lines if it[1] not in listed], [])
+    report.same("lintian says all of the list", sorted({it[1] for it in lines}), sorted(listed))
+
+
+def put_in(report: Report, files: List[Path], root: Path) -> None:
+    """Installs the packages in an empty directory: by dpkg as root, or else by unpacking them."""
+    if os.geteuid() != 0 or not shutil.which("dpkg"):
+        report.skip("the packages are installed by dpkg", "this is not root, or there is no dpkg; they are unpacked")
+        for it in files:
+            report.succeeds(f"{it.name} is unpacked", ["dpkg-deb", "-x", str(it), str(root)])
+        return
+    (root / "var/lib/dpkg/updates").mkdir(parents=True)
+    (root / "var/lib/dpkg/info").mkdir()
+    (root / "var/lib/dpkg/status").touch()
+    # (the empty directory has no C library, no Python and no fuse3)
+    words = ["dpkg", f"--root={root}", "--force-depends", "--install", *map(str, files)]
+    ran = run(words, env={"PATH": "/usr/sbin:/usr/bin:/sbin:/bin"})
+    report.expect("the packages are installed", ran.status == 0, ran)
+    listed = run(["dpkg-query", f"--admindir={root}/var/lib/dpkg", "-W", "-f", "${db:Status-Status}\n"]).output.split()
+    report.same("each package is installed", listed, [b"installed"] * len(files))
+
+
+def taken_out(report: Report, files: List[Path], root: Path) -> None:
+    """Once the packages are removed, no file of theirs is left."""
+    if (root / "var/lib/dpkg").is_dir():
+        names = [it.name.partition("_")[0] for it in files]
+        words = ["dpkg", f"--root={root}", "--force-depends", "--purge", *names]
+        ran = run(words, env={"PATH": "/usr/sbin:/usr/bin:/sbin:/bin"})
+        report.expect("the packages are removed", ran.status == 0, ran)
+        report.same("nothing of them is left", [it for it in (root / "usr").rglob("*") if not it.is_dir()], [])
+
+
+def same_code(tried: Elsewhere, root: Path) -> Optional[str]:
+    """What is wrong if the installed program has other code or data than the proved one. Only its symbols are stripped."""
+    for name, program in (("proved", tried.program), ("installed", root / "usr/bin/adf_serve")):
+        done(["objcopy", "-O", "binary", str(program), name])
+    return None if tried.content("proved") == tried.content("installed") else "it differs"
+
+
+def use_installed(tried: Elsewhere, root: Path, multiarch: str) -> None:
+    """Runs README's tour, builds a C program by pkg-config and by CMake, and imports the package for Python."""
+    report, lib, example = tried.report, root / "usr/lib" / multiarch, root / "usr/share/doc/libjiponuwha-dev/examples/tour.c"
+    os.mkdir("by packages")
+    os.symlink(root / "usr/bin/adf_serve", "by packages/adf_serve")
+    front = ["env", "-i", "-C", "by packages", f"PATH={BARE_PATH}", "LC_ALL=C.UTF-8", f"HOME={tried.top}"]
+    walk(report, "the packages: README.md", section_of((root / "usr/share/doc/jiponuwha/README.md").read_text(), "A tour"), front)
+    found = {"PKG_CONFIG_SYSROOT_DIR": str(root), "PKG_CONFIG_LIBDIR": str(lib / "pkgconfig"), "LD_LIBRARY_PATH": str(lib)}
+    if shutil.which("pkg-config") and shutil.which(COMPILER):
+        for name in ("jiponuwha", "jiponuwha-shared"):
+            flags = done(["pkg-config", "--cflags", "--libs", name], env=found).decode().split()
+            words = [COMPILER, "-std=c11", str(example), *flags, "-o", f"tour-{name}"]
+            report.succeeds(f"the packages: a C program by {name}", words)
+            report.succeeds(f"the packages: it runs by {name}", [f"./tour-{name}", f"{name}.adf"], env=found)
+        report.expect("the packages: it loads the shared library", needs(b"libjiponuwha.so.1", "tour-jiponuwha-shared"))
+    else:
+        report.lacks("the packages: a C program", "C compiler, or no pkg-config")
+    by_cmake(tried, root, example)
+    if sys.version_info >= (3, 11):
+        imported = {"PYTHONPATH": str(root / "usr/lib/python3/dist-packages"), "LD_LIBRARY_PATH": str(lib), "JIPONUWHA_LIBRARY": ""}
+        report.succeeds("the packages: Python imports", [sys.executable, "-B", "-c", IMPORTS, str(root)], env=imported)
+    else:
+        report.skip("the packages: Python imports", "this is no Python 3.11 or later")
+
+
+def by_cmake(tried: Elsewhere, root: Path, example: Path) -> None:
+    if not shutil.which("cmake") or not shutil.which(COMPILER):
+        tried.report.lacks("the packages: a C program by CMake", "CMake, or no C compiler")
+        return
+    os.mkdir("cmake")
+    tried.write("cmake/CMakeLists.txt", CMAKE.encode())
+    words = ["cmake", "-S", "cmake", "-B", "cmake/built", f"-DCMAKE_PREFIX_PATH={root}/usr", f"-DTOUR={example}"]
+    tried.report.succeeds("the packages: CMake finds the library", words)
+    tried.report.succeeds("the packages: a C program by CMake", ["cmake", "--build", "cmake/built"])
+    for kind in ("jiponuwha", "shared"):
+        tried.report.succeeds(f"the packages: it runs by CMake, {kind}", [f"cmake/built/tour-{kind}", f"cmake-{kind}.adf"])
+
+
+def needs(library: bytes, program: str) -> bool:
+    """Whether a program loads a shared library when it starts."""
+    return not shutil.which("readelf") or library in done(["readelf", "-d", program])
+
+
+def packages(tried: Elsewhere) -> None:
+    files = packed(tried)
+    if files:
+        lintian(tried.report, files)
+        root = tried.top / "root"
+        root.mkdir()
+        put_in(tried.report, files, root)
+        tried.report.ends("the installed program has the code of the proved one", partial(same_code, tried, root))
+        use_installed(tried, root, done(["dpkg-architecture", "-qDEB_HOST_MULTIARCH"]).decode().strip())
+        taken_out(tried.report, files, root)
 
 
 def main(words: List[str]) -> int:
@@ -234,6 +381,8 @@ def main(words: List[str]) -> int:
             report.same("the kit is not in the path", shutil.which("rt", path=BARE_PATH), None)
             for part in (files, manual, walks, options, library, mount):
                 tried.part(part)
+        if not words:
+            tried.part(packages)
     return report.end()
 
 

@@ -11,6 +11,7 @@ import os
 import re
 import resource
 import shutil
+import struct
 import subprocess
 import sys
 import tempfile
@@ -249,7 +250,7 @@ class Image:
     def settle(self, block: int, at: int = 5) -> None:
         """Sets the checksum of the block: all its longs add up to 0."""
         self.put(block, at, 0)
-        self.put(block, at, -sum(self.long(block, it) for it in range(BLOCK // 4)))
+        self.put(block, at, -sum(struct.unpack_from(f">{BLOCK // 4}I", self.data, BLOCK * block)))
 
     def text(self, block: int, offset: int) -> bytes:
         """The bytes after their number, as a name or a comment is stored in a block."""

@@ -12,37 +12,50 @@ also checks that owners, groups and modes are kept.
 Endless streams, and files as long as a disk, take the place of images and scripts. With little memory the program must end
 soon.
 
-The made floppies consist of headers only, which claim huge files over the same blocks. The size of their salvaged files and the
-memory that the salvage uses must be bounded.
+Directories are swapped for links to one that must stay empty: while the program is held up by `strace`, and at any time for ten
+seconds. An image with more levels of directories than are open at a time is taken out, and `/proc` is taken away.
+
+The made images consist of headers only: of files that claim too many blocks, of directories in chains and cycles, and of one name
+again and again. The time and the memory of their salvage must be bounded, and so must be the size of the salvaged files.
+
+Other images are accepted, and as deep or as full as their blocks allow: a chain of directories through all blocks, many files in
+the deepest directory, all entries in one directory. Each command over them has a bound on its memory and its processor time.
 
 A limit on the length of files is set as a shell sets it, so that a write past it would end the program. Commands are killed by
 the signals of a terminal, and the next command must remove what they left.
+
+Programs of this test lock images while commands read them.
 
 The test reports the checks that it skips on this machine.
 """
 from __future__ import annotations
 
+import ctypes
 import fcntl
 import os
+import random
 import resource
 import shutil
 import signal
 import stat
+import struct
 import subprocess
 import sys
 import time
 import unicodedata
 from pathlib import Path
-from typing import Callable, Dict, List, NamedTuple, NoReturn, Optional, Sequence, Tuple
+from typing import Callable, Dict, Iterator, List, NamedTuple, NoReturn, Optional, Sequence, Tuple
 
 sys.dont_write_bytecode = True
 
-from harness import BLOCK, MOMENT, Image, Report, Room, fault_of, has_strace, injected, limited, traced, try_all
+from harness import BLOCK, MOMENT, Call, Image, Ran, Report, Room, fault_of, has_strace, injected, limited, run, traced, try_all
 
 # A user other than root, and two groups, by numbers that need no name.
 OTHER, GROUP, SECOND = 65_534, 65_534, 65_533
 # How long a call is delayed, in microseconds, and how long a swap is tried without that, in seconds.
 DELAY, BOUND = 300_000, 4.0
+# How long directories are swapped at any time, in seconds, and the files in such a directory.
+RACE, FILES = 10.0, 200
 # Bytes in the largest image, and the longest time for reading an endless stream, in seconds.
 LARGEST, SOON = 101_602 * BLOCK, 30.0
 
@@ -312,6 +325,247 @@ def others_in_place(room: Shared) -> None:
         room.report.hold(f"a held file is removed, {name}", fault or ("it is there again" if os.path.exists(PLACE) else None))
 
 
+# ---- directories that are swapped
+
+
+# What is taken out: a file, and then a directory of files.
+TAKEN = ["extract", "--to", "theirs/out", "way.adf", "a", "way"]
+# The levels of directories in a deep image: more than are open at a time. The handles that a process then has at most.
+LEVELS, HANDLES = 150, 80
+LIBC = ctypes.CDLL(None, use_errno=True)
+AT_FDCWD, RENAME_EXCHANGE = -100, 2
+
+
+class Held(NamedTuple):
+    """A directory that is swapped while the program is held up."""
+
+    name: str
+    swapped: str
+    # The call that is delayed, and a part of its arguments. The swap comes as soon as this path is there.
+    call: str
+    about: str
+    there: str
+    status: Optional[int]
+
+
+HOLD_UPS = [
+    Held("on the way, as soon as it is made", "theirs/out/way", "mkdir", '/way"', "theirs/out/way", 2),
+    Held("on the way, after a file in it", "theirs/out/way", "write", "/out/way/", "theirs/out/way", None),
+    Held("that was named", "theirs/out", "write", "/out/a>", "theirs/out/a", None),
+]
+HOLD_UP_FOUND = Held("on the way, that was there", "theirs/out/way", "write", "/out/a>", "theirs/out/a", 2)
+
+
+def exchanged(place: str) -> Callable[[], None]:
+    """Exchanges a directory and the link beside it, in one step."""
+    words = (ctypes.c_char_p(place.encode()), AT_FDCWD, ctypes.c_char_p(f"{place}.link".encode()), RENAME_EXCHANGE)
+    return lambda: None if LIBC.renameat2(AT_FDCWD, *words) == 0 else sys.exit(1)
+
+
+def put_directory_link(room: Shared, place: str) -> None:
+    """A link, beside a directory, to the directory of this user that must stay empty."""
+    os.symlink(room.top / "outside", f"{place}.link")
+
+
+def moved_away(room: Shared, place: str) -> Callable[[], None]:
+    """Moves a directory away, and puts a link to the directory of this user there."""
+
+    def change() -> None:
+        os.rename(place, f"{place}.away")
+        os.symlink(room.top / "outside", place)
+
+    return change
+
+
+def outside_of(ran: Ran) -> Optional[str]:
+    """What is wrong after a directory was swapped for a link to one that must stay empty."""
+    found = sorted(f"{folder}/{it}" for folder, below, files in os.walk("outside") for it in below + files)
+    shutil.rmtree("outside")
+    os.mkdir("outside")
+    return f"{len(found)} names, the first {found[0]!r}, were made outside: {ran}" if found else None
+
+
+def find_call(room: Room, words: Sequence[str], names: Sequence[str], part: str) -> Call:
+    """The first call with one of these names that has this part in its arguments."""
+    return next(it for it in traced(room, words, names) if part in it.about)
+
+
+def swapped_in(room: Shared, held: Held, prepare: Callable[[], None]) -> Optional[str]:
+    """What is wrong after a directory was swapped for a link while the program was held up."""
+    prepare()
+    call = find_call(room, TAKEN, [held.call, f"{held.call}at"], held.about)
+    prepare()
+    swap = Swap(room, lambda: when_there(held.there), moved_away(room, held.swapped))
+    ran = room.run(*TAKEN, front=held_up(call.name, call.number))
+    swapped, fault = swap.end(), outside_of(ran)
+    if fault is None and not swapped:
+        return f"nothing was swapped in time: {ran}"
+    if fault is None and held.status is not None and (ran.status != held.status or not ran.texts):
+        return f"status {held.status} and a text are wanted: {ran}"
+    return fault
+
+
+def with_way(room: Shared) -> None:
+    """The other user has made the directory of files."""
+    room.refresh()
+    os.mkdir("theirs/out/way")
+    room.give("theirs/out/way")
+
+
+def swapped_new(room: Shared) -> Optional[str]:
+    """What is wrong after the directory of a new image was swapped for a link. It comes after the last leftover is removed."""
+    words, last = ["blank", *MOMENT, "Work", "theirs/dir/new.adf"], "theirs/dir/.adf_serve-999.new"
+
+    def prepare() -> None:
+        room.refresh()
+        os.mkdir("theirs/dir")
+        room.give("theirs/dir")
+        room.write(last)
+
+    prepare()
+    call = find_call(room, words, ["unlink", "unlinkat"], "/.adf_serve-999.new")
+    prepare()
+
+    def when_gone() -> None:
+        while os.path.lexists(last):
+            pass
+
+    swap = Swap(room, when_gone, moved_away(room, "theirs/dir"))
+    ran = room.run(*words, front=held_up(call.name, call.number))
+    swapped = swap.end()
+    return outside_of(ran) or (None if swapped else f"nothing was swapped in time: {ran}")
+
+
+def raced(room: Shared, words: Sequence[str], place: str, prepare: Callable[[], None]) -> Optional[str]:
+    """What is wrong after a command ran again and again, for some seconds, while a directory was swapped at any time."""
+    prepare()
+    begins = time.monotonic()
+    room.run(*words)
+    lasts, turns, drawn_by = time.monotonic() - begins, 0, random.Random(1)
+    fault: Optional[str] = None
+    while fault is None and time.monotonic() < begins + RACE:
+        prepare()
+        put_directory_link(room, place)
+        after = drawn_by.uniform(0, lasts)
+        swap = Swap(room, lambda: time.sleep(after), exchanged(place))
+        ran = room.run(*words)
+        swap.end()
+        fault = outside_of(ran)
+        turns += 1
+    return fault and f"in turn {turns}: {fault}"
+
+
+def with_dir(room: Shared) -> None:
+    """The image is in a directory of its own, of the other user."""
+    room.refresh()
+    os.mkdir("theirs/dir")
+    room.put("theirs/dir/image.adf", room.full)
+    room.give("theirs/dir")
+    room.give("theirs/dir/image.adf")
+
+
+def swapped_directories(room: Shared, strace: bool) -> None:
+    """Nothing is written outside the directory that was named, whatever is put in the place of one meanwhile."""
+    os.mkdir("outside")
+    os.makedirs("way")
+    for it in ("a", *(f"way/f{number:02}" for number in range(FILES))):
+        room.write(it, it.encode() * 400)
+    room.done("blank", "--ffs", *MOMENT, "Work", "way.adf")
+    room.done("add", *MOMENT, "way.adf", "a", "way")
+    if strace:
+        for held in HOLD_UPS:
+            room.report.hold(f"a link for a directory {held.name}", swapped_in(room, held, room.refresh))
+        fault = swapped_in(room, HOLD_UP_FOUND, lambda: with_way(room))
+        room.report.hold(f"a link for a directory {HOLD_UP_FOUND.name}", fault)
+        room.report.hold("a link for the directory of a new image", swapped_new(room))
+    else:
+        room.report.lacks("links for directories, held up", "strace")
+    if hasattr(LIBC, "renameat2"):
+        fault = raced(room, TAKEN, "theirs/out/way", lambda: with_way(room))
+        room.report.hold("a link for a directory on the way, again and again", fault)
+        fault = raced(room, ["mkdir", *MOMENT, "theirs/dir/image.adf", "new"], "theirs/dir", lambda: with_dir(room))
+        room.report.hold("a link for the directory of an image, again and again", fault)
+    else:
+        room.report.lacks("links for directories, again and again", "call that exchanges names")
+    room.refresh()
+
+
+def deep_directories(room: Shared, strace: bool) -> None:
+    """More levels of directories than are open at a time are taken out. One that is opened again must be the same."""
+    way = ["/".join("d" * level) for level in range(1, LEVELS + 1)]
+    os.makedirs(f"deep/{way[-1]}")
+    for it in way:
+        for name in "abc":
+            room.write(f"deep/{it}/{name}", f"{it} {name}".encode())
+    room.done("blank", "--ffs", *MOMENT, "Work", "deep.adf")
+    room.done("add", *MOMENT, "deep.adf", "deep/d")
+    words = ["extract", "--to", "theirs/out", "deep.adf"]
+    room.refresh()
+    ran = room.run(*words, before=limited(resource.RLIMIT_NOFILE, HANDLES))
+    same = run(["diff", "-r", "deep/d", "theirs/out/d"])
+    fault = fault_of(ran) or (None if (same.status, same.output) == (0, b"") else f"other files: {same}")
+    room.report.hold(f"{LEVELS} levels of directories with {HANDLES} handles", fault)
+    faults = (fault_of_time(f"theirs/out/{it}", f"deep/{it}") for it in way)
+    room.report.hold("the times of these directories", next(filter(None, faults), None))
+    if not strace:
+        room.report.lacks("a directory that is opened again", "strace")
+        return
+    deepest = f"/{'/'.join('d' * LEVELS)}/"
+    for title, change in (("a link", moved_away(room, "theirs/out/d")), ("another one", other_in_place)):
+        room.refresh()
+        call = find_call(room, words, ["write"], deepest)
+        room.refresh()
+        swap = Swap(room, lambda: when_there(f"theirs/out/{way[-1]}"), change)
+        ran = room.run(*words, front=held_up(call.name, call.number))
+        swapped = swap.end()
+        fault = outside_of(ran) or (None if swapped else f"nothing was swapped in time: {ran}")
+        if fault is None and (ran.status != 2 or b"theirs/out/d" not in ran.texts):
+            fault = f"status 2 and a text are wanted: {ran}"
+        room.report.hold(f"{title} for a directory that is opened again", fault)
+    room.refresh()
+
+
+def other_in_place() -> None:
+    """Puts another directory in the place of the first."""
+    os.rename("theirs/out/d", "theirs/out/e")
+    os.mkdir("theirs/out/d")
+
+
+def fault_of_time(path: str, like: str) -> Optional[str]:
+    """What is wrong with the time of a directory: that of another one is wanted, down to a tick."""
+    wanted = os.stat(like).st_mtime_ns // 20_000_000 * 20_000_000
+    found = os.stat(path).st_mtime_ns
+    return None if found == wanted else f"{path}: {found} where {wanted} is expected"
+
+
+def long_paths(room: Shared) -> None:
+    """An entry whose host path would be too long is refused before anything is written."""
+    room.done("blank", "--ffs", *MOMENT, "Work", "long.adf")
+    names = [f"{level:03}".ljust(30, "n") for level in range(140)]
+    room.done("mkdir", *MOMENT, "long.adf", *("/".join(names[: level + 1]) for level in range(len(names))))
+    ran = room.run("extract", "--to", "long", "long.adf")
+    fault = fault_of(ran, 2, b"", "4,095")
+    room.report.hold("a path of over 4,095 bytes", fault or ("something was written" if os.path.exists("long") else None))
+
+
+def without_proc(room: Shared) -> None:
+    """Without /proc nothing is taken out, and images are changed as with it."""
+    front = ["unshare", "-m", "sh", "-c", 'mount -t tmpfs none /proc && exec "$@"', "sh"]
+    if run([*front, "true"]).status != 0:
+        room.report.skip("without /proc", "it cannot be taken away here")
+        return
+    for title, words in (("a directory that is there", ["--to", "theirs/out"]), ("a new directory", ["--to", "theirs/none"])):
+        room.refresh()
+        before = files_below("theirs")
+        ran = room.run("extract", *words, "way.adf", front=front)
+        fault = fault_of(ran, 2, b"", "/proc")
+        is_kept = files_below("theirs") == before and not os.path.exists("theirs/none")
+        room.report.hold(f"without /proc, extract to {title}", fault or (None if is_kept else "something was written"))
+    ran = room.run("mkdir", *MOMENT, "theirs/image.adf", "new", front=front)
+    room.report.hold("without /proc, a change", fault_of(ran) or (None if room.content("theirs/image.adf") != room.full else "none"))
+    room.refresh()
+
+
 # ---- owners, groups and modes
 
 
@@ -486,24 +740,39 @@ def endless(room: Shared) -> None:
 
 # ---- harmful disks
 
-SLOTS, FILE = 72, 0xFFFFFFFD
+SLOTS, DIRECTORY, FILE = 72, 2, 0xFFFFFFFD
 # Letters that steer a terminal, as they are in a name on the disk and as a path of the host, and as they are printed.
 STEERS, SHOWN = "\x1b[2J\x07\x9b1m\x7f\n", b"%1B[2J%07%9B1m%7F%0A"
-# The memory that a rescue may use in addition to the image.
+# The memory that a rescue may use in addition to the image, and its most seconds of processor time, for images of at most this
+# many blocks.
 MEMORY = 64 << 20
+SECONDS = [(3_520, 10), (101_602, 60)]
+
+
+def put_entry(image: Image, block: int, kind: int, name: bytes, parent: int = 0, slot: int = 0) -> None:
+    """Draws the header of a directory or an empty file over a block, sound by itself: with its parent, and the first entry of
+    its first slot."""
+    image.data[block * BLOCK : (block + 1) * BLOCK] = bytes(BLOCK)
+    for at, value in ((0, 2), (1, block), (6, slot), (125, parent), (127, kind)):
+        image.put(block, at, value)
+    start = block * BLOCK + 432
+    image.data[start : start + 1 + len(name)] = bytes([len(name)]) + name
+    image.settle(block)
+
+
+def put_pointers(image: Image, block: int, size: int, pointers: Sequence[int], extension: int = 0) -> None:
+    """Gives a file a size, these first data blocks, and an extension block."""
+    for at, value in ((2, len(pointers)), (81, size), (126, extension)):
+        image.put(block, at, value)
+    for place, pointer in enumerate(pointers):
+        image.put(block, 77 - place, pointer)
+    image.settle(block)
 
 
 def put_header(image: Image, block: int, size: int, pointers: Sequence[int]) -> None:
     """Draws the header of a file over a block, sound by itself: with this size and these first data blocks."""
-    image.data[block * BLOCK : (block + 1) * BLOCK] = bytes(BLOCK)
-    for at, value in ((0, 2), (1, block), (2, len(pointers)), (81, size), (125, image.blocks // 2), (127, FILE)):
-        image.put(block, at, value)
-    for place, pointer in enumerate(pointers):
-        image.put(block, 77 - place, pointer)
-    name = f"f{block}".encode()
-    start = block * BLOCK + 432
-    image.data[start : start + 1 + len(name)] = bytes([len(name)]) + name
-    image.settle(block)
+    put_entry(image, block, FILE, f"f{block}".encode(), image.blocks // 2)
+    put_pointers(image, block, size, pointers)
 
 
 def refused(image: Image) -> bytes:
@@ -512,50 +781,194 @@ def refused(image: Image) -> bytes:
     return bytes(image.data)
 
 
-def drawn(blank: bytes, size_of: Callable[[int], int], pointers_of: Callable[[int], Sequence[int]]) -> bytes:
-    """A blank image that is refused, with a header in each block other than those of the volume itself."""
-    image = Image(blank)
+def places_in(image: Image) -> List[int]:
+    """The blocks of a blank image other than those of the volume itself."""
     root = image.blocks // 2
-    for block in range(2, image.blocks):
-        if block not in (root, root + 1):
-            put_header(image, block, size_of(block), pointers_of(block))
-    return refused(image)
+    pages = {image.long(root, 79 + it) for it in range(25)}
+    return [it for it in range(2, image.blocks) if it != root and it not in pages]
 
 
-def taken_out(room: Room, name: str, image: bytes) -> None:
-    """Rescues an image with limited memory, and checks the result."""
+class Rescued(NamedTuple):
+    """How a rescue ended: its status or None if it took too long, its lines, its messages, and the sizes of the files that it
+    wrote, or None if it made no directory."""
+
+    status: Optional[int]
+    lines: List[bytes]
+    texts: bytes
+    sizes: Optional[List[int]]
+
+    def __str__(self) -> str:
+        wrote = "no directory" if self.sizes is None else f"{len(self.sizes)} files of {sum(self.sizes)} bytes"
+        return f"status {self.status}, {len(self.lines)} lines, {wrote}, on standard error {self.texts[:200]!r}"
+
+
+def rescued(room: Room, image: bytes) -> Rescued:
+    """Rescues an image, with memory for the image and 64 MB, in the processor time for its size."""
     room.write("bomb.adf", image)
-    most = len(image) + MEMORY
+    most = next(seconds for blocks, seconds in SECONDS if len(image) <= blocks * BLOCK)
     words = [str(room.program), "extract", "--damaged", "--to", "bomb", "bomb.adf"]
+    def within_bounds() -> None:
+        resource.setrlimit(resource.RLIMIT_AS, (len(image) + MEMORY, len(image) + MEMORY))
+        resource.setrlimit(resource.RLIMIT_CPU, (most, most + 1))
+
     with open("lines", "wb") as lines, open("texts", "wb") as texts:
-        began = subprocess.Popen(words, stdout=lines, stderr=texts, preexec_fn=limited(resource.RLIMIT_AS, most))
-        status, used = os.wait4(began.pid, 0)[1:]
-    began.returncode = os.WEXITSTATUS(status) if os.WIFEXITED(status) else -os.WTERMSIG(status)
-    sizes = [os.path.getsize(f"{folder}/{it}") for folder, _, files in os.walk("bomb") for it in files]
-    shutil.rmtree("bomb", ignore_errors=True)
-    headers = len(image) // BLOCK - 4
-    told, said = room.content("lines").count(b"found broken "), room.content("texts")
-    is_told = (began.returncode, told) == (3, headers)
-    room.report.expect(f"{name}: every file is told", is_told, f"status {began.returncode}, {told} of {headers}; {said[:200]!r}")
-    room.report.expect(f"{name}: at most four times the image", sum(sizes) <= 4 * len(image), f"{sum(sizes)} bytes were written")
-    room.report.expect(f"{name}: what is cut short is told", b" is cut short" in said, "nothing was told")
-    peak = used.ru_maxrss * 1024
-    room.report.expect(f"{name}: memory for the image and 64 MB", peak <= most, f"{peak} bytes")
+        ended = subprocess.run(words, stdout=lines, stderr=texts, preexec_fn=within_bounds).returncode
+    status = None if ended in (-signal.SIGXCPU, -signal.SIGKILL) else ended
+    sizes: Optional[List[int]] = None
+    if os.path.exists("bomb"):
+        found = subprocess.run(["find", "bomb", "-type", "f", "-printf", "%s\\n"], capture_output=True).stdout
+        sizes = [int(it) for it in found.split()]
+    # (deeper than Python's own removal can go)
+    subprocess.run(["rm", "-rf", "bomb"])
+    return Rescued(status, room.content("lines").splitlines(), room.content("texts"), sizes)
+
+
+Places = Sequence[int]
+
+
+def parents_up(image: Image, places: Places, depth: int) -> None:
+    """Directories that only their parents hold together: chains of this depth, from the first header up to the last."""
+    for at, block in enumerate(places):
+        is_last = (at + 1) % depth == 0 or at + 1 == len(places)
+        put_entry(image, block, DIRECTORY, b"d", 0 if is_last else places[at + 1])
+
+
+def parents_round(image: Image, places: Places, depth: int) -> None:
+    """Directories in cycles of parents."""
+    for at, block in enumerate(places):
+        first = at - at % depth
+        is_last = (at + 1) % depth == 0 or at + 1 == len(places)
+        put_entry(image, block, DIRECTORY, b"d", places[first if is_last else at + 1])
+
+
+def chains_down(image: Image, places: Places, depth: int) -> None:
+    """Directories in directories, by the slots of the root, and an empty file in the last one."""
+    root = image.blocks // 2
+    for at, block in enumerate(places):
+        is_last = (at + 1) % depth == 0 or at + 1 == len(places)
+        if at % depth == 0 and at // depth < SLOTS:
+            image.put(root, 6 + at // depth, block)
+        if is_last:
+            put_entry(image, block, FILE, b"f%d" % (at // depth))
+        else:
+            put_entry(image, block, DIRECTORY, b"d", slot=places[at + 1])
+
+
+def deep(room: Room, title: str, words: List[str], depths: Sequence[int], drawn_by: Callable[[Image, Places, int], None]) -> None:
+    """Directories in directories: every recovered one is told, as long as no path is too long for the host."""
+    room.done("blank", "--ffs", *words, *MOMENT, "Work", "blank.adf")
+    for depth in depths:
+        image = Image(room.content("blank.adf"))
+        places = places_in(image)
+        drawn_by(image, places if drawn_by is not chains_down else places[:depth], depth)
+        told = rescued(room, refused(image))
+        name = f"{title}, {depth} deep"
+        if 2 * depth > 4_095:
+            room.report.expect(name, (told.status, told.lines, told.sizes) == (2, [], None), told)
+        elif drawn_by is chains_down:
+            room.report.expect(name, (told.status, len(told.lines), told.sizes) == (0, 1, [0]), told)
+        else:
+            is_found = all(it.startswith(b"found lost+found/d") for it in told.lines)
+            room.report.expect(name, is_found and (told.status, len(set(told.lines))) == (3, len(places)), told)
+
+
+SIZES: List[Tuple[str, List[str], int]] = [
+    ("a floppy", [], 1_756),
+    ("a floppy of twice the bytes", ["--hd"], 3_516),
+    ("the largest image", ["--blocks", "101602"], 101_575),
+]
+
+
+def chains(room: Room) -> None:
+    """Chains and cycles of directories."""
+    shapes: List[Tuple[str, Callable[[Image, Places, int], None]]] = [
+        ("parents upward", parents_up),
+        ("parents in cycles", parents_round),
+        ("hash chains", chains_down),
+    ]
+    for title, words, most in SIZES:
+        for name, drawn_by in shapes:
+            depths: Sequence[int] = (500, 1_756) if most == 1_756 else (1_756, most)
+            if most > 3_516:
+                # (one of each, with fewer than 100 MB of lines)
+                depths = [{"parents upward": 300, "parents in cycles": most, "hash chains": 1_400}[name]]
+            deep(room, f"{title}, {name}", words, depths, drawn_by)
+
+
+def taken_out(room: Room, name: str, image: bytes, is_cut: bool) -> None:
+    """Rescues broken files that claim too much: each is told, and all together are at most four times the image."""
+    told = rescued(room, image)
+    broken = [it for it in told.lines if it.startswith(b"found broken ")]
+    headers = len(told.lines)
+    is_told = told.status == 3 and len(set(broken)) == headers and len(told.sizes or []) == headers and headers > 800
+    room.report.expect(f"{name}: every file is told", is_told, told)
+    room.report.expect(f"{name}: at most four times the image", sum(told.sizes or []) <= 4 * len(image), told)
+    room.report.expect(f"{name}: what is cut short is told", (b" is cut short" in told.texts) == is_cut, told)
+
+
+def shares_list(size: int) -> Callable[[Image, Places], None]:
+    """All headers have one list of blocks."""
+
+    def draw(image: Image, places: Places) -> None:
+        for block in places:
+            put_header(image, block, size, places[100 : 100 + SLOTS])
+
+    return draw
+
+
+def grows_by_one(image: Image, places: Places) -> None:
+    """All headers have a part of one list of blocks, each one block more."""
+    for at, block in enumerate(places):
+        put_header(image, block, BLOCK * (1 + at % SLOTS), places[100 : 101 + at % SLOTS])
+
+
+def ends_late(image: Image, places: Places) -> None:
+    """Each file has one block, which is the last of 72."""
+    half = len(places) // 2
+    for block, data in zip(places[:half], places[half:]):
+        put_header(image, block, SLOTS * BLOCK, [0] * (SLOTS - 1) + [data])
+
+
+def extensions_round(image: Image, places: Places) -> None:
+    """The extension block of each file is its own next one."""
+    half = len(places) // 2
+    for block, extension in zip(places[:half], places[half:]):
+        put_header(image, block, 0xFFFFFFFF, places[half : half + SLOTS])
+        put_pointers(image, block, 0xFFFFFFFF, places[half : half + SLOTS], extension)
+        image.data[extension * BLOCK : (extension + 1) * BLOCK] = bytes(BLOCK)
+        for at, value in ((0, 16), (1, extension), (2, SLOTS), (125, block), (126, extension), (127, FILE)):
+            image.put(extension, at, value)
+        image.settle(extension)
 
 
 def floppies(room: Room) -> None:
-    """Headers that share one list of blocks."""
-    shared = range(100, 100 + SLOTS)
-    kinds: List[Tuple[str, List[str]]] = [("a floppy", []), ("a floppy of twice the bytes", ["--hd"])]
-    for title, words in kinds:
+    """Broken files that claim more than there is."""
+    cases: List[Tuple[str, Callable[[Image, Places], None], bool]] = [
+        ("headers that claim 7fffffff bytes of one list", shares_list(0x7FFFFFFF), False),
+        ("headers that claim ffffffff bytes of one list", shares_list(0xFFFFFFFF), False),
+        ("headers that claim a block more each", grows_by_one, False),
+        ("files that end behind a hole", ends_late, True),
+        ("extension blocks that follow themselves", extensions_round, False),
+    ]
+    for title, words, most in SIZES:
         room.done("blank", "--ffs", *words, *MOMENT, "Work", "blank.adf")
-        blank = room.content("blank.adf")
-        for size in (0x7FFFFFFF, 0xFFFFFFFF):
-            name = f"{title} of headers that claim {size:x} bytes"
-            taken_out(room, name, drawn(blank, lambda _: size, lambda _: shared))
-        name = f"{title} of headers that claim a block more each"
-        image = drawn(blank, lambda block: BLOCK * (1 + block % SLOTS), lambda block: shared[: 1 + block % SLOTS])
-        taken_out(room, name, image)
+        for name, draw, is_cut in cases if most <= 3_516 else cases[3:]:
+            image = Image(room.content("blank.adf"))
+            draw(image, places_in(image))
+            taken_out(room, f"{title} of {name}", refused(image), is_cut)
+
+
+def one_name(room: Room) -> None:
+    """Entries with one name, and with the names that they get instead."""
+    for title, words, _ in SIZES:
+        room.done("blank", "--ffs", *words, *MOMENT, "Work", "blank.adf")
+        image = Image(room.content("blank.adf"))
+        places = places_in(image)
+        for at, block in enumerate(places):
+            put_entry(image, block, FILE, b"same" if at % 3 else b"same~%d" % places[(at + 1) % len(places)])
+        told = rescued(room, refused(image))
+        found = (told.status, len(set(told.lines)), told.sizes)
+        room.report.expect(f"{title} of one name", found == (3, len(places), [0] * len(places)), told)
 
 
 def holes(room: Shared) -> None:
@@ -615,6 +1028,206 @@ def terminals(room: Shared) -> None:
         os.remove(it)
 
 
+def listings(room: Shared) -> None:
+    """The listing for people escapes control characters; the other one has the bytes of names."""
+    os.mkdir("odd")
+    room.write(f"odd/{SHOWN.decode()}", b"")
+    room.done("add", *MOMENT, "--out", "odd.adf", "empty.adf", f"odd/{SHOWN.decode()}")
+    front = room.done("list", "odd.adf").split(STEERS.encode("latin-1"))[0]
+    room.report.check("control characters in a listing, as bytes", room.run("list", "odd.adf"), 0, front + STEERS.encode("latin-1") + b"\n")
+    room.report.check("control characters in a listing for people", room.run("list", "--letters", "odd.adf"), 0, front + SHOWN + b"\n")
+    shutil.rmtree("odd")
+
+
+# ---- images that others work on
+
+HELD = "is mounted or being changed: the state saved last is read"
+
+
+def held_images(room: Shared) -> None:
+    """Whoever reads an image while another program has it locked is told so, once for each image."""
+    os.makedirs("archive/below")
+    paths = ["archive/a.adf", "archive/b.adf", "archive/below/c.adf"]
+    for path in paths:
+        room.write(path, room.full)
+    words = [["info", paths[0]], ["list", paths[0]], ["print", paths[0], "one"], ["check", paths[0]], ["check", "archive"]]
+    words += [["extract", "--force", "--to", "taken", paths[0]], ["extract", "--damaged", "--to", "rescue", paths[0]]]
+    before = [room.run(*it) for it in words]
+    shutil.rmtree("rescue", ignore_errors=True)
+    with open(paths[0], "rb") as one, open(paths[2], "rb") as other:
+        for how in (fcntl.LOCK_SH, fcntl.LOCK_EX):
+            fcntl.flock(one, how)
+            fcntl.flock(other, how)
+            for it, free in zip(words, before):
+                held = ([paths[0], paths[2]] if it[-1] == "archive" else [paths[0]]) if how == fcntl.LOCK_EX else []
+                texts = "".join(f"adf_serve: '{path}' {HELD}\n" for path in held).encode()
+                name = f"{' '.join(it[:2])} while the image is locked {'against others' if held else 'by a reader'}"
+                room.report.same(name, room.run(*it), free._replace(texts=texts))
+                shutil.rmtree("rescue", ignore_errors=True)
+    shutil.rmtree("archive")
+    shutil.rmtree("taken")
+
+
+def readers_beside(room: Shared) -> None:
+    """Commands that only read never make a change fail, though they look whether the image is locked."""
+    room.refresh()
+    reads = [str(room.program), "check", *["theirs/image.adf"] * 300]
+    reader = subprocess.Popen(reads, stdout=subprocess.DEVNULL, stderr=subprocess.DEVNULL)
+    faults = []
+    for turn in range(30):
+        ran = room.run("mkdir", *MOMENT, "theirs/image.adf", f"r{turn}")
+        faults += [ran] if ran.status else []
+        if reader.poll() is not None:
+            reader = subprocess.Popen(reads, stdout=subprocess.DEVNULL, stderr=subprocess.DEVNULL)
+    reader.kill()
+    reader.wait()
+    room.report.expect("thirty changes beside readers", not faults, faults[:2])
+
+
+# ---- images as deep and as full as their blocks allow
+
+
+# The memory that a command may use over the largest image, and the processor time by the blocks of the image.
+WORST_MEMORY, WORST_TIMES = 300 << 20, {3_520: 10.0, 101_602: 60.0}
+# The most bytes that such a command writes to a file.
+WORST_OUTPUT = 100 << 20
+# The most faults that are told of an image.
+MOST_FAULTS = 1_000
+DIRECTORY, LONGS = 2, struct.Struct(">128I")
+
+
+class Drawing:
+    """A blank image into which entries are drawn. Its bitmap is to be rebuilt."""
+
+    def __init__(self, blank: bytes) -> None:
+        self.image = Image(blank)
+        self.root = self.image.blocks // 2
+        self.image.put(self.root, 78, 0)
+        self.left = [it for it in range(self.image.blocks - 1, 1, -1) if blank[it * BLOCK : (it + 1) * BLOCK] == bytes(BLOCK)]
+        self.drawn = [self.root]
+        self.last: Dict[Tuple[int, int], int] = {}
+
+    def entry(self, directory: int, name: bytes, kind: int = DIRECTORY) -> int:
+        """Draws an empty directory or file with the next free block, and returns that."""
+        block = self.left.pop()
+        for at, value in ((0, 2), (1, block), (125, directory), (127, kind)):
+            self.image.put(block, at, value)
+        start = block * BLOCK + 432
+        self.image.data[start : start + 1 + len(name)] = bytes([len(name)]) + name
+        slot = 6 + hash_of(name)
+        before = self.last.get((directory, slot))
+        self.image.put(*((directory, slot) if before is None else (before, 124)), block)
+        self.last[directory, slot] = block
+        self.drawn.append(block)
+        return block
+
+    def done(self, wrong: Sequence[int] = ()) -> bytes:
+        """The image, with wrong checksums in some blocks."""
+        data = self.image.data
+        for block in self.drawn:
+            total = sum(LONGS.unpack_from(data, block * BLOCK)) - self.image.long(block, 5)
+            self.image.put(block, 5, -total)
+        for block in wrong:
+            self.image.put(block, 5, self.image.long(block, 5) + 1)
+        return bytes(data)
+
+
+def hash_of(name: bytes) -> int:
+    """The slot of a name of ASCII letters in its directory."""
+    found = len(name)
+    for it in name.upper():
+        found = (13 * found + it) % 2048
+    return found % 72
+
+
+def long_names() -> Iterator[bytes]:
+    """Names of 30 letters, all different."""
+    return (b"%030d" % it for it in range(LARGEST // BLOCK))
+
+
+def chain(blank: bytes) -> bytes:
+    """Each directory is in the one before, through all blocks."""
+    drawing, names = Drawing(blank), long_names()
+    here = drawing.root
+    while drawing.left:
+        here = drawing.entry(here, next(names))
+    return drawing.done()
+
+
+def chain_with_files(blank: bytes, depth: int, wrong: int = 0) -> bytes:
+    """A chain of directories, and files through all other blocks in the deepest. The last files have wrong checksums."""
+    drawing, names = Drawing(blank), long_names()
+    here = drawing.root
+    for _ in range(depth):
+        here = drawing.entry(here, next(names))
+    files = []
+    while drawing.left:
+        files.append(drawing.entry(here, next(names), FILE))
+    return drawing.done(files[len(files) - wrong :])
+
+
+def limit_worst() -> None:
+    """Limits the memory of this process, and the bytes of each file that it writes."""
+    resource.setrlimit(resource.RLIMIT_AS, (WORST_MEMORY, WORST_MEMORY))
+    resource.setrlimit(resource.RLIMIT_FSIZE, (WORST_OUTPUT, WORST_OUTPUT))
+
+
+def bounded(room: Room, blocks: int, title: str, words: Sequence[str], status: int, said: bytes = b"") -> bytes:
+    """Runs a command over an image with so many blocks and with limited memory. Checks its status, a part of what it says, and
+    its processor time. Returns its output."""
+    with open("lines", "wb") as lines, open("texts", "wb") as texts:
+        began = subprocess.Popen([str(room.program), *words], stdin=subprocess.DEVNULL, stdout=lines, stderr=texts, preexec_fn=limit_worst)
+        ended, used = os.wait4(began.pid, 0)[1:]
+    began.returncode = os.WEXITSTATUS(ended) if os.WIFEXITED(ended) else -os.WTERMSIG(ended)
+    seconds, text = used.ru_utime + used.ru_stime, room.content("texts")
+    is_right = began.returncode == status and said in text
+    fault = None if is_right else f"status {began.returncode}, {text[:200]!r}"
+    if is_right and seconds > WORST_TIMES[blocks]:
+        fault = f"{seconds} seconds"
+    room.report.hold(f"{title} of {blocks} blocks", fault)
+    return room.content("lines")
+
+
+def deep_images(room: Shared) -> None:
+    """Commands over images of which the paths alone would have hundreds of megabytes."""
+    first = next(long_names()).decode()
+    for blocks in WORST_TIMES:
+        room.done("blank", "--ffs", "--blocks", str(blocks), *MOMENT, "Work", "blank.adf")
+        blank = room.content("blank.adf")
+        room.write("deep.adf", chain(blank))
+        title = "a chain of directories"
+        bounded(room, blocks, f"check of {title}", ["check", "deep.adf"], 0)
+        told = bounded(room, blocks, f"check --all --json of {title}", ["check", "--all", "--json", "deep.adf"], 0)
+        room.report.expect(f"the directories of {title} of {blocks} blocks", b'"directories":%d,' % headers_of(blank) in told, f"{told!r}")
+        bounded(room, blocks, f"print of {title}", ["print", "deep.adf", first], 3, b"required type")
+        bounded(room, blocks, f"extract of {title}", ["extract", "--to", "bottom", "deep.adf"], 2, b"4,095")
+        room.report.expect(f"extract of {title} of {blocks} blocks writes nothing", not os.path.exists("bottom"), "it did")
+        bounded(room, blocks, f"mkdir in {title}", ["mkdir", *MOMENT, "--out", "made.adf", "deep.adf", f"{first}/made"], 3, b"disk is full")
+        bounded(room, blocks, f"delete --all of {title}", ["delete", "--all", *MOMENT, "deep.adf", first], 0)
+        listed = bounded(room, blocks, f"list after delete --all of {title}", ["list", "deep.adf"], 0)
+        room.report.expect(f"what is left of {title} of {blocks} blocks", listed == b"Volume Work\n", f"{listed[:200]!r}")
+
+
+def headers_of(blank: bytes) -> int:
+    """The number of entries for which a blank image has room."""
+    return len(Drawing(blank).left)
+
+
+def deep_faults(room: Shared) -> None:
+    """A thousand faults in a directory whose path is too long to be told, and in one whose path is not."""
+    blocks = LARGEST // BLOCK
+    room.done("blank", "--ffs", "--blocks", str(blocks), *MOMENT, "Work", "blank.adf")
+    blank = room.content("blank.adf")
+    for depth, is_told in ((50_000, False), (100, True)):
+        room.write("deep.adf", chain_with_files(blank, depth, MOST_FAULTS + 1))
+        words = ["check", "--all", "--json", "deep.adf"]
+        told = bounded(room, blocks, f"faults below {depth} directories", words, 3)
+        unknown = told.count(b'"path":null')
+        wanted = (MOST_FAULTS, 0 if is_told else MOST_FAULTS)
+        found = (told.count(b'"kind":"') - 1, unknown)
+        room.report.expect(f"paths of faults below {depth} directories", found == wanted, f"{found}: {told[:300]!r}")
+
+
 def checks(room: Shared) -> None:
     room.set_up()
     strace = has_strace("delay_exit=1")
@@ -624,17 +1237,29 @@ def checks(room: Shared) -> None:
     at_once(room)
     links_to_nothing(room)
     terminals(room)
+    listings(room)
+    held_images(room)
+    readers_beside(room)
     if strace:
         killed(room)
     else:
         room.report.lacks("commands that are killed", "strace")
     floppies(room)
+    chains(room)
+    one_name(room)
     holes(room)
+    swapped_directories(room, strace)
+    deep_directories(room, strace)
+    long_paths(room)
+    without_proc(room)
+    deep_images(room)
+    deep_faults(room)
     modes(room)
     if room.owner is None:
         why = "this is not root" if os.geteuid() != 0 else "there is no second user here"
         room.report.skip("links in the place of the file beside", why)
         room.report.skip("owners and groups that stay", why)
+        room.report.skip("temporary files of another user", why)
     else:
         owners(room)
         links_beside(room, strace)

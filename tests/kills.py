@@ -331,7 +331,8 @@ def held_by_another(change: Change) -> None:
             ran = room.run(*words)
             is_kept = room.content(IMAGE) == room.content("hard.adf") == change.old
             change.report.expect(f"held by another: {' '.join(words)}", ran.status == 2 and ran.texts != b"" and is_kept, ran)
-        room.succeeds("held by another: it can be read", "list", IMAGE, output=None)
+        ran = room.run("list", IMAGE)
+        change.report.expect("held by another: it can be read", ran.status == 0 and b"the state saved last is read" in ran.texts, ran)
     for it in ("hard.adf", "soft.adf", "good.adf"):
         os.remove(it)
     room.write("other.adf", OTHER)

@@ -22,7 +22,7 @@ from walk import LIBRARY, code_of, first_floppy, first_program, link_lines, page
 TESTS, EXAMPLES = TOP / "tests" / "c", TOP / "examples" / "c"
 HEADER = TOP / "bindings/c/jiponuwha.h"
 PACKET, ACTIONS = (TOP / f"crates/ados_model/specs/{it}.antt" for it in ("Packet", "Actions"))
-FAULTS, STATUS, CALLS = (TOP / f"crates/adf_c/specs/{it}.antt" for it in ("Faults", "Status", "Calls"))
+FAULTS, STATUS, CALLS, READ_ONLY = (TOP / f"crates/adf_c/specs/{it}.antt" for it in ("Faults", "Status", "Calls", "ReadOnly"))
 BUILT = TOP / "crates/adf_c/out/libadf_c.a"
 STRICT = ["-Wall", "-Wextra", "-Wpedantic", "-Werror"]
 # Constants of the header, each with the file and the line of the definition that has its number.
@@ -38,6 +38,7 @@ ROOT = 1|ados_model/specs/Objects.antt|entry_type None content = pos 1
 DIRECTORY = 2|ados_model/specs/Objects.antt|entry_type (Some dir) (Directory keys) = pos 2
 FILE = -3|ados_model/specs/Objects.antt|entry_type (Some dir) (File bytes) = negsuc 2
 VALIDATED = 82|ados_model/specs/Objects.antt|state = 82;
+WRITE_PROTECTED = 80|adf_c/specs/ReadOnly.antt|protected_body (Disk info) = Disk (record info { state = 80 })
 NAME_BYTES = 30|ados_name/specs/Name.antt|pub short : length name ≤ 30
 COMMENT_BYTES = 79|ados_name/specs/Name.antt|pub short : length comment ≤ 79
 PATH_BYTES = 255|ados_name/specs/Path.antt|pub short : length path ≤ 255
@@ -113,8 +114,9 @@ def numbers(tried: Library) -> None:
     report = tried.report
     actions = declared_numbers("JIP_ACTION_")
     report.hold("the numbers of actions", other_than(actions, proved_numbers(ACTIONS, "action_number")))
-    errors = proved_numbers(PACKET, "error_number")
-    report.hold("the numbers of errors", other_than(declared_numbers("JIP_ERROR_"), errors))
+    protected = re.findall(r"res2 = pos ([0-9]+);", READ_ONLY.read_text())
+    errors = [*proved_numbers(PACKET, "error_number"), *(("DISK_WRITE_PROTECTED", it) for it in protected)]
+    report.hold("the numbers of errors", other_than(declared_numbers("JIP_ERROR_"), sorted(errors)))
     faults = [it for it in declared_numbers("JIP_FAULT_") if it[0] != "NONE"]
     proved = [it for it in proved_numbers(FAULTS, "fault_number") if it[0] != "NO_MEMORY"]
     report.hold("the numbers of faults", other_than(faults, sorted(proved + proved_numbers(FAULTS, "size_fault_number"))))
@@ -192,6 +194,11 @@ def examples(tried: Library, compiler: str) -> None:
     for name in ("tour runs", "tour runs on the image that it saved"):
         report.succeeds(f"{compiler} {name}", [f"./{compiler}-tour", "tour.adf"])
     report.check(f"{compiler} handler runs", run([f"./{compiler}-handler"]), 0, HANDLED)
+    for words in ([f"./{compiler}-tour", "tour.adf"], [f"./{compiler}-handler"]) if shutil.which("valgrind") else []:
+        checked = ["valgrind", "-q", "--error-exitcode=9", "--leak-check=full", *words]
+        ran = run(checked)
+        # (valgrind reports debug information that it does not know)
+        report.expect(f"{words[0][2:]} under valgrind", ran.status == 0, ran)
 
 
 def program_of_page(tried: Library, compiler: str) -> None:

@@ -10,28 +10,37 @@ selects the random clients. STEPS=N and ROUNDS=N are their numbers of steps and 
 """
 from __future__ import annotations
 
+import fcntl
 import os
 import random
 import re
+import resource
 import shutil
+import struct
 import signal
 import subprocess
 import sys
+import tempfile
 import time
 from contextlib import contextmanager
 from functools import partial
 from pathlib import Path
-from typing import Callable, Iterator, List, Mapping, Optional, Sequence
+from typing import Callable, Iterator, List, Mapping, Optional, Sequence, Tuple
 
 sys.dont_write_bytecode = True
 
-from harness import BLOCK, TOP, Report, Room, built_program, done, in_memory, run, wait_until_free
+from all_faults_model import slot_of
+from harness import BLOCK, TOP, Image, Ran, Report, Room, built_program, done, fault_of, in_memory, limited, run, wait_until_free
 
 FUSE, CLIENT = TOP / "bindings/fuse", TOP / "tests/mount_client.py"
 SEED = os.environ.get("SEED") or str(random.randrange(32_768))
 STEPS, ROUNDS = os.environ.get("STEPS") or "10000", os.environ.get("ROUNDS") or "100"
-# The longest time for a mount, in seconds.
-LONGEST_START = 5
+# The longest time for a mount, in seconds: it waits 5 for the lock of its image. How long `--wait` waits.
+LONGEST_START, LONGEST_WAIT = 8, 60
+# The address space and the memory of a mount over a floppy, in bytes.
+MOST_SPACE, MOST_MEMORY = 256 << 20, 64 << 20
+# The user and the group of another's file.
+OTHER = 65_534
 NO_ROOM = b"No space left"
 # The fields that `find` prints of each entry: name, size of a file, mode and date.
 PRINTED = ["-type", "d", "-printf", "%P/ %m %T@\\n", "-o", "-printf", "%P %s %m %T@\\n"]
@@ -49,12 +58,14 @@ class Mount(Room):
         super().__init__(program, report, in_memory())
         self.place, self.adf_mount = str(self.top / "mount"), ""
         self.process: Optional[subprocess.Popen[bytes]] = None
+        # Runs in the process of a mount before it.
+        self.before: Optional[Callable[[], None]] = None
 
     def start(self, image: str, *options: str) -> subprocess.Popen[bytes]:
         """Mounts an image in its own process."""
         with open("texts", "wb") as texts:
             words = [self.adf_mount, "-f", *options, str(self.top / image), self.place]
-            self.process = subprocess.Popen(words, stdin=subprocess.DEVNULL, stderr=texts)
+            self.process = subprocess.Popen(words, stdin=subprocess.DEVNULL, stderr=texts, preexec_fn=self.before)
         ends = time.monotonic() + LONGEST_START
         while not os.path.ismount(self.place):
             if self.process.poll() is not None or time.monotonic() > ends:
@@ -322,7 +333,7 @@ def locked(tried: Mount) -> Optional[str]:
     with tried.mounted("blank.adf"):
         ran = [run(again)]
         Path("mount/f").write_text("1\n")
-        ran += [run(again), run([*again, "-o", "ro"]), tried.run("mkdir", "blank.adf", "dir")]
+        ran += [run([*again, "-o", "ro"]), tried.run("mkdir", "blank.adf", "dir")]
     return untrue({f"this is refused: {it}": it.status == 2 for it in ran})
 
 
@@ -403,6 +414,272 @@ def in_background(tried: Mount) -> Optional[str]:
     return untrue({"it is saved": " background\n" in tried.listing("blank.adf")})
 
 
+# ---- one mount after another
+
+
+def leave_background(tried: Mount) -> None:
+    done(["fusermount3", "-u", tried.place])
+
+
+def one_after_another(tried: Mount) -> Optional[str]:
+    """Each mount starts as soon as the one before is unmounted, which may still save."""
+    tried.blank("turns.adf")
+    for turn in range(20):
+        done([tried.adf_mount, "turns.adf", "mount"])
+        Path(f"mount/dir{turn}").mkdir()
+        leave_background(tried)
+    ran = run([tried.adf_mount, "--wait", "turns.adf"])
+    found = [f" dir{turn}\n" in tried.listing("turns.adf") for turn in range(20)]
+    return fault_of(ran) or untrue({"all directories are there": all(found)})
+
+
+def while_locked(seconds: float, words: Sequence[str]) -> Ran:
+    """A command, while its image is locked by this process for some seconds. The output has how long it took."""
+    with open("blank.adf", "rb") as held:
+        fcntl.flock(held, fcntl.LOCK_EX)
+        began = time.monotonic()
+        process = subprocess.Popen(words, stdout=subprocess.DEVNULL, stderr=subprocess.PIPE)
+        time.sleep(seconds)
+        fcntl.flock(held, fcntl.LOCK_UN)
+        texts = process.communicate()[1]
+    return Ran(process.returncode, b"late" if time.monotonic() - began >= seconds else b"early", texts)
+
+
+def waits_for_lock(tried: Mount) -> Optional[str]:
+    """A mount waits for whoever has the image locked; `--wait` too, and it mounts nothing."""
+    waited = while_locked(1.5, [tried.adf_mount, "--wait", "blank.adf"])
+    is_mounted = os.path.ismount("mount")
+    mounted = while_locked(1.5, [tried.adf_mount, "blank.adf", "mount"])
+    leave_background(tried)
+    after = run([tried.adf_mount, "--wait", "blank.adf"])
+    return fault_of(waited, 0, b"late") or fault_of(mounted, 0, b"late") or fault_of(after) or untrue({"nothing is mounted": not is_mounted})
+
+
+def waits_for_save(tried: Mount) -> Optional[str]:
+    """After `--wait` the image's file has what was written last."""
+    for turn in range(10):
+        done([tried.adf_mount, "blank.adf", "mount"])
+        Path(f"mount/last{turn}").mkdir()
+        leave_background(tried)
+        ran = run([tried.adf_mount, "--wait", "blank.adf"])
+        if ran != (0, b"", b"") or f" last{turn}\n" not in tried.listing("blank.adf"):
+            return f"in turn {turn}: {ran}"
+    return None
+
+
+def refused_waits(tried: Mount) -> None:
+    """What `--wait` cannot wait for."""
+    cases: List[Tuple[str, int, List[str], str]] = [
+        ("what is no image", 3, ["1760.adf"], "refused"),
+        ("no image at all", 2, ["none.adf"], "No such file"),
+        ("a directory", 2, ["mount"], "no regular file"),
+        ("no name", 1, [], "usage"),
+        ("an image and a directory", 1, ["blank.adf", "mount"], "usage"),
+    ]
+    for name, status, words, text in cases:
+        tried.report.check(f"--wait for {name}", run([tried.adf_mount, "--wait", *words]), status, b"", text)
+
+
+def in_turn(tried: Mount) -> None:
+    """One mount directly after another."""
+    tried.blank("blank.adf")
+    tried.write("1760.adf", bytes(BLOCK * 1760))
+    tried.ends("twenty mounts, each directly after the last", one_after_another)
+    tried.ends("a mount, and --wait, wait for a lock", waits_for_lock)
+    tried.ends("--wait sees the new bytes", waits_for_save)
+    refused_waits(tried)
+
+
+# ---- names that change while an image is mounted
+
+
+def owner_stays(tried: Mount) -> Optional[str]:
+    """The new file has the owner and the permissions of the old one, and no other bits of its mode."""
+    tried.blank("owned.adf")
+    user = OTHER if os.geteuid() == 0 else os.getuid()
+    os.chown("owned.adf", user, user if os.geteuid() == 0 else -1)
+    os.chmod("owned.adf", 0o6751)
+    before = os.stat("owned.adf")
+    with tried.mounted("owned.adf"):
+        os.mkdir("mount/made")
+    after = os.stat("owned.adf")
+    return untrue({
+        "it is another file": after.st_ino != before.st_ino,
+        "the owner stays": (after.st_uid, after.st_gid) == (before.st_uid, before.st_gid),
+        f"the mode is 751, not {after.st_mode & 0o7777:o}": after.st_mode & 0o7777 == 0o751,
+    })  # fmt: skip
+
+
+def another_in_place(tried: Mount) -> Optional[str]:
+    """Another file, or a link, that has the image's name meanwhile is left as it is, and whoever closes a file gets an error."""
+    faults = []
+    for what in ("file", "link"):
+        tried.blank("held.adf")
+        tried.write("victim", b"kept")
+        with open("victim", "rb"), subprocess_of(tried, "held.adf"):
+            os.rename("held.adf", "old.adf")
+            if what == "file":
+                tried.write("held.adf", b"mine")
+            else:
+                os.symlink("victim", "held.adf")
+            ran = run(["cp", "texts", "mount/file"])
+            is_left = tried.content("held.adf") == (b"mine" if what == "file" else b"kept") and os.path.islink("held.adf") == (what == "link")
+        faults.append(untrue({f"a {what} stays": is_left, f"with a {what} the copy is refused": ran.status != 0}))
+        faults.append(left_beside("held.adf"))
+        os.remove("held.adf")
+    return "; ".join(it for it in faults if it) or None
+
+
+def left_beside(image: str) -> Optional[str]:
+    """The files beside an image that are still there when the mount has had time for its last save."""
+    for _ in range(100):
+        left = [it for it in os.listdir(".") if it.startswith(f"{image}.")]
+        if not left:
+            return None
+        time.sleep(0.1)
+    return f"{left} is left"
+
+
+@contextmanager
+def subprocess_of(tried: Mount, image: str) -> Iterator[None]:
+    """An image that is mounted, whatever becomes of it: its last save may fail."""
+    try:
+        tried.start(image)
+        yield
+    finally:
+        tried.leave()
+
+
+def swapped_folder(tried: Mount) -> Optional[str]:
+    """The image is saved in its directory, also when that has another name by then and a link has the old one."""
+    os.mkdir("folder")
+    os.mkdir("elsewhere")
+    tried.blank("folder/image.adf")
+    shutil.copyfile("folder/image.adf", "elsewhere/image.adf")
+    before = tried.content("elsewhere/image.adf")
+    with tried.mounted("folder/image.adf"):
+        os.rename("folder", "moved")
+        os.symlink("elsewhere", "folder")
+        os.mkdir("mount/made")
+    return untrue({
+        "it is saved in its directory": " made\n" in tried.listing("moved/image.adf"),
+        "nothing is written elsewhere": tried.content("elsewhere/image.adf") == before and os.listdir("elsewhere") == ["image.adf"],
+    })  # fmt: skip
+
+
+def short_files(tried: Mount) -> Optional[str]:
+    """Under a limit on the length of files a save fails, and the mount goes on."""
+    tried.blank("short.adf")
+    before = tried.content("short.adf")
+    tried.before = limited(resource.RLIMIT_FSIZE, 1_000)
+    try:
+        with subprocess_of(tried, "short.adf"):
+            ran = run(["cp", "texts", "mount/file"])
+            goes_on = os.listdir("mount") == ["file"]
+    finally:
+        tried.before = None
+    left = [it for it in os.listdir(".") if it.startswith("short.adf.")]
+    facts = {"the copy is refused": ran.status != 0, "the mount goes on": goes_on, f"nothing is left, as {left}": not left}
+    return untrue({**facts, "the image stays": tried.content("short.adf") == before})
+
+
+def changing_names(tried: Mount) -> None:
+    """Files and directories that others swap."""
+    tried.ends("owner and permissions of a new file", owner_stays)
+    tried.ends("another file in the place of the image", another_in_place)
+    tried.ends("another directory in the place of the image's", swapped_folder)
+    tried.ends("a limit on the length of files", short_files)
+
+
+# ---- images that are accepted, and harmful
+
+
+def put_entry(image: Image, block: int, parent: int, name: bytes, is_directory: bool) -> None:
+    """Draws an empty directory or file first into a chain of its directory, whose checksum is then wrong, as its own is."""
+    start = BLOCK * block
+    image.data[start : start + BLOCK] = bytes(BLOCK)
+    slot = 6 + slot_of(name)
+    for at, value in ((0, 2), (1, block), (124, image.long(parent, slot)), (125, parent), (127, 2 if is_directory else 2**32 - 3)):
+        image.put(block, at, value)
+    image.data[start + 432 : start + 433 + len(name)] = bytes([len(name)]) + name
+    image.put(parent, slot, block)
+
+
+def settle(image: Image, block: int) -> None:
+    image.put(block, 5, 0)
+    image.put(block, 5, -sum(struct.unpack_from(">128I", image.data, BLOCK * block)))
+
+
+def drawn(blank: bytes, names: Sequence[bytes], is_deep: bool) -> bytes:
+    """A blank image with an entry for each name: directories that each have the next one in them, or files of the root."""
+    image = Image(blank)
+    root = image.blocks // 2
+    pages = [image.long(root, at) for at in range(79, 104)]
+    free = [it for it in range(2, image.blocks) if it != root and it not in pages]
+    parent = root
+    for block, name in zip(free, names):
+        put_entry(image, block, parent, name, is_deep)
+        settle(image, block)
+        if is_deep:
+            settle(image, parent)
+            parent = block
+    # (the bitmap is made anew)
+    image.put(root, 78, 0)
+    settle(image, root)
+    return bytes(image.data)
+
+
+def walked(tried: Mount, name: str, image: bytes, tools: Mapping[str, Sequence[str]]) -> None:
+    """Mounts an image with little memory, and compares what tools find with the files of `extract`."""
+    tried.write("drawn.adf", image)
+    tried.done("extract", "--to", "taken", "drawn.adf")
+    tried.before = limited(resource.RLIMIT_AS, MOST_SPACE)
+    try:
+        with tried.mounted("drawn.adf", "-o", "ro"):
+            for tool, words in tools.items():
+                os.makedirs("walked", exist_ok=True)
+                there, here = run(["sh", "-c", " ".join(words), "sh", "mount"]), run(["sh", "-c", " ".join(words), "sh", "taken"])
+                same = there == here and there.status == 0 and there.output
+                tried.report.expect(f"{tool} of {name}", bool(same), f"{there} where {here} is expected")
+                shutil.rmtree("walked", ignore_errors=True)
+            peak = peak_of(tried)
+    finally:
+        tried.before = None
+        # (Python's own call is recursive)
+        run(["rm", "-rf", "taken"])
+    tried.report.expect(f"{name}: memory", 0 < peak <= MOST_MEMORY, f"{peak} bytes")
+
+
+def peak_of(tried: Mount) -> int:
+    """The most bytes of memory that the mount has had."""
+    status = Path(f"/proc/{tried.process.pid if tried.process else 0}/status").read_text()
+    found = re.search(r"VmHWM:\s+(\d+) kB", status)
+    return int(found[1]) * 1024 if found else 0
+
+
+FIND = ["cd", '"$1"', "&& find . -print0 | sort -z"]
+TAR = ["tar cf -", "--sort=name --mtime=@0 --mode=0 --owner=0 --group=0", '-C "$1" . | sha256sum']
+RSYNC = ["rsync -a", '"$1"/ walked/', "&& cd walked && find . -print0 | sort -z"]
+
+
+def harmful(tried: Mount) -> None:
+    """Floppies as deep and as wide as they have blocks, and all names that an entry may have."""
+    tried.blank("blank.adf", "ffs")
+    blank = tried.content("blank.adf")
+    tools = {"find": FIND, "tar": TAR}
+    if shutil.which("rsync"):
+        tools["rsync"] = RSYNC
+    else:
+        tried.report.lacks("rsync of harmful images", "rsync")
+    every = [b"%c%d" % (it, it) for it in range(1, 256) if it not in b"/:"]
+    odd = [b".", b"..", b"...", b"-rf", b"%41", b"\\", b"~", b"$(id)", b"a\nb", b"\x1b[2J", bytes(range(1, 31)), bytes(range(128, 158))]
+    walked(tried, "names with every byte", drawn(blank, [*every, *odd], False), tools)
+    # (rsync itself follows at most 1,024 levels)
+    walked(tried, "directories 1,756 deep", drawn(blank, [b"d"] * 1756, True), {"find": FIND, "tar": TAR})
+    wide = [b"f%d" % it for it in range(20_000)]
+    walked(tried, "1,756 files in one chain", drawn(blank, [it for it in wide if slot_of(it) == 7][:1756], False), tools)
+
+
 def one_image(tried: Mount) -> None:
     """When an image is written, and by whom."""
     tried.blank("blank.adf")
@@ -438,6 +715,26 @@ def killed(tried: Mount) -> None:
     tried.client(f"killed {ROUNDS} times, seed {SEED}", "kill", *words)
 
 
+@contextmanager
+def held_for_long(tried: Mount) -> Iterator[None]:
+    """An image is locked all the time. Meanwhile `--wait` gives up, which the end reports."""
+    tried.blank("long.adf")
+    with open("long.adf", "rb") as held, tempfile.TemporaryFile() as texts:
+        fcntl.flock(held, fcntl.LOCK_EX)
+        process = subprocess.Popen([tried.adf_mount, "--wait", "long.adf"], stderr=texts)
+        began = time.monotonic()
+        try:
+            yield
+            status = process.wait(LONGEST_WAIT + 5)
+            took = time.monotonic() - began
+        finally:
+            process.kill()
+            process.wait()
+        texts.seek(0)
+        tried.report.check("--wait for an image that stays locked", Ran(status, b"", texts.read()), 2, b"", "it is mounted")
+        tried.report.expect("--wait: for a minute", took >= LONGEST_WAIT - 1, f"{took} seconds")
+
+
 def main(words: List[str]) -> int:
     os.environ["LC_ALL"] = "C.UTF-8"
     # (nothing stays mounted if the test is terminated)
@@ -449,8 +746,9 @@ def main(words: List[str]) -> int:
         try:
             if is_ready(tried, words[1:]):
                 make_tree(Path("tree"))
-                for part in (tools, clients, one_image, statuses, killed):
-                    tried.part(part)
+                with held_for_long(tried):
+                    for part in (tools, clients, one_image, statuses, in_turn, changing_names, harmful, killed):
+                        tried.part(part)
         finally:
             tried.leave()
     return report.end()

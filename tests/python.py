@@ -38,6 +38,30 @@ LEFT = """import jiponuwha as jip
 with jip.open("work.adf") as floppy:
     assert floppy["Docs/new"].read() == b"text"
 """
+# Damages 60 floppies at random, and compares the faults that the package lists with those of the model.
+DAMAGED = """import random, sys
+import jiponuwha as jip
+from all_faults_model import Model
+chance = random.Random(7)
+faulty = 0
+for round in range(60):
+    with jip.create("Work", format=jip.Format(round % 2)) as floppy:
+        for at in range(chance.randrange(1, 8)):
+            floppy.mkdir(f"d{at}", parents=True)
+            floppy[f"d{at}/f"] = bytes(chance.randrange(60_000))
+        used = [0, 1, 880, 881, *(entry.key for _, entry in floppy.walk())]
+        used += [key + 1 for key in used]
+        image = bytearray(floppy.image())
+        floppy.close(discard=True)
+    for _ in range(chance.randrange(4)):
+        place = 512 * chance.choice(used) + 4 * chance.choice([0, 1, 2, 3, 5, 6, 7, 77, 79, 81, 108, 124, 125, 126, 127])
+        image[place : place + 4] = chance.choice([bytes(4), chance.randrange(1760).to_bytes(4, "big"), chance.randbytes(4)])
+    wanted = [(block, rank + 1 if rank < 15 else 17) for block, rank in Model(bytes(image)).all_faults()]
+    found = [(fault.block, int(fault.kind)) for fault in jip.check(image)]
+    assert found == wanted[:1000], (round, found, wanted)
+    faulty += bool(found)
+assert faulty > 20, faulty
+"""
 # Prints the names that the package exports, and those of its classes.
 NAMES = """import jiponuwha as jip
 for name in jip.__all__:
@@ -100,6 +124,12 @@ def names(tried: Place) -> None:
     page = PAGE.read_text()
     lacking = sorted({it for it in given if not re.search(rf"`[^`]*\b{it}\b[^`]*`", page)})
     tried.report.expect("docs/LIBRARY.md has each name of the package", bool(given) and not lacking, lacking)
+
+
+def faults(tried: Place) -> None:
+    """Compares the faults of damaged floppies with those of the model."""
+    found = {"PYTHONPATH": f"{PACKAGE}:{TOP / 'tests'}", "JIPONUWHA_LIBRARY": str(tried.top / LIBRARY), "PYTHONDONTWRITEBYTECODE": "1"}
+    tried.runs("all faults of damaged floppies", [sys.executable, "-c", DAMAGED], found)
 
 
 # ---- The wheel ----
@@ -166,7 +196,7 @@ def main() -> int:
     with Place(report) as tried:
         report.ends("the types", partial(types, tried))
         if put_in_place(tried):
-            for name, part in (("the suite", suite), ("the names", names), ("the wheel", wheel)):
+            for name, part in (("the suite", suite), ("the faults", faults), ("the names", names), ("the wheel", wheel)):
                 report.ends(name, partial(part, tried))
     return report.end()
 

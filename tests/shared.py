@@ -21,6 +21,7 @@ from typing import Callable, Dict, List, Mapping, Optional, Sequence, Set
 sys.dont_write_bytecode = True
 
 from harness import TOP, Report, Room, run
+from walk import section_of
 
 C = TOP / "bindings" / "c"
 HEADER, AMIGA = C / "jiponuwha.h", C / "jiponuwha_amiga.h"
@@ -39,6 +40,10 @@ find_package(jiponuwha REQUIRED)
 add_executable(whole {})
 target_link_libraries(whole jiponuwha::shared)
 """
+# The programs that test the library, for each language.
+SOURCES = {"c11": ["whole.c", "account.c", "read_only.c", "names.c"], "c++17": ["floppy.cc"]}
+# The error that no packet of the program has: that of a read-only handle.
+OWN = {"DiskWriteProtected": "disk is write-protected"}
 # Makes work.adf with the file Docs/hello, and checks the results of the examples.
 WORK = """#include <jiponuwha.h>
 int main(int count, char **words) {
@@ -114,6 +119,18 @@ def listed() -> Set[str]:
     return set(re.findall(r"(?m)^ *(jip_[a-z_]+);$", SYMBOLS.read_text()))
 
 
+def inline() -> Set[str]:
+    """Returns the functions that the headers define."""
+    return set(re.findall(r"(?m)^static inline [a-z0-9_]+ \*?(jip_[a-z_]+)\(", header_text()))
+
+
+def tables() -> List[List[str]]:
+    """Returns the calls in the first column of each table in the section of all calls."""
+    rows = section_of(PAGE.read_text(), "All calls in C").splitlines()
+    parts = "\n".join(it.split(" | ")[0] if it.startswith("|") else "" for it in rows).split("\n\n")
+    return [found for found in (re.findall(r"`(jip_[a-z_]+)`", it) for it in parts) if found]
+
+
 def version() -> List[str]:
     """Returns the numbers of the header's version."""
     return re.findall(r"(?m)^#define JIP_VERSION_(?:MAJOR|MINOR|PATCH) (\d+)$", HEADER.read_text())
@@ -134,7 +151,7 @@ def texts(report: Report) -> None:
     """Compares the library's messages for errors with those of the program."""
     words: Dict[str, str] = dict(re.findall(r'DosError::(\w+) => "(.*)",', WORDS.read_text()))
     rows = re.findall(r'\{JIP_ERROR_([A-Z_]+), "(.*)"\},', TEXTS.read_text())
-    report.same("errors have the program's words", {camel_case(name): text for name, text in rows}, words)
+    report.same("errors have the program's words", {camel_case(name): text for name, text in rows}, {**words, **OWN})
     errors = re.findall(r"JIP_ERROR_([A-Z_]+) = ", HEADER.read_text())
     faults = re.findall(r"JIP_FAULT_([A-Z_]+) = ", HEADER.read_text())
     report.same("each error has words", sorted(name for name, _ in rows), sorted(errors))
@@ -146,6 +163,10 @@ def lists(report: Report) -> None:
     report.same("the list has the functions of the headers", listed(), declared())
     nodes = re.findall(r"(?m)^JIPONUWHA_([0-9.]+) \{$", SYMBOLS.read_text())
     report.expect("the list has the header's version", bool(nodes) and nodes[-1] == ".".join(version()[:2]), nodes)
+    named = tables()
+    exported = [it for table in named[:-1] for it in table]
+    report.same("docs/LIBRARY.md has each exported function once in its tables of calls", sorted(exported), sorted(listed()))
+    report.same("its last table has each inline function once", sorted(named[-1] if named else []), sorted(inline()))
     lines = quick_start().count("\n")
     report.expect("the header begins with a quick start of at most 20 lines", 0 < lines <= 20, lines)
 
@@ -169,8 +190,17 @@ def symbols(tried: Place) -> None:
 
 
 def clients(tried: Place, compiler: str) -> None:
-    """Runs the tests in C or C++ with this compiler: plain, with sanitizers, and under valgrind."""
-    source = TOP / "tests" / "c" / ("floppy.cc" if compiler.endswith("++") else "whole.c")
+    """Runs the tests in C or C++ with this compiler."""
+    tried.write("empty.c", b"int main(void) { return 0; }\n")
+    has_sanitizers = run([compiler, "-fsanitize=address,undefined", "empty.c", "-o", "empty"]).status == 0
+    if not has_sanitizers:
+        tried.report.skip(f"{compiler} with sanitizers", "there is no library of them")
+    for source in SOURCES[STANDARDS[compiler]]:
+        client(tried, compiler, TOP / "tests" / "c" / source, has_sanitizers)
+
+
+def client(tried: Place, compiler: str, source: Path, has_sanitizers: bool) -> None:
+    """Runs one program: plain, under valgrind, over the static library, and with sanitizers."""
     name = f"{compiler}-{source.stem}"
     if tried.compile(compiler, source, name, *SHARED):
         tried.passes(f"{name} runs", [f"./{name}"])
@@ -178,12 +208,8 @@ def clients(tried: Place, compiler: str) -> None:
             tried.passes(f"{name} under valgrind", ["valgrind", "-q", "--error-exitcode=9", "--leak-check=full", f"./{name}"])
     if tried.compile(compiler, source, f"{name}-static", *STATIC):
         tried.passes(f"{name}-static runs", [f"./{name}-static"])
-    tried.write("empty.c", b"int main(void) { return 0; }\n")
-    if run([compiler, "-fsanitize=address,undefined", "empty.c", "-o", "empty"]).status != 0:
-        tried.report.skip(f"{compiler} with sanitizers", "there is no library of them")
-        return
     sanitized = ["-fsanitize=address,undefined", "-fno-sanitize-recover=all"]
-    if tried.compile(compiler, source, f"{name}-sanitized", *SHARED, *sanitized):
+    if has_sanitizers and tried.compile(compiler, source, f"{name}-sanitized", *SHARED, *sanitized):
         tried.passes(f"{name}-sanitized runs", [f"./{name}-sanitized"])
 
 
@@ -194,9 +220,10 @@ def sanitized_library(tried: Place) -> None:
         tried.report.skip("a sanitized library", "there is no library of them")
         return
     built = tried.runs("a sanitized library", [str(C / "build.sh"), "--built", "sane"], {"CC": "gcc", "CFLAGS": flags})
-    source = TOP / "tests" / "c" / "whole.c"
-    if built and tried.compile("gcc", source, "sane-whole", "sane/lib/libjiponuwha.a", *flags.split()):
-        tried.passes("the tests over it", ["./sane-whole"])
+    for name in SOURCES["c11"] if built else []:
+        program = f"sane-{Path(name).stem}"
+        if tried.compile("gcc", TOP / "tests" / "c" / name, program, "sane/lib/libjiponuwha.a", *flags.split()):
+            tried.passes(f"{name} over it", [f"./{program}"])
 
 
 def refused_growths(tried: Place) -> None:

@@ -1,7 +1,7 @@
 """Copies some crates and their dependencies, so that the kit's gate proves only these.
 
-./prove and tools/wrong_bodies use this module. The gate reuses the proofs that `rt ci` made in such a copy, since the key of a
-kept proof covers neither the edits nor the path of the files.
+./prove and tools/wrong_bodies use this module. With a kit that keeps proofs the gate reuses those that `rt ci` made in such a copy,
+since the key of a kept proof covers neither the edits nor the path of the files.
 """
 import re
 import shutil

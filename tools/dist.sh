@@ -1,13 +1,15 @@
 #!/usr/bin/env bash
-# Packs the built files into one archive for machines of this type: the program, the C library with its header, the Python
-# package as a wheel, the mount, manual pages, completions, the guides, the notices of the linked code, the commit with its gate
-# result, and the checksums of the files.
+# Packs the built files for machines of this type: the program, the C library with its header and examples, the Python package,
+# the mount, manual pages, completions, the guides, the notices of the linked code, the commit with its gate result, and the
+# checksums of the files.
 #
-#   tools/dist.sh [TO]
+#   tools/dist.sh [TO]              into one archive, by default out/jiponuwha-COMMIT-KIND.tar.gz
+#   tools/dist.sh --debian [TO]     into Debian packages, in the directory TO, by default out/debian
 #
-# TO is the archive to write. Its default is out/jiponuwha-COMMIT-KIND.tar.gz. The script builds only the mount, and packs only a
-# proved program, so run `./prove` or `./test` first. GATE is a file with the output of `./test`, by default out/test.log. LIBRARY
-# is another directory with the library, as bindings/c/build.sh makes it. PROGRAM is another program.
+# The script builds only the mount, where libfuse 3 is installed, and packs only a proved program, so run `./prove` or `./test`
+# first. GATE is a file with the output of `./test`, by default out/test.log. LIBRARY is another directory with the library, as
+# bindings/c/build.sh makes it. PROGRAM is another program. SOURCE_DATE_EPOCH is the time of the files, by default that of the
+# commit. The same commit gives the same bytes.
 set -euo pipefail
 top=$(cd "$(dirname "$0")/.." && pwd)
 room=$(mktemp -d)
@@ -19,8 +21,16 @@ kit=$(dirname "$(dirname "$(readlink -f "$rt")")")
 commit=$(git -C "$top" rev-parse --short=12 HEAD)
 kind=$(uname -s | tr '[:upper:]' '[:lower:]')-$(uname -m)
 name=jiponuwha-$commit-$kind
-to=$(realpath -m "${1:-$top/out/$name.tar.gz}")
+debian=false
+if [ "${1:-}" = --debian ]; then
+    debian=true
+    shift
+    to=$(realpath -m "${1:-$top/out/debian}")
+else
+    to=$(realpath -m "${1:-$top/out/$name.tar.gz}")
+fi
 dist=$room/$name
+export SOURCE_DATE_EPOCH="${SOURCE_DATE_EPOCH:-$(git -C "$top" log -1 --format=%ct)}"
 
 # need FILE WHAT: fails if the file does not exist.
 need() { [ -e "$1" ] || { echo "dist.sh: there is no $1; $2" >&2; exit 2; }; }
@@ -43,9 +53,20 @@ library() {
 # The Python package, as a wheel with the library in it.
 package() { "$top/tools/wheel" "$dist" "$dist/share/jiponuwha" >/dev/null; }
 
+# The mount with its page and completions, if the machine has libfuse 3.
+mount() {
+    if pkg-config --exists fuse3; then
+        "$top/bindings/fuse/build.sh" "$dist/bin/adf_mount" "$dist"
+    else
+        rm "$dist/share/man/man1/adf_mount.1.gz" "$dist"/share/*/*/{adf_mount,_adf_mount,adf_mount.fish}
+        echo 'dist.sh: without adf_mount, since libfuse 3 is not there (Debian: libfuse3-dev, pkgconf)' >&2
+    fi
+}
+
 pages() {
     local page
-    mkdir -p "$dist/share/man/man1" "$dist/share/doc/jiponuwha/docs"
+    mkdir -p "$dist/share/man/man1" "$dist/share/doc/jiponuwha/docs" "$dist/share/doc/jiponuwha/examples/c"
+    cp "$top"/examples/c/*.c "$dist/share/doc/jiponuwha/examples/c/"
     for page in "$top"/docs/*.1; do gzip -9n <"$page" >"$dist/share/man/man1/${page##*/}.gz"; done
     cp "$top/README.md" "$dist/share/doc/jiponuwha/"
     cp "$top"/docs/{QUICKSTART,COMMANDS,LIBRARY,SECURITY,CHANGELOG}.md "$top"/docs/*.svg "$dist/share/doc/jiponuwha/docs/"
@@ -108,13 +129,16 @@ mkdir -p "$dist/bin" "$(dirname "$to")"
 install -m 755 "$program" "$dist/bin/adf_serve"
 library
 package
-"$top/bindings/fuse/build.sh" "$dist/bin/adf_mount" "$dist"
 pages
 completions
+mount
 kit_crates | notices
 build_file >"$dist/BUILD"
 (cd "$dist" && find . -type f -printf '%P\n' | sort | tee "$room/files" | xargs -d '\n' sha256sum >"$room/sums")
 cp "$room/sums" "$dist/SHA256SUMS"
-when=$(git -C "$top" log -1 --format=%ct)
-tar -C "$room" --sort=name --owner=0 --group=0 --numeric-owner --mtime="@$when" -cf - "$name" | gzip -9n >"$to"
-echo "$to"
+if $debian; then
+    "$top/tools/debian" "$dist" "$to"
+else
+    tar -C "$room" --sort=name --owner=0 --group=0 --numeric-owner --mtime="@$SOURCE_DATE_EPOCH" -cf - "$name" | gzip -9n >"$to"
+    echo "$to"
+fi

@@ -6,7 +6,7 @@
 #   bindings/c/build.sh PREFIX             proves and builds the library first if it is not up to date
 #   bindings/c/build.sh --built PREFIX     installs the library that is already built, and fails if there is none
 #
-# It needs the Rattle kit, a C compiler (CC, or cc) and `ar`. CFLAGS are passed to the compiler too.
+# It needs the Rattle kit, a C compiler (CC, or cc), `ar` and `objcopy`. CFLAGS are passed to the compiler too.
 set -euo pipefail
 say() { printf 'build.sh: %s\n' "$*" >&2; }
 
@@ -25,7 +25,9 @@ soname=libjiponuwha.so.1
 room=$(mktemp -d)
 trap 'rm -rf "$room"' EXIT
 
-command -v ar >/dev/null || { say "'ar' is not on the path (Debian: binutils)"; exit 2; }
+for tool in ar objcopy; do
+    command -v "$tool" >/dev/null || { say "'$tool' is not on the path (Debian: binutils)"; exit 2; }
+done
 command -v "$cc" >/dev/null || { say "there is no C compiler '$cc' (Debian: gcc)"; exit 2; }
 rt=$(command -v rt) || { say "the Rattle kit's command 'rt' is not on the path"; exit 2; }
 
@@ -49,7 +51,12 @@ done
 # The library uses malloc and free through an object file of the kit, which is added to the archive.
 kit=$(dirname "$(dirname "$(readlink -f "$rt")")")
 cp "$built" "$room/libjiponuwha.a"
-(cd "$room" && ar x "$kit/c/liblibc_c.a" && ar rs libjiponuwha.a ./*.o 2>/dev/null)
+(cd "$room" && ar x "$kit/c/liblibc_c.a")
+
+# Functions start at multiples of 32 bytes. So a loop has the same place in the lines of the processor's caches, and takes the
+# same time, in the shared library and in every program with the static one.
+for file in "$room"/*.o "$room/libjiponuwha.a"; do objcopy -D --set-section-alignment '.text*=32' "$file"; done
+(cd "$room" && ar rs libjiponuwha.a ./*.o 2>/dev/null)
 
 # shellcheck disable=SC2086 # the flags are words
 "$cc" -shared -o "$room/$soname" -Wl,-soname,"$soname" -Wl,--version-script="$here/jiponuwha.map" -Wl,-z,defs -Wl,-z,text \

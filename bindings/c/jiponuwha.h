@@ -55,7 +55,7 @@ extern "C" {
 /* The version of this header. jip_version returns that of the library. A program that was built for a library runs with
    any later library of the same major version. */
 #define JIP_VERSION_MAJOR 1
-#define JIP_VERSION_MINOR 0
+#define JIP_VERSION_MINOR 1
 #define JIP_VERSION_PATCH 0
 
 /* The status of a call. A refused packet is still answered: its results have the error, and the status is JIP_DONE. */
@@ -137,6 +137,7 @@ enum jip_error {
     JIP_ERROR_INVALID_COMPONENT_NAME = 210,
     JIP_ERROR_INVALID_LOCK = 211,
     JIP_ERROR_OBJECT_WRONG_TYPE = 212,
+    JIP_ERROR_DISK_WRITE_PROTECTED = 214,
     JIP_ERROR_DIRECTORY_NOT_EMPTY = 216,
     JIP_ERROR_DEVICE_NOT_MOUNTED = 218,
     JIP_ERROR_SEEK_ERROR = 219,
@@ -224,7 +225,7 @@ typedef struct jip_entry {
 
 /* The result of DISK_INFO and INFO. */
 typedef struct jip_disk {
-    uint32_t state;           /* a jip_disk_state: here always JIP_VALIDATED */
+    uint32_t state;           /* JIP_VALIDATED, or JIP_WRITE_PROTECTED with a read-only handle */
     uint32_t blocks;          /* after the two boot blocks */
     uint32_t used;            /* of these blocks */
     uint32_t bytes_per_block; /* the bytes of a file that fit into a data block: 488 or 512 */
@@ -282,7 +283,7 @@ int32_t jip_copy_changed(jip_handle *handle, void *copy, size_t length, uint32_t
 
 /* ---- Versions and texts ---- */
 
-/* Returns the library's version, such as "1.0.0". Each text of the library is in English, ends with a zero byte, and stays
+/* Returns the library's version, such as "1.1.0". Each text of the library is in English, ends with a zero byte, and stays
    valid until the program ends. */
 const char *jip_version(void);
 
@@ -527,6 +528,82 @@ static inline void jip_set_file_size(jip_packet *packet, jip_date moment, uint32
     jip_seek(packet, moment, handle, offset, mode);
     packet->action = JIP_ACTION_SET_FILE_SIZE;
 }
+
+/* ---- Faults ----
+ *
+ * This call fills an array: elements are written to its start, as many as it has room for, and `*count` is set to how many
+ * there are. Room 0 asks for the count alone. A refusal leaves everything unchanged. */
+
+/* Lists the faults of an image, lowest block first and then by kind: at most JIP_MOST_FAULTS of them. JIP_DONE also for bytes
+   that are no image; an image that jip_open accepts has no faults. `*more` is set to 1 if the image may have faults that are
+   not listed, and else to 0. */
+int32_t jip_check(const void *bytes, size_t length, jip_fault *faults, size_t room, size_t *count, int32_t *more);
+
+#define JIP_MOST_FAULTS 1000
+
+/* ---- Read-only handles ----
+ *
+ * The image of a read-only handle never changes. A packet that would set the disk's date is refused with 214 (disk is
+ * write-protected). This comes after every other refusal except 221 (disk full) and 103 (out of memory). DISK_INFO and INFO
+ * have the state JIP_WRITE_PROTECTED. All other packets are served as by any handle. */
+
+/* Opens a closed handle as jip_open does, but read-only. */
+int32_t jip_open_read_only(const void *bytes, size_t length, jip_handle *handle, jip_fault *fault);
+
+/* Opens a closed handle as jip_load does, but read-only. */
+int32_t jip_load_read_only(const char *path, jip_handle *handle, jip_fault *fault);
+
+/* ---- Names, letters, notes and dates ----
+ *
+ * An Amiga's bytes are letters of ISO 8859-1, and texts of the host are UTF-8. Each text has its length next to it, and no
+ * zero byte after it. It is written to the start of a buffer with `room` bytes, and `*length` is set to the number of bytes
+ * that it needs. If that is more than `room`, the buffer is unchanged, so room 0 asks for the length alone. Any other status
+ * than JIP_DONE leaves everything unchanged. */
+
+/* Whether the bytes are a valid name of an entry: 1 to 30 bytes, without `/` and `:`. Returns 1 or 0. */
+int32_t jip_is_name(const void *name, size_t length);
+
+/* The name of the host file for an entry's name. The bytes 00 to 1F and 7F to 9F, `%`, `\`, and the first dot of `.` and
+   `..` become `%` and two hexadecimal digits. It needs at most 3 * JIP_NAME_BYTES bytes. JIP_WRONG_ARGUMENT: the bytes are
+   not a valid name. */
+int32_t jip_host_of_name(const void *name, size_t name_length, char *host, size_t room, size_t *length);
+
+/* The bytes that the name of a host file stands for: its letters, with each `%` and two hexadecimal digits as that byte.
+   jip_is_name says whether they are a valid name. JIP_WRONG_ARGUMENT: it is not UTF-8, or has a letter past U+00FF. */
+int32_t jip_name_of_host(const char *host, size_t host_length, void *name, size_t room, size_t *length);
+
+/* The letters of bytes, such as a path or a comment, in UTF-8. They need at most twice as many bytes. */
+int32_t jip_letters_of_bytes(const void *bytes, size_t bytes_length, char *letters, size_t room, size_t *length);
+
+/* The bytes of letters. JIP_WRONG_ARGUMENT: the text is not UTF-8, or has a letter past U+00FF. */
+int32_t jip_bytes_of_letters(const char *letters, size_t letters_length, void *bytes, size_t room, size_t *length);
+
+/* The low eight protection bits as the 8 letters `hsparwed`. h, s, p and a are shown for set bits 7 to 4, r, w, e and d for
+   clear bits 3 to 0, and a dash otherwise. */
+int32_t jip_letters_of_protection(uint32_t bits, char *letters, size_t room, size_t *length);
+
+/* The protection bits of such letters: all eight places, or some of the letters in any order, each once. Bits 8 to 31 are
+   0. JIP_WRONG_ARGUMENT: the text is neither. */
+int32_t jip_protection_of_letters(const char *letters, size_t length, uint32_t *bits);
+
+/* The metadata in a `.uaem` file, which emulators keep next to a host file. The comment has zeros after it. */
+typedef struct jip_note {
+    uint32_t bits; /* protection bits; only the low eight are in the file */
+    jip_date date;
+    uint32_t comment_length;
+    uint8_t comment[80];
+} jip_note;
+
+/* The line of a `.uaem` file: `hsparwed YYYY-MM-DD hh:mm:ss.cc COMMENT` and a line feed. JIP_WRONG_ARGUMENT: the comment has
+   more than JIP_COMMENT_BYTES bytes. */
+int32_t jip_uaem_line(uint32_t bits, jip_date date, const void *comment, size_t comment_length, char *line, size_t room, size_t *length);
+
+/* Reads a `.uaem` file. JIP_WRONG_ARGUMENT: it is not one line of this form. */
+int32_t jip_read_uaem(const void *file, size_t file_length, jip_note *note);
+
+/* The text of a date: `YYYY-MM-DD hh:mm:ss.cc` with hundredths of a second; or `raw DAYS MINUTES TICKS` after the year 9999,
+   or if minutes or ticks are no time of a day. It needs at most 36 bytes. */
+int32_t jip_text_of_date(jip_date date, char *text, size_t room, size_t *length);
 
 #ifdef __cplusplus
 }

@@ -16,17 +16,17 @@ struct name {
 };
 
 /* The name for a host's name: its letters, with each `%` and two hexadecimal digits as that byte. Returns 0, EINVAL if
-   no entry can have this name, or ENAMETOOLONG. */
+   no entry can have this name, ENAMETOOLONG, or ENOMEM. */
 int name_of_host(const char *host, struct name *name);
 
 /* The host's name of an entry: its letters, with `%HH` for control characters, for `%` and `\`, and for the first dot
-   of `.` and `..`. */
+   of `.` and `..`. It is empty if memory runs out. */
 void host_of_name(const uint8_t *bytes, size_t length, char host[HOST_NAME_ROOM]);
 
-/* The UTF-8 of a comment's letters, and its length in bytes. */
+/* The UTF-8 of a comment's letters, and its length in bytes. It is empty if memory runs out. */
 size_t letters_of_comment(const jip_entry *entry, char letters[COMMENT_ROOM]);
 
-/* The bytes of a comment's letters; false if a letter is no byte, or if there are too many. */
+/* The bytes of a comment's letters; false if a letter is no byte, if there are too many, or if memory runs out. */
 bool comment_of_letters(const char *letters, size_t length, uint8_t comment[JIP_COMMENT_BYTES], size_t *comment_length);
 
 /* The low eight protection bits as `hsparwed`: a dash for clear h, s, p, a and for set r, w, e, d. */

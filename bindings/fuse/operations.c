@@ -8,6 +8,7 @@
 
 #include <errno.h>
 #include <fuse_lowlevel.h>
+#include <signal.h>
 #include <stdio.h>
 #include <stdlib.h>
 #include <syslog.h>
@@ -19,6 +20,9 @@
 
 enum protection_bit { DENIES_DELETE = 1, DENIES_WRITE = 4, DENIES_READ = 8, IS_ARCHIVED = 16, LOW_FOUR = 15 };
 enum status { STATUS_DONE = 0, STATUS_WORDS = 1, STATUS_HOST = 2, STATUS_IMAGE = 3 };
+
+/* How long a new mount waits for one that still saves, and how long `--wait` does, in seconds. */
+enum { LONGEST_START = 5, LONGEST_WAIT = 60 };
 
 static const time_t first_day = 2922; /* 1 January 1978, in days from 1970 on */
 static const long nanoseconds_of_tick = 20000000;
@@ -63,7 +67,7 @@ static struct volume {
     struct node **nodes; /* by key */
     size_t node_room;
     uint32_t hidden_count;
-} volume = {.handle = JIP_CLOSED, .asked = &volume.handle};
+} volume = {.handle = JIP_CLOSED, .asked = &volume.handle, .file = IMAGE_FILE_NONE};
 
 /* ---- Errors ---- */
 
@@ -1074,23 +1078,30 @@ static const struct fuse_lowlevel_ops operations = {
 /* ---- The program ---- */
 
 static const char usage[] = "usage: adf_mount [-o ro] [-f] IMAGE DIR\n"
-                            "  -o ro  the image is only read\n"
-                            "  -f     stays in the foreground\n"
+                            "       adf_mount --wait IMAGE\n"
+                            "  -o ro   the image is only read\n"
+                            "  -f      stays in the foreground\n"
+                            "  --wait  mounts nothing, and ends when no mount has the image any more\n"
                             "`fusermount3 -u DIR` unmounts, and the image's file is written where it has changed.\n";
 
 struct words {
     char *image;
     bool is_read_only;
+    bool waits;
 };
 
-enum { WORD_READ_ONLY = 1 };
+enum { WORD_READ_ONLY = 1, WORD_WAIT = 2 };
 
-static const struct fuse_opt options[] = {FUSE_OPT_KEY("ro", WORD_READ_ONLY), FUSE_OPT_END};
+static const struct fuse_opt options[] = {FUSE_OPT_KEY("ro", WORD_READ_ONLY), FUSE_OPT_KEY("--wait", WORD_WAIT), FUSE_OPT_END};
 
 static int take_word(void *data, const char *word, int key, struct fuse_args *rest) {
     struct words *const words = data;
     (void)rest;
     if (key == WORD_READ_ONLY) words->is_read_only = true;
+    if (key == WORD_WAIT) {
+        words->waits = true;
+        return 0;
+    }
     if (key != FUSE_OPT_KEY_NONOPT || words->image != NULL) return 1;
     words->image = strdup(word);
     return 0;
@@ -1106,27 +1117,45 @@ static int tell_refused(const char *path, jip_fault fault) {
     return STATUS_IMAGE;
 }
 
-/* Locks, reads and opens the image. Returns a status. */
-static int open_image(const char *path) {
-    jip_fault fault = {0, 0};
-    jip_packet packet;
-    jip_answer answer;
-    int error = image_file_hold(&volume.file, path);
+/* Reports why the image's file is not held. Returns a status. */
+static int tell_not_held(const char *path, int error) {
     if (error == EWOULDBLOCK) return tell(STATUS_HOST, path, "it is mounted, or another program has it locked");
     if (error == EINVAL) return tell(STATUS_HOST, path, "it is no regular file");
-    if (error == 0 && !volume.is_read_only && !image_file_may_be_replaced(&volume.file))
-        return tell(STATUS_HOST, path, "it, or its folder, may not be written; -o ro only reads it");
-    if (error == 0) error = image_file_read(&volume.file, (size_t)JIP_MOST_BLOCKS * JIP_BLOCK_BYTES, &volume.bytes, &volume.length);
+    return tell(STATUS_HOST, path, strerror(error));
+}
+
+/* Reads and opens the image of the file that was found. Returns a status. */
+static int read_image(const char *path) {
+    jip_fault fault = {0, 0};
+    const int error = image_file_read(&volume.file, (size_t)JIP_MOST_BLOCKS * JIP_BLOCK_BYTES, &volume.bytes, &volume.length);
     if (error == EFBIG) return tell_refused(path, (jip_fault){JIP_FAULT_TOO_MANY_BLOCKS, 0});
     if (error != 0) return tell(STATUS_HOST, path, strerror(error));
     const int32_t status = jip_open(volume.bytes, volume.length, &volume.handle, &fault);
     if (status == JIP_NO_MEMORY) return tell(STATUS_HOST, path, strerror(ENOMEM));
-    if (status != JIP_DONE) return tell_refused(path, fault);
+    return status == JIP_DONE ? STATUS_DONE : tell_refused(path, fault);
+}
+
+/* Locks, reads and opens the image. Returns a status. */
+static int open_image(const char *path) {
+    jip_packet packet;
+    jip_answer answer;
+    const int error = image_file_hold(&volume.file, path, LONGEST_START);
+    if (error != 0) return tell_not_held(path, error);
+    if (!volume.is_read_only && !image_file_may_be_replaced(&volume.file))
+        return tell(STATUS_HOST, path, "it, or its folder, may not be written; -o ro only reads it");
+    const int status = read_image(path);
+    if (status != STATUS_DONE) return status;
     volume.saved = jip_changes(&volume.handle);
     jip_examine_object(&packet, now(), 0);
     if (ask(&packet, &answer) != 0) return tell(STATUS_HOST, path, "its root cannot be examined");
     volume.root = (struct node){.key = answer.entry.key, .lookups = 1, .is_directory = true};
     return STATUS_DONE;
+}
+
+/* Waits until no mount has the image any more. What is then no image is refused. Returns a status. */
+static int wait_for_image(const char *path) {
+    const int error = image_file_wait(&volume.file, path, LONGEST_WAIT);
+    return error == 0 ? read_image(path) : tell_not_held(path, error);
 }
 
 /* Serves the kernel until the directory is unmounted, and saves. Returns a status. */
@@ -1157,26 +1186,33 @@ static int add_source(struct fuse_args *args) {
     return is_added ? STATUS_DONE : tell(STATUS_HOST, "options", strerror(ENOMEM));
 }
 
+/* Mounts the image, or waits for it. Returns a status. */
+static int run(struct fuse_args *args, const struct words *own, const struct fuse_cmdline_opts *shared) {
+    if (shared->show_help || shared->show_version) {
+        (void)fputs(usage, stdout);
+        return STATUS_DONE;
+    }
+    if (own->image == NULL || (shared->mountpoint == NULL) != own->waits) {
+        (void)fputs(usage, stderr);
+        return STATUS_WORDS;
+    }
+    if (own->waits) return wait_for_image(own->image);
+    volume.is_read_only = own->is_read_only;
+    int status = open_image(own->image);
+    if (status == STATUS_DONE) status = add_source(args);
+    return status == STATUS_DONE ? serve(args, shared->mountpoint, shared->foreground != 0) : status;
+}
+
 int main(int count, char *words[]) {
     struct fuse_args args = FUSE_ARGS_INIT(count, words);
     struct fuse_cmdline_opts shared = {0};
-    struct words own = {NULL, false};
+    struct words own = {NULL, false, false};
     int status = STATUS_WORDS;
     openlog("adf_mount", LOG_PERROR, LOG_DAEMON);
-    volume.file.held = -1;
-    if (fuse_opt_parse(&args, &own, options, take_word) == 0 && fuse_parse_cmdline(&args, &shared) == 0) {
-        if (shared.show_help || shared.show_version) {
-            (void)fputs(usage, stdout);
-            status = STATUS_DONE;
-        } else if (own.image == NULL || shared.mountpoint == NULL) {
-            (void)fputs(usage, stderr);
-        } else {
-            volume.is_read_only = own.is_read_only;
-            status = open_image(own.image);
-            if (status == STATUS_DONE) status = add_source(&args);
-            if (status == STATUS_DONE) status = serve(&args, shared.mountpoint, shared.foreground != 0);
-        }
-    }
+    /* A write past a limit on the length of files fails, and does not end the process. */
+    (void)signal(SIGXFSZ, SIG_IGN);
+    if (fuse_opt_parse(&args, &own, options, take_word) == 0 && fuse_parse_cmdline(&args, &shared) == 0)
+        status = run(&args, &own, &shared);
     (void)jip_close(&volume.handle);
     image_file_release(&volume.file);
     for (size_t key = 0; key < volume.node_room; key++) free(volume.nodes[key]);

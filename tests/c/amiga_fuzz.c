@@ -272,12 +272,18 @@ static void tear_down(void) {
     HOLDS("the floppy is closed", jip_close(&floppy) == JIP_DONE);
 }
 
+/* Resets the machine: its locks and files end, and their BPTRs and numbers stay in its memory. */
+static void reset(void) { HOLDS("a reset", jip_release_guest(&floppy, &guest) == JIP_DONE && guest.state == NULL); }
+
 static void one_round(void) {
     draws = seed * 0xd1342543de82ef95 + round_number * 0x2545f4914f6cdd1d + 1;
     set_up();
     refuses_growths = chance(10);
     comes_and_goes = chance(10);
-    for (uint32_t k = 0; k < PACKETS; k++) one_packet();
+    for (uint32_t k = 0; k < PACKETS; k++) {
+        if (draw(400) == 0) reset();
+        one_packet();
+    }
     refuses_growths = comes_and_goes = 0;
     tear_down();
 }

@@ -1,9 +1,10 @@
 /* The checked functions of the header. No proof covers the pointers and lengths of a C program, so each function checks
  * them. It then calls the proved function of the same name, `jip_lib_..`. */
-#include <jiponuwha.h>
+#include "checks.h"
 
 /* The proved functions. They rely on item 1 of the header for every pointer and length. */
 int32_t jip_lib_open(const uint8_t *bytes, size_t length, jip_handle *handle, jip_fault *fault);
+int32_t jip_lib_open_read_only(const uint8_t *bytes, size_t length, jip_handle *handle, jip_fault *fault);
 int32_t jip_lib_blank(int32_t format, uint32_t blocks, const uint8_t *name, size_t length, const jip_date *moment, jip_handle *handle);
 int32_t jip_lib_close(jip_handle *handle);
 int32_t jip_lib_serve(jip_handle *handle, const jip_packet *packet, const uint8_t *path, size_t path_length, const uint8_t *text,
@@ -13,20 +14,6 @@ size_t jip_lib_image_length(jip_handle *handle);
 int32_t jip_lib_copy_image(jip_handle *handle, uint8_t *to, size_t length);
 uint64_t jip_lib_changes(jip_handle *handle);
 int32_t jip_lib_copy_changed(jip_handle *handle, uint8_t *copy, size_t length, uint32_t *numbers, size_t room, size_t *count);
-
-/* Whether this many bytes can exist at a pointer. */
-static int may_hold(const void *at, size_t length) {
-    return length == 0 || (at != NULL && length <= (size_t)PTRDIFF_MAX && length <= UINTPTR_MAX - (uintptr_t)at);
-}
-
-/* Whether a pointer is not null and has this alignment. */
-static int may_stand(const void *at, size_t alignment) { return at != NULL && (uintptr_t)at % alignment == 0; }
-
-/* Whether two ranges do not overlap. */
-static int apart(const void *first, size_t length, const void *second, size_t other_length) {
-    const uintptr_t a = (uintptr_t)first, b = (uintptr_t)second;
-    return length == 0 || other_length == 0 || (a < b ? length <= b - a : other_length <= a - b);
-}
 
 /* Whether a pointer can be that of a handle, which does not overlap these bytes. */
 static int may_be_handle(const jip_handle *handle, const void *bytes, size_t length) {
@@ -55,7 +42,10 @@ static int may_serve(const jip_handle *handle, const jip_packet *packet, const j
            (!fills || apart_from_packet(packet->buffer, packet->buffer_length, packet));
 }
 
-int32_t jip_open(const void *bytes, size_t length, jip_handle *handle, jip_fault *fault) {
+/* One of the two proved functions that open a handle on bytes. */
+typedef int32_t opener(const uint8_t *bytes, size_t length, jip_handle *handle, jip_fault *fault);
+
+static int32_t open_by(opener *open, const void *bytes, size_t length, jip_handle *handle, jip_fault *fault) {
     const uint8_t none = 0;
     jip_fault told = {0, 0};
     int32_t status;
@@ -63,9 +53,17 @@ int32_t jip_open(const void *bytes, size_t length, jip_handle *handle, jip_fault
     if (!may_stand(fault, _Alignof(jip_fault)) || !may_be_handle(handle, fault, sizeof *fault) ||
         !apart(fault, sizeof *fault, bytes, length))
         return JIP_WRONG_ARGUMENT;
-    status = jip_lib_open(length == 0 ? &none : (const uint8_t *)bytes, length, handle, &told);
+    status = open(length == 0 ? &none : (const uint8_t *)bytes, length, handle, &told);
     if (status == JIP_NOT_AN_IMAGE) *fault = told;
     return status;
+}
+
+int32_t jip_open(const void *bytes, size_t length, jip_handle *handle, jip_fault *fault) {
+    return open_by(jip_lib_open, bytes, length, handle, fault);
+}
+
+int32_t jip_open_read_only(const void *bytes, size_t length, jip_handle *handle, jip_fault *fault) {
+    return open_by(jip_lib_open_read_only, bytes, length, handle, fault);
 }
 
 int32_t jip_blank(int32_t format, uint32_t blocks, const void *name, size_t length, jip_date moment, jip_handle *handle) {

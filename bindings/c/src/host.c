@@ -50,7 +50,10 @@ static int32_t gather(int from, struct gathered *all) {
     return JIP_DONE;
 }
 
-int32_t jip_load(const char *path, jip_handle *handle, jip_fault *fault) {
+/* jip_open or jip_open_read_only. */
+typedef int32_t opener(const void *bytes, size_t length, jip_handle *handle, jip_fault *fault);
+
+static int32_t load_by(opener *open_bytes, const char *path, jip_handle *handle, jip_fault *fault) {
     struct gathered all = {NULL, 0, 0};
     int32_t result;
     int from, error;
@@ -60,10 +63,16 @@ int32_t jip_load(const char *path, jip_handle *handle, jip_fault *fault) {
     result = gather(from, &all);
     error = errno;
     (void)close(from);
-    if (result == JIP_DONE) result = jip_open(all.bytes, all.length, handle, fault);
+    if (result == JIP_DONE) result = open_bytes(all.bytes, all.length, handle, fault);
     free(all.bytes);
     errno = error;
     return result;
+}
+
+int32_t jip_load(const char *path, jip_handle *handle, jip_fault *fault) { return load_by(jip_open, path, handle, fault); }
+
+int32_t jip_load_read_only(const char *path, jip_handle *handle, jip_fault *fault) {
+    return load_by(jip_open_read_only, path, handle, fault);
 }
 
 static bool write_all(int to, const uint8_t *bytes, size_t length) {

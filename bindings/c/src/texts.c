@@ -30,7 +30,7 @@ static const struct text errors[] = {
     {JIP_ERROR_INVALID_LOCK, "invalid object lock"},
     {JIP_ERROR_OBJECT_WRONG_TYPE, "object is not of required type"},
     {213, "disk not validated"},
-    {214, "disk is write-protected"},
+    {JIP_ERROR_DISK_WRITE_PROTECTED, "disk is write-protected"},
     {215, "rename across devices attempted"},
     {JIP_ERROR_DIRECTORY_NOT_EMPTY, "directory not empty"},
     {217, "too many levels"},

@@ -155,7 +155,7 @@ static int32_t write_along(jip_handle *handle, const char *path, size_t path_len
 }
 
 /* Whether a new file of this length certainly fits. A file needs data blocks, a header, and at most as many extension
-   blocks as data blocks. */
+   blocks as data blocks. On a write-protected disk the first packet that would write is refused, so nothing has to fit. */
 static int32_t has_room(jip_handle *handle, size_t length, bool *has) {
     jip_packet packet;
     jip_answer answer;
@@ -163,7 +163,8 @@ static int32_t has_room(jip_handle *handle, size_t length, bool *has) {
     jip_disk_info(&packet, no_time);
     result = ask(handle, &packet, &answer);
     if (result != JIP_DONE) return result;
-    *has = length / answer.disk.bytes_per_block + 1 <= (answer.disk.blocks - answer.disk.used) / 2;
+    *has = answer.disk.state == JIP_WRITE_PROTECTED ||
+           length / answer.disk.bytes_per_block + 1 <= (answer.disk.blocks - answer.disk.used) / 2;
     return JIP_DONE;
 }
 

@@ -31,6 +31,7 @@ from ._errors import (
 )
 from ._file import File
 from ._library import version
+from ._names import Note, date_text, entry_name, host_name, protection_bits, protection_letters
 from ._numbers import DOUBLE_DENSITY, HIGH_DENSITY, EntryType, Error, FaultKind, Format
 from ._path import Path
 from ._values import Date, Entry, Fault, Info
@@ -55,6 +56,7 @@ __all__ = [
     "Info",
     "InvalidName",
     "NotAnImage",
+    "Note",
     "ObjectExists",
     "ObjectInUse",
     "ObjectNotFound",
@@ -64,6 +66,11 @@ __all__ = [
     "WrongType",
     "check",
     "create",
+    "date_text",
+    "entry_name",
+    "host_name",
     "open",
+    "protection_bits",
+    "protection_letters",
     "version",
 ]

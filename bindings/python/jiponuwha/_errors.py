@@ -20,6 +20,7 @@ _ERRNOS = {
     Error.INVALID_COMPONENT_NAME: errno.EINVAL,
     Error.INVALID_LOCK: errno.EBADF,
     Error.OBJECT_WRONG_TYPE: errno.ENOTDIR,
+    Error.DISK_WRITE_PROTECTED: errno.EROFS,
     Error.DIRECTORY_NOT_EMPTY: errno.ENOTEMPTY,
     Error.DEVICE_NOT_MOUNTED: errno.ENODEV,
     Error.SEEK_ERROR: errno.EINVAL,
@@ -79,11 +80,11 @@ class DiskFull(DosError):
 
 
 class Protected(DosError, PermissionError):
-    """The protection bits deny deleting (222), writing (223) or reading (224)."""
+    """The protection bits deny deleting (222), writing (223) or reading (224), or the volume is read-only (214)."""
 
 
 class NotAnImage(DosError):
-    """The bytes are not a valid image (225). `faults` has the reason; of several faults, the first that is found."""
+    """The bytes are not a valid image (225). `faults` has the reasons: at most 1,000 faults, by block and then by kind."""
 
     faults: tuple[Fault, ...]
 
@@ -107,6 +108,7 @@ _CLASSES: dict[int, type[DosError]] = {
     Error.DIRECTORY_NOT_EMPTY: DirectoryNotEmpty,
     Error.INVALID_COMPONENT_NAME: InvalidName,
     Error.DISK_FULL: DiskFull,
+    Error.DISK_WRITE_PROTECTED: Protected,
     Error.DELETE_PROTECTED: Protected,
     Error.WRITE_PROTECTED: Protected,
     Error.READ_PROTECTED: Protected,

@@ -14,7 +14,7 @@ from ._numbers import FaultKind
 
 NAME = "libjiponuwha.so.1"
 # The version of the header that this package was written for. The library has the same major version, and is not older.
-WRITTEN_FOR = (1, 0)
+WRITTEN_FOR = (1, 1)
 
 
 class CHandle(ctypes.Structure):
@@ -85,6 +85,15 @@ class CAnswer(ctypes.Structure):
     ]
 
 
+class CNote(ctypes.Structure):
+    _fields_ = [
+        ("bits", ctypes.c_uint32),
+        ("date", CDate),
+        ("comment_length", ctypes.c_uint32),
+        ("comment", ctypes.c_uint8 * 80),
+    ]
+
+
 # The structs, by their names in the header without `jip_`.
 STRUCTS: dict[str, type[ctypes.Structure]] = {
     "handle": CHandle,
@@ -94,6 +103,7 @@ STRUCTS: dict[str, type[ctypes.Structure]] = {
     "entry": CEntry,
     "disk": CDisk,
     "answer": CAnswer,
+    "note": CNote,
 }
 
 Visitor = ctypes.CFUNCTYPE(
@@ -104,12 +114,16 @@ _HANDLE = ctypes.POINTER(CHandle)
 _SIZE = ctypes.POINTER(ctypes.c_size_t)
 _FAULT = ctypes.POINTER(CFault)
 _PATH = (ctypes.c_char_p, ctypes.c_size_t)
+# A text to convert, and the buffer for its result.
+_TEXT = (ctypes.c_char_p, ctypes.c_size_t)
+_ROOM = (ctypes.c_void_p, ctypes.c_size_t, _SIZE)
 # The functions that this package calls: the type of the result, and the types of the arguments.
 FUNCTIONS: dict[str, tuple[Any, list[Any]]] = {
     "jip_version": (ctypes.c_char_p, []),
     "jip_error_text": (ctypes.c_char_p, [ctypes.c_int32]),
     "jip_fault_text": (ctypes.c_char_p, [ctypes.c_int32]),
     "jip_open": (ctypes.c_int32, [ctypes.c_char_p, ctypes.c_size_t, _HANDLE, _FAULT]),
+    "jip_open_read_only": (ctypes.c_int32, [ctypes.c_char_p, ctypes.c_size_t, _HANDLE, _FAULT]),
     "jip_blank": (
         ctypes.c_int32,
         [ctypes.c_int32, ctypes.c_uint32, ctypes.c_char_p, ctypes.c_size_t, CDate, _HANDLE],
@@ -127,7 +141,20 @@ FUNCTIONS: dict[str, tuple[Any, list[Any]]] = {
         [_HANDLE, *_PATH, ctypes.POINTER(ctypes.c_uint32), ctypes.POINTER(ctypes.c_void_p), _SIZE],
     ),
     "jip_load": (ctypes.c_int32, [ctypes.c_char_p, _HANDLE, _FAULT]),
+    "jip_load_read_only": (ctypes.c_int32, [ctypes.c_char_p, _HANDLE, _FAULT]),
     "jip_store": (ctypes.c_int32, [_HANDLE, ctypes.c_char_p]),
+    "jip_check": (
+        ctypes.c_int32,
+        [ctypes.c_char_p, ctypes.c_size_t, _FAULT, ctypes.c_size_t, _SIZE, ctypes.POINTER(ctypes.c_int32)],
+    ),
+    "jip_is_name": (ctypes.c_int32, [*_TEXT]),
+    "jip_host_of_name": (ctypes.c_int32, [*_TEXT, *_ROOM]),
+    "jip_name_of_host": (ctypes.c_int32, [*_TEXT, *_ROOM]),
+    "jip_letters_of_protection": (ctypes.c_int32, [ctypes.c_uint32, *_ROOM]),
+    "jip_protection_of_letters": (ctypes.c_int32, [*_TEXT, ctypes.POINTER(ctypes.c_uint32)]),
+    "jip_uaem_line": (ctypes.c_int32, [ctypes.c_uint32, CDate, *_TEXT, *_ROOM]),
+    "jip_read_uaem": (ctypes.c_int32, [*_TEXT, ctypes.POINTER(CNote)]),
+    "jip_text_of_date": (ctypes.c_int32, [CDate, *_ROOM]),
 }
 
 
@@ -157,7 +184,7 @@ library = _loaded()
 
 
 def version() -> str:
-    """Returns the version of the library, such as `1.0.0`."""
+    """Returns the version of the library, such as `1.1.0`."""
     return str(library.jip_version().decode("ascii"))
 
 

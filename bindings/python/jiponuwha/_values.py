@@ -5,7 +5,7 @@ import datetime
 from dataclasses import dataclass
 from typing import NamedTuple
 
-from ._library import CDate, CDisk, CEntry, fault_text
+from ._library import CDate, CDisk, CEntry, CFault, fault_text
 from ._numbers import EntryType, FaultKind, Format
 
 _FIRST_DAY = datetime.datetime(1978, 1, 1)
@@ -133,3 +133,7 @@ class Fault(NamedTuple):
     @property
     def text(self) -> str:
         return fault_text(self.kind)
+
+
+def fault_of(given: CFault) -> Fault:
+    return Fault(FaultKind(given.kind), given.block)

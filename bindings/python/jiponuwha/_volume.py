@@ -9,14 +9,26 @@ import threading
 import warnings
 from collections import deque
 from collections.abc import Callable, Iterator, Mapping
+from pathlib import Path as HostFile
 from typing import Any, Union, overload
 
 from ._errors import DosError, NotAnImage, dos_error
 from ._file import File
 from ._library import CAnswer, CDate, CFault, CHandle, CPacket, Visitor, error_text, library
-from ._numbers import DOUBLE_DENSITY, PATH_BYTES, Action, Error, FaultKind, Format, LockMode, SeekMode, Status
+from ._numbers import (
+    DOUBLE_DENSITY,
+    MOST_FAULTS,
+    PATH_BYTES,
+    Action,
+    Error,
+    FaultKind,
+    Format,
+    LockMode,
+    SeekMode,
+    Status,
+)
 from ._path import AnyBytes, AnyPath, Path, name_bytes, path_bytes, path_text
-from ._values import Date, Entry, Fault, Info, entry_of, info_of, letters
+from ._values import Date, Entry, Fault, Info, entry_of, fault_of, info_of, letters
 
 HostPath = Union[str, "os.PathLike[str]"]
 Clock = Callable[[], Date]
@@ -39,10 +51,6 @@ def _settle(result: int, shown: object) -> None:
     raise dos_error(result, shown)
 
 
-def _fault_of(fault: CFault) -> Fault:
-    return Fault(FaultKind(fault.kind), fault.block)
-
-
 class Volume(Mapping[AnyPath, Path]):
     """An open floppy image, or another volume, in memory. `open` and `create` return one.
 
@@ -51,10 +59,12 @@ class Volume(Mapping[AnyPath, Path]):
 
     One thread at a time uses a volume. A call during another thread's call raises RuntimeError. A call on a closed volume
     raises ValueError. Closing or dropping a volume with unsaved changes gives a ResourceWarning. Changes get the date that
-    `clock` returns.
+    `clock` returns. A change of a read-only volume raises Protected (214).
     """
 
-    def __init__(self, handle: CHandle, path: HostPath | None = None, clock: Clock = Date.now) -> None:
+    def __init__(
+        self, handle: CHandle, path: HostPath | None = None, clock: Clock = Date.now, read_only: bool = False
+    ) -> None:
         self._handle = handle
         self._turns = threading.Lock()
         self._dropped: deque[int] = deque()
@@ -63,6 +73,7 @@ class Volume(Mapping[AnyPath, Path]):
         self._saved = int(library.jip_changes(handle))
         self.path = None if path is None else os.fspath(path)
         self.clock = clock
+        self._is_read_only = read_only
 
     # ---- Packets of one thread at a time ----
 
@@ -305,14 +316,22 @@ class Volume(Mapping[AnyPath, Path]):
         """Whether the volume may have unsaved changes."""
         return self._is_open and int(library.jip_changes(self._handle)) != self._saved
 
+    @property
+    def is_read_only(self) -> bool:
+        """Whether the image of the volume never changes."""
+        return self._is_read_only
+
     def save(self, path: HostPath | None = None) -> None:
         """Replaces or creates a file of the host with the image, whole or not at all. The default is the file that was opened.
 
-        A failure raises OSError and leaves the old file unchanged. A device or a pipe is written directly.
+        A failure raises OSError and leaves the old file unchanged. A device or a pipe is written directly. The file of a
+        read-only volume is not replaced: that raises Protected (214).
         """
         target = self.path if path is None else os.fspath(path)
         if target is None:
             raise ValueError("the volume comes from no file: save(path) says where to")
+        if self._is_read_only and target == self.path:
+            raise dos_error(Error.DISK_WRITE_PROTECTED, target)
         with self._turn() as handle:
             _settle(library.jip_store(handle, os.fsencode(target)), target)
             self._saved = int(library.jip_changes(handle))
@@ -384,29 +403,41 @@ class Volume(Mapping[AnyPath, Path]):
     __hash__ = object.__hash__
 
 
-def _opened(source: HostPath | AnyBytes, handle: CHandle) -> None:
+def _all_faults(source: HostPath | AnyBytes, fault: Fault) -> list[Fault]:
+    """Returns the faults of an image that shows this one. That of a size is alone."""
+    if fault.kind >= FaultKind.NOT_WHOLE_BLOCKS:
+        return [fault]
+    image = bytes(memoryview(source)) if isinstance(source, (bytes, bytearray, memoryview)) else HostFile(source).read_bytes()
+    room, count, more = (CFault * MOST_FAULTS)(), ctypes.c_size_t(), ctypes.c_int32()
+    _settle(library.jip_check(image, len(image), room, len(room), count, more), None)
+    return [fault_of(it) for it in room[: count.value]] or [fault]
+
+
+def _opened(source: HostPath | AnyBytes, handle: CHandle, read_only: bool) -> None:
     """Opens a closed handle on the image in a file of the host, or on the bytes of an image."""
     fault = CFault()
     if isinstance(source, (bytes, bytearray, memoryview)):
         image, shown = bytes(memoryview(source)), None
-        result = library.jip_open(image, len(image), handle, fault)
+        open_bytes = library.jip_open_read_only if read_only else library.jip_open
+        result = open_bytes(image, len(image), handle, fault)
     else:
         shown = os.fspath(source)
-        result = library.jip_load(os.fsencode(shown), handle, fault)
+        load = library.jip_load_read_only if read_only else library.jip_load
+        result = load(os.fsencode(shown), handle, fault)
     if result == Status.NOT_AN_IMAGE:
-        raise NotAnImage([_fault_of(fault)], shown)
+        raise NotAnImage(_all_faults(source, fault_of(fault)), shown)
     _settle(result, shown)
 
 
-def open(source: HostPath | AnyBytes, *, clock: Clock = Date.now) -> Volume:
+def open(source: HostPath | AnyBytes, *, read_only: bool = False, clock: Clock = Date.now) -> Volume:
     """Checks and opens the image in a file, or an image in bytes, and returns its Volume.
 
     An image with a fault raises NotAnImage (225), and an unreadable file OSError. The source is not changed, and `clock`
-    dates changes.
+    dates changes. The image of a read-only volume never changes: calls that would change it raise Protected (214).
     """
     handle = CHandle()
-    _opened(source, handle)
-    return Volume(handle, None if isinstance(source, (bytes, bytearray, memoryview)) else source, clock)
+    _opened(source, handle, read_only)
+    return Volume(handle, None if isinstance(source, (bytes, bytearray, memoryview)) else source, clock, read_only)
 
 
 def create(
@@ -430,10 +461,10 @@ def create(
 
 
 def check(source: HostPath | AnyBytes) -> tuple[Fault, ...]:
-    """Returns the faults of an image; none if it is valid. Of several faults it returns only the first that is found."""
+    """Returns the faults of an image, by block and then by kind; none if it is valid. It returns at most 1,000."""
     handle = CHandle()
     try:
-        _opened(source, handle)
+        _opened(source, handle, read_only=True)
     except NotAnImage as refused:
         return refused.faults
     library.jip_close(handle)

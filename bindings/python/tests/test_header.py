@@ -69,6 +69,7 @@ class Header(unittest.TestCase):
             ("HIGH_DENSITY", _numbers.HIGH_DENSITY),
         ):
             self.assertRegex(self.text, rf"\bJIP_{name} = {value}\b")
+        self.assertRegex(self.text, rf"#define JIP_MOST_FAULTS {_numbers.MOST_FAULTS}\b")
 
     def test_structs(self) -> None:
         for name, struct in _library.STRUCTS.items():

@@ -32,7 +32,7 @@ fn count_files(volume: &Volume, below: &[Below]) -> usize
 {
     let mut files = 0;
     for entry in below {
-        if volume.is_file(entry.key()) {
+        if volume.is_file(entry.key) {
             files += 1;
         }
     }

@@ -29,26 +29,26 @@ none_is_closed (Some desk) t = absurd (true≢false t)
 none_is_closed None t = refl
 
 -- a new desk is in the handle
-pub seats : (new : Option Desk) (desk : Desk) (handler : HandlerState) (image : List ℕ) (validated : Bool) → new ≡ Some desk → desk ≡ record { handler = handler; changes = 0 }
-    → handler.image ≡ image → handler.was_validated ≡ validated → handler.session ≡ opening_session → Seats image validated new
-seats new desk handler image validated is made i v s = (record { handler = handler; changes = 0 }, is ∙ ap Some made, (i, v, s, refl))
+pub seats : (new : Option Desk) (desk : Desk) (handler : HandlerState) (read_only : Bool) (image : List ℕ) (validated : Bool) → new ≡ Some desk → desk ≡ record { handler = handler; changes = 0; read_only = read_only }
+    → handler.image ≡ image → handler.was_validated ≡ validated → handler.session ≡ opening_session → Seats read_only image validated new
+seats new desk handler read_only image validated is made i v s = (record { handler = handler; changes = 0; read_only = read_only }, is ∙ ap Some made, (i, v, s, refl, refl))
 
 -- the result if there was no memory for the desk
 abbrev Unseated : Option Desk → Option Desk → Refusal → Type 0
 Unseated same new refusal = (refusal ≡ NoMemory) × (new ≡ same)
 
 -- a handle is opened on bytes that were checked
-pub opens : (r : Result (Unit {0}) Refusal) (bytes got image : List ℕ) (validated : Bool) (old same new : Option Desk) (fault : JipFault) → old ≡ None → same ≡ old → got ≡ bytes → IsImage got
-    → Accepts got validated image → Comes (Seats image validated new) (Unseated same new) r → Comes (Opens bytes old new × (fault ≡ fault)) (RefusesOpen bytes old new fault fault) r
-opens (Ok x) bytes got image validated old same new fault closed kept is whole accepted seated =
+pub opens : (r : Result (Unit {0}) Refusal) (read_only : Bool) (bytes got image : List ℕ) (validated : Bool) (old same new : Option Desk) (fault : JipFault) → old ≡ None → same ≡ old → got ≡ bytes → IsImage got
+    → Accepts got validated image → Comes (Seats read_only image validated new) (Unseated same new) r → Comes (Opens read_only bytes old new × (fault ≡ fault)) (RefusesOpen bytes old new fault fault) r
+opens (Ok x) read_only bytes got image validated old same new fault closed kept is whole accepted seated =
     ((closed, subst IsImage is whole, (image, validated, subst (λ b. Accepts b validated image) is accepted, seated)), refl)
-opens (Err refusal) bytes got image validated old same new fault closed kept is whole accepted why =
+opens (Err refusal) read_only bytes got image validated old same new fault closed kept is whole accepted why =
     subst (RefusesOpen bytes old new fault fault) (sym why.0) (why.1 ∙ kept, closed, refl)
 
 -- a handle is opened on a blank volume
 pub blanks : (r : Result (Unit {0}) Refusal) (format : Format) (number : ℤ) (blocks : ℕ) (name given : List ℕ) (moment : Date3) (image : List ℕ) (validated : Bool) (old same new : Option Desk)
     → number ≡ pos (format_number format) → IsSize blocks → IsName name → given ≡ name → old ≡ None → same ≡ old → IsBlank format blocks given moment image → validated ≡ false
-    → Comes (Seats image validated new) (Unseated same new) r → Comes (Blanks number blocks name moment old new) (RefusesBlank number blocks name old new) r
+    → Comes (Seats false image validated new) (Unseated same new) r → Comes (Blanks number blocks name moment old new) (RefusesBlank number blocks name old new) r
 blanks (Ok x) format number blocks name given moment image validated old same new n size named is closed kept blank v seated = record {
   format = format;
   image = image;
@@ -57,7 +57,7 @@ blanks (Ok x) format number blocks name given moment image validated old same ne
   named = named;
   closed = closed;
   blank = subst (λ g. IsBlank format blocks g moment image) is blank;
-  seated = subst (λ w. Seats image w new) v seated;
+  seated = subst (λ w. Seats false image w new) v seated;
 }
 blanks (Err refusal) format number blocks name given moment image validated old same new n size named is closed kept blank v why =
     subst (RefusesBlank number blocks name old new) (sym why.0) (why.1 ∙ kept, closed)

@@ -36,19 +36,21 @@ ComesTo done refused status = ((status ≡ pos 0) × done) ⊎ ((refusal : Refus
 abbrev pub IsOpen : Option Desk → Type 0
 IsOpen held = (desk : Desk) × (held ≡ Some desk)
 
--- a new desk over an image: without locks and handles, and with count 0
-abbrev pub IsNewDesk : List ℕ → Bool → Desk → Type 0
-IsNewDesk image was_validated desk =
+-- a new desk over an image: without locks and handles, with count 0, and read-only or not
+abbrev pub IsNewDesk : Bool → List ℕ → Bool → Desk → Type 0
+IsNewDesk read_only image was_validated desk =
     (desk.handler.image ≡ image) × (desk.handler.was_validated ≡ was_validated) × (desk.handler.session ≡ opening_session) × (desk.changes ≡ 0)
+    × (desk.read_only ≡ read_only)
 
 -- the handle has a new desk over the image
-abbrev pub Seats : List ℕ → Bool → Option Desk → Type 0
-Seats image was_validated new = (desk : Desk) × (new ≡ Some desk) × IsNewDesk image was_validated desk
+abbrev pub Seats : Bool → List ℕ → Bool → Option Desk → Type 0
+Seats read_only image was_validated new = (desk : Desk) × (new ≡ Some desk) × IsNewDesk read_only image was_validated desk
 
 -- a closed handle is opened on bytes of an image that the check accepts
-abbrev pub Opens : List ℕ → Option Desk → Option Desk → Type 0
-Opens bytes old new =
-    (old ≡ None) × IsImage bytes × ((image : List ℕ) × (was_validated : Bool) × Accepts bytes was_validated image × Seats image was_validated new)
+abbrev pub Opens : Bool → List ℕ → Option Desk → Option Desk → Type 0
+Opens read_only bytes old new =
+    (old ≡ None) × IsImage bytes
+    × ((image : List ℕ) × (was_validated : Bool) × Accepts bytes was_validated image × Seats read_only image was_validated new)
 
 -- why a handle is not opened on bytes; it is unchanged, and so is the fault unless the bytes are at fault
 abbrev pub RefusesOpen : List ℕ → Option Desk → Option Desk → JipFault → JipFault → Refusal → Type 0
@@ -57,13 +59,13 @@ RefusesOpen bytes old new fault_before fault NoMemory = (new ≡ old) × (old �
 RefusesOpen bytes old new fault_before fault WrongArgument = (new ≡ old) × IsOpen old × (fault ≡ fault_before)
 
 -- the result of opening a handle, and the same by the status
-abbrev pub OpenComes : List ℕ → Option Desk → Option Desk → JipFault → JipFault → Result (Unit {0}) Refusal → Type 0
-OpenComes bytes old new fault_before fault =
-    Comes (Opens bytes old new × (fault ≡ fault_before)) (RefusesOpen bytes old new fault_before fault)
+abbrev pub OpenComes : Bool → List ℕ → Option Desk → Option Desk → JipFault → JipFault → Result (Unit {0}) Refusal → Type 0
+OpenComes read_only bytes old new fault_before fault =
+    Comes (Opens read_only bytes old new × (fault ≡ fault_before)) (RefusesOpen bytes old new fault_before fault)
 
-abbrev pub OpenEnds : List ℕ → Option Desk → Option Desk → JipFault → JipFault → ℤ → Type 0
-OpenEnds bytes old new fault_before fault =
-    ComesTo (Opens bytes old new × (fault ≡ fault_before)) (RefusesOpen bytes old new fault_before fault)
+abbrev pub OpenEnds : Bool → List ℕ → Option Desk → Option Desk → JipFault → JipFault → ℤ → Type 0
+OpenEnds read_only bytes old new fault_before fault =
+    ComesTo (Opens read_only bytes old new × (fault ≡ fault_before)) (RefusesOpen bytes old new fault_before fault)
 
 -- the number of a format
 abbrev pub format_number : Format → ℕ
@@ -79,7 +81,7 @@ pub record Blanks (number : ℤ) (blocks : ℕ) (name : List ℕ) (moment : Date
   pub named : IsName name
   pub closed : old ≡ None
   pub blank : IsBlank format blocks name moment image
-  pub seated : Seats image false new
+  pub seated : Seats false image false new
 
 -- why a handle is not opened on a blank volume; it is unchanged
 abbrev pub RefusesBlank : ℤ → ℕ → List ℕ → Option Desk → Option Desk → Refusal → Type 0
@@ -96,8 +98,8 @@ abbrev pub BlankEnds : ℤ → ℕ → List ℕ → Date3 → Option Desk → Op
 BlankEnds number blocks name moment old new = ComesTo (Blanks number blocks name moment old new) (RefusesBlank number blocks name old new)
 
 -- the handle has a desk over an image; without memory it is unchanged
-abbrev pub SeatComes : List ℕ → Bool → Option Desk → Option Desk → Result (Unit {0}) Refusal → Type 0
-SeatComes image was_validated old new = Comes (Seats image was_validated new) (λ refusal. (refusal ≡ NoMemory) × (new ≡ old))
+abbrev pub SeatComes : Bool → List ℕ → Bool → Option Desk → Option Desk → Result (Unit {0}) Refusal → Type 0
+SeatComes read_only image was_validated old new = Comes (Seats read_only image was_validated new) (λ refusal. (refusal ≡ NoMemory) × (new ≡ old))
 
 -- a desk serves a packet, and the caller gets the answer with the bytes of a READ
 abbrev pub ServedBy : Desk → Desk → Packet → Date3 → List ℕ → List ℕ → JipAnswer → Type 0

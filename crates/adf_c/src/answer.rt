@@ -145,7 +145,7 @@ impl JipDisk {
     }
 }
 
-fn told_date(date: Date3) -> JipDate
+pub(crate) fn told_date(date: Date3) -> JipDate
     ensures { result ≡ date_told date }
 {
     JipDate {

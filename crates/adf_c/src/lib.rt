@@ -5,14 +5,19 @@
 //! be a reference, such as null pointers and lengths beyond memory, and then call these.
 #![tactic(auto)]
 
+pub mod all_faults;
 pub mod answer;
 pub mod changed;
 pub mod desk;
 pub mod handle;
 pub mod image;
+pub mod lists;
 pub mod loose;
+pub mod names;
+pub mod notes;
 pub mod open;
 pub mod packet;
+pub mod read_only;
 pub mod refusal;
 pub mod serve;
 pub mod texts;

@@ -1,6 +1,6 @@
 //! Handles are opened on the bytes of an image or on a blank volume, and closed.
 
-ghost use Rattle.std.specs.Prelude.{◌≡◌, ◌≢◌, pos, None};
+ghost use Rattle.std.specs.Prelude.{◌≡◌, ◌≢◌, pos, false, None};
 ghost use Rattle.std.specs.Option.{MatchOption};
 ghost use Rattle.adf_c.specs.Calls.{BlankComes, BlankEnds, OpenComes, OpenEnds, SeatComes, format_number};
 ghost use Rattle.adf_c.specs.Spelling.{date_of};
@@ -38,18 +38,20 @@ pub extern "C" fn jip_lib_open(
     handle: &mut JipHandle,
     fault: &mut JipFault,
 ) -> i32
-    ensures { OpenEnds bytes.now handle.old.held handle.new.held fault.old fault.new result }
+    ensures { OpenEnds false bytes.now handle.old.held handle.new.held fault.old fault.new result }
 {
-    status(open(alloc, bytes, handle, fault))
+    status(open(alloc, bytes, false, handle, fault))
 }
 
-fn open(
+/// Opens a handle as `jip_lib_open` does, read-only or not.
+pub(crate) fn open(
     alloc: Global,
     bytes: &[u8],
+    read_only: bool,
     handle: &mut JipHandle,
     fault: &mut JipFault,
 ) -> Result<(), Refusal>
-    ensures { OpenComes bytes.now handle.old.held handle.new.held fault.old fault.new result }
+    ensures { OpenComes read_only bytes.now handle.old.held handle.new.held fault.old fault.new result }
 {
     if handle.is_open(alloc) {
         return Err(Refusal::WrongArgument);
@@ -74,7 +76,7 @@ fn open(
             return Err(Refusal::NotAnImage);
         }
     };
-    seat(alloc, handle, volume)
+    seat(alloc, handle, volume, read_only)
 }
 
 /// Opens a handle on a blank volume, as `ados_volume::blank` makes it. The format is 0 for OFS and 1 for FFS. The
@@ -121,7 +123,7 @@ fn open_blank(
     let Ok(volume) = blank(alloc, format, blocks, name, moment) else {
         return Err(Refusal::NoMemory);
     };
-    seat(alloc, handle, volume)
+    seat(alloc, handle, volume, false)
 }
 
 /// The format with a number: 0 is OFS, 1 is FFS.
@@ -136,12 +138,18 @@ fn format_of_number(number: i32) -> Option<Format>
 }
 
 /// Opens the handle with a desk over the volume.
-fn seat(alloc: Global, handle: &mut JipHandle, volume: Volume) -> Result<(), Refusal>
-    ensures { SeatComes volume.image volume.was_validated handle.old.held handle.new.held result }
+fn seat(
+    alloc: Global,
+    handle: &mut JipHandle,
+    volume: Volume,
+    read_only: bool,
+) -> Result<(), Refusal>
+    ensures { SeatComes read_only volume.image volume.was_validated handle.old.held handle.new.held result }
 {
     let desk = Desk {
         handler: Handler::new(alloc, volume),
         changes: 0,
+        read_only,
     };
     let Ok(desk) = Box::new(alloc, desk) else {
         return Err(Refusal::NoMemory);
@@ -161,7 +169,7 @@ pub extern "C" fn jip_lib_close(alloc: Global, handle: &mut JipHandle) -> i32
 }
 
 impl JipFault {
-    fn of_size(fault: SizeFault) -> JipFault
+    pub(crate) fn of_size(fault: SizeFault) -> JipFault
         ensures { result ≡ record { kind = pos (size_fault_number fault); block = 0 } }
     {
         let kind = match fault {
@@ -172,7 +180,7 @@ impl JipFault {
         JipFault { kind, block: 0 }
     }
 
-    fn of_volume(fault: VolumeFault) -> JipFault
+    pub(crate) fn of_volume(fault: VolumeFault) -> JipFault
         ensures { result ≡ record { kind = pos (fault_number fault.kind); block = fault.block } }
     {
         let kind = match fault.kind {

@@ -19,8 +19,8 @@ use Rattle.adf_words.specs.declared.job.ImageJob.TheVariants.{Blank}
 use Rattle.adf_export.specs.declared.fault.OutFault.{OutFault}
 use Rattle.adf_export.specs.declared.fault.OutFault.TheVariants as out
 use Rattle.adf_export.specs.Printing.{IsPrinted, IsPrintFault}
-use Rattle.adf_export.specs.Rescue.{IsRescue}
 use Rattle.adf_export.specs.declared.damaged.Rescue.{Rescue}
+use Rattle.adf_export.specs.Rescue.{AreRescued, AreSomeRescued, IsRescue}
 use Rattle.adf_io.proofs.Prefixes.{writes_first}
 use Rattle.adf_commands.specs.declared.fault.CommandFault.{CommandFault}
 use Rattle.adf_commands.specs.declared.fault.CommandFault.TheVariants.{Dos, ImagesRefused, Memory, NotChecked, NotWhole, Output, Refused}
@@ -34,7 +34,7 @@ use Rattle.std.proofs.lemmas.List.{append-nil}
 use Rattle.adf_archive.specs.Archive.{told_in}
 use Rattle.adf_words.specs.declared.query.CheckJob.{CheckJob}
 use Rattle.adf_commands.specs.Archives.{EndsArchive}
-use Rattle.adf_commands.specs.Rescues.{DoesRescue, TellsRescue}
+use Rattle.adf_commands.specs.Rescues.{DoesRescue, IsRescueText, IsSomeRescueText, TellsRescue}
 use Rattle.adf_commands.specs.Refusals.{dos_line, IsDosText, IsRefusalText, refusal_line, told_line}
 
 -- an image is refused, as the fault says
@@ -206,13 +206,12 @@ pub rescues_no_image : (w : Option (List ℕ)) (fault : CommandFault) (done : En
 rescues_no_image w fault (Ok x) is same = absurd same
 rescues_no_image w fault (Err told) is same = no_image_rescued w told (subst IsNoImage (sym same) is)
 
--- the report on a rescue is written as far as the writer accepts it
-pub rescue_cut : (old new : Option (List ℕ)) (image text : List ℕ) (rescue : Rescue) (fault : CommandFault) (done : Ending) → IsRescue image rescue → text ≡ rescue.lines.items
-    → WritesFront old new text → fault ≡ Output → IsErrAnd done (λ told. told ≡ fault) → DoesRescue old new done
-rescue_cut old new image text rescue fault (Ok x) is e front broken same = absurd same
-rescue_cut old new image text rescue fault (Err told) is e front broken same =
-    subst (λ (f : CommandFault). DoesRescue old new (Err f)) (sym (same ∙ broken))
-    (inr (rescue.lines.items, (rescue.whole, (image, rescue, is, refl, refl)), subst (λ (t : List ℕ). WritesFront old new t) e front))
+-- the report on a rescue, whole or as far as the writer accepts it
+pub rescue_told : (old new : Option (List ℕ)) (image : List ℕ) (rescue : Rescue) (whole : Bool) → IsRescue image rescue → Writes old new (AreRescued rescue.salvage.entries whole) → Writes old new (IsRescueText whole)
+rescue_told old new image rescue whole is (text, written, told) = (text, written, (image, record { saved = rescue.salvage; salvaged = is; told = told }))
+
+pub rescue_cut : (old new : Option (List ℕ)) (image : List ℕ) (rescue : Rescue) → IsRescue image rescue → WritesFrontOf old new (AreSomeRescued rescue.salvage.entries) → WritesFrontOf old new IsSomeRescueText
+rescue_cut old new image rescue is (text, (whole, told), front) = (text, (whole, (image, record { saved = rescue.salvage; salvaged = is; told = told })), front)
 
 -- for jobs with such texts for bytes
 module _ (IsText BeginsText : List ℕ → List ℕ → Type 0) where

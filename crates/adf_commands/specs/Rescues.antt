@@ -3,8 +3,7 @@ use Rattle.std.specs.Prelude.{◌≡◌, ◌⊎◌, ℕ, Bool, true, false, List
 use Rattle.std.specs.Io.KnownBytes.{Keeps}
 use Rattle.adf_script.specs.Streams.{Writes}
 use Rattle.adf_io.specs.Prefix.{WritesFrontOf}
-use Rattle.adf_export.specs.declared.damaged.Rescue.{Rescue}
-use Rattle.adf_export.specs.Rescue.{IsRescue}
+use Rattle.adf_export.specs.Rescue.{IsReport}
 use Rattle.adf_commands.specs.declared.fault.CommandFault.{CommandFault}
 use Rattle.adf_commands.specs.declared.fault.CommandFault.TheVariants.{Dos, Extracted, Memory, NotWhole, Refused}
 use Rattle.adf_commands.specs.Refusals.{IsSizeRefusal, dos_line, refusal_line, told_line}
@@ -17,7 +16,7 @@ IsRescueEnd fault = ⊥
 
 -- the report on a rescue, in which everything is whole or not
 abbrev pub IsRescueText : Bool → List ℕ → Type 0
-IsRescueText whole text = (image : List ℕ) × (rescue : Rescue) × IsRescue image rescue × (rescue.whole ≡ whole) × (text ≡ rescue.lines.items)
+IsRescueText whole text = (image : List ℕ) × IsReport image whole text
 
 abbrev pub IsSomeRescueText : List ℕ → Type 0
 IsSomeRescueText text = (whole : Bool) × IsRescueText whole text

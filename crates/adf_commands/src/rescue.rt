@@ -5,9 +5,8 @@ ghost use Rattle.adf_commands.specs.Rescues.{DoesRescue, IsRescueEnd};
 
 use crate::fault::CommandFault;
 use crate::images::read_image;
-use crate::output::tell;
 use adf_block::Image;
-use adf_export::{OutFault, Rescue, extract_damaged};
+use adf_export::{OutFault, PrintFault, Rescue, extract_damaged};
 use adf_text::print_line;
 use adf_words::SalvageJob;
 use std::alloc::Global;
@@ -32,23 +31,25 @@ where
 {
     let image = read_image(rt, alloc, job.image)?;
     let rescue = rescue_of(rt, alloc, image, job)?;
-    tell_cut(rescue.cut.as_slice(), faults);
-    tell(writer, &rescue.lines)?;
-    if rescue.whole {
-        Ok(())
-    } else {
-        Err(CommandFault::NotWhole)
+    tell_cut(alloc, &rescue, faults);
+    match rescue.tell(alloc, writer) {
+        Ok(true) => Ok(()),
+        Ok(false) => Err(CommandFault::NotWhole),
+        Err(PrintFault::Write) => Err(CommandFault::Output),
+        Err(PrintFault::Memory) => Err(CommandFault::Memory),
     }
 }
 
 /// Prints which files are cut short.
-fn tell_cut<F: Write>(cut: &[String], faults: &mut F) {
-    for path in cut {
-        let path = path.as_str();
-        print_line(
-            faults,
-            format_args!("adf_serve: '{path}' is cut short: {CUT}"),
-        );
+fn tell_cut<F: Write>(alloc: Global, rescue: &Rescue, faults: &mut F) {
+    for place in 0..rescue.len() {
+        if let Ok(Some(path)) = rescue.cut_at(alloc, place) {
+            let path = path.as_str();
+            print_line(
+                faults,
+                format_args!("adf_serve: '{path}' is cut short: {CUT}"),
+            );
+        }
     }
 }
 

@@ -1,38 +1,56 @@
 -- The items of one entry.
-use Rattle.std.proofs.Common.{◌≡◌, Bool, false, true, List, [], ◌∷◌, ◌++◌, Some, sym, ap, ◌∙◌, subst, append_assoc}
+use Rattle.std.proofs.Common.{◌≡◌, Bool, false, true, List, [], ◌∷◌, ◌++◌, Some, option_map, ap, sym, ◌∙◌, subst, append_assoc}
 use Rattle.ados_model.specs.declared.answer.FileInfo.{FileInfo}
 use Rattle.ados_model.specs.Tree.{Node, Tree}
 use Rattle.ados_model.specs.Objects.{file_info}
-use Rattle.host_trees.specs.declared.writing.HostItem.{HostItem}
+use Rattle.adf_text.specs.HostNames.{host_name}
+use Rattle.host_trees.specs.declared.items.HostItem.{HostItem}
+use Rattle.host_trees.specs.declared.items.ItemKind.TheVariants as kinds
 use Rattle.host_trees.specs.Notes.{note_of}
-use Rattle.ados_volume.specs.Located.{Located}
-use Rattle.adf_export.specs.Items.{AreItems, GoesOut, HasLine, Holds, IsItem, host_path, noted}
+use Rattle.ados_volume.specs.declared.below.Below.{Below}
+use Rattle.adf_export.specs.declared.entry.Source.{Source}
+use Rattle.adf_export.specs.declared.entry.Source.TheVariants.{Entry, Note}
+use Rattle.adf_export.specs.Items.{AreItems, GoesOut, IsItem, IsNote, item_place, kind_of, sources_of}
 
-module _ (t : Tree) (notes : Bool) (e : Located) (node : Node) (there : t.nodes e.key ≡ Some node) (told : FileInfo) (is : told ≡ file_info t.format e.key node)
-    (item : HostItem) (path : item.path ≡ host_path e.path) (date : item.date ≡ told.date) (holds : Holds node.content item.content) where
-  own : IsItem t e node item
-  own = record { path = path; date = date ∙ ap (λ (info : FileInfo). info.date) is; content = holds }
+-- items follow others, those of an entry
+abbrev pub AddsItems : Tree → Bool → Below → List HostItem → List HostItem → Type 0
+AddsItems t notes e old new = (more : List HostItem) × (new ≡ old ++ more) × GoesOut t notes e more
 
-  -- the entry without a note
-  pub alone : (old new : List HostItem) → notes ≡ false → new ≡ old ++ item ∷ [] → (more : List HostItem) × (new ≡ old ++ more) × GoesOut t notes e more
-  alone old new off grown = (item ∷ [], grown, (node, there, subst (λ (b : Bool). AreItems t b e node (item ∷ [])) (sym off) own))
+module _ (t : Tree) (e : Below) (node : Node) (there : t.nodes e.key ≡ Some node) (told : FileInfo) (is : told ≡ file_info t.format e.key node) where
+  module _ (notes : Bool) (item : HostItem) (above : item.above ≡ option_map (item_place notes) e.above) (name : item.name ≡ host_name told.name)
+      (kind : item.kind ≡ kind_of node.content) (date : item.date ≡ told.date) where
+    own : IsItem notes e node item
+    own = record { above = above; name = name ∙ ap (λ (info : FileInfo). host_name info.name) is; kind = kind; date = date ∙ ap (λ (info : FileInfo). info.date) is }
 
-  -- the entry with its note
-  pub with_note : (note : HostItem) → note.path ≡ note_of (host_path e.path) → note.date ≡ told.date → HasLine (noted told) note.content
-      → (old mid new : List HostItem) → notes ≡ true → mid ≡ old ++ item ∷ [] → new ≡ mid ++ note ∷ [] → (more : List HostItem) × (new ≡ old ++ more) × GoesOut t notes e more
-  with_note note beside same line old mid new on first second = (
-    item ∷ note ∷ [],
-    second ∙ ap (λ (items : List HostItem). items ++ note ∷ []) first ∙ append_assoc old (item ∷ []) (note ∷ []),
-    (
-      node,
-      there,
-      subst (λ (b : Bool). AreItems t b e node (item ∷ note ∷ [])) (sym on) (
-        own,
-        record {
-          path = beside;
-          date = same ∙ ap (λ (info : FileInfo). info.date) is;
-          line = subst (λ (info : FileInfo). HasLine (noted info) note.content) is line;
-        },
+    -- the entry without a note
+    pub alone : (old new : List HostItem) → notes ≡ false → new ≡ old ++ item ∷ [] → AddsItems t notes e old new
+    alone old new off grown = (item ∷ [], grown, (node, there, subst (λ (b : Bool). AreItems b e node (item ∷ [])) (sym off) (subst (λ (b : Bool). IsItem b e node item) off own)))
+
+    -- the entry with its note
+    pub with_note : (note : HostItem) → note.above ≡ item.above → note.name ≡ note_of (host_name told.name) → note.kind ≡ kinds.File → note.date ≡ told.date
+        → (old mid new : List HostItem) → notes ≡ true → mid ≡ old ++ item ∷ [] → new ≡ mid ++ note ∷ [] → AddsItems t notes e old new
+    with_note note beside named file same old mid new on first second = (
+      item ∷ note ∷ [],
+      second ∙ ap (λ (items : List HostItem). items ++ note ∷ []) first ∙ append_assoc old (item ∷ []) (note ∷ []),
+      (
+        node,
+        there,
+        subst (λ (b : Bool). AreItems b e node (item ∷ note ∷ [])) (sym on) (
+          subst (λ (b : Bool). IsItem b e node item) on own,
+          record {
+            above = beside ∙ subst (λ (b : Bool). item.above ≡ option_map (item_place b) e.above) on above;
+            name = named ∙ ap (λ (info : FileInfo). note_of (host_name info.name)) is;
+            kind = file;
+            date = same ∙ ap (λ (info : FileInfo). info.date) is;
+          },
+        ),
       ),
-    ),
-  )
+    )
+
+-- the source of an entry, and that of its note
+pub source_alone : (notes : Bool) (e : Below) (old new : List Source) → notes ≡ false → new ≡ old ++ Entry e.key ∷ [] → new ≡ old ++ sources_of notes e
+source_alone notes e old new off grown = grown ∙ ap (λ (b : Bool). old ++ sources_of b e) (sym off)
+
+pub source_with_note : (notes : Bool) (e : Below) (old mid new : List Source) → notes ≡ true → mid ≡ old ++ Entry e.key ∷ [] → new ≡ mid ++ Note e.key ∷ [] → new ≡ old ++ sources_of notes e
+source_with_note notes e old mid new on first second =
+    second ∙ ap (λ (xs : List Source). xs ++ Note e.key ∷ []) first ∙ append_assoc old (Entry e.key ∷ []) (Note e.key ∷ []) ∙ ap (λ (b : Bool). old ++ sources_of b e) (sym on)

@@ -11,8 +11,8 @@ pub mod Fronting
 pub mod Padding
 pub mod ListingSteps
 pub mod Written
-pub mod Names
 pub mod Under
 pub mod Entries
 pub mod Going
 pub mod Leading
+mod Telling

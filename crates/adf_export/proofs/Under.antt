@@ -1,93 +1,129 @@
--- Everything below an entry, with the entry's path as a prefix.
-use Rattle.std.proofs.Common.{◌≡◌, ℕ, List, [], ◌∷◌, ◌++◌, map, All, Contains, IsSome, sym, ap, ap₂, ◌∙◌, subst, append_assoc, is_some}
-use Rattle.std.proofs.lemmas.List.{append-nil, map-append}
-use Rattle.std.proofs.lemmas.List.Elements.{All-append, All-cons, All-nil}
+-- Entries of objects, each with everything below it.
+use Rattle.std.proofs.Common.{◌≡◌, ◌≢◌, ℕ, suc, ◌+◌, ◌<◌, ◌≤◌, Bool, true, false, ◌==◌, if◌then◌else◌, Option, None, Some, IfSome, List, [], ◌∷◌, ◌++◌, length, flat_map, take, get_or, All, Contains, IsSome, is_some, refl, sym, ap, ◌∙◌, subst, arith, append_assoc, length-append, eq-eqb}
+use Rattle.std.proofs.lemmas.Bool.{ne_eqb}
+use Rattle.std.proofs.lemmas.Grind.{flat_map-append}
+use Rattle.std.proofs.lemmas.List.{append-nil, take_more}
+use Rattle.std.proofs.lemmas.List.Elements.{All-append, All-cons, All-head, All-nil, All-tail}
 use Rattle.ados_model.proofs.KeyLists.{Contains-here, Contains-later}
-use Rattle.ados_name.specs.Name.{IsName}
-use Rattle.ados_model.specs.Tree.{Proper, Tree, entries, name_of}
-use Rattle.ados_model.specs.Parts.{name_in}
-use Rattle.ados_model.proofs.Nodes.{entry_node, some_in}
-use Rattle.ados_volume.specs.Located.{Located}
-use Rattle.ados_volume.specs.Below.{AreBelow, located, slash}
+use Rattle.ados_model.specs.Keys.{HasKey}
+use Rattle.ados_model.specs.Stands.{Stands}
+use Rattle.ados_model.specs.Tree.{Proper, Tree, entries, root}
+use Rattle.ados_model.proofs.Nodes.{entry_node}
+use Rattle.ados_volume.specs.declared.below.Below.{Below}
+use Rattle.ados_volume.specs.Below.{AreBelow, HasGrown, placed}
 use Rattle.ados_volume.specs.Below.AreBelow.{none, entry}
-use Rattle.adf_export.specs.Items.{names_in}
-use Rattle.adf_export.specs.steps.Behind.{HasNames, behind}
-use Rattle.adf_export.proofs.Names.{names_append, names_one}
+use Rattle.adf_export.specs.declared.entry.Source.{Source}
+use Rattle.adf_export.specs.declared.entry.Source.TheVariants.{Entry, Note}
+use Rattle.adf_export.specs.Items.{HasSource, sources_of, tops}
+
+-- what is true of all elements
+all_of : (P : ℕ → Type 0) (xs : List ℕ) → ((x : ℕ) → Contains xs x → P x) → All P xs
+all_of P [] h = All-nil P
+all_of P (x ∷ xs) h = All-cons P x xs (h x (Contains-here x xs)) (all_of P xs (λ y m. h y (Contains-later x xs y m)))
+
+-- the directory is before this position, if it is in the list
+abbrev pub IsBefore : ℕ → Below → Type 0
+IsBefore n e = IfSome e.above (λ at. at < n)
 
 module _ (t : Tree) where
-  pub below_none : (front : List ℕ) → AreBelow t front [] []
-  below_none front = none
+  pub below_none : (above : Option ℕ) (at : ℕ) → AreBelow t above at [] []
+  below_none above at = none
 
   -- everything below two lists of entries, one after the other
-  pub below_append : (front ks ls : List ℕ) (es fs : List Located) → AreBelow t front ks es → AreBelow t front ls fs → AreBelow t front (ks ++ ls) (es ++ fs)
-  below_append front [] ls [] fs none b = b
-  below_append front [] ls (_ ∷ _) fs a b = elim a [ ]
-  below_append front (key ∷ ks) ls _ fs (entry {inner = inner} {others = others} i o) b =
-      subst (λ (es : List Located). AreBelow t front (key ∷ (ks ++ ls)) (located t front key ∷ es)) (sym (append_assoc inner others fs)) (entry i (below_append front ks ls others fs o b))
+  below_append : (above : Option ℕ) (at : ℕ) (ks ls : List ℕ) (es fs : List Below) → AreBelow t above at ks es → AreBelow t above (length es + at) ls fs → AreBelow t above at (ks ++ ls) (es ++ fs)
+  below_append above at [] ls [] fs none b =
+      let same : 0 + at ≡ at = omega arith in
+      subst (λ (k : ℕ). AreBelow t above k ls fs) same b
+  below_append above at [] ls (_ ∷ _) fs a b = elim a [ ]
+  below_append above at (key ∷ ks) ls _ fs (entry {inner = inner} {others = others} i o) b =
+      let place : length (placed above key ∷ (inner ++ others)) + at ≡ length others + (length inner + suc at) = omega (arith, length-append inner others) in
+      subst (λ (es : List Below). AreBelow t above at (key ∷ (ks ++ ls)) (placed above key ∷ es)) (sym (append_assoc inner others fs))
+      (entry i (below_append above (length inner + suc at) ks ls others fs o (subst (λ (k : ℕ). AreBelow t above k ls fs) place b)))
 
-  -- the same entries with a prefix before their paths
-  pub below_behind : (pre front keys : List ℕ) (es : List Located) → AreBelow t front keys es → AreBelow t (pre ++ front) keys (map (behind pre) es)
-  below_behind pre front [] [] none = none
-  below_behind pre front [] (_ ∷ _) a = elim a [ ]
-  below_behind pre front (key ∷ keys) _ (entry {inner = inner} {others = others} i o) =
-      subst (λ (es : List Located). AreBelow t (pre ++ front) (key ∷ keys) es) (sym parts)
-      (entry (subst (λ (f : List ℕ). AreBelow t f (entries t key) (map (behind pre) inner)) further (below_behind pre (front ++ name_of t key ++ slash) (entries t key) inner i)) (below_behind pre front keys others o))
-    where
-      further : pre ++ (front ++ name_of t key ++ slash) ≡ (pre ++ front) ++ name_of t key ++ slash
-      further = sym (append_assoc pre (front ++ name_of t key) slash) ∙ ap (λ (f : List ℕ). f ++ slash) (sym (append_assoc pre front (name_of t key)))
+  -- the entries of one more object
+  pub object_more : (keys : List ℕ) (i : ℕ) → i < length keys → (old new : List Below) → AreBelow t None 0 (flat_map (tops t) (take i keys)) old
+      → (more : List Below) → new ≡ old ++ more → AreBelow t None (length old) (tops t (get_or keys i 0)) more → AreBelow t None 0 (flat_map (tops t) (take (i + 1) keys)) new
+  object_more keys i inside old new a more grown b =
+      let key = get_or keys i 0 in
+      let before = flat_map (tops t) (take i keys) in
+      let parts : flat_map (tops t) (take (i + 1) keys) ≡ before ++ tops t key =
+      ap (flat_map (tops t)) (take_more keys i 0 inside) ∙ flat_map-append (tops t) (take i keys) (key ∷ []) ∙ ap (λ (ks : List ℕ). before ++ ks) (append-nil (tops t key)) in
+      let place : length old ≡ length old + 0 = omega arith in
+      subst (AreBelow t None 0 (flat_map (tops t) (take (i + 1) keys))) (sym grown)
+      (subst (λ (ks : List ℕ). AreBelow t None 0 ks (old ++ more)) (sym parts)
+      (below_append None 0 before (tops t key) old more a (subst (λ (k : ℕ). AreBelow t None k (tops t key) more) place b)))
 
-      same : behind pre (located t front key) ≡ located t (pre ++ front) key
-      same = λ n. record { key = key; path = sym (append_assoc pre front (name_of t key)) n }
+  -- the entries of an object follow the others
+  abbrev pub Follows : ℕ → List Below → List Below → Type 0
+  Follows key old new = (more : List Below) × (new ≡ old ++ more) × AreBelow t None (length old) (tops t key) more
 
-      parts : map (behind pre) (located t front key ∷ (inner ++ others)) ≡ located t (pre ++ front) key ∷ (map (behind pre) inner ++ map (behind pre) others)
-      parts = ap₂ (λ (e : Located) (es : List Located). e ∷ es) same (map-append (behind pre) inner others)
+  pub root_object : (key : ℕ) (old new : List Below) → key ≡ root t → HasGrown t None key old new → Follows key old new
+  root_object key old new is g =
+      let all : tops t key ≡ entries t key = ap (λ (b : Bool). if b then entries t key else key ∷ []) (eq-eqb key (root t) is) in
+      (g.more, g.grown, subst (λ (ks : List ℕ). AreBelow t None (length old) ks g.more) (sym all) g.below)
 
-  -- an entry with everything below it
-  pub below_top : (key : ℕ) (es : List Located) → AreBelow t [] (entries t key) es → AreBelow t [] (key ∷ []) (located t [] key ∷ map (behind (name_of t key ++ slash)) es)
-  below_top key es b =
-      subst (λ (fs : List Located). AreBelow t [] (key ∷ []) (located t [] key ∷ fs)) (append-nil (map (behind (name_of t key ++ slash)) es))
-      (entry (subst (λ (f : List ℕ). AreBelow t f (entries t key) (map (behind (name_of t key ++ slash)) es)) (append-nil (name_of t key ++ slash)) (below_behind (name_of t key ++ slash) [] (entries t key) es b)) none)
+  pub entry_object : (key : ℕ) (old mid new : List Below) → key ≢ root t → mid ≡ old ++ placed None key ∷ [] → HasGrown t (Some (length old)) key mid new → Follows key old new
+  entry_object key old mid new other first g =
+      let itself : tops t key ≡ key ∷ [] = ap (λ (b : Bool). if b then entries t key else key ∷ []) (ne_eqb key (root t) other) in
+      let place : length mid ≡ suc (length old) = omega (arith, ap length first, length-append old (placed None key ∷ [])) in
+      let below : AreBelow t (Some (length old)) (suc (length old)) (entries t key) g.more = subst (λ (k : ℕ). AreBelow t (Some (length old)) k (entries t key) g.more) place g.below in (
+        placed None key ∷ g.more,
+        g.grown ∙ ap (λ (es : List Below). es ++ g.more) first ∙ append_assoc old (placed None key ∷ []) g.more,
+        subst (λ (ks : List ℕ). AreBelow t None (length old) ks (placed None key ∷ g.more)) (sym itself)
+            (subst (λ (es : List Below). AreBelow t None (length old) (key ∷ []) (placed None key ∷ es)) (append-nil g.more) (entry below none)),
+      )
+
+  -- each directory is before the end of the list
+  pub all_before : (n : ℕ) (above : Option ℕ) (at : ℕ) (keys : List ℕ) (es : List Below) → IfSome above (λ k. k < n) → length es + at ≤ n → AreBelow t above at keys es → All (IsBefore n) es
+  all_before n above at [] [] up most none = All-nil (IsBefore n)
+  all_before n above at [] (_ ∷ _) up most a = elim a [ ]
+  all_before n above at (key ∷ keys) _ up most (entry {inner = inner} {others = others} i o) =
+      All-cons (IsBefore n) (placed above key) (inner ++ others) up
+      (All-append (IsBefore n) inner others
+      (all_before n (Some at) (suc at) (entries t key) inner (omega (arith, most, length-append inner others)) (omega (arith, most, length-append inner others)) i)
+      (all_before n above (length inner + suc at) keys others up (omega (arith, most, length-append inner others)) o))
+
+  abbrev IsThere : ℕ → Type 0
+  IsThere key = IsSome (t.nodes key)
 
   module _ (proper : Proper t) where
-    named : (key : ℕ) → IsSome (t.nodes key) → IsName (name_of t key)
-    named key there = let n = some_in (t.nodes key) there in subst IsName (sym (ap name_in n.1)) (proper.name key n.0 n.1)
+    entries_there : (dir : ℕ) → All IsThere (entries t dir)
+    entries_there dir = all_of IsThere (entries t dir) (λ k m. let n = entry_node t proper dir k m in ap is_some n.1)
 
-    -- paths below a directory consist of names if the directory's own path does
-    below_named : (pre front keys : List ℕ) (es : List Located) → ((name : List ℕ) → IsName name → All IsName (names_in (pre ++ (front ++ name))))
-        → ((key : ℕ) → Contains keys key → IsSome (t.nodes key)) → AreBelow t front keys es → All (HasNames pre) es
-    below_named pre front [] [] fit there none = All-nil (HasNames pre)
-    below_named pre front [] (_ ∷ _) fit there a = elim a [ ]
-    below_named pre front (key ∷ keys) _ fit there (entry {inner = inner} {others = others} i o) =
-        All-cons (HasNames pre) (located t front key) (inner ++ others) own
-        (All-append (HasNames pre) inner others (below_named pre (front ++ name_of t key ++ slash) (entries t key) inner further within i)
-        (below_named pre front keys others fit (λ k m. there k (Contains-later key keys k m)) o))
+    -- each entry has a node if the first ones have
+    below_there : (above : Option ℕ) (at : ℕ) (keys : List ℕ) (es : List Below) → All IsThere keys → AreBelow t above at keys es → All (λ e. IsThere e.key) es
+    below_there above at [] [] there none = All-nil (λ e. IsThere e.key)
+    below_there above at [] (_ ∷ _) there a = elim a [ ]
+    below_there above at (key ∷ keys) _ there (entry {inner = inner} {others = others} i o) =
+        All-cons (λ e. IsThere e.key) (placed above key) (inner ++ others) (All-head IsThere key keys there)
+        (All-append (λ e. IsThere e.key) inner others
+        (below_there (Some at) (suc at) (entries t key) inner (entries_there key) i)
+        (below_there above (length inner + suc at) keys others (All-tail IsThere key keys there) o))
+
+    tops_there : (keys : List ℕ) → All IsThere keys → All IsThere (flat_map (tops t) keys)
+    tops_there [] there = All-nil IsThere
+    tops_there (key ∷ keys) there = All-append IsThere (tops t key) (flat_map (tops t) keys) (one (key == root t)) (tops_there keys (All-tail IsThere key keys there))
       where
-        is_name : IsName (name_of t key)
-        is_name = named key (there key (Contains-here key keys))
+        one : (b : Bool) → All IsThere (if b then entries t key else key ∷ [])
+        one true = entries_there key
+        one false = All-cons IsThere key [] (All-head IsThere key keys there) (All-nil IsThere)
 
-        own : All IsName (names_in (pre ++ (front ++ name_of t key)))
-        own = fit (name_of t key) is_name
+    all_there : (keys : List ℕ) (es : List Below) → All (λ key. IsSome (t.nodes key)) keys → AreBelow t None 0 (flat_map (tops t) keys) es → All (λ e. IsSome (t.nodes e.key)) es
+    all_there keys es there b = below_there None 0 (flat_map (tops t) keys) es (tops_there keys there) b
 
-        within : (k : ℕ) → Contains (entries t key) k → IsSome (t.nodes k)
-        within k m = let n = entry_node t proper key k m in ap is_some n.1
+-- the entries found for objects of the image are in it
+pub found_there : (image keys : List ℕ) (found : List Below) → All (HasKey image) keys → ((t : Tree) → Stands image t → AreBelow t None 0 (flat_map (tops t) keys) found) → All (λ e. HasKey image e.key) found
+found_there image keys found there below = λ k d inside t s. all_there t s.proper keys found (λ i e l. there i e l t s) (below t s) k d inside
 
-        further : (name : List ℕ) → IsName name → All IsName (names_in (pre ++ ((front ++ name_of t key ++ slash) ++ name)))
-        further name is =
-            let parts : names_in (pre ++ ((front ++ name_of t key ++ slash) ++ name)) ≡ names_in (pre ++ (front ++ name_of t key)) ++ names_in name =
-            ap names_in (ap (λ (f : List ℕ). pre ++ f) (append_assoc (front ++ name_of t key) slash name) ∙ sym (append_assoc pre (front ++ name_of t key) (47 ∷ name)))
-            ∙ names_append (pre ++ (front ++ name_of t key)) name in
-            subst (All IsName) (sym parts) (All-append IsName (names_in (pre ++ (front ++ name_of t key))) (names_in name) own (subst (All IsName) (sym (names_one name is)) (All-cons IsName name [] is (All-nil IsName))))
+-- the sources of entries of the image are in it
+pub sources_there : (image : List ℕ) (notes : Bool) (es : List Below) → All (λ e. HasKey image e.key) es → All (HasSource image) (flat_map (sources_of notes) es)
+sources_there image notes [] there = All-nil (HasSource image)
+sources_there image notes (e ∷ es) there =
+    All-append (HasSource image) (sources_of notes e) (flat_map (sources_of notes) es) (own notes) (sources_there image notes es (All-tail (λ f. HasKey image f.key) e es there))
+  where
+    here : HasKey image e.key
+    here = All-head (λ f. HasKey image f.key) e es there
 
-    module _ (key : ℕ) (es : List Located) (b : AreBelow t [] (entries t key) es) where
-      -- the same for everything below an entry or the root
-      pub names_below : (pre : List ℕ) → ((name : List ℕ) → IsName name → All IsName (names_in (pre ++ name))) → All (HasNames pre) es
-      names_below pre fit = below_named pre [] (entries t key) es fit (λ k m. let n = entry_node t proper key k m in ap is_some n.1) b
-
--- a name, alone and after another name with a slash
-pub fit_alone : (name : List ℕ) → IsName name → All IsName (names_in name)
-fit_alone name is = subst (All IsName) (sym (names_one name is)) (All-cons IsName name [] is (All-nil IsName))
-
-pub fit_behind : (above name : List ℕ) → IsName above → IsName name → All IsName (names_in ((above ++ slash) ++ name))
-fit_behind above name up is =
-    let parts : names_in ((above ++ slash) ++ name) ≡ names_in above ++ names_in name = ap names_in (append_assoc above slash name) ∙ names_append above name in
-    subst (All IsName) (sym parts) (All-append IsName (names_in above) (names_in name) (fit_alone above up) (fit_alone name is))
+    own : (b : Bool) → All (HasSource image) (sources_of b e)
+    own true = All-cons (HasSource image) (Entry e.key) (Note e.key ∷ []) here (All-cons (HasSource image) (Note e.key) [] here (All-nil (HasSource image)))
+    own false = All-cons (HasSource image) (Entry e.key) [] here (All-nil (HasSource image))

@@ -4,5 +4,6 @@ pub mod Listing
 pub mod Words
 pub mod Printing
 pub mod Items
+pub mod Bytes
 pub mod Rescue
 pub mod steps

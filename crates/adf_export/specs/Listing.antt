@@ -1,5 +1,5 @@
 -- The listing of everything below a directory of a volume.
-use Rattle.std.specs.Prelude.{◌≡◌, ℕ, zero, suc, ◌-◌, negsuc, Bool, if◌then◌else◌, List, [], ◌∷◌, ◌++◌, length, replicate, flat_map, decimal, codes, Some}
+use Rattle.std.specs.Prelude.{◌≡◌, ℕ, zero, suc, ◌-◌, negsuc, Bool, false, if◌then◌else◌, List, [], ◌∷◌, ◌++◌, length, replicate, flat_map, decimal, codes, Some}
 use Rattle.std.specs.Option.{option_map_or}
 use Rattle.std.specs.Ordering.{int_eq}
 use Rattle.ados_name.specs.Date.{IsTextOf}
@@ -10,6 +10,7 @@ use Rattle.ados_model.specs.Objects.{file_info}
 use Rattle.ados_volume.specs.Located.{Located}
 use Rattle.adf_script.specs.Text.{line, spaced}
 use Rattle.adf_text.specs.Letters.{letters as letter_text}
+use Rattle.adf_text.specs.Plain.{plain}
 
 -- everything below a directory, to a depth of `levels`: each entry with the path before its name, directly followed by
 -- everything below it
@@ -28,9 +29,9 @@ front t (suc depth) dir = option_map_or (λ above. front t depth above ++ (name_
 abbrev pub listing : Tree → ℕ → List Located
 listing t dir = below t t.blocks (front t t.blocks dir) dir
 
--- names as they are printed: their bytes, or the letters of these bytes
+-- names as they are printed: their bytes, or for people the letters of these bytes, with control characters as escapes
 abbrev pub shown : Bool → List ℕ → List ℕ
-shown as_letters names = if as_letters then letter_text names else names
+shown as_letters names = if as_letters then plain false (letter_text names) else names
 
 -- the size of a file as a number, or `dir`
 abbrev pub size_text : FileInfo → List ℕ

@@ -1,6 +1,4 @@
--- Definitions for steps: the position of a listing, the result of one step of it, and entries below the path of a
--- directory.
+-- Definitions for steps: the position of a listing, and the result of one step of it.
 pub mod Levels
 pub mod Going
 pub mod Fronting
-pub mod Behind

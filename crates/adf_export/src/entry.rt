@@ -1,84 +1,100 @@
 //! The host files and directories for one entry.
-ghost use Rattle.std.specs.Prelude.{◌≡◌, ◌++◌, List, Some, IfOk, OnOk, All};
-ghost use Rattle.ados_name.specs.Name.{IsName};
-ghost use Rattle.ados_model.specs.Tree.{Node, Tree};
-ghost use Rattle.ados_model.specs.Stands.{Stands};
+ghost use Rattle.std.specs.Prelude.{◌≡◌, ◌++◌, ◌<◌, ◌^◌, [], ◌∷◌, List, Some, IfSome, OnOk, option_map};
 ghost use Rattle.ados_model.specs.Keys.{HasKey};
-ghost use Rattle.adf_text.specs.Uaem.{IsLineOf};
-ghost use Rattle.host_trees.specs.declared.writing.HostItem.{HostItem as Item};
-ghost use Rattle.adf_export.specs.Items.{names_in, Holds, HasLine, GoesOut, noted};
+ghost use Rattle.ados_model.specs.Stands.{Stands};
+ghost use Rattle.ados_model.specs.Tree.{Node, Tree};
+ghost use Rattle.host_trees.specs.declared.items.HostItem.{HostItem as Item};
+ghost use Rattle.adf_export.specs.Items.{GoesOut, item_place, kind_of, sources_of};
 
-use crate::paths::host_path;
-use adf_text::{Uaem, uaem_line};
-use ados_model::FileInfo;
-use ados_volume::{Volume, read_file};
-use host_trees::{Content, HostItem, HostPath};
+use ados_volume::{Below, Volume};
+use host_trees::{HostItem, HostName, ItemKind};
 use std::alloc::{AllocError, Global};
 
-/// Appends the item of an entry, and with notes the item of its note.
-pub(crate) fn push_entry(
-    alloc: Global,
-    volume: &Volume,
-    key: u32,
-    path: &[u8],
-    meta: bool,
-    items: &mut Vec<HostItem>,
-) -> Result<(), AllocError>
-    requires key { HasKey volume.now.image key }
-    requires names { All IsName (names_in path.now) }
-    ensures { OnOk result ((t : Tree) → Stands volume.now.image t
-        → (more : List Item) × (items.new.items ≡ items.old.items ++ more) × GoesOut t meta (record { key = key; path = path.now }) more) }
-{
-    let told = volume.examine(key);
-    let path = host_path(alloc, path)?;
-    let note = path.note(alloc)?;
-    let content = content_of(alloc, volume, key)?;
-    items.push(HostItem {
-        path,
-        content,
-        date: told.date,
-    })?;
-    if !meta {
-        return Ok(());
-    }
-    let content = note_content(alloc, &told)?;
-    items.push(HostItem {
-        path: note,
-        content,
-        date: told.date,
-    })?;
-    Ok(())
+/// Where the bytes of an item come from.
+#[derive(Clone, Copy)]
+pub enum Source {
+    /// The entry with this key. A directory has no bytes.
+    Entry(u32),
+    /// The note of the entry with this key.
+    Note(u32),
 }
 
-/// The content of an object.
-fn content_of(alloc: Global, volume: &Volume, key: u32) -> Result<Content, AllocError>
-    requires { HasKey volume.now.image key }
-    ensures { IfOk result (λ content. (t : Tree) (node : Node) → Stands volume.now.image t → t.nodes key ≡ Some node → Holds node.content content) }
-{
-    if !volume.is_file(key) {
-        return Ok(Content::Directory);
-    }
-    Ok(Content::File(read_file(alloc, volume, key)?))
+/// Files and directories to write below a directory of the host.
+#[derive(Drop)]
+pub struct Outgoing {
+    pub items: Vec<HostItem>,
+    /// The source of each item.
+    pub sources: Vec<Source>,
 }
 
-/// The line of a note.
-fn note_content(alloc: Global, told: &FileInfo) -> Result<Content, AllocError>
-    ensures { IfOk result (HasLine (noted told.now)) }
-{
-    let line = line_of(
-        alloc,
-        &Uaem {
-            protect: told.protection,
+impl Outgoing {
+    /// Appends the item of an entry, and with `meta` the item of its note.
+    pub(crate) fn push_entry(
+        &mut self,
+        alloc: Global,
+        volume: &Volume,
+        entry: &Below,
+        meta: bool,
+    ) -> Result<(), AllocError>
+        requires key { HasKey volume.now.image entry.now.key }
+        requires above { IfSome entry.now.above (λ at. at < 2 ^ 63) }
+        ensures items { OnOk result ((t : Tree) → Stands volume.now.image t
+            → (more : List Item) × (self.new.items.items ≡ self.old.items.items ++ more) × GoesOut t meta entry.now more) }
+        ensures sources { OnOk result (self.new.sources.items ≡ self.old.sources.items ++ sources_of meta entry.now) }
+    {
+        let told = volume.examine(entry.key);
+        let name = HostName::of_name(alloc, &told.name)?;
+        let note = name.note(alloc)?;
+        let above = item_place(entry.above, meta);
+        let item = HostItem {
+            above,
+            name,
+            kind: kind_of(volume, entry.key),
             date: told.date,
-            comment: told.comment,
-        },
-    )?;
-    Ok(Content::File(line))
+        };
+        self.push(item, Source::Entry(entry.key))?;
+        if !meta {
+            return Ok(());
+        }
+        let item = HostItem {
+            above,
+            name: note,
+            kind: ItemKind::File,
+            date: told.date,
+        };
+        self.push(item, Source::Note(entry.key))?;
+        Ok(())
+    }
+
+    /// Appends an item and its source.
+    fn push(&mut self, item: HostItem, source: Source) -> Result<(), AllocError>
+        ensures items { OnOk result (self.new.items.items ≡ self.old.items.items ++ item ∷ []) }
+        ensures sources { OnOk result (self.new.sources.items ≡ self.old.sources.items ++ source ∷ []) }
+    {
+        self.items.push(item)?;
+        self.sources.push(source)?;
+        Ok(())
+    }
 }
 
-/// The line of a note.
-pub(crate) fn line_of(alloc: Global, noted: &Uaem) -> Result<Vec<u8>, AllocError>
-    ensures { IfOk result (λ line. IsLineOf noted.now line.items) }
+/// The position of the item for the entry at this position. With notes, each entry has two items.
+fn item_place(place: Option<usize>, meta: bool) -> Option<usize>
+    requires { IfSome place (λ at. at < 2 ^ 63) }
+    ensures { result ≡ option_map (item_place meta) place }
 {
-    Ok(uaem_line(alloc, noted)?.into_bytes())
+    match place {
+        Some(at) => Some(if meta { 2 * at } else { at }),
+        None => None,
+    }
+}
+
+/// The kind of the item for an object.
+fn kind_of(volume: &Volume, key: u32) -> ItemKind
+    requires { HasKey volume.now.image key }
+    ensures { (t : Tree) (node : Node) → Stands volume.now.image t → t.nodes key ≡ Some node → result ≡ kind_of node.content }
+{
+    if volume.is_file(key) {
+        return ItemKind::File;
+    }
+    ItemKind::Directory
 }

@@ -4,6 +4,7 @@ ghost use Rattle.ados_model.specs.Tree.{Tree};
 ghost use Rattle.ados_model.specs.Stands.{Stands};
 ghost use Rattle.adf_export.specs.Words.{IsExtractFault};
 
+use crate::bytes::VolumeBytes;
 use crate::fault::OutFault;
 use crate::items::outgoing;
 use adf_host::OwnedFile;
@@ -29,11 +30,12 @@ where
     ensures fault { IfErr result (λ fault. (t : Tree) → Stands volume.old.image t → IsExtractFault t (map (λ word. word.now) job.now.paths.items) fault) }
     ensures same { volume.new ≡ volume.old }
 {
-    let items = match outgoing(alloc, volume, &job.paths, job.meta) {
-        Ok(items) => items,
+    let out = match outgoing(alloc, volume, &job.paths, job.meta) {
+        Ok(out) => out,
         Err(fault) => return Err(fault),
     };
-    match write_tree(rt, alloc, job.to, &items, job.force) {
+    let mut bytes = VolumeBytes::of(volume, &out.sources);
+    match write_tree(rt, alloc, job.to, &out.items, &mut bytes, job.force) {
         Ok(()) => Ok(()),
         Err(fault) => Err(OutFault::Host(fault)),
     }

@@ -1,18 +1,17 @@
 //! The host files and directories for some objects.
-ghost use Rattle.std.specs.Prelude.{◌≡◌, ◌++◌, [], ◌∷◌, List, map, IfOk, IfErr, OnOk, All};
-ghost use Rattle.ados_model.specs.Tree.{Tree};
-ghost use Rattle.ados_model.specs.Stands.{Stands};
+ghost use Rattle.std.specs.Prelude.{◌≡◌, ◌++◌, ◌<◌, List, None, All, flat_map, length, map, IfErr, IfOk, IfSome, OnOk};
 ghost use Rattle.ados_model.specs.Keys.{HasKey};
-ghost use Rattle.host_trees.specs.declared.writing.HostItem.{HostItem as Item};
-ghost use Rattle.adf_export.specs.Items.{AllGoOut, AreOutgoing, EachGoesOut};
+ghost use Rattle.ados_model.specs.Stands.{Stands};
+ghost use Rattle.ados_model.specs.Tree.{Tree};
+ghost use Rattle.ados_volume.specs.Below.{AreBelow};
+ghost use Rattle.ados_volume.specs.declared.below.Below.{Below as Found};
+ghost use Rattle.adf_export.specs.Items.{AllGoOut, AreOutgoing, EachGoesOut, HasSource, sources_of, tops};
 ghost use Rattle.adf_export.specs.Words.{IsFaultOfSome};
-ghost use Rattle.adf_export.specs.steps.Behind.{behind, HasNames};
 
-use crate::entry::push_entry;
+use crate::entry::Outgoing;
 use crate::fault::OutFault;
 use crate::words::asked_objects;
-use ados_volume::{Below, Volume, entries_below};
-use host_trees::HostItem;
+use ados_volume::{Below, Volume, push_below};
 use std::alloc::{AllocError, Global};
 
 /// The host files and directories for these path arguments: each entry with everything below it; for the root, or
@@ -22,8 +21,9 @@ pub fn outgoing(
     volume: &mut Volume,
     words: &[&str],
     meta: bool,
-) -> Result<Vec<HostItem>, OutFault>
-    ensures ok { IfOk result (λ items. (t : Tree) → Stands volume.old.image t → AreOutgoing t meta (map (λ word. word.now) words.now) items.items) }
+) -> Result<Outgoing, OutFault>
+    ensures ok { IfOk result (λ out. (t : Tree) → Stands volume.old.image t → AreOutgoing t meta (map (λ word. word.now) words.now) out) }
+    ensures sources { IfOk result (λ out. All (HasSource volume.old.image) out.sources.items) }
     ensures fault { IfErr result (λ fault. (t : Tree) → Stands volume.old.image t → IsFaultOfSome t (map (λ word. word.now) words.now) fault) }
     ensures same { volume.new ≡ volume.old }
 {
@@ -31,73 +31,80 @@ pub fn outgoing(
         Ok(keys) => keys,
         Err(fault) => return Err(fault),
     };
-    match host_items(alloc, volume, &keys, meta) {
-        Ok(items) => Ok(items),
+    match all_outgoing(alloc, volume, &keys, meta) {
+        Ok(out) => Ok(out),
         Err(_) => Err(OutFault::Memory),
     }
 }
 
 /// The host files and directories for these objects: each entry with everything below it, and for the root all its
 /// entries. With `meta`, each entry is followed by its note.
-fn host_items(
+fn all_outgoing(
     alloc: Global,
     volume: &Volume,
     keys: &[u32],
     meta: bool,
-) -> Result<Vec<HostItem>, AllocError>
+) -> Result<Outgoing, AllocError>
     requires { All (HasKey volume.now.image) keys.now }
-    ensures { IfOk result (λ items. (t : Tree) → Stands volume.now.image t → AllGoOut t meta keys.now items.items) }
+    ensures items { IfOk result (λ out. (t : Tree) → Stands volume.now.image t → AllGoOut t meta keys.now out) }
+    ensures sources { IfOk result (λ out. All (HasSource volume.now.image) out.sources.items) }
 {
-    let mut items = Vec::new(alloc);
-    for key in keys {
-        push_object(alloc, volume, *key, meta, &mut items)?;
-    }
-    Ok(items)
+    prove!(volume.image().blocks() >= 16);
+    let found = entries_of(alloc, volume, keys)?;
+    items_of(alloc, volume, &found, meta)
 }
 
-/// Appends the items for an object.
+/// The entries for these objects: each with everything below it, of the root only what is below it.
+fn entries_of(alloc: Global, volume: &Volume, keys: &[u32]) -> Result<Vec<Below>, AllocError>
+    requires { All (HasKey volume.now.image) keys.now }
+    ensures { IfOk result (λ found. (t : Tree) → Stands volume.now.image t → AreBelow t None 0 (flat_map (tops t) keys.now) found.items) }
+{
+    let mut found = Vec::new(alloc);
+    for key in keys {
+        push_object(alloc, volume, *key, &mut found)?;
+    }
+    Ok(found)
+}
+
+/// Appends the entries for an object.
 fn push_object(
     alloc: Global,
     volume: &Volume,
     key: u32,
-    meta: bool,
-    items: &mut Vec<HostItem>,
+    found: &mut Vec<Below>,
 ) -> Result<(), AllocError>
     requires { HasKey volume.now.image key }
     ensures { OnOk result ((t : Tree) → Stands volume.now.image t
-        → (more : List Item) × (items.new.items ≡ items.old.items ++ more) × AllGoOut t meta (key ∷ []) more) }
+        → (more : List Found) × (found.new.items ≡ found.old.items ++ more) × AreBelow t None (length found.old.items) (tops t key) more) }
 {
-    prove!(volume.image().blocks() >= 16);
-    let below = entries_below(alloc, volume, key)?;
     if key == volume.root() {
-        return push_below(alloc, volume, &[], &below, meta, items);
+        push_below(alloc, volume, None, key, found)?;
+        return Ok(());
     }
-    let mut front = Vec::new(alloc);
-    front.extend_from_slice(volume.examine(key).name.bytes())?;
-    push_entry(alloc, volume, key, &front, meta, items)?;
-    front.push(b'/')?;
-    push_below(alloc, volume, &front, &below, meta, items)
+    let place = found.len();
+    found.push(Below { key, above: None })?;
+    push_below(alloc, volume, Some(place), key, found)?;
+    Ok(())
 }
 
-/// Appends the items for these entries. Their paths follow a prefix.
-fn push_below(
+/// The host files and directories for these entries, in their order.
+fn items_of(
     alloc: Global,
     volume: &Volume,
-    front: &[u8],
-    below: &[Below],
+    found: &[Below],
     meta: bool,
-    items: &mut Vec<HostItem>,
-) -> Result<(), AllocError>
-    requires keys { All (λ e. HasKey volume.now.image e.key) below.now }
-    requires names { All (HasNames front.now) below.now }
-    ensures { OnOk result ((t : Tree) → Stands volume.now.image t
-        → (more : List Item) × (items.new.items ≡ items.old.items ++ more) × EachGoesOut t meta (map (behind front.now) below.now) more) }
+) -> Result<Outgoing, AllocError>
+    requires keys { All (λ e. HasKey volume.now.image e.key) found.now }
+    requires places { All (λ e. IfSome e.above (λ at. at < length found.now)) found.now }
+    ensures items { IfOk result (λ out. (t : Tree) → Stands volume.now.image t → EachGoesOut t meta found.now out.items.items) }
+    ensures sources { IfOk result (λ out. out.sources.items ≡ flat_map (sources_of meta) found.now) }
 {
-    for entry in below {
-        let mut path = Vec::new(alloc);
-        path.extend_from_slice(front)?;
-        path.extend_from_slice(entry.path())?;
-        push_entry(alloc, volume, entry.key(), &path, meta, items)?;
+    let mut out = Outgoing {
+        items: Vec::new(alloc),
+        sources: Vec::new(alloc),
+    };
+    for entry in found {
+        out.push_entry(alloc, volume, entry, meta)?;
     }
-    Ok(())
+    Ok(out)
 }

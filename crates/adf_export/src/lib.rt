@@ -2,6 +2,7 @@
 //! file.
 #![tactic(auto)]
 
+mod bytes;
 mod damaged;
 mod entry;
 mod extracting;
@@ -13,12 +14,14 @@ mod keys;
 mod lines;
 mod listing;
 mod output;
-mod paths;
+mod plan;
 mod print;
 mod print_fault;
 mod words;
 
+pub use bytes::VolumeBytes;
 pub use damaged::{Rescue, extract_damaged};
+pub use entry::{Outgoing, Source};
 pub use extracting::extract;
 pub use fault::OutFault;
 pub use info::write_info;

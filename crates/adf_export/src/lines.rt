@@ -5,7 +5,7 @@ ghost use Rattle.adf_script.specs.Text.{line, spaced};
 ghost use Rattle.adf_export.specs.Listing.{right_in, shown, size_text};
 ghost use Rattle.adf_export.specs.steps.Going.{PushesLine};
 
-use adf_text::letter_text;
+use adf_text::{letter_text, push_plain};
 use ados_model::FileInfo;
 use itoa::Buffer;
 use std::alloc::{AllocError, Global};
@@ -39,7 +39,7 @@ pub(crate) fn push_entry(
     Ok(())
 }
 
-/// Appends names: their bytes, or the letters of these bytes.
+/// Appends names: their bytes, or the letters of these bytes, with control characters as escapes.
 pub(crate) fn push_names(
     alloc: Global,
     text: &mut Vec<u8>,
@@ -50,7 +50,7 @@ pub(crate) fn push_names(
 {
     if letters {
         let letters = letter_text(alloc, names)?;
-        text.extend_from_slice(letters.as_bytes())
+        push_plain(text, letters.as_str())
     } else {
         text.extend_from_slice(names)
     }

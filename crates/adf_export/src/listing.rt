@@ -42,7 +42,7 @@ pub struct Listing {
 
 /// Writes the volume's name, and a line for each entry below a directory. A path starts at the root, and a directory
 /// comes directly before its contents. Names are printed as their bytes, or with `letters` as the letters of these
-/// bytes.
+/// bytes, with control characters as escapes.
 ///
 /// If the writer fails or memory runs out, it has written a prefix of that text.
 pub fn write_list<W: Write>(

@@ -1,11 +1,12 @@
 //! Image files that a command locks while it works on them.
+use crate::busy::is_locked;
+use crate::directory::FileNumber;
 use crate::image_file::read_open;
 use adf_block::Image;
 use adf_io::LoadFault;
 use std::alloc::Global;
 use std::fs;
 use std::fs::{File, Metadata, TryLockError};
-use std::os::unix::fs::MetadataExt;
 use std::rt::Files;
 use thiserror::Error;
 
@@ -29,7 +30,7 @@ pub struct HeldFile {
     file: File,
 }
 
-/// The maximum number of times that a file is opened again because it was replaced meanwhile.
+/// The maximum number of times that a file is opened again because it was replaced meanwhile, and that its lock is tried again.
 const TRIES: u32 = 16;
 
 /// Locks a file for a command that will change it. A file that another command has locked is refused at once.
@@ -70,13 +71,17 @@ pub fn hold_target<R: Files<File = File>>(
     }
 }
 
-/// Locks a file, unless another command has locked it.
+/// Locks a file, unless another command has locked it. A command that only looks whether it is locked does not count.
 fn lock(file: &File) -> Result<(), HoldFault> {
-    match file.try_lock() {
-        Ok(()) => Ok(()),
-        Err(TryLockError::WouldBlock) => Err(HoldFault::Busy),
-        Err(TryLockError::Error(_)) => Err(HoldFault::Lock),
+    for _ in 0..TRIES {
+        match file.try_lock() {
+            Ok(()) => return Ok(()),
+            Err(TryLockError::WouldBlock) if is_locked(file) => return Err(HoldFault::Busy),
+            Err(TryLockError::WouldBlock) => {}
+            Err(TryLockError::Error(_)) => return Err(HoldFault::Lock),
+        }
     }
+    Err(HoldFault::Busy)
 }
 
 /// Whether a path names this file.
@@ -89,7 +94,7 @@ fn is_named<R: Files>(rt: &R, file: &File, path: &str) -> bool {
 
 /// Whether both describe one file: the same number on the same device.
 pub(crate) fn is_same(one: &Metadata, other: &Metadata) -> bool {
-    one.dev() == other.dev() && one.ino() == other.ino()
+    FileNumber::of(one) == FileNumber::of(other)
 }
 
 impl HeldFile {

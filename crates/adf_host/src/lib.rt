@@ -2,6 +2,8 @@
 #![tactic(auto)]
 
 mod beside;
+mod busy;
+mod directory;
 mod held;
 mod image_file;
 mod limit;
@@ -12,6 +14,8 @@ mod sketched;
 mod temporary;
 
 pub use beside::beside_path;
+pub use busy::is_held;
+pub use directory::{FileNumber, HeldDirectory};
 pub use held::{HeldFile, HoldFault, hold, hold_target};
 pub use image_file::{read_image_file, size_fault};
 pub use limit::refuse_length;

@@ -1,4 +1,5 @@
 //! Files that are replaced whole: the old bytes stay until the new ones are on the disk.
+use crate::directory::HeldPlace;
 use crate::held::{HeldFile, is_same};
 use crate::limit::refuse_length;
 use crate::new_bytes::NewBytes;
@@ -55,6 +56,9 @@ const ACCESS_BITS: u32 = 0o777;
 /// that commands of this user left when they were killed. A file that is not regular, such as a device or a pipe, is
 /// written directly. A file that the process may not write is refused, and so is a path that no
 /// longer leads to the file locked for it.
+///
+/// The directory of the file is opened once, and the temporary file is made, renamed and removed through its handle. So
+/// a directory that is swapped for a link meanwhile leads nowhere else. Without `/proc` all that goes by path.
 pub fn replace_file<R: Files>(
     rt: &R,
     alloc: Global,
@@ -71,22 +75,52 @@ where
         Ok(found) if !found.is_file() => write_straight(rt, path, &found, bytes),
         Ok(_) => {
             let real = rt.canonicalize(alloc, path).map_err(ReplaceFault::Target)?;
-            let found = fs::symlink_metadata(rt, real.as_str()).map_err(ReplaceFault::Target)?;
-            if !may_be(held, &found) {
-                return Err(ReplaceFault::Moved);
-            }
-            remove_leftovers(rt, alloc, real.as_str(), Leftovers::All);
-            write_over(rt, alloc, real.as_str(), &found, bytes, None)
+            replace_real(rt, alloc, real.as_str(), held, bytes)
         }
         Err(error) if error.kind() == ErrorKind::NotFound && held.is_none() => {
-            if fs::symlink_metadata(rt, path).is_ok() {
-                return Err(ReplaceFault::Target(error));
-            }
-            remove_leftovers(rt, alloc, path, Leftovers::All);
-            write_beside(rt, alloc, path, None, bytes, None)
+            write_first(rt, alloc, path, bytes, error)
         }
         Err(error) => Err(ReplaceFault::Target(error)),
     }
+}
+
+/// Replaces the regular file at a path without links.
+fn replace_real<R: Files>(
+    rt: &R,
+    alloc: Global,
+    path: &str,
+    held: Option<&HeldFile>,
+    bytes: NewBytes<'_>,
+) -> Result<(), ReplaceFault>
+where
+    R::File: OwnedFile,
+{
+    let place = HeldPlace::of(rt, alloc, path).map_err(ReplaceFault::Target)?;
+    let found = fs::symlink_metadata(rt, place.path()).map_err(ReplaceFault::Target)?;
+    if !may_be(held, &found) {
+        return Err(ReplaceFault::Moved);
+    }
+    remove_leftovers(rt, alloc, place.path(), Leftovers::All);
+    write_over(rt, alloc, place.path(), &found, bytes, None)
+}
+
+/// Writes a file to a path where none was found. A link that is there leads nowhere, and gives the error of the search.
+fn write_first<R: Files>(
+    rt: &R,
+    alloc: Global,
+    path: &str,
+    bytes: NewBytes<'_>,
+    error: Error,
+) -> Result<(), ReplaceFault>
+where
+    R::File: OwnedFile,
+{
+    let place = HeldPlace::of(rt, alloc, path).map_err(ReplaceFault::Beside)?;
+    if fs::symlink_metadata(rt, place.path()).is_ok() {
+        return Err(ReplaceFault::Target(error));
+    }
+    remove_leftovers(rt, alloc, place.path(), Leftovers::All);
+    write_beside(rt, alloc, place.path(), None, bytes, None)
 }
 
 /// Whether the file found at a path may be the file locked for it.

@@ -17,7 +17,7 @@ use Rattle.ados_change.specs.Conditions.IsUnder.{itself, by_parent as under_pare
 use Rattle.ados_change.proofs.Changed.{nodes_here, nodes_other, relisted, listed_parents}
 use Rattle.ados_model.specs.Objects.{is_under}
 use Rattle.ados_handler.proofs.Under.{under_is_told}
-use Rattle.ados_volume.specs.Located.{Located}
+use Rattle.ados_volume.specs.declared.below.Below.{Below}
 use Rattle.ados_volume.specs.Below.{AreBelow}
 use Rattle.ados_volume.proofs.Loops.{no_loop}
 use Rattle.ados_volume.proofs.GoingBelow.{keys_of}
@@ -84,7 +84,7 @@ module _ (u : Tree) (moment : Date3) (key dir : ℕ) (up : parent_of u key ≡ S
   removed_parent k a =
       ap (option_and_then (λ node. node.parent)) (nodes_other key None (left moment key u) k a ∙ ap (λ (v : Tree). v.nodes k) left_is) ∙ listed_parents moment dir others u k
 
-module _ (t : Tree) (moment : Date3) (key : ℕ) (proper : Proper t) (es : List Located) (below : AreBelow t [] (entries t key) es) (once : Once (keys_of es)) where
+module _ (t : Tree) (moment : Date3) (key : ℕ) (proper : Proper t) (es : List Below) (below : AreBelow t None 0 (entries t key) es) (once : Once (keys_of es)) where
   -- the next entry to remove: the last of those left
   module _ (u : Tree) (proper_now : Proper u) (rest gone : List ℕ) (e : ℕ) (split : keys_of es ≡ (rest ++ e ∷ []) ++ gone) (shrunk : IsShrunk t u key (rest ++ e ∷ []) gone) where
     split_here : keys_of es ≡ rest ++ e ∷ gone
@@ -117,7 +117,7 @@ module _ (t : Tree) (moment : Date3) (key : ℕ) (proper : Proper t) (es : List 
       ]
       | inr out ↦
           let up : parent_of t x ≡ Some e = ap (option_and_then (λ node. node.parent)) (sym (shrunk.outside x out)) ∙ up_of_x in
-          out (Contains-later key ((rest ++ e ∷ []) ++ gone) x (subst (λ (ks : List ℕ). Contains ks x) split (closed t proper [] (entries t key) es e x below is_among ((proper.listed e x).1 up))))
+          out (Contains-later key ((rest ++ e ∷ []) ++ gone) x (subst (λ (ks : List ℕ). Contains ks x) split (closed t proper None 0 (entries t key) es e x below is_among ((proper.listed e x).1 up))))
     ]
       where
         up_of_x : parent_of u x ≡ Some e
@@ -127,7 +127,7 @@ module _ (t : Tree) (moment : Date3) (key : ℕ) (proper : Proper t) (es : List 
         is_left : (x : ℕ) → Contains (key ∷ (rest ++ e ∷ [])) x → parent_of u x ≡ Some e → ¬ Contains (keys_of es) x → ⊥
         is_left x l up out =
             let was : parent_of t x ≡ Some e = sym (shrunk.parents x l) ∙ up in
-            out (closed t proper [] (entries t key) es e x below is_among ((proper.listed e x).1 was))
+            out (closed t proper None 0 (entries t key) es e x below is_among ((proper.listed e x).1 was))
 
         -- no contents of the entry come before it
         before : (x : ℕ) → Contains (rest ++ e ∷ []) x → parent_of u x ≡ Some e → ⊥
@@ -137,7 +137,7 @@ module _ (t : Tree) (moment : Date3) (key : ℕ) (proper : Proper t) (es : List 
               | inl in_front ↦
                   let s = Contains-split rest x in_front in
                   let whole : keys_of es ≡ s.0 ++ x ∷ (s.1 ++ e ∷ gone) = split_here ∙ ap (λ (ks : List ℕ). ks ++ e ∷ gone) s.2 ∙ append_assoc s.0 (x ∷ s.1) (e ∷ gone) in
-                  let m = behind_own t proper key [] (entries t key) es s.0 x (s.1 ++ e ∷ gone) below (λ k n. (proper.listed key k).0 n) whole e was in
+                  let m = behind_own t proper key None 0 (entries t key) es s.0 x (s.1 ++ e ∷ gone) below (λ k n. (proper.listed key k).0 n) whole e was in
                   elim (Contains-cases key s.0 e m) [
                     | inl same ↦ e_other (sym same)
                     | inr f ↦ Once-apart s.0 (x ∷ (s.1 ++ e ∷ gone)) e (subst Once whole once) f (Contains-later x (s.1 ++ e ∷ gone) e (Contains-append_right s.1 (e ∷ gone) e (Contains-here e gone)))
@@ -152,7 +152,7 @@ module _ (t : Tree) (moment : Date3) (key : ℕ) (proper : Proper t) (es : List 
     can_remove_last = record { dir = held.0; listed = up_now; empty = no_entries (entries u e) none_in }
 
     dir_among : Contains (key ∷ (rest ++ e ∷ [])) held.0
-    dir_among = elim (Contains-cases key rest held.0 (behind_own t proper key [] (entries t key) es rest e gone below (λ k n. (proper.listed key k).0 n) split_here held.0 held.1)) [
+    dir_among = elim (Contains-cases key rest held.0 (behind_own t proper key None 0 (entries t key) es rest e gone below (λ k n. (proper.listed key k).0 n) split_here held.0 held.1)) [
       | inl same ↦ subst (Contains (key ∷ (rest ++ e ∷ []))) same (Contains-here key (rest ++ e ∷ []))
       | inr m ↦ Contains-later key (rest ++ e ∷ []) held.0 (Contains-append_left rest (e ∷ []) held.0 m)
     ]
@@ -295,10 +295,10 @@ pub record IsPruning (t : Tree) (key : ℕ) (all image rest : List ℕ) : Type 0
 pub pruning_starts : (t : Tree) (key : ℕ) (all image : List ℕ) → Stands image t → IsPruning t key all image all
 pruning_starts t key all image s = record { now = t; gone = []; stands = s; split = sym (append-nil all); shrunk = shrunk_at_first t key all }
 
-module _ (t : Tree) (moment : Date3) (key : ℕ) (proper : Proper t) (es : List Located) (below : AreBelow t [] (entries t key) es) (once : Once (keys_of es)) (image : List ℕ) where
-  module _ (waiting rest : List Located) (e : Located) (last : waiting ≡ rest ++ e ∷ []) (p : IsPruning t key (keys_of es) image (keys_of waiting)) where
+module _ (t : Tree) (moment : Date3) (key : ℕ) (proper : Proper t) (es : List Below) (below : AreBelow t None 0 (entries t key) es) (once : Once (keys_of es)) (image : List ℕ) where
+  module _ (waiting rest : List Below) (e : Below) (last : waiting ≡ rest ++ e ∷ []) (p : IsPruning t key (keys_of es) image (keys_of waiting)) where
     keys_left : keys_of waiting ≡ keys_of rest ++ e.key ∷ []
-    keys_left = ap keys_of last ∙ map-append (λ (e : Located). e.key) rest (e ∷ [])
+    keys_left = ap keys_of last ∙ map-append (λ (e : Below). e.key) rest (e ∷ [])
 
     shrunk_so_far : IsShrunk t p.now key (keys_of rest ++ e.key ∷ []) p.gone
     shrunk_so_far = subst (λ (ks : List ℕ). IsShrunk t p.now key ks p.gone) keys_left p.shrunk

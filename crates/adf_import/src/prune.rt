@@ -1,6 +1,6 @@
 //! Deletion of an entry with everything below it.
 
-ghost use Rattle.std.specs.Prelude.{◌≡◌, ◌≢◌, [], AllPairs, IsTrue, map};
+ghost use Rattle.std.specs.Prelude.{◌≡◌, ◌≢◌, None, AllPairs, IsTrue, map};
 ghost use Rattle.std.specs.Bool.{IsFalse};
 ghost use Rattle.ados_model.specs.Tree.{Tree, entries};
 ghost use Rattle.ados_model.specs.Stands.{Stands};
@@ -49,12 +49,12 @@ pub fn delete_all(
 /// Whether a protection bit of the entry, or of one below it, denies deletion, without `force`.
 fn is_any_denied(volume: &Volume, key: u32, below: &[Below], force: bool) -> bool
     requires key { HasKey volume.now.image key }
-    requires below { (t : Tree) → Stands volume.now.image t → AreBelow t [] (entries t key) below.now }
+    requires below { (t : Tree) → Stands volume.now.image t → AreBelow t None 0 (entries t key) below.now }
     ensures denied { IsTrue result → (t : Tree) → Stands volume.now.image t → IsDenied t key force }
     ensures allowed { IsFalse result → (t : Tree) → Stands volume.now.image t → ¬ IsDenied t key force }
 {
     for entry in below {
-        if is_denied(volume, entry.key(), force) {
+        if is_denied(volume, entry.key, force) {
             return true;
         }
     }
@@ -64,7 +64,7 @@ fn is_any_denied(volume: &Volume, key: u32, below: &[Below], force: bool) -> boo
 /// Removes entries from the last to the first, then the entry above them.
 fn remove_all(volume: &mut Volume, key: u32, mut below: Vec<Below>, moment: Date3)
     requires entry { HasEntryKey volume.old.image key }
-    requires below { (t : Tree) → Stands volume.old.image t → AreBelow t [] (entries t key) below.items }
+    requires below { (t : Tree) → Stands volume.old.image t → AreBelow t None 0 (entries t key) below.items }
     requires once { AllPairs (λ j k. j ≢ k) (map (λ entry. entry.key) below.items) }
     ensures stands { (t : Tree) → Stands volume.old.image t → Stands volume.new.image (pruned moment key t) }
     ensures keeps { KeepsInTurn volume.old.image volume.new.image }
@@ -72,7 +72,7 @@ fn remove_all(volume: &mut Volume, key: u32, mut below: Vec<Below>, moment: Date
 {
     prove!(volume.image().blocks() >= 16);
     while let Some(entry) = below.pop() {
-        volume.remove(entry.key(), moment);
+        volume.remove(entry.key, moment);
     }
     volume.remove(key, moment);
 }

@@ -1,28 +1,26 @@
 -- The entries while they are gathered, one by one.
-use Rattle.std.proofs.Common.{◌≡◌, ◌≢◌, ℕ, ◌+◌, ◌<◌, inl, inr, All, List, [], ◌∷◌, ◌++◌, length, map, slice_index, get_or-set_same, get_or-set_other, length-set, Contains, Option, None, Some, IsSome, is_some, refl, sym, ap, ap₂, ◌∙◌, subst, arith}
+use Rattle.std.proofs.Common.{◌≡◌, ◌≢◌, ℕ, ◌+◌, ◌*◌, ◌<◌, ◌≤◌, inl, inr, true, false, All, List, [], ◌∷◌, ◌++◌, length, map, slice_index, get_or-set_same, get_or-set_other, length-set, Contains, Option, None, Some, IsSome, is_some, refl, sym, ap, ◌∙◌, subst, arith}
 use Rattle.std.proofs.Math.ListN.{set}
 use Rattle.std.proofs.lemmas.Bool.{cases_lt, cases_eq}
 use Rattle.std.proofs.lemmas.List.{get_or_append_left, get_or_push, length-append, length-map}
 use Rattle.std.proofs.lemmas.List.Elements.{Contains-append_left, Contains-append_right}
-use Rattle.ados_volume.specs.Located.{Located}
+use Rattle.adf_block.specs.Image.{block_count}
+use Rattle.ados_volume.specs.declared.below.Below.{Below}
+use Rattle.adf_salvage.specs.declared.gathered.Gathered.{Gathered}
 use Rattle.adf_salvage.specs.declared.salvaged.Salvaged.{Salvaged}
 use Rattle.adf_salvage.specs.Salvaged.{IsSalvaged, broken_length, broken_total, headers_of, located_of}
+use Rattle.adf_salvage.specs.steps.Giving.{IsGiving}
 use Rattle.adf_salvage.specs.steps.Gathering.{AreGathered, GathersMore, IsNew, place_at}
 
 headers_more : (xs : List Salvaged) (e : Salvaged) → headers_of (xs ++ e ∷ []) ≡ headers_of xs ++ e.header ∷ []
 headers_more [] e = refl
 headers_more (x ∷ xs) e = ap (λ (ys : List ℕ). x.header ∷ ys) (headers_more xs e)
 
-pub all_more : (P : Salvaged → Type 0) (xs : List Salvaged) (e : Salvaged) → All P xs → P e → All P (xs ++ e ∷ [])
+pub all_more : {X : Type 0} (P : X → Type 0) (xs : List X) (e : X) → All P xs → P e → All P (xs ++ e ∷ [])
 all_more P xs e all last k d l = elim (cases_lt k (length xs)) [
   | inl a ↦ subst P (sym (get_or_append_left xs (e ∷ []) d k a)) (all k d a)
   | inr a ↦ (let here : length xs ≡ k = omega (arith, a, l, length-append xs (e ∷ [])) in subst P (sym (get_or_push xs e d k here)) last)
 ]
-
--- one more entry, with the header of another
-pub headers_grow : (found found' entries : List Salvaged) (e f : Salvaged) → headers_of found ≡ headers_of entries → found' ≡ found ++ f ∷ [] → f.header ≡ e.header → headers_of found' ≡ headers_of (entries ++ e ∷ [])
-headers_grow found found' entries e f same grown is =
-    ap headers_of grown ∙ headers_more found f ∙ ap₂ (λ (xs : List ℕ) (h : ℕ). xs ++ h ∷ []) same is ∙ sym (headers_more entries e)
 
 -- the bytes of broken files, with one more entry
 pub broken_more : (xs : List Salvaged) (e : Salvaged) → broken_total (xs ++ e ∷ []) ≡ broken_total xs + broken_length e.state
@@ -34,52 +32,69 @@ pub none_broken : broken_total [] ≡ 0
 unfolding broken_total
 none_broken = refl
 
-pub none_told : (P : Salvaged → Type 0) → All P []
+pub none_told : {X : Type 0} (P : X → Type 0) → All P []
 none_told P k d l = absurd (omega (arith, l))
 
-module _ (image : List ℕ) (entries : List Salvaged) (places : List (Option ℕ)) (g : AreGathered image entries places) (e : Salvaged) (block : ℕ) (told : IsSalvaged image e) (is : e.header ≡ block) (n : IsNew image places block) where
-  inside : block < length places
+-- nothing is found yet
+pub gathers_none : (image : List ℕ) (g : Gathered) → g.entries.items ≡ [] → length g.places.items ≡ block_count image → ((block : ℕ) → place_at g.places.items block ≡ None) → IsGiving image g.giving
+    → g.giving.left ≤ 4 * length image → AreGathered image g
+gathers_none image g entries size places giving share = record {
+  told = subst (All (IsSalvaged image)) (sym entries) (none_told (IsSalvaged image));
+  size = size;
+  placed = λ i l. absurd (omega (arith, l, ap (λ (es : List Salvaged). length (headers_of es)) entries));
+  met = λ block some.
+      let none : false ≡ true = sym (ap is_some (places block)) ∙ some in absurd (cc none);
+  giving = giving;
+  bounded = omega (arith, share, ap broken_total entries, none_broken);
+}
+
+module _ (image : List ℕ) (old new : Gathered) (g : AreGathered image old) (e : Salvaged) (block : ℕ) (told : IsSalvaged image e) (is : e.header ≡ block) (n : IsNew image old.places.items block) where
+  inside : block < length old.places.items
   inside = omega (arith, n.0.inside.1, g.size)
 
-  many : length (headers_of entries) ≡ length entries
-  many = length-map entries (λ (entry : Salvaged). entry.header)
+  many : length (headers_of old.entries.items) ≡ length old.entries.items
+  many = length-map old.entries.items (λ (entry : Salvaged). entry.header)
 
-  now_met : (place : ℕ) → place_at (set places block (Some place)) block ≡ Some place
-  now_met place = get_or-set_same places block (Some place) None inside
+  now_met : (place : ℕ) → place_at (set old.places.items block (Some place)) block ≡ Some place
+  now_met place = get_or-set_same old.places.items block (Some place) None inside
 
-  still : (place b : ℕ) → b ≢ block → place_at (set places block (Some place)) b ≡ place_at places b
-  still place b other = get_or-set_other places block b (Some place) None other
+  still : (place b : ℕ) → b ≢ block → place_at (set old.places.items block (Some place)) b ≡ place_at old.places.items b
+  still place b other = get_or-set_other old.places.items block b (Some place) None other
 
-  pub gathers_more : (more : List Salvaged) (new : List (Option ℕ)) (place : ℕ) → more ≡ entries ++ e ∷ [] → new ≡ set places block (Some place) → place ≡ length entries
-      → GathersMore image places more new × IsSome (place_at new block)
-  gathers_more more new place grown noted at =
-      let more_headers : headers_of more ≡ headers_of entries ++ block ∷ [] = ap headers_of grown ∙ headers_more entries e ∙ ap (λ (b : ℕ). headers_of entries ++ b ∷ []) is in
-      let here : place_at new block ≡ Some place = ap (λ (ps : List (Option ℕ)). place_at ps block) noted ∙ now_met place in
-      let there : (b : ℕ) → b ≢ block → place_at new b ≡ place_at places b = λ b other. ap (λ (ps : List (Option ℕ)). place_at ps b) noted ∙ still place b other in
-      let gathered : AreGathered image more new = record {
-        told = subst (All (IsSalvaged image)) (sym grown) (all_more (IsSalvaged image) entries e g.told told);
-        size = ap length noted ∙ length-set places block (Some place) ∙ g.size;
+  -- one more entry, whose state takes its share
+  pub gathers_more : (place : ℕ) → new.entries.items ≡ old.entries.items ++ e ∷ [] → new.places.items ≡ set old.places.items block (Some place) → place ≡ length old.entries.items
+      → IsGiving image new.giving → broken_length e.state + new.giving.left ≡ old.giving.left → GathersMore image old new × IsSome (place_at new.places.items block)
+  gathers_more place grown noted at giving share =
+      let more_headers : headers_of new.entries.items ≡ headers_of old.entries.items ++ block ∷ [] =
+      ap headers_of grown ∙ headers_more old.entries.items e ∙ ap (λ (b : ℕ). headers_of old.entries.items ++ b ∷ []) is in
+      let here : place_at new.places.items block ≡ Some place = ap (λ (ps : List (Option ℕ)). place_at ps block) noted ∙ now_met place in
+      let there : (b : ℕ) → b ≢ block → place_at new.places.items b ≡ place_at old.places.items b = λ b other. ap (λ (ps : List (Option ℕ)). place_at ps b) noted ∙ still place b other in
+      let gathered : AreGathered image new = record {
+        told = subst (All (IsSalvaged image)) (sym grown) (all_more (IsSalvaged image) old.entries.items e g.told told);
+        size = ap length noted ∙ length-set old.places.items block (Some place) ∙ g.size;
         placed = λ i l.
-            let same : slice_index (headers_of more) i ≡ slice_index (headers_of entries ++ block ∷ []) i = ap (λ (xs : List ℕ). slice_index xs i) more_headers in
-            elim (cases_lt i (length (headers_of entries))) [
+            let same : slice_index (headers_of new.entries.items) i ≡ slice_index (headers_of old.entries.items ++ block ∷ []) i = ap (λ (xs : List ℕ). slice_index xs i) more_headers in
+            elim (cases_lt i (length (headers_of old.entries.items))) [
               | inl a ↦
-                  (let old : slice_index (headers_of more) i ≡ slice_index (headers_of entries) i = same ∙ get_or_append_left (headers_of entries) (block ∷ []) 0 i a in
-                  let other : slice_index (headers_of entries) i ≢ block = λ z.
-                  let both : Some i ≡ None = sym (g.placed i a) ∙ ap (place_at places) z ∙ n.1 in absurd (cc both) in
-                  ap (place_at new) old ∙ there (slice_index (headers_of entries) i) other ∙ g.placed i a)
+                  (let old_is : slice_index (headers_of new.entries.items) i ≡ slice_index (headers_of old.entries.items) i = same ∙ get_or_append_left (headers_of old.entries.items) (block ∷ []) 0 i a in
+                  let other : slice_index (headers_of old.entries.items) i ≢ block = λ z.
+                  let both : Some i ≡ None = sym (g.placed i a) ∙ ap (place_at old.places.items) z ∙ n.1 in absurd (cc both) in
+                  ap (place_at new.places.items) old_is ∙ there (slice_index (headers_of old.entries.items) i) other ∙ g.placed i a)
               | inr a ↦
-                  (let last : length (headers_of entries) ≡ i = omega (arith, a, l, ap length more_headers, length-append (headers_of entries) (block ∷ [])) in
-                  ap (place_at new) (same ∙ get_or_push (headers_of entries) block 0 i last) ∙ here ∙ ap Some (at ∙ sym many ∙ last))
+                  (let last : length (headers_of old.entries.items) ≡ i = omega (arith, a, l, ap length more_headers, length-append (headers_of old.entries.items) (block ∷ [])) in
+                  ap (place_at new.places.items) (same ∙ get_or_push (headers_of old.entries.items) block 0 i last) ∙ here ∙ ap Some (at ∙ sym many ∙ last))
             ];
         met = λ b some. subst (λ (xs : List ℕ). Contains xs b) (sym more_headers) (elim (cases_eq b block) [
-          | inl a ↦ Contains-append_right (headers_of entries) (block ∷ []) b (0, omega arith, sym a)
-          | inr a ↦ Contains-append_left (headers_of entries) (block ∷ []) b (g.met b (ap is_some (sym (there b a)) ∙ some))
+          | inl a ↦ Contains-append_right (headers_of old.entries.items) (block ∷ []) b (0, omega arith, sym a)
+          | inr a ↦ Contains-append_left (headers_of old.entries.items) (block ∷ []) b (g.met b (ap is_some (sym (there b a)) ∙ some))
         ]);
+        giving = giving;
+        bounded = omega (arith, g.bounded, share, ap broken_total grown, broken_more old.entries.items e);
       } in (
         (
           gathered,
           λ b some. elim (cases_eq b block) [
-            | inl a ↦ ap (λ (k : ℕ). is_some (place_at new k)) a ∙ ap is_some here
+            | inl a ↦ ap (λ (k : ℕ). is_some (place_at new.places.items k)) a ∙ ap is_some here
             | inr a ↦ ap is_some (there b a) ∙ some
           ],
         ),
@@ -88,4 +103,4 @@ module _ (image : List ℕ) (entries : List Salvaged) (places : List (Option ℕ
 
 pub located_more : (xs : List Salvaged) (e : Salvaged) → map located_of (xs ++ e ∷ []) ≡ map located_of xs ++ located_of e ∷ []
 located_more [] e = refl
-located_more (x ∷ xs) e = ap (λ (ys : List Located). located_of x ∷ ys) (located_more xs e)
+located_more (x ∷ xs) e = ap (λ (ys : List Below). located_of x ∷ ys) (located_more xs e)

@@ -4,3 +4,8 @@ pub mod OwnBlocks
 pub mod Claiming
 pub mod Growing
 pub mod Answering
+pub mod Marked
+pub mod Saving
+pub mod Holding
+pub mod Filled
+pub mod Ending

@@ -1,4 +1,5 @@
 -- Which files of an image can be trusted, and the descriptions of entries. Definitions for steps are in `steps`.
 pub mod Sound
 pub mod Salvaged
+pub mod Saved
 pub mod steps

@@ -1,5 +1,5 @@
 -- The descriptions of an image's entries.
-use Rattle.std.specs.Prelude.{◌≡◌, ◌≢◌, ℕ, ◌+◌, ◌*◌, ◌≤◌, ◌⊎◌, Bool, List, [], ◌∷◌, length, All, AllPairs, Contains, map, Some, false, ⊤}
+use Rattle.std.specs.Prelude.{◌≡◌, ◌≢◌, ℕ, zero, suc, ◌+◌, ◌*◌, ◌≤◌, ◌⊎◌, Bool, List, [], ◌∷◌, ◌++◌, decimal, length, All, AllPairs, Contains, map, None, Some, false, ⊤}
 use Rattle.adf_block.specs.Boot.{HasKind}
 use Rattle.adf_block.specs.declared.boot.BootKind.TheVariants.{Ofs, Ffs}
 use Rattle.adf_block.specs.Frame.{OnlyLong}
@@ -12,20 +12,32 @@ use Rattle.ados_model.specs.Stands.{date_at, Stands}
 use Rattle.ados_model.specs.Faults.{HasDirectoryType, HasFileType}
 use Rattle.ados_model.specs.Tree.{Content, Node, Tree, entries, root}
 use Rattle.ados_model.specs.Tree.Content.{Directory, File}
-use Rattle.ados_volume.specs.Below.{AreBelow}
-use Rattle.ados_volume.specs.Located.{Located}
+use Rattle.ados_volume.specs.Below.{AreBelow, placed}
+use Rattle.ados_volume.specs.declared.below.Below.{Below}
+use Rattle.adf_salvage.specs.declared.giving.Piece.{Piece}
 use Rattle.adf_salvage.specs.declared.salvaged.Salvaged.{Salvaged}
 use Rattle.adf_salvage.specs.declared.salvaged.State.{State}
 use Rattle.adf_salvage.specs.declared.salvaged.State.TheVariants as states
 use Rattle.adf_salvage.specs.Sound.{IsSoundHeader, IsWhole}
 
--- a directory; a whole file with its bytes; or a broken file
+-- how contracts see a salvage: the image as it was read, its entries, and the blocks given to broken files
+pub record Saved : Type 0 where
+  pub image : List ℕ
+  pub entries : List Salvaged
+  pub given : List Piece
+
+-- a name with `~` and the number of a header behind it, so many times
+unfoldable pub ended : List ℕ → ℕ → ℕ → List ℕ
+ended name header zero = name
+ended name header (suc endings) = ended name header endings ++ 126 ∷ decimal header
+
+-- a directory, a whole file or a broken one
 abbrev pub HasState : List ℕ → ℕ → State → Type 0
 HasState image block states.Directory = HasDirectoryType image block
-HasState image block (states.Whole bytes) = IsWhole image block × (bytes.items ≡ contents image block)
-HasState image block (states.Broken missing cut bytes) = HasFileType image block × ¬ IsWhole image block
+HasState image block states.Whole = IsWhole image block
+HasState image block (states.Broken missing cut length) = HasFileType image block × ¬ IsWhole image block
 
--- the header is sound, and the description has its fields; the path and whether the entry was recovered are free
+-- the header is sound, and the description has its fields; where the entry is, and whether it was recovered, are free
 pub record IsSalvaged (image : List ℕ) (entry : Salvaged) : Type 0 where
   pub header : IsSoundHeader image entry.header
   pub name : entry.name ≡ text_at image entry.header NAME_BYTE
@@ -44,15 +56,15 @@ pub record AreSalvaged (image : List ℕ) (found : List Salvaged) : Type 0 where
   pub once : AllPairs (λ a b. a ≢ b) (headers_of found)
   pub all : (block : ℕ) → IsSoundHeader image block → Contains (headers_of found) block
 
--- a directory, or a file with all its bytes
-abbrev pub HoldsAll : Content → State → Type 0
-HoldsAll (Directory keys) states.Directory = ⊤
-HoldsAll (File bytes) (states.Whole held) = held.items ≡ bytes
-HoldsAll _ _ = ⊥
+-- a directory, or a whole file that has these bytes in the image
+abbrev pub HoldsAll : List ℕ → ℕ → Content → State → Type 0
+HoldsAll image header (Directory keys) states.Directory = ⊤
+HoldsAll image header (File bytes) states.Whole = contents image header ≡ bytes
+HoldsAll image header _ _ = ⊥
 
 -- the number of bytes of a broken file
 abbrev pub broken_length : State → ℕ
-broken_length (states.Broken missing cut bytes) = length bytes.items
+broken_length (states.Broken missing cut length) = length
 broken_length state = 0
 
 -- the number of bytes of all broken files
@@ -60,34 +72,45 @@ unfoldable pub broken_total : List Salvaged → ℕ
 broken_total [] = 0
 broken_total (entry ∷ rest) = broken_length entry.state + broken_total rest
 
--- an entry of the tree with its metadata, whole and not recovered
-pub record IsOfTree (t : Tree) (entry : Salvaged) : Type 0 where
+-- an entry of the tree with its name and metadata, whole in this image and not recovered
+pub record IsOfTree (image : List ℕ) (t : Tree) (entry : Salvaged) : Type 0 where
   pub node : Node
   pub at : t.nodes entry.header ≡ Some node
   pub name : entry.name ≡ node.name
   pub protection_bits : entry.protection.0 ≡ node.protection
   pub date_field : entry.date ≡ node.date
   pub comment : entry.comment ≡ node.comment
-  pub holds : HoldsAll node.content entry.state
+  pub holds : HoldsAll image entry.header node.content entry.state
+  pub plain : entry.endings ≡ 0
   pub reached : entry.found ≡ false
 
--- its header and its path
-abbrev pub located_of : Salvaged → Located
-located_of entry = record { key = entry.header; path = entry.path.items }
+-- its header, and the position of its directory
+abbrev pub located_of : Salvaged → Below
+located_of entry = placed entry.above entry.header
 
 -- all entries of the tree below its root, in their order
-pub record AreOfTree (t : Tree) (found : List Salvaged) : Type 0 where
-  pub below : AreBelow t [] (entries t (root t)) (map located_of found)
-  pub told : All (IsOfTree t) found
+pub record AreOfTree (t : Tree) (saved : Saved) : Type 0 where
+  pub below : AreBelow t None 0 (entries t (root t)) (map located_of saved.entries)
+  pub told : All (IsOfTree saved.image t) saved.entries
+
+-- each block is given once: no block is given to two files, or twice to one
+abbrev pub AreApart : List Piece → Type 0
+AreApart given = AllPairs (λ piece other. piece.block ≢ other.block) given
 
 -- the image with a valid kind: unchanged, except that other first four bytes are replaced
 pub record IsReadAs (image read : List ℕ) : Type 0 where
   pub known : HasKind image Ofs ⊎ HasKind image Ffs → read ≡ image
   pub rest : OnlyLong 0 0 image read
 
--- the image was accepted, possibly with a new bitmap, and these are the entries of its tree; or they are its sound
--- headers, and all broken files together have at most four times the bytes of the image
-abbrev pub Salvages : List ℕ → List Salvaged → Type 0
-Salvages image found =
-    ((accepted : List ℕ) × (validated : Bool) × Accepts image validated accepted × ((t : Tree) → Stands accepted t → AreOfTree t found))
-    ⊎ ((read : List ℕ) × IsReadAs image read × AreSalvaged read found × (broken_total found ≤ 4 * length read))
+-- the entries are the sound headers of the image, no block is given to two broken files, and all of these together have at
+-- most four times the bytes of the image
+pub record SavesSound (saved : Saved) : Type 0 where
+  pub salvaged : AreSalvaged saved.image saved.entries
+  pub apart : AreApart saved.given
+  pub bounded : broken_total saved.entries ≤ 4 * length saved.image
+
+-- the image was accepted, possibly with a new bitmap, and these are the entries of its tree; or they are its sound headers
+abbrev pub Salvages : List ℕ → Saved → Type 0
+Salvages image saved =
+    ((validated : Bool) × Accepts image validated saved.image × ((t : Tree) → Stands saved.image t → AreOfTree t saved))
+    ⊎ (IsReadAs image saved.image × SavesSound saved)

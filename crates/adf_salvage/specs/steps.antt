@@ -1,4 +1,6 @@
 -- The results for a file, block by block.
 pub mod Parts
 pub mod Claims
+pub mod Giving
 pub mod Gathering
+pub mod Keeping

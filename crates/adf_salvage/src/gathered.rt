@@ -1,17 +1,18 @@
 //! The entries of a damaged image, while they are gathered.
-ghost use Rattle.std.specs.Prelude.{◌≡◌, ◌↔◌, length, IfOk, IsSome, IsTrue, OnOk};
+ghost use Rattle.std.specs.Prelude.{◌≡◌, ◌↔◌, ℕ, None, length, IfOk, IsSome, IsTrue, OnOk};
 ghost use Rattle.adf_block.specs.Image.{block_count};
 ghost use Rattle.adf_salvage.specs.steps.Claims.{AreClaims};
 ghost use Rattle.adf_salvage.specs.steps.Gathering.{AreGathered, GathersMore, IsNew, place_at};
 
 use crate::claims::Claim;
+use crate::giving::Giving;
 use crate::header::{is_sound_header, name_of};
-use crate::paths::{LOST_AND_FOUND, free_path, joined};
-use crate::salvaged::Salvaged;
+use crate::names::{Names, Standing};
+use crate::salvaged::{Salvaged, State};
+use crate::state::state_of;
 use crate::told::told_of;
 use adf_block::Image;
 use std::alloc::{AllocError, Global};
-use std::collections::BTreeSet;
 
 /// The entries found so far.
 #[derive(Drop)]
@@ -19,21 +20,26 @@ pub(crate) struct Gathered {
     pub(crate) entries: Vec<Salvaged>,
     /// For each block, the index of its entry, if its header was found.
     pub(crate) places: Vec<Option<usize>>,
-    /// The paths in use.
-    pub(crate) paths: BTreeSet<Vec<u8>>,
+    /// The names in use.
+    pub(crate) names: Names,
+    /// The blocks given to broken files.
+    pub(crate) giving: Giving,
 }
 
 impl Gathered {
-    /// No entries. The path of the directory for recovered entries is in use already.
+    /// No entries.
     pub(crate) fn new(alloc: Global, image: &Image) -> Result<Gathered, AllocError>
-        ensures { IfOk result (λ gathered. AreGathered image.now gathered.entries.items gathered.places.items) }
+        ensures { IfOk result (AreGathered image.now) }
     {
-        let mut paths = BTreeSet::new(alloc);
-        paths.insert(joined(alloc, &[], LOST_AND_FOUND)?)?;
+        let entries = Vec::with_capacity(alloc, headers_in(image))?;
+        let places = no_places(alloc, image)?;
+        let names = Names::new(alloc)?;
+        let giving = Giving::new(alloc, image)?;
         Ok(Gathered {
-            entries: Vec::new(alloc),
-            places: vec![in alloc; None; image.blocks() as usize]?,
-            paths,
+            entries,
+            places,
+            names,
+            giving,
         })
     }
 
@@ -47,37 +53,69 @@ impl Gathered {
             && is_sound_header(image, block)
     }
 
-    /// The entry of a header, if it was found.
-    pub(crate) fn entry(&self, block: u32) -> Option<&Salvaged> {
+    /// The position of the entry of a directory, if its header was found.
+    pub(crate) fn directory(&self, block: u32) -> Option<usize> {
         let place = (*self.places.get(block as usize)?)?;
-        self.entries.get(place)
+        match self.entries.get(place)?.state {
+            State::Directory => Some(place),
+            _ => None,
+        }
     }
 
-    /// Adds the entry of a header. Its path is a prefix and its name.
+    /// Takes the names of a directory, and of those above it, below `lost+found` too.
+    pub(crate) fn take_aside(&mut self, alloc: Global, dir: usize) -> Result<(), AllocError>
+        ensures entries { self.new.entries ≡ self.old.entries }
+        ensures places { self.new.places ≡ self.old.places }
+        ensures giving { self.new.giving ≡ self.old.giving }
+    {
+        self.names.take_aside(alloc, self.entries.as_slice(), dir)
+    }
+
+    /// Adds the entry of a header.
     pub(crate) fn add(
         &mut self,
         alloc: Global,
         image: &Image,
         claims: &[Claim],
         block: u32,
-        front: &[u8],
-        found: bool,
+        standing: Standing,
     ) -> Result<(), AllocError>
-        requires gathered { AreGathered image.now self.old.entries.items self.old.places.items }
+        requires gathered { AreGathered image.now self.old }
         requires met { IsNew image.now self.old.places.items block }
         requires count { length claims.now ≡ block_count image.now }
         requires claims { AreClaims image.now (block_count image.now) claims.now }
-        ensures more { OnOk result (GathersMore image.now self.old.places.items self.new.entries.items self.new.places.items) }
+        ensures more { OnOk result (GathersMore image.now self.old self.new) }
         ensures met { OnOk result (IsSome (place_at self.new.places.items block)) }
     {
         let Some(name) = name_of(image, block) else {
             unreachable!()
         };
-        let path = free_path(alloc, &mut self.paths, front, name.bytes(), block)?;
-        let entry = told_of(alloc, image, claims, block, path, found)?;
         let place = self.entries.len();
+        let state = state_of(alloc, image, claims, block, place, &mut self.giving)?;
+        let endings = self.names.take(alloc, standing, name.bytes(), block)?;
+        let entry = told_of(image, block, standing, endings, state);
         self.entries.push(entry)?;
         self.places[block as usize] = Some(place);
         Ok(())
     }
+}
+
+/// No block has an entry.
+fn no_places(alloc: Global, image: &Image) -> Result<Vec<Option<usize>>, AllocError>
+    ensures count { IfOk result (λ places. length places.items ≡ block_count image.now) }
+    ensures none { IfOk result (λ places. (block : ℕ) → place_at places.items block ≡ None) }
+{
+    let places = vec![in alloc; None; image.blocks() as usize]?;
+    Ok(places)
+}
+
+/// The number of sound headers of an image.
+fn headers_in(image: &Image) -> usize {
+    let mut count = 0;
+    for block in 0..image.blocks() {
+        if is_sound_header(image, block) {
+            count += 1;
+        }
+    }
+    count
 }

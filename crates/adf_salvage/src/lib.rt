@@ -5,20 +5,23 @@
 mod chains;
 mod claims;
 mod data;
-mod filling;
 mod gathered;
+mod giving;
 mod header;
 mod holders;
 mod intact;
 mod kind;
 mod listing;
-mod paths;
+mod names;
 mod pieces;
 mod salvaged;
 mod salvaging;
+mod saved;
 mod state;
 mod told;
 mod unreached;
 
+pub use giving::Piece;
 pub use salvaged::{Salvaged, State};
 pub use salvaging::salvage;
+pub use saved::Salvage;

@@ -4,62 +4,69 @@ ghost use Rattle.ados_model.specs.Keys.{HasKey};
 ghost use Rattle.ados_model.specs.Stands.{Stands};
 ghost use Rattle.ados_model.specs.Tree.{Node, Tree};
 ghost use Rattle.adf_salvage.specs.Salvaged.{AreOfTree, HoldsAll, IsOfTree, located_of};
+ghost use Rattle.adf_salvage.specs.steps.Keeping.{CanBeRead, IsReadable};
 
 use crate::salvaged::{Salvaged, State};
-use ados_volume::{Below, Volume, entries_below, read_file};
+use crate::saved::Salvage;
+use ados_volume::{Below, Volume, entries_below};
 use std::alloc::{AllocError, Global};
 
 /// All entries of a volume, in its order, with whole files.
-pub(crate) fn volume_entries(alloc: Global, volume: &Volume) -> Result<Vec<Salvaged>, AllocError>
-    ensures { IfOk result (λ found. (t : Tree) → Stands volume.now.image t → AreOfTree t found.items) }
+pub(crate) fn volume_entries(alloc: Global, volume: Volume) -> Result<Salvage, AllocError>
+    ensures image { IfOk result (λ saved. saved.image ≡ volume.image) }
+    ensures told { IfOk result (λ saved. (t : Tree) → Stands volume.image t → AreOfTree t saved) }
 {
-    let below = entries_below(alloc, volume, volume.root())?;
-    entries_of(alloc, volume, &below)
+    let below = entries_below(alloc, &volume, volume.root())?;
+    let entries = entries_of(alloc, &volume, &below)?;
+    Ok(Salvage::of(volume.into_image(), entries, Vec::new(alloc)))
 }
 
 /// These entries of a volume, with whole files.
 fn entries_of(alloc: Global, volume: &Volume, below: &[Below]) -> Result<Vec<Salvaged>, AllocError>
     requires { All (λ entry. HasKey volume.now.image entry.key) below.now }
     ensures located { IfOk result (λ found. map located_of found.items ≡ below.now) }
-    ensures told { IfOk result (λ found. (t : Tree) → Stands volume.now.image t → All (IsOfTree t) found.items) }
+    ensures told { IfOk result (λ found. (t : Tree) → Stands volume.now.image t → All (IsOfTree volume.now.image t) found.items) }
+    ensures readable { IfOk result (λ found. All (IsReadable volume.now.image) found.items) }
 {
-    let mut found = Vec::new(alloc);
+    let mut found = Vec::with_capacity(alloc, below.len())?;
     for entry in below {
-        found.push(entry_of(alloc, volume, entry)?)?;
+        found.push(entry_of(volume, *entry))?;
     }
     Ok(found)
 }
 
 /// An entry of a volume, with a whole file.
-fn entry_of(alloc: Global, volume: &Volume, entry: &Below) -> Result<Salvaged, AllocError>
-    requires { HasKey volume.now.image entry.now.key }
-    ensures told { IfOk result (λ told. (t : Tree) → Stands volume.now.image t → IsOfTree t told) }
-    ensures located { IfOk result (λ told. located_of told ≡ entry.now) }
+fn entry_of(volume: &Volume, entry: Below) -> Salvaged
+    requires { HasKey volume.now.image entry.key }
+    ensures told { (t : Tree) → Stands volume.now.image t → IsOfTree volume.now.image t result }
+    ensures located { located_of result ≡ entry }
+    ensures readable { IsReadable volume.now.image result }
 {
-    let key = entry.key();
+    let key = entry.key;
     let told = volume.examine(key);
-    let mut path = Vec::new(alloc);
-    path.extend_from_slice(entry.path())?;
-    let state = state_in(alloc, volume, key)?;
-    Ok(Salvaged {
+    Salvaged {
         header: key,
-        path,
+        above: entry.above,
         found: false,
         name: told.name,
+        endings: 0,
         protection: told.protection,
         date: told.date,
         comment: told.comment,
-        state,
-    })
+        state: state_in(volume, key),
+    }
 }
 
 /// The state of an object.
-fn state_in(alloc: Global, volume: &Volume, key: u32) -> Result<State, AllocError>
+fn state_in(volume: &Volume, key: u32) -> State
     requires { HasKey volume.now.image key }
-    ensures { IfOk result (λ state. (t : Tree) (node : Node) → Stands volume.now.image t → t.nodes key ≡ Some node → HoldsAll node.content state) }
+    ensures state { (t : Tree) (node : Node) → Stands volume.now.image t → t.nodes key ≡ Some node → HoldsAll volume.now.image key node.content result }
+    ensures readable { CanBeRead volume.now.image key result }
 {
-    if !volume.is_file(key) {
-        return Ok(State::Directory);
+    prove!(volume.image().blocks() >= 16);
+    if volume.is_file(key) {
+        State::Whole
+    } else {
+        State::Directory
     }
-    Ok(State::Whole(read_file(alloc, volume, key)?))
 }

@@ -1,18 +1,26 @@
 //! The description of an entry.
+ghost use Rattle.std.specs.Prelude.{◌≡◌, ◌++◌, ◌∷◌, decimal, IfOk, OnOk};
+ghost use Rattle.adf_salvage.specs.Salvaged.{ended};
+
 use ados_name::{Comment, Date3, Name, Protect};
+use itoa::Buffer;
+use std::alloc::{AllocError, Global};
 
 /// An entry of an image that can be trusted as far as its state says.
 #[derive(Drop)]
 pub struct Salvaged {
     /// The block number of its header.
     pub header: u32,
-    /// Names separated by `/`: from the root, or from `lost+found` for a recovered entry. If a name is in use already,
-    /// `~` and the header follow it.
-    pub path: Vec<u8>,
-    /// Whether it was recovered: no hash chain from the root leads to it.
+    /// The position of its directory in the list of entries, which is before it. `None` is the root, or `lost+found` for
+    /// a recovered entry.
+    pub above: Option<usize>,
+    /// Whether it was recovered: no hash chain from the root leads to it. Its path then starts with `lost+found`, even
+    /// if its directory was not recovered.
     pub found: bool,
     /// The name in the header.
     pub name: Name,
+    /// How often `~` and the header follow the name, since it is in use in the directory already.
+    pub endings: u32,
     pub protection: Protect,
     pub date: Date3,
     pub comment: Comment,
@@ -20,17 +28,38 @@ pub struct Salvaged {
 }
 
 /// The kind of an entry, and how much of it is left.
-#[derive(Drop)]
+#[derive(Clone, Copy, Debug, PartialEq, Eq)]
 pub enum State {
     Directory,
-    /// A whole file: its bytes.
-    Whole(Vec<u8>),
-    /// A broken file: the bytes of its sound data blocks at their positions, up to the last of them, and zeros for
-    /// missing ones. `missing` is 0 for a sound file that shares a block with another sound file.
+    Whole,
+    /// A file of which only the blocks are left that were given to it. `missing` is the number of its other data
+    /// blocks.
     Broken {
         missing: u32,
-        /// Whether the bytes end before that last block, because of the limit for all broken files together.
+        /// Whether its bytes end before its last block, because of the limit for all broken files together.
         cut: bool,
-        bytes: Vec<u8>,
+        /// The number of its bytes.
+        length: usize,
     },
+}
+
+impl Salvaged {
+    /// Its name in its directory: the name in the header and its endings.
+    pub fn own_name(&self, alloc: Global) -> Result<Vec<u8>, AllocError>
+        ensures { IfOk result (λ name. name.items ≡ ended self.now.name self.now.header self.now.endings) }
+    {
+        let mut text = Vec::from_slice(alloc, self.name.bytes())?;
+        for _ending in 0..self.endings {
+            push_ending(&mut text, self.header)?;
+        }
+        Ok(text)
+    }
+}
+
+/// Appends `~` and the number of a header.
+pub(crate) fn push_ending(text: &mut Vec<u8>, header: u32) -> Result<(), AllocError>
+    ensures { OnOk result (text.new.items ≡ text.old.items ++ 126 ∷ decimal header) }
+{
+    text.push(b'~')?;
+    text.extend_from_slice(Buffer::new().format(header).as_bytes())
 }

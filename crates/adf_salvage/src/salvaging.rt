@@ -1,16 +1,16 @@
 //! Everything in an image that can be trusted.
-ghost use Rattle.std.specs.Prelude.{◌≤◌, ◌*◌, length, IfOk};
+ghost use Rattle.std.specs.Prelude.{◌≡◌, IfOk};
 ghost use Rattle.ados_model.specs.Stands.{Stands};
 ghost use Rattle.ados_model.specs.Tree.{Tree};
-ghost use Rattle.adf_salvage.specs.Salvaged.{AreOfTree, AreSalvaged, Salvages, broken_total};
+ghost use Rattle.adf_salvage.specs.Salvaged.{AreOfTree, SavesSound, Salvages};
 
 use crate::chains::add_reached;
 use crate::claims::claims;
-use crate::filling::with_pieces;
 use crate::gathered::Gathered;
+use crate::giving::Giving;
 use crate::kind::with_kind;
 use crate::listing::volume_entries;
-use crate::salvaged::Salvaged;
+use crate::saved::Salvage;
 use crate::unreached::add_unreached;
 use adf_block::Image;
 use ados_volume::{FaultKind, check};
@@ -20,29 +20,37 @@ use std::alloc::{AllocError, Global};
 ///
 /// For an image that the check accepts, these are the entries of its tree. For any other, they are its sound headers:
 /// first those along hash chains from the root, then the others. If its first four bytes are neither OFS nor FFS, it
-/// is read as the kind that its blocks suggest. All broken files together have at most four times the bytes of the
-/// image.
-pub fn salvage(alloc: Global, image: Image) -> Result<Vec<Salvaged>, AllocError>
-    ensures salvages { IfOk result (λ found. Salvages image found.items) }
-    ensures tree { IfOk result (λ found. (t : Tree) → Stands image t → AreOfTree t found.items) }
+/// is read as the kind that its blocks suggest. A block is given to one broken file at most, to the first in this order,
+/// and all broken files together have at most four times the bytes of the image.
+///
+/// The bytes of files are made when they are asked for.
+pub fn salvage(alloc: Global, image: Image) -> Result<Salvage, AllocError>
+    ensures salvages { IfOk result (Salvages image) }
+    ensures tree { IfOk result (λ saved. (t : Tree) → Stands image t → AreOfTree t saved) }
 {
     match check(alloc, image) {
-        Ok(volume) => volume_entries(alloc, &volume),
+        Ok(volume) => volume_entries(alloc, volume),
         Err(rejected) => match rejected.fault.kind {
             FaultKind::NoMemory => Err(AllocError),
-            _ => sound_headers(alloc, &with_kind(rejected.image)),
+            _ => sound_headers(alloc, with_kind(rejected.image)),
         },
     }
 }
 
 /// The entries of all sound headers of an image.
-fn sound_headers(alloc: Global, image: &Image) -> Result<Vec<Salvaged>, AllocError>
-    ensures told { IfOk result (λ found. AreSalvaged image.now found.items) }
-    ensures bounded { IfOk result (λ found. broken_total found.items ≤ 4 * length image.now) }
+fn sound_headers(alloc: Global, image: Image) -> Result<Salvage, AllocError>
+    ensures image { IfOk result (λ saved. saved.image ≡ image) }
+    ensures saves { IfOk result SavesSound }
 {
-    let claims = claims(alloc, image)?;
-    let mut gathered = Gathered::new(alloc, image)?;
-    add_reached(alloc, image, &claims, &mut gathered)?;
-    add_unreached(alloc, image, &claims, &mut gathered)?;
-    with_pieces(alloc, image, gathered.entries)
+    let claims = claims(alloc, &image)?;
+    let mut gathered = Gathered::new(alloc, &image)?;
+    add_reached(alloc, &image, &claims, &mut gathered)?;
+    add_unreached(alloc, &image, &claims, &mut gathered)?;
+    let Gathered {
+        entries,
+        giving,
+        ..
+    } = gathered;
+    let Giving { pieces, .. } = giving;
+    Ok(Salvage::of(image, entries, pieces))
 }

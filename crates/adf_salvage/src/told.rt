@@ -1,50 +1,46 @@
 //! The entry of a sound header.
-ghost use Rattle.std.specs.Prelude.{◌≡◌, ◌<◌, ◌≤◌, length, IfOk};
+ghost use Rattle.std.specs.Prelude.{◌≡◌, ◌<◌, ◌≤◌, length};
 ghost use Rattle.adf_block.specs.Image.{block_count, byte_at};
 ghost use Rattle.adf_block.specs.Whole.{text_at};
 ghost use Rattle.ados_model.specs.Stands.{date_at};
-ghost use Rattle.adf_salvage.specs.Salvaged.{IsSalvaged};
+ghost use Rattle.adf_salvage.specs.Salvaged.{HasState, IsSalvaged};
 ghost use Rattle.adf_salvage.specs.Sound.{IsSoundHeader};
-ghost use Rattle.adf_salvage.specs.steps.Claims.{AreClaims};
 
-use crate::claims::Claim;
 use crate::header::name_of;
-use crate::salvaged::Salvaged;
-use crate::state::state_of;
+use crate::names::Standing;
+use crate::salvaged::{Salvaged, State};
 use adf_block::Image;
 use adf_block::layout::{COMMENT_BYTE, DATE, PROTECTION};
 use ados_name::{Comment, Date3, Protect};
-use std::alloc::{AllocError, Global};
 
-/// The entry of a sound header, with this path.
+/// The entry of a sound header, with this state.
 pub(crate) fn told_of(
-    alloc: Global,
     image: &Image,
-    claims: &[Claim],
     block: u32,
-    path: Vec<u8>,
-    found: bool,
-) -> Result<Salvaged, AllocError>
+    standing: Standing,
+    endings: u32,
+    state: State,
+) -> Salvaged
     requires header { IsSoundHeader image.now block }
-    requires count { length claims.now ≡ block_count image.now }
-    requires claims { AreClaims image.now (block_count image.now) claims.now }
-    ensures told { IfOk result (IsSalvaged image.now) }
-    ensures header { IfOk result (λ entry. entry.header ≡ block) }
+    requires state { HasState image.now block state }
+    ensures told { IsSalvaged image.now result }
+    ensures header { result.header ≡ block }
+    ensures state { result.state ≡ state }
 {
     let Some(name) = name_of(image, block) else {
         unreachable!()
     };
-    let state = state_of(alloc, image, claims, block)?;
-    Ok(Salvaged {
+    Salvaged {
         header: block,
-        path,
-        found,
+        above: standing.above,
+        found: standing.found,
         name,
+        endings,
         protection: Protect(image.long(block, PROTECTION)),
         date: date_of(image, block),
         comment: comment_of(image, block),
         state,
-    })
+    }
 }
 
 /// The date of a header.

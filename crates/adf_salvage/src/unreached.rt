@@ -7,8 +7,7 @@ ghost use Rattle.adf_salvage.specs.steps.Gathering.{AreGathered, GathersMore, Is
 
 use crate::claims::Claim;
 use crate::gathered::Gathered;
-use crate::paths::{LOST_AND_FOUND, joined};
-use crate::salvaged::State;
+use crate::names::Standing;
 use adf_block::Image;
 use adf_block::layout::{DIRECTORY_TYPE, PARENT, SECONDARY_TYPE};
 use std::alloc::{AllocError, Global};
@@ -20,16 +19,34 @@ pub(crate) fn add_unreached(
     claims: &[Claim],
     gathered: &mut Gathered,
 ) -> Result<(), AllocError>
-    requires gathered { AreGathered image.now gathered.old.entries.items gathered.old.places.items }
+    requires gathered { AreGathered image.now gathered.old }
     requires count { length claims.now ≡ block_count image.now }
     requires claims { AreClaims image.now (block_count image.now) claims.now }
-    ensures gathered { OnOk result (AreGathered image.now gathered.new.entries.items gathered.new.places.items) }
+    ensures gathered { OnOk result (AreGathered image.now gathered.new) }
     ensures all { OnOk result ((block : ℕ) → IsSoundHeader image.now block → IsSome (place_at gathered.new.places.items block)) }
 {
+    take_asides(alloc, image, gathered)?;
     let mut climbed = vec![in alloc; false; image.blocks() as usize]?;
     for block in 0..image.blocks() {
         if gathered.is_new(image, block) {
             add_with_parents(alloc, image, claims, block, &mut climbed, gathered)?;
+        }
+    }
+    Ok(())
+}
+
+/// Takes the names of the directories along the hash chains in which recovered entries are, before recovered entries get
+/// names.
+fn take_asides(alloc: Global, image: &Image, gathered: &mut Gathered) -> Result<(), AllocError>
+    requires gathered { AreGathered image.now gathered.old }
+    ensures gathered { OnOk result (AreGathered image.now gathered.new) }
+{
+    for block in 0..image.blocks() {
+        if !gathered.is_new(image, block) {
+            continue;
+        }
+        if let Some(dir) = gathered.directory(image.long(block, PARENT)) {
+            gathered.take_aside(alloc, dir)?;
         }
     }
     Ok(())
@@ -46,11 +63,11 @@ fn add_with_parents(
 ) -> Result<(), AllocError>
     requires met { IsNew image.now gathered.old.places.items block }
     requires climbed { length climbed.old.items ≡ block_count image.now }
-    requires gathered { AreGathered image.now gathered.old.entries.items gathered.old.places.items }
+    requires gathered { AreGathered image.now gathered.old }
     requires count { length claims.now ≡ block_count image.now }
     requires claims { AreClaims image.now (block_count image.now) claims.now }
     ensures climbed { length climbed.new.items ≡ block_count image.now }
-    ensures more { OnOk result (GathersMore image.now gathered.old.places.items gathered.new.entries.items gathered.new.places.items) }
+    ensures more { OnOk result (GathersMore image.now gathered.old gathered.new) }
     ensures met { OnOk result (IsSome (place_at gathered.new.places.items block)) }
 {
     let mut above = Vec::new(alloc);
@@ -80,27 +97,18 @@ fn add_found(
     block: u32,
     gathered: &mut Gathered,
 ) -> Result<(), AllocError>
-    requires gathered { AreGathered image.now gathered.old.entries.items gathered.old.places.items }
+    requires gathered { AreGathered image.now gathered.old }
     requires count { length claims.now ≡ block_count image.now }
     requires claims { AreClaims image.now (block_count image.now) claims.now }
-    ensures more { OnOk result (GathersMore image.now gathered.old.places.items gathered.new.entries.items gathered.new.places.items) }
+    ensures more { OnOk result (GathersMore image.now gathered.old gathered.new) }
     ensures met { OnOk result (IsSoundHeader image.now block → IsSome (place_at gathered.new.places.items block)) }
 {
     if !gathered.is_new(image, block) {
         return Ok(());
     }
-    let front = front_of(alloc, gathered, image.long(block, PARENT))?;
-    gathered.add(alloc, image, claims, block, &front, true)
-}
-
-/// The path of the directory for a recovered entry: that of its parent, if that was found.
-fn front_of(alloc: Global, gathered: &Gathered, parent: u32) -> Result<Vec<u8>, AllocError> {
-    let Some(entry) = gathered.entry(parent) else {
-        return joined(alloc, &[], LOST_AND_FOUND);
+    let standing = Standing {
+        above: gathered.directory(image.long(block, PARENT)),
+        found: true,
     };
-    match entry.state {
-        State::Directory if entry.found => joined(alloc, &[], &entry.path),
-        State::Directory => joined(alloc, LOST_AND_FOUND, &entry.path),
-        _ => joined(alloc, &[], LOST_AND_FOUND),
-    }
+    gathered.add(alloc, image, claims, block, standing)
 }

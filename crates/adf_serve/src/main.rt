@@ -1,6 +1,7 @@
 //! An AmigaDOS file system handler for floppy images, as a program.
 #![tactic(auto)]
 
+mod held;
 mod script;
 mod words;
 

@@ -3,6 +3,7 @@ ghost use Rattle.std.specs.Prelude.{◌≡◌, ◌≢◌, ◌⊎◌, [], true, f
 ghost use Rattle.adf_serve.specs.Commands.{RunsCommand};
 ghost use Rattle.adf_serve.specs.Script.{RunsScript};
 
+use crate::held::tell_held;
 use crate::script::try_script;
 use adf_archive::ReadImages;
 use adf_commands::{run_job, status_of};
@@ -18,8 +19,8 @@ use std::thread::Threads;
 
 /// Runs the program on the arguments after its own name, and returns its exit status: 0 success; 1 a wrong command
 /// line; 2 a file or stream that cannot be read or written, no memory, no thread, or a client that ran out of tries; 3
-/// a refused image, name, script or change. Faults of arguments, files and streams are printed on `faults`. With
-/// `terminal`, the progress of a check is printed there too.
+/// a refused image, name, script or change. Faults of arguments, files and streams are printed on `faults`, and which
+/// image is read while another command has it locked. If that is a terminal, the progress of a check is printed there too.
 pub fn run_words<T, R, W, F>(
     rt: &T,
     alloc: Global,
@@ -51,6 +52,7 @@ where
     match read_words(alloc, words) {
         Ok(Job::Script) => run_script(alloc, reader, writer, faults),
         Ok(Job::OnImage(job)) => {
+            tell_held(rt, alloc, &job, faults);
             let watched = faults.is_terminal();
             let done = run_job(rt, alloc, job, watched, writer, faults);
             status_of(done, faults)

@@ -1,6 +1,7 @@
 -- Lemmas for the functions of each module, in the order of the definitions.
 pub mod LettersLemmas
 mod EscapesLemmas
+mod PlainLemmas
 pub mod HostLemmas
 mod ProtectionLettersLemmas
 mod DatedLemmas

@@ -1,7 +1,8 @@
--- Letters of bytes, escapes, names of host files, letters of protection bits, dates at the start of a text, and the
+-- Letters of bytes, escapes, texts for people, names of host files, letters of protection bits, dates at the start of a text, and the
 -- notes beside files, written and read. Definitions for steps are in `steps`.
 pub mod Letters
 pub mod Escapes
+pub mod Plain
 pub mod HostNames
 pub mod ProtectionLetters
 pub mod Dated

@@ -12,7 +12,7 @@ mod uaem_reader;
 
 pub use host::{host_name, host_name_bytes, host_names_come_back};
 pub use letters::{LettersFault, letter_bytes, letter_text, letters_come_back};
-pub use plain::{print_line, print_lines};
+pub use plain::{print_line, print_lines, push_plain};
 pub use protection::{protection_letters, protection_letters_come_back, protection_of_letters};
 pub use uaem::{Uaem, line_tells_one, uaem_line};
 pub use uaem_reader::{UaemFault, read_uaem, uaem_comes_back, uaem_reads_one};

@@ -9,8 +9,12 @@ use ados_model::Role;
 use ados_name::Name;
 use std::alloc::{AllocError, Global};
 
+/// The most bytes of a path that is told, in the letters of the image. It has fewer names.
+const LONGEST_PATH: usize = 4_095;
+
 /// The path of the directory or file that a block belongs to, from the root, in letters (ISO 8859-1) with slashes. It
-/// is empty for the root, and `None` for a bitmap block or a block that the walk did not reach.
+/// is empty for the root, and `None` for a bitmap block, a block that the walk did not reach, or a path of more than
+/// 4,095 bytes.
 pub fn place_of(
     alloc: Global,
     image: &Image,
@@ -27,6 +31,9 @@ pub fn place_of(
         }
         add_name(image, *entry, &mut path)?;
     }
+    if path.len() > LONGEST_PATH {
+        return Ok(None);
+    }
     Ok(Some(letter_text(alloc, &path)?))
 }
 
@@ -37,7 +44,8 @@ pub(crate) fn volume_name(alloc: Global, image: &Image) -> Result<String, AllocE
     letter_text(alloc, &name)
 }
 
-/// The entry that a block belongs to, and each directory above it, without the root.
+/// The entry that a block belongs to, and each directory above it, without the root. `None` if these are more than a path
+/// that is told has.
 fn entries_above(
     alloc: Global,
     marks: &[Option<Mark>],
@@ -45,7 +53,7 @@ fn entries_above(
 ) -> Result<Option<Vec<u32>>, AllocError> {
     let mut entries = Vec::new(alloc);
     let mut here = block;
-    for _ in 0..marks.len() {
+    for _ in 0..marks.len().min(LONGEST_PATH) {
         match role_at(marks, here) {
             Some(Role::Root) => return Ok(Some(entries)),
             Some(Role::Entry(dir, _)) => {

@@ -45,7 +45,7 @@ faulty false false true fault h = refl
 faulty false false false fault h = absurd (let conflict : None ≡ Some fault = h in cc)
 
 -- a text with a fault is no name
-unnamed : (name : List ℕ) (fault : NameFault) → first_fault name ≡ Some fault → is_name name ≡ false
+pub unnamed : (name : List ℕ) (fault : NameFault) → first_fault name ≡ Some fault → is_name name ≡ false
 unnamed name fault has = faulty (length name == 0) (nat_lt 30 (length name)) (list_any is_separator name) fault has
 
 -- a text with a fault is refused

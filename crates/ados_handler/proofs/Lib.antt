@@ -37,3 +37,4 @@ pub mod Emptying
 pub mod MakingFile
 pub mod Spotted
 pub mod SuccessRows
+pub mod WouldWrite

@@ -9,6 +9,7 @@ pub use Rattle.ados_model.specs.Refusals
 pub use Rattle.ados_model.specs.Success
 pub use Rattle.ados_model.specs.Meaning
 pub mod Gives
+pub mod Writes
 pub mod Keeps
 pub mod Closing
 pub mod steps

@@ -1,5 +1,5 @@
 -- Definitions for steps: the results of a packet's method, opening and writing of files, moves of objects, new locks,
--- the table of holds and its positions, and replies that close.
+-- the table of holds and its positions, replies that close, and what objects, places and handles allow.
 pub mod Methods
 pub mod Table
 pub mod Positions
@@ -8,3 +8,4 @@ pub mod Opening
 pub mod Files
 pub mod Moves
 pub mod Closes
+pub mod Allowed

@@ -72,7 +72,7 @@ impl Handler {
     }
 
     /// Whether the object is a directory with entries.
-    fn has_entries(&self, key: u32) -> bool
+    pub(crate) fn has_entries(&self, key: u32) -> bool
         requires { HasKey self.now.image key }
         ensures { (t : Tree) → Stands self.now.image t → result ≡ not (is_empty (entries t key)) }
     {

@@ -4,6 +4,7 @@
 mod attributes;
 mod below;
 mod bytes;
+mod changing;
 mod entries;
 mod files;
 mod free_block;

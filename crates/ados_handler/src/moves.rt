@@ -40,7 +40,7 @@ impl Handler {
     }
 
     /// The object to move, and its new directory and name; or the DOS error.
-    fn source_and_place(
+    pub(crate) fn source_and_place(
         &mut self,
         from_lock: u32,
         from: &PathText,
@@ -61,7 +61,7 @@ impl Handler {
     }
 
     /// The DOS error that refuses a move of an object into a directory under a name, or none.
-    fn move_refusal(&mut self, key: u32, dir: u32, name: &Name) -> Option<DosError>
+    pub(crate) fn move_refusal(&mut self, key: u32, dir: u32, name: &Name) -> Option<DosError>
         requires key { HasKey self.old.image key }
         requires directory { HasDirectory self.old.image dir }
         ensures refusal { (t : Tree) → Stands self.old.image t → result ≡ move_refusal t self.old.session key dir name.now }

@@ -16,7 +16,7 @@ use ados_name::Date3;
 use ados_volume::Volume;
 
 /// The largest size, in bytes, that SET_FILE_SIZE may set.
-const LARGEST: u32 = 2_147_483_647;
+pub(crate) const LARGEST: u32 = 2_147_483_647;
 
 impl Handler {
     /// SET_FILE_SIZE.

@@ -1,14 +1,14 @@
 -- Everything below a directory: all keys whose parents lead up to it, each after its own directory.
-use Rattle.std.proofs.Common.{◌≡◌, ◌≢◌, ℕ, zero, suc, ◌<◌, ◌⊎◌, inl, inr, List, [], ◌∷◌, ◌++◌, length, get_or, Contains, Some, IsSome, is_some, refl, sym, ap, ◌∙◌, subst, arith}
+use Rattle.std.proofs.Common.{◌≡◌, ◌≢◌, ℕ, zero, suc, ◌+◌, ◌<◌, Option, None, Some, ◌⊎◌, inl, inr, List, [], ◌∷◌, ◌++◌, length, get_or, Contains, IsSome, is_some, refl, sym, ap, ◌∙◌, subst, arith}
 use Rattle.std.proofs.lemmas.List.{get_or_default, map-append}
 use Rattle.std.proofs.lemmas.List.Elements.{Contains-append_cases, Contains-append_left, Contains-append_right}
 use Rattle.ados_model.proofs.KeyLists.{Contains-cases, Contains-here, Contains-later, Contains-nil}
-use Rattle.ados_model.specs.Tree.{Tree, Proper, entries, name_of, parent_of}
+use Rattle.ados_model.specs.Tree.{Tree, Proper, entries, parent_of}
 use Rattle.ados_model.proofs.Nodes.{parent_in}
 use Rattle.ados_change.specs.Conditions.{IsUnder}
 use Rattle.ados_change.specs.Conditions.IsUnder.{itself, by_parent as under_parent}
-use Rattle.ados_volume.specs.Located.{Located}
-use Rattle.ados_volume.specs.Below.{AreBelow, located, slash}
+use Rattle.ados_volume.specs.declared.below.Below.{Below}
+use Rattle.ados_volume.specs.Below.{AreBelow, placed}
 use Rattle.ados_volume.specs.Below.AreBelow.{none, entry}
 use Rattle.ados_volume.proofs.Loops.{no_loop}
 use Rattle.ados_volume.proofs.GoingBelow.{keys_of}
@@ -26,9 +26,9 @@ split_append (z ∷ zs) ys (y ∷ front) x back e =
     ]
 
 -- the key of a list's entry is among the list's keys
-pub key_among : (es : List Located) (i : ℕ) (e : Located) → i < length es → e ≡ get_or es i e → Contains (keys_of es) e.key
+pub key_among : (es : List Below) (i : ℕ) (e : Below) → i < length es → e ≡ get_or es i e → Contains (keys_of es) e.key
 key_among [] i e inside is = absurd (omega arith)
-key_among (x ∷ xs) zero e inside is = subst (λ (y : Located). Contains (keys_of (x ∷ xs)) y.key) (sym is) (Contains-here x.key (keys_of xs))
+key_among (x ∷ xs) zero e inside is = subst (λ (y : Below). Contains (keys_of (x ∷ xs)) y.key) (sym is) (Contains-here x.key (keys_of xs))
 key_among (x ∷ xs) (suc i) e inside is = Contains-later x.key (keys_of xs) e.key (key_among xs i e (omega arith) is)
 
 -- it is an entry of a directory that is the top or below it
@@ -36,56 +36,56 @@ abbrev pub StandsUnder : Tree → ℕ → ℕ → Type 0
 StandsUnder t top key = (dir : ℕ) × (parent_of t key ≡ Some dir) × IsUnder t top dir
 
 module _ (t : Tree) (proper : Proper t) where
-  keys_entry : (front : List ℕ) (key : ℕ) (inner others : List Located) → keys_of (located t front key ∷ (inner ++ others)) ≡ key ∷ (keys_of inner ++ keys_of others)
-  keys_entry front key inner others = ap (λ (ks : List ℕ). key ∷ ks) (map-append (λ e. e.key) inner others)
+  keys_entry : (above : Option ℕ) (key : ℕ) (inner others : List Below) → keys_of (placed above key ∷ (inner ++ others)) ≡ key ∷ (keys_of inner ++ keys_of others)
+  keys_entry above key inner others = ap (λ (ks : List ℕ). key ∷ ks) (map-append (λ e. e.key) inner others)
 
   -- the entries of the directory are among them
-  pub has_entries : (front keys : List ℕ) (es : List Located) (x : ℕ) → AreBelow t front keys es → Contains keys x → Contains (keys_of es) x
-  has_entries front keys es x none c = absurd (Contains-nil x c)
-  has_entries front keys es x (entry {key = key} {keys = others} {inner = inner} {others = rest} i o) c =
-      subst (λ (ks : List ℕ). Contains ks x) (sym (keys_entry front key inner rest)) (elim (Contains-cases key others x c) [
+  pub has_entries : (above : Option ℕ) (at : ℕ) (keys : List ℕ) (es : List Below) (x : ℕ) → AreBelow t above at keys es → Contains keys x → Contains (keys_of es) x
+  has_entries above at keys es x none c = absurd (Contains-nil x c)
+  has_entries above at keys es x (entry {key = key} {keys = others} {inner = inner} {others = rest} i o) c =
+      subst (λ (ks : List ℕ). Contains ks x) (sym (keys_entry above key inner rest)) (elim (Contains-cases key others x c) [
         | inl same ↦ subst (Contains (key ∷ (keys_of inner ++ keys_of rest))) same (Contains-here key (keys_of inner ++ keys_of rest))
-        | inr later ↦ Contains-later key (keys_of inner ++ keys_of rest) x (Contains-append_right (keys_of inner) (keys_of rest) x (has_entries front others rest x o later))
+        | inr later ↦ Contains-later key (keys_of inner ++ keys_of rest) x (Contains-append_right (keys_of inner) (keys_of rest) x (has_entries above (length inner + suc at) others rest x o later))
       ])
 
   -- the entries of each of them are among them
-  pub closed : (front keys : List ℕ) (es : List Located) (dir x : ℕ) → AreBelow t front keys es → Contains (keys_of es) dir → Contains (entries t dir) x → Contains (keys_of es) x
-  closed front keys es dir x none c d = absurd (Contains-nil dir c)
-  closed front keys es dir x (entry {key = key} {keys = others} {inner = inner} {others = rest} i o) c d =
-      subst (λ (ks : List ℕ). Contains ks x) (sym (keys_entry front key inner rest)) (Contains-later key (keys_of inner ++ keys_of rest) x
-      (elim (Contains-cases key (keys_of inner ++ keys_of rest) dir (subst (λ (ks : List ℕ). Contains ks dir) (keys_entry front key inner rest) c)) [
-        | inl same ↦ Contains-append_left (keys_of inner) (keys_of rest) x (has_entries (front ++ name_of t key ++ slash) (entries t key) inner x i (subst (λ (k : ℕ). Contains (entries t k) x) (sym same) d))
+  pub closed : (above : Option ℕ) (at : ℕ) (keys : List ℕ) (es : List Below) (dir x : ℕ) → AreBelow t above at keys es → Contains (keys_of es) dir → Contains (entries t dir) x → Contains (keys_of es) x
+  closed above at keys es dir x none c d = absurd (Contains-nil dir c)
+  closed above at keys es dir x (entry {key = key} {keys = others} {inner = inner} {others = rest} i o) c d =
+      subst (λ (ks : List ℕ). Contains ks x) (sym (keys_entry above key inner rest)) (Contains-later key (keys_of inner ++ keys_of rest) x
+      (elim (Contains-cases key (keys_of inner ++ keys_of rest) dir (subst (λ (ks : List ℕ). Contains ks dir) (keys_entry above key inner rest) c)) [
+        | inl same ↦ Contains-append_left (keys_of inner) (keys_of rest) x (has_entries (Some at) (suc at) (entries t key) inner x i (subst (λ (k : ℕ). Contains (entries t k) x) (sym same) d))
         | inr later ↦ elim (Contains-append_cases (keys_of inner) (keys_of rest) dir later) [
-          | inl in_it ↦ Contains-append_left (keys_of inner) (keys_of rest) x (closed (front ++ name_of t key ++ slash) (entries t key) inner dir x i in_it d)
-          | inr behind ↦ Contains-append_right (keys_of inner) (keys_of rest) x (closed front others rest dir x o behind d)
+          | inl in_it ↦ Contains-append_left (keys_of inner) (keys_of rest) x (closed (Some at) (suc at) (entries t key) inner dir x i in_it d)
+          | inr behind ↦ Contains-append_right (keys_of inner) (keys_of rest) x (closed above (length inner + suc at) others rest dir x o behind d)
         ]
       ]))
 
   -- each of them is an entry of a directory at or below the top, if the first ones are
-  all_held : (top : ℕ) (front keys : List ℕ) (es : List Located) (x : ℕ) → AreBelow t front keys es → ((k : ℕ) → Contains keys k → StandsUnder t top k) → Contains (keys_of es) x → StandsUnder t top x
-  all_held top front keys es x none h c = absurd (Contains-nil x c)
-  all_held top front keys es x (entry {key = key} {keys = others} {inner = inner} {others = rest} i o) h c =
+  all_held : (top : ℕ) (above : Option ℕ) (at : ℕ) (keys : List ℕ) (es : List Below) (x : ℕ) → AreBelow t above at keys es → ((k : ℕ) → Contains keys k → StandsUnder t top k) → Contains (keys_of es) x → StandsUnder t top x
+  all_held top above at keys es x none h c = absurd (Contains-nil x c)
+  all_held top above at keys es x (entry {key = key} {keys = others} {inner = inner} {others = rest} i o) h c =
       let here = h key (Contains-here key others) in
-      elim (Contains-cases key (keys_of inner ++ keys_of rest) x (subst (λ (ks : List ℕ). Contains ks x) (keys_entry front key inner rest) c)) [
+      elim (Contains-cases key (keys_of inner ++ keys_of rest) x (subst (λ (ks : List ℕ). Contains ks x) (keys_entry above key inner rest) c)) [
         | inl same ↦ subst (StandsUnder t top) same here
         | inr later ↦ elim (Contains-append_cases (keys_of inner) (keys_of rest) x later) [
-          | inl in_it ↦ all_held top (front ++ name_of t key ++ slash) (entries t key) inner x i (λ k m. (key, (proper.listed key k).0 m, under_parent here.1 here.2)) in_it
-          | inr behind ↦ all_held top front others rest x o (λ k m. h k (Contains-later key others k m)) behind
+          | inl in_it ↦ all_held top (Some at) (suc at) (entries t key) inner x i (λ k m. (key, (proper.listed key k).0 m, under_parent here.1 here.2)) in_it
+          | inr behind ↦ all_held top above (length inner + suc at) others rest x o (λ k m. h k (Contains-later key others k m)) behind
         ]
       ]
 
   -- each comes after its own directory, except the first ones
-  pub behind_own : (dir : ℕ) (front keys : List ℕ) (es : List Located) (before : List ℕ) (x : ℕ) (after : List ℕ) → AreBelow t front keys es → ((k : ℕ) → Contains keys k → parent_of t k ≡ Some dir) → keys_of es ≡ before ++ x ∷ after
+  pub behind_own : (dir : ℕ) (above : Option ℕ) (at : ℕ) (keys : List ℕ) (es : List Below) (before : List ℕ) (x : ℕ) (after : List ℕ) → AreBelow t above at keys es → ((k : ℕ) → Contains keys k → parent_of t k ≡ Some dir) → keys_of es ≡ before ++ x ∷ after
       → (d : ℕ) → parent_of t x ≡ Some d → Contains (dir ∷ before) d
-  behind_own dir front keys es before x after none h e d p = absurd (nothing before e)
+  behind_own dir above at keys es before x after none h e d p = absurd (nothing before e)
     where
       nothing : (before : List ℕ) → [] ≡ before ++ x ∷ after → ⊥
       nothing [] e = cc e
       nothing (b ∷ bs) e = cc e
-  behind_own dir front keys es before x after (entry {key = key} {keys = others} {inner = inner} {others = rest} i o) h e d p =
-      go before (sym (keys_entry front key inner rest) ∙ e)
-      (λ f b g. behind_own key (front ++ name_of t key ++ slash) (entries t key) inner f x b i (λ k c. (proper.listed key k).0 c) g d p)
-      (λ f b g. behind_own dir front others rest f x b o (λ k c. h k (Contains-later key others k c)) g d p)
+  behind_own dir above at keys es before x after (entry {key = key} {keys = others} {inner = inner} {others = rest} i o) h e d p =
+      go before (sym (keys_entry above key inner rest) ∙ e)
+      (λ f b g. behind_own key (Some at) (suc at) (entries t key) inner f x b i (λ k c. (proper.listed key k).0 c) g d p)
+      (λ f b g. behind_own dir above (length inner + suc at) others rest f x b o (λ k c. h k (Contains-later key others k c)) g d p)
     where
       go : (before : List ℕ) → key ∷ (keys_of inner ++ keys_of rest) ≡ before ++ x ∷ after
           → ((f b : List ℕ) → keys_of inner ≡ f ++ x ∷ b → Contains (key ∷ f) d)
@@ -112,30 +112,30 @@ module _ (t : Tree) (proper : Proper t) where
           ]
 
   -- a key whose parents lead up to the top is the top or among them
-  pub under_among : (top : ℕ) (es : List Located) (k : ℕ) → AreBelow t [] (entries t top) es → IsUnder t top k → Contains (top ∷ keys_of es) k
+  pub under_among : (top : ℕ) (es : List Below) (k : ℕ) → AreBelow t None 0 (entries t top) es → IsUnder t top k → Contains (top ∷ keys_of es) k
   under_among top es k b (itself same) = subst (Contains (top ∷ keys_of es)) (sym same) (Contains-here top (keys_of es))
   under_among top es k b (under_parent {dir = dir} p u) =
       let listed = (proper.listed dir k).1 p in
       elim (Contains-cases top (keys_of es) dir (under_among top es dir b u)) [
-        | inl same ↦ Contains-later top (keys_of es) k (has_entries [] (entries t top) es k b (subst (λ (d : ℕ). Contains (entries t d) k) (sym same) listed))
-        | inr m ↦ Contains-later top (keys_of es) k (closed [] (entries t top) es dir k b m listed)
+        | inl same ↦ Contains-later top (keys_of es) k (has_entries None 0 (entries t top) es k b (subst (λ (d : ℕ). Contains (entries t d) k) (sym same) listed))
+        | inr m ↦ Contains-later top (keys_of es) k (closed None 0 (entries t top) es dir k b m listed)
       ]
 
-  pub among_held : (top : ℕ) (es : List Located) (k : ℕ) → AreBelow t [] (entries t top) es → Contains (keys_of es) k → StandsUnder t top k
-  among_held top es k b c = all_held top [] (entries t top) es k b (λ x m. (top, (proper.listed top x).0 m, itself refl)) c
+  pub among_held : (top : ℕ) (es : List Below) (k : ℕ) → AreBelow t None 0 (entries t top) es → Contains (keys_of es) k → StandsUnder t top k
+  among_held top es k b c = all_held top None 0 (entries t top) es k b (λ x m. (top, (proper.listed top x).0 m, itself refl)) c
 
   -- each entry below a directory has a node
-  pub there_below : (top : ℕ) (es : List Located) → AreBelow t [] (entries t top) es → (i : ℕ) (d : Located) → i < length es → IsSome (t.nodes (get_or es i d).key)
+  pub there_below : (top : ℕ) (es : List Below) → AreBelow t None 0 (entries t top) es → (i : ℕ) (d : Below) → i < length es → IsSome (t.nodes (get_or es i d).key)
   there_below top es b i d inside =
       let e = get_or es i d in
       let h = among_held top es e.key b (key_among es i e inside (get_or_default es i d e inside)) in
       ap is_some (parent_in (t.nodes e.key) h.0 h.1).1
 
-  pub among_under : (top : ℕ) (es : List Located) (k : ℕ) → AreBelow t [] (entries t top) es → Contains (keys_of es) k → IsUnder t top k
+  pub among_under : (top : ℕ) (es : List Below) (k : ℕ) → AreBelow t None 0 (entries t top) es → Contains (keys_of es) k → IsUnder t top k
   among_under top es k b c = let h = among_held top es k b c in under_parent h.1 h.2
 
   -- the top is not among them
-  pub among_other : (top : ℕ) (es : List Located) (k : ℕ) → AreBelow t [] (entries t top) es → Contains (keys_of es) k → k ≢ top
+  pub among_other : (top : ℕ) (es : List Below) (k : ℕ) → AreBelow t None 0 (entries t top) es → Contains (keys_of es) k → k ≢ top
   among_other top es k b c same =
       let h = among_held top es k b c in
       let n = parent_in (t.nodes k) h.0 h.1 in

@@ -1,5 +1,5 @@
 -- The progress of a walk over everything below a directory.
-use Rattle.std.proofs.Common.{◌≡◌, ◌≢◌, ℕ, suc, ◌<◌, inl, inr, List, [], ◌∷◌, ◌++◌, length, map, reverse, Contains, Some, IsSome, is_some, refl, sym, ap, ◌∙◌, subst, arith, append_assoc, length-append}
+use Rattle.std.proofs.Common.{◌≡◌, ◌≢◌, ℕ, suc, ◌+◌, ◌<◌, Option, None, Some, inl, inr, List, [], ◌∷◌, ◌++◌, length, map, reverse, Contains, IsSome, is_some, refl, sym, ap, ◌∙◌, subst, arith, append_assoc, length-append}
 use Rattle.std.proofs.lemmas.List.{append-nil, map-append, reverse-append}
 use Rattle.std.proofs.lemmas.List.Elements.{Contains-append_cases, Contains-append_left, Contains-append_right}
 use Rattle.ados_model.proofs.KeyLists.{Once, Once-before, Once-front, Contains-cases, Contains-here, Contains-later, Contains-nil, length-once, Once-append}
@@ -7,15 +7,15 @@ use Rattle.ados_model.specs.Tree.{Tree, Proper, entries, parent_of}
 use Rattle.ados_model.proofs.Nodes.{parent_in}
 use Rattle.ados_change.specs.Conditions.{IsUnder}
 use Rattle.ados_change.specs.Conditions.IsUnder.{itself, by_parent as under_parent}
-use Rattle.ados_volume.specs.Located.{Located}
-use Rattle.ados_volume.specs.Below.{AreBelow, located, slash}
+use Rattle.ados_volume.specs.declared.below.Below.{Below}
+use Rattle.ados_volume.specs.Below.{AreBelow, HasGrown, placed}
 use Rattle.ados_volume.proofs.Loops.{no_loop}
 use Rattle.ados_volume.proofs.Distinct.{Once-nil, Once-one, Once-reverse, Contains-one, Contains-reverse}
 use Rattle.ados_volume.proofs.Waiting.{Following, inside, parted}
 use Rattle.ados_volume.proofs.Waiting.Following.{done, next}
 
 -- the keys of entries
-abbrev pub keys_of : List Located → List ℕ
+abbrev pub keys_of : List Below → List ℕ
 keys_of es = map (λ e. e.key) es
 
 -- the entry's directory was visited, and is the top or below it
@@ -133,67 +133,114 @@ module _ (t : Tree) (proper : Proper t) (top : ℕ) where
       ];
     }
 
--- these were visited, and those wait, the next one last
-pub record IsGoing (t : Tree) (top : ℕ) (gone waiting : List Located) : Type 0 where
-  pub follows : (more : List Located) → Following t (reverse waiting) more → AreBelow t [] (entries t top) (gone ++ more)
+-- from position `at` on these were visited, and those wait, the next one last; the top is at position `above`
+pub record IsGoing (t : Tree) (top : ℕ) (above : Option ℕ) (at : ℕ) (gone waiting : List Below) : Type 0 where
+  pub follows : (more : List Below) → Following t (length gone + at) (reverse waiting) more → AreBelow t above at (entries t top) (gone ++ more)
   pub keys : AreApart t top (keys_of gone) (keys_of waiting)
 
-keys_inside : (t : Tree) (front keys : List ℕ) → keys_of (map (located t front) keys) ≡ keys
-keys_inside t front [] = refl
-keys_inside t front (k ∷ ks) = ap (λ (xs : List ℕ). k ∷ xs) (keys_inside t front ks)
+keys_inside : (above : Option ℕ) (keys : List ℕ) → keys_of (map (placed above) keys) ≡ keys
+keys_inside above [] = refl
+keys_inside above (k ∷ ks) = ap (λ (xs : List ℕ). k ∷ xs) (keys_inside above ks)
 
-keys_reverse : (es : List Located) → keys_of (reverse es) ≡ reverse (keys_of es)
+keys_reverse : (es : List Below) → keys_of (reverse es) ≡ reverse (keys_of es)
 keys_reverse [] = refl
 keys_reverse (e ∷ es) =
     ap keys_of (reverse-append (e ∷ []) es) ∙ map-append (λ e. e.key) (reverse es) (e ∷ []) ∙ ap (λ (xs : List ℕ). xs ++ e.key ∷ []) (keys_reverse es) ∙ sym (reverse-append (e.key ∷ []) (keys_of es))
 
-reverse_twice : (es : List Located) → reverse (reverse es) ≡ es
+reverse_twice : (es : List Below) → reverse (reverse es) ≡ es
 reverse_twice [] = refl
-reverse_twice (e ∷ es) = ap reverse (reverse-append (e ∷ []) es) ∙ reverse-append (reverse es) (e ∷ []) ∙ ap (λ (xs : List Located). e ∷ xs) (reverse_twice es)
+reverse_twice (e ∷ es) = ap reverse (reverse-append (e ∷ []) es) ∙ reverse-append (reverse es) (e ∷ []) ∙ ap (λ (xs : List Below). e ∷ xs) (reverse_twice es)
 
-module _ (t : Tree) (proper : Proper t) (top : ℕ) where
-  pub going_starts : (waiting : List Located) → waiting ≡ reverse (map (located t []) (entries t top)) → IsGoing t top [] waiting
+module _ (t : Tree) (proper : Proper t) (top : ℕ) (above : Option ℕ) (at : ℕ) where
+  pub going_starts : (waiting : List Below) → waiting ≡ reverse (map (placed above) (entries t top)) → IsGoing t top above at [] waiting
   going_starts waiting is = record {
     follows = λ more f.
-        let p = parted t (length more) [] (entries t top) [] more (omega arith)
-        (subst (λ (es : List Located). Following t es more) (ap reverse is ∙ reverse_twice (map (located t []) (entries t top)) ∙ sym (append-nil (map (located t []) (entries t top)))) f) in
-        subst (AreBelow t [] (entries t top)) (sym (p.whole ∙ none_left p.below p.others p.follow)) p.are_below;
-    keys = subst (AreApart t top []) (sym (ap keys_of is ∙ keys_reverse (map (located t []) (entries t top)) ∙ ap reverse (keys_inside t [] (entries t top)))) (apart_at_first t proper top);
+        let same : 0 + at ≡ at = omega arith in
+        let p = parted t (length more) above at (entries t top) [] more (omega arith)
+        (subst (λ (es : List Below). Following t at es more) (ap reverse is ∙ reverse_twice own ∙ sym (append-nil own)) (subst (λ (k : ℕ). Following t k (reverse waiting) more) same f)) in
+        subst (AreBelow t above at (entries t top)) (sym (p.whole ∙ none_left (length p.below + at) p.below p.others p.follow)) p.are_below;
+    keys = subst (AreApart t top []) (sym (ap keys_of is ∙ keys_reverse own ∙ ap reverse (keys_inside above (entries t top)))) (apart_at_first t proper top);
   }
     where
-      none_left : (below others : List Located) → Following t [] others → below ++ others ≡ below
-      none_left below others done = append-nil below
+      own : List Below
+      own = map (placed above) (entries t top)
 
-  module _ (gone others : List Located) (e : Located) (g : IsGoing t top gone (others ++ e ∷ [])) where
+      none_left : (place : ℕ) (below others : List Below) → Following t place [] others → below ++ others ≡ below
+      none_left place below others done = append-nil below
+
+  module _ (gone others : List Below) (e : Below) (g : IsGoing t top above at gone (others ++ e ∷ [])) where
     apart : AreApart t top (keys_of gone) (keys_of others ++ e.key ∷ [])
     apart = subst (AreApart t top (keys_of gone)) (map-append (λ e. e.key) others (e ∷ [])) g.keys
 
     pub going_few : length gone < t.blocks
     going_few = let few = gone_few t proper top (keys_of gone) (keys_of others) e.key apart in omega (arith, few, length_keys gone)
       where
-        length_keys : (es : List Located) → length (keys_of es) ≡ length es
+        length_keys : (es : List Below) → length (keys_of es) ≡ length es
         length_keys [] = refl
         length_keys (e ∷ es) = ap suc (length_keys es)
 
     pub going_there : IsSome (t.nodes e.key)
     going_there = key_there t proper top (keys_of gone) (keys_of others) e.key apart
 
-    pub going_goes_on : (waiting : List Located) → waiting ≡ others ++ reverse (inside t e) → IsGoing t top (gone ++ e ∷ []) waiting
+    pub going_goes_on : (waiting : List Below) → waiting ≡ others ++ reverse (inside t (length gone + at) e) → IsGoing t top above at (gone ++ e ∷ []) waiting
     going_goes_on waiting is = record {
       follows = λ more f.
-          let turned : reverse waiting ≡ inside t e ++ reverse others = ap reverse is ∙ reverse-append others (reverse (inside t e)) ∙ ap (λ (es : List Located). es ++ reverse others) (reverse_twice (inside t e)) in
-          let from_e : Following t (e ∷ reverse others) (e ∷ more) = next (subst (λ (es : List Located). Following t es more) turned f) in
-          subst (AreBelow t [] (entries t top)) (sym (append_assoc gone (e ∷ []) more)) (g.follows (e ∷ more) (subst (λ (es : List Located). Following t es (e ∷ more)) (sym (reverse-append others (e ∷ []))) from_e));
+          let after : length (gone ++ e ∷ []) + at ≡ suc (length gone + at) = omega (arith, length-append gone (e ∷ [])) in
+          let turned : reverse waiting ≡ own ++ reverse others = ap reverse is ∙ reverse-append others (reverse own) ∙ ap (λ (es : List Below). es ++ reverse others) (reverse_twice own) in
+          let from_e : Following t (length gone + at) (e ∷ reverse others) (e ∷ more) =
+          next (subst (λ (es : List Below). Following t (suc (length gone + at)) es more) turned (subst (λ (k : ℕ). Following t k (reverse waiting) more) after f)) in
+          subst (AreBelow t above at (entries t top)) (sym (append_assoc gone (e ∷ []) more))
+          (g.follows (e ∷ more) (subst (λ (es : List Below). Following t (length gone + at) es (e ∷ more)) (sym (reverse-append others (e ∷ []))) from_e));
       keys = subst (λ (xs : List ℕ). AreApart t top xs (keys_of waiting)) (sym (map-append (λ e. e.key) gone (e ∷ [])))
           (subst (AreApart t top (keys_of gone ++ e.key ∷ [])) (sym waits) (apart_goes_on t proper top (keys_of gone) (keys_of others) e.key apart));
     }
       where
+        own : List Below
+        own = inside t (length gone + at) e
+
         waits : keys_of waiting ≡ keys_of others ++ reverse (entries t e.key)
         waits =
-            ap keys_of is ∙ map-append (λ e. e.key) others (reverse (inside t e))
-            ∙ ap (λ (xs : List ℕ). keys_of others ++ xs) (keys_reverse (inside t e) ∙ ap reverse (keys_inside t (e.path ++ slash) (entries t e.key)))
+            ap keys_of is ∙ map-append (λ e. e.key) others (reverse own)
+            ∙ ap (λ (xs : List ℕ). keys_of others ++ xs) (keys_reverse own ∙ ap reverse (keys_inside (Some (length gone + at)) (entries t e.key)))
 
   -- when nothing waits, everything was visited
-  pub going_ends : (gone waiting : List Located) → waiting ≡ [] → IsGoing t top gone waiting → AreBelow t [] (entries t top) gone
+  pub going_ends : (gone waiting : List Below) → waiting ≡ [] → IsGoing t top above at gone waiting → AreBelow t above at (entries t top) gone
   going_ends gone waiting is g =
-      subst (AreBelow t [] (entries t top)) (append-nil gone) (g.follows [] (subst (λ (es : List Located). Following t (reverse es) []) (sym is) done))
+      subst (AreBelow t above at (entries t top)) (append-nil gone) (g.follows [] (subst (λ (es : List Below). Following t (length gone + at) (reverse es) []) (sym is) done))
+
+-- the entries that a list has grown by were visited, and those wait
+pub record GrowsOn (t : Tree) (top : ℕ) (above : Option ℕ) (old found waiting : List Below) : Type 0 where
+  pub gone : List Below
+  pub grown : found ≡ old ++ gone
+  pub going : IsGoing t top above (length old) gone waiting
+
+module _ (t : Tree) (proper : Proper t) (top : ℕ) (above : Option ℕ) (old : List Below) where
+  pub grows_first : (waiting : List Below) → waiting ≡ reverse (map (placed above) (entries t top)) → GrowsOn t top above old old waiting
+  grows_first waiting is = record { gone = []; grown = sym (append-nil old); going = going_starts t proper top above (length old) waiting is }
+
+  module _ (found others : List Below) (e : Below) (g : GrowsOn t top above old found (others ++ e ∷ [])) where
+    pub grows_few : length found < t.blocks + length old
+    grows_few = let few = going_few t proper top above (length old) g.gone others e g.going in omega (arith, few, ap length g.grown, length-append old g.gone)
+
+    pub grows_there : IsSome (t.nodes e.key)
+    grows_there = going_there t proper top above (length old) g.gone others e g.going
+
+    pub grows_on : (waiting : List Below) → waiting ≡ others ++ reverse (inside t (length found) e) → GrowsOn t top above old (found ++ e ∷ []) waiting
+    grows_on waiting is = record {
+      gone = g.gone ++ e ∷ [];
+      grown = ap (λ (es : List Below). es ++ e ∷ []) g.grown ∙ append_assoc old g.gone (e ∷ []);
+      going = going_goes_on t proper top above (length old) g.gone others e g.going waiting
+          (subst (λ (k : ℕ). waiting ≡ others ++ reverse (inside t k e)) place is);
+    }
+      where
+        place : length found ≡ length g.gone + length old
+        place = omega (arith, ap length g.grown, length-append old g.gone)
+
+  -- when nothing waits, the list has grown by everything below
+  pub grown_all : (found waiting : List Below) → waiting ≡ [] → GrowsOn t top above old found waiting → HasGrown t above top old found
+  grown_all found waiting is g = record {
+    more = g.gone;
+    grown = g.grown;
+    below = going_ends t proper top above (length old) g.gone waiting is g.going;
+    once = g.going.keys.gone_once;
+  }

@@ -1,5 +1,5 @@
 -- `check` decides; blank images; the description of a tree by its image; the caches through each change; the bound of
--- free blocks; and everything below a directory.
+-- free blocks; everything below a directory; and the owners of blocks.
 pub mod Decided
 pub mod BlankRoot
 pub mod BlankMarks
@@ -27,3 +27,5 @@ pub mod PathWalks
 pub mod Taking
 pub mod WholeFile
 pub mod LastName
+pub mod Owning
+pub mod OwningFiles

@@ -1,13 +1,6 @@
 -- Keys popped from a list, the last first, and pushed on a stack.
-use Rattle.std.proofs.Common.{◌≡◌, ℕ, List, [], ◌∷◌, ◌++◌, map, reverse, Contains, sym, ap, ◌∙◌, subst, append_assoc}
+use Rattle.std.proofs.Common.{◌≡◌, ℕ, List, [], ◌∷◌, ◌++◌, map, reverse, sym, ap, ◌∙◌, append_assoc}
 use Rattle.std.proofs.lemmas.List.{reverse-append}
-use Rattle.std.proofs.lemmas.List.Elements.{Contains-append_left, Contains-append_right}
-use Rattle.ados_model.proofs.KeyLists.{Contains-here}
-
--- the last of a list is in it
-pub last_is_in : (all keys rest taken : List ℕ) (key : ℕ) → all ≡ keys ++ taken → keys ≡ rest ++ key ∷ [] → Contains all key
-last_is_in all keys rest taken key e f =
-    subst (λ (xs : List ℕ). Contains xs key) (sym e) (Contains-append_left keys taken key (subst (λ (xs : List ℕ). Contains xs key) (sym f) (Contains-append_right rest (key ∷ []) key (Contains-here key []))))
 
 pub taken_more : (all keys rest taken : List ℕ) (key : ℕ) → all ≡ keys ++ taken → keys ≡ rest ++ key ∷ [] → all ≡ rest ++ key ∷ taken
 taken_more all keys rest taken key e f = e ∙ ap (λ (xs : List ℕ). xs ++ taken) f ∙ append_assoc rest (key ∷ []) taken

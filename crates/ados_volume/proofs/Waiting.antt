@@ -1,45 +1,48 @@
 -- The walk over waiting entries visits exactly everything below.
-use Rattle.std.proofs.Common.{◌≡◌, ℕ, zero, suc, ◌≤◌, List, [], ◌∷◌, ◌++◌, map, length, refl, sym, ap, ◌∙◌, arith, append_assoc, length-append}
-use Rattle.ados_model.specs.Tree.{Tree, entries, name_of}
-use Rattle.ados_volume.specs.Located.{Located}
-use Rattle.ados_volume.specs.Below.{AreBelow, located, slash}
+use Rattle.std.proofs.Common.{◌≡◌, ℕ, zero, suc, ◌+◌, ◌≤◌, Option, Some, List, [], ◌∷◌, ◌++◌, map, length, refl, sym, ap, ◌∙◌, subst, arith, append_assoc, length-append}
+use Rattle.ados_model.specs.Tree.{Tree, entries}
+use Rattle.ados_volume.specs.declared.below.Below.{Below}
+use Rattle.ados_volume.specs.Below.{AreBelow, placed}
 use Rattle.ados_volume.specs.Below.AreBelow.{none, entry}
 
--- the entries of an entry
-abbrev pub inside : Tree → Located → List Located
-inside t e = map (located t (e.path ++ slash)) (entries t e.key)
+-- the entries of an entry at a position
+abbrev pub inside : Tree → ℕ → Below → List Below
+inside t at e = map (placed (Some at)) (entries t e.key)
 
--- the entries visited from these waiting ones: the first, then those from its contents and the others
-pub data Following (t : Tree) : List Located → List Located → Type 0 where
-  done : Following t [] []
-  next : {first : Located} {rest more : List Located} → Following t (inside t first ++ rest) more → Following t (first ∷ rest) (first ∷ more)
+-- the entries visited from these waiting ones, from a position on: the first, then those from its contents and the others
+pub data Following (t : Tree) : ℕ → List Below → List Below → Type 0 where
+  done : {at : ℕ} → Following t at [] []
+  next : {at : ℕ} {first : Below} {rest more : List Below} → Following t (suc at) (inside t at first ++ rest) more → Following t at (first ∷ rest) (first ∷ more)
 
 -- the first waiting entry is visited first
-first_follows : (t : Tree) (first : Located) (rest more : List Located) → Following t (first ∷ rest) more → (left : List Located) × (more ≡ first ∷ left) × Following t (inside t first ++ rest) left
-first_follows t first rest more (next {more = left} f) = (left, refl, f)
+first_follows : (t : Tree) (at : ℕ) (first : Below) (rest more : List Below) → Following t at (first ∷ rest) more → (left : List Below) × (more ≡ first ∷ left) × Following t (suc at) (inside t at first ++ rest) left
+first_follows t at first rest more (next {more = left} f) = (left, refl, f)
 
 -- the entries visited from those of a directory, before the others
-pub record Parted (t : Tree) (front : List ℕ) (keys : List ℕ) (rest more : List Located) : Type 0 where
-  pub below : List Located
-  pub others : List Located
+pub record Parted (t : Tree) (above : Option ℕ) (at : ℕ) (keys : List ℕ) (rest more : List Below) : Type 0 where
+  pub below : List Below
+  pub others : List Below
   pub whole : more ≡ below ++ others
-  pub are_below : AreBelow t front keys below
-  pub follow : Following t rest others
+  pub are_below : AreBelow t above at keys below
+  pub follow : Following t (length below + at) rest others
 
-pub parted : (t : Tree) (n : ℕ) (front keys : List ℕ) (rest more : List Located) → length more ≤ n → Following t (map (located t front) keys ++ rest) more → Parted t front keys rest more
-parted t n front [] rest more short f = record { below = []; others = more; whole = refl; are_below = none; follow = f }
-parted t zero front (key ∷ keys) rest more short f =
-    let first = first_follows t (located t front key) (map (located t front) keys ++ rest) more f in
+pub parted : (t : Tree) (n : ℕ) (above : Option ℕ) (at : ℕ) (keys : List ℕ) (rest more : List Below) → length more ≤ n → Following t at (map (placed above) keys ++ rest) more → Parted t above at keys rest more
+parted t n above at [] rest more short f =
+    let same : at ≡ 0 + at = omega arith in
+    record { below = []; others = more; whole = refl; are_below = none; follow = subst (λ (k : ℕ). Following t k rest more) same f }
+parted t zero above at (key ∷ keys) rest more short f =
+    let first = first_follows t at (placed above key) (map (placed above) keys ++ rest) more f in
     absurd (omega (arith, short, ap length first.1))
-parted t (suc n) front (key ∷ keys) rest more short f =
-    let head = located t front key in
-    let first = first_follows t head (map (located t front) keys ++ rest) more f in
-    let in_it = parted t n (front ++ name_of t key ++ slash) (entries t key) (map (located t front) keys ++ rest) first.0 (omega (arith, short, ap length first.1)) first.2 in
-    let after = parted t n front keys rest in_it.others (omega (arith, short, ap length first.1, ap length in_it.whole, length-append in_it.below in_it.others)) in_it.follow in
+parted t (suc n) above at (key ∷ keys) rest more short f =
+    let head = placed above key in
+    let first = first_follows t at head (map (placed above) keys ++ rest) more f in
+    let in_it = parted t n (Some at) (suc at) (entries t key) (map (placed above) keys ++ rest) first.0 (omega (arith, short, ap length first.1)) first.2 in
+    let after = parted t n above (length in_it.below + suc at) keys rest in_it.others (omega (arith, short, ap length first.1, ap length in_it.whole, length-append in_it.below in_it.others)) in_it.follow in
+    let place : length after.below + (length in_it.below + suc at) ≡ length (head ∷ (in_it.below ++ after.below)) + at = omega (arith, length-append in_it.below after.below) in
     record {
       below = head ∷ (in_it.below ++ after.below);
       others = after.others;
-      whole = first.1 ∙ ap (λ (xs : List Located). head ∷ xs) (in_it.whole ∙ ap (λ (xs : List Located). in_it.below ++ xs) after.whole ∙ sym (append_assoc in_it.below after.below after.others));
+      whole = first.1 ∙ ap (λ (xs : List Below). head ∷ xs) (in_it.whole ∙ ap (λ (xs : List Below). in_it.below ++ xs) after.whole ∙ sym (append_assoc in_it.below after.below after.others));
       are_below = entry in_it.are_below after.are_below;
-      follow = after.follow;
+      follow = subst (λ (k : ℕ). Following t k rest after.others) place after.follow;
     }

@@ -1,4 +1,4 @@
--- What contracts see of a volume and of the entries below a directory, and the results of its calls. Definitions for steps are in `steps`.
+-- What contracts see of a volume, of the entries below a directory and of the owners of blocks, and the results of its calls. Definitions for steps are in `steps`.
 pub mod Shown
 pub mod Checked
 pub use Rattle.ados_model.specs.Objects
@@ -8,4 +8,5 @@ pub mod Refused
 pub mod Located
 pub mod Below
 pub mod Paths
+pub mod Owners
 pub mod steps

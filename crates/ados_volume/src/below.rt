@@ -1,107 +1,73 @@
 //! Everything below a directory.
 
-ghost use Rattle.std.specs.Prelude.{◌≡◌, ◌≢◌, ◌++◌, [], ◌∷◌, IfOk, OnOk, AllPairs, map};
+ghost use Rattle.std.specs.Prelude.{◌≡◌, ◌≢◌, ◌++◌, None, IfOk, OnOk, AllPairs, map};
 ghost use Rattle.ados_model.specs.Tree.{Tree, entries};
 ghost use Rattle.ados_model.specs.Stands.{Stands};
 ghost use Rattle.ados_model.specs.Keys.{HasKey};
-ghost use Rattle.ados_volume.specs.Below.{AreBelow, located, slash};
+ghost use Rattle.ados_volume.specs.Below.{AreBelow, HasGrown};
 ghost use Rattle.ados_volume.specs.steps.Stack.{stacked};
 
 use crate::volume::Volume;
 use ados_chain::Next;
 use std::alloc::{AllocError, Global};
-use std::marker::Model;
 
-/// An entry below a directory: its key, and its path from there, with a `/` between names.
-#[derive(Drop)]
+/// An entry in a list of everything below a directory. It has no path, so that the list of a deep volume is short.
+#[derive(Clone, Copy)]
 pub struct Below {
-    key: u32,
-    path: Vec<u8>,
-}
-
-impl Model for Below {
-    ghost use Rattle.ados_volume.specs.Located.{Located};
-
-    ghost Value = { Located };
-
-    ghost view = { λ below. record { key = below.key; path = below.path.items } };
-}
-
-impl Below {
     /// The entry's key.
-    pub fn key(&self) -> u32
-        ensures { result ≡ self.now.key }
-    {
-        self.key
-    }
-
-    /// The entry's path.
-    pub fn path(&self) -> &[u8]
-        ensures { result.now ≡ self.now.path }
-    {
-        self.path.as_slice()
-    }
-
-    /// An entry whose path is a prefix and its name.
-    fn behind(alloc: Global, volume: &Volume, front: &[u8], key: u32) -> Result<Below, AllocError>
-        requires { HasKey volume.now.image key }
-        ensures { IfOk result (λ below. (t : Tree) → Stands volume.now.image t → below ≡ located t front.now key) }
-    {
-        let mut path = Vec::new(alloc);
-        path.extend_from_slice(front)?;
-        path.extend_from_slice(volume.examine(key).name.bytes())?;
-        Ok(Below { key, path })
-    }
+    pub key: u32,
+    /// The position of its directory in the list, which is before it. `None`: the directory is not in the list.
+    pub above: Option<usize>,
 }
 
 /// All entries below a directory, each once: a directory before its entries, these in its order. A file has none.
 pub fn entries_below(alloc: Global, volume: &Volume, top: u32) -> Result<Vec<Below>, AllocError>
     requires { HasKey volume.now.image top }
-    ensures below { IfOk result (λ found. (t : Tree) → Stands volume.now.image t → AreBelow t [] (entries t top) found.items) }
+    ensures below { IfOk result (λ found. (t : Tree) → Stands volume.now.image t → AreBelow t None 0 (entries t top) found.items) }
     ensures once { IfOk result (λ found. AllPairs (λ j k. j ≢ k) (map (λ below. below.key) found.items)) }
 {
     prove!(volume.image().blocks() >= 16);
     let mut found = Vec::new(alloc);
-    let mut waiting = Vec::new(alloc);
-    push_entries(alloc, volume, &[], top, &mut waiting)?;
-    while let Some(entry) = waiting.pop() {
-        push_inside(alloc, volume, &entry, &mut waiting)?;
-        found.push(entry)?;
-    }
+    push_below(alloc, volume, None, top, &mut found)?;
     Ok(found)
 }
 
-/// Pushes the contents of an entry on the stack, the first on top.
-fn push_inside(
+/// Appends all entries below a directory to a list, each once: a directory before its entries, these in its order. The
+/// directory itself is at the position `above` of the list, if it is there. A file has none.
+pub fn push_below(
     alloc: Global,
     volume: &Volume,
-    entry: &Below,
-    waiting: &mut Vec<Below>,
+    above: Option<usize>,
+    top: u32,
+    found: &mut Vec<Below>,
 ) -> Result<(), AllocError>
-    requires { HasKey volume.now.image entry.now.key }
-    ensures { OnOk result ((t : Tree) → Stands volume.now.image t
-        → waiting.new.items ≡ waiting.old.items ++ stacked t (entry.now.path ++ slash) entry.now.key) }
+    requires { HasKey volume.now.image top }
+    ensures { OnOk result ((t : Tree) → Stands volume.now.image t → HasGrown t above top found.old.items found.new.items) }
 {
-    let mut front = Vec::new(alloc);
-    front.extend_from_slice(entry.path())?;
-    front.push(b'/')?;
-    push_entries(alloc, volume, front.as_slice(), entry.key(), waiting)
+    prove!(volume.image().blocks() >= 16);
+    let mut waiting = Vec::new(alloc);
+    push_entries(alloc, volume, above, top, &mut waiting)?;
+    while let Some(entry) = waiting.pop() {
+        push_entries(alloc, volume, Some(found.len()), entry.key, &mut waiting)?;
+        found.push(entry)?;
+    }
+    Ok(())
 }
 
-/// Pushes the entries of a directory on the stack, the first on top. Their paths are a prefix and their names.
+/// Pushes the entries of a directory at a position on the stack, the first on top.
 fn push_entries(
     alloc: Global,
     volume: &Volume,
-    front: &[u8],
+    above: Option<usize>,
     dir: u32,
     waiting: &mut Vec<Below>,
 ) -> Result<(), AllocError>
     requires { HasKey volume.now.image dir }
-    ensures { OnOk result ((t : Tree) → Stands volume.now.image t → waiting.new.items ≡ waiting.old.items ++ stacked t front.now dir) }
+    ensures { OnOk result ((t : Tree) → Stands volume.now.image t → waiting.new.items ≡ waiting.old.items ++ stacked t above dir) }
 {
     let mut keys = keys_in(alloc, volume, dir)?;
     while let Some(key) = keys.pop() {
-        waiting.push(Below::behind(alloc, volume, front, key)?)?;
+        waiting.push(Below { key, above })?;
     }
     Ok(())
 }

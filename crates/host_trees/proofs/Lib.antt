@@ -1,3 +1,3 @@
--- Lemmas about dates, and about paths below a directory.
+-- Lemmas about dates, and about names of host files.
 mod DateLemmas
-mod PathLemmas
+mod NameLemmas

@@ -1,4 +1,4 @@
-use Rattle.std.proofs.Common.{[], refl, sym, ◌∙◌, subst}
+use Rattle.std.proofs.Common.{None, refl, sym, ◌∙◌, subst}
 use Rattle.ados_model.specs.Tree.{entries}
 use Rattle.ados_volume.specs.Below.{AreBelow}
 use Rattle.adf_import.specs.InTurn.KeepsInTurn.{none}
@@ -13,7 +13,7 @@ returns-in-Err-clause-done c = (refl, λ t s e. c.if-key-root.false (e ∙ sym (
 pub is_any_denied-requires : goal.is_any_denied-requires
 is_any_denied-requires c = record {
   key = c.requires;
-  below = λ t s. subst (AreBelow t [] (entries t c.args.key)) (sym c.as_slice.ensures.value) (c.in-Ok.ensures.below t s);
+  below = λ t s. subst (AreBelow t None 0 (entries t c.args.key)) (sym c.as_slice.ensures.value) (c.in-Ok.ensures.below t s);
 }
 
 pub returns-then-is_any_denied-clause-done : goal.returns-then-is_any_denied-clause-done

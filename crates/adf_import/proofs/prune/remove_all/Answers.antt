@@ -2,12 +2,10 @@ use Rattle.std.proofs.Common.{◌≡◌, ℕ, List, [], Some, refl, sym, ◌∙�
 use Rattle.std.proofs.lemmas.Grind.{common_steps}
 use Rattle.ados_model.specs.Tree.{Tree, Proper, parent_of}
 use Rattle.ados_model.specs.Stands.{Stands}
-use Rattle.ados_model.specs.Change.{removed}
 use Rattle.ados_model.specs.Keys.{HasEntryKey}
 use Rattle.ados_model.proofs.Nodes.{some_in}
-use Rattle.ados_change.specs.Conditions.{CanRemove}
 use Rattle.ados_handler.proofs.Unlisting.{parent_there}
-use Rattle.ados_volume.specs.Located.{Located}
+use Rattle.ados_volume.specs.declared.below.Below.{Below}
 use Rattle.ados_volume.proofs.GoingBelow.{keys_of}
 use Rattle.adf_import.proofs.Pruning.{IsPruning, can_remove_next, can_remove_top, pruning_ends, pruning_goes_on, pruning_starts}
 use Rattle.adf_import.specs.InTurn.KeepsInTurn.{none, one_more}
@@ -20,9 +18,8 @@ pub remove-requires : goal.remove-requires
 remove-requires c = λ u r.
     let t = c.image.ensures.stands.0 in
     let s = c.image.ensures.stands.1 in
-    subst (λ (k : ℕ). CanRemove u k) (sym c.key.ensures)
-    (can_remove_next t c.args.moment c.args.key s.proper c.args.below.items (c.requires.below t s) c.requires.once c.loop-entry.volume.image
-    c.loop-entry.below.items c.pop.new.self.items c.in-Some.entry c.in-Some.ensures.items (c.loop-entry.invariant.pruning t s) u r)
+    can_remove_next t c.args.moment c.args.key s.proper c.args.below.items (c.requires.below t s) c.requires.once c.loop-entry.volume.image
+    c.loop-entry.below.items c.pop.new.self.items c.in-Some.entry c.in-Some.ensures.items (c.loop-entry.invariant.pruning t s) u r
 
 pub loop-entry-preserved : goal.loop-entry-preserved
 loop-entry-preserved c =
@@ -32,7 +29,7 @@ loop-entry-preserved c =
       pruning = λ t s.
           pruning_goes_on t c.args.moment c.args.key s.proper c.args.below.items (c.requires.below t s) c.requires.once c.loop-entry.volume.image
           c.loop-entry.below.items c.pop.new.self.items c.in-Some.entry c.in-Some.ensures.items (c.loop-entry.invariant.pruning t s) c.remove.new.self.image
-          (λ u r. subst (λ (k : ℕ). Stands c.remove.new.self.image (removed c.args.moment k u)) c.key.ensures (c.remove.ensures.stands u r));
+          c.remove.ensures.stands;
       keeps = one_more c.loop-entry.invariant.keeps c.remove.ensures.keeps (_, c.remove.ensures.stands now.now now.stands);
       validated = c.remove.ensures.validated ∙ c.loop-entry.invariant.validated;
     }
@@ -51,14 +48,14 @@ remove-requires-2 c = λ u r.
     let none : c.loop-entry.below.items ≡ [] = grind (arith, common_steps) in
     let d = own_directory t s.proper c.args.volume.now.image c.args.key c.requires.entry s in
     can_remove_top t c.args.moment c.args.key s.proper c.args.below.items (c.requires.below t s) c.requires.once c.loop-entry.volume.image d.0 d.1
-    (subst (λ (es : List Located). IsPruning t c.args.key (keys_of c.args.below.items) c.loop-entry.volume.image (keys_of es)) none (c.loop-entry.invariant.pruning t s)) u r
+    (subst (λ (es : List Below). IsPruning t c.args.key (keys_of c.args.below.items) c.loop-entry.volume.image (keys_of es)) none (c.loop-entry.invariant.pruning t s)) u r
 
 pub returns-clause-stands : goal.returns-clause-stands
 returns-clause-stands c = λ t s.
     let none : c.loop-entry.below.items ≡ [] = grind (arith, common_steps) in
     let d = own_directory t s.proper c.args.volume.now.image c.args.key c.requires.entry s in
     pruning_ends t c.args.moment c.args.key s.proper c.args.below.items (c.requires.below t s) c.requires.once c.loop-entry.volume.image d.0 d.1
-    (subst (λ (es : List Located). IsPruning t c.args.key (keys_of c.args.below.items) c.loop-entry.volume.image (keys_of es)) none (c.loop-entry.invariant.pruning t s))
+    (subst (λ (es : List Below). IsPruning t c.args.key (keys_of c.args.below.items) c.loop-entry.volume.image (keys_of es)) none (c.loop-entry.invariant.pruning t s))
     c.remove-2.new.self.image c.remove-2.ensures.stands
 
 pub returns-clause-keeps : goal.returns-clause-keeps

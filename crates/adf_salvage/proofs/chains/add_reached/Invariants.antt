@@ -2,4 +2,4 @@ use Rattle.adf_salvage.specs.steps.Gathering.{AreGathered}
 use Rattle.adf_salvage.proofs.chains.add_reached.Given as goal
 
 abbrev pub invariant-loop-place : goal.invariant-loop-place
-invariant-loop-place l = AreGathered l.image l.gathered.entries.items l.gathered.places.items
+invariant-loop-place l = AreGathered l.image l.gathered

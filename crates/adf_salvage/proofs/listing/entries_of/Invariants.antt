@@ -2,11 +2,13 @@ use Rattle.std.proofs.Common.{◌≡◌, All, map, take}
 use Rattle.ados_model.specs.Tree.{Tree}
 use Rattle.ados_model.specs.Stands.{Stands}
 use Rattle.adf_salvage.specs.Salvaged.{IsOfTree, located_of}
+use Rattle.adf_salvage.specs.steps.Keeping.{IsReadable}
 use Rattle.adf_salvage.proofs.listing.entries_of.Given as goal
 
 -- the entries before this one are described
 abbrev pub invariant-loop-entry : goal.invariant-loop-entry
 invariant-loop-entry l = record {
   located : map located_of l.found.items ≡ take l.entry-index l.below;
-  told : (t : Tree) → Stands l.volume.image t → All (IsOfTree t) l.found.items;
+  told : (t : Tree) → Stands l.volume.image t → All (IsOfTree l.volume.image t) l.found.items;
+  readable : All (IsReadable l.volume.image) l.found.items;
 }

@@ -6,7 +6,7 @@ use Rattle.adf_salvage.proofs.unreached.add_unreached.Given as goal
 
 abbrev pub invariant-loop-block : goal.invariant-loop-block
 invariant-loop-block l = record {
-  gathered : AreGathered l.image l.gathered.entries.items l.gathered.places.items;
+  gathered : AreGathered l.image l.gathered;
   climbed : length l.climbed.items ≡ block_count l.image;
   all : (b : ℕ) → b < l.block → IsSoundHeader l.image b → IsSome (place_at l.gathered.places.items b);
 }

@@ -1,39 +1,28 @@
-use Rattle.std.proofs.Common.{◌≡◌, List, [], ◌++◌, sym, ap, ◌∙◌, subst, arith}
-use Rattle.std.proofs.lemmas.Grind.{common_steps}
-use Rattle.ados_model.proofs.Standing.{count_same}
-use Rattle.ados_volume.specs.Located.{Located}
-use Rattle.ados_volume.specs.steps.Stack.{stacked}
-use Rattle.ados_volume.proofs.GoingBelow.{IsGoing, going_ends, going_few, going_goes_on, going_starts, going_there}
+use Rattle.std.proofs.Common.{◌≡◌, ◌≢◌, ℕ, None, List, [], ◌++◌, length, map, AllPairs, sym, ap, ◌∙◌, subst}
+use Rattle.ados_model.specs.Tree.{Tree, entries}
+use Rattle.ados_model.specs.Stands.{Stands}
+use Rattle.ados_volume.specs.declared.below.Below.{Below}
+use Rattle.ados_volume.specs.Below.{AreBelow, HasGrown}
+use Rattle.ados_volume.proofs.GoingBelow.{keys_of}
 use Rattle.ados_volume.proofs.below.entries_below.Goals as goal
 
-pub loop-entry-init : goal.loop-entry-init
-loop-entry-init c = λ t s.
-    subst (λ (gone : List Located). IsGoing t c.args.top gone c.push_entries.new.waiting.items) (sym c.new-found.ensures.items)
-    (going_starts t s.proper c.args.top c.push_entries.new.waiting.items
-    (c.in_ok-push_entries.ensures t s ∙ ap (λ (xs : List Located). xs ++ stacked t [] c.args.top) c.new-waiting.ensures.items))
+-- a list that has grown from nothing
+module _ (t : Tree) (top : ℕ) (old found : List Below) (none : old ≡ []) (g : HasGrown t None top old found) where
+  whole : g.more ≡ found
+  whole = sym (g.grown ∙ ap (λ (es : List Below). es ++ g.more) none)
 
-pub push_inside-requires : goal.push_inside-requires
-push_inside-requires c = λ t s.
-    going_there t s.proper c.args.top c.loop-entry.found.items c.pop.new.self.items c.in-Some.entry (subst (IsGoing t c.args.top c.loop-entry.found.items) c.in-Some.ensures.items (c.loop-entry.invariant t s))
+  from_none : AreBelow t None 0 (entries t top) found
+  from_none = subst (AreBelow t None 0 (entries t top)) whole (subst (λ (es : List Below). AreBelow t None (length es) (entries t top) g.more) none g.below)
 
-pub loop-entry-smaller : goal.loop-entry-smaller
-loop-entry-smaller c =
-    let t = c.image.ensures.stands.0 in
-    let s = c.image.ensures.stands.1 in
-    let few = going_few t s.proper c.args.top c.loop-entry.found.items c.pop.new.self.items c.in-Some.entry (subst (IsGoing t c.args.top c.loop-entry.found.items) c.in-Some.ensures.items (c.loop-entry.invariant t s)) in
-    let blocks = count_same c.args.volume.now.image t s in
-    omega (arith, few, blocks, c.in_ok-push.ensures.len)
-
-pub loop-entry-preserved : goal.loop-entry-preserved
-loop-entry-preserved c = λ t s.
-    subst (λ (gone : List Located). IsGoing t c.args.top gone c.push_inside.new.waiting.items) (sym c.in_ok-push.ensures.items)
-    (going_goes_on t s.proper c.args.top c.loop-entry.found.items c.pop.new.self.items c.in-Some.entry (subst (IsGoing t c.args.top c.loop-entry.found.items) c.in-Some.ensures.items (c.loop-entry.invariant t s))
-    c.push_inside.new.waiting.items (c.in_ok-push_inside.ensures t s))
+  each_once : AllPairs (λ j k. j ≢ k) (keys_of found)
+  each_once = subst (λ (es : List Below). AllPairs (λ j k. j ≢ k) (keys_of es)) whole g.once
 
 pub returns-clause-below : goal.returns-clause-below
 returns-clause-below c = λ t s.
-    let none : c.loop-entry.waiting.items ≡ [] = grind (arith, common_steps) in
-    going_ends t s.proper c.args.top c.loop-entry.found.items c.loop-entry.waiting.items none (c.loop-entry.invariant t s)
+    from_none t c.args.top c.new-found.result.items c.push_below.new.found.items c.new-found.ensures.items (c.in_ok-push_below.ensures t s)
 
 pub returns-clause-once : goal.returns-clause-once
-returns-clause-once c = (c.loop-entry.invariant c.image.ensures.stands.0 c.image.ensures.stands.1).keys.gone_once
+returns-clause-once c =
+    let t = c.image.ensures.stands.0 in
+    let s = c.image.ensures.stands.1 in
+    each_once t c.args.top c.new-found.result.items c.push_below.new.found.items c.new-found.ensures.items (c.in_ok-push_below.ensures t s)

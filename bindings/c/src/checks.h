@@ -1,0 +1,21 @@
+/* The checks of pointers and lengths that the checked functions share. */
+#ifndef JIPONUWHA_CHECKS_H
+#define JIPONUWHA_CHECKS_H
+
+#include <jiponuwha.h>
+
+/* Whether this many bytes can exist at a pointer. */
+static inline int may_hold(const void *at, size_t length) {
+    return length == 0 || (at != NULL && length <= (size_t)PTRDIFF_MAX && length <= UINTPTR_MAX - (uintptr_t)at);
+}
+
+/* Whether a pointer is not null and has this alignment. */
+static inline int may_stand(const void *at, size_t alignment) { return at != NULL && (uintptr_t)at % alignment == 0; }
+
+/* Whether two ranges do not overlap. */
+static inline int apart(const void *first, size_t length, const void *second, size_t other_length) {
+    const uintptr_t a = (uintptr_t)first, b = (uintptr_t)second;
+    return length == 0 || other_length == 0 || (a < b ? length <= b - a : other_length <= a - b);
+}
+
+#endif

@@ -1,0 +1,6 @@
+use Rattle.adf_export.proofs.Telling.{IsTold}
+use Rattle.adf_export.proofs.damaged.Rescue.tell.Given as goal
+
+-- the entries before this one have their lines
+abbrev pub invariant-loop-place : goal.invariant-loop-place
+invariant-loop-place g l = IsTold l.entries l.place l.whole (g.W.Write.contents l.initial.writer) (g.W.Write.contents l.writer)

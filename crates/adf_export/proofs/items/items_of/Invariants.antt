@@ -1,0 +1,12 @@
+use Rattle.std.proofs.Common.{◌≡◌, flat_map, take}
+use Rattle.ados_model.specs.Tree.{Tree}
+use Rattle.ados_model.specs.Stands.{Stands}
+use Rattle.adf_export.specs.Items.{EachGoesOut, sources_of}
+use Rattle.adf_export.proofs.items.items_of.Given as goal
+
+-- the items and sources for the entries before this one are there
+abbrev pub invariant-loop-entry : goal.invariant-loop-entry
+invariant-loop-entry l = record {
+  items : (t : Tree) → Stands l.volume.image t → EachGoesOut t l.meta (take l.entry-index l.found) l.out.items.items;
+  sources : l.out.sources.items ≡ flat_map (sources_of l.meta) (take l.entry-index l.found);
+}

@@ -1,0 +1,40 @@
+-- The bytes of a broken file, block by block.
+use Rattle.std.proofs.Common.{◌≡◌, ℕ, ◌<◌, inl, inr, List, length, replicate, slice_index, get_or-set_same, get_or-set_other, Contains, sym, ap, ◌∙◌, subst, arith}
+use Rattle.std.proofs.Math.ListN.{set}
+use Rattle.std.proofs.lemmas.Bool.{cases_eq}
+use Rattle.std.proofs.lemmas.List.{get_or-replicate, length-replicate}
+use Rattle.adf_salvage.specs.declared.giving.Piece.{Piece}
+use Rattle.adf_salvage.specs.Saved.{IsByteOf, IsOfGiven, IsPieced}
+use Rattle.adf_salvage.specs.steps.Keeping.{IsPutAt}
+
+module _ (image : List ℕ) (given : List Piece) (place count : ℕ) where
+  pub pieced_none : (bytes : List ℕ) → bytes ≡ replicate count 0 → IsPieced image given place count bytes
+  pieced_none bytes e = record {
+    size = ap length e ∙ length-replicate {A = ℕ} count 0;
+    parts = λ k l. inl (ap (λ (xs : List ℕ). slice_index xs k) e ∙ get_or-replicate count k 0 0 l);
+  }
+
+  -- one more block of the file is put
+  pub pieced_more : (old new : List ℕ) (piece : Piece) → Contains given piece → piece.place ≡ place → IsPieced image given place count old → length new ≡ length old
+      → ((k : ℕ) → k < length old → IsPutAt image piece.block old new k) → IsPieced image given place count new
+  pieced_more old new piece there is so_far long put = record {
+    size = long ∙ so_far.size;
+    parts = λ k l. elim (put k (omega (arith, l, so_far.size))) [
+      | inl same ↦ subst (IsOfGiven image given place) (sym same) (so_far.parts k l)
+      | inr byte ↦ inr (piece, there, is, byte)
+    ];
+  }
+
+-- one more byte is put
+pub put_more : (image : List ℕ) (block : ℕ) (old mid : List ℕ) (at byte k : ℕ) → IsByteOf image block byte → at < length mid → IsPutAt image block old mid k → IsPutAt image block old (set mid at byte) k
+put_more image block old mid at byte k is inside put = elim (cases_eq k at) [
+  | inl e ↦
+      (let here : slice_index (set mid at byte) k ≡ byte = ap (slice_index (set mid at byte)) e ∙ get_or-set_same mid at byte 0 inside in
+      inr (subst (IsByteOf image block) (sym here) is))
+  | inr e ↦
+      (let same : slice_index (set mid at byte) k ≡ slice_index mid k = get_or-set_other mid at k byte 0 e in
+      elim put [
+        | inl kept ↦ inl (same ∙ kept)
+        | inr byte ↦ inr (subst (IsByteOf image block) (sym same) byte)
+      ])
+]

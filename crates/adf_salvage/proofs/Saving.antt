@@ -1,0 +1,46 @@
+-- The entries of all sound headers, and what can be read of them.
+use Rattle.std.proofs.Common.{◌≡◌, ℕ, ◌<◌, List, length, slice_index, Some, IsSome, sym, ap, ◌∙◌, subst, arith}
+use Rattle.std.proofs.lemmas.List.{get_or_default}
+use Rattle.adf_block.specs.Image.{block_count}
+use Rattle.adf_salvage.specs.declared.gathered.Gathered.{Gathered}
+use Rattle.adf_salvage.specs.declared.salvaged.State.{State}
+use Rattle.adf_salvage.specs.declared.salvaged.State.TheVariants.{Directory, Whole, Broken}
+use Rattle.adf_salvage.specs.Salvaged.{AreApart, AreSalvaged, HasState, Saved, SavesSound, broken_total, headers_of}
+use Rattle.adf_salvage.specs.Sound.{IsSoundHeader}
+use Rattle.adf_salvage.specs.steps.Gathering.{AreGathered, place_at}
+use Rattle.adf_salvage.specs.steps.Keeping.{CanBeRead, IsKept}
+
+-- a sound file that is whole can be read
+can_be_read : (image : List ℕ) (header : ℕ) (state : State) → header < block_count image → HasState image header state → CanBeRead image header state
+can_be_read image header Directory inside h = tt
+can_be_read image header Whole inside h = record { inside = inside; lawful = h.intact.lawful }
+can_be_read image header (Broken missing cut length) inside h = tt
+
+module _ (image : List ℕ) (gathered : Gathered) (g : AreGathered image gathered) where
+  pub all_salvaged : ((block : ℕ) → IsSoundHeader image block → IsSome (place_at gathered.places.items block)) → AreSalvaged image gathered.entries.items
+  all_salvaged met = record {
+    told = g.told;
+    once = λ i j d l m e.
+        let headers = headers_of gathered.entries.items in
+        let first : i < length (headers_of gathered.entries.items) = omega (arith, l, m) in
+        let same : slice_index (headers_of gathered.entries.items) i ≡ slice_index (headers_of gathered.entries.items) j =
+        get_or_default (headers_of gathered.entries.items) i 0 d first ∙ e ∙ get_or_default (headers_of gathered.entries.items) j d 0 m in
+        let both : Some i ≡ Some j = sym (g.placed i first) ∙ ap (place_at gathered.places.items) same ∙ g.placed j m in
+        let is : i ≡ j = cc both in
+        omega (arith, l, is);
+    all = λ block sound. g.met block (met block sound);
+  }
+
+  pub saves_sound : (saved : Saved) → saved.image ≡ image → saved.entries ≡ gathered.entries.items → saved.given ≡ gathered.giving.pieces.items
+      → ((block : ℕ) → IsSoundHeader image block → IsSome (place_at gathered.places.items block)) → SavesSound saved
+  saves_sound saved same are given met = record {
+    salvaged = subst (λ (xs : List ℕ). AreSalvaged xs saved.entries) (sym same) (subst (AreSalvaged image) (sym are) (all_salvaged met));
+    apart = subst AreApart (sym given) g.giving.once;
+    bounded = omega (arith, g.bounded, ap broken_total are, ap length same);
+  }
+
+  pub all_kept : IsKept image gathered.entries.items gathered.giving.pieces.items
+  all_kept = record {
+    readable = λ k d l. let told = g.told k d l in can_be_read image _ _ told.header.inside.1 told.state;
+    inside = λ k d l. let marked = g.giving.marked k d l in omega (arith, marked.inside, g.giving.size);
+  }

@@ -1,0 +1,13 @@
+use Rattle.std.proofs.Common.{◌≡◌, ◌<◌, ◌≤◌, IfSome}
+use Rattle.adf_block.specs.Image.{block_count}
+use Rattle.adf_salvage.specs.steps.Giving.{IsGiving}
+use Rattle.adf_salvage.proofs.giving.Giving.give.Given as goal
+
+abbrev pub invariant-loop-i : goal.invariant-loop-i
+invariant-loop-i l = record {
+  giving : IsGiving l.image l.self;
+  left : l.self.left ≡ l.initial.self.left;
+  few : l.there ≤ l.i;
+  holder : IfSome l.way.holder (λ block. block < block_count l.image);
+  before : IfSome l.way.before (λ block. block < block_count l.image);
+}

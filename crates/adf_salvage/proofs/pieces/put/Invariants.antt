@@ -1,0 +1,9 @@
+use Rattle.std.proofs.Common.{◌≡◌, ℕ, ◌<◌, length}
+use Rattle.adf_salvage.specs.steps.Keeping.{IsPutAt}
+use Rattle.adf_salvage.proofs.pieces.put.Given as goal
+
+abbrev pub invariant-loop-at : goal.invariant-loop-at
+invariant-loop-at l = record {
+  count : length l.bytes.items ≡ length l.initial.bytes.items;
+  put : (k : ℕ) → k < length l.initial.bytes.items → IsPutAt l.image l.block l.initial.bytes.items l.bytes.items k;
+}

@@ -1,0 +1,227 @@
+//! The blocks given to broken files, each to one.
+ghost use Rattle.std.specs.Prelude.{◌≡◌, ◌<◌, ◌≤◌, ◌*◌, ℕ, List, length, IfOk, IfSome, IsTrue, OnOk};
+ghost use Rattle.adf_block.specs.Image.{block_count};
+ghost use Rattle.adf_salvage.specs.steps.Giving.{IsGiving, IsOpen};
+
+use crate::data::is_ofs_data;
+use crate::holders::is_extension;
+use adf_block::layout::{
+    BLOCK_BYTES, BOOT_BLOCKS, FILE_SIZE, FIRST_PAGE, FIRST_POINTER, HEADER_TYPE, NEXT_DATA,
+    NEXT_EXTENSION, OFS_DATA_BYTE, POINTER_COUNT, PRIMARY_TYPE, ROOT_TYPE, SECONDARY_TYPE,
+    TABLE_LONGS,
+};
+use adf_block::{Format, Image};
+use std::alloc::{AllocError, Global};
+
+/// Bytes in a block.
+pub(crate) const BLOCK: usize = BLOCK_BYTES as usize;
+
+/// The most bytes of all broken files together, as a multiple of the image's bytes.
+const SHARE: usize = 4;
+
+/// The most bitmap blocks that the root names.
+const PAGES: u32 = 25;
+
+/// A block given to a broken file.
+#[derive(Clone, Copy, Debug)]
+pub struct Piece {
+    /// The position of the file in the list of entries.
+    pub place: usize,
+    /// Which of the file's data blocks it is, from 0.
+    pub at: u32,
+    pub block: u32,
+}
+
+/// The blocks given so far.
+#[derive(Drop)]
+pub(crate) struct Giving {
+    /// For each block, whether it was given or cannot be.
+    pub(crate) given: Vec<bool>,
+    /// For each block, whether it was passed as an extension block. Only one file passes it.
+    pub(crate) passed: Vec<bool>,
+    pub(crate) pieces: Vec<Piece>,
+    /// How many bytes further broken files may have.
+    pub(crate) left: usize,
+}
+
+/// The rest of a broken file.
+#[derive(Clone, Copy)]
+pub(crate) struct Remains {
+    /// The number of missing data blocks.
+    pub(crate) missing: u32,
+    /// The number of bytes up to the end of its last block.
+    pub(crate) end: usize,
+}
+
+/// Where the next data block of a file is named: the pointer block with its pointer, and the data block before it.
+#[derive(Clone, Copy)]
+struct Way {
+    holder: Option<u32>,
+    before: Option<u32>,
+}
+
+impl Giving {
+    /// Nothing is given. The root and its bitmap blocks are given to no file.
+    pub(crate) fn new(alloc: Global, image: &Image) -> Result<Giving, AllocError>
+        ensures giving { IfOk result (IsGiving image.now) }
+        ensures left { IfOk result (λ giving. giving.left ≤ 4 * length image.now) }
+    {
+        let count = image.blocks() as usize;
+        let mut given = vec![in alloc; false; count]?;
+        mark_volume(image, given.as_mut_slice());
+        Ok(Giving {
+            given,
+            passed: vec![in alloc; false; count]?,
+            pieces: Vec::new(alloc),
+            left: image.as_bytes().len().saturating_mul(SHARE),
+        })
+    }
+
+    /// Gives a broken file, whose entry has this position, those of its data blocks that are sound and were not given
+    /// before. It has at most as many as its size needs, and as the image has.
+    pub(crate) fn give(
+        &mut self,
+        image: &Image,
+        file: u32,
+        place: usize,
+    ) -> Result<Remains, AllocError>
+        requires inside { file < block_count image.now }
+        requires giving { IsGiving image.now self.old }
+        ensures giving { OnOk result (IsGiving image.now self.new) }
+        ensures left { self.new.left ≡ self.old.left }
+    {
+        let room = BLOCK - data_start(image);
+        let size = (image.long(file, FILE_SIZE) as usize).min(image.blocks() as usize * room);
+        let needed = size.div_ceil(room) as u32;
+        let mut there = 0;
+        let mut end = 0;
+        let mut way = Way {
+            holder: Some(file),
+            before: Some(file),
+        };
+        for i in 0..needed {
+            if way.holder.is_none() && way.before.is_none() {
+                break;
+            }
+            let found = self.block_at(image, file, i, way);
+            if let Some(block) = found {
+                self.note(Piece {
+                    place,
+                    at: i,
+                    block,
+                })?;
+                there += 1;
+                end = size.min((i as usize + 1) * room);
+            }
+            way.before = found;
+            if i % TABLE_LONGS == TABLE_LONGS - 1 {
+                way.holder = self.next_holder(image, file, way.holder);
+            }
+        }
+        Ok(Remains {
+            missing: needed - there,
+            end,
+        })
+    }
+
+    /// Notes that a block is given.
+    fn note(&mut self, piece: Piece) -> Result<(), AllocError>
+        requires fresh { IsOpen self.old.given.items piece.block }
+        ensures giving { OnOk result ((image : List ℕ) → IsGiving image self.old → IsGiving image self.new) }
+        ensures left { self.new.left ≡ self.old.left }
+    {
+        self.given[piece.block as usize] = true;
+        self.pieces.push(piece)?;
+        Ok(())
+    }
+
+    /// Data block `i` of a file, if it is sound and was not given before: the one in its pointer, or else, in OFS, the one
+    /// that the block before it links to.
+    fn block_at(&self, image: &Image, file: u32, i: u32, way: Way) -> Option<u32>
+        requires file { file < block_count image.now }
+        requires holder { IfSome way.holder (λ block. block < block_count image.now) }
+        requires before { IfSome way.before (λ block. block < block_count image.now) }
+        requires size { length self.now.given.items ≡ block_count image.now }
+        ensures { IfSome result (IsOpen self.now.given.items) }
+    {
+        if let Some(holder) = way.holder {
+            if i % TABLE_LONGS < image.long(holder, POINTER_COUNT) {
+                let block = image.long(holder, FIRST_POINTER - i % TABLE_LONGS);
+                if self.is_piece(image, file, i, block) {
+                    return Some(block);
+                }
+            }
+        }
+        let block = image.long(way.before?, NEXT_DATA);
+        if image.format() == Format::Ofs && self.is_piece(image, file, i, block) {
+            return Some(block);
+        }
+        None
+    }
+
+    /// Whether a block was not given before, and by itself can be data block `i` of a file.
+    fn is_piece(&self, image: &Image, file: u32, i: u32, block: u32) -> bool
+        requires file { file < block_count image.now }
+        requires size { length self.now.given.items ≡ block_count image.now }
+        ensures { IsTrue result → IsOpen self.now.given.items block }
+    {
+        if block < BOOT_BLOCKS || block >= image.blocks() || self.given[block as usize] {
+            return false;
+        }
+        match image.format() {
+            Format::Ofs => is_ofs_data(image, file, i, block),
+            Format::Ffs => true,
+        }
+    }
+
+    /// The extension block after a pointer block, if it is sound and was not passed before.
+    fn next_holder(&mut self, image: &Image, file: u32, holder: Option<u32>) -> Option<u32>
+        requires holder { IfSome holder (λ block. block < block_count image.now) }
+        requires giving { IsGiving image.now self.old }
+        ensures holder { IfSome result (λ block. block < block_count image.now) }
+        ensures giving { IsGiving image.now self.new }
+        ensures left { self.new.left ≡ self.old.left }
+    {
+        let next = image.long(holder?, NEXT_EXTENSION);
+        if next < BOOT_BLOCKS
+            || next >= image.blocks()
+            || self.passed[next as usize]
+            || !is_extension(image, file, next)
+        {
+            return None;
+        }
+        self.passed[next as usize] = true;
+        Some(next)
+    }
+}
+
+/// Marks the root, and the bitmap blocks that it names if it has the type of a root.
+fn mark_volume(image: &Image, given: &mut [bool])
+    requires { length given.old ≡ block_count image.now }
+    ensures { length given.new ≡ length given.old }
+{
+    prove!(image.blocks() >= 16);
+    let root = image.root();
+    given[root as usize] = true;
+    if image.long(root, PRIMARY_TYPE) != HEADER_TYPE
+        || image.long(root, SECONDARY_TYPE) != ROOT_TYPE
+    {
+        return;
+    }
+    for page in 0..PAGES {
+        let block = image.long(root, FIRST_PAGE + page) as usize;
+        if block < given.len() {
+            given[block] = true;
+        }
+    }
+}
+
+/// The byte of a data block where its data starts: 24 in OFS, 0 in FFS.
+pub(crate) fn data_start(image: &Image) -> usize
+    ensures { result ≤ 24 }
+{
+    match image.format() {
+        Format::Ofs => OFS_DATA_BYTE as usize,
+        Format::Ffs => 0,
+    }
+}

@@ -1,0 +1,101 @@
+//! What can be trusted in an image.
+ghost use Rattle.std.specs.Prelude.{◌≡◌, ◌<◌, length, IfOk};
+ghost use Rattle.adf_block.specs.Image.{block_count};
+ghost use Rattle.ados_model.specs.File.{LawfulFile, contents};
+ghost use Rattle.adf_salvage.specs.declared.salvaged.Salvaged.{Salvaged as Entry};
+ghost use Rattle.adf_salvage.specs.Saved.{HasBytes, IsAt, size_of};
+ghost use Rattle.adf_salvage.specs.steps.Keeping.{IsKept};
+
+use crate::giving::Piece;
+use crate::pieces::pieced;
+use crate::salvaged::{Salvaged, State};
+use adf_block::Image;
+use adf_block::layout::FILE_SIZE;
+use ados_data::read_at;
+use std::alloc::{AllocError, Global};
+use std::marker::Model;
+
+/// What can be trusted in an image: its entries, and the bytes of their files when they are asked for.
+///
+/// Contracts see the image as it was read, the entries, and the blocks given to broken files.
+#[derive(Drop)]
+pub struct Salvage {
+    image: Image,
+    entries: Vec<Salvaged>,
+    pieces: Vec<Piece>,
+}
+
+impl Model for Salvage {
+    ghost use Rattle.adf_salvage.specs.Salvaged.{Saved};
+    ghost use Rattle.adf_salvage.specs.steps.Keeping.{IsKept};
+
+    ghost Value = { Saved };
+
+    ghost view = { λ s. record { image = s.image; entries = s.entries.items; given = s.pieces.items } };
+
+    ghost invariant = { λ s. IsKept s.image s.entries.items s.pieces.items };
+}
+
+impl Salvage {
+    /// Entries that can be read in an image.
+    pub(crate) fn of(image: Image, entries: Vec<Salvaged>, pieces: Vec<Piece>) -> Salvage
+        requires { IsKept image entries.items pieces.items }
+        ensures image { result.image ≡ image }
+        ensures entries { result.entries ≡ entries.items }
+        ensures given { result.given ≡ pieces.items }
+    {
+        Salvage {
+            image,
+            entries,
+            pieces,
+        }
+    }
+
+    /// The entries, each header once, a directory before its entries.
+    pub fn entries(&self) -> &[Salvaged]
+        ensures { result.now ≡ self.now.entries }
+    {
+        self.entries.as_slice()
+    }
+
+    /// The number of bytes of the file at this position of the entries; 0 for a directory.
+    pub fn size_of(&self, place: usize) -> usize
+        requires { place < length self.now.entries }
+        ensures { (entry : Entry) → IsAt self.now.entries place entry → result ≡ size_of self.now.image entry.header entry.state }
+    {
+        let entry = &self.entries[place];
+        match entry.state {
+            State::Directory => 0,
+            State::Whole => self.image.long(entry.header, FILE_SIZE) as usize,
+            State::Broken { length, .. } => length,
+        }
+    }
+
+    /// The bytes of the file at this position of the entries; none for a directory.
+    pub fn bytes_of(&self, alloc: Global, place: usize) -> Result<Vec<u8>, AllocError>
+        requires { place < length self.now.entries }
+        ensures { IfOk result (λ bytes. (entry : Entry) → IsAt self.now.entries place entry
+            → HasBytes self.now.image self.now.given place entry.header entry.state bytes.items) }
+    {
+        let entry = &self.entries[place];
+        match entry.state {
+            State::Directory => Ok(Vec::new(alloc)),
+            State::Whole => whole_bytes(alloc, &self.image, entry.header),
+            State::Broken { length, .. } => {
+                pieced(alloc, &self.image, self.pieces.as_slice(), place, length)
+            }
+        }
+    }
+}
+
+/// All bytes of a file.
+fn whole_bytes(alloc: Global, image: &Image, file: u32) -> Result<Vec<u8>, AllocError>
+    requires inside { file < block_count image.now }
+    requires lawful { LawfulFile image.now file }
+    ensures { IfOk result (λ bytes. bytes.items ≡ contents image.now file) }
+{
+    let size = image.long(file, FILE_SIZE) as usize;
+    let mut bytes = vec![in alloc; 0_u8; size]?;
+    read_at(image, file, 0, bytes.as_mut_slice());
+    Ok(bytes)
+}

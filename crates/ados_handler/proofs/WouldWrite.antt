@@ -1,0 +1,251 @@
+-- The packets that would change the disk, by what objects, places and handles allow.
+use Rattle.std.proofs.Common.{◌≡◌, ◌≢◌, ℕ, ◌+◌, ℤ, Bool, true, false, cond, not, nat_lt, List, [], ◌∷◌, length, max, Option, Some, None, Result, Ok, Err, option_map, refl, sym, ap, ◌∙◌, arith, lt-ltb}
+use Rattle.std.proofs.lemmas.Bool.{eq-eqb, true≢false}
+use Rattle.std.specs.Prelude.{◌&&◌, ◌==◌, is_none, is_some}
+use Rattle.std.specs.Option.{option_map_or}
+use Rattle.std.specs.Result.{result_err, result_unwrap_or}
+use Rattle.std.specs.FinMap.{get}
+use Rattle.ados_name.specs.Name.{denies_delete, denies_write}
+use Rattle.ados_name.specs.declared.stamp.Date3.{Date3}
+use Rattle.ados_model.specs.Tree.{Tree, entries, free, needs_more, root, size_of}
+use Rattle.ados_model.specs.Change.{child_of, is_file}
+use Rattle.ados_model.specs.declared.dos_error.WalkFault.{WalkFault}
+use Rattle.ados_model.specs.declared.dos_error.WalkFault.TheVariants as walks
+use Rattle.ados_model.specs.declared.dos_error.PlaceFault.{PlaceFault}
+use Rattle.ados_model.specs.declared.dos_error.PlaceFault.TheVariants as places
+use Rattle.ados_model.specs.declared.dos_error.DosError.{DosError}
+use Rattle.ados_model.specs.declared.dos_error.DosError.TheVariants.{CommentTooBig, DeleteProtected, DeviceNotMounted, DirectoryNotEmpty, DiskFull, InvalidComponentName, InvalidLock, ObjectExists, ObjectInUse, ObjectWrongType, SeekError, WriteProtected}
+use Rattle.ados_model.specs.declared.packet.Packet.{Packet}
+use Rattle.ados_model.specs.declared.packet.Packet.TheVariants.{RenameDisk, DeleteObject, RenameObject, SetProtect, CreateDir, SetComment, SetDate, Write, FindUpdate, FindOutput, SetFileSize}
+use Rattle.ados_model.specs.declared.holds.HandleHold.{HandleHold}
+use Rattle.ados_model.specs.Session.{Session, is_held, is_held_exclusively, is_in_use, is_lock, handle_key, handle_position}
+use Rattle.ados_model.specs.Objects.{handle_target, is_bad_target, is_under, place_error, placed, protection_of, target_number, walk_error, found}
+use Rattle.ados_model.specs.Reads.{seek_target}
+use Rattle.ados_model.specs.Resolved.{place_result, walk_result}
+use Rattle.ados_model.specs.Refusals.{first_refusal, has_no_room, is_comment, is_directory_there, is_empty, is_name, is_some_and, refusals, refuse}
+use Rattle.ados_model.specs.DiskDate.{sets_disk_date}
+use Rattle.ados_handler.specs.Writes.{lacks_space_at_most, would_write}
+use Rattle.ados_handler.specs.steps.Moves.{both, move_refusal, move_refusals}
+use Rattle.ados_handler.specs.steps.Allowed.{can_empty, can_make, can_move, can_output, can_remove, can_resize, can_write, leads_to_entry, ok_and, removes}
+
+and_false : (b : Bool) → b && false ≡ false
+and_false true = refl
+and_false false = refl
+
+-- the list has no refusal but that of a full disk
+abbrev passes : List (Option DosError) → Bool
+passes rows = lacks_space_at_most (first_refusal rows)
+
+walk_bars : (fault : WalkFault) (rest : List (Option DosError)) → false ≡ passes (Some (walk_error fault) ∷ rest)
+walk_bars walks.DirectoryNotFound rest = refl
+walk_bars walks.ObjectNotFound rest = refl
+walk_bars walks.WrongType rest = refl
+
+and_bars : (c : Bool) (fault : WalkFault) (rest : List (Option DosError)) → c && false ≡ passes (Some (walk_error fault) ∷ rest)
+and_bars c fault rest = and_false c ∙ walk_bars fault rest
+
+place_bars : (fault : PlaceFault) (rest : List (Option DosError)) → false ≡ passes (Some (place_error fault) ∷ rest)
+place_bars places.DirectoryNotFound rest = refl
+place_bars places.ObjectNotFound rest = refl
+place_bars places.WrongType rest = refl
+place_bars places.InvalidName rest = refl
+
+-- rows of refusals by their conditions
+entry_row : (r : Bool) → not r ≡ passes (refuse ObjectWrongType r ∷ [])
+entry_row true = refl
+entry_row false = refl
+
+comment_row : (c r : Bool) → c && not r ≡ passes (refuse CommentTooBig (not c) ∷ refuse ObjectWrongType r ∷ [])
+comment_row true true = refl
+comment_row true false = refl
+comment_row false r = refl
+
+name_row : (n : Bool) → n ≡ passes (refuse InvalidComponentName (not n) ∷ [])
+name_row true = refl
+name_row false = refl
+
+remove_row : (r h e d : Bool) → not r && not h && e && not d ≡ passes (refuse ObjectWrongType r ∷ refuse ObjectInUse h ∷ refuse DirectoryNotEmpty (not e) ∷ refuse DeleteProtected d ∷ [])
+remove_row true h e d = refl
+remove_row false true e d = refl
+remove_row false false false d = refl
+remove_row false false true true = refl
+remove_row false false true false = refl
+
+move_row : (r o h u : Bool) → is_none (first_refusal (refuse ObjectWrongType r ∷ refuse ObjectExists o ∷ refuse ObjectInUse h ∷ refuse ObjectInUse u ∷ []))
+    ≡ passes (refuse ObjectWrongType r ∷ refuse ObjectExists o ∷ refuse ObjectInUse h ∷ refuse ObjectInUse u ∷ [])
+move_row true o h u = refl
+move_row false true h u = refl
+move_row false false true u = refl
+move_row false false false true = refl
+move_row false false false false = refl
+
+empty_row : (f h d w : Bool) → f && not h && not d && not w ≡ passes (refuse ObjectWrongType (not f) ∷ refuse ObjectInUse h ∷ refuse DeleteProtected d ∷ refuse WriteProtected w ∷ refuse DiskFull false ∷ [])
+empty_row false h d w = refl
+empty_row true true d w = refl
+empty_row true false true w = refl
+empty_row true false false true = refl
+empty_row true false false false = refl
+
+full_row : (m : Bool) → true ≡ passes (refuse DiskFull m ∷ [])
+full_row true = refl
+full_row false = refl
+
+write_row : (w m : Bool) → not w ≡ passes (refuse WriteProtected w ∷ refuse DiskFull m ∷ [])
+write_row true m = refl
+write_row false m = full_row m
+
+size_row : (w b e m : Bool) → not w && not b && not e ≡ not e && passes (refuse WriteProtected w ∷ refuse SeekError b ∷ refuse DiskFull m ∷ [])
+size_row true b true m = refl
+size_row true b false m = refl
+size_row false true true m = refl
+size_row false true false m = refl
+size_row false false true m = refl
+size_row false false false m = full_row m
+
+module _ (t : Tree) (s : Session) where
+  -- a dead handler refuses every packet, and a living one refuses by the packet's row
+  pub dead : (packet : Packet) → s.died ≡ true → false ≡ would_write t s packet
+  dead packet died =
+      sym (ap (λ (d : Bool). sets_disk_date t s packet && passes (refuse DeviceNotMounted d ∷ refusals t s packet)) died ∙ and_false (sets_disk_date t s packet))
+
+  living : (packet : Packet) → s.died ≡ false → sets_disk_date t s packet && passes (refusals t s packet) ≡ would_write t s packet
+  living packet alive = sym (ap (λ (d : Bool). sets_disk_date t s packet && passes (refuse DeviceNotMounted d ∷ refusals t s packet)) alive)
+
+  -- a packet with a path to an object
+  walk_row : (lock : ℕ) (path : List ℕ) (test : ℕ → Bool) (rest : ℕ → List (Option DosError)) → ((key : ℕ) → test key ≡ passes (rest key)) → (b : Bool) (r : Result ℕ WalkFault)
+      → ok_and test (cond b (walk_result r) (Err InvalidLock)) ≡ passes (refuse InvalidLock (not b) ∷ option_map walk_error (result_err r) ∷ rest (result_unwrap_or r 0))
+  walk_row lock path test rest same true (Ok key) = same key
+  walk_row lock path test rest same true (Err fault) = walk_bars fault (rest 0)
+  walk_row lock path test rest same false r = refl
+
+  -- a packet with a path to a place
+  place_row : (test : ℕ × List ℕ → Bool) (rest : ℕ × List ℕ → List (Option DosError)) → ((spot : ℕ × List ℕ) → test spot ≡ passes (rest spot)) → (b : Bool) (r : Result (ℕ × List ℕ) PlaceFault)
+      → ok_and test (cond b (place_result r) (Err InvalidLock)) ≡ passes (refuse InvalidLock (not b) ∷ option_map place_error (result_err r) ∷ rest (result_unwrap_or r (0, [])))
+  place_row test rest same true (Ok spot) = same spot
+  place_row test rest same true (Err fault) = place_bars fault (rest (0, []))
+  place_row test rest same false r = refl
+
+  module _ (alive : s.died ≡ false) where
+    pub disk_renamed_by : (name : List ℕ) → is_name name ≡ would_write t s (RenameDisk name)
+    disk_renamed_by name = name_row (is_name name) ∙ living (RenameDisk name) alive
+
+    pub protected_by : (lock : ℕ) (path : List ℕ) (bits : ℕ) → leads_to_entry t s lock path ≡ would_write t s (SetProtect lock path bits)
+    protected_by lock path bits =
+        walk_row lock path _ (λ key. refuse ObjectWrongType (key == root t) ∷ []) (λ key. entry_row (key == root t)) (is_lock s lock) (found t s lock path)
+        ∙ living (SetProtect lock path bits) alive
+
+    pub dated_by : (lock : ℕ) (path : List ℕ) (date : Date3) → leads_to_entry t s lock path ≡ would_write t s (SetDate lock path date)
+    dated_by lock path date =
+        walk_row lock path _ (λ key. refuse ObjectWrongType (key == root t) ∷ []) (λ key. entry_row (key == root t)) (is_lock s lock) (found t s lock path)
+        ∙ living (SetDate lock path date) alive
+
+    pub commented_by : (lock : ℕ) (path comment : List ℕ) → is_comment comment && leads_to_entry t s lock path ≡ would_write t s (SetComment lock path comment)
+    commented_by lock path comment = go (is_comment comment) (is_lock s lock) (found t s lock path) ∙ living (SetComment lock path comment) alive
+      where
+        go : (c b : Bool) (r : Result ℕ WalkFault) → c && ok_and (λ key. not (key == root t)) (cond b (walk_result r) (Err InvalidLock))
+            ≡ passes (refuse InvalidLock (not b) ∷ option_map walk_error (result_err r) ∷ refuse CommentTooBig (not c) ∷ refuse ObjectWrongType (result_unwrap_or r 0 == root t) ∷ [])
+        go c true (Ok key) = comment_row c (key == root t)
+        go c true (Err fault) = and_bars c fault (refuse CommentTooBig (not c) ∷ refuse ObjectWrongType (0 == root t) ∷ [])
+        go true false r = refl
+        go false false r = refl
+
+    pub deleted_by : (lock : ℕ) (path : List ℕ) → removes t s lock path ≡ would_write t s (DeleteObject lock path)
+    deleted_by lock path =
+        walk_row lock path _ (λ key. refuse ObjectWrongType (key == root t) ∷ refuse ObjectInUse (is_held s key) ∷ refuse DirectoryNotEmpty (not (is_empty (entries t key))) ∷ refuse DeleteProtected (denies_delete (protection_of t key)) ∷ [])
+        (λ key. remove_row (key == root t) (is_held s key) (is_empty (entries t key)) (denies_delete (protection_of t key))) (is_lock s lock) (found t s lock path)
+        ∙ living (DeleteObject lock path) alive
+
+    pub moved_by : (from_lock : ℕ) (from : List ℕ) (to_lock : ℕ) (to : List ℕ) → can_move t s from_lock from to_lock to ≡ would_write t s (RenameObject from_lock from to_lock to)
+    moved_by from_lock from to_lock to = go (is_lock s from_lock) (is_lock s to_lock) (found t s from_lock from) (placed t s to_lock to) ∙ living (RenameObject from_lock from to_lock to) alive
+      where
+        go : (b c : Bool) (r : Result ℕ WalkFault) (p : Result (ℕ × List ℕ) PlaceFault)
+            → ok_and (λ spot. is_none (move_refusal t s spot.0 spot.1.0 spot.1.1)) (cond (b && c) (both (walk_result r) (place_result p)) (Err InvalidLock))
+            ≡ passes (refuse InvalidLock (not b) ∷ refuse InvalidLock (not c) ∷ option_map walk_error (result_err r) ∷ option_map place_error (result_err p) ∷ move_refusals t s (result_unwrap_or r 0) (result_unwrap_or p (0, [])).0 (result_unwrap_or p (0, [])).1)
+        go false c r p = refl
+        go true false r p = refl
+        go true true (Err fault) p = walk_bars fault (option_map place_error (result_err p) ∷ move_refusals t s 0 (result_unwrap_or p (0, [])).0 (result_unwrap_or p (0, [])).1)
+        go true true (Ok key) (Err fault) = place_bars fault (move_refusals t s key 0 [])
+        go true true (Ok key) (Ok spot) =
+            move_row (key == root t) (is_some_and (λ other. not (other == key)) (child_of t spot.0 spot.1)) (is_held_exclusively s key) (is_under t key spot.0)
+
+    pub made_by : (lock : ℕ) (path : List ℕ) → can_make t s lock path ≡ would_write t s (CreateDir lock path)
+    made_by lock path =
+        place_row _ (λ spot. rows (child_of t spot.0 spot.1)) (λ spot. by_rows (child_of t spot.0 spot.1)) (is_lock s lock) (placed t s lock path)
+        ∙ living (CreateDir lock path) alive
+      where
+        rows : Option ℕ → List (Option DosError)
+        rows there = refuse ObjectExists (is_some there) ∷ refuse DiskFull (nat_lt (free t) 1) ∷ []
+
+        by_rows : (there : Option ℕ) → is_none there ≡ passes (rows there)
+        by_rows None = full_row (nat_lt (free t) 1)
+        by_rows (Some key) = refl
+
+    pub updated_by : (lock : ℕ) (path : List ℕ) → can_make t s lock path ≡ would_write t s (FindUpdate lock path)
+    updated_by lock path = go (is_lock s lock) (placed t s lock path) ∙ living (FindUpdate lock path) alive
+      where
+        rows : Option ℕ → List (Option DosError)
+        rows there = refuse ObjectWrongType (is_directory_there t there) ∷ refuse ObjectInUse (is_some_and (λ key. is_in_use s key false) there) ∷ refuse DiskFull (has_no_room t there) ∷ []
+
+        at : (there : Option ℕ) → is_none there ≡ is_none there && passes (rows there)
+        at None = full_row (nat_lt (free t) 1)
+        at (Some key) = refl
+
+        go : (b : Bool) (r : Result (ℕ × List ℕ) PlaceFault) → ok_and (λ spot. is_none (child_of t spot.0 spot.1)) (cond b (place_result r) (Err InvalidLock))
+            ≡ is_none (child_of t (result_unwrap_or r (0, [])).0 (result_unwrap_or r (0, [])).1)
+            && passes (refuse InvalidLock (not b) ∷ option_map place_error (result_err r) ∷ rows (child_of t (result_unwrap_or r (0, [])).0 (result_unwrap_or r (0, [])).1))
+        go true (Ok spot) = at (child_of t spot.0 spot.1)
+        go true (Err fault) = sym (ap (λ (b : Bool). is_none (child_of t 0 []) && b) (sym (place_bars fault (rows (child_of t 0 [])))) ∙ and_false (is_none (child_of t 0 [])))
+        go false r = sym (and_false (is_none (child_of t (result_unwrap_or r (0, [])).0 (result_unwrap_or r (0, [])).1)))
+
+    pub output_by : (lock : ℕ) (path : List ℕ) → can_output t s lock path ≡ would_write t s (FindOutput lock path)
+    output_by lock path =
+        place_row _ (λ spot. rows (child_of t spot.0 spot.1)) (λ spot. by_rows (child_of t spot.0 spot.1)) (is_lock s lock) (placed t s lock path)
+        ∙ living (FindOutput lock path) alive
+      where
+        rows : Option ℕ → List (Option DosError)
+        rows there =
+            refuse ObjectWrongType (is_directory_there t there) ∷ refuse ObjectInUse (is_some_and (λ key. is_in_use s key true) there) ∷ refuse DeleteProtected (is_some_and (λ key. denies_delete (protection_of t key)) there)
+            ∷ refuse WriteProtected (is_some_and (λ key. denies_write (protection_of t key)) there) ∷ refuse DiskFull (has_no_room t there) ∷ []
+
+        by_rows : (there : Option ℕ) → option_map_or (can_empty t s) there true ≡ passes (rows there)
+        by_rows None = full_row (nat_lt (free t) 1)
+        by_rows (Some key) = empty_row (is_file t key) (is_in_use s key true) (denies_delete (protection_of t key)) (denies_write (protection_of t key))
+
+    pub written_by : (handle : ℕ) (bytes : List ℕ) → nat_lt 0 (length bytes) && can_write t s handle ≡ would_write t s (Write handle bytes)
+    written_by handle bytes =
+        ap (λ (b : Bool). nat_lt 0 (length bytes) && b) (go (get s.handles handle) (needs_more t (handle_key s handle) (max (size_of t (handle_key s handle)) (handle_position s handle + length bytes))))
+        ∙ living (Write handle bytes) alive
+      where
+        go : (o : Option HandleHold) (m : Bool) → option_map_or (λ h. not (denies_write (protection_of t h.key))) o false
+            ≡ passes (refuse InvalidLock (not (is_some o)) ∷ refuse WriteProtected (denies_write (protection_of t (option_map_or (λ h. h.key) o 0))) ∷ refuse DiskFull m ∷ [])
+        go None m = refl
+        go (Some h) m = write_row (denies_write (protection_of t h.key)) m
+
+    pub sized_by : (handle : ℕ) (offset mode : ℤ) → can_resize t s handle offset mode ≡ would_write t s (SetFileSize handle offset mode)
+    sized_by handle offset mode = go (get s.handles handle) (needs_more t (handle_key s handle) (target_number (handle_target t s handle offset mode))) ∙ living (SetFileSize handle offset mode) alive
+      where
+        file : Option HandleHold → ℕ
+        file o = option_map_or (λ h. h.key) o 0
+
+        target : Option HandleHold → Option ℤ
+        target o = seek_target (option_map_or (λ h. h.position) o 0) (size_of t (file o)) offset mode
+
+        go : (o : Option HandleHold) (m : Bool)
+            → option_map_or (λ h. not (denies_write (protection_of t h.key)) && not (is_bad_target 2147483647 (seek_target h.position (size_of t h.key) offset mode)) && not (target_number (seek_target h.position (size_of t h.key) offset mode) == size_of t h.key)) o false
+            ≡ not (target_number (target o) == size_of t (file o))
+            && passes (refuse InvalidLock (not (is_some o)) ∷ refuse WriteProtected (denies_write (protection_of t (file o))) ∷ refuse SeekError (is_bad_target 2147483647 (target o)) ∷ refuse DiskFull m ∷ [])
+        go None m = sym (and_false (not (target_number (target None) == size_of t (file None))))
+        go (Some h) m =
+            let to = seek_target h.position (size_of t h.key) offset mode in
+            size_row (denies_write (protection_of t h.key)) (is_bad_target 2147483647 to) (target_number to == size_of t h.key) m
+
+-- an object without what refuses its deletion
+pub can_remove_told : (t : Tree) (s : Session) (key : ℕ) (denied : Bool) → (key == root t) ≡ false → is_held s key ≡ false → is_empty (entries t key) ≡ true → denies_delete (protection_of t key) ≡ denied
+    → not denied ≡ can_remove t s key
+can_remove_told t s key denied other free empty is = rw (other, free, empty, is) refl
+
+-- bytes that are not empty are some
+pub some_bytes : (bytes : List ℕ) → (length bytes == 0) ≡ false → nat_lt 0 (length bytes) ≡ true
+some_bytes bytes some =
+    let nonzero : length bytes ≢ 0 = λ e. true≢false (sym (eq-eqb (length bytes) 0 e) ∙ some) in
+    lt-ltb 0 (length bytes) (omega (arith, nonzero))
