@@ -23,7 +23,7 @@ alone() {
     cat "$room/alone"
 }
 
-echo "locks entries  handler alone     static     shared  static/alone  shared/static  (packets a second)"
+echo "locks entries  handler alone     static     shared  static:alone  shared:static  (packets a second)"
 for counts in "0 10" "10 10" "1000 10" "0 1000"; do
     : > "$room/figures"
     for run in $(seq $runs); do
