@@ -1,12 +1,14 @@
 /* Runs a command, and prints the seconds of the clock and of the processors that it took, and the most memory that it had in KB.
  * Linux counts in that what the process had before the command was started in it: here this program, of about a megabyte.
  *
- *   measured OUT COMMAND..     with the command's standard output in the file OUT
+ *   measured OUT COMMAND..         with the command's standard output in the file OUT; its exit status has to be 0
+ *   measured --any OUT COMMAND..   with any exit status, which is printed too
  */
 #define _DEFAULT_SOURCE
 #include <errno.h>
 #include <fcntl.h>
 #include <spawn.h>
+#include <stdbool.h>
 #include <stdio.h>
 #include <string.h>
 #include <sys/resource.h>
@@ -27,8 +29,11 @@ static double seconds_of(struct timeval time) {
 }
 
 int main(int count, char **words) {
+    const bool any = count > 1 && strcmp(words[1], "--any") == 0;
+    words += any;
+    count -= any;
     if (count < 3) {
-        fprintf(stderr, "usage: measured OUT COMMAND..\n");
+        fprintf(stderr, "usage: measured [--any] OUT COMMAND..\n");
         return 2;
     }
     posix_spawn_file_actions_t actions;
@@ -48,10 +53,12 @@ int main(int count, char **words) {
         return 2;
     }
     double wall = seconds_now() - begun;
-    if (!WIFEXITED(status) || WEXITSTATUS(status) != 0) {
+    if (!WIFEXITED(status) || (!any && WEXITSTATUS(status) != 0)) {
         fprintf(stderr, "%s ended with status %#x\n", words[2], (unsigned)status);
         return 1;
     }
-    printf("%.4f %.4f %ld\n", wall, seconds_of(used.ru_utime) + seconds_of(used.ru_stime), used.ru_maxrss);
+    printf("%.4f %.4f %ld", wall, seconds_of(used.ru_utime) + seconds_of(used.ru_stime), used.ru_maxrss);
+    if (any) printf(" %d", WEXITSTATUS(status));
+    printf("\n");
     return 0;
 }

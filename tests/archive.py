@@ -19,7 +19,7 @@ import subprocess
 import sys
 import threading
 from functools import partial
-from typing import Callable, Dict, Iterable, Iterator, List, NamedTuple, Optional, Sequence, Set, Tuple
+from typing import Callable, Dict, Iterable, Iterator, List, NamedTuple, Optional, Sequence, Set, Tuple, TypeVar
 
 sys.dont_write_bytecode = True
 
@@ -37,6 +37,7 @@ NOT_BLOCKS = b"refused NotWholeBlocks 0\n"
 FIELDS = ["path", "ok", "validated", "kind", "blocks", "name", "files", "directories", "free", "faults"]
 # The bytes of files by their paths.
 Files = Dict[str, bytes]
+T = TypeVar("T")
 
 
 class Volume(Image):
@@ -218,6 +219,9 @@ def refused_objects(room: Room) -> None:
     image.put(block, 5, image.long(block, 5) + 16)
     room.write("sum.adf", bytes(image.data))
     told = json.loads(room.run("check", "--json", "sum.adf").output)
+    text = f"block {block}, in Work:S/startup-sequence: the longs of the block sum to 00000010, and not to 0"
+    sums = (image.long(block, 5), (image.long(block, 5) - 16) % 2**32)
+    fault = {"kind": "BadSum", "block": block, "path": "S/startup-sequence", "found": sums[0], "wanted": sums[1], "text": text}
     wanted: Dict[str, object] = {
         "path": "sum.adf",
         "ok": False,
@@ -228,13 +232,12 @@ def refused_objects(room: Room) -> None:
         "files": None,
         "directories": None,
         "free": None,
-        "faults": [{"kind": "BadSum", "block": block, "path": "S/startup-sequence"}],
+        "faults": [fault],
     }
     room.report.same("the object of an image that is refused", told, wanted)
-    text = f"block {block}, in Work:S/startup-sequence: the longs of the block sum to 00000010, and not to 0"
     room.report.check("what a person is told of it", room.run("check", "sum.adf"), 3, f"refused BadSum {block}\n".encode(), text)
     told = json.loads(room.run("check", "--json", "bad.adf").output)
-    fault = {"kind": "NotWholeBlocks", "block": 0, "path": None}
+    fault = {"kind": "NotWholeBlocks", "block": 0, "path": None, "found": None, "wanted": None, "text": None}
     found = (told["ok"], told["kind"], told["blocks"], told["faults"])
     room.report.same("the object of a wrong size", found, (False, None, None, [fault]))
     ran = room.run("check", "--json", "filled.adf", "none.adf", "sum.adf")
@@ -546,8 +549,7 @@ def try_damage(room: Room, name: str, image: Volume, files: Files, damage: Damag
     room.report.same(f"{name}: what is whole", [len(it) for it in whole], [len(it) for it in wanted])
     room.report.expect(f"{name}: its bytes", whole == wanted, "other bytes than were there")
     is_broken = states["f"].split()[-2:-1] == ["broken"]
-    status = 3 if "found" in str(states) or not damage.is_whole else 0
-    room.report.same(f"{name}: the rest is broken", (is_broken, told.status), (not damage.is_whole, status))
+    room.report.same(f"{name}: the rest is broken", (is_broken, told.status), (not damage.is_whole, 3))
 
 
 # ---- random and systematic damage: files reported as whole have their old bytes
@@ -598,6 +600,32 @@ def mistaken(room: Room, job: Struck) -> Optional[str]:
     is_valid = Image(job.data).long(len(job.data) // BLOCK // 2, 78) == ALL_ONES
     if ran != (0, b"", b"") or len(written) != len(job.data) or is_valid and written != job.data:
         return f"image {job.number}: status {ran.status}, {ran.output[:200]!r}, {ran.texts[:200]!r}, or other bytes than it had"
+    return None
+
+
+class Flipped(NamedTuple):
+    """An image with one flipped bit: its name, its bytes, the files whose header has it not, the number of lost entries, and the status
+    of its rescue."""
+
+    number: object
+    data: bytes
+    files: Files
+    lost: int
+    status: int
+
+
+def silent(room: Room, job: Flipped) -> Optional[str]:
+    """What is wrong with the account of an image with one flipped bit: a file has no line, or a lost entry is not reported."""
+    at = f"flipped{os.getpid()}"
+    shutil.rmtree(at, ignore_errors=True)
+    room.write(f"{at}.adf", job.data)
+    ran = room.run("extract", "--damaged", "--to", at, f"{at}.adf")
+    lines = ran.output.decode("latin-1").splitlines()
+    told = {line.rsplit("/", 1)[-1].rsplit(" ", 1)[-1] for line in lines}
+    missing = [it for it in job.files if it.rsplit("/", 1)[-1] not in told]
+    lost = [it for it in lines if it.removeprefix("found ").startswith("lost ")]
+    if missing or len(lost) != job.lost or ran.status != job.status or ran.texts:
+        return f"image {job.number}: no line for {missing}, {len(lost)} lost where {job.lost} are expected, {ran}"
     return None
 
 
@@ -663,7 +691,25 @@ class Damages:
                             other.settle(block, 0 if block == page else 5)
                         yield self.struck((block, at, value, is_settled), bytes(other.data))
 
-    def all_true(self, name: str, jobs: Iterable[Struck], fault_in: Callable[[Room, Struck], Optional[str]] = untrue) -> None:
+    def flipped(self) -> Iterator[Flipped]:
+        """One bit in each long of the root, the bitmap block, each header, the extension block and two data blocks."""
+        image = Volume(self.good)
+        root = image.blocks // 2
+        entries = {it: image.text(it, 432).decode("latin-1") for it in range(2, image.blocks) if image.long(it, 1) == it and image.long(it, 0) == 2}
+        extension = image.long(image.header("long"), 126)
+        data = image.pointers(image.header("long"))[:2]
+        for block in [root, image.long(root, 79), *entries, extension, *data]:
+            files = {path: it for path, it in self.files.items() if path.rsplit("/", 1)[-1] != entries.get(block)}
+            status = 0 if self.is_ffs and block in data else 3
+            for at in range(128):
+                other = Volume(self.good)
+                other.put(block, at, image.long(block, at) ^ 1 << (13 * block + at) % 32)
+                # (a slot of the root may then name another block as an entry)
+                named = other.long(block, at) if block == root and 6 <= at < 78 else 0
+                is_lost = block in entries or 2 <= named < image.blocks and named not in entries
+                yield Flipped((block, at), bytes(other.data), files, int(is_lost), status)
+
+    def all_true(self, name: str, jobs: Iterable[T], fault_in: Callable[[Room, T], Optional[str]]) -> None:
         with multiprocessing.Pool() as pool:
             faults = [it for it in pool.imap_unordered(partial(fault_in, self.room), jobs, 50) if it]
         self.report.hold(name, f"{len(faults)}, as {faults[0]}" if faults else None)
@@ -673,10 +719,11 @@ def damages(room: Room) -> None:
     for kind in KINDS:
         said = kind[0] if kind else "--ofs"
         tried = Damages(room, kind)
-        tried.all_true(f"salvage {said}: each track that is noise", tried.noise())
-        tried.all_true(f"salvage {said}: {DAMAGED} volumes with a few changed bytes behind the boot blocks", tried.changed(2 * BLOCK))
+        tried.all_true(f"salvage {said}: each track that is noise", tried.noise(), untrue)
+        tried.all_true(f"salvage {said}: {DAMAGED} volumes with a few changed bytes behind the boot blocks", tried.changed(2 * BLOCK), untrue)
         tried.all_true(f"serve {said}: {DAMAGED} volumes with a few changed bytes", tried.changed(0), mistaken)
-        tried.all_true(f"salvage {said}: each long that is another", tried.swept())
+        tried.all_true(f"salvage {said}: each long that is another", tried.swept(), untrue)
+        tried.all_true(f"salvage {said}: one bit in each long", tried.flipped(), silent)
 
 
 def main(words: List[str]) -> int:

@@ -1,7 +1,7 @@
 #!/usr/bin/env python3
 """Runs all commands that read an image over images that it damages by itself, as many as there is time for.
 
-    tests/fuzz.py [PROGRAM] [--minutes N] [--seed S] [--only NUMBER]
+    tests/fuzz.py [PROGRAM] [--minutes N] [--jobs N] [--seed S] [--only NUMBER]
 
 It draws accepted images of both formats and of several sizes with the program, and damages each many times: longs and bytes,
 pointers to blocks of the same and of another role, chains that are cut or lead back, sizes, counts, names, the bitmap, whole
@@ -408,7 +408,20 @@ class Tried:
         found = [f"{it['kind']} {it['block']}" for it in faults]
         same = found[:MOST] == self.told.faults[:MOST] and told["ok"] is self.is_accepted
         assert same, f"check --all --json: {found[:9]} where {self.told.faults[:9]} is expected"
+        for it in faults:
+            self.has_values(it)
         return told
+
+    def has_values(self, fault: Dict[str, object]) -> None:
+        """What was found is a long of the fault's block, and another number than what is wanted."""
+        found, block = fault["found"], fault["block"]
+        assert isinstance(block, int) and (found is None or isinstance(found, int)), fault
+        if found is not None:
+            start = BLOCK * block
+            longs = {self.data[at : at + 4] for at in range(start, start + BLOCK, 4)}
+            assert found.to_bytes(4, "big") in longs and found != fault["wanted"], fault
+        else:
+            assert fault["wanted"] is None, fault
 
     def listed(self, told: Dict[str, object]) -> List[str]:
         """`list` has a line for each entry; its form for people steers no terminal."""
@@ -534,9 +547,8 @@ def work(program: Path, seed: str, ends: float, workers: int, worker: int) -> Do
     return Done(accepted, refused, faults)
 
 
-def all_at_once(program: Path, seed: str, minutes: float) -> Done:
-    """Workers side by side, one for each processor."""
-    workers = len(os.sched_getaffinity(0))
+def all_at_once(program: Path, seed: str, minutes: float, workers: int) -> Done:
+    """So many workers side by side."""
     with multiprocessing.Pool(workers) as pool:
         done = pool.map(partial(work, program, seed, time.monotonic() + 60 * minutes, workers), range(workers), 1)
     return Done(sum(it.accepted for it in done), sum(it.refused for it in done), [it for found in done for it in found.faults])
@@ -553,13 +565,14 @@ def main(words: List[str]) -> int:
     parser = argparse.ArgumentParser(description="Runs the commands that read an image over damaged images.")
     parser.add_argument("program", nargs="*", help="the program to test")
     parser.add_argument("--minutes", type=float, default=1.0, help="how long (default: 1)")
+    parser.add_argument("--jobs", type=int, default=len(os.sched_getaffinity(0)), help="how many images at a time (default: one for each processor)")
     parser.add_argument("--seed", default=str(random.randrange(10**6)), help="selects the images")
     parser.add_argument("--only", type=int, help="the number of the only image to try")
     given = parser.parse_args(words)
     program, report = program_of(given.program), Report()
     # (a command that needs far too much memory fails, and does not take it from others)
     resource.setrlimit(resource.RLIMIT_AS, (4 << 30, 4 << 30))
-    done = all_at_once(program, given.seed, given.minutes) if given.only is None else alone(program, given.seed, given.only)
+    done = all_at_once(program, given.seed, given.minutes, given.jobs) if given.only is None else alone(program, given.seed, given.only)
     if not shutil.which("unadf"):
         report.lacks("the files by another reader", "unadf")
     for fault in done.faults:

@@ -4,6 +4,8 @@ resources. It also tests limits on the length of files, and commands that are ki
 
     tests/hostile.py [PROGRAM]
 
+The environment variable SECONDS=N lengthens each race to N seconds; the default is 10, or 4 for a race that strace shortens.
+
 The program runs as root on files of another user. A process of that user replaces a file by a link, either as soon as the file
 exists or after the program has read it. The target of the link must not change. If `strace` is installed, it delays the program
 at the relevant call, so that the swap always comes in time. Otherwise the test only tries the swap for some seconds. The test
@@ -19,7 +21,8 @@ The made images consist of headers only: of files that claim too many blocks, of
 again and again. The time and the memory of their salvage must be bounded, and so must be the size of the salvaged files.
 
 Other images are accepted, and as deep or as full as their blocks allow: a chain of directories through all blocks, many files in
-the deepest directory, all entries in one directory. Each command over them has a bound on its memory and its processor time.
+the deepest directory, all names in one hash chain. Each command over them has a bound on its memory, its stack and its processor
+time.
 
 A limit on the length of files is set as a shell sets it, so that a write past it would end the program. Commands are killed by
 the signals of a terminal, and the next command must remove what they left.
@@ -32,30 +35,57 @@ from __future__ import annotations
 
 import ctypes
 import fcntl
+import multiprocessing
 import os
 import random
 import resource
 import shutil
 import signal
 import stat
-import struct
 import subprocess
 import sys
 import time
 import unicodedata
+from functools import partial
+from itertools import islice
 from pathlib import Path
-from typing import Callable, Dict, Iterator, List, NamedTuple, NoReturn, Optional, Sequence, Tuple
+from typing import Callable, Dict, List, NamedTuple, NoReturn, Optional, Sequence, Tuple
 
 sys.dont_write_bytecode = True
 
+from harmful import (
+    DIRECTORY,
+    FILE,
+    SLOTS,
+    Places,
+    chains_down,
+    deep_chain,
+    deep_files,
+    ends_late,
+    extensions_round,
+    grows_by_one,
+    headers_of,
+    long_names,
+    names_alike,
+    names_of_one_chain,
+    one_chain,
+    parents_round,
+    parents_up,
+    places_in,
+    put_entry,
+    put_header,
+    put_name,
+    refused,
+    shares_list,
+)
 from harness import BLOCK, MOMENT, Call, Image, Ran, Report, Room, fault_of, has_strace, injected, limited, run, traced, try_all
 
 # A user other than root, and two groups, by numbers that need no name.
 OTHER, GROUP, SECOND = 65_534, 65_534, 65_533
-# How long a call is delayed, in microseconds, and how long a swap is tried without that, in seconds.
-DELAY, BOUND = 300_000, 4.0
-# How long directories are swapped at any time, in seconds, and the files in such a directory.
-RACE, FILES = 10.0, 200
+# How long races last, in seconds: those that are left to chance alone, and those that strace decides too.
+RACE, BOUND = (float(os.environ.get("SECONDS") or it) for it in (10, 4))
+# How long a call is delayed, in microseconds, and the files in a directory that is swapped.
+DELAY, FILES = 300_000, 200
 # Bytes in the largest image, and the longest time for reading an endless stream, in seconds.
 LARGEST, SOON = 101_602 * BLOCK, 30.0
 
@@ -169,10 +199,10 @@ class Shared(Room):
 # ---- names that change meanwhile
 
 
-def held_up(call: str, number: int) -> List[str]:
+def held_up(call: str, number: int, delay: int = DELAY) -> List[str]:
     """A command that runs another and delays one of its calls, by its number among those of one name, after the call is
     done."""
-    return injected(f"{call}:delay_exit={DELAY}:when={number}")
+    return injected(f"{call}:delay_exit={delay}:when={number}")
 
 
 def when_there(path: str) -> None:
@@ -391,18 +421,22 @@ def find_call(room: Room, words: Sequence[str], names: Sequence[str], part: str)
 
 
 def swapped_in(room: Shared, held: Held, prepare: Callable[[], None]) -> Optional[str]:
-    """What is wrong after a directory was swapped for a link while the program was held up."""
+    """What is wrong after a directory was swapped for a link while the program was held up. If another status is wanted, the
+    machine may have been too busy for the swap, and the program is held up longer once more."""
     prepare()
     call = find_call(room, TAKEN, [held.call, f"{held.call}at"], held.about)
-    prepare()
-    swap = Swap(room, lambda: when_there(held.there), moved_away(room, held.swapped))
-    ran = room.run(*TAKEN, front=held_up(call.name, call.number))
-    swapped, fault = swap.end(), outside_of(ran)
-    if fault is None and not swapped:
-        return f"nothing was swapped in time: {ran}"
-    if fault is None and held.status is not None and (ran.status != held.status or not ran.texts):
-        return f"status {held.status} and a text are wanted: {ran}"
-    return fault
+    late = None
+    for delay in (DELAY, 10 * DELAY):
+        prepare()
+        swap = Swap(room, lambda: when_there(held.there), moved_away(room, held.swapped))
+        ran = room.run(*TAKEN, front=held_up(call.name, call.number, delay))
+        swapped, fault = swap.end(), outside_of(ran)
+        if fault is not None:
+            return fault
+        if swapped and (held.status is None or (ran.status == held.status and ran.texts)):
+            return None
+        late = f"status {held.status} and a text are wanted: {ran}" if swapped else f"nothing was swapped in time: {ran}"
+    return late
 
 
 def with_way(room: Shared) -> None:
@@ -740,52 +774,12 @@ def endless(room: Shared) -> None:
 
 # ---- harmful disks
 
-SLOTS, DIRECTORY, FILE = 72, 2, 0xFFFFFFFD
 # Letters that steer a terminal, as they are in a name on the disk and as a path of the host, and as they are printed.
 STEERS, SHOWN = "\x1b[2J\x07\x9b1m\x7f\n", b"%1B[2J%07%9B1m%7F%0A"
 # The memory that a rescue may use in addition to the image, and its most seconds of processor time, for images of at most this
 # many blocks.
 MEMORY = 64 << 20
 SECONDS = [(3_520, 10), (101_602, 60)]
-
-
-def put_entry(image: Image, block: int, kind: int, name: bytes, parent: int = 0, slot: int = 0) -> None:
-    """Draws the header of a directory or an empty file over a block, sound by itself: with its parent, and the first entry of
-    its first slot."""
-    image.data[block * BLOCK : (block + 1) * BLOCK] = bytes(BLOCK)
-    for at, value in ((0, 2), (1, block), (6, slot), (125, parent), (127, kind)):
-        image.put(block, at, value)
-    start = block * BLOCK + 432
-    image.data[start : start + 1 + len(name)] = bytes([len(name)]) + name
-    image.settle(block)
-
-
-def put_pointers(image: Image, block: int, size: int, pointers: Sequence[int], extension: int = 0) -> None:
-    """Gives a file a size, these first data blocks, and an extension block."""
-    for at, value in ((2, len(pointers)), (81, size), (126, extension)):
-        image.put(block, at, value)
-    for place, pointer in enumerate(pointers):
-        image.put(block, 77 - place, pointer)
-    image.settle(block)
-
-
-def put_header(image: Image, block: int, size: int, pointers: Sequence[int]) -> None:
-    """Draws the header of a file over a block, sound by itself: with this size and these first data blocks."""
-    put_entry(image, block, FILE, f"f{block}".encode(), image.blocks // 2)
-    put_pointers(image, block, size, pointers)
-
-
-def refused(image: Image) -> bytes:
-    """The image with a wrong checksum in its root, so that it is refused."""
-    image.data[len(image.data) // 2 + 20] ^= 1
-    return bytes(image.data)
-
-
-def places_in(image: Image) -> List[int]:
-    """The blocks of a blank image other than those of the volume itself."""
-    root = image.blocks // 2
-    pages = {image.long(root, 79 + it) for it in range(25)}
-    return [it for it in range(2, image.blocks) if it != root and it not in pages]
 
 
 class Rescued(NamedTuple):
@@ -823,37 +817,6 @@ def rescued(room: Room, image: bytes) -> Rescued:
     return Rescued(status, room.content("lines").splitlines(), room.content("texts"), sizes)
 
 
-Places = Sequence[int]
-
-
-def parents_up(image: Image, places: Places, depth: int) -> None:
-    """Directories that only their parents hold together: chains of this depth, from the first header up to the last."""
-    for at, block in enumerate(places):
-        is_last = (at + 1) % depth == 0 or at + 1 == len(places)
-        put_entry(image, block, DIRECTORY, b"d", 0 if is_last else places[at + 1])
-
-
-def parents_round(image: Image, places: Places, depth: int) -> None:
-    """Directories in cycles of parents."""
-    for at, block in enumerate(places):
-        first = at - at % depth
-        is_last = (at + 1) % depth == 0 or at + 1 == len(places)
-        put_entry(image, block, DIRECTORY, b"d", places[first if is_last else at + 1])
-
-
-def chains_down(image: Image, places: Places, depth: int) -> None:
-    """Directories in directories, by the slots of the root, and an empty file in the last one."""
-    root = image.blocks // 2
-    for at, block in enumerate(places):
-        is_last = (at + 1) % depth == 0 or at + 1 == len(places)
-        if at % depth == 0 and at // depth < SLOTS:
-            image.put(root, 6 + at // depth, block)
-        if is_last:
-            put_entry(image, block, FILE, b"f%d" % (at // depth))
-        else:
-            put_entry(image, block, DIRECTORY, b"d", slot=places[at + 1])
-
-
 def deep(room: Room, title: str, words: List[str], depths: Sequence[int], drawn_by: Callable[[Image, Places, int], None]) -> None:
     """Directories in directories: every recovered one is told, as long as no path is too long for the host."""
     room.done("blank", "--ffs", *words, *MOMENT, "Work", "blank.adf")
@@ -866,7 +829,7 @@ def deep(room: Room, title: str, words: List[str], depths: Sequence[int], drawn_
         if 2 * depth > 4_095:
             room.report.expect(name, (told.status, told.lines, told.sizes) == (2, [], None), told)
         elif drawn_by is chains_down:
-            room.report.expect(name, (told.status, len(told.lines), told.sizes) == (0, 1, [0]), told)
+            room.report.expect(name, (told.status, len(told.lines), told.sizes) == (3, 1, [0]), told)
         else:
             is_found = all(it.startswith(b"found lost+found/d") for it in told.lines)
             room.report.expect(name, is_found and (told.status, len(set(told.lines))) == (3, len(places)), told)
@@ -906,41 +869,6 @@ def taken_out(room: Room, name: str, image: bytes, is_cut: bool) -> None:
     room.report.expect(f"{name}: what is cut short is told", (b" is cut short" in told.texts) == is_cut, told)
 
 
-def shares_list(size: int) -> Callable[[Image, Places], None]:
-    """All headers have one list of blocks."""
-
-    def draw(image: Image, places: Places) -> None:
-        for block in places:
-            put_header(image, block, size, places[100 : 100 + SLOTS])
-
-    return draw
-
-
-def grows_by_one(image: Image, places: Places) -> None:
-    """All headers have a part of one list of blocks, each one block more."""
-    for at, block in enumerate(places):
-        put_header(image, block, BLOCK * (1 + at % SLOTS), places[100 : 101 + at % SLOTS])
-
-
-def ends_late(image: Image, places: Places) -> None:
-    """Each file has one block, which is the last of 72."""
-    half = len(places) // 2
-    for block, data in zip(places[:half], places[half:]):
-        put_header(image, block, SLOTS * BLOCK, [0] * (SLOTS - 1) + [data])
-
-
-def extensions_round(image: Image, places: Places) -> None:
-    """The extension block of each file is its own next one."""
-    half = len(places) // 2
-    for block, extension in zip(places[:half], places[half:]):
-        put_header(image, block, 0xFFFFFFFF, places[half : half + SLOTS])
-        put_pointers(image, block, 0xFFFFFFFF, places[half : half + SLOTS], extension)
-        image.data[extension * BLOCK : (extension + 1) * BLOCK] = bytes(BLOCK)
-        for at, value in ((0, 16), (1, extension), (2, SLOTS), (125, block), (126, extension), (127, FILE)):
-            image.put(extension, at, value)
-        image.settle(extension)
-
-
 def floppies(room: Room) -> None:
     """Broken files that claim more than there is."""
     cases: List[Tuple[str, Callable[[Image, Places], None], bool]] = [
@@ -964,11 +892,181 @@ def one_name(room: Room) -> None:
         room.done("blank", "--ffs", *words, *MOMENT, "Work", "blank.adf")
         image = Image(room.content("blank.adf"))
         places = places_in(image)
-        for at, block in enumerate(places):
-            put_entry(image, block, FILE, b"same" if at % 3 else b"same~%d" % places[(at + 1) % len(places)])
+        names_alike(image, places)
         told = rescued(room, refused(image))
         found = (told.status, len(set(told.lines)), told.sizes)
         room.report.expect(f"{title} of one name", found == (3, len(places), [0] * len(places)), told)
+
+
+# The levels of directories in images that are made to take long: as many as a path of the host can have, and as many as leave less
+# than 100 MB of lines for the largest image.
+HIGH, LOW = 1_900, 400
+
+
+class Worst(NamedTuple):
+    """An image made to take long: its name, and how it is drawn. The drawing returns the status, the lines and the files of its
+    rescue."""
+
+    name: str
+    draw: Callable[[Image, Places], Tuple[int, int, int]]
+
+
+def hang(image: Image, directory: int, first: int, slot: int = 0) -> None:
+    """Makes an entry the first one of a slot of a directory."""
+    image.put(directory, 6 + slot, first)
+    image.settle(directory)
+
+
+def join(image: Image, chain: Places) -> None:
+    """Makes entries a hash chain."""
+    for before, behind in zip(chain, chain[1:]):
+        image.put(before, 124, behind)
+        image.settle(before)
+
+
+def go_down(image: Image, directories: Places) -> None:
+    """Draws directories by hash chains, each in the one before."""
+    for at, block in enumerate(directories):
+        put_entry(image, block, DIRECTORY, b"d%d" % block if at == 0 else b"d", slot=0 if at + 1 == len(directories) else directories[at + 1])
+
+
+def parts_of(places: Places, size: int) -> List[Places]:
+    """Parts of the places with so many each; what is left over is in none."""
+    return [places[at : at + size] for at in range(0, len(places) - size + 1, size)]
+
+
+def chains_beside(image: Image, places: Places) -> Tuple[int, int, int]:
+    """As many chains of directories as the root has slots, all equally deep."""
+    for slot, chain in enumerate(parts_of(places, len(places) // SLOTS)[:SLOTS]):
+        go_down(image, chain)
+        hang(image, image.blocks // 2, chain[0], slot)
+    return 3, 0, 0
+
+
+def comb(image: Image, places: Places) -> Tuple[int, int, int]:
+    """One chain of directories, and in the last one many chains that are longer than as many directories as are open at a time."""
+    high = min(HIGH, len(places) // 2)
+    go_down(image, places[:high])
+    hang(image, image.blocks // 2, places[0])
+    chains_of_last = parts_of(places[high:], 62)
+    for chain in chains_of_last:
+        go_down(image, chain)
+    join(image, [it[0] for it in chains_of_last])
+    hang(image, places[high - 1], chains_of_last[0][0])
+    return 3, 0, 0
+
+
+def comb_by_parents(image: Image, places: Places) -> Tuple[int, int, int]:
+    """The same, held together by parents alone, and the last directories first."""
+    trunk = places[-LOW:]
+    go_up(image, trunk, 0)
+    teeth = parts_of(places[:-LOW], 62)
+    for chain in teeth:
+        go_up(image, chain, trunk[0])
+    count = LOW + 62 * len(teeth)
+    return 3, count, 0
+
+
+def go_up(image: Image, directories: Places, parent: int) -> None:
+    """Draws directories by their parents, each in the one behind it, and the last one in this parent."""
+    for block, above in zip(directories, [*directories[1:], parent]):
+        put_entry(image, block, DIRECTORY, b"d%d" % block if above == parent else b"d", above)
+
+
+def by_turns(image: Image, places: Places) -> Tuple[int, int, int]:
+    """Two chains of directories, and files that no directory leads to, by turns with the last one of each chain as parent."""
+    chains = (places[:LOW], places[LOW : 2 * LOW])
+    for slot, chain in enumerate(chains):
+        go_down(image, chain)
+        hang(image, image.blocks // 2, chain[0], slot)
+    files = places[2 * LOW :]
+    for at, block in enumerate(files):
+        put_entry(image, block, FILE, b"f%d" % block, chains[at % 2][-1])
+    return 3, len(files), len(files)
+
+
+def one_in_each(image: Image, places: Places) -> Tuple[int, int, int]:
+    """Chains of directories, and in each directory a file that only its parent holds there. The first directory has the last file."""
+    half = len(places) // 2
+    found = parts_of(places[:half], min(LOW, half // SLOTS))[:SLOTS]
+    for slot, chain in enumerate(found):
+        go_down(image, chain)
+        hang(image, image.blocks // 2, chain[0], slot)
+    directories = [it for chain in found for it in chain]
+    for block, parent in zip(reversed(places[half:]), directories):
+        put_entry(image, block, FILE, b"f", parent)
+    return 3, len(directories), len(directories)
+
+
+def files_in_one_chain(image: Image, places: Places) -> Tuple[int, int, int]:
+    """All files in one hash chain."""
+    for block in places:
+        put_entry(image, block, FILE, b"f%d" % block)
+    join(image, places)
+    hang(image, image.blocks // 2, places[0])
+    return 3, len(places), len(places)
+
+
+def lost_names(image: Image, places: Places) -> Tuple[int, int, int]:
+    """Directories without parents that all name the same blocks, which are no headers."""
+    directories, lost = places[SLOTS:], places[:SLOTS]
+    for block in directories:
+        put_entry(image, block, DIRECTORY, b"d%d" % block)
+        for slot, named in enumerate(lost):
+            image.put(block, 6 + slot, named)
+        image.settle(block)
+    return 3, len(directories) + len(lost), 0
+
+
+def sound_lists(image: Image, places: Places) -> Tuple[int, int, int]:
+    """Sound files that all have one list of blocks."""
+    files = places[SLOTS:]
+    for block in files:
+        put_header(image, block, SLOTS * BLOCK, places[:SLOTS])
+    return 3, len(files), len(files)
+
+
+def extensions_fit(image: Image, places: Places) -> Tuple[int, int, int]:
+    """The extension block of each file is its own next one, and the file is as long as the image."""
+    half = len(places) // 2
+    extensions_round(image, places)
+    for block in places[:half]:
+        image.put(block, 81, image.blocks * BLOCK)
+        image.settle(block)
+    return 3, half, half
+
+
+WORST = [
+    Worst("chains side by side", chains_beside),
+    Worst("chains in the last directory of a chain", comb),
+    Worst("the same, by their parents", comb_by_parents),
+    Worst("files that are in two deep directories by turns", by_turns),
+    Worst("a file in each of many deep directories", one_in_each),
+    Worst("all files in one chain", files_in_one_chain),
+    Worst("directories that name the same lost entries", lost_names),
+    Worst("sound files of one list", sound_lists),
+    Worst("extension blocks that follow themselves, in files that fit", extensions_fit),
+]
+
+
+def worst_of(program: Path, inside: str, place: Tuple[int, int]) -> Tuple[str, str]:
+    """Rescues one of the worst images, of one size, in a room of its own. Returns its name, and what is wrong."""
+    (title, words, _), it = SIZES[place[0]], WORST[place[1]]
+    with Room(program, inside=inside) as room:
+        room.done("blank", "--ffs", *words, *MOMENT, "Work", "blank.adf")
+        image = Image(room.content("blank.adf"))
+        wanted = it.draw(image, places_in(image))
+        told = rescued(room, refused(image))
+    found = (told.status, len(set(told.lines)), len(told.sizes or []))
+    return f"{title}, {it.name}", "" if found == wanted else f"{wanted} is wanted: {told}"
+
+
+def worst(room: Room) -> None:
+    """Images of which the way from one entry to the next, or the blocks of each file, may take long. The time is bounded."""
+    places = [(size, it) for size in reversed(range(len(SIZES))) for it in range(len(WORST))]
+    with multiprocessing.Pool(min(4, os.cpu_count() or 1)) as pool:
+        for name, fault in pool.imap(partial(worst_of, room.program, str(room.top)), places):
+            room.report.expect(name, not fault, fault)
 
 
 def holes(room: Shared) -> None:
@@ -990,12 +1088,6 @@ def holes(room: Shared) -> None:
         found = room.content("hole/lost+found/f1000")
         shutil.rmtree("hole", ignore_errors=True)
         room.report.expect(f"a file of which {name} of 60 blocks is there", (ran.status, found) == (3, wanted), f"{ran}, {len(found)} bytes")
-
-
-def put_name(image: Image, block: int, name: bytes) -> None:
-    """Writes another name into a header, whose checksum is then wrong."""
-    start = block * BLOCK + 432
-    image.data[start : start + 1 + len(name)] = bytes([len(name)]) + name
 
 
 def terminals(room: Shared) -> None:
@@ -1087,94 +1179,28 @@ def readers_beside(room: Shared) -> None:
 # ---- images as deep and as full as their blocks allow
 
 
-# The memory that a command may use over the largest image, and the processor time by the blocks of the image.
-WORST_MEMORY, WORST_TIMES = 300 << 20, {3_520: 10.0, 101_602: 60.0}
+# The memory and the stack that a command may use over the largest image, and the processor time by the blocks of the image.
+WORST_MEMORY, WORST_STACK, WORST_TIMES = 300 << 20, 1 << 20, {3_520: 10.0, 101_602: 60.0}
+# The processor time of a change of the largest image that does not depend on the length of hash chains.
+LIKE_OTHERS = 20.0
 # The most bytes that such a command writes to a file.
 WORST_OUTPUT = 100 << 20
 # The most faults that are told of an image.
 MOST_FAULTS = 1_000
-DIRECTORY, LONGS = 2, struct.Struct(">128I")
-
-
-class Drawing:
-    """A blank image into which entries are drawn. Its bitmap is to be rebuilt."""
-
-    def __init__(self, blank: bytes) -> None:
-        self.image = Image(blank)
-        self.root = self.image.blocks // 2
-        self.image.put(self.root, 78, 0)
-        self.left = [it for it in range(self.image.blocks - 1, 1, -1) if blank[it * BLOCK : (it + 1) * BLOCK] == bytes(BLOCK)]
-        self.drawn = [self.root]
-        self.last: Dict[Tuple[int, int], int] = {}
-
-    def entry(self, directory: int, name: bytes, kind: int = DIRECTORY) -> int:
-        """Draws an empty directory or file with the next free block, and returns that."""
-        block = self.left.pop()
-        for at, value in ((0, 2), (1, block), (125, directory), (127, kind)):
-            self.image.put(block, at, value)
-        start = block * BLOCK + 432
-        self.image.data[start : start + 1 + len(name)] = bytes([len(name)]) + name
-        slot = 6 + hash_of(name)
-        before = self.last.get((directory, slot))
-        self.image.put(*((directory, slot) if before is None else (before, 124)), block)
-        self.last[directory, slot] = block
-        self.drawn.append(block)
-        return block
-
-    def done(self, wrong: Sequence[int] = ()) -> bytes:
-        """The image, with wrong checksums in some blocks."""
-        data = self.image.data
-        for block in self.drawn:
-            total = sum(LONGS.unpack_from(data, block * BLOCK)) - self.image.long(block, 5)
-            self.image.put(block, 5, -total)
-        for block in wrong:
-            self.image.put(block, 5, self.image.long(block, 5) + 1)
-        return bytes(data)
-
-
-def hash_of(name: bytes) -> int:
-    """The slot of a name of ASCII letters in its directory."""
-    found = len(name)
-    for it in name.upper():
-        found = (13 * found + it) % 2048
-    return found % 72
-
-
-def long_names() -> Iterator[bytes]:
-    """Names of 30 letters, all different."""
-    return (b"%030d" % it for it in range(LARGEST // BLOCK))
-
-
-def chain(blank: bytes) -> bytes:
-    """Each directory is in the one before, through all blocks."""
-    drawing, names = Drawing(blank), long_names()
-    here = drawing.root
-    while drawing.left:
-        here = drawing.entry(here, next(names))
-    return drawing.done()
-
-
-def chain_with_files(blank: bytes, depth: int, wrong: int = 0) -> bytes:
-    """A chain of directories, and files through all other blocks in the deepest. The last files have wrong checksums."""
-    drawing, names = Drawing(blank), long_names()
-    here = drawing.root
-    for _ in range(depth):
-        here = drawing.entry(here, next(names))
-    files = []
-    while drawing.left:
-        files.append(drawing.entry(here, next(names), FILE))
-    return drawing.done(files[len(files) - wrong :])
-
-
 def limit_worst() -> None:
-    """Limits the memory of this process, and the bytes of each file that it writes."""
+    """Limits the memory of this process, its stack, the bytes of each file that it writes, and its processor time."""
+    most = int(max(WORST_TIMES.values())) + 1
+    resource.setrlimit(resource.RLIMIT_CPU, (most, most))
     resource.setrlimit(resource.RLIMIT_AS, (WORST_MEMORY, WORST_MEMORY))
+    resource.setrlimit(resource.RLIMIT_STACK, (WORST_STACK, WORST_STACK))
     resource.setrlimit(resource.RLIMIT_FSIZE, (WORST_OUTPUT, WORST_OUTPUT))
 
 
-def bounded(room: Room, blocks: int, title: str, words: Sequence[str], status: int, said: bytes = b"") -> bytes:
+def bounded(
+    room: Room, blocks: int, title: str, words: Sequence[str], status: int, said: bytes = b"", within: Optional[float] = None
+) -> bytes:
     """Runs a command over an image with so many blocks and with limited memory. Checks its status, a part of what it says, and
-    its processor time. Returns its output."""
+    its processor time, by the blocks if it is not given. Returns its output."""
     with open("lines", "wb") as lines, open("texts", "wb") as texts:
         began = subprocess.Popen([str(room.program), *words], stdin=subprocess.DEVNULL, stdout=lines, stderr=texts, preexec_fn=limit_worst)
         ended, used = os.wait4(began.pid, 0)[1:]
@@ -1182,7 +1208,7 @@ def bounded(room: Room, blocks: int, title: str, words: Sequence[str], status: i
     seconds, text = used.ru_utime + used.ru_stime, room.content("texts")
     is_right = began.returncode == status and said in text
     fault = None if is_right else f"status {began.returncode}, {text[:200]!r}"
-    if is_right and seconds > WORST_TIMES[blocks]:
+    if is_right and seconds > (within or WORST_TIMES[blocks]):
         fault = f"{seconds} seconds"
     room.report.hold(f"{title} of {blocks} blocks", fault)
     return room.content("lines")
@@ -1194,7 +1220,7 @@ def deep_images(room: Shared) -> None:
     for blocks in WORST_TIMES:
         room.done("blank", "--ffs", "--blocks", str(blocks), *MOMENT, "Work", "blank.adf")
         blank = room.content("blank.adf")
-        room.write("deep.adf", chain(blank))
+        room.write("deep.adf", deep_chain(blank))
         title = "a chain of directories"
         bounded(room, blocks, f"check of {title}", ["check", "deep.adf"], 0)
         told = bounded(room, blocks, f"check --all --json of {title}", ["check", "--all", "--json", "deep.adf"], 0)
@@ -1202,15 +1228,47 @@ def deep_images(room: Shared) -> None:
         bounded(room, blocks, f"print of {title}", ["print", "deep.adf", first], 3, b"required type")
         bounded(room, blocks, f"extract of {title}", ["extract", "--to", "bottom", "deep.adf"], 2, b"4,095")
         room.report.expect(f"extract of {title} of {blocks} blocks writes nothing", not os.path.exists("bottom"), "it did")
+        bounded(room, blocks, f"info of {title}", ["info", "deep.adf"], 0)
+        bounded(room, blocks, f"extract --damaged of {title}", ["extract", "--damaged", "--to", "bottom", "deep.adf"], 2, b"4,095")
+        bounded(room, blocks, f"serve over {title}", ["serve", *MOMENT, "--out", "made.adf", "deep.adf", "script"], 0)
         bounded(room, blocks, f"mkdir in {title}", ["mkdir", *MOMENT, "--out", "made.adf", "deep.adf", f"{first}/made"], 3, b"disk is full")
+        bounded(room, blocks, f"rename in {title}", ["rename", *MOMENT, "--out", "made.adf", "deep.adf", first, "moved"], 0)
         bounded(room, blocks, f"delete --all of {title}", ["delete", "--all", *MOMENT, "deep.adf", first], 0)
         listed = bounded(room, blocks, f"list after delete --all of {title}", ["list", "deep.adf"], 0)
         room.report.expect(f"what is left of {title} of {blocks} blocks", listed == b"Volume Work\n", f"{listed[:200]!r}")
 
 
-def headers_of(blank: bytes) -> int:
-    """The number of entries for which a blank image has room."""
-    return len(Drawing(blank).left)
+# The blocks that stay free in an image whose names are all in one hash chain.
+SPARE = 8
+
+
+def one_hash_chain(room: Shared) -> None:
+    """Commands over a directory whose names are all in one hash chain. Each change looks for a name once or twice, and to delete all
+    of them takes no longer than with many chains."""
+    for blocks in WORST_TIMES:
+        room.done("blank", "--ffs", "--blocks", str(blocks), *MOMENT, "Work", "blank.adf")
+        blank = room.content("blank.adf")
+        room.write("wide.adf", one_chain(blank, SPARE))
+        files = headers_of(blank) - SPARE - 1
+        last = next(islice(names_of_one_chain(), files - 1, None)).decode()
+        title, out = "one hash chain", ["--out", "made.adf", "wide.adf"]
+        room.write("chain", f'locate 0 -2 "d/{last}"\nexamine $1\nfree $1\n'.encode())
+        bounded(room, blocks, f"check of {title}", ["check", "wide.adf"], 0)
+        told = bounded(room, blocks, f"check --all --json of {title}", ["check", "--all", "--json", "wide.adf"], 0)
+        room.report.expect(f"the files of {title} of {blocks} blocks", b'"files":%d,' % files in told, f"{told!r}")
+        listed = bounded(room, blocks, f"list of {title}", ["list", "wide.adf"], 0)
+        room.report.same(f"the lines of {title} of {blocks} blocks", listed.count(b"\n"), files + 2)
+        bounded(room, blocks, f"print of {title}", ["print", "wide.adf", f"d/{last}"], 0)
+        bounded(room, blocks, f"extract of {title}", ["extract", "--to", "chain.out", "wide.adf"], 0)
+        room.report.same(f"the files out of {title} of {blocks} blocks", len(os.listdir("chain.out/d")), files)
+        subprocess.run(["rm", "-rf", "chain.out"])
+        bounded(room, blocks, f"serve over {title}", ["serve", *MOMENT, *out, "chain"], 0)
+        bounded(room, blocks, f"add to {title}", ["add", *MOMENT, "--to", "d", *out, "one"], 0)
+        bounded(room, blocks, f"rename in {title}", ["rename", *MOMENT, *out, f"d/{last}", "d/moved"], 0)
+        bounded(room, blocks, f"delete --all of {title}", ["delete", "--all", *MOMENT, "wide.adf", "d"], 0, within=LIKE_OTHERS)
+        left = bounded(room, blocks, f"list after delete --all of {title}", ["list", "wide.adf"], 0)
+        room.report.same(f"what is left of {title} of {blocks} blocks", left, b"Volume Work\n")
+    os.remove("wide.adf")
 
 
 def deep_faults(room: Shared) -> None:
@@ -1219,7 +1277,7 @@ def deep_faults(room: Shared) -> None:
     room.done("blank", "--ffs", "--blocks", str(blocks), *MOMENT, "Work", "blank.adf")
     blank = room.content("blank.adf")
     for depth, is_told in ((50_000, False), (100, True)):
-        room.write("deep.adf", chain_with_files(blank, depth, MOST_FAULTS + 1))
+        room.write("deep.adf", deep_files(blank, depth, MOST_FAULTS + 1))
         words = ["check", "--all", "--json", "deep.adf"]
         told = bounded(room, blocks, f"faults below {depth} directories", words, 3)
         unknown = told.count(b'"path":null')
@@ -1247,6 +1305,7 @@ def checks(room: Shared) -> None:
     floppies(room)
     chains(room)
     one_name(room)
+    worst(room)
     holes(room)
     swapped_directories(room, strace)
     deep_directories(room, strace)
@@ -1254,6 +1313,7 @@ def checks(room: Shared) -> None:
     without_proc(room)
     deep_images(room)
     deep_faults(room)
+    one_hash_chain(room)
     modes(room)
     if room.owner is None:
         why = "this is not root" if os.geteuid() != 0 else "there is no second user here"

@@ -16,7 +16,6 @@ import random
 import re
 import resource
 import shutil
-import struct
 import signal
 import subprocess
 import sys
@@ -25,11 +24,12 @@ import time
 from contextlib import contextmanager
 from functools import partial
 from pathlib import Path
-from typing import Callable, Iterator, List, Mapping, Optional, Sequence, Tuple
+from typing import Callable, Dict, Iterator, List, Mapping, Optional, Sequence, Tuple
 
 sys.dont_write_bytecode = True
 
 from all_faults_model import slot_of
+from harmful import DIRECTORY, FILE, Drawing
 from harness import BLOCK, TOP, Image, Ran, Report, Room, built_program, done, fault_of, in_memory, limited, run, wait_until_free
 
 FUSE, CLIENT = TOP / "bindings/fuse", TOP / "tests/mount_client.py"
@@ -37,8 +37,8 @@ SEED = os.environ.get("SEED") or str(random.randrange(32_768))
 STEPS, ROUNDS = os.environ.get("STEPS") or "10000", os.environ.get("ROUNDS") or "100"
 # The longest time for a mount, in seconds: it waits 5 for the lock of its image. How long `--wait` waits.
 LONGEST_START, LONGEST_WAIT = 8, 60
-# The address space and the memory of a mount over a floppy, in bytes.
-MOST_SPACE, MOST_MEMORY = 256 << 20, 64 << 20
+# The address space, the memory and the stack of a mount over a floppy, in bytes.
+MOST_SPACE, MOST_MEMORY, MOST_STACK = 256 << 20, 64 << 20, 1 << 20
 # The user and the group of another's file.
 OTHER = 65_534
 NO_ROOM = b"No space left"
@@ -594,46 +594,27 @@ def changing_names(tried: Mount) -> None:
 # ---- images that are accepted, and harmful
 
 
-def put_entry(image: Image, block: int, parent: int, name: bytes, is_directory: bool) -> None:
-    """Draws an empty directory or file first into a chain of its directory, whose checksum is then wrong, as its own is."""
-    start = BLOCK * block
-    image.data[start : start + BLOCK] = bytes(BLOCK)
-    slot = 6 + slot_of(name)
-    for at, value in ((0, 2), (1, block), (124, image.long(parent, slot)), (125, parent), (127, 2 if is_directory else 2**32 - 3)):
-        image.put(block, at, value)
-    image.data[start + 432 : start + 433 + len(name)] = bytes([len(name)]) + name
-    image.put(parent, slot, block)
-
-
-def settle(image: Image, block: int) -> None:
-    image.put(block, 5, 0)
-    image.put(block, 5, -sum(struct.unpack_from(">128I", image.data, BLOCK * block)))
-
-
 def drawn(blank: bytes, names: Sequence[bytes], is_deep: bool) -> bytes:
     """A blank image with an entry for each name: directories that each have the next one in them, or files of the root."""
-    image = Image(blank)
-    root = image.blocks // 2
-    pages = [image.long(root, at) for at in range(79, 104)]
-    free = [it for it in range(2, image.blocks) if it != root and it not in pages]
-    parent = root
-    for block, name in zip(free, names):
-        put_entry(image, block, parent, name, is_deep)
-        settle(image, block)
-        if is_deep:
-            settle(image, parent)
-            parent = block
-    # (the bitmap is made anew)
-    image.put(root, 78, 0)
-    settle(image, root)
-    return bytes(image.data)
+    drawing = Drawing(blank)
+    parent = drawing.root
+    for name in names:
+        block = drawing.entry(parent, name, DIRECTORY if is_deep else FILE)
+        parent = block if is_deep else parent
+    return drawing.done()
+
+
+def limit_mount() -> None:
+    """Limits the address space and the stack of this process."""
+    resource.setrlimit(resource.RLIMIT_AS, (MOST_SPACE, MOST_SPACE))
+    resource.setrlimit(resource.RLIMIT_STACK, (MOST_STACK, MOST_STACK))
 
 
 def walked(tried: Mount, name: str, image: bytes, tools: Mapping[str, Sequence[str]]) -> None:
     """Mounts an image with little memory, and compares what tools find with the files of `extract`."""
     tried.write("drawn.adf", image)
     tried.done("extract", "--to", "taken", "drawn.adf")
-    tried.before = limited(resource.RLIMIT_AS, MOST_SPACE)
+    tried.before = limit_mount
     try:
         with tried.mounted("drawn.adf", "-o", "ro"):
             for tool, words in tools.items():
@@ -680,11 +661,39 @@ def harmful(tried: Mount) -> None:
     walked(tried, "1,756 files in one chain", drawn(blank, [it for it in wide if slot_of(it) == 7][:1756], False), tools)
 
 
+def fault_numbers() -> Dict[str, int]:
+    """The number of each fault in the header, by the fault's name."""
+    found = re.findall(r"JIP_FAULT_(\w+) = (\d+)", (TOP / "bindings/c/jiponuwha.h").read_text())
+    return {name.title().replace("_", ""): int(number) for name, number in found}
+
+
+def damaged(tried: Mount) -> Optional[str]:
+    """Images with one to four changed bytes in blocks that are not empty are refused for the fault that `check` tells."""
+    base, numbers, refusals = tried.content("ofs.adf"), fault_numbers(), 0
+    used = [it for it in range(0, len(base), BLOCK) if any(base[it : it + BLOCK])]
+    for turn in range(100):
+        chance, image = random.Random(turn), Image(base)
+        for _ in range(chance.randint(1, 4)):
+            image.data[chance.choice(used) + chance.randrange(BLOCK)] ^= chance.randint(1, 255)
+        tried.write("damaged.adf", bytes(image.data))
+        told = tried.run("check", "damaged.adf").output.decode().split()
+        if told[0] == "ok":
+            continue
+        refusals += 1
+        ran = run([tried.adf_mount, "damaged.adf", "mount"])
+        fault = fault_of(ran, 3, b"", f": it is refused: fault {numbers[told[1]]}, block {told[2]}\n")
+        if fault:
+            return f"image {turn}, {told}: {fault}"
+    # (changes in blocks that deleted files left are harmless)
+    return None if refusals >= 20 else f"only {refusals} images are refused"
+
+
 def one_image(tried: Mount) -> None:
     """When an image is written, and by whom."""
     tried.blank("blank.adf")
     tried.ends("names that no host has", strange_names)
     tried.ends("-o ro writes nothing", read_only)
+    tried.ends("damaged images are refused as by check", damaged)
     tried.ends("an image is mounted once", locked)
     tried.ends("when it is saved", saved)
     tried.ends("asked to end", asked_to_end)

@@ -41,7 +41,7 @@ add_executable(whole {})
 target_link_libraries(whole jiponuwha::shared)
 """
 # The programs that test the library, for each language.
-SOURCES = {"c11": ["whole.c", "account.c", "read_only.c", "names.c"], "c++17": ["floppy.cc"]}
+SOURCES = {"c11": ["whole.c", "account.c", "read_only.c", "names.c", "salvage.c"], "c++17": ["floppy.cc"]}
 # The error that no packet of the program has: that of a read-only handle.
 OWN = {"DiskWriteProtected": "disk is write-protected"}
 # Makes work.adf with the file Docs/hello, and checks the results of the examples.

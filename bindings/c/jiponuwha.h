@@ -55,7 +55,7 @@ extern "C" {
 /* The version of this header. jip_version returns that of the library. A program that was built for a library runs with
    any later library of the same major version. */
 #define JIP_VERSION_MAJOR 1
-#define JIP_VERSION_MINOR 1
+#define JIP_VERSION_MINOR 2
 #define JIP_VERSION_PATCH 0
 
 /* The status of a call. A refused packet is still answered: its results have the error, and the status is JIP_DONE. */
@@ -156,6 +156,18 @@ enum jip_lock_mode { JIP_SHARED_LOCK = -2, JIP_EXCLUSIVE_LOCK = -1 };
 enum jip_seek_mode { JIP_OFFSET_BEGINNING = -1, JIP_OFFSET_CURRENT = 0, JIP_OFFSET_END = 1 };
 enum jip_entry_type { JIP_ROOT = 1, JIP_DIRECTORY = 2, JIP_FILE = -3 };
 enum jip_disk_state { JIP_WRITE_PROTECTED = 80, JIP_VALIDATING = 81, JIP_VALIDATED = 82 };
+
+/* The low eight protection bits. A file is marked as archived until its bytes change. */
+enum jip_protection {
+    JIP_DENIES_DELETE = 1,
+    JIP_DENIES_EXECUTE = 2,
+    JIP_DENIES_WRITE = 4,
+    JIP_DENIES_READ = 8,
+    JIP_IS_ARCHIVED = 16,
+    JIP_IS_PURE = 32,
+    JIP_IS_SCRIPT = 64,
+    JIP_IS_HELD = 128
+};
 
 /* The most bytes of a name, of a comment and of a path; the bytes in a block; the fewest and the most blocks of an
    image. */
@@ -283,7 +295,7 @@ int32_t jip_copy_changed(jip_handle *handle, void *copy, size_t length, uint32_t
 
 /* ---- Versions and texts ---- */
 
-/* Returns the library's version, such as "1.1.0". Each text of the library is in English, ends with a zero byte, and stays
+/* Returns the library's version, such as "1.2.0". Each text of the library is in English, ends with a zero byte, and stays
    valid until the program ends. */
 const char *jip_version(void);
 
@@ -529,9 +541,9 @@ static inline void jip_set_file_size(jip_packet *packet, jip_date moment, uint32
     packet->action = JIP_ACTION_SET_FILE_SIZE;
 }
 
-/* ---- Faults ----
+/* ---- Faults, and the map of blocks ----
  *
- * This call fills an array: elements are written to its start, as many as it has room for, and `*count` is set to how many
+ * These calls fill an array: elements are written to its start, as many as it has room for, and `*count` is set to how many
  * there are. Room 0 asks for the count alone. A refusal leaves everything unchanged. */
 
 /* Lists the faults of an image, lowest block first and then by kind: at most JIP_MOST_FAULTS of them. JIP_DONE also for bytes
@@ -540,6 +552,106 @@ static inline void jip_set_file_size(jip_packet *packet, jip_date moment, uint32
 int32_t jip_check(const void *bytes, size_t length, jip_fault *faults, size_t room, size_t *count, int32_t *more);
 
 #define JIP_MOST_FAULTS 1000
+
+/* A fault with the number that shows it. A long is a big-endian number of four bytes, and a block has 128 of them. */
+typedef struct jip_finding {
+    int32_t kind; /* a jip_fault_kind */
+    uint32_t block;
+    uint32_t known;  /* 0: no long of the block shows the fault alone. 1: `at` and `found` are set. 2: so is `wanted` */
+    uint32_t at;     /* which long of the block, from 0 to 127 */
+    uint32_t found;  /* the long as it is */
+    uint32_t wanted; /* the long as it has to be, if only one number is right */
+} jip_finding;
+
+/* Lists the faults of an image as jip_check does, each with the number that shows it. */
+int32_t jip_check_values(const void *bytes, size_t length, jip_finding *findings, size_t room, size_t *count, int32_t *more);
+
+/* What a block is used for. A lost block is used by nothing, but the bitmap says that it is in use. */
+enum jip_role {
+    JIP_ROLE_FREE = 0,
+    JIP_ROLE_BOOT = 1,
+    JIP_ROLE_ROOT = 2,
+    JIP_ROLE_BITMAP = 3,
+    JIP_ROLE_DIRECTORY = 4,
+    JIP_ROLE_FILE = 5, /* the header of a file */
+    JIP_ROLE_EXTENSION = 6,
+    JIP_ROLE_DATA = 7,
+    JIP_ROLE_LOST = 8
+};
+
+/* Who owns a block. */
+typedef struct jip_owner {
+    uint32_t role;   /* a jip_role */
+    uint32_t header; /* the block number of the header of its file or directory, also for that header itself; else 0 */
+    uint32_t index;  /* which data block, extension block or bitmap block it is, from 0; else 0 */
+} jip_owner;
+
+/* Lists the owner of each block of the image, block 0 first. `*count` is the number of blocks, one for each 512 bytes of the
+   image. The root is a directory. */
+int32_t jip_map(jip_handle *handle, jip_owner *owners, size_t room, size_t *count);
+
+/* ---- Salvage ----
+ *
+ * What can be trusted in an image that jip_open refuses: its files and directories whose own blocks are sound, wherever they
+ * are, and the entries that are lost: a directory or another entry names them, and their header is not sound. For an image that jip_open accepts, these are all its files and directories, whole. The list has each header once,
+ * and a directory before its entries. Positions in it count from 0. */
+
+/* A list of entries; or a closed one, JIP_CLOSED or all zeros. Items 4 and 5 hold for it as for a handle. */
+typedef struct jip_salvage {
+    void *behind;
+} jip_salvage;
+
+/* How much of an entry is left. Later versions may have more states. */
+enum jip_state {
+    JIP_STATE_DIRECTORY = 1,
+    JIP_STATE_WHOLE = 2, /* a file, and no other sound file uses one of its blocks */
+    JIP_STATE_BROKEN = 3, /* a file of which some data blocks are missing, or are used by another file too */
+    JIP_STATE_LOST = 4 /* an entry without a sound header: only its name, its header's number and its directory mean something */
+};
+
+/* The directory of an entry in the root, or directly in `lost+found`. */
+#define JIP_NO_DIRECTORY SIZE_MAX
+
+/* An entry. Its bytes are read by jip_salvage_read. The comment has zeros after it. */
+typedef struct jip_salvaged {
+    size_t directory;  /* the position of its directory, which is before it; or JIP_NO_DIRECTORY */
+    size_t size;       /* of a file, in bytes: what jip_salvage_read gives; 0 for a directory */
+    uint32_t state;    /* a jip_state */
+    uint32_t header;   /* the block number of its header */
+    uint32_t is_found; /* 1 if no hash chain from the root leads to it, else 0: its path then starts with `lost+found` */
+    uint32_t missing;  /* how many data blocks of a broken file are missing; else 0 */
+    uint32_t is_cut;   /* 1 if a broken file ends early, because all of them together would be too long; else 0 */
+    uint32_t protection;
+    jip_date date;
+    uint32_t comment_length;
+    uint8_t comment[80];
+} jip_salvaged;
+
+/* Opens a closed list on a copy of an image's bytes. The list owns memory until jip_salvage_close. JIP_NOT_AN_IMAGE: the bytes
+   are not whole blocks, or too few or too many of them. A refusal leaves the list unchanged. */
+int32_t jip_salvage_open(const void *bytes, size_t length, jip_salvage *salvage);
+
+/* Closes a list and frees everything that it owns. A closed list stays closed. */
+int32_t jip_salvage_close(jip_salvage *salvage);
+
+/* The number of entries; 0 for a closed list. */
+size_t jip_salvage_count(jip_salvage *salvage);
+
+/* Tells the entry at a position. JIP_WRONG_ARGUMENT: there is none. */
+int32_t jip_salvage_entry(jip_salvage *salvage, size_t place, jip_salvaged *entry);
+
+/* The name of an entry in its directory. If another entry of the directory has the name of its header already, `~` and the
+   number of its header follow, so it may have more than JIP_NAME_BYTES bytes. Name, path and bytes are written to the start
+   of a buffer with `room` bytes, and `*length` is set to the number of bytes that they need. If that is more than `room`, the
+   buffer is unchanged, so room 0 asks for the length alone. A refusal leaves both unchanged. */
+int32_t jip_salvage_name(jip_salvage *salvage, size_t place, void *name, size_t room, size_t *length);
+
+/* The path of an entry from the root, with a `/` between names. That of an entry that no directory of the tree has starts with
+   `lost+found`, and then has the directories above it, as far as their headers are sound. */
+int32_t jip_salvage_path(jip_salvage *salvage, size_t place, void *path, size_t room, size_t *length);
+
+/* The bytes of a file: all of a whole file; of a broken one those that are left, in their places, with zeros between. */
+int32_t jip_salvage_read(jip_salvage *salvage, size_t place, void *to, size_t room, size_t *length);
 
 /* ---- Read-only handles ----
  *
@@ -604,6 +716,17 @@ int32_t jip_read_uaem(const void *file, size_t file_length, jip_note *note);
 /* The text of a date: `YYYY-MM-DD hh:mm:ss.cc` with hundredths of a second; or `raw DAYS MINUTES TICKS` after the year 9999,
    or if minutes or ticks are no time of a day. It needs at most 36 bytes. */
 int32_t jip_text_of_date(jip_date date, char *text, size_t room, size_t *length);
+
+/* The date that has this text. JIP_WRONG_ARGUMENT: no date has it, such as a day that does not exist, or odd hundredths. */
+int32_t jip_date_of_text(const char *text, size_t length, jip_date *date);
+
+/* The date at a time of the host, in seconds and nanoseconds since 1 January 1970: the last tick that is not after it. A time
+   before 1978 is the first date, and a time after all dates is the last one. Zones do not matter: for a date in UTC, give a time
+   in UTC. JIP_WRONG_ARGUMENT: the nanoseconds are a second or more. */
+int32_t jip_date_of_time(int64_t seconds, uint32_t nanoseconds, jip_date *date);
+
+/* The time of a date, which is the start of its tick. Minutes beyond a day and ticks beyond a minute are added. */
+int32_t jip_time_of_date(jip_date date, int64_t *seconds, uint32_t *nanoseconds);
 
 #ifdef __cplusplus
 }

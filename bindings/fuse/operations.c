@@ -18,14 +18,11 @@
 #include <time.h>
 #include <unistd.h>
 
-enum protection_bit { DENIES_DELETE = 1, DENIES_WRITE = 4, DENIES_READ = 8, IS_ARCHIVED = 16, LOW_FOUR = 15 };
 enum status { STATUS_DONE = 0, STATUS_WORDS = 1, STATUS_HOST = 2, STATUS_IMAGE = 3 };
 
 /* How long a new mount waits for one that still saves, and how long `--wait` does, in seconds. */
 enum { LONGEST_START = 5, LONGEST_WAIT = 60 };
 
-static const time_t first_day = 2922; /* 1 January 1978, in days from 1970 on */
-static const long nanoseconds_of_tick = 20000000;
 static const char hidden_form[] = ".adf_mount %08x";
 static const char comment_attribute[] = "user.amiga.comment";
 static const char protection_attribute[] = "user.amiga.protection";
@@ -86,6 +83,7 @@ static const struct error_row {
     {JIP_ERROR_INVALID_COMPONENT_NAME, EINVAL, ENAMETOOLONG},
     {JIP_ERROR_INVALID_LOCK, ESTALE, ESTALE},
     {JIP_ERROR_OBJECT_WRONG_TYPE, ENOTDIR, EISDIR},
+    {JIP_ERROR_DISK_WRITE_PROTECTED, EROFS, EROFS},
     {JIP_ERROR_DIRECTORY_NOT_EMPTY, ENOTEMPTY, ENOTEMPTY},
     {JIP_ERROR_SEEK_ERROR, EINVAL, EINVAL},
     {JIP_ERROR_COMMENT_TOO_BIG, ERANGE, ERANGE},
@@ -107,16 +105,16 @@ static int errno_of(int32_t error) { return number_of(error, false); }
 /* ---- Packets: each function answers 0 or a DOS error ---- */
 
 static jip_date date_of(struct timespec time) {
-    const time_t day = 86400, second = time.tv_sec - first_day * day;
-    if (second < 0) return (jip_date){0, 0, 0};
-    if (second / day > UINT32_MAX) return (jip_date){UINT32_MAX, 0, 0};
-    const uint32_t ticks = (uint32_t)(second % 60 * 50 + time.tv_nsec / nanoseconds_of_tick);
-    return (jip_date){(uint32_t)(second / day), (uint32_t)(second % day / 60), ticks};
+    jip_date date = {0, 0, 0};
+    (void)jip_date_of_time(time.tv_sec, (uint32_t)time.tv_nsec, &date);
+    return date;
 }
 
 static struct timespec time_of(jip_date date) {
-    const time_t minutes = (first_day + date.days) * 1440 + date.minutes;
-    return (struct timespec){minutes * 60 + date.ticks / 50, (long)(date.ticks % 50) * nanoseconds_of_tick};
+    int64_t seconds = 0;
+    uint32_t nanoseconds = 0;
+    (void)jip_time_of_date(date, &seconds, &nanoseconds);
+    return (struct timespec){.tv_sec = (time_t)seconds, .tv_nsec = (long)nanoseconds};
 }
 
 static jip_date now(void) {
@@ -220,9 +218,9 @@ static int32_t ask_on_open(uint32_t lock, jip_packet *packet, jip_answer *answer
     if (error != JIP_ERROR_WRITE_PROTECTED && error != JIP_ERROR_READ_PROTECTED) return error;
     if (examine(lock, &before) != 0) return error;
     uint32_t bits = before.protection;
-    if (protect(lock, bits & ~(uint32_t)(DENIES_WRITE | DENIES_READ)) != 0) return error;
+    if (protect(lock, bits & ~(uint32_t)(JIP_DENIES_WRITE | JIP_DENIES_READ)) != 0) return error;
     error = ask(packet, answer);
-    if (error == 0 && packet->action != JIP_ACTION_READ) bits &= ~(uint32_t)IS_ARCHIVED;
+    if (error == 0 && packet->action != JIP_ACTION_READ) bits &= ~(uint32_t)JIP_IS_ARCHIVED;
     (void)protect(lock, bits);
     return error;
 }
@@ -312,8 +310,9 @@ static int32_t find_node(const struct node *directory, const struct name *name, 
 /* ---- Attributes for the kernel ---- */
 
 static uint32_t bits_of_mode(uint32_t bits, mode_t mode) {
+    const uint32_t all = JIP_DENIES_DELETE | JIP_DENIES_EXECUTE | JIP_DENIES_WRITE | JIP_DENIES_READ;
     const uint32_t denied = (~mode >> 6 & 7) << 1;
-    return (bits & ~(uint32_t)LOW_FOUR) | denied | ((denied & DENIES_WRITE) != 0 ? (uint32_t)DENIES_DELETE : 0U);
+    return (bits & ~all) | denied | ((denied & JIP_DENIES_WRITE) != 0 ? (uint32_t)JIP_DENIES_DELETE : 0U);
 }
 
 /* The owner's rights are the bits r, w and e. Everyone else may read and run what the owner may, and write nothing. */
@@ -382,7 +381,7 @@ static int without_hidden(void) {
 /* Replaces the image's file if the image has changed since. Returns 0 or an errno. */
 static int save(void) {
     const uint64_t changes = jip_changes(&volume.handle);
-    if (volume.is_read_only || changes == volume.saved) return 0;
+    if (changes == volume.saved) return 0;
     int error = jip_copy_image(&volume.handle, volume.bytes, volume.length) == JIP_DONE ? 0 : EIO;
     if (error == 0 && volume.hidden_count > 0) error = without_hidden();
     if (error == 0) error = image_file_replace(&volume.file, volume.bytes, volume.length);
@@ -474,7 +473,7 @@ static int32_t delete_closed(const struct node *directory, const struct name *na
 /* Keeps an open file under a hidden name in the root until it is closed. */
 static int32_t hide(const struct node *directory, const struct name *name, struct node *node, uint32_t protection) {
     static uint32_t tries = 0;
-    if ((protection & DENIES_DELETE) != 0) return JIP_ERROR_DELETE_PROTECTED;
+    if ((protection & JIP_DENIES_DELETE) != 0) return JIP_ERROR_DELETE_PROTECTED;
     char text[JIP_NAME_BYTES + 1];
     struct name hidden;
     int32_t error;
@@ -553,8 +552,8 @@ static int open_node(struct node *node, int flags, struct fuse_file_info *info) 
     int32_t error = examine(node->lock, &entry);
     if (error != 0) return errno_of(error);
     const int access = flags & O_ACCMODE;
-    if (access != O_RDONLY && (entry.protection & DENIES_WRITE) != 0) return errno_of(JIP_ERROR_WRITE_PROTECTED);
-    if (access != O_WRONLY && (entry.protection & DENIES_READ) != 0) return errno_of(JIP_ERROR_READ_PROTECTED);
+    if (access != O_RDONLY && (entry.protection & JIP_DENIES_WRITE) != 0) return errno_of(JIP_ERROR_WRITE_PROTECTED);
+    if (access != O_WRONLY && (entry.protection & JIP_DENIES_READ) != 0) return errno_of(JIP_ERROR_READ_PROTECTED);
     struct open_file *const file = calloc(1, sizeof *file);
     if (file == NULL) return ENOMEM;
     file->node = node;
@@ -1130,7 +1129,8 @@ static int read_image(const char *path) {
     const int error = image_file_read(&volume.file, (size_t)JIP_MOST_BLOCKS * JIP_BLOCK_BYTES, &volume.bytes, &volume.length);
     if (error == EFBIG) return tell_refused(path, (jip_fault){JIP_FAULT_TOO_MANY_BLOCKS, 0});
     if (error != 0) return tell(STATUS_HOST, path, strerror(error));
-    const int32_t status = jip_open(volume.bytes, volume.length, &volume.handle, &fault);
+    const int32_t status = volume.is_read_only ? jip_open_read_only(volume.bytes, volume.length, &volume.handle, &fault)
+                                               : jip_open(volume.bytes, volume.length, &volume.handle, &fault);
     if (status == JIP_NO_MEMORY) return tell(STATUS_HOST, path, strerror(ENOMEM));
     return status == JIP_DONE ? STATUS_DONE : tell_refused(path, fault);
 }

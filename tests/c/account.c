@@ -1,4 +1,4 @@
-/* Tests the lists of faults. */
+/* Tests the lists of faults, and the map of blocks. */
 #include "asking.h"
 
 static int shows(const uint8_t *image, size_t length, const jip_fault *expected, size_t count) {
@@ -44,7 +44,120 @@ static void faults(void) {
     EXPECT("close", jip_close(&h) == JIP_DONE);
 }
 
+/* The long at a place of a block, which is big-endian. */
+static uint32_t long_at(const uint8_t *image, uint32_t block, uint32_t at) {
+    const uint8_t *bytes = image + 512 * block + 4 * at;
+    return (uint32_t)bytes[0] << 24 | (uint32_t)bytes[1] << 16 | (uint32_t)bytes[2] << 8 | (uint32_t)bytes[3];
+}
+
+/* Faults with the longs that show them: a checksum, a key that is not the block's own, and a name. */
+static void values(void) {
+    jip_handle h = blank(JIP_FFS, JIP_DOUBLE_DENSITY);
+    size_t length, count = 99;
+    int32_t more = 99;
+    jip_finding found[8];
+    make_directory(&h, "d");
+    const uint32_t key = examine(&h, (uint32_t)locate(&h, 0, "d", JIP_SHARED_LOCK).res1).entry.key;
+    uint8_t *image = image_of(&h, &length);
+    image[512 * key + 7] ^= 1; /* long 1, the header's own key */
+    EXPECT("check", jip_check_values(image, length, found, 8, &count, &more) == JIP_DONE && count == 2 && more == 0);
+    EXPECT("a checksum", found[0].kind == JIP_FAULT_BAD_SUM && found[0].block == key && found[0].known == 2 && found[0].at == 5);
+    EXPECT("the right checksum", found[0].found == long_at(image, key, 5) && found[0].wanted - found[0].found == (key & 1) - ((key ^ 1) & 1));
+    EXPECT("a key", found[1].kind == JIP_FAULT_BAD_OWN_KEY && found[1].known == 2 && found[1].at == 1);
+    EXPECT("the right key", found[1].found == (key ^ 1) && found[1].wanted == key);
+    memset(found, 0x77, sizeof found);
+    EXPECT("room for one", jip_check_values(image, length, found, 1, &count, &more) == JIP_DONE && count == 2);
+    EXPECT("one is written", found[0].at == 5 && found[1].at == 0x77777777);
+    EXPECT("a size", jip_check_values(image, length - 1, found, 8, &count, &more) == JIP_DONE && count == 1);
+    EXPECT("no long", found[0].kind == JIP_FAULT_NOT_WHOLE_BLOCKS && found[0].known == 0 && found[0].at == 0);
+    count = 99;
+    EXPECT("no array", jip_check_values(image, length, NULL, 1, &count, &more) == JIP_WRONG_ARGUMENT && count == 99);
+    EXPECT("no count", jip_check_values(image, length, found, 8, NULL, &more) == JIP_WRONG_ARGUMENT);
+    EXPECT("in the image", jip_check_values(image, length, (jip_finding *)(void *)image, 1, &count, &more) == JIP_WRONG_ARGUMENT);
+    free(image);
+    EXPECT("close", jip_close(&h) == JIP_DONE);
+}
+
+static jip_owner map_of[JIP_DOUBLE_DENSITY];
+
+static int owns(uint32_t block, uint32_t role, uint32_t header, uint32_t index) {
+    const jip_owner owner = map_of[block];
+    return block < JIP_DOUBLE_DENSITY && owner.role == role && owner.header == header && owner.index == index;
+}
+
+/* Maps a volume with a directory, a long file and an empty one, and follows the pointers of the long file in the image. */
+static void map(int32_t format, uint32_t bytes_of_block) {
+    enum { BLOCKS = 75 };
+    jip_handle h = blank(format, JIP_DOUBLE_DENSITY);
+    size_t count = 0, length, own = 0, used = 0;
+    make_directory(&h, "d");
+    make_file(&h, "d/long", BLOCKS * bytes_of_block);
+    make_file(&h, "empty", 0);
+    const uint32_t directory = examine(&h, (uint32_t)locate(&h, 0, "d", JIP_SHARED_LOCK).res1).entry.key;
+    const jip_entry file = examine(&h, (uint32_t)locate(&h, 0, "d/long", JIP_SHARED_LOCK).res1).entry;
+    const uint32_t empty = examine(&h, (uint32_t)locate(&h, 0, "empty", JIP_SHARED_LOCK).res1).entry.key;
+    uint8_t *image = image_of(&h, &length);
+    EXPECT("map", jip_map(&h, map_of, JIP_DOUBLE_DENSITY, &count) == JIP_DONE && count == JIP_DOUBLE_DENSITY);
+    EXPECT("boot blocks", owns(0, JIP_ROLE_BOOT, 0, 0) && owns(1, JIP_ROLE_BOOT, 0, 0));
+    EXPECT("the root", owns(880, JIP_ROLE_ROOT, 880, 0) && owns(long_at(image, 880, 79), JIP_ROLE_BITMAP, 0, 0));
+    EXPECT("headers", owns(directory, JIP_ROLE_DIRECTORY, directory, 0) && owns(empty, JIP_ROLE_FILE, empty, 0));
+    EXPECT("a header", owns(file.key, JIP_ROLE_FILE, file.key, 0));
+    const uint32_t extension = long_at(image, file.key, 126);
+    EXPECT("an extension block", owns(extension, JIP_ROLE_EXTENSION, file.key, 0));
+    for (uint32_t k = 0; k < BLOCKS; k++) {
+        const uint32_t holder = k < 72 ? file.key : extension;
+        EXPECT("a data block", owns(long_at(image, holder, 77 - k % 72), JIP_ROLE_DATA, file.key, k));
+    }
+    for (size_t block = 0; block < JIP_DOUBLE_DENSITY; block++) {
+        if (map_of[block].header == file.key) own++;
+        if (map_of[block].role != JIP_ROLE_FREE) used++;
+    }
+    EXPECT("no others", own == file.blocks && own == BLOCKS + 2);
+    EXPECT("the others are free", used == disk_info(&h).disk.used + 2);
+    free(image);
+    EXPECT("close", jip_close(&h) == JIP_DONE);
+}
+
+/* Marks a block that nothing uses as in use: it is lost. */
+static void lost(void) {
+    jip_handle h = blank(JIP_FFS, JIP_DOUBLE_DENSITY), again = JIP_CLOSED;
+    jip_fault fault;
+    size_t length, count;
+    uint8_t *image = image_of(&h, &length);
+    /* The bit of block 2 is bit 0 of the first long of the bitmap block, after its checksum. */
+    image[512 * 881 + 7] &= 0xFE;
+    image[512 * 881 + 3] = (uint8_t)(image[512 * 881 + 3] + 1);
+    EXPECT("open", jip_open(image, length, &again, &fault) == JIP_DONE);
+    EXPECT("a lost block", jip_map(&again, map_of, JIP_DOUBLE_DENSITY, &count) == JIP_DONE && owns(2, JIP_ROLE_LOST, 0, 0));
+    free(image);
+    EXPECT("close", jip_close(&h) == JIP_DONE && jip_close(&again) == JIP_DONE);
+}
+
+static void map_arguments(void) {
+    jip_handle h = blank(JIP_OFS, JIP_FEWEST_BLOCKS), closed = JIP_CLOSED;
+    jip_owner owners[JIP_FEWEST_BLOCKS];
+    size_t count = 99;
+    memset(owners, 0x77, sizeof owners);
+    EXPECT("no room", jip_map(&h, NULL, 0, &count) == JIP_DONE && count == JIP_FEWEST_BLOCKS);
+    EXPECT("room for two", jip_map(&h, owners, 2, &count) == JIP_DONE && count == JIP_FEWEST_BLOCKS);
+    EXPECT("two are written", owners[1].role == JIP_ROLE_BOOT && owners[2].role == 0x77777777);
+    count = 99;
+    EXPECT("closed", jip_map(&closed, owners, 2, &count) == JIP_WRONG_ARGUMENT && count == 99);
+    EXPECT("no array", jip_map(&h, NULL, 1, &count) == JIP_WRONG_ARGUMENT && count == 99);
+    EXPECT("no handle", jip_map(NULL, owners, 2, &count) == JIP_WRONG_ARGUMENT && jip_map(&h, owners, 2, NULL) == JIP_WRONG_ARGUMENT);
+    EXPECT("beyond memory", jip_map(&h, owners, SIZE_MAX / 12 + 1, &count) == JIP_WRONG_ARGUMENT);
+    EXPECT("a crooked array", jip_map(&h, (jip_owner *)(void *)((char *)owners + 1), 1, &count) == JIP_WRONG_ARGUMENT);
+    EXPECT("a handle in it", jip_map(&h, (jip_owner *)(void *)&h, 1, &count) == JIP_WRONG_ARGUMENT);
+    EXPECT("nothing is written", count == 99 && owners[2].role == 0x77777777);
+    EXPECT("close", jip_close(&h) == JIP_DONE);
+}
+
 int main(void) {
     faults();
+    values();
+    map(JIP_OFS, 488);
+    map(JIP_FFS, 512);
+    lost();
+    map_arguments();
     return summed_up();
 }

@@ -1,5 +1,6 @@
-// A client in C++17 makes a floppy, changes it, and checks it. It writes first.adf to the current directory.
+// A client in C++17 makes a floppy, changes it, checks it, and salvages it when it is damaged. It writes first.adf to the current directory.
 #include <jiponuwha.h>
+#include <algorithm>
 #include <cstdio>
 #include <fstream>
 #include <iterator>
@@ -96,12 +97,56 @@ void check() {
     expect("its text", std::string_view(jip_fault_text(fault.kind)).find("DOS") != std::string_view::npos);
 }
 
+// What can be saved of an image that is refused.
+class Salvage {
+public:
+    Salvage() = default;
+    Salvage(const Salvage &) = delete;
+    Salvage &operator=(const Salvage &) = delete;
+    ~Salvage() { jip_salvage_close(&list); }
+    jip_salvage *at() { return &list; }
+
+    using teller = int32_t(jip_salvage *, std::size_t, void *, std::size_t, std::size_t *);
+
+    std::string told(teller *tell, std::size_t place) {
+        std::size_t length = 0;
+        if (tell(&list, place, nullptr, 0, &length) != JIP_DONE) return "(refused)";
+        std::string bytes(length, '?');
+        tell(&list, place, bytes.data(), bytes.size(), &length);
+        return bytes;
+    }
+
+private:
+    jip_salvage list = JIP_CLOSED;
+};
+
+void salvage() {
+    std::ifstream file("first.adf", std::ios::binary);
+    std::vector<char> bytes{std::istreambuf_iterator<char>(file), {}};
+    std::fill_n(bytes.begin() + 880 * JIP_BLOCK_BYTES, static_cast<int>(JIP_BLOCK_BYTES), '\0');
+    Floppy floppy;
+    Salvage list;
+    jip_fault fault;
+    expect("it is refused", jip_open(bytes.data(), bytes.size(), floppy.at(), &fault) == JIP_NOT_AN_IMAGE);
+    expect("it is salvaged", jip_salvage_open(bytes.data(), bytes.size(), list.at()) == JIP_DONE);
+    std::vector<std::string> paths;
+    for (std::size_t place = 0; place < jip_salvage_count(list.at()); place++) {
+        jip_salvaged entry;
+        expect("an entry", jip_salvage_entry(list.at(), place, &entry) == JIP_DONE && entry.state != JIP_STATE_BROKEN);
+        paths.push_back(list.told(jip_salvage_path, place));
+        if (paths.back() == "lost+found/Docs/new") expect("its bytes", list.told(jip_salvage_read, place) == "C++");
+    }
+    std::sort(paths.begin(), paths.end());
+    expect("each entry", paths == std::vector<std::string>{"lost+found/Docs", "lost+found/Docs/new", "lost+found/hello"});
+}
+
 } // namespace
 
 int main() {
     make();
     change();
     check();
+    salvage();
     std::remove("first.adf");
     std::printf("%d passed, %d failed\n", passed, failed);
     return failed == 0 ? 0 : 1;

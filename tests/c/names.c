@@ -210,6 +210,74 @@ static void dates(void) {
     EXPECT("null", jip_text_of_date(now, NULL, 1, NULL) == JIP_WRONG_ARGUMENT);
 }
 
+/* Dates that come back from their texts, and texts of no date. */
+static void read_dates(void) {
+    static const struct {
+        jip_date date;
+        const char *text;
+    } rows[] = {
+        {{0, 0, 0}, "1978-01-01 00:00:00.00"},
+        {{8095, 754, 2003}, "2000-03-01 12:34:40.06"},
+        {{2929974, 1439, 2999}, "9999-12-31 23:59:59.98"},
+        {{1, 1440, 0}, "raw 1 1440 0"},
+        {{UINT32_MAX, UINT32_MAX, UINT32_MAX}, "raw 4294967295 4294967295 4294967295"},
+    };
+    static const char *const none[] = {
+        "", "1978-01-01", "1978-01-01 00:00:00.01", "2001-02-29 00:00:00.00", "1977-12-31 00:00:00.00",
+        "1978-01-01 24:00:00.00", "1978-01-01 00:00:00.00 ", "1978-01-01 00:00:00.00 x", "raw 0 0 0", "raw 1 1440 00",
+        "raw 4294967296 0 0", "raw 1 1440 0 x", "10000-01-01 00:00:00.00",
+    };
+    jip_date date;
+    for (size_t i = 0; i < sizeof rows / sizeof rows[0]; i++) {
+        memset(&date, 0x77, sizeof date);
+        EXPECT(rows[i].text, jip_date_of_text(rows[i].text, strlen(rows[i].text), &date) == JIP_DONE);
+        EXPECT(rows[i].text, memcmp(&date, &rows[i].date, sizeof date) == 0);
+    }
+    date.days = 77;
+    for (size_t i = 0; i < sizeof none / sizeof none[0]; i++)
+        EXPECT(none[i], jip_date_of_text(none[i], strlen(none[i]), &date) == JIP_WRONG_ARGUMENT && date.days == 77);
+    EXPECT("null", jip_date_of_text(NULL, 0, &date) == JIP_WRONG_ARGUMENT && jip_date_of_text(NULL, 1, &date) == JIP_WRONG_ARGUMENT);
+    EXPECT("null", jip_date_of_text("", 0, NULL) == JIP_WRONG_ARGUMENT);
+}
+
+/* Times of the host. The seconds are those that `date -u +%s` gives for the texts of the dates. */
+static void times(void) {
+    static const struct {
+        jip_date date;
+        int64_t seconds;
+        uint32_t nanoseconds;
+    } rows[] = {
+        {{0, 0, 0}, 252460800, 0},
+        {{4383, 720, 0}, 631195200, 0},
+        {{8095, 754, 2003}, 951914080, 60000000},
+        {{2929974, 1439, 2999}, 253402300799, 980000000},
+    };
+    jip_date date;
+    int64_t seconds;
+    uint32_t nanoseconds;
+    for (size_t i = 0; i < sizeof rows / sizeof rows[0]; i++) {
+        EXPECT("a time", jip_time_of_date(rows[i].date, &seconds, &nanoseconds) == JIP_DONE);
+        EXPECT("a time", seconds == rows[i].seconds && nanoseconds == rows[i].nanoseconds);
+        for (uint32_t more = 0; more < 20000000; more += 19999999) {
+            EXPECT("its date", jip_date_of_time(seconds, nanoseconds + more, &date) == JIP_DONE);
+            EXPECT("its date", memcmp(&date, &rows[i].date, sizeof date) == 0);
+        }
+    }
+    EXPECT("minutes beyond a day", jip_time_of_date((jip_date){0, 1441, 3051}, &seconds, &nanoseconds) == JIP_DONE);
+    EXPECT("minutes beyond a day", seconds == 252460800 + 86400 + 60 + 61 && nanoseconds == 20000000);
+    static const int64_t early[] = {INT64_MIN, -1, 0, 252460799}, late[] = {252460800 + 86400 * (int64_t)UINT32_MAX + 86399, INT64_MAX};
+    for (size_t i = 0; i < sizeof early / sizeof early[0]; i++)
+        EXPECT("early", jip_date_of_time(early[i], 999999999, &date) == JIP_DONE && date.days == 0 && date.minutes == 0 && date.ticks == 0);
+    for (size_t i = 0; i < sizeof late / sizeof late[0]; i++) {
+        EXPECT("late", jip_date_of_time(late[i], 999999999, &date) == JIP_DONE);
+        EXPECT("late", date.days == UINT32_MAX && date.minutes == 1439 && date.ticks == 2999);
+    }
+    date.days = 77;
+    EXPECT("a second of nanoseconds", jip_date_of_time(0, 1000000000, &date) == JIP_WRONG_ARGUMENT && date.days == 77);
+    EXPECT("null", jip_date_of_time(0, 0, NULL) == JIP_WRONG_ARGUMENT && jip_time_of_date(date, NULL, &nanoseconds) == JIP_WRONG_ARGUMENT);
+    EXPECT("null", jip_time_of_date(date, &seconds, NULL) == JIP_WRONG_ARGUMENT);
+}
+
 int main(void) {
     names();
     hosts();
@@ -219,5 +287,7 @@ int main(void) {
     notes();
     read_notes();
     dates();
+    read_dates();
+    times();
     return summed_up();
 }

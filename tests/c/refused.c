@@ -1,6 +1,6 @@
-/* Refuses each growth of memory in turn, in each call for whole files, walks and files of the host. A refused call leaves
- * no lock and no file handle, and the file is unchanged or deleted. The program needs glibc, for the second names of its
- * heap functions. It writes to the current directory. */
+/* Refuses each growth of memory in turn, in each call for whole files, walks, files of the host, the map, faults, salvage and
+ * dates. A refused call leaves no lock and no file handle, and the file is unchanged or deleted. The program needs glibc, for
+ * the second names of its heap functions. It writes to the current directory. */
 #include "asking.h"
 
 #include <errno.h>
@@ -54,6 +54,43 @@ static int32_t loads(jip_handle *h) {
     return result;
 }
 
+/* Salvages the image, undamaged or with a damaged first byte. */
+static int32_t salvages_byte(jip_handle *h, uint8_t first) {
+    static uint8_t image[800 * JIP_BLOCK_BYTES];
+    jip_salvage list = JIP_CLOSED;
+    size_t length;
+    int32_t result = jip_copy_image(h, image, sizeof image);
+    image[0] = first;
+    if (result == JIP_DONE) result = jip_salvage_open(image, sizeof image, &list);
+    if (result == JIP_DONE && jip_salvage_count(&list) != 2) result = -1;
+    if (result == JIP_DONE) result = jip_salvage_path(&list, 1, found, sizeof found, &length);
+    if (result == JIP_DONE) result = jip_salvage_read(&list, 1, found, sizeof found, &length);
+    (void)jip_salvage_close(&list);
+    return result;
+}
+static int32_t salvages(jip_handle *h) { return salvages_byte(h, 'D'); }
+static int32_t salvages_damaged(jip_handle *h) { return salvages_byte(h, 'K'); }
+static int32_t maps(jip_handle *h) {
+    static jip_owner owners[800];
+    size_t count = 0;
+    const int32_t result = jip_map(h, owners, 800, &count);
+    return result == JIP_DONE && count != 800 ? -1 : result;
+}
+static int32_t checks(jip_handle *h) {
+    static uint8_t image[800 * JIP_BLOCK_BYTES];
+    size_t count = 0;
+    int32_t more = 0;
+    int32_t result = jip_copy_image(h, image, sizeof image);
+    image[512 * 400 + 7] ^= 1; /* the root has a fault */
+    if (result == JIP_DONE) result = jip_check(image, sizeof image, NULL, 0, &count, &more);
+    return result == JIP_DONE ? jip_check_values(image, sizeof image, NULL, 0, &count, &more) : result;
+}
+static int32_t dates(jip_handle *h) {
+    jip_date date;
+    (void)h;
+    return jip_date_of_text("1990-01-01 12:00:00.00", 22, &date);
+}
+
 static int is_no_memory(int32_t result) {
     return result == JIP_NO_MEMORY || result == JIP_ERROR_NO_FREE_STORE || (result == JIP_HOST_FAILED && errno == ENOMEM);
 }
@@ -94,6 +131,11 @@ int main(void) {
     refuse_each("walk", walks);
     refuse_each("store", stores);
     refuse_each("load", loads);
+    refuse_each("map", maps);
+    refuse_each("check", checks);
+    refuse_each("salvage", salvages);
+    refuse_each("salvage, damaged", salvages_damaged);
+    refuse_each("date of a text", dates);
     (void)remove("refused.adf");
     return summed_up();
 }

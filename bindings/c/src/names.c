@@ -14,6 +14,9 @@ int32_t jip_lib_uaem_line(uint32_t bits, const jip_date *date, const uint8_t *co
 int32_t jip_lib_read_uaem(const uint8_t *file, size_t file_length, uint32_t *bits, jip_date *date, uint8_t *comment, size_t room,
                           size_t *length);
 int32_t jip_lib_text_of_date(const jip_date *date, uint8_t *to, size_t room, size_t *length);
+int32_t jip_lib_date_of_text(const uint8_t *text, size_t length, jip_date *date);
+int32_t jip_lib_date_of_time(int64_t seconds, uint32_t nanoseconds, jip_date *date);
+int32_t jip_lib_time_of_date(const jip_date *date, int64_t *seconds, uint32_t *nanoseconds);
 
 static const uint8_t no_bytes = 0;
 
@@ -113,5 +116,33 @@ int32_t jip_text_of_date(jip_date date, char *to, size_t room, size_t *length) {
     if (!may_fill(to, room, length)) return JIP_WRONG_ARGUMENT;
     status = jip_lib_text_of_date(&date, room == 0 ? &no_room : (uint8_t *)to, room, &told);
     if (status == JIP_DONE) *length = told;
+    return status;
+}
+
+int32_t jip_date_of_text(const char *text, size_t length, jip_date *date) {
+    jip_date told = {0, 0, 0};
+    int32_t status;
+    if (!may_hold(text, length) || !may_stand(date, _Alignof(jip_date))) return JIP_WRONG_ARGUMENT;
+    if (!apart(date, sizeof *date, text, length)) return JIP_WRONG_ARGUMENT;
+    status = jip_lib_date_of_text(bytes_at(text, length), length, &told);
+    if (status == JIP_DONE) *date = told;
+    return status;
+}
+
+int32_t jip_date_of_time(int64_t seconds, uint32_t nanoseconds, jip_date *date) {
+    return may_stand(date, _Alignof(jip_date)) ? jip_lib_date_of_time(seconds, nanoseconds, date) : (int32_t)JIP_WRONG_ARGUMENT;
+}
+
+int32_t jip_time_of_date(jip_date date, int64_t *seconds, uint32_t *nanoseconds) {
+    int64_t told = 0;
+    uint32_t rest = 0;
+    int32_t status;
+    if (!may_stand(seconds, _Alignof(int64_t)) || !may_stand(nanoseconds, _Alignof(uint32_t))) return JIP_WRONG_ARGUMENT;
+    if (!apart(seconds, sizeof *seconds, nanoseconds, sizeof *nanoseconds)) return JIP_WRONG_ARGUMENT;
+    status = jip_lib_time_of_date(&date, &told, &rest);
+    if (status == JIP_DONE) {
+        *seconds = told;
+        *nanoseconds = rest;
+    }
     return status;
 }

@@ -31,10 +31,11 @@ from ._errors import (
 )
 from ._file import File
 from ._library import version
-from ._names import Note, date_text, entry_name, host_name, protection_bits, protection_letters
-from ._numbers import DOUBLE_DENSITY, HIGH_DENSITY, EntryType, Error, FaultKind, Format
+from ._names import Note, date_of_text, date_text, entry_name, host_name, protection_bits, protection_letters
+from ._numbers import DOUBLE_DENSITY, HIGH_DENSITY, EntryType, Error, FaultKind, Format, Role, State
 from ._path import Path
-from ._values import Date, Entry, Fault, Info
+from ._salvage import Salvaged, salvage
+from ._values import Date, Entry, Fault, Info, Owner
 from ._volume import Volume, check, create, open
 
 __version__ = version()
@@ -60,17 +61,23 @@ __all__ = [
     "ObjectExists",
     "ObjectInUse",
     "ObjectNotFound",
+    "Owner",
     "Path",
     "Protected",
+    "Role",
+    "Salvaged",
+    "State",
     "Volume",
     "WrongType",
     "check",
     "create",
+    "date_of_text",
     "date_text",
     "entry_name",
     "host_name",
     "open",
     "protection_bits",
     "protection_letters",
+    "salvage",
     "version",
 ]

@@ -14,7 +14,7 @@ from ._numbers import FaultKind
 
 NAME = "libjiponuwha.so.1"
 # The version of the header that this package was written for. The library has the same major version, and is not older.
-WRITTEN_FOR = (1, 1)
+WRITTEN_FOR = (1, 2)
 
 
 class CHandle(ctypes.Structure):
@@ -94,6 +94,41 @@ class CNote(ctypes.Structure):
     ]
 
 
+class COwner(ctypes.Structure):
+    _fields_ = [("role", ctypes.c_uint32), ("header", ctypes.c_uint32), ("index", ctypes.c_uint32)]
+
+
+class CSalvage(ctypes.Structure):
+    _fields_ = [("behind", ctypes.c_void_p)]
+
+
+class CSalvaged(ctypes.Structure):
+    _fields_ = [
+        ("directory", ctypes.c_size_t),
+        ("size", ctypes.c_size_t),
+        ("state", ctypes.c_uint32),
+        ("header", ctypes.c_uint32),
+        ("is_found", ctypes.c_uint32),
+        ("missing", ctypes.c_uint32),
+        ("is_cut", ctypes.c_uint32),
+        ("protection", ctypes.c_uint32),
+        ("date", CDate),
+        ("comment_length", ctypes.c_uint32),
+        ("comment", ctypes.c_uint8 * 80),
+    ]
+
+
+class CFinding(ctypes.Structure):
+    _fields_ = [
+        ("kind", ctypes.c_int32),
+        ("block", ctypes.c_uint32),
+        ("known", ctypes.c_uint32),
+        ("at", ctypes.c_uint32),
+        ("found", ctypes.c_uint32),
+        ("wanted", ctypes.c_uint32),
+    ]
+
+
 # The structs, by their names in the header without `jip_`.
 STRUCTS: dict[str, type[ctypes.Structure]] = {
     "handle": CHandle,
@@ -104,6 +139,10 @@ STRUCTS: dict[str, type[ctypes.Structure]] = {
     "disk": CDisk,
     "answer": CAnswer,
     "note": CNote,
+    "owner": COwner,
+    "finding": CFinding,
+    "salvage": CSalvage,
+    "salvaged": CSalvaged,
 }
 
 Visitor = ctypes.CFUNCTYPE(
@@ -113,6 +152,7 @@ Visitor = ctypes.CFUNCTYPE(
 _HANDLE = ctypes.POINTER(CHandle)
 _SIZE = ctypes.POINTER(ctypes.c_size_t)
 _FAULT = ctypes.POINTER(CFault)
+_SALVAGE = ctypes.POINTER(CSalvage)
 _PATH = (ctypes.c_char_p, ctypes.c_size_t)
 # A text to convert, and the buffer for its result.
 _TEXT = (ctypes.c_char_p, ctypes.c_size_t)
@@ -143,10 +183,25 @@ FUNCTIONS: dict[str, tuple[Any, list[Any]]] = {
     "jip_load": (ctypes.c_int32, [ctypes.c_char_p, _HANDLE, _FAULT]),
     "jip_load_read_only": (ctypes.c_int32, [ctypes.c_char_p, _HANDLE, _FAULT]),
     "jip_store": (ctypes.c_int32, [_HANDLE, ctypes.c_char_p]),
-    "jip_check": (
+    "jip_check_values": (
         ctypes.c_int32,
-        [ctypes.c_char_p, ctypes.c_size_t, _FAULT, ctypes.c_size_t, _SIZE, ctypes.POINTER(ctypes.c_int32)],
+        [
+            ctypes.c_char_p,
+            ctypes.c_size_t,
+            ctypes.POINTER(CFinding),
+            ctypes.c_size_t,
+            _SIZE,
+            ctypes.POINTER(ctypes.c_int32),
+        ],
     ),
+    "jip_map": (ctypes.c_int32, [_HANDLE, ctypes.POINTER(COwner), ctypes.c_size_t, _SIZE]),
+    "jip_salvage_open": (ctypes.c_int32, [ctypes.c_char_p, ctypes.c_size_t, _SALVAGE]),
+    "jip_salvage_close": (ctypes.c_int32, [_SALVAGE]),
+    "jip_salvage_count": (ctypes.c_size_t, [_SALVAGE]),
+    "jip_salvage_entry": (ctypes.c_int32, [_SALVAGE, ctypes.c_size_t, ctypes.POINTER(CSalvaged)]),
+    "jip_salvage_name": (ctypes.c_int32, [_SALVAGE, ctypes.c_size_t, *_ROOM]),
+    "jip_salvage_path": (ctypes.c_int32, [_SALVAGE, ctypes.c_size_t, *_ROOM]),
+    "jip_salvage_read": (ctypes.c_int32, [_SALVAGE, ctypes.c_size_t, *_ROOM]),
     "jip_is_name": (ctypes.c_int32, [*_TEXT]),
     "jip_host_of_name": (ctypes.c_int32, [*_TEXT, *_ROOM]),
     "jip_name_of_host": (ctypes.c_int32, [*_TEXT, *_ROOM]),
@@ -155,6 +210,12 @@ FUNCTIONS: dict[str, tuple[Any, list[Any]]] = {
     "jip_uaem_line": (ctypes.c_int32, [ctypes.c_uint32, CDate, *_TEXT, *_ROOM]),
     "jip_read_uaem": (ctypes.c_int32, [*_TEXT, ctypes.POINTER(CNote)]),
     "jip_text_of_date": (ctypes.c_int32, [CDate, *_ROOM]),
+    "jip_date_of_text": (ctypes.c_int32, [*_TEXT, ctypes.POINTER(CDate)]),
+    "jip_date_of_time": (ctypes.c_int32, [ctypes.c_int64, ctypes.c_uint32, ctypes.POINTER(CDate)]),
+    "jip_time_of_date": (
+        ctypes.c_int32,
+        [CDate, ctypes.POINTER(ctypes.c_int64), ctypes.POINTER(ctypes.c_uint32)],
+    ),
 }
 
 
@@ -184,7 +245,7 @@ library = _loaded()
 
 
 def version() -> str:
-    """Returns the version of the library, such as `1.1.0`."""
+    """Returns the version of the library, such as `1.2.0`."""
     return str(library.jip_version().decode("ascii"))
 
 

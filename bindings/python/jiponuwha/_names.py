@@ -6,13 +6,13 @@ from collections.abc import Callable
 from typing import Any, NamedTuple
 
 from ._errors import dos_error
-from ._library import CNote, error_text, library
+from ._library import CDate, CNote, error_text, library
 from ._numbers import Error, Status
 from ._path import name_bytes
 from ._values import Date, date_of, letters
 
 
-def _text(function: Callable[..., int], *arguments: Any) -> bytes:
+def text_by(function: Callable[..., int], *arguments: Any) -> bytes:
     """Calls a library function that writes a text into a buffer, and returns the text."""
     room = ctypes.create_string_buffer(256)
     length = ctypes.c_size_t()
@@ -38,14 +38,14 @@ def host_name(name: str | bytes) -> str:
     raw = name_bytes(name)
     if not library.jip_is_name(raw, len(raw)):
         raise dos_error(Error.INVALID_COMPONENT_NAME, name)
-    return _text(library.jip_host_of_name, raw, len(raw)).decode()
+    return text_by(library.jip_host_of_name, raw, len(raw)).decode()
 
 
 def entry_name(host: str) -> str:
     """Returns the name of the entry for a host file. A file that no entry can be named after raises InvalidName."""
     raw = host.encode(errors="surrogateescape")
     try:
-        name = _text(library.jip_name_of_host, raw, len(raw))
+        name = text_by(library.jip_name_of_host, raw, len(raw))
     except ValueError:
         raise dos_error(Error.INVALID_COMPONENT_NAME, host) from None
     if not library.jip_is_name(name, len(name)):
@@ -57,7 +57,7 @@ def protection_letters(bits: int) -> str:
     """Returns the low eight protection bits as `hsparwed`, with a dash for each letter that is not shown."""
     if not 0 <= bits < 2**32:
         raise ValueError(f"no protection bits: {bits}")
-    return _text(library.jip_letters_of_protection, bits).decode("ascii")
+    return text_by(library.jip_letters_of_protection, bits).decode("ascii")
 
 
 def protection_bits(text: str) -> int:
@@ -88,9 +88,19 @@ class Note(NamedTuple):
         if not 0 <= self.bits < 2**32:
             raise ValueError(f"no protection bits: {self.bits}")
         raw = name_bytes(self.comment)
-        return _text(library.jip_uaem_line, self.bits, self.date.as_c(), raw, len(raw))
+        return text_by(library.jip_uaem_line, self.bits, self.date.as_c(), raw, len(raw))
 
 
 def date_text(date: Date) -> str:
     """Returns the text of a date: `YYYY-MM-DD hh:mm:ss.cc`, or `raw DAYS MINUTES TICKS` if it has none of this form."""
-    return _text(library.jip_text_of_date, date.as_c()).decode("ascii")
+    return text_by(library.jip_text_of_date, date.as_c()).decode("ascii")
+
+
+def date_of_text(text: str) -> Date:
+    """Returns the date that has this text, as `date_text` writes it. A text of no date raises ValueError."""
+    raw, found = text.encode(), CDate()
+    status = library.jip_date_of_text(raw, len(raw), found)
+    if status == Status.WRONG_ARGUMENT:
+        raise ValueError(f"no text of a date: {text!r}")
+    _settle(status)
+    return date_of(found)

@@ -6,6 +6,8 @@ from enum import IntEnum
 TO_ZERO = 2**64 - 1
 NAME_BYTES = 30
 PATH_BYTES = 255
+BLOCK_BYTES = 512
+MOST_BLOCKS = 101602
 DOUBLE_DENSITY = 1760
 HIGH_DENSITY = 3520
 MOST_FAULTS = 1000
@@ -95,6 +97,30 @@ class Error(IntEnum):
     READ_PROTECTED = 224
     NOT_A_DOS_DISK = 225
     NO_MORE_ENTRIES = 232
+
+
+class Role(IntEnum):
+    """What a block is used for. A lost block is used by nothing, but the bitmap says that it is in use."""
+
+    FREE = 0
+    BOOT = 1
+    ROOT = 2
+    BITMAP = 3
+    DIRECTORY = 4
+    FILE = 5
+    EXTENSION = 6
+    DATA = 7
+    LOST = 8
+
+
+class State(IntEnum):
+    """How much is left of an entry of a damaged image. A whole file shares no block with another sound file; of a lost entry
+    nothing is left but its name."""
+
+    DIRECTORY = 1
+    WHOLE = 2
+    BROKEN = 3
+    LOST = 4
 
 
 class FaultKind(IntEnum):

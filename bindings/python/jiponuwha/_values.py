@@ -1,15 +1,15 @@
 """Entries, volumes, dates and faults, as Python values."""
 from __future__ import annotations
 
+import ctypes
 import datetime
 from dataclasses import dataclass
 from typing import NamedTuple
 
-from ._library import CDate, CDisk, CEntry, CFault, fault_text
-from ._numbers import EntryType, FaultKind, Format
+from ._library import CDate, CDisk, CEntry, CFault, CFinding, COwner, fault_text, library
+from ._numbers import EntryType, FaultKind, Format, Role
 
-_FIRST_DAY = datetime.datetime(1978, 1, 1)
-_TICKS_A_SECOND = 50
+_YEAR_1970 = datetime.datetime(1970, 1, 1)
 
 
 def letters(data: bytes) -> str:
@@ -29,9 +29,9 @@ class Date(NamedTuple):
         """Converts a time. A time with a zone is converted to UTC. A time before 1978 becomes the first day."""
         if time.tzinfo is not None:
             time = time.astimezone(datetime.timezone.utc).replace(tzinfo=None)
-        past = max(time - _FIRST_DAY, datetime.timedelta())
-        minutes, seconds = divmod(past.seconds, 60)
-        return cls(past.days, minutes, seconds * _TICKS_A_SECOND + past.microseconds * _TICKS_A_SECOND // 1_000_000)
+        past, found = time - _YEAR_1970, CDate()
+        library.jip_date_of_time(past.days * 86_400 + past.seconds, past.microseconds * 1_000, found)
+        return date_of(found)
 
     @classmethod
     def now(cls) -> Date:
@@ -40,8 +40,9 @@ class Date(NamedTuple):
 
     def time(self) -> datetime.datetime:
         """Converts the date to a time without a zone. A date after the year 9999 raises OverflowError."""
-        ticks = datetime.timedelta(milliseconds=self.ticks * 1000 // _TICKS_A_SECOND)
-        return _FIRST_DAY + datetime.timedelta(days=self.days, minutes=self.minutes) + ticks
+        seconds, nanoseconds = ctypes.c_int64(), ctypes.c_uint32()
+        library.jip_time_of_date(self.as_c(), seconds, nanoseconds)
+        return _YEAR_1970 + datetime.timedelta(seconds=seconds.value, microseconds=nanoseconds.value // 1_000)
 
     def as_c(self) -> CDate:
         """Converts the date to the struct of the library. A number outside 0 to 2**32 - 1 raises ValueError."""
@@ -125,10 +126,17 @@ def info_of(label: str, given: CDisk) -> Info:
 
 
 class Fault(NamedTuple):
-    """A fault of an image: its kind, and the number of the block that shows it."""
+    """A fault of an image: its kind, and the number of the block that shows it.
+
+    If a single long of the block shows the fault, `at` says which, from 0 to 127, and `found` what it is. `wanted` is what it
+    has to be, if only one number is right.
+    """
 
     kind: FaultKind
     block: int
+    at: int | None = None
+    found: int | None = None
+    wanted: int | None = None
 
     @property
     def text(self) -> str:
@@ -137,3 +145,27 @@ class Fault(NamedTuple):
 
 def fault_of(given: CFault) -> Fault:
     return Fault(FaultKind(given.kind), given.block)
+
+
+def finding_of(given: CFinding) -> Fault:
+    kind, block = FaultKind(given.kind), given.block
+    if given.known == 0:
+        return Fault(kind, block)
+    return Fault(kind, block, given.at, given.found, given.wanted if given.known == 2 else None)
+
+
+@dataclass(frozen=True)
+class Owner:
+    """Who owns a block.
+
+    `header` is the block number of the header of its file or directory, also for that header itself, and 0 if there is none.
+    `index` says which data block, extension block or bitmap block it is, from 0.
+    """
+
+    role: Role
+    header: int = 0
+    index: int = 0
+
+
+def owner_of(given: COwner) -> Owner:
+    return Owner(Role(given.role), given.header, given.index)

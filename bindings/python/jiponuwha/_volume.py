@@ -14,9 +14,11 @@ from typing import Any, Union, overload
 
 from ._errors import DosError, NotAnImage, dos_error
 from ._file import File
-from ._library import CAnswer, CDate, CFault, CHandle, CPacket, Visitor, error_text, library
+from ._library import CAnswer, CDate, CFault, CFinding, CHandle, COwner, CPacket, Visitor, error_text, library
 from ._numbers import (
+    BLOCK_BYTES,
     DOUBLE_DENSITY,
+    MOST_BLOCKS,
     MOST_FAULTS,
     PATH_BYTES,
     Action,
@@ -24,11 +26,12 @@ from ._numbers import (
     FaultKind,
     Format,
     LockMode,
+    Role,
     SeekMode,
     Status,
 )
 from ._path import AnyBytes, AnyPath, Path, name_bytes, path_bytes, path_text
-from ._values import Date, Entry, Fault, Info, entry_of, fault_of, info_of, letters
+from ._values import Date, Entry, Fault, Info, Owner, entry_of, fault_of, finding_of, info_of, letters, owner_of
 
 HostPath = Union[str, "os.PathLike[str]"]
 Clock = Callable[[], Date]
@@ -37,7 +40,7 @@ _ROOM = 1 << 16
 _NOT_THERE = (Error.DIR_NOT_FOUND, Error.OBJECT_NOT_FOUND, Error.INVALID_COMPONENT_NAME, Error.OBJECT_WRONG_TYPE)
 
 
-def _settle(result: int, shown: object) -> None:
+def settle(result: int, shown: object) -> None:
     """Raises the exception for the result of a library call, unless the result is JIP_DONE."""
     if result == Status.DONE:
         return
@@ -94,7 +97,7 @@ class Volume(Mapping[AnyPath, Path]):
     def _ask(self, action: Action, shown: object = None, **fields: Any) -> CAnswer:
         """Sends a packet and returns its answer. A refusal raises DosError."""
         packet, answer = CPacket(action=action, moment=self._moment(), **fields), CAnswer()
-        _settle(library.jip_serve(self._handle, packet, answer), shown)
+        settle(library.jip_serve(self._handle, packet, answer), shown)
         if answer.res2:
             raise dos_error(answer.res2, shown)
         return answer
@@ -110,7 +113,7 @@ class Volume(Mapping[AnyPath, Path]):
             yield 0, raw
             return
         lock, rest, length = ctypes.c_uint32(), ctypes.c_void_p(), ctypes.c_size_t()
-        _settle(library.jip_reach(self._handle, raw, len(raw), lock, rest, length), path_text(path))
+        settle(library.jip_reach(self._handle, raw, len(raw), lock, rest, length), path_text(path))
         try:
             yield lock.value, raw[len(raw) - length.value :]
         finally:
@@ -168,10 +171,10 @@ class Volume(Mapping[AnyPath, Path]):
         raw, length = path_bytes(path), ctypes.c_size_t()
         with self._turn() as handle:
             room: ctypes.Array[ctypes.c_char] = self._room
-            _settle(library.jip_read_file(handle, raw, len(raw), room, len(room), length), path_text(path))
+            settle(library.jip_read_file(handle, raw, len(raw), room, len(room), length), path_text(path))
             if length.value > len(room):
                 room = ctypes.create_string_buffer(length.value)
-                _settle(library.jip_read_file(handle, raw, len(raw), room, len(room), length), path_text(path))
+                settle(library.jip_read_file(handle, raw, len(raw), room, len(room), length), path_text(path))
             return ctypes.string_at(room, length.value)
 
     def write(self, path: AnyPath, data: AnyBytes) -> int:
@@ -182,7 +185,7 @@ class Volume(Mapping[AnyPath, Path]):
         raw, given = path_bytes(path), bytes(memoryview(data))
         with self._turn() as handle:
             result = library.jip_write_file(handle, self._moment(), raw, len(raw), given, len(given))
-            _settle(result, path_text(path))
+            settle(result, path_text(path))
         return len(given)
 
     def stat(self, path: AnyPath) -> Entry:
@@ -238,7 +241,7 @@ class Volume(Mapping[AnyPath, Path]):
             result = library.jip_walk(handle, Visitor(visit), None)
         if raised:
             raise raised[0]
-        _settle(result, self.path)
+        settle(result, self.path)
         return found
 
     def mkdir(self, path: AnyPath, parents: bool = False, exist_ok: bool = False) -> None:
@@ -304,11 +307,43 @@ class Volume(Mapping[AnyPath, Path]):
         with self._turn():
             return info_of(label, self._ask(Action.DISK_INFO).disk)
 
+    def map(self) -> list[Owner]:
+        """Returns the owner of each block of the image, block 0 first."""
+        count = ctypes.c_size_t()
+        with self._turn() as handle:
+            settle(library.jip_map(handle, None, 0, count), self.path)
+            room = (COwner * count.value)()
+            settle(library.jip_map(handle, room, len(room), count), self.path)
+        return [owner_of(it) for it in room]
+
+    @overload
+    def where(self, place: int) -> tuple[Owner, str | None]: ...
+
+    @overload
+    def where(self, place: AnyPath) -> list[int]: ...
+
+    def where(self, place: int | AnyPath) -> tuple[Owner, str | None] | list[int]:
+        """Returns the owner of a block, and the path of its file or directory, or None if it has none. The root has the empty
+        path. A block outside the image raises IndexError.
+
+        For a path, returns the numbers of all blocks of its file or directory, in the order of the blocks.
+        """
+        owners = self.map()
+        if not isinstance(place, int):
+            key = self.stat(place).key
+            return [block for block, it in enumerate(owners) if it.header == key]
+        if not 0 <= place < len(owners):
+            raise IndexError(f"no block of the image: {place}")
+        owner = owners[place]
+        if owner.role == Role.ROOT:
+            return owner, ""
+        return owner, next((path for path, it in self.walk() if it.key == owner.header), None)
+
     def image(self) -> bytes:
         """Returns the bytes of the image, in the order of its file."""
         with self._turn() as handle:
             room = ctypes.create_string_buffer(library.jip_image_length(handle))
-            _settle(library.jip_copy_image(handle, room, len(room)), self.path)
+            settle(library.jip_copy_image(handle, room, len(room)), self.path)
             return room.raw
 
     @property
@@ -333,7 +368,7 @@ class Volume(Mapping[AnyPath, Path]):
         if self._is_read_only and target == self.path:
             raise dos_error(Error.DISK_WRITE_PROTECTED, target)
         with self._turn() as handle:
-            _settle(library.jip_store(handle, os.fsencode(target)), target)
+            settle(library.jip_store(handle, os.fsencode(target)), target)
             self._saved = int(library.jip_changes(handle))
         self.path = target
 
@@ -403,14 +438,22 @@ class Volume(Mapping[AnyPath, Path]):
     __hash__ = object.__hash__
 
 
+def image_bytes(source: HostPath | AnyBytes) -> bytes:
+    """Returns the bytes of an image, or the content of a file up to one byte more than the largest image."""
+    if isinstance(source, (bytes, bytearray, memoryview)):
+        return bytes(memoryview(source))
+    with HostFile(source).open("rb") as file:
+        return file.read(MOST_BLOCKS * BLOCK_BYTES + 1)
+
+
 def _all_faults(source: HostPath | AnyBytes, fault: Fault) -> list[Fault]:
     """Returns the faults of an image that shows this one. That of a size is alone."""
     if fault.kind >= FaultKind.NOT_WHOLE_BLOCKS:
         return [fault]
-    image = bytes(memoryview(source)) if isinstance(source, (bytes, bytearray, memoryview)) else HostFile(source).read_bytes()
-    room, count, more = (CFault * MOST_FAULTS)(), ctypes.c_size_t(), ctypes.c_int32()
-    _settle(library.jip_check(image, len(image), room, len(room), count, more), None)
-    return [fault_of(it) for it in room[: count.value]] or [fault]
+    image = image_bytes(source)
+    room, count, more = (CFinding * MOST_FAULTS)(), ctypes.c_size_t(), ctypes.c_int32()
+    settle(library.jip_check_values(image, len(image), room, len(room), count, more), None)
+    return [finding_of(it) for it in room[: count.value]] or [fault]
 
 
 def _opened(source: HostPath | AnyBytes, handle: CHandle, read_only: bool) -> None:
@@ -426,7 +469,7 @@ def _opened(source: HostPath | AnyBytes, handle: CHandle, read_only: bool) -> No
         result = load(os.fsencode(shown), handle, fault)
     if result == Status.NOT_AN_IMAGE:
         raise NotAnImage(_all_faults(source, fault_of(fault)), shown)
-    _settle(result, shown)
+    settle(result, shown)
 
 
 def open(source: HostPath | AnyBytes, *, read_only: bool = False, clock: Clock = Date.now) -> Volume:
@@ -456,7 +499,7 @@ def create(
     raw, handle = name_bytes(label), CHandle()
     if not 0 <= blocks < 2**32:
         raise ValueError(f"no number of blocks: {blocks}")
-    _settle(library.jip_blank(format, blocks, raw, len(raw), clock().as_c(), handle), path)
+    settle(library.jip_blank(format, blocks, raw, len(raw), clock().as_c(), handle), path)
     return Volume(handle, path, clock)
 
 

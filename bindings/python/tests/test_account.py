@@ -1,4 +1,4 @@
-"""Tests the lists of faults of images."""
+"""Tests the lists of faults of images, and maps of blocks."""
 from __future__ import annotations
 
 import os
@@ -24,12 +24,13 @@ class Faults(unittest.TestCase):
     def test_each_fault(self) -> None:
         self.image[512 * ROOT + 433] = ord("/")
         self.image[512 * BITMAP + 100] ^= 1
-        wanted = (
-            jip.Fault(jip.FaultKind.BAD_SUM, ROOT),
-            jip.Fault(jip.FaultKind.BAD_NAME, ROOT),
-            jip.Fault(jip.FaultKind.BAD_SUM, BITMAP),
-        )
-        self.assertEqual(jip.check(self.image), wanted)
+        wanted = jip.check(self.image)
+        shown = [(jip.FaultKind.BAD_SUM, ROOT, 5), (jip.FaultKind.BAD_NAME, ROOT, 108), (jip.FaultKind.BAD_SUM, BITMAP, 0)]
+        self.assertEqual([(it.kind, it.block, it.at) for it in wanted], shown)
+        for fault in wanted:
+            place = 512 * fault.block + 4 * (fault.at or 0)
+            self.assertEqual(fault.found, int.from_bytes(self.image[place : place + 4], "big"))
+        self.assertEqual(wanted[1].wanted, None)
         with tempfile.TemporaryDirectory() as room:
             path = Path(room) / "bad.adf"
             path.write_bytes(self.image)
@@ -44,6 +45,54 @@ class Faults(unittest.TestCase):
     def test_sizes(self) -> None:
         self.assertEqual(jip.check(self.image[:-1]), (jip.Fault(jip.FaultKind.NOT_WHOLE_BLOCKS, 0),))
         self.assertEqual(jip.check(b""), (jip.Fault(jip.FaultKind.TOO_FEW_BLOCKS, 0),))
+
+
+class Map(unittest.TestCase):
+    def setUp(self) -> None:
+        self.floppy = jip.create("Work", format=jip.Format.OFS)
+        self.addCleanup(self.floppy.close, discard=True)
+        self.floppy.mkdir("Docs")
+        self.floppy["Docs/long"] = bytes(488 * 75)
+        self.floppy["empty"] = b""
+
+    def test_map(self) -> None:
+        found = self.floppy.map()
+        self.assertEqual(len(found), jip.DOUBLE_DENSITY)
+        self.assertEqual(found[:2], [jip.Owner(jip.Role.BOOT)] * 2)
+        self.assertEqual(found[ROOT], jip.Owner(jip.Role.ROOT, ROOT))
+        self.assertEqual(found[BITMAP], jip.Owner(jip.Role.BITMAP))
+        free = [it for it in found if it.role == jip.Role.FREE]
+        self.assertEqual(len(free), self.floppy.info().free)
+        key = self.floppy.stat("Docs/long").key
+        data = sorted(it.index for it in found if it.role == jip.Role.DATA and it.header == key)
+        self.assertEqual(data, list(range(75)))
+        self.assertIn(jip.Owner(jip.Role.EXTENSION, key, 0), found)
+        self.assertNotIn(jip.Role.LOST, {it.role for it in found})
+
+    def test_where(self) -> None:
+        key = self.floppy.stat("Docs/long").key
+        blocks = self.floppy.where("Docs/long")
+        self.assertEqual(len(blocks), self.floppy.stat("Docs/long").blocks)
+        self.assertIn(key, blocks)
+        for block in blocks:
+            owner, path = self.floppy.where(block)
+            self.assertEqual((owner.header, path), (key, "Docs/long"))
+        self.assertEqual(self.floppy.where(key)[0], jip.Owner(jip.Role.FILE, key))
+        self.assertEqual(self.floppy.where("Docs"), [self.floppy.stat("Docs").key])
+        self.assertEqual(self.floppy.where(""), [ROOT])
+        self.assertEqual(self.floppy.where(ROOT), (jip.Owner(jip.Role.ROOT, ROOT), ""))
+        self.assertEqual(self.floppy.where(0), (jip.Owner(jip.Role.BOOT), None))
+        for block in (-1, jip.DOUBLE_DENSITY):
+            with self.assertRaises(IndexError):
+                self.floppy.where(block)
+        with self.assertRaises(jip.ObjectNotFound):
+            self.floppy.where("none")
+
+    def test_closed(self) -> None:
+        with jip.create("Work") as floppy:
+            floppy.close(discard=True)
+            with self.assertRaises(ValueError):
+                floppy.map()
 
 
 if __name__ == "__main__":

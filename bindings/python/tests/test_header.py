@@ -34,6 +34,8 @@ PREFIXES: dict[type[IntEnum], str] = {
     _numbers.Action: "JIP_ACTION_",
     _numbers.Error: "JIP_ERROR_",
     _numbers.FaultKind: "JIP_FAULT_",
+    _numbers.Role: "JIP_ROLE_",
+    _numbers.State: "JIP_STATE_",
 }
 
 
@@ -56,8 +58,8 @@ class Header(unittest.TestCase):
                 with self.subTest(it):
                     self.assertRegex(self.text, rf"\b{prefix}{it.name} = {it.value}\b")
 
-    def test_all_errors_and_faults(self) -> None:
-        for enum in (_numbers.Error, _numbers.FaultKind):
+    def test_all_numbers(self) -> None:
+        for enum in (_numbers.Error, _numbers.FaultKind, _numbers.Role, _numbers.State):
             declared = set(re.findall(rf"\b{PREFIXES[enum]}([A-Z_]+) = ", self.text)) - {"NONE"}
             self.assertEqual({it.name for it in enum}, declared)
 
@@ -65,6 +67,8 @@ class Header(unittest.TestCase):
         for name, value in (
             ("NAME_BYTES", _numbers.NAME_BYTES),
             ("PATH_BYTES", _numbers.PATH_BYTES),
+            ("BLOCK_BYTES", _numbers.BLOCK_BYTES),
+            ("MOST_BLOCKS", _numbers.MOST_BLOCKS),
             ("DOUBLE_DENSITY", _numbers.DOUBLE_DENSITY),
             ("HIGH_DENSITY", _numbers.HIGH_DENSITY),
         ):

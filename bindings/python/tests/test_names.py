@@ -55,6 +55,10 @@ class Names(unittest.TestCase):
     def test_dates(self) -> None:
         for date, text in ((jip.Date(8095, 754, 2003), "2000-03-01 12:34:40.06"), (jip.Date(1, 1440, 0), "raw 1 1440 0")):
             self.assertEqual(jip.date_text(date), text)
+            self.assertEqual(jip.date_of_text(text), date)
+        for text in ("", "2001-02-29 00:00:00.00", "raw 0 0 0", "raw 1 1440 0 x", "\u00e9"):
+            with self.subTest(text), self.assertRaises(ValueError):
+                jip.date_of_text(text)
 
 
 if __name__ == "__main__":

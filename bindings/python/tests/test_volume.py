@@ -249,11 +249,11 @@ class Volumes(OnVolume):
     def test_faults(self) -> None:
         image = bytearray(self.volume.image())
         self.assertEqual(jip.check(image), ())
-        self.assertEqual(jip.check(b"x" * 512), ((jip.FaultKind.TOO_FEW_BLOCKS, 0),))
+        self.assertEqual(jip.check(b"x" * 512), (jip.Fault(jip.FaultKind.TOO_FEW_BLOCKS, 0),))
         image[880 * 512 + 20] ^= 1
         with self.assertRaisesRegex(jip.NotAnImage, r"^\[DOS 225\] ") as refused:
             jip.open(image)
-        self.assertEqual(refused.exception.faults, ((jip.FaultKind.BAD_SUM, 880),))
+        self.assertEqual([(it.kind, it.block, it.at) for it in refused.exception.faults], [(jip.FaultKind.BAD_SUM, 880, 5)])
         self.assertIn("block 880: the checksum of the block is wrong", str(refused.exception))
         for fault in (refused.exception, jip.NotAnImage([], "x")):
             again = pickle.loads(pickle.dumps(fault))

@@ -6,6 +6,7 @@ use Rattle.json.specs.Print.{print}
 use Rattle.adf_block.specs.declared.boot.BootKind.{BootKind}
 use Rattle.adf_block.specs.declared.boot.BootKind.TheVariants.{Ofs, Ffs, OtherDos, NotDos}
 use Rattle.adf_text.specs.Letters.{letters}
+use Rattle.ados_faults.specs.declared.values.FaultValues.{FaultValues}
 use Rattle.adf_archive.specs.declared.objects.Members.{Members}
 use Rattle.adf_archive.specs.declared.report.Contents.{Contents}
 use Rattle.adf_archive.specs.declared.report.ImageReport.{ImageReport}
@@ -57,20 +58,32 @@ members_of (Refused told) = record { ok = false; validated = false; kind = Some 
 members_of (WrongSize fault) = record { ok = false; validated = false; kind = None; blocks = None; contents = None }
 members_of (NotChecked why) = record { ok = false; validated = false; kind = None; blocks = None; contents = None }
 
+-- the value of the long that shows a fault
+abbrev pub found_in : Option FaultValues → Option ℕ
+found_in (Some values) = Some values.found
+found_in None = None
+
+-- the only right value of that long
+abbrev pub wanted_in : Option FaultValues → Option ℕ
+wanted_in (Some values) = values.wanted
+wanted_in None = None
+
 -- the object of a fault
-abbrev pub fault_tokens : List ℕ → ℕ → Option (List ℕ) → List Token
-fault_tokens kind block path =
+abbrev pub fault_tokens : List ℕ → ℕ → Option (List ℕ) → Option FaultValues → Option (List ℕ) → List Token
+fault_tokens kind block path values text =
     begin_object ∷ key (codes "kind") ∷ string kind ∷ key (codes "block") ∷ number (decimal block)
-    ∷ key (codes "path") ∷ string_token path ∷ end_object ∷ []
+    ∷ key (codes "path") ∷ string_token path ∷ key (codes "found") ∷ number_token (found_in values)
+    ∷ key (codes "wanted") ∷ number_token (wanted_in values) ∷ key (codes "text") ∷ string_token text ∷ end_object ∷ []
 
 abbrev pub shown_tokens : ShownFault → List Token
-shown_tokens shown = fault_tokens (kind_word shown.fault.kind) shown.fault.block (option_map string_bytes shown.path)
+shown_tokens shown =
+    fault_tokens (kind_word shown.fault.kind) shown.fault.block (option_map string_bytes shown.path) shown.values (option_map string_bytes shown.text)
 
 -- the objects of a report's faults
 abbrev pub faults_tokens : ImageReport → List Token
 faults_tokens (Accepted told) = []
 faults_tokens (Refused told) = flat_map shown_tokens told.faults.items
-faults_tokens (WrongSize fault) = fault_tokens (size_word fault) 0 None
+faults_tokens (WrongSize fault) = fault_tokens (size_word fault) 0 None None None
 faults_tokens (NotChecked why) = []
 
 -- the object for the image at a path

@@ -22,7 +22,7 @@ use std::alloc::{AllocError, Global};
 pub struct Detail {
     /// All faults of the image; otherwise one.
     pub all: bool,
-    /// The contents of the volume, and the paths for faults.
+    /// The contents of the volume, and the paths and texts for faults.
     pub contents: bool,
     /// The texts that explain faults.
     pub texts: bool,

@@ -6,7 +6,7 @@ ghost use Rattle.ados_model.specs.Faults.{Shows};
 use crate::checking::Detail;
 use crate::report::ShownFault;
 use adf_block::Image;
-use ados_faults::{Mark, all_faults, explain, place_of};
+use ados_faults::{Mark, all_faults, explain, place_of, values_of};
 use ados_model::VolumeFault;
 use std::alloc::{AllocError, Global};
 
@@ -99,6 +99,7 @@ fn shown_faults(
         shown.push(ShownFault {
             fault: *fault,
             path,
+            values: values_of(image, marks, fault),
             text,
         })?;
     }
@@ -119,7 +120,7 @@ fn wanted_path(
     place_of(alloc, image, marks, fault.block)
 }
 
-/// The text that explains a fault, if requested.
+/// The text that explains a fault, if it or the contents are requested.
 fn wanted_text(
     alloc: Global,
     image: &Image,
@@ -127,7 +128,7 @@ fn wanted_text(
     fault: &VolumeFault,
     detail: Detail,
 ) -> Result<Option<String>, AllocError> {
-    if !detail.texts {
+    if !detail.contents && !detail.texts {
         return Ok(None);
     }
     Ok(Some(explain(alloc, image, marks, fault)?))

@@ -1,12 +1,13 @@
 //! The JSON object of a report on an image.
 ghost use Rattle.std.specs.Prelude.{◌≡◌, ◌++◌, ◌∷◌, [], OnOk, codes, flat_map, option_map};
 ghost use Rattle.json.specs.Token.{key, boolean};
-ghost use Rattle.adf_archive.specs.Objects.{contents_tokens, fault_tokens, faults_tokens, is_checked, kind_text, known_tokens, members_of, members_tokens, number_token, object_line, object_tokens, shown_tokens, string_token};
+ghost use Rattle.adf_archive.specs.Objects.{contents_tokens, fault_tokens, faults_tokens, found_in, is_checked, kind_text, known_tokens, members_of, members_tokens, number_token, object_line, object_tokens, shown_tokens, string_token, wanted_in};
 
 use crate::report::{Contents, ImageReport, ShownFault};
 use crate::words::{kind_word, size_word};
 use adf_block::BootKind;
 use adf_text::letter_text;
+use ados_faults::FaultValues;
 use json::Writer;
 use std::alloc::{AllocError, Global};
 
@@ -173,7 +174,7 @@ fn put_faults(writer: &mut Writer, report: &ImageReport) -> Result<(), AllocErro
 {
     match report {
         ImageReport::Refused(told) => put_shown(writer, &told.faults),
-        ImageReport::WrongSize(fault) => put_fault(writer, size_word(*fault), 0, None),
+        ImageReport::WrongSize(fault) => put_fault(writer, size_word(*fault), 0, None, None, None),
         _ => Ok(()),
     }
 }
@@ -189,6 +190,8 @@ fn put_shown(writer: &mut Writer, faults: &[ShownFault]) -> Result<(), AllocErro
             kind_word(shown.fault.kind),
             shown.fault.block,
             shown.path.as_deref(),
+            shown.values,
+            shown.text.as_deref(),
         )?;
     }
     Ok(())
@@ -200,15 +203,40 @@ fn put_fault(
     kind: &str,
     block: u32,
     path: Option<&str>,
+    values: Option<FaultValues>,
+    text: Option<&str>,
 ) -> Result<(), AllocError>
     ensures before { writer.new.before ≡ writer.old.before }
-    ensures tokens { OnOk result (writer.new.tokens ≡ writer.old.tokens ++ fault_tokens kind.now block (option_map (λ text. text.now) path.entry)) }
+    ensures tokens { OnOk result (writer.new.tokens ≡ writer.old.tokens ++ fault_tokens kind.now block (option_map (λ text. text.now) path.entry) values (option_map (λ text. text.now) text.entry)) }
 {
     writer.begin_object()?;
     put_text(writer, "kind", Some(kind))?;
     put_number(writer, "block", Some(u64::from(block)))?;
     put_text(writer, "path", path)?;
+    put_number(writer, "found", found_in(values))?;
+    put_number(writer, "wanted", wanted_in(values))?;
+    put_text(writer, "text", text)?;
     writer.end_object()
+}
+
+/// The value of the long that shows a fault.
+fn found_in(values: Option<FaultValues>) -> Option<u64>
+    ensures { result ≡ found_in values }
+{
+    match values {
+        Some(values) => Some(u64::from(values.found)),
+        None => None,
+    }
+}
+
+/// The only right value of the long that shows a fault.
+fn wanted_in(values: Option<FaultValues>) -> Option<u64>
+    ensures { result ≡ wanted_in values }
+{
+    match values {
+        Some(values) => values.wanted.map(u64::from),
+        None => None,
+    }
 }
 
 /// Writes a member that is true or false.

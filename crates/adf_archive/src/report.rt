@@ -1,5 +1,6 @@
 //! The report on an image, as a value.
 use adf_block::{BootKind, SizeFault};
+use ados_faults::FaultValues;
 use ados_model::VolumeFault;
 use ados_name::Name;
 use thiserror::Error;
@@ -53,6 +54,8 @@ pub struct ShownFault {
     pub fault: VolumeFault,
     /// The path of the directory or file that it belongs to, if requested and known.
     pub path: Option<String>,
+    /// The long that shows it, if one does.
+    pub values: Option<FaultValues>,
     /// The text that explains it, if requested.
     pub text: Option<String>,
 }

@@ -9,18 +9,20 @@ use crate::checking::{Detail, report_file};
 use crate::each::together;
 use crate::fault::ArchiveFault;
 use crate::finding::{FoundImages, image_files};
+use crate::held::tell_each_held;
 use crate::reading::ReadImages;
 use crate::report::ImageReport;
 use crate::telling::{Form, Tally, tell_person, tell_reports};
 use adf_words::CheckJob;
 use std::alloc::Global;
+use std::fs::File;
 use std::io::Write;
 use std::rt::Files;
 use std::thread;
 use std::thread::Threads;
 
-/// Checks the images that the arguments of a command name, and reports on each in order. With `terminal`, a line on
-/// `faults` says how many of several are done.
+/// Checks the images that the arguments of a command name, and reports on each in order. `faults` gets a line for each
+/// image that another command or a mount has locked and, with `terminal`, one that says how many of several are done.
 pub fn check_archive<R, W, F>(
     rt: &R,
     alloc: Global,
@@ -30,7 +32,7 @@ pub fn check_archive<R, W, F>(
     faults: &mut F,
 ) -> Result<(), ArchiveFault>
 where
-    R: Files + ReadImages + Threads + Sync,
+    R: Files<File = File> + ReadImages + Threads + Sync,
     W: Write,
     F: Write,
     ensures { TellsArchive job.now (W.contents writer.old) (W.contents writer.new) result }
@@ -39,6 +41,7 @@ where
     let form = form_of(job, &found);
     let detail = detail_of(job, form);
     let paths = found.paths.as_slice();
+    tell_each_held(rt, paths, faults);
     let tally = check_each(
         rt,
         alloc,

@@ -1,5 +1,8 @@
--- The memory that a handle owns, the result of a call by those of its parts, the blocks that differ, and read-only handles.
+-- The memory that a handle or a salvage owns, the result of a call by those of its parts, the blocks that differ, and read-only handles.
 pub mod Values
+pub mod HandleValues
+pub mod SalvageValues
 pub mod Coming
 pub mod Changing
 pub mod Guarding
+pub mod Saving

@@ -13,24 +13,17 @@ use Rattle.ados_model.specs.Accepted.{Accepts}
 use Rattle.ados_model.specs.Blank.{IsBlank}
 use Rattle.ados_model.specs.Session.{opening_session}
 use Rattle.adf_c.specs.Desk.{ServesPacket}
-use Rattle.adf_c.specs.Faults.{IsFaultOf}
-use Rattle.adf_c.specs.Spelling.{Spells, carried, date_of}
-use Rattle.adf_c.specs.Status.{refusal_number}
-use Rattle.adf_c.specs.Telling.{told_of, buffer_after}
-use Rattle.adf_c.specs.declared.answer.JipAnswer.{JipAnswer}
+use Rattle.c_values.specs.Faults.{IsFaultOf}
+use Rattle.c_values.specs.Dates.{date_of}
+use Rattle.c_values.specs.Ends.{Comes, ComesTo}
+use Rattle.adf_c.specs.Spelling.{Spells, carried}
+use Rattle.c_values.specs.Telling.{told_of, buffer_after}
+use Rattle.c_values.specs.declared.answer.JipAnswer.{JipAnswer}
 use Rattle.adf_c.specs.declared.desk.Desk.{Desk}
-use Rattle.adf_c.specs.declared.open.JipFault.{JipFault}
+use Rattle.c_values.specs.declared.faults.JipFault.{JipFault}
 use Rattle.adf_c.specs.declared.packet.JipPacket.{JipPacket}
-use Rattle.adf_c.specs.declared.refusal.Refusal.{Refusal}
-use Rattle.adf_c.specs.declared.refusal.Refusal.TheVariants.{NotAnImage, NoMemory, WrongArgument}
-
--- a call succeeds, or is refused for one of these reasons
-abbrev pub Comes : Type 0 → (Refusal → Type 0) → Result (Unit {0}) Refusal → Type 0
-Comes done refused outcome = MatchResult outcome (λ _. done) refused
-
--- the same by the status: 0 for success, else the number of the refusal
-abbrev pub ComesTo : Type 0 → (Refusal → Type 0) → ℤ → Type 0
-ComesTo done refused status = ((status ≡ pos 0) × done) ⊎ ((refusal : Refusal) × (status ≡ pos (refusal_number refusal)) × refused refusal)
+use Rattle.c_values.specs.declared.refusal.Refusal.{Refusal}
+use Rattle.c_values.specs.declared.refusal.Refusal.TheVariants.{NotAnImage, NoMemory, WrongArgument}
 
 -- the handle is open already
 abbrev pub IsOpen : Option Desk → Type 0

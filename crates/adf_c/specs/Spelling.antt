@@ -1,17 +1,12 @@
 -- The packet that a struct of C stands for.
 use Rattle.std.specs.Prelude.{◌≡◌, ◌≢◌, ℕ, ℤ, pos, List}
-use Rattle.ados_name.specs.declared.stamp.Date3.{Date3}
 use Rattle.ados_model.specs.Actions.{action_number}
 use Rattle.ados_model.specs.declared.action.Action.{Action}
 use Rattle.ados_model.specs.declared.action.Action.TheVariants as action
 use Rattle.ados_model.specs.declared.packet.Packet.{Packet}
 use Rattle.ados_model.specs.declared.packet.Packet.TheVariants.{Die, LocateObject, RenameDisk, FreeLock, DeleteObject, RenameObject, CopyDir, SetProtect, CreateDir, ExamineObject, ExamineNext, DiskInfo, Info, SetComment, Parent, SetDate, SameLock, Read, Write, FindUpdate, FindInput, FindOutput, End, Seek, SetFileSize, Other}
-use Rattle.adf_c.specs.declared.packet.JipDate.{JipDate}
+use Rattle.c_values.specs.Dates.{date_of}
 use Rattle.adf_c.specs.declared.packet.JipPacket.{JipPacket}
-
--- the same date
-abbrev pub date_of : JipDate → Date3
-date_of d = record { days = d.days; minutes = d.minutes; ticks = d.ticks }
 
 -- no action with a name has this number
 abbrev pub HasNoName : ℤ → Type 0

@@ -2,10 +2,11 @@
 
 ghost use Rattle.std.specs.Prelude.{◌≡◌, length};
 ghost use Rattle.std.specs.Option.{MatchOption};
-ghost use Rattle.adf_c.specs.Calls.{Comes, CopiesBytes, CopyComes, CopyEnds, RefusesBytes};
+ghost use Rattle.c_values.specs.Ends.{Comes};
+ghost use Rattle.adf_c.specs.Calls.{CopiesBytes, CopyComes, CopyEnds, RefusesBytes};
 
 use crate::handle::JipHandle;
-use crate::refusal::{Refusal, status};
+use c_values::{Refusal, status};
 use std::alloc::Global;
 
 /// The length of the image in bytes; 0 for a closed handle.

@@ -5,26 +5,27 @@
 //! be a reference, such as null pointers and lengths beyond memory, and then call these.
 #![tactic(auto)]
 
-pub mod all_faults;
-pub mod answer;
 pub mod changed;
 pub mod desk;
+pub mod faults;
 pub mod handle;
 pub mod image;
-pub mod lists;
 pub mod loose;
+pub mod map;
 pub mod names;
 pub mod notes;
 pub mod open;
 pub mod packet;
 pub mod read_only;
-pub mod refusal;
+pub mod salvage;
+pub mod salvage_handle;
 pub mod serve;
 pub mod texts;
 
-pub use answer::{JipAnswer, JipDisk, JipEntry};
+pub use c_values::{
+    JipAnswer, JipDate, JipDisk, JipEntry, JipFault, JipFinding, JipOwner, JipSalvaged, Refusal,
+};
 pub use desk::Desk;
 pub use handle::JipHandle;
-pub use open::JipFault;
-pub use packet::{JipDate, JipPacket};
-pub use refusal::Refusal;
+pub use packet::JipPacket;
+pub use salvage_handle::JipSalvage;

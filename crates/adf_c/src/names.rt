@@ -2,36 +2,24 @@
 //!
 //! A text goes into a buffer of the caller, and its length in bytes into `length`. If the buffer is shorter, it is unchanged.
 
-ghost use Rattle.std.specs.Prelude.{◌≡◌, ◌⊎◌, pos, MatchResult};
-ghost use Rattle.std.specs.String.{string_bytes};
+ghost use Rattle.std.specs.Prelude.{◌≡◌, ◌⊎◌, pos};
 ghost use Rattle.ados_name.specs.Name.{IsName};
 ghost use Rattle.adf_text.specs.Letters.{letters};
-ghost use Rattle.adf_text.specs.ProtectionLetters.{protection_letters as letters_of};
-ghost use Rattle.adf_c.specs.Names.{AreBytesOf, BitsEnd, HasByteLetters, IsHostOf, IsNamedBy, Puts, Refuses, TextEnds};
+ghost use Rattle.adf_text.specs.ProtectionLetters.{protection_letters};
+ghost use Rattle.c_values.specs.Buffers.{Puts, TextEnds};
+ghost use Rattle.c_values.specs.Names.{AreBytesOf, BitsEnd, HasByteLetters, IsHostOf, IsNamedBy};
 
-use crate::refusal::Refusal;
-use adf_text::{
-    LettersFault, host_name, host_name_bytes, letter_bytes, letter_text, protection_letters,
-    protection_of_letters,
-};
-use ados_name::{Name, Protect};
 use std::alloc::Global;
-use std::str;
 
-/// Whether the bytes are a name of an entry: 1 if so, else 0.
+/// As `c_values::is_name`.
 #[unsafe(no_mangle)]
 pub extern "C" fn jip_lib_is_name(name: &[u8]) -> i32
     ensures { ((result ≡ pos 1) × IsName name.now) ⊎ ((result ≡ pos 0) × (¬ IsName name.now)) }
 {
-    match Name::new(name) {
-        Ok(_) => 1,
-        Err(_) => 0,
-    }
+    c_values::is_name(name)
 }
 
-/// The name of the host file for an entry's name, in UTF-8. The status is 0.
-///
-/// Status 2: out of memory. Status 3: the bytes are not a name. In these cases `to` and `length` are unchanged.
+/// As `c_values::host_of_name`.
 #[unsafe(no_mangle)]
 pub extern "C" fn jip_lib_host_of_name(
     alloc: Global,
@@ -41,19 +29,10 @@ pub extern "C" fn jip_lib_host_of_name(
 ) -> i32
     ensures { TextEnds (IsHostOf name.now) (¬ IsName name.now) to.old to.new length.old length.new result }
 {
-    match host_of_name(alloc, name) {
-        Ok(text) => {
-            *length = put(text.as_bytes(), to);
-            0
-        }
-        Err(refusal) => refusal.number(),
-    }
+    c_values::host_of_name(alloc, name, to, length)
 }
 
-/// The bytes that the name of a host file stands for. The status is 0. `jip_lib_is_name` says whether they are a name.
-///
-/// Status 2: out of memory. Status 3: the name is not UTF-8, or a letter is not in ISO 8859-1. In these cases `to` and
-/// `length` are unchanged.
+/// As `c_values::name_of_host`.
 #[unsafe(no_mangle)]
 pub extern "C" fn jip_lib_name_of_host(
     alloc: Global,
@@ -63,16 +42,10 @@ pub extern "C" fn jip_lib_name_of_host(
 ) -> i32
     ensures { TextEnds (IsNamedBy host.now) (¬ HasByteLetters host.now) to.old to.new length.old length.new result }
 {
-    match name_of_host(alloc, host) {
-        Ok(bytes) => {
-            *length = put(&bytes, to);
-            0
-        }
-        Err(refusal) => refusal.number(),
-    }
+    c_values::name_of_host(alloc, host, to, length)
 }
 
-/// The letters of bytes in UTF-8. The status is 0, or 2 if memory runs out; then `to` and `length` are unchanged.
+/// As `c_values::letters_of_bytes`.
 #[unsafe(no_mangle)]
 pub extern "C" fn jip_lib_letters_of_bytes(
     alloc: Global,
@@ -82,19 +55,10 @@ pub extern "C" fn jip_lib_letters_of_bytes(
 ) -> i32
     ensures { TextEnds (λ text. text ≡ letters bytes.now) ⊥ to.old to.new length.old length.new result }
 {
-    match letters_of_bytes(alloc, bytes) {
-        Ok(text) => {
-            *length = put(text.as_bytes(), to);
-            0
-        }
-        Err(refusal) => refusal.number(),
-    }
+    c_values::letters_of_bytes(alloc, bytes, to, length)
 }
 
-/// The bytes of a text's letters. The status is 0.
-///
-/// Status 2: out of memory. Status 3: the text is not UTF-8, or a letter is not in ISO 8859-1. In these cases `to` and
-/// `length` are unchanged.
+/// As `c_values::bytes_of_letters`.
 #[unsafe(no_mangle)]
 pub extern "C" fn jip_lib_bytes_of_letters(
     alloc: Global,
@@ -104,94 +68,22 @@ pub extern "C" fn jip_lib_bytes_of_letters(
 ) -> i32
     ensures { TextEnds (AreBytesOf text.now) (¬ HasByteLetters text.now) to.old to.new length.old length.new result }
 {
-    match bytes_of_letters(alloc, text) {
-        Ok(bytes) => {
-            *length = put(&bytes, to);
-            0
-        }
-        Err(refusal) => refusal.number(),
-    }
+    c_values::bytes_of_letters(alloc, text, to, length)
 }
 
-/// The low eight protection bits as `hsparwed`, with a dash for each letter that is not shown. The status is 0.
+/// As `c_values::letters_of_protection`.
 #[unsafe(no_mangle)]
 pub extern "C" fn jip_lib_letters_of_protection(bits: u32, to: &mut [u8], length: &mut usize) -> i32
     ensures status { result ≡ pos 0 }
-    ensures letters { Puts (letters_of bits) to.old to.new length.new }
+    ensures letters { Puts (protection_letters bits) to.old to.new length.new }
 {
-    *length = put(&protection_letters(Protect(bits)), to);
-    0
+    c_values::letters_of_protection(bits, to, length)
 }
 
-/// The protection bits of eight such places, or of some of the letters in any order. The status is 0.
-///
-/// Status 3: the text is neither; the bits are unchanged.
+/// As `c_values::protection_of_letters`.
 #[unsafe(no_mangle)]
 pub extern "C" fn jip_lib_protection_of_letters(letters: &[u8], bits: &mut u32) -> i32
     ensures { BitsEnd letters.now bits.old bits.new result }
 {
-    match protection_of_letters(letters) {
-        Some(protect) => {
-            *bits = protect.bits();
-            0
-        }
-        None => Refusal::WrongArgument.number(),
-    }
-}
-
-/// Copies a text to the start of the buffer, if there is room, and returns the length that it needs.
-pub(crate) fn put(text: &[u8], to: &mut [u8]) -> usize
-    ensures { Puts text.now to.old to.new result }
-{
-    if text.len() <= to.len() {
-        to[..text.len()].copy_from_slice(text);
-    }
-    text.len()
-}
-
-fn host_of_name(alloc: Global, name: &[u8]) -> Result<String, Refusal>
-    ensures { MatchResult result (λ text. IsHostOf name.now (string_bytes text)) (Refuses (¬ IsName name.now)) }
-{
-    let Ok(name) = Name::new(name) else {
-        return Err(Refusal::WrongArgument);
-    };
-    match host_name(alloc, &name) {
-        Ok(text) => Ok(text),
-        Err(_) => Err(Refusal::NoMemory),
-    }
-}
-
-fn name_of_host(alloc: Global, host: &[u8]) -> Result<Vec<u8>, Refusal>
-    ensures { MatchResult result (λ bytes. IsNamedBy host.now bytes.items) (Refuses (¬ HasByteLetters host.now)) }
-{
-    let Ok(text) = str::from_utf8(host) else {
-        return Err(Refusal::WrongArgument);
-    };
-    match host_name_bytes(alloc, text) {
-        Ok(bytes) => Ok(bytes),
-        Err(LettersFault::NoByte { .. }) => Err(Refusal::WrongArgument),
-        Err(LettersFault::Memory) => Err(Refusal::NoMemory),
-    }
-}
-
-fn letters_of_bytes(alloc: Global, bytes: &[u8]) -> Result<String, Refusal>
-    ensures { MatchResult result (λ text. string_bytes text ≡ letters bytes.now) (Refuses ⊥) }
-{
-    match letter_text(alloc, bytes) {
-        Ok(text) => Ok(text),
-        Err(_) => Err(Refusal::NoMemory),
-    }
-}
-
-fn bytes_of_letters(alloc: Global, text: &[u8]) -> Result<Vec<u8>, Refusal>
-    ensures { MatchResult result (λ bytes. AreBytesOf text.now bytes.items) (Refuses (¬ HasByteLetters text.now)) }
-{
-    let Ok(letters) = str::from_utf8(text) else {
-        return Err(Refusal::WrongArgument);
-    };
-    match letter_bytes(alloc, letters) {
-        Ok(bytes) => Ok(bytes),
-        Err(LettersFault::NoByte { .. }) => Err(Refusal::WrongArgument),
-        Err(LettersFault::Memory) => Err(Refusal::NoMemory),
-    }
+    c_values::protection_of_letters(letters, bits)
 }

@@ -1,24 +1,16 @@
 //! The notes that emulators keep beside host files, and dates, for C.
 
-ghost use Rattle.std.specs.Prelude.{MatchResult};
-ghost use Rattle.std.specs.String.{string_bytes};
-ghost use Rattle.ados_name.specs.Name.{IsComment};
+ghost use Rattle.std.specs.Prelude.{◌≡◌, pos};
 ghost use Rattle.ados_name.specs.Date.{IsTextOf};
-ghost use Rattle.adf_c.specs.Names.{HasFault, IsNoteOf, NoteComes, NoteEnds, Refuses, TextEnds};
-ghost use Rattle.adf_c.specs.Spelling.{date_of};
+ghost use Rattle.ados_name.specs.Name.{IsComment};
+ghost use Rattle.c_values.specs.Buffers.{TextEnds};
+ghost use Rattle.c_values.specs.Dates.{DateOfTextEnds, DateOfTimeEnds, IsTimeOf, date_of};
+ghost use Rattle.c_values.specs.Names.{IsNoteOf, NoteEnds};
 
-use crate::answer::told_date;
-use crate::names::put;
-use crate::packet::JipDate;
-use crate::refusal::Refusal;
-use adf_text::{Uaem, UaemFault, read_uaem, uaem_line};
-use ados_name::{Comment, Date3, Protect};
+use c_values::JipDate;
 use std::alloc::Global;
 
-/// The line of a `.uaem` file with these protection bits, date and comment, as `adf_text::uaem_line` writes it. The
-/// status is 0.
-///
-/// Status 2: out of memory. Status 3: the comment is longer than 79 bytes. In these cases `to` and `length` are unchanged.
+/// As `c_values::uaem_line`.
 #[unsafe(no_mangle)]
 pub extern "C" fn jip_lib_uaem_line(
     alloc: Global,
@@ -30,35 +22,10 @@ pub extern "C" fn jip_lib_uaem_line(
 ) -> i32
     ensures { TextEnds (IsNoteOf bits (date_of date.now) comment.now) (¬ IsComment comment.now) to.old to.new length.old length.new result }
 {
-    match line_of(alloc, bits, date.date(), comment) {
-        Ok(line) => {
-            *length = put(line.as_bytes(), to);
-            0
-        }
-        Err(refusal) => refusal.number(),
-    }
+    c_values::uaem_line(alloc, bits, date, comment, to, length)
 }
 
-fn line_of(alloc: Global, bits: u32, date: Date3, comment: &[u8]) -> Result<String, Refusal>
-    ensures { MatchResult result (λ line. IsNoteOf bits date comment.now (string_bytes line)) (Refuses (¬ IsComment comment.now)) }
-{
-    let Ok(comment) = Comment::new(comment) else {
-        return Err(Refusal::WrongArgument);
-    };
-    let noted = Uaem {
-        protect: Protect(bits),
-        date,
-        comment,
-    };
-    match uaem_line(alloc, &noted) {
-        Ok(line) => Ok(line),
-        Err(_) => Err(Refusal::NoMemory),
-    }
-}
-
-/// Reads a `.uaem` file, as `adf_text::read_uaem` does. The comment is put into the buffer. The status is 0.
-///
-/// Status 2: out of memory. Status 3: the file has a fault. In these cases everything is unchanged.
+/// As `c_values::read_uaem`.
 #[unsafe(no_mangle)]
 pub extern "C" fn jip_lib_read_uaem(
     alloc: Global,
@@ -70,29 +37,10 @@ pub extern "C" fn jip_lib_read_uaem(
 ) -> i32
     ensures { NoteEnds file.now bits.old bits.new date.old date.new comment.old comment.new length.old length.new result }
 {
-    match note_of(alloc, file) {
-        Ok(noted) => {
-            *bits = noted.protect.bits();
-            *date = told_date(noted.date);
-            *length = put(noted.comment.bytes(), comment);
-            0
-        }
-        Err(refusal) => refusal.number(),
-    }
+    c_values::read_uaem(alloc, file, bits, date, comment, length)
 }
 
-fn note_of(alloc: Global, file: &[u8]) -> Result<Uaem, Refusal>
-    ensures { NoteComes file.now result }
-{
-    match read_uaem(alloc, file) {
-        Ok(noted) => Ok(noted),
-        Err(UaemFault::Memory) => Err(Refusal::NoMemory),
-        Err(_) => Err(Refusal::WrongArgument),
-    }
-}
-
-/// The text of a date: `YYYY-MM-DD hh:mm:ss.cc`, or `raw DAYS MINUTES TICKS` if it has none of this form. The status is 0,
-/// or 2 if memory runs out; then `to` and `length` are unchanged.
+/// As `c_values::text_of_date`.
 #[unsafe(no_mangle)]
 pub extern "C" fn jip_lib_text_of_date(
     alloc: Global,
@@ -102,20 +50,34 @@ pub extern "C" fn jip_lib_text_of_date(
 ) -> i32
     ensures { TextEnds (IsTextOf (date_of date.now)) ⊥ to.old to.new length.old length.new result }
 {
-    match text_of(alloc, date.date()) {
-        Ok(text) => {
-            *length = put(text.as_bytes(), to);
-            0
-        }
-        Err(refusal) => refusal.number(),
-    }
+    c_values::text_of_date(alloc, date, to, length)
 }
 
-fn text_of(alloc: Global, date: Date3) -> Result<String, Refusal>
-    ensures { MatchResult result (λ text. IsTextOf date (string_bytes text)) (Refuses ⊥) }
+/// As `c_values::date_of_text`.
+#[unsafe(no_mangle)]
+pub extern "C" fn jip_lib_date_of_text(alloc: Global, text: &[u8], date: &mut JipDate) -> i32
+    ensures { DateOfTextEnds text.now date.old date.new result }
 {
-    match date.text(alloc) {
-        Ok(text) => Ok(text),
-        Err(_) => Err(Refusal::NoMemory),
-    }
+    c_values::date_of_text(alloc, text, date)
+}
+
+/// As `c_values::date_of_time`.
+#[unsafe(no_mangle)]
+pub extern "C" fn jip_lib_date_of_time(seconds: i64, nanoseconds: u32, date: &mut JipDate) -> i32
+    ensures { DateOfTimeEnds seconds nanoseconds date.old date.new result }
+{
+    c_values::date_of_time(seconds, nanoseconds, date)
+}
+
+/// As `c_values::time_of_date`.
+#[unsafe(no_mangle)]
+pub extern "C" fn jip_lib_time_of_date(
+    date: &JipDate,
+    seconds: &mut i64,
+    nanoseconds: &mut u32,
+) -> i32
+    ensures status { result ≡ pos 0 }
+    ensures time { IsTimeOf (date_of date.now) seconds.new nanoseconds.new }
+{
+    c_values::time_of_date(date, seconds, nanoseconds)
 }

@@ -3,28 +3,17 @@
 ghost use Rattle.std.specs.Prelude.{◌≡◌, ◌≢◌, pos, false, None};
 ghost use Rattle.std.specs.Option.{MatchOption};
 ghost use Rattle.adf_c.specs.Calls.{BlankComes, BlankEnds, OpenComes, OpenEnds, SeatComes, format_number};
-ghost use Rattle.adf_c.specs.Spelling.{date_of};
-ghost use Rattle.adf_c.specs.Faults.{fault_number, size_fault_number};
+ghost use Rattle.c_values.specs.Dates.{date_of};
 
 use crate::desk::Desk;
 use crate::handle::JipHandle;
-use crate::packet::JipDate;
-use crate::refusal::{Refusal, status};
-use adf_block::{Format, Image, SizeFault, size_ok};
+use adf_block::{Format, Image, size_ok};
 use ados_handler::Handler;
-use ados_model::{FaultKind, VolumeFault};
+use ados_model::FaultKind;
 use ados_name::{Date3, Name};
 use ados_volume::{Volume, blank, check};
+use c_values::{JipDate, JipFault, Refusal, status};
 use std::alloc::Global;
-
-/// Why bytes are no image, and the block that shows it.
-#[repr(C)]
-#[derive(Clone, Copy)]
-pub struct JipFault {
-    /// 1 to 17 as in the header; 101 to 103 for a length that no image has.
-    pub kind: i32,
-    pub block: u32,
-}
 
 /// Opens a handle on a copy of these bytes, if they are an image that the check accepts. The status is 0, and the
 /// bytes are not used afterwards.
@@ -166,45 +155,4 @@ pub extern "C" fn jip_lib_close(alloc: Global, handle: &mut JipHandle) -> i32
 {
     drop(handle.take(alloc));
     0
-}
-
-impl JipFault {
-    pub(crate) fn of_size(fault: SizeFault) -> JipFault
-        ensures { result ≡ record { kind = pos (size_fault_number fault); block = 0 } }
-    {
-        let kind = match fault {
-            SizeFault::NotWholeBlocks => 101,
-            SizeFault::TooFewBlocks => 102,
-            SizeFault::TooManyBlocks => 103,
-        };
-        JipFault { kind, block: 0 }
-    }
-
-    pub(crate) fn of_volume(fault: VolumeFault) -> JipFault
-        ensures { result ≡ record { kind = pos (fault_number fault.kind); block = fault.block } }
-    {
-        let kind = match fault.kind {
-            FaultKind::NotADosDisk => 1,
-            FaultKind::UnsupportedKind => 2,
-            FaultKind::BadSum => 3,
-            FaultKind::BadType => 4,
-            FaultKind::BadOwnKey => 5,
-            FaultKind::BadParent => 6,
-            FaultKind::BadPointer => 7,
-            FaultKind::BlockUsedTwice => 8,
-            FaultKind::WrongChain => 9,
-            FaultKind::BadName => 10,
-            FaultKind::DuplicateName => 11,
-            FaultKind::BadComment => 12,
-            FaultKind::BadCount => 13,
-            FaultKind::BadSequence => 14,
-            FaultKind::LinkEntry => 15,
-            FaultKind::MarkedFree => 17,
-            FaultKind::NoMemory => 19,
-        };
-        JipFault {
-            kind,
-            block: fault.block,
-        }
-    }
 }

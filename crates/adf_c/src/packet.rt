@@ -2,34 +2,12 @@
 
 ghost use Rattle.std.specs.Prelude.{◌≡◌, IfOk};
 ghost use Rattle.ados_name.specs.Path.{IsPathText};
-ghost use Rattle.adf_c.specs.Spelling.{IsActionOf, date_of, packet_of};
+ghost use Rattle.adf_c.specs.Spelling.{IsActionOf, packet_of};
 
 use crate::texts::copied;
 use ados_model::{Action, Buffer, Packet};
-use ados_name::Date3;
+use c_values::JipDate;
 use std::alloc::{AllocError, Global};
-
-/// A date for C: days since 1 January 1978, minutes since midnight, ticks of 1/50 second in the minute.
-#[repr(C)]
-#[derive(Clone, Copy)]
-pub struct JipDate {
-    pub days: u32,
-    pub minutes: u32,
-    pub ticks: u32,
-}
-
-impl JipDate {
-    /// The same date for the crates below.
-    pub(crate) fn date(self) -> Date3
-        ensures { result ≡ date_of self }
-    {
-        Date3 {
-            days: self.days,
-            minutes: self.minutes,
-            ticks: self.ticks,
-        }
-    }
-}
 
 /// A packet from C: the number of its action, one field for each kind of argument, and its time stamp. Only the fields
 /// that the action uses are read.

@@ -6,11 +6,11 @@ ghost use Rattle.adf_c.specs.Calls.{OpenEnds};
 ghost use Rattle.adf_c.specs.ReadOnly.{GivesReadOnly, of_protected_disk, protected_answer, protected_body as body_of_protected};
 
 use crate::handle::JipHandle;
-use crate::open::{JipFault, open};
-use crate::refusal::status;
+use crate::open::open;
 use ados_handler::Handler;
 use ados_model::{Answer, Body, DiskInfo, Packet};
 use ados_name::Date3;
+use c_values::{JipFault, status};
 use std::alloc::Global;
 
 /// The DOS error of a write-protected disk.

@@ -4,15 +4,14 @@ ghost use Rattle.std.specs.Prelude.{◌≡◌, ◌↔◌, IsTrue};
 ghost use Rattle.ados_name.specs.Path.{IsPathText};
 ghost use Rattle.adf_c.specs.Calls.{LoadComes, ServeComes, ServeEnds, ServedBy};
 ghost use Rattle.adf_c.specs.Spelling.{carried};
-ghost use Rattle.adf_c.specs.Telling.{fills as fills_buffer, handed_back};
+ghost use Rattle.c_values.specs.Telling.{fills as fills_buffer, handed_back};
 
-use crate::answer::JipAnswer;
 use crate::desk::Desk;
 use crate::handle::JipHandle;
 use crate::packet::JipPacket;
-use crate::refusal::Refusal;
 use ados_model::{Action, Body, Buffer, Packet};
 use ados_name::{Date3, PathText};
+use c_values::{JipAnswer, Refusal};
 use std::alloc::Global;
 
 /// Serves one packet: that of the struct with these texts, `bytes` for a WRITE and `buffer` for a READ, at the

@@ -207,10 +207,10 @@ rescues_no_image w fault (Ok x) is same = absurd same
 rescues_no_image w fault (Err told) is same = no_image_rescued w told (subst IsNoImage (sym same) is)
 
 -- the report on a rescue, whole or as far as the writer accepts it
-pub rescue_told : (old new : Option (List ℕ)) (image : List ℕ) (rescue : Rescue) (whole : Bool) → IsRescue image rescue → Writes old new (AreRescued rescue.salvage.entries whole) → Writes old new (IsRescueText whole)
+pub rescue_told : (old new : Option (List ℕ)) (image : List ℕ) (rescue : Rescue) (whole : Bool) → IsRescue image rescue → Writes old new (AreRescued rescue.salvage whole) → Writes old new (IsRescueText whole)
 rescue_told old new image rescue whole is (text, written, told) = (text, written, (image, record { saved = rescue.salvage; salvaged = is; told = told }))
 
-pub rescue_cut : (old new : Option (List ℕ)) (image : List ℕ) (rescue : Rescue) → IsRescue image rescue → WritesFrontOf old new (AreSomeRescued rescue.salvage.entries) → WritesFrontOf old new IsSomeRescueText
+pub rescue_cut : (old new : Option (List ℕ)) (image : List ℕ) (rescue : Rescue) → IsRescue image rescue → WritesFrontOf old new (AreSomeRescued rescue.salvage) → WritesFrontOf old new IsSomeRescueText
 rescue_cut old new image rescue is (text, (whole, told), front) = (text, (whole, (image, record { saved = rescue.salvage; salvaged = is; told = told })), front)
 
 -- for jobs with such texts for bytes

@@ -14,9 +14,9 @@ IsRescueEnd (Extracted fault) = ⊤
 IsRescueEnd Memory = ⊤
 IsRescueEnd fault = ⊥
 
--- the report on a rescue, in which everything is whole or not
+-- the report on a rescue of an image that was accepted or not
 abbrev pub IsRescueText : Bool → List ℕ → Type 0
-IsRescueText whole text = (image : List ℕ) × IsReport image whole text
+IsRescueText accepted text = (image : List ℕ) × IsReport image accepted text
 
 abbrev pub IsSomeRescueText : List ℕ → Type 0
 IsSomeRescueText text = (whole : Bool) × IsRescueText whole text

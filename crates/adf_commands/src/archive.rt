@@ -5,11 +5,13 @@ use crate::fault::CommandFault;
 use adf_archive::{ReadImages, check_archive};
 use adf_words::CheckJob;
 use std::alloc::Global;
+use std::fs::File;
 use std::io::Write;
 use std::rt::Files;
 use std::thread::Threads;
 
-/// Checks the images of a job, and reports on each. With `terminal`, a line on `faults` says how many are done.
+/// Checks the images of a job, and reports on each. `faults` gets a line for each that is
+/// locked and, with `terminal`, one that says how many are done.
 pub(crate) fn check_images<'a, R, W, F>(
     rt: &R,
     alloc: Global,
@@ -19,7 +21,7 @@ pub(crate) fn check_images<'a, R, W, F>(
     faults: &mut F,
 ) -> Result<(), CommandFault<'a>>
 where
-    R: Files + ReadImages + Threads + Sync,
+    R: Files<File = File> + ReadImages + Threads + Sync,
     W: Write,
     F: Write,
     ensures { EndsArchive job.now (W.contents writer.old) (W.contents writer.new) result }

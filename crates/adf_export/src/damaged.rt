@@ -3,7 +3,7 @@ ghost use Rattle.std.specs.Prelude.{◌≡◌, IfErr, IfOk, OnErr};
 ghost use Rattle.std.specs.String.{string_bytes};
 ghost use Rattle.adf_script.specs.Streams.{Writes};
 ghost use Rattle.adf_io.specs.Prefix.{WritesFrontOf};
-ghost use Rattle.adf_export.specs.Rescue.{AreRescued, AreSomeRescued, is_sound, IsRescue, IsRescueFault, IsRescueLine, rescue_line};
+ghost use Rattle.adf_export.specs.Rescue.{AreRescued, AreSomeRescued, IsRescue, IsRescueFault, IsRescueLine, rescue_line};
 
 use crate::fault::OutFault;
 use crate::output::write_text;
@@ -75,26 +75,24 @@ impl Rescue {
         }
     }
 
-    /// Writes a line for each file, and for each recovered directory. The result is whether everything is whole.
+    /// Writes a line for each file, for each recovered directory, and for each lost entry. The result is whether the image was
+    /// accepted: then every file is whole.
     ///
     /// If the writer fails or memory runs out, it has written a prefix of that text.
     pub fn tell<W: Write>(&self, alloc: Global, writer: &mut W) -> Result<bool, PrintFault>
-        ensures ok { IfOk result (λ whole. Writes (W.contents writer.old) (W.contents writer.new) (AreRescued self.now.salvage.entries whole)) }
-        ensures front { OnErr result (WritesFrontOf (W.contents writer.old) (W.contents writer.new) (AreSomeRescued self.now.salvage.entries)) }
+        ensures ok { IfOk result (λ accepted. Writes (W.contents writer.old) (W.contents writer.new) (AreRescued self.now.salvage accepted)) }
+        ensures front { OnErr result (WritesFrontOf (W.contents writer.old) (W.contents writer.new) (AreSomeRescued self.now.salvage)) }
     {
         let entries = self.salvage.entries();
-        let mut whole = true;
         for (place, entry) in entries.iter().enumerate() {
             let line = self.line_at(alloc, place, entry.found, entry.state)?;
             write_text(line.as_bytes(), writer)?;
-            let sound = is_sound(entry.found, entry.state);
-            whole = whole && sound;
         }
-        Ok(whole)
+        Ok(self.salvage.is_accepted())
     }
 
-    /// The line of the entry at a position: `found` if it was recovered, `whole` or the number of missing blocks, and its
-    /// path. A directory that was not recovered has none.
+    /// The line of the entry at a position: `found` if it was recovered, `whole`, `lost` or the number of missing blocks, and
+    /// its path. A directory that was not recovered has none.
     fn line_at(
         &self,
         alloc: Global,
@@ -112,16 +110,6 @@ impl Rescue {
     }
 }
 
-/// Whether an entry is undamaged: it was not recovered, and a file is whole.
-fn is_sound(found: bool, state: State) -> bool
-    ensures { result ≡ is_sound found state }
-{
-    match state {
-        State::Broken { .. } => false,
-        _ => !found,
-    }
-}
-
 /// The line of an entry at a host path.
 fn line_of_path(alloc: Global, found: bool, state: State, path: &str) -> Result<String, AllocError>
     ensures { IfOk result (λ line. string_bytes line ≡ rescue_line found state path.now) }
@@ -131,6 +119,7 @@ fn line_of_path(alloc: Global, found: bool, state: State, path: &str) -> Result<
         State::Directory if found => format!(in alloc; "found {path}\n")?,
         State::Directory => String::new(alloc),
         State::Whole => format!(in alloc; "{front}whole {path}\n")?,
+        State::Lost => format!(in alloc; "{front}lost {path}\n")?,
         State::Broken { missing, .. } => format!(in alloc; "{front}broken {missing} {path}\n")?,
     };
     Ok(line)

@@ -19,13 +19,25 @@ enum Source {
     Note(usize),
 }
 
+/// What is planned for an entry.
+#[derive(Drop)]
+enum Planned {
+    /// It is written as this item.
+    Item(usize),
+    /// It is lost: nothing is written. It would be in this item, or at the top, by this name.
+    Lost {
+        above: Option<usize>,
+        name: HostName,
+    },
+}
+
 /// The items for entries. Each is written into the item of its directory.
 #[derive(Drop)]
 pub(crate) struct Plan {
     pub(crate) items: Vec<HostItem>,
     sources: Vec<Source>,
-    /// For each entry, its item.
-    places: Vec<usize>,
+    /// For each entry, what is planned for it.
+    planned: Vec<Planned>,
     /// The item of `lost+found`, if there is one.
     lost: Option<usize>,
     /// For each entry, its item below `lost+found`, if it is a directory that was not recovered but has recovered
@@ -52,7 +64,7 @@ impl Plan {
         let mut plan = Plan {
             items: Vec::with_capacity(alloc, room)?,
             sources: Vec::with_capacity(alloc, room)?,
-            places: Vec::with_capacity(alloc, entries.len())?,
+            planned: Vec::with_capacity(alloc, entries.len())?,
             lost: None,
             asides: vec![in alloc; None; entries.len()]?,
         };
@@ -74,7 +86,14 @@ impl Plan {
     /// The host path of an entry, by its position.
     pub(crate) fn path_of(&self, alloc: Global, place: usize) -> Result<String, AllocError> {
         let mut names = Vec::new(alloc);
-        let mut next = self.places.get(place).copied();
+        let mut next = match self.planned.get(place) {
+            Some(Planned::Item(item)) => Some(*item),
+            Some(Planned::Lost { above, name }) => {
+                names.push(name.as_str())?;
+                *above
+            }
+            None => None,
+        };
         for _step in 0..self.items.len() {
             let Some(item) = next.and_then(|at| self.items.get(at)) else {
                 break;
@@ -108,7 +127,10 @@ impl Plan {
         if entry.found && entries.get(above).is_some_and(|dir| !dir.found) {
             return Ok(Some(self.aside(alloc, entries, above, entry.date)?));
         }
-        Ok(self.places.get(above).copied())
+        match self.planned.get(above) {
+            Some(Planned::Item(item)) => Ok(Some(*item)),
+            _ => Ok(None),
+        }
     }
 
     /// The item of `lost+found`.
@@ -158,7 +180,7 @@ impl Plan {
         Ok(item)
     }
 
-    /// Adds the item of an entry, and with `meta` that of its note.
+    /// Adds the item of an entry, and with `meta` that of its note. A lost entry has none.
     fn add(
         &mut self,
         alloc: Global,
@@ -170,11 +192,15 @@ impl Plan {
         let name = name_of(alloc, entry)?;
         let note = name.note(alloc)?;
         let source = match entry.state {
+            State::Lost => {
+                self.planned.push(Planned::Lost { above, name })?;
+                return Ok(());
+            }
             State::Directory => Source::Directory,
             State::Whole | State::Broken { .. } => Source::File(place),
         };
         let item = self.push(above, name, source, entry.date)?;
-        self.places.push(item)?;
+        self.planned.push(Planned::Item(item))?;
         if meta {
             self.push(above, note, Source::Note(place), entry.date)?;
         }

@@ -1,4 +1,6 @@
--- Contracts of the lengths of images, of their sketches and of the names of temporary files.
+-- Contracts of the lengths of images, of their sketches, of the names of temporary files, and of directories that are held open.
 pub mod Beside
+pub mod Held
 pub mod Images
+pub mod New
 pub mod Sketched

@@ -1,4 +1,8 @@
 //! Directories of the host that are held open.
+ghost use Rattle.std.specs.Prelude.{◌≡◌, ◌∷◌, ◌++◌, IfOk, string_bytes};
+ghost use Rattle.std.specs.Path.{slash};
+ghost use Rattle.adf_host.specs.Held.{held_path};
+
 use crate::owned::OwnedFile;
 use std::alloc::{AllocError, Global};
 use std::fs;
@@ -75,7 +79,9 @@ impl<F: OwnedFile> HeldDirectory<F> {
     }
 
     /// The path of a name in this directory, through its handle.
-    pub fn path_of(&self, alloc: Global, name: &str) -> Result<String, AllocError> {
+    pub fn path_of(&self, alloc: Global, name: &str) -> Result<String, AllocError>
+        ensures { IfOk result (λ path. string_bytes path ≡ held_path self.now ++ slash ∷ name.now) }
+    {
         format!(in alloc; "{}/{name}", self.path.as_str())
     }
 
@@ -130,7 +136,7 @@ impl<F: OwnedFile> HeldPlace<F> {
 }
 
 /// The directory of a path, and its last name.
-fn directory_and_name(path: &str) -> (&str, &str) {
+pub(crate) fn directory_and_name(path: &str) -> (&str, &str) {
     match path.rsplit_once('/') {
         Some(("", name)) => ("/", name),
         Some((above, name)) => (above, name),

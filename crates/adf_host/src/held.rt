@@ -1,4 +1,6 @@
 //! Image files that a command locks while it works on them.
+ghost use Rattle.std.specs.Prelude.{◌≡◌, ◌≢◌, IfErr};
+
 use crate::busy::is_locked;
 use crate::directory::FileNumber;
 use crate::image_file::read_open;
@@ -55,7 +57,9 @@ pub fn hold_target<R: Files<File = File>>(
     rt: &R,
     path: &str,
     held: Option<&HeldFile>,
-) -> Result<Option<HeldFile>, HoldFault> {
+) -> Result<Option<HeldFile>, HoldFault>
+    ensures { IfErr result (λ fault. fault ≢ HoldFault.Open) }
+{
     if let Some(held) = held {
         if is_named(rt, &held.file, path) {
             return held.again().map(Some);
@@ -72,7 +76,9 @@ pub fn hold_target<R: Files<File = File>>(
 }
 
 /// Locks a file, unless another command has locked it. A command that only looks whether it is locked does not count.
-fn lock(file: &File) -> Result<(), HoldFault> {
+fn lock(file: &File) -> Result<(), HoldFault>
+    ensures { IfErr result (λ fault. fault ≢ HoldFault.Open) }
+{
     for _ in 0..TRIES {
         match file.try_lock() {
             Ok(()) => return Ok(()),
@@ -104,7 +110,9 @@ impl HeldFile {
     }
 
     /// The same file, locked until both are dropped.
-    fn again(&self) -> Result<HeldFile, HoldFault> {
+    fn again(&self) -> Result<HeldFile, HoldFault>
+        ensures { IfErr result (λ fault. fault ≡ HoldFault.Lock) }
+    {
         match self.file.try_clone() {
             Ok(file) => Ok(HeldFile { file }),
             Err(_) => Err(HoldFault::Lock),

@@ -1,6 +1,7 @@
 //! Image files: read whole, by `load_image`.
-ghost use Rattle.std.specs.Prelude.{MatchOption};
+ghost use Rattle.std.specs.Prelude.{IfOk, MatchOption};
 ghost use Rattle.adf_host.specs.Images.{IsImageLength};
+ghost use Rattle.adf_io.specs.Load.{ReadsAll};
 ghost use Rattle.adf_block.specs.Size.{IsSizeFault};
 
 use adf_block::layout::{BLOCK_BYTES, FEWEST_BLOCKS, MOST_BLOCKS};
@@ -34,10 +35,9 @@ pub fn size_fault(length: u64) -> Option<SizeFault>
 const LARGE: usize = 524_288;
 
 /// Reads the image of an open file. A regular file of a wrong length is refused by its length, and not read.
-pub(crate) fn read_open<F: Read + OpenFile>(
-    alloc: Global,
-    file: &mut F,
-) -> Result<Image, LoadFault> {
+pub(crate) fn read_open<F: Read + OpenFile>(alloc: Global, file: &mut F) -> Result<Image, LoadFault>
+    ensures { IfOk result (ReadsAll (F.remaining file.old) (F.remaining file.new)) }
+{
     match file.metadata() {
         Ok(found) if found.is_file() => match size_fault(found.len()) {
             None => {

@@ -1,5 +1,5 @@
 //! The limit that the host sets on the length of files.
-ghost use Rattle.std.specs.Prelude.{◌≤◌, ◌↔◌, IsOk};
+ghost use Rattle.std.specs.Prelude.{◌≡◌, ◌≤◌, ◌↔◌, IsOk};
 
 use adf_io::read_some;
 use std::fs;
@@ -10,7 +10,9 @@ use std::rt::Files;
 ///
 /// To be called before the file is made: a write past the limit ends the process by a signal. Where the host does not
 /// say what the limit is, there is none.
-pub fn refuse_length<R: Files>(rt: &R, length: u64) -> Result<(), Error> {
+pub fn refuse_length<R: Files>(rt: &R, length: u64) -> Result<(), Error>
+    ensures { length ≡ 0 → IsOk result }
+{
     within(length, file_limit(rt).unwrap_or(u64::MAX))
 }
 

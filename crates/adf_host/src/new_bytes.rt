@@ -1,4 +1,7 @@
 //! The bytes of a new file.
+ghost use Rattle.std.specs.Prelude.{◌≡◌, length};
+ghost use Rattle.adf_host.specs.New.{new_bytes};
+
 use adf_block::Image;
 use adf_io::{store_image, write_output};
 use std::io::{Error, ErrorKind, Result as IoResult, Write};
@@ -12,7 +15,9 @@ pub(crate) enum NewBytes<'a> {
 
 impl NewBytes<'_> {
     /// The number of bytes.
-    pub(crate) fn length(self) -> u64 {
+    pub(crate) fn length(self) -> u64
+        ensures { result ≡ length (new_bytes self.entry) }
+    {
         let bytes = match self {
             NewBytes::Image(image) => image.as_bytes(),
             NewBytes::Bytes(bytes) => bytes,

@@ -4,7 +4,7 @@ use crate::held::{HeldFile, is_same};
 use crate::limit::refuse_length;
 use crate::new_bytes::NewBytes;
 use crate::owned::OwnedFile;
-use crate::temporary::{Leftovers, make_beside, remove_leftovers};
+use crate::temporary::{make_beside, remove_first_leftovers, remove_leftovers};
 use adf_block::Image;
 use std::alloc::{AllocError, Global};
 use std::fs;
@@ -100,7 +100,7 @@ where
     if !may_be(held, &found) {
         return Err(ReplaceFault::Moved);
     }
-    remove_leftovers(rt, alloc, place.path(), Leftovers::All);
+    remove_leftovers(rt, alloc, place.path());
     write_over(rt, alloc, place.path(), &found, bytes, None)
 }
 
@@ -119,7 +119,7 @@ where
     if fs::symlink_metadata(rt, place.path()).is_ok() {
         return Err(ReplaceFault::Target(error));
     }
-    remove_leftovers(rt, alloc, place.path(), Leftovers::All);
+    remove_leftovers(rt, alloc, place.path());
     write_beside(rt, alloc, place.path(), None, bytes, None)
 }
 
@@ -174,7 +174,7 @@ pub fn replace_found<R: Files>(
 where
     R::File: OwnedFile,
 {
-    remove_leftovers(rt, alloc, path, Leftovers::Front);
+    remove_first_leftovers(rt, alloc, path);
     write_over(rt, alloc, path, found, NewBytes::Bytes(bytes), Some(time))
 }
 

@@ -1,5 +1,7 @@
 -- A change is made whole or refused, what a sequence of changes keeps, and how a command ends.
 pub mod Turns
+pub mod KeysBelow
+pub mod Gathering
 pub mod Pruning
 pub mod Denying
 pub mod Rows

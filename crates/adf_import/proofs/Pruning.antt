@@ -3,7 +3,7 @@ use Rattle.std.proofs.Common.{◌≡◌, ◌≢◌, ℕ, ◌⊎◌, inl, inr, Bo
 use Rattle.std.specs.Prelude.{option_and_then}
 use Rattle.std.specs.Option.{option_map_or}
 use Rattle.std.proofs.lemmas.Bool.{cases_eq}
-use Rattle.std.proofs.lemmas.List.{append-nil, map-append}
+use Rattle.std.proofs.lemmas.List.{append-nil}
 use Rattle.std.proofs.lemmas.List.Elements.{Contains-append_cases, Contains-append_left, Contains-append_right}
 use Rattle.ados_name.specs.declared.stamp.Date3.{Date3}
 use Rattle.ados_model.proofs.KeyLists.{Once, Once-before, Once-apart, Contains-split, Contains-cases, Contains-here, Contains-later, Contains-nil}
@@ -17,13 +17,11 @@ use Rattle.ados_change.specs.Conditions.IsUnder.{itself, by_parent as under_pare
 use Rattle.ados_change.proofs.Changed.{nodes_here, nodes_other, relisted, listed_parents}
 use Rattle.ados_model.specs.Objects.{is_under}
 use Rattle.ados_handler.proofs.Under.{under_is_told}
-use Rattle.ados_volume.specs.declared.below.Below.{Below}
-use Rattle.ados_volume.specs.Below.{AreBelow}
 use Rattle.ados_volume.proofs.Loops.{no_loop}
-use Rattle.ados_volume.proofs.GoingBelow.{keys_of}
-use Rattle.adf_import.specs.Pruned.{pruned}
 use Rattle.ados_volume.proofs.Distinct.{Contains-one}
-use Rattle.ados_volume.proofs.AllBelow.{StandsUnder, among_held, among_other, among_under, behind_own, closed, under_among}
+use Rattle.ados_volume.proofs.AllBelow.{StandsUnder}
+use Rattle.adf_import.specs.Pruned.{AreKeysBelow, pruned}
+use Rattle.adf_import.proofs.KeysBelow.{among, held_key, not_top, own_before}
 
 -- of the keys below an entry, the last ones are removed and these are left; everything else is unchanged
 pub record IsShrunk (t u : Tree) (key : ℕ) (rest gone : List ℕ) : Type 0 where
@@ -84,17 +82,17 @@ module _ (u : Tree) (moment : Date3) (key dir : ℕ) (up : parent_of u key ≡ S
   removed_parent k a =
       ap (option_and_then (λ node. node.parent)) (nodes_other key None (left moment key u) k a ∙ ap (λ (v : Tree). v.nodes k) left_is) ∙ listed_parents moment dir others u k
 
-module _ (t : Tree) (moment : Date3) (key : ℕ) (proper : Proper t) (es : List Below) (below : AreBelow t None 0 (entries t key) es) (once : Once (keys_of es)) where
+module _ (t : Tree) (moment : Date3) (key : ℕ) (proper : Proper t) (keys : List ℕ) (below : AreKeysBelow t key keys) where
   -- the next entry to remove: the last of those left
-  module _ (u : Tree) (proper_now : Proper u) (rest gone : List ℕ) (e : ℕ) (split : keys_of es ≡ (rest ++ e ∷ []) ++ gone) (shrunk : IsShrunk t u key (rest ++ e ∷ []) gone) where
-    split_here : keys_of es ≡ rest ++ e ∷ gone
+  module _ (u : Tree) (proper_now : Proper u) (rest gone : List ℕ) (e : ℕ) (split : keys ≡ (rest ++ e ∷ []) ++ gone) (shrunk : IsShrunk t u key (rest ++ e ∷ []) gone) where
+    split_here : keys ≡ rest ++ e ∷ gone
     split_here = split ∙ append_assoc rest (e ∷ []) gone
 
-    is_among : Contains (keys_of es) e
+    is_among : Contains keys e
     is_among = subst (λ (ks : List ℕ). Contains ks e) (sym split_here) (Contains-append_right rest (e ∷ gone) e (Contains-here e gone))
 
     held : StandsUnder t key e
-    held = among_held t proper key es e below is_among
+    held = held_key t proper key keys below e is_among
 
     e_left : Contains (key ∷ (rest ++ e ∷ [])) e
     e_left = Contains-later key (rest ++ e ∷ []) e (Contains-append_right rest (e ∷ []) e (Contains-here e []))
@@ -103,13 +101,13 @@ module _ (t : Tree) (moment : Date3) (key : ℕ) (proper : Proper t) (es : List 
     up_now = shrunk.parents e e_left ∙ held.1
 
     e_other : e ≢ key
-    e_other = among_other t proper key es e below is_among
+    e_other = not_top t proper key keys below e is_among
 
     -- no remaining entry is in it
     none_in : (x : ℕ) → Contains (entries u e) x → ⊥
     none_in x c = elim (contains_or_not (key ∷ ((rest ++ e ∷ []) ++ gone)) x) [
       | inl m ↦ elim (Contains-cases key ((rest ++ e ∷ []) ++ gone) x m) [
-        | inl same ↦ is_left x (subst (Contains (key ∷ (rest ++ e ∷ []))) same (Contains-here key (rest ++ e ∷ []))) up_of_x (λ d. among_other t proper key es x below d (sym same))
+        | inl same ↦ is_left x (subst (Contains (key ∷ (rest ++ e ∷ []))) same (Contains-here key (rest ++ e ∷ []))) up_of_x (λ d. not_top t proper key keys below x d (sym same))
         | inr n ↦ elim (Contains-append_cases (rest ++ e ∷ []) gone x n) [
           | inl l ↦ before x l up_of_x
           | inr g ↦ let none : parent_of u x ≡ None = ap (option_and_then (λ node. node.parent)) (shrunk.gone_nodes x g) in cc (none, up_of_x)
@@ -117,17 +115,17 @@ module _ (t : Tree) (moment : Date3) (key : ℕ) (proper : Proper t) (es : List 
       ]
       | inr out ↦
           let up : parent_of t x ≡ Some e = ap (option_and_then (λ node. node.parent)) (sym (shrunk.outside x out)) ∙ up_of_x in
-          out (Contains-later key ((rest ++ e ∷ []) ++ gone) x (subst (λ (ks : List ℕ). Contains ks x) split (closed t proper None 0 (entries t key) es e x below is_among ((proper.listed e x).1 up))))
+          out (Contains-later key ((rest ++ e ∷ []) ++ gone) x (subst (λ (ks : List ℕ). Contains ks x) split (below.all e x (Contains-later key keys e is_among) ((proper.listed e x).1 up))))
     ]
       where
         up_of_x : parent_of u x ≡ Some e
         up_of_x = (proper_now.listed e x).0 c
 
         -- the contents of the entry are among them
-        is_left : (x : ℕ) → Contains (key ∷ (rest ++ e ∷ [])) x → parent_of u x ≡ Some e → ¬ Contains (keys_of es) x → ⊥
+        is_left : (x : ℕ) → Contains (key ∷ (rest ++ e ∷ [])) x → parent_of u x ≡ Some e → ¬ Contains keys x → ⊥
         is_left x l up out =
             let was : parent_of t x ≡ Some e = sym (shrunk.parents x l) ∙ up in
-            out (closed t proper None 0 (entries t key) es e x below is_among ((proper.listed e x).1 was))
+            out (below.all e x (Contains-later key keys e is_among) ((proper.listed e x).1 was))
 
         -- no contents of the entry come before it
         before : (x : ℕ) → Contains (rest ++ e ∷ []) x → parent_of u x ≡ Some e → ⊥
@@ -136,11 +134,11 @@ module _ (t : Tree) (moment : Date3) (key : ℕ) (proper : Proper t) (es : List 
             elim (Contains-append_cases rest (e ∷ []) x l) [
               | inl in_front ↦
                   let s = Contains-split rest x in_front in
-                  let whole : keys_of es ≡ s.0 ++ x ∷ (s.1 ++ e ∷ gone) = split_here ∙ ap (λ (ks : List ℕ). ks ++ e ∷ gone) s.2 ∙ append_assoc s.0 (x ∷ s.1) (e ∷ gone) in
-                  let m = behind_own t proper key None 0 (entries t key) es s.0 x (s.1 ++ e ∷ gone) below (λ k n. (proper.listed key k).0 n) whole e was in
+                  let whole : keys ≡ s.0 ++ x ∷ (s.1 ++ e ∷ gone) = split_here ∙ ap (λ (ks : List ℕ). ks ++ e ∷ gone) s.2 ∙ append_assoc s.0 (x ∷ s.1) (e ∷ gone) in
+                  let m = own_before t proper key keys below s.0 x (s.1 ++ e ∷ gone) whole e was in
                   elim (Contains-cases key s.0 e m) [
                     | inl same ↦ e_other (sym same)
-                    | inr f ↦ Once-apart s.0 (x ∷ (s.1 ++ e ∷ gone)) e (subst Once whole once) f (Contains-later x (s.1 ++ e ∷ gone) e (Contains-append_right s.1 (e ∷ gone) e (Contains-here e gone)))
+                    | inr f ↦ Once-apart s.0 (x ∷ (s.1 ++ e ∷ gone)) e (subst Once whole below.once) f (Contains-later x (s.1 ++ e ∷ gone) e (Contains-append_right s.1 (e ∷ gone) e (Contains-here e gone)))
                   ]
               | inr own ↦
                   let same : e ≡ x = Contains-one e x own in
@@ -152,7 +150,7 @@ module _ (t : Tree) (moment : Date3) (key : ℕ) (proper : Proper t) (es : List 
     can_remove_last = record { dir = held.0; listed = up_now; empty = no_entries (entries u e) none_in }
 
     dir_among : Contains (key ∷ (rest ++ e ∷ [])) held.0
-    dir_among = elim (Contains-cases key rest held.0 (behind_own t proper key None 0 (entries t key) es rest e gone below (λ k n. (proper.listed key k).0 n) split_here held.0 held.1)) [
+    dir_among = elim (Contains-cases key rest held.0 (own_before t proper key keys below rest e gone split_here held.0 held.1)) [
       | inl same ↦ subst (Contains (key ∷ (rest ++ e ∷ []))) same (Contains-here key (rest ++ e ∷ []))
       | inr m ↦ Contains-later key (rest ++ e ∷ []) held.0 (Contains-append_left rest (e ∷ []) held.0 m)
     ]
@@ -176,7 +174,7 @@ module _ (t : Tree) (moment : Date3) (key : ℕ) (proper : Proper t) (es : List 
       parents = λ k c.
           let other : k ≢ e = λ same. elim (Contains-cases key rest k c) [
             | inl at ↦ e_other (sym same ∙ sym at)
-            | inr m ↦ Once-before rest e gone (subst Once split_here once) (subst (Contains rest) same m)
+            | inr m ↦ Once-before rest e gone (subst Once split_here below.once) (subst (Contains rest) same m)
           ] in
           removed_parent u moment e held.0 up_now k other ∙ shrunk.parents k (elim (Contains-cases key rest k c) [
             | inl at ↦ subst (Contains (key ∷ (rest ++ e ∷ []))) at (Contains-here key (rest ++ e ∷ []))
@@ -194,7 +192,7 @@ module _ (t : Tree) (moment : Date3) (key : ℕ) (proper : Proper t) (es : List 
         ]
 
   -- when nothing is left below the entry, it is removed too
-  module _ (u : Tree) (proper_now : Proper u) (shrunk : IsShrunk t u key [] (keys_of es)) (dir : ℕ) (up : parent_of t key ≡ Some dir) where
+  module _ (u : Tree) (proper_now : Proper u) (shrunk : IsShrunk t u key [] keys) (dir : ℕ) (up : parent_of t key ≡ Some dir) where
     up_still : parent_of u key ≡ Some dir
     up_still = shrunk.parents key (Contains-here key []) ∙ up
 
@@ -202,8 +200,8 @@ module _ (t : Tree) (moment : Date3) (key : ℕ) (proper : Proper t) (es : List 
     can_remove_it = record { dir = dir; listed = up_still; empty = no_entries (entries u key) (λ x c. none_left x ((proper_now.listed key x).0 c)) }
       where
         none_left : (x : ℕ) → parent_of u x ≡ Some key → ⊥
-        none_left x p = elim (contains_or_not (key ∷ keys_of es) x) [
-          | inl m ↦ elim (Contains-cases key (keys_of es) x m) [
+        none_left x p = elim (contains_or_not (key ∷ keys) x) [
+          | inl m ↦ elim (Contains-cases key keys x m) [
             | inl same ↦
                 let was : parent_of t key ≡ Some key = sym (shrunk.parents key (Contains-here key [])) ∙ ap (parent_of u) same ∙ p in
                 let n = parent_in (t.nodes key) key was in
@@ -212,13 +210,13 @@ module _ (t : Tree) (moment : Date3) (key : ℕ) (proper : Proper t) (es : List 
           ]
           | inr out ↦
               let was : parent_of t x ≡ Some key = ap (option_and_then (λ node. node.parent)) (sym (shrunk.outside x out)) ∙ p in
-              out (under_among t proper key es x below (under_parent was (itself refl)))
+              out (among t proper key keys below x (under_parent was (itself refl)))
         ]
 
-    dir_out : ¬ Contains (key ∷ keys_of es) dir
+    dir_out : ¬ Contains (key ∷ keys) dir
     dir_out m =
         let n = parent_in (t.nodes key) dir up in
-        no_loop t proper key dir (proper.rooted key n.0 n.1) up (elim (Contains-cases key (keys_of es) dir m) [ inl same ↦ itself (sym same) | inr c ↦ among_under t proper key es dir below c ])
+        no_loop t proper key dir (proper.rooted key n.0 n.1) up (elim (Contains-cases key keys dir m) [ inl same ↦ itself (sym same) | inr c ↦ below.below dir c ])
 
     same_entries : entries u dir ≡ entries t dir
     same_entries = ap (λ (o : Option Node). entries_in (option_map (λ node. node.content) o)) (shrunk.outside dir dir_out)
@@ -228,27 +226,27 @@ module _ (t : Tree) (moment : Date3) (key : ℕ) (proper : Proper t) (es : List 
     same_others = ap (filter (λ k. not (k == key))) same_entries
 
     -- the nodes at or below the entry are gone in both trees
-    node_under : (k : ℕ) → Contains (key ∷ keys_of es) k → (removed moment key u).nodes k ≡ (pruned moment key t).nodes k
-    node_under k m = gone_now (Contains-cases key (keys_of es) k m) ∙ sym (ap (λ (b : Bool). if b then None else (removed moment key t).nodes k) told)
+    node_under : (k : ℕ) → Contains (key ∷ keys) k → (removed moment key u).nodes k ≡ (pruned moment key t).nodes k
+    node_under k m = gone_now (Contains-cases key keys k m) ∙ sym (ap (λ (b : Bool). if b then None else (removed moment key t).nodes k) told)
       where
-        gone_now : (key ≡ k) ⊎ Contains (keys_of es) k → (removed moment key u).nodes k ≡ None
+        gone_now : (key ≡ k) ⊎ Contains keys k → (removed moment key u).nodes k ≡ None
         gone_now (inl same) = ap (removed moment key u).nodes (sym same) ∙ removed_here u moment key dir up_still
         gone_now (inr c) =
-            removed_other u moment key dir up_still k (among_other t proper key es k below c) (λ same. dir_out (subst (Contains (key ∷ keys_of es)) same (Contains-later key (keys_of es) k c)))
+            removed_other u moment key dir up_still k (not_top t proper key keys below k c) (λ same. dir_out (subst (Contains (key ∷ keys)) same (Contains-later key keys k c)))
             ∙ shrunk.gone_nodes k c
 
-        there : (key ≡ k) ⊎ Contains (keys_of es) k → IsSome (t.nodes k) × IsUnder t key k
+        there : (key ≡ k) ⊎ Contains keys k → IsSome (t.nodes k) × IsUnder t key k
         there (inl same) = let n = parent_in (t.nodes key) dir up in (ap (λ (i : ℕ). is_some (t.nodes i)) (sym same) ∙ ap is_some n.1, itself (sym same))
-        there (inr c) = let h = among_held t proper key es k below c in let n = parent_in (t.nodes k) h.0 h.1 in (ap is_some n.1, under_parent h.1 h.2)
+        there (inr c) = let h = held_key t proper key keys below k c in let n = parent_in (t.nodes k) h.0 h.1 in (ap is_some n.1, under_parent h.1 h.2)
 
         told : is_under t key k ≡ true
-        told = let w = there (Contains-cases key (keys_of es) k m) in (under_is_told t proper key k w.0).1 w.1
+        told = let w = there (Contains-cases key keys k m) in (under_is_told t proper key k w.0).1 w.1
 
     -- the other nodes are the same
-    node_outside : (k : ℕ) → ¬ Contains (key ∷ keys_of es) k → (removed moment key u).nodes k ≡ (removed moment key t).nodes k
+    node_outside : (k : ℕ) → ¬ Contains (key ∷ keys) k → (removed moment key u).nodes k ≡ (removed moment key t).nodes k
     node_outside k out = elim (cases_eq k dir) [
       | inl at ↦
-          let dir_other : dir ≢ key = λ same. dir_out (subst (Contains (key ∷ keys_of es)) (sym same) (Contains-here key (keys_of es))) in
+          let dir_other : dir ≢ key = λ same. dir_out (subst (Contains (key ∷ keys)) (sym same) (Contains-here key keys)) in
           ap (removed moment key u).nodes at ∙ removed_dir u moment key dir up_still dir_other
           ∙ ap₂ (λ (ks : List ℕ) (o : Option Node). option_map (relisted moment ks) o) same_others (shrunk.outside dir dir_out)
           ∙ sym (removed_dir t moment key dir up dir_other) ∙ ap (removed moment key t).nodes (sym at)
@@ -256,23 +254,23 @@ module _ (t : Tree) (moment : Date3) (key : ℕ) (proper : Proper t) (es : List 
     ]
       where
         k_other : k ≢ key
-        k_other same = out (subst (Contains (key ∷ keys_of es)) (sym same) (Contains-here key (keys_of es)))
+        k_other same = out (subst (Contains (key ∷ keys)) (sym same) (Contains-here key keys))
 
-    told_outside : (k : ℕ) → ¬ Contains (key ∷ keys_of es) k → (removed moment key t).nodes k ≡ (pruned moment key t).nodes k
+    told_outside : (k : ℕ) → ¬ Contains (key ∷ keys) k → (removed moment key t).nodes k ≡ (pruned moment key t).nodes k
     told_outside k out = go (t.nodes k) refl (is_under t key k) refl
       where
         nothing : t.nodes k ≡ None → (removed moment key t).nodes k ≡ None
         nothing e = removed_other t moment key dir up k
-            (λ same. out (subst (Contains (key ∷ keys_of es)) (sym same) (Contains-here key (keys_of es))))
+            (λ same. out (subst (Contains (key ∷ keys)) (sym same) (Contains-here key keys)))
             (λ same. let listed = (proper.listed dir key).1 up in let n = directory_node t proper dir key listed in let none : t.nodes dir ≡ None = ap t.nodes (sym same) ∙ e in cc (none, n.2)) ∙ e
 
         go : (o : Option Node) → t.nodes k ≡ o → (b : Bool) → is_under t key k ≡ b → (removed moment key t).nodes k ≡ (if is_under t key k then None else (removed moment key t).nodes k)
         go o e false told = sym (ap (λ (b : Bool). if b then None else (removed moment key t).nodes k) told)
         go None e true told = nothing e ∙ sym (ap (λ (b : Bool). if b then None else (removed moment key t).nodes k) told)
-        go (Some a) e true told = absurd (out (under_among t proper key es k below ((under_is_told t proper key k (ap is_some e)).0 told)))
+        go (Some a) e true told = absurd (out (among t proper key keys below k ((under_is_told t proper key k (ap is_some e)).0 told)))
 
     pruned_node : (k : ℕ) → (removed moment key u).nodes k ≡ (pruned moment key t).nodes k
-    pruned_node k = elim (contains_or_not (key ∷ keys_of es) k) [ inl m ↦ node_under k m | inr out ↦ node_outside k out ∙ told_outside k out ]
+    pruned_node k = elim (contains_or_not (key ∷ keys) k) [ inl m ↦ node_under k m | inr out ↦ node_outside k out ∙ told_outside k out ]
 
     pub pruned_is : removed moment key u ≡ pruned moment key t
     pruned_is =
@@ -295,40 +293,37 @@ pub record IsPruning (t : Tree) (key : ℕ) (all image rest : List ℕ) : Type 0
 pub pruning_starts : (t : Tree) (key : ℕ) (all image : List ℕ) → Stands image t → IsPruning t key all image all
 pruning_starts t key all image s = record { now = t; gone = []; stands = s; split = sym (append-nil all); shrunk = shrunk_at_first t key all }
 
-module _ (t : Tree) (moment : Date3) (key : ℕ) (proper : Proper t) (es : List Below) (below : AreBelow t None 0 (entries t key) es) (once : Once (keys_of es)) (image : List ℕ) where
-  module _ (waiting rest : List Below) (e : Below) (last : waiting ≡ rest ++ e ∷ []) (p : IsPruning t key (keys_of es) image (keys_of waiting)) where
-    keys_left : keys_of waiting ≡ keys_of rest ++ e.key ∷ []
-    keys_left = ap keys_of last ∙ map-append (λ (e : Below). e.key) rest (e ∷ [])
+module _ (t : Tree) (moment : Date3) (key : ℕ) (proper : Proper t) (keys : List ℕ) (below : AreKeysBelow t key keys) (image : List ℕ) where
+  module _ (waiting rest : List ℕ) (e : ℕ) (last : waiting ≡ rest ++ e ∷ []) (p : IsPruning t key keys image waiting) where
+    shrunk_so_far : IsShrunk t p.now key (rest ++ e ∷ []) p.gone
+    shrunk_so_far = subst (λ (ks : List ℕ). IsShrunk t p.now key ks p.gone) last p.shrunk
 
-    shrunk_so_far : IsShrunk t p.now key (keys_of rest ++ e.key ∷ []) p.gone
-    shrunk_so_far = subst (λ (ks : List ℕ). IsShrunk t p.now key ks p.gone) keys_left p.shrunk
+    split_so_far : keys ≡ (rest ++ e ∷ []) ++ p.gone
+    split_so_far = p.split ∙ ap (λ (ks : List ℕ). ks ++ p.gone) last
 
-    split_so_far : keys_of es ≡ (keys_of rest ++ e.key ∷ []) ++ p.gone
-    split_so_far = p.split ∙ ap (λ (ks : List ℕ). ks ++ p.gone) keys_left
-
-    pub can_remove_next : (u : Tree) → Stands image u → CanRemove u e.key
+    pub can_remove_next : (u : Tree) → Stands image u → CanRemove u e
     can_remove_next u s =
-        subst (λ (v : Tree). CanRemove v e.key) (one_tree image p.now u p.stands s)
-        (can_remove_last t moment key proper es below once p.now p.stands.proper (keys_of rest) p.gone e.key split_so_far shrunk_so_far)
+        subst (λ (v : Tree). CanRemove v e) (one_tree image p.now u p.stands s)
+        (can_remove_last t moment key proper keys below p.now p.stands.proper rest p.gone e split_so_far shrunk_so_far)
 
-    pub pruning_goes_on : (new : List ℕ) → ((u : Tree) → Stands image u → Stands new (removed moment e.key u)) → IsPruning t key (keys_of es) new (keys_of rest)
+    pub pruning_goes_on : (new : List ℕ) → ((u : Tree) → Stands image u → Stands new (removed moment e u)) → IsPruning t key keys new rest
     pruning_goes_on new stands = record {
-      now = removed moment e.key p.now;
-      gone = e.key ∷ p.gone;
+      now = removed moment e p.now;
+      gone = e ∷ p.gone;
       stands = stands p.now p.stands;
-      split = split_so_far ∙ append_assoc (keys_of rest) (e.key ∷ []) p.gone;
-      shrunk = shrunk_more t moment key proper es below once p.now p.stands.proper (keys_of rest) p.gone e.key split_so_far shrunk_so_far;
+      split = split_so_far ∙ append_assoc rest (e ∷ []) p.gone;
+      shrunk = shrunk_more t moment key proper keys below p.now p.stands.proper rest p.gone e split_so_far shrunk_so_far;
     }
 
-  module _ (dir : ℕ) (up : parent_of t key ≡ Some dir) (p : IsPruning t key (keys_of es) image []) where
-    shrunk_at_last : IsShrunk t p.now key [] (keys_of es)
+  module _ (dir : ℕ) (up : parent_of t key ≡ Some dir) (p : IsPruning t key keys image []) where
+    shrunk_at_last : IsShrunk t p.now key [] keys
     shrunk_at_last = subst (IsShrunk t p.now key []) (sym p.split) p.shrunk
 
     pub can_remove_top : (u : Tree) → Stands image u → CanRemove u key
     can_remove_top u s =
         subst (λ (v : Tree). CanRemove v key) (one_tree image p.now u p.stands s)
-        (can_remove_it t moment key proper es below once p.now p.stands.proper shrunk_at_last dir up)
+        (can_remove_it t moment key proper keys below p.now p.stands.proper shrunk_at_last dir up)
 
     pub pruning_ends : (new : List ℕ) → ((u : Tree) → Stands image u → Stands new (removed moment key u)) → Stands new (pruned moment key t)
     pruning_ends new stands =
-        subst (Stands new) (pruned_is t moment key proper es below once p.now p.stands.proper shrunk_at_last dir up) (stands p.now p.stands)
+        subst (Stands new) (pruned_is t moment key proper keys below p.now p.stands.proper shrunk_at_last dir up) (stands p.now p.stands)

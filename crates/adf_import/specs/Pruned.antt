@@ -1,10 +1,10 @@
 -- An entry removed with everything below it.
-use Rattle.std.specs.Prelude.{◌≡◌, ◌≢◌, ℕ, Bool, false, if◌then◌else◌, None, Result, MatchResult, IsTrue}
+use Rattle.std.specs.Prelude.{◌≡◌, ◌≢◌, ℕ, Bool, false, if◌then◌else◌, List, ◌∷◌, ◌++◌, AllPairs, Contains, None, Some, Result, MatchResult, IsTrue}
 use Rattle.ados_name.specs.declared.stamp.Date3.{Date3}
 use Rattle.ados_name.specs.Name.{denies_delete}
 use Rattle.ados_model.specs.declared.dos_error.DosError.{DosError}
 use Rattle.ados_model.specs.declared.dos_error.DosError.TheVariants.{DeleteProtected, NoFreeStore, ObjectWrongType}
-use Rattle.ados_model.specs.Tree.{Tree, root}
+use Rattle.ados_model.specs.Tree.{Tree, entries, parent_of, root}
 use Rattle.ados_model.specs.Stands.{Stands}
 use Rattle.ados_model.specs.Change.{removed}
 use Rattle.ados_change.specs.Conditions.{IsUnder}
@@ -16,6 +16,13 @@ abbrev pub pruned : Date3 → ℕ → Tree → Tree
 pruned moment key t =
     let u = removed moment key t in
     record u { nodes = λ k. if is_under t key k then None else u.nodes k }
+
+-- the keys of everything below an object: each once, and each after the key of its directory, if that is not the object
+pub record AreKeysBelow (t : Tree) (top : ℕ) (keys : List ℕ) : Type 0 where
+  pub once : AllPairs (λ j k. j ≢ k) keys
+  pub below : (key : ℕ) → Contains keys key → IsUnder t top key
+  pub in_order : (front : List ℕ) (key : ℕ) (back : List ℕ) → keys ≡ front ++ key ∷ back → (dir : ℕ) × (parent_of t key ≡ Some dir) × Contains (top ∷ front) dir
+  pub all : (dir key : ℕ) → Contains (top ∷ keys) dir → Contains (entries t dir) key → Contains keys key
 
 -- without `force`, a protection bit of the entry or of one below it denies deletion
 abbrev pub IsDenied : Tree → ℕ → Bool → Type 0

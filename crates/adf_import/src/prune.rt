@@ -1,19 +1,18 @@
 //! Deletion of an entry with everything below it.
 
-ghost use Rattle.std.specs.Prelude.{◌≡◌, ◌≢◌, None, AllPairs, IsTrue, map};
+ghost use Rattle.std.specs.Prelude.{◌≡◌, ◌++◌, IfOk, IsTrue, OnOk};
 ghost use Rattle.std.specs.Bool.{IsFalse};
 ghost use Rattle.ados_model.specs.Tree.{Tree, entries};
 ghost use Rattle.ados_model.specs.Stands.{Stands};
 ghost use Rattle.ados_model.specs.Keys.{HasEntryKey, HasKey};
-ghost use Rattle.ados_volume.specs.Below.{AreBelow};
 ghost use Rattle.adf_import.specs.InTurn.{KeepsInTurn};
-ghost use Rattle.adf_import.specs.Pruned.{IsDenied, Prunes, pruned};
+ghost use Rattle.adf_import.specs.Pruned.{AreKeysBelow, IsDenied, Prunes, pruned};
 
 use crate::entries::is_denied;
 use ados_model::DosError;
 use ados_name::Date3;
-use ados_volume::{Below, Volume, entries_below};
-use std::alloc::Global;
+use ados_volume::{Next, Volume};
+use std::alloc::{AllocError, Global};
 
 /// Deletes an entry with everything below it, and nothing else. With `force` protected entries too. The date of its
 /// directory and the disk date become `moment`.
@@ -35,7 +34,7 @@ pub fn delete_all(
     if key == volume.root() {
         return Err(DosError::ObjectWrongType);
     }
-    let below = match entries_below(alloc, volume, key) {
+    let below = match keys_below(alloc, volume, key) {
         Ok(below) => below,
         Err(_) => return Err(DosError::NoFreeStore),
     };
@@ -46,15 +45,49 @@ pub fn delete_all(
     Ok(())
 }
 
+/// The keys of all entries below an object, each after the key of its directory. The entries of one directory are in
+/// the reverse of its order. So when they are removed from the end of the list on, each is the first of its hash chain.
+fn keys_below(alloc: Global, volume: &Volume, top: u32) -> Result<Vec<u32>, AllocError>
+    requires { HasKey volume.now.image top }
+    ensures { IfOk result (λ keys. (t : Tree) → Stands volume.now.image t → AreKeysBelow t top keys.items) }
+{
+    prove!(volume.image().blocks() >= 16);
+    let mut keys = Vec::new(alloc);
+    let mut waiting = Vec::new(alloc);
+    push_entries(volume, top, &mut waiting)?;
+    while let Some(key) = waiting.pop() {
+        push_entries(volume, key, &mut waiting)?;
+        keys.push(key)?;
+    }
+    Ok(keys)
+}
+
+/// Pushes the keys of a directory's entries, in its order. A file has none.
+fn push_entries(volume: &Volume, dir: u32, keys: &mut Vec<u32>) -> Result<(), AllocError>
+    requires { HasKey volume.now.image dir }
+    ensures { OnOk result ((t : Tree) → Stands volume.now.image t → keys.new.items ≡ keys.old.items ++ entries t dir) }
+{
+    prove!(volume.image().blocks() >= 16);
+    if volume.is_file(dir) {
+        return Ok(());
+    }
+    let mut last = dir;
+    while let Next::Entry(key) = volume.next_from(dir, last) {
+        keys.push(key)?;
+        last = key;
+    }
+    Ok(())
+}
+
 /// Whether a protection bit of the entry, or of one below it, denies deletion, without `force`.
-fn is_any_denied(volume: &Volume, key: u32, below: &[Below], force: bool) -> bool
+fn is_any_denied(volume: &Volume, key: u32, below: &[u32], force: bool) -> bool
     requires key { HasKey volume.now.image key }
-    requires below { (t : Tree) → Stands volume.now.image t → AreBelow t None 0 (entries t key) below.now }
+    requires below { (t : Tree) → Stands volume.now.image t → AreKeysBelow t key below.now }
     ensures denied { IsTrue result → (t : Tree) → Stands volume.now.image t → IsDenied t key force }
     ensures allowed { IsFalse result → (t : Tree) → Stands volume.now.image t → ¬ IsDenied t key force }
 {
     for entry in below {
-        if is_denied(volume, entry.key, force) {
+        if is_denied(volume, *entry, force) {
             return true;
         }
     }
@@ -62,17 +95,16 @@ fn is_any_denied(volume: &Volume, key: u32, below: &[Below], force: bool) -> boo
 }
 
 /// Removes entries from the last to the first, then the entry above them.
-fn remove_all(volume: &mut Volume, key: u32, mut below: Vec<Below>, moment: Date3)
+fn remove_all(volume: &mut Volume, key: u32, mut below: Vec<u32>, moment: Date3)
     requires entry { HasEntryKey volume.old.image key }
-    requires below { (t : Tree) → Stands volume.old.image t → AreBelow t None 0 (entries t key) below.items }
-    requires once { AllPairs (λ j k. j ≢ k) (map (λ entry. entry.key) below.items) }
+    requires below { (t : Tree) → Stands volume.old.image t → AreKeysBelow t key below.items }
     ensures stands { (t : Tree) → Stands volume.old.image t → Stands volume.new.image (pruned moment key t) }
     ensures keeps { KeepsInTurn volume.old.image volume.new.image }
     ensures validated { volume.new.was_validated ≡ volume.old.was_validated }
 {
     prove!(volume.image().blocks() >= 16);
     while let Some(entry) = below.pop() {
-        volume.remove(entry.key, moment);
+        volume.remove(entry, moment);
     }
     volume.remove(key, moment);
 }

@@ -11,9 +11,9 @@ pub if_ok : {A E : Type 0} (r : Result A E) (P Q : A → Type 0) → ((a : A) �
 if_ok (Ok a) P Q f h = f a h
 if_ok (Err e) P Q f h = h
 
-pub both_ok : {A E : Type 0} (r : Result A E) (P Q R : A → Type 0) → ((a : A) → P a → Q a → R a) → IfOk r P → IfOk r Q → IfOk r R
-both_ok (Ok a) P Q R f p q = f a p q
-both_ok (Err e) P Q R f p q = p
+pub all_ok : {A E : Type 0} (r : Result A E) (P Q R S : A → Type 0) → ((a : A) → P a → Q a → R a → S a) → IfOk r P → IfOk r Q → IfOk r R → IfOk r S
+all_ok (Ok a) P Q R S f p q r = f a p q r
+all_ok (Err e) P Q R S f p q r = p
 
 pub on_ok : {A E : Type 0} (r : Result A E) (P Q : Type 0) → (P → Q) → OnOk r P → OnOk r Q
 on_ok (Ok a) P Q f h = f h

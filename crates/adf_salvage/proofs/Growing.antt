@@ -5,12 +5,17 @@ use Rattle.std.proofs.lemmas.Bool.{cases_lt, cases_eq}
 use Rattle.std.proofs.lemmas.List.{get_or_append_left, get_or_push, length-append, length-map}
 use Rattle.std.proofs.lemmas.List.Elements.{Contains-append_left, Contains-append_right}
 use Rattle.adf_block.specs.Image.{block_count}
+use Rattle.adf_block.specs.Whole.{text_at}
+use Rattle.adf_block.specs.declared.layout.TheConstants.{NAME_BYTE}
+use Rattle.ados_name.specs.Name.{IsName}
 use Rattle.ados_volume.specs.declared.below.Below.{Below}
 use Rattle.adf_salvage.specs.declared.gathered.Gathered.{Gathered}
 use Rattle.adf_salvage.specs.declared.salvaged.Salvaged.{Salvaged}
-use Rattle.adf_salvage.specs.Salvaged.{IsSalvaged, broken_length, broken_total, headers_of, located_of}
+use Rattle.adf_salvage.specs.declared.salvaged.State.TheVariants.{Lost}
+use Rattle.adf_salvage.specs.Lost.{IsLost}
+use Rattle.adf_salvage.specs.Salvaged.{IsLostEntry, IsTold, broken_length, broken_total, headers_of, located_of}
 use Rattle.adf_salvage.specs.steps.Giving.{IsGiving}
-use Rattle.adf_salvage.specs.steps.Gathering.{AreGathered, GathersMore, IsNew, place_at}
+use Rattle.adf_salvage.specs.steps.Gathering.{AreGathered, GathersMore, place_at}
 
 headers_more : (xs : List Salvaged) (e : Salvaged) → headers_of (xs ++ e ∷ []) ≡ headers_of xs ++ e.header ∷ []
 headers_more [] e = refl
@@ -39,7 +44,7 @@ none_told P k d l = absurd (omega (arith, l))
 pub gathers_none : (image : List ℕ) (g : Gathered) → g.entries.items ≡ [] → length g.places.items ≡ block_count image → ((block : ℕ) → place_at g.places.items block ≡ None) → IsGiving image g.giving
     → g.giving.left ≤ 4 * length image → AreGathered image g
 gathers_none image g entries size places giving share = record {
-  told = subst (All (IsSalvaged image)) (sym entries) (none_told (IsSalvaged image));
+  told = subst (All (IsTold image)) (sym entries) (none_told (IsTold image));
   size = size;
   placed = λ i l. absurd (omega (arith, l, ap (λ (es : List Salvaged). length (headers_of es)) entries));
   met = λ block some.
@@ -48,9 +53,9 @@ gathers_none image g entries size places giving share = record {
   bounded = omega (arith, share, ap broken_total entries, none_broken);
 }
 
-module _ (image : List ℕ) (old new : Gathered) (g : AreGathered image old) (e : Salvaged) (block : ℕ) (told : IsSalvaged image e) (is : e.header ≡ block) (n : IsNew image old.places.items block) where
+module _ (image : List ℕ) (old new : Gathered) (g : AreGathered image old) (e : Salvaged) (block : ℕ) (told : IsTold image e) (is : e.header ≡ block) (below : block < block_count image) (free : place_at old.places.items block ≡ None) where
   inside : block < length old.places.items
-  inside = omega (arith, n.0.inside.1, g.size)
+  inside = omega (arith, below, g.size)
 
   many : length (headers_of old.entries.items) ≡ length old.entries.items
   many = length-map old.entries.items (λ (entry : Salvaged). entry.header)
@@ -70,7 +75,7 @@ module _ (image : List ℕ) (old new : Gathered) (g : AreGathered image old) (e 
       let here : place_at new.places.items block ≡ Some place = ap (λ (ps : List (Option ℕ)). place_at ps block) noted ∙ now_met place in
       let there : (b : ℕ) → b ≢ block → place_at new.places.items b ≡ place_at old.places.items b = λ b other. ap (λ (ps : List (Option ℕ)). place_at ps b) noted ∙ still place b other in
       let gathered : AreGathered image new = record {
-        told = subst (All (IsSalvaged image)) (sym grown) (all_more (IsSalvaged image) old.entries.items e g.told told);
+        told = subst (All (IsTold image)) (sym grown) (all_more (IsTold image) old.entries.items e g.told told);
         size = ap length noted ∙ length-set old.places.items block (Some place) ∙ g.size;
         placed = λ i l.
             let same : slice_index (headers_of new.entries.items) i ≡ slice_index (headers_of old.entries.items ++ block ∷ []) i = ap (λ (xs : List ℕ). slice_index xs i) more_headers in
@@ -78,7 +83,7 @@ module _ (image : List ℕ) (old new : Gathered) (g : AreGathered image old) (e 
               | inl a ↦
                   (let old_is : slice_index (headers_of new.entries.items) i ≡ slice_index (headers_of old.entries.items) i = same ∙ get_or_append_left (headers_of old.entries.items) (block ∷ []) 0 i a in
                   let other : slice_index (headers_of old.entries.items) i ≢ block = λ z.
-                  let both : Some i ≡ None = sym (g.placed i a) ∙ ap (place_at old.places.items) z ∙ n.1 in absurd (cc both) in
+                  let both : Some i ≡ None = sym (g.placed i a) ∙ ap (place_at old.places.items) z ∙ free in absurd (cc both) in
                   ap (place_at new.places.items) old_is ∙ there (slice_index (headers_of old.entries.items) i) other ∙ g.placed i a)
               | inr a ↦
                   (let last : length (headers_of old.entries.items) ≡ i = omega (arith, a, l, ap length more_headers, length-append (headers_of old.entries.items) (block ∷ [])) in
@@ -100,6 +105,19 @@ module _ (image : List ℕ) (old new : Gathered) (g : AreGathered image old) (e 
         ),
         ap is_some here,
       )
+
+-- a lost entry with the name in its block, if that is valid
+pub lost_told : (image : List ℕ) (block : ℕ) (e : Salvaged) → IsLost image block → e.header ≡ block → (name : List ℕ) → e.name ≡ name → (IsName (text_at image block NAME_BYTE) → name ≡ text_at image block NAME_BYTE)
+    → e.state ≡ Lost → IsLostEntry image e
+lost_told image block e lost is name named valid state = record {
+  lost = subst (IsLost image) (sym is) lost;
+  name = subst (λ (b : ℕ). IsName (text_at image b NAME_BYTE) → e.name ≡ text_at image b NAME_BYTE) (sym is) (λ right. named ∙ valid right);
+  state = state;
+}
+
+-- it takes no share of the bytes
+pub lost_takes_none : (e : Salvaged) (left : ℕ) → e.state ≡ Lost → broken_length e.state + left ≡ left
+lost_takes_none e left is = omega (arith, ap broken_length is)
 
 pub located_more : (xs : List Salvaged) (e : Salvaged) → map located_of (xs ++ e ∷ []) ≡ map located_of xs ++ located_of e ∷ []
 located_more [] e = refl

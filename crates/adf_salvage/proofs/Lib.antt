@@ -3,6 +3,7 @@ pub mod SoundParts
 pub mod OwnBlocks
 pub mod Claiming
 pub mod Growing
+pub mod Following
 pub mod Answering
 pub mod Marked
 pub mod Saving

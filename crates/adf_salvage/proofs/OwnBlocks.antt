@@ -1,9 +1,9 @@
 -- The blocks of a file, while they are gathered.
 use Rattle.std.proofs.lemmas.List.Elements.{All-from_get_or}
-use Rattle.std.proofs.Common.{All, ◌≡◌, ℕ, zero, suc, ◌+◌, ◌-◌, ◌/◌, ◌%◌, ◌<◌, ◌≤◌, inl, inr, Bool, true, false, MatchBool, List, [], ◌∷◌, ◌++◌, length, map, get_or, slice_index, refl, sym, ap, ◌∙◌, subst, arith}
+use Rattle.std.proofs.Common.{All, Contains, ◌≡◌, ℕ, zero, suc, ◌+◌, ◌-◌, ◌/◌, ◌%◌, ◌<◌, ◌≤◌, inl, inr, Bool, true, false, MatchBool, List, [], ◌∷◌, ◌++◌, length, map, get_or, slice_index, refl, sym, ap, ◌∙◌, subst, arith}
 use Rattle.std.specs.List.{range_with_len}
 use Rattle.std.proofs.lemmas.Bool.{cases_lt}
-use Rattle.std.proofs.lemmas.List.{ext_get_or, append_assoc, get_or_append_left, length-append}
+use Rattle.std.proofs.lemmas.List.{ext_get_or, append_assoc, get_or_append_left, get_or_default, length-append}
 use Rattle.std.proofs.lemmas.List.FromFn.{map-range_with_len_more}
 use Rattle.adf_block.specs.declared.layout.Format.TheVariants.{Ofs}
 use Rattle.adf_block.specs.Image.{block_count, long, IsInside}
@@ -11,14 +11,21 @@ use Rattle.adf_block.specs.Fields.{format_of}
 use Rattle.adf_block.specs.declared.layout.TheConstants.{NEXT_DATA}
 use Rattle.ados_model.specs.File.{pointer_block, data_block, data_blocks, extension_blocks}
 use Rattle.ados_data.proofs.Sizes.{in_extensions}
-use Rattle.adf_salvage.specs.Sound.{own_blocks}
-use Rattle.adf_salvage.specs.steps.Parts.{IsHolder, HasHolders, IsDataBlock, HasData, data_needed, extensions_needed, data_before}
-use Rattle.adf_salvage.proofs.SoundParts.{length-extensions, header-is, length-own, own-header, own-data, data-at}
+use Rattle.adf_salvage.specs.Sound.{IsIntact, own_blocks}
+use Rattle.adf_salvage.specs.steps.Parts.{AreUsersBelow, IsHolder, HasHolders, IsDataBlock, HasData, data_needed, extensions_needed, data_before}
+use Rattle.adf_salvage.proofs.SoundParts.{length-extensions, header-is, length-own, own-header, own-data, data-at, lawful_holders, lawful_once}
 
 -- a result, by its meaning for true and for false
 pub decided : (A B : Type 0) (b : Bool) → (b ≡ true → A) → (b ≡ false → B) → MatchBool b A B
 decided A B true f g = f refl
 decided A B false f g = g refl
+
+-- the users of blocks after a file was looked at that used none, or some
+pub users_kept : (image : List ℕ) (n : ℕ) (users : List ℕ) → AreUsersBelow image n users → AreUsersBelow image (n + 1) users
+users_kept image n users h = record { size = h.size; below = λ k d l. omega (arith, h.below k d l) }
+
+pub users_more : (image : List ℕ) (n : ℕ) (old new : List ℕ) → AreUsersBelow image n old → length new ≡ length old → All (λ user. user ≤ n) new → AreUsersBelow image (n + 1) new
+users_more image n old new h same below = record { size = same ∙ h.size; below = λ k d l. omega (arith, below k d l) }
 
 module _ (image : List ℕ) (file : ℕ) where
   -- all pointer blocks were gathered
@@ -29,6 +36,24 @@ module _ (image : List ℕ) (file : ℕ) where
     ext_get_or 0 xs (file ∷ extension_blocks image file) (omega (arith, size, e, length-extensions image file))
         (λ i l. blocks i (omega (arith, l, size)) ∙ sym (header-is image file i (omega (arith, l, size, e)))),
   )
+
+  -- a file is not sound if a pointer block has other fields, comes again, or is followed by one too many
+  pub not_holder : (q block : ℕ) → q ≤ extensions_needed image file → block ≡ pointer_block image file q → ¬ IsHolder image file q block → ¬ IsIntact image file
+  not_holder q block l is wrong h = wrong (subst (IsHolder image file q) (sym is) ((lawful_holders image file h.lawful).holder q l))
+
+  comes_again : (p q block : ℕ) → p < q → q ≤ extensions_needed image file → block ≡ pointer_block image file q → pointer_block image file p ≡ block → ¬ IsIntact image file
+  comes_again p q block l m is again h =
+      lawful_once image file h.lawful p q l (omega (arith, m, length-own image file))
+      (own-header image file p (omega arith) ∙ header-is image file p (omega arith) ∙ again ∙ is ∙ sym (header-is image file q m) ∙ sym (own-header image file q m))
+
+  pub not_again : (xs : List ℕ) (q block : ℕ) → length xs ≡ q → ((p : ℕ) → p < q → slice_index xs p ≡ pointer_block image file p) → Contains xs block → q ≤ extensions_needed image file → block ≡ pointer_block image file q
+      → ¬ IsIntact image file
+  not_again xs q block size blocks (p, l, e) m is =
+      let below : p < q = omega (arith, l, size) in
+      comes_again p q block below m is (sym (blocks p below) ∙ get_or_default xs p 0 block l ∙ e)
+
+  pub not_ended : (q block : ℕ) → q ≡ suc (extensions_needed image file) → block ≡ pointer_block image file q → ¬ (block ≡ 0) → ¬ IsIntact image file
+  not_ended q block e is wrong h = wrong (is ∙ ap (pointer_block image file) e ∙ (lawful_holders image file h.lawful).ends)
 
   module _ (h : HasHolders image file) where
     pub holder_below : (q : ℕ) → q ≤ extensions_needed image file → pointer_block image file q < block_count image

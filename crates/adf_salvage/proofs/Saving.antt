@@ -1,24 +1,30 @@
 -- The entries of all sound headers, and what can be read of them.
-use Rattle.std.proofs.Common.{◌≡◌, ℕ, ◌<◌, List, length, slice_index, Some, IsSome, sym, ap, ◌∙◌, subst, arith}
+use Rattle.std.proofs.Common.{◌≡◌, ℕ, ◌<◌, inl, inr, List, length, get_or, slice_index, Some, IsSome, sym, ap, ◌∙◌, subst, arith}
 use Rattle.std.proofs.lemmas.List.{get_or_default}
 use Rattle.adf_block.specs.Image.{block_count}
 use Rattle.adf_salvage.specs.declared.gathered.Gathered.{Gathered}
 use Rattle.adf_salvage.specs.declared.salvaged.State.{State}
-use Rattle.adf_salvage.specs.declared.salvaged.State.TheVariants.{Directory, Whole, Broken}
-use Rattle.adf_salvage.specs.Salvaged.{AreApart, AreSalvaged, HasState, Saved, SavesSound, broken_total, headers_of}
-use Rattle.adf_salvage.specs.Sound.{IsSoundHeader}
-use Rattle.adf_salvage.specs.steps.Gathering.{AreGathered, place_at}
-use Rattle.adf_salvage.specs.steps.Keeping.{CanBeRead, IsKept}
+use Rattle.adf_salvage.specs.declared.salvaged.State.TheVariants.{Directory, Whole, Lost, Broken}
+use Rattle.adf_salvage.specs.declared.salvaged.Salvaged.{Salvaged}
+use Rattle.adf_salvage.specs.Lost.{IsLost}
+use Rattle.adf_salvage.specs.Salvaged.{AreApart, AreSalvaged, HasState, IsTold, Saved, SavesSound, broken_total, headers_of}
+use Rattle.adf_salvage.specs.steps.Gathering.{AreAllSound, AreGathered, place_at}
+use Rattle.adf_salvage.specs.steps.Keeping.{CanBeRead, IsKept, IsReadable}
 
 -- a sound file that is whole can be read
 can_be_read : (image : List ℕ) (header : ℕ) (state : State) → header < block_count image → HasState image header state → CanBeRead image header state
 can_be_read image header Directory inside h = tt
 can_be_read image header Whole inside h = record { inside = inside; lawful = h.intact.lawful }
 can_be_read image header (Broken missing cut length) inside h = tt
+can_be_read image header Lost inside h = absurd h
+
+told_readable : (image : List ℕ) (entry : Salvaged) → IsTold image entry → IsReadable image entry
+told_readable image entry (inl told) = can_be_read image entry.header entry.state told.header.inside.1 told.state
+told_readable image entry (inr lost) = subst (CanBeRead image entry.header) (sym lost.state) tt
 
 module _ (image : List ℕ) (gathered : Gathered) (g : AreGathered image gathered) where
-  pub all_salvaged : ((block : ℕ) → IsSoundHeader image block → IsSome (place_at gathered.places.items block)) → AreSalvaged image gathered.entries.items
-  all_salvaged met = record {
+  pub all_salvaged : AreAllSound image gathered.places.items → ((block : ℕ) → IsLost image block → IsSome (place_at gathered.places.items block)) → AreSalvaged image gathered.entries.items
+  all_salvaged met lost_met = record {
     told = g.told;
     once = λ i j d l m e.
         let headers = headers_of gathered.entries.items in
@@ -28,19 +34,20 @@ module _ (image : List ℕ) (gathered : Gathered) (g : AreGathered image gathere
         let both : Some i ≡ Some j = sym (g.placed i first) ∙ ap (place_at gathered.places.items) same ∙ g.placed j m in
         let is : i ≡ j = cc both in
         omega (arith, l, is);
-    all = λ block sound. g.met block (met block sound);
+    sound = λ block sound. g.met block (met block sound);
+    lost = λ block lost. g.met block (lost_met block lost);
   }
 
   pub saves_sound : (saved : Saved) → saved.image ≡ image → saved.entries ≡ gathered.entries.items → saved.given ≡ gathered.giving.pieces.items
-      → ((block : ℕ) → IsSoundHeader image block → IsSome (place_at gathered.places.items block)) → SavesSound saved
-  saves_sound saved same are given met = record {
-    salvaged = subst (λ (xs : List ℕ). AreSalvaged xs saved.entries) (sym same) (subst (AreSalvaged image) (sym are) (all_salvaged met));
+      → AreAllSound image gathered.places.items → ((block : ℕ) → IsLost image block → IsSome (place_at gathered.places.items block)) → SavesSound saved
+  saves_sound saved same are given met lost_met = record {
+    salvaged = subst (λ (xs : List ℕ). AreSalvaged xs saved.entries) (sym same) (subst (AreSalvaged image) (sym are) (all_salvaged met lost_met));
     apart = subst AreApart (sym given) g.giving.once;
     bounded = omega (arith, g.bounded, ap broken_total are, ap length same);
   }
 
   pub all_kept : IsKept image gathered.entries.items gathered.giving.pieces.items
   all_kept = record {
-    readable = λ k d l. let told = g.told k d l in can_be_read image _ _ told.header.inside.1 told.state;
+    readable = λ k d l. told_readable image (get_or gathered.entries.items k d) (g.told k d l);
     inside = λ k d l. let marked = g.giving.marked k d l in omega (arith, marked.inside, g.giving.size);
   }

@@ -1,11 +1,12 @@
 -- The descriptions of an image's entries.
-use Rattle.std.specs.Prelude.{◌≡◌, ◌≢◌, ℕ, zero, suc, ◌+◌, ◌*◌, ◌≤◌, ◌⊎◌, Bool, List, [], ◌∷◌, ◌++◌, decimal, length, All, AllPairs, Contains, map, None, Some, false, ⊤}
+use Rattle.std.specs.Prelude.{◌≡◌, ◌≢◌, ℕ, zero, suc, ◌+◌, ◌*◌, ◌≤◌, ◌⊎◌, Bool, List, [], ◌∷◌, ◌++◌, decimal, length, All, AllPairs, Contains, map, None, Some, true, false, ⊤}
 use Rattle.adf_block.specs.Boot.{HasKind}
 use Rattle.adf_block.specs.declared.boot.BootKind.TheVariants.{Ofs, Ffs}
 use Rattle.adf_block.specs.Frame.{OnlyLong}
 use Rattle.adf_block.specs.Fields.{protection}
 use Rattle.adf_block.specs.declared.layout.TheConstants.{COMMENT_BYTE, DATE, NAME_BYTE}
 use Rattle.adf_block.specs.Whole.{text_at}
+use Rattle.ados_name.specs.Name.{IsName}
 use Rattle.ados_model.specs.File.{contents}
 use Rattle.ados_model.specs.Accepted.{Accepts}
 use Rattle.ados_model.specs.Stands.{date_at, Stands}
@@ -18,10 +19,13 @@ use Rattle.adf_salvage.specs.declared.giving.Piece.{Piece}
 use Rattle.adf_salvage.specs.declared.salvaged.Salvaged.{Salvaged}
 use Rattle.adf_salvage.specs.declared.salvaged.State.{State}
 use Rattle.adf_salvage.specs.declared.salvaged.State.TheVariants as states
+use Rattle.adf_salvage.specs.Lost.{IsLost}
 use Rattle.adf_salvage.specs.Sound.{IsSoundHeader, IsWhole}
 
--- how contracts see a salvage: the image as it was read, its entries, and the blocks given to broken files
+-- how contracts see a salvage: whether the image was accepted, the image as it was read, its entries, and the blocks given
+-- to broken files
 pub record Saved : Type 0 where
+  pub accepted : Bool
   pub image : List ℕ
   pub entries : List Salvaged
   pub given : List Piece
@@ -31,11 +35,12 @@ unfoldable pub ended : List ℕ → ℕ → ℕ → List ℕ
 ended name header zero = name
 ended name header (suc endings) = ended name header endings ++ 126 ∷ decimal header
 
--- a directory, a whole file or a broken one
+-- a directory, a whole file or a broken one, each with a sound header
 abbrev pub HasState : List ℕ → ℕ → State → Type 0
 HasState image block states.Directory = HasDirectoryType image block
 HasState image block states.Whole = IsWhole image block
 HasState image block (states.Broken missing cut length) = HasFileType image block × ¬ IsWhole image block
+HasState image block states.Lost = ⊥
 
 -- the header is sound, and the description has its fields; where the entry is, and whether it was recovered, are free
 pub record IsSalvaged (image : List ℕ) (entry : Salvaged) : Type 0 where
@@ -46,15 +51,26 @@ pub record IsSalvaged (image : List ℕ) (entry : Salvaged) : Type 0 where
   pub comment : entry.comment ≡ text_at image entry.header COMMENT_BYTE
   pub state : HasState image entry.header entry.state
 
+-- the entry is lost, and has the name in its block if that is valid; the rest of the description is free
+pub record IsLostEntry (image : List ℕ) (entry : Salvaged) : Type 0 where
+  pub lost : IsLost image entry.header
+  pub name : IsName (text_at image entry.header NAME_BYTE) → entry.name ≡ text_at image entry.header NAME_BYTE
+  pub state : entry.state ≡ states.Lost
+
+-- the description of a sound header, or of a lost entry
+abbrev pub IsTold : List ℕ → Salvaged → Type 0
+IsTold image entry = IsSalvaged image entry ⊎ IsLostEntry image entry
+
 -- the headers of these entries
 abbrev pub headers_of : List Salvaged → List ℕ
 headers_of found = map (λ entry. entry.header) found
 
--- the entries are exactly the sound headers of the image, each once
+-- the entries are exactly the sound headers and the lost entries of the image, each once
 pub record AreSalvaged (image : List ℕ) (found : List Salvaged) : Type 0 where
-  pub told : All (IsSalvaged image) found
+  pub told : All (IsTold image) found
   pub once : AllPairs (λ a b. a ≢ b) (headers_of found)
-  pub all : (block : ℕ) → IsSoundHeader image block → Contains (headers_of found) block
+  pub sound : (block : ℕ) → IsSoundHeader image block → Contains (headers_of found) block
+  pub lost : (block : ℕ) → IsLost image block → Contains (headers_of found) block
 
 -- a directory, or a whole file that has these bytes in the image
 abbrev pub HoldsAll : List ℕ → ℕ → Content → State → Type 0
@@ -102,15 +118,25 @@ pub record IsReadAs (image read : List ℕ) : Type 0 where
   pub known : HasKind image Ofs ⊎ HasKind image Ffs → read ≡ image
   pub rest : OnlyLong 0 0 image read
 
--- the entries are the sound headers of the image, no block is given to two broken files, and all of these together have at
+-- the entries are the sound headers and lost entries of the image, no block is given to two broken files, and all of these together have at
 -- most four times the bytes of the image
 pub record SavesSound (saved : Saved) : Type 0 where
   pub salvaged : AreSalvaged saved.image saved.entries
   pub apart : AreApart saved.given
   pub bounded : broken_total saved.entries ≤ 4 * length saved.image
 
--- the image was accepted, possibly with a new bitmap, and these are the entries of its tree; or they are its sound headers
+-- the image was accepted, possibly with a new bitmap, and these are the entries of its tree
+pub record SavesTree (image : List ℕ) (saved : Saved) : Type 0 where
+  pub accepted : saved.accepted ≡ true
+  pub validated : Bool
+  pub accepts : Accepts image validated saved.image
+  pub tree : (t : Tree) → Stands saved.image t → AreOfTree t saved
+
+-- the image was refused, and these are its sound headers and lost entries
+pub record SavesRest (image : List ℕ) (saved : Saved) : Type 0 where
+  pub refused : saved.accepted ≡ false
+  pub read : IsReadAs image saved.image
+  pub saves : SavesSound saved
+
 abbrev pub Salvages : List ℕ → Saved → Type 0
-Salvages image saved =
-    ((validated : Bool) × Accepts image validated saved.image × ((t : Tree) → Stands saved.image t → AreOfTree t saved))
-    ⊎ (IsReadAs image saved.image × SavesSound saved)
+Salvages image saved = SavesTree image saved ⊎ SavesRest image saved

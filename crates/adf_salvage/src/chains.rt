@@ -1,10 +1,9 @@
 //! The entries along the hash chains, from the root.
-ghost use Rattle.std.specs.Prelude.{◌≡◌, ◌<◌, length, OnOk};
+ghost use Rattle.std.specs.Prelude.{◌<◌, OnOk};
 ghost use Rattle.adf_block.specs.Image.{block_count};
-ghost use Rattle.adf_salvage.specs.steps.Claims.{AreClaims};
+ghost use Rattle.adf_salvage.specs.steps.Claims.{AreWhole};
 ghost use Rattle.adf_salvage.specs.steps.Gathering.{AreGathered};
 
-use crate::claims::Claim;
 use crate::gathered::Gathered;
 use crate::names::Standing;
 use crate::salvaged::State;
@@ -17,23 +16,22 @@ use std::alloc::{AllocError, Global};
 pub(crate) fn add_reached(
     alloc: Global,
     image: &Image,
-    claims: &[Claim],
+    whole: &[bool],
     gathered: &mut Gathered,
 ) -> Result<(), AllocError>
     requires gathered { AreGathered image.now gathered.old }
-    requires count { length claims.now ≡ block_count image.now }
-    requires claims { AreClaims image.now (block_count image.now) claims.now }
+    requires whole { AreWhole image.now (block_count image.now) whole.now }
     ensures { OnOk result (AreGathered image.now gathered.new) }
 {
     prove!(image.blocks() >= 16);
-    add_chains(alloc, image, claims, image.root(), None, gathered)?;
+    add_chains(alloc, image, whole, image.root(), None, gathered)?;
     for place in 0..image.blocks() {
         let Some(entry) = gathered.entries.get(place as usize) else {
             break;
         };
         if matches!(entry.state, State::Directory) && entry.header < image.blocks() {
             let dir = entry.header;
-            add_chains(alloc, image, claims, dir, Some(place as usize), gathered)?;
+            add_chains(alloc, image, whole, dir, Some(place as usize), gathered)?;
         }
     }
     Ok(())
@@ -43,20 +41,19 @@ pub(crate) fn add_reached(
 fn add_chains(
     alloc: Global,
     image: &Image,
-    claims: &[Claim],
+    whole: &[bool],
     dir: u32,
     above: Option<usize>,
     gathered: &mut Gathered,
 ) -> Result<(), AllocError>
     requires dir { dir < block_count image.now }
     requires gathered { AreGathered image.now gathered.old }
-    requires count { length claims.now ≡ block_count image.now }
-    requires claims { AreClaims image.now (block_count image.now) claims.now }
+    requires whole { AreWhole image.now (block_count image.now) whole.now }
     ensures { OnOk result (AreGathered image.now gathered.new) }
 {
     for slot in 0..TABLE_LONGS {
         let first = image.long(dir, FIRST_SLOT + slot);
-        add_chain(alloc, image, claims, first, above, gathered)?;
+        add_chain(alloc, image, whole, first, above, gathered)?;
     }
     Ok(())
 }
@@ -65,14 +62,13 @@ fn add_chains(
 fn add_chain(
     alloc: Global,
     image: &Image,
-    claims: &[Claim],
+    whole: &[bool],
     first: u32,
     above: Option<usize>,
     gathered: &mut Gathered,
 ) -> Result<(), AllocError>
     requires gathered { AreGathered image.now gathered.old }
-    requires count { length claims.now ≡ block_count image.now }
-    requires claims { AreClaims image.now (block_count image.now) claims.now }
+    requires whole { AreWhole image.now (block_count image.now) whole.now }
     ensures { OnOk result (AreGathered image.now gathered.new) }
 {
     let standing = Standing {
@@ -84,7 +80,7 @@ fn add_chain(
         if !gathered.is_new(image, key) {
             break;
         }
-        gathered.add(alloc, image, claims, key, standing)?;
+        gathered.add(alloc, image, whole, key, standing)?;
         key = image.long(key, NEXT_IN_CHAIN);
     }
     Ok(())

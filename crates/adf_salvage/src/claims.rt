@@ -4,8 +4,9 @@ ghost use Rattle.adf_block.specs.Image.{block_count};
 ghost use Rattle.adf_salvage.specs.steps.Claims.{AreClaims, IsNoted, claim_at, with_claim};
 ghost use Rattle.adf_salvage.specs.declared.claims.Claim.TheVariants.{One as one};
 
-use crate::intact::own_blocks;
+use crate::intact::{no_users, own_blocks};
 use adf_block::Image;
+use adf_block::layout::BOOT_BLOCKS;
 use std::alloc::{AllocError, Global};
 
 /// The sound files that name a block.
@@ -37,8 +38,10 @@ pub(crate) fn claims(alloc: Global, image: &Image) -> Result<Vec<Claim>, AllocEr
     ensures claims { IfOk result (λ claims. AreClaims image.now (block_count image.now) claims.items) }
 {
     let mut claims = vec![in alloc; Claim::Free; image.blocks() as usize]?;
-    for file in 0..image.blocks() {
-        if let Some(blocks) = own_blocks(alloc, image, file)? {
+    let mut users = no_users(alloc, image)?;
+    prove!(image.blocks() >= 16);
+    for file in BOOT_BLOCKS..image.blocks() {
+        if let Some(blocks) = own_blocks(alloc, image, file, &mut users)? {
             note(&mut claims, file, &blocks);
         }
     }

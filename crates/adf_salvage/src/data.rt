@@ -72,11 +72,11 @@ pub(crate) fn is_ofs_data(image: &Image, file: u32, i: u32, block: u32) -> bool
     requires block { block < block_count image.now }
     ensures { IsTrue result ↔ HasOfsData image.now file (file_size image.now file) i block }
 {
-    image.sum(block) == 0
-        && image.long(block, PRIMARY_TYPE) == DATA_TYPE
-        && image.long(block, OWN_KEY) == file
+    image.long(block, OWN_KEY) == file
         && u64::from(image.long(block, SEQUENCE)) == u64::from(i) + 1
+        && image.long(block, PRIMARY_TYPE) == DATA_TYPE
         && u64::from(image.long(block, HELD)) == held_in(image.long(file, FILE_SIZE), i)
+        && image.sum(block) == 0
 }
 
 /// The number of data bytes in OFS data block `i` of a file with this size.

@@ -1,16 +1,16 @@
 //! The entries of a damaged image, while they are gathered.
-ghost use Rattle.std.specs.Prelude.{◌≡◌, ◌↔◌, ℕ, None, length, IfOk, IsSome, IsTrue, OnOk};
+ghost use Rattle.std.specs.Prelude.{◌≡◌, ◌<◌, ◌↔◌, ℕ, None, length, IfOk, IsSome, IsTrue, OnOk};
 ghost use Rattle.adf_block.specs.Image.{block_count};
-ghost use Rattle.adf_salvage.specs.steps.Claims.{AreClaims};
+ghost use Rattle.adf_salvage.specs.Lost.{IsLost};
+ghost use Rattle.adf_salvage.specs.steps.Claims.{AreWhole};
 ghost use Rattle.adf_salvage.specs.steps.Gathering.{AreGathered, GathersMore, IsNew, place_at};
 
-use crate::claims::Claim;
 use crate::giving::Giving;
-use crate::header::{is_sound_header, name_of};
+use crate::header::{is_sound_header, name_of, name_of_lost};
 use crate::names::{Names, Standing};
 use crate::salvaged::{Salvaged, State};
 use crate::state::state_of;
-use crate::told::told_of;
+use crate::told::{told_of, told_of_lost};
 use adf_block::Image;
 use std::alloc::{AllocError, Global};
 
@@ -31,7 +31,8 @@ impl Gathered {
     pub(crate) fn new(alloc: Global, image: &Image) -> Result<Gathered, AllocError>
         ensures { IfOk result (AreGathered image.now) }
     {
-        let entries = Vec::with_capacity(alloc, headers_in(image))?;
+        // A block has at most one entry. A list that grows would take twice the memory while it is copied.
+        let entries = Vec::with_capacity(alloc, image.blocks() as usize)?;
         let places = no_places(alloc, image)?;
         let names = Names::new(alloc)?;
         let giving = Giving::new(alloc, image)?;
@@ -51,6 +52,14 @@ impl Gathered {
         block < image.blocks()
             && self.places[block as usize].is_none()
             && is_sound_header(image, block)
+    }
+
+    /// Whether a block has an entry.
+    pub(crate) fn has(&self, block: u32) -> bool
+        requires { block < length self.now.places.items }
+        ensures { IsTrue result ↔ IsSome (place_at self.now.places.items block) }
+    {
+        self.places[block as usize].is_some()
     }
 
     /// The position of the entry of a directory, if its header was found.
@@ -76,14 +85,13 @@ impl Gathered {
         &mut self,
         alloc: Global,
         image: &Image,
-        claims: &[Claim],
+        whole: &[bool],
         block: u32,
         standing: Standing,
     ) -> Result<(), AllocError>
         requires gathered { AreGathered image.now self.old }
         requires met { IsNew image.now self.old.places.items block }
-        requires count { length claims.now ≡ block_count image.now }
-        requires claims { AreClaims image.now (block_count image.now) claims.now }
+        requires whole { AreWhole image.now (block_count image.now) whole.now }
         ensures more { OnOk result (GathersMore image.now self.old self.new) }
         ensures met { OnOk result (IsSome (place_at self.new.places.items block)) }
     {
@@ -91,10 +99,60 @@ impl Gathered {
             unreachable!()
         };
         let place = self.entries.len();
-        let state = state_of(alloc, image, claims, block, place, &mut self.giving)?;
+        let state = state_of(image, whole, block, place, &mut self.giving)?;
         let endings = self.names.take(alloc, standing, name.bytes(), block)?;
         let entry = told_of(image, block, standing, endings, state);
         self.entries.push(entry)?;
+        self.places[block as usize] = Some(place);
+        Ok(())
+    }
+}
+
+impl Gathered {
+    /// Where an entry is that a slot of the root or of a directory names.
+    pub(crate) fn standing_in(&self, dir: u32) -> Standing {
+        let above = self.directory(dir);
+        let found = match above {
+            Some(place) => self.entries.get(place).is_some_and(|entry| entry.found),
+            None => false,
+        };
+        Standing { above, found }
+    }
+
+    /// Where an entry is that follows this one in its hash chain.
+    pub(crate) fn standing_beside(&self, block: u32) -> Standing {
+        let place = self.places.get(block as usize).copied().flatten();
+        match place.and_then(|place| self.entries.get(place)) {
+            Some(entry) => Standing {
+                above: entry.above,
+                found: entry.found,
+            },
+            None => Standing {
+                above: None,
+                found: false,
+            },
+        }
+    }
+
+    /// Adds a lost entry.
+    pub(crate) fn add_lost(
+        &mut self,
+        alloc: Global,
+        image: &Image,
+        block: u32,
+        standing: Standing,
+    ) -> Result<(), AllocError>
+        requires gathered { AreGathered image.now self.old }
+        requires free { place_at self.old.places.items block ≡ None }
+        requires lost { IsLost image.now block }
+        ensures more { OnOk result (GathersMore image.now self.old self.new) }
+        ensures met { OnOk result (IsSome (place_at self.new.places.items block)) }
+    {
+        let place = self.entries.len();
+        let name = name_of_lost(alloc, image, block)?;
+        let endings = self.names.take(alloc, standing, name.bytes(), block)?;
+        self.entries
+            .push(told_of_lost(block, standing, endings, name))?;
         self.places[block as usize] = Some(place);
         Ok(())
     }
@@ -107,15 +165,4 @@ fn no_places(alloc: Global, image: &Image) -> Result<Vec<Option<usize>>, AllocEr
 {
     let places = vec![in alloc; None; image.blocks() as usize]?;
     Ok(places)
-}
-
-/// The number of sound headers of an image.
-fn headers_in(image: &Image) -> usize {
-    let mut count = 0;
-    for block in 0..image.blocks() {
-        if is_sound_header(image, block) {
-            count += 1;
-        }
-    }
-    count
 }

@@ -1,5 +1,5 @@
 //! Headers that are sound by themselves.
-ghost use Rattle.std.specs.Prelude.{◌≡◌, ◌<◌, ◌↔◌, IsTrue, MatchOption};
+ghost use Rattle.std.specs.Prelude.{◌≡◌, ◌<◌, ◌↔◌, IfOk, IsTrue, MatchOption};
 ghost use Rattle.adf_block.specs.Image.{block_count};
 ghost use Rattle.adf_block.specs.Whole.{text_at};
 ghost use Rattle.ados_name.specs.Name.{IsName};
@@ -13,6 +13,8 @@ use adf_block::layout::{
     PRIMARY_TYPE, SECONDARY_TYPE,
 };
 use ados_name::{Comment, Name};
+use itoa::Buffer;
+use std::alloc::{AllocError, Global};
 
 /// Whether a block is the header of a directory or file with the right fields.
 pub(crate) fn is_sound_header(image: &Image, block: u32) -> bool
@@ -58,4 +60,28 @@ pub(crate) fn name_of(image: &Image, key: u32) -> Option<Name>
         return None;
     }
     Name::new(&block[at + 1..at + 1 + length]).ok()
+}
+
+/// The name of a lost entry: that in its block if it is valid, else `block-` and its number.
+pub(crate) fn name_of_lost(alloc: Global, image: &Image, block: u32) -> Result<Name, AllocError>
+    requires { block < block_count image.now }
+    ensures { IfOk result (λ name. IsName (text_at image.now block NAME_BYTE) → name ≡ text_at image.now block NAME_BYTE) }
+{
+    if let Some(name) = name_of(image, block) {
+        return Ok(name);
+    }
+    let mut text = Vec::from_slice(alloc, b"block-")?;
+    text.extend_from_slice(Buffer::new().format(block).as_bytes())?;
+    match Name::new(text.as_slice()) {
+        Ok(name) => Ok(name),
+        Err(_) => Ok(no_name()),
+    }
+}
+
+/// A name for a block whose number is too long for one, which no number is.
+fn no_name() -> Name {
+    let Ok(name) = Name::new(b"block") else {
+        unreachable!()
+    };
+    name
 }

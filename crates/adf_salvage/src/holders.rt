@@ -1,8 +1,9 @@
 //! The pointer blocks of a file: its header and its extension blocks.
-ghost use Rattle.std.specs.Prelude.{◌≡◌, ◌<◌, ◌-◌, ◌*◌, ◌∷◌, min, ◌↔◌, IfOk, IsTrue, MatchOption};
+ghost use Rattle.std.specs.Prelude.{◌≡◌, ◌<◌, ◌-◌, ◌*◌, ◌∷◌, min, ◌↔◌, Contains, IfOk, IsTrue, MatchOption};
 ghost use Rattle.adf_block.specs.Image.{block_count};
 ghost use Rattle.ados_model.specs.Stands.{HasExtension};
 ghost use Rattle.ados_model.specs.File.{extension_blocks};
+ghost use Rattle.adf_salvage.specs.Sound.{IsIntact};
 ghost use Rattle.adf_salvage.specs.steps.Parts.{HasHolders, IsHolder, data_needed};
 
 use adf_block::layout::{
@@ -25,7 +26,7 @@ pub(crate) fn data_needed(image: &Image, file: u32) -> u32
 }
 
 /// The header and the extension blocks of a file with this many data blocks, if each has the right fields for its
-/// position.
+/// position. Those that come again and again are not followed to the end.
 pub(crate) fn holders(
     alloc: Global,
     image: &Image,
@@ -34,13 +35,16 @@ pub(crate) fn holders(
 ) -> Result<Option<Vec<u32>>, AllocError>
     requires inside { file < block_count image.now }
     requires needed { needed ≡ data_needed image.now file }
-    ensures { IfOk result (λ found. MatchOption found (¬ HasHolders image.now file)
+    ensures { IfOk result (λ found. MatchOption found (¬ IsIntact image.now file)
         (λ blocks. HasHolders image.now file × (blocks.items ≡ file ∷ extension_blocks image.now file))) }
 {
     let mut blocks = Vec::new(alloc);
     let mut holder = file;
     for q in 0..needed.div_ceil(TABLE_LONGS).max(1) {
         if !is_holder(image, file, q, holder, needed) {
+            return Ok(None);
+        }
+        if is_again(&blocks, holder) {
             return Ok(None);
         }
         blocks.push(holder)?;
@@ -50,6 +54,16 @@ pub(crate) fn holders(
         return Ok(None);
     }
     Ok(Some(blocks))
+}
+
+/// Whether a block is the one halfway to it. If pointer blocks come again and again, one of the next is (Floyd's rule).
+fn is_again(blocks: &[u32], block: u32) -> bool
+    ensures { IsTrue result → Contains blocks.now block }
+{
+    match blocks.get(blocks.len() / 2) {
+        Some(halfway) => *halfway == block,
+        None => false,
+    }
 }
 
 /// Whether a block can be pointer block `q` of a file with this many data blocks.
@@ -77,9 +91,9 @@ pub(crate) fn is_extension(image: &Image, file: u32, block: u32) -> bool
     requires { block < block_count image.now }
     ensures { IsTrue result ↔ HasExtension image.now file block }
 {
-    image.sum(block) == 0
+    image.long(block, PARENT) == file
         && image.long(block, PRIMARY_TYPE) == LIST_TYPE
         && image.long(block, SECONDARY_TYPE) == FILE_TYPE
         && image.long(block, OWN_KEY) == block
-        && image.long(block, PARENT) == file
+        && image.sum(block) == 0
 }

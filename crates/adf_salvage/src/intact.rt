@@ -1,8 +1,8 @@
 //! Sound files, and their blocks.
-ghost use Rattle.std.specs.Prelude.{◌≡◌, ◌<◌, IfOk, MatchBool, MatchOption, All};
+ghost use Rattle.std.specs.Prelude.{◌≡◌, ◌+◌, ◌<◌, ◌≤◌, length, IfOk, OnOk, MatchBool, MatchOption, All};
 ghost use Rattle.adf_block.specs.Image.{block_count};
 ghost use Rattle.adf_salvage.specs.Sound.{IsIntact, own_blocks};
-ghost use Rattle.adf_salvage.specs.steps.Parts.{AreOnce};
+ghost use Rattle.adf_salvage.specs.steps.Parts.{AreOnce, AreUsersBelow};
 
 use crate::data::push_data;
 use crate::header::{is_file, is_sound_header};
@@ -10,14 +10,19 @@ use crate::holders::{data_needed, holders};
 use adf_block::Image;
 use std::alloc::{AllocError, Global};
 
-/// The blocks of a file, if it is sound: its header, its extension blocks and its data blocks.
+/// The blocks of a file, if it is sound: its header, its extension blocks and its data blocks. `users` has for each block the
+/// last of the files before this one that used it.
+#[tactic(auto, using(crate::proofs::OwnBlocks::users_kept))]
 pub(crate) fn own_blocks(
     alloc: Global,
     image: &Image,
     file: u32,
+    users: &mut Vec<u32>,
 ) -> Result<Option<Vec<u32>>, AllocError>
-    requires { file < block_count image.now }
-    ensures { IfOk result (λ found. MatchOption found (¬ IsIntact image.now file)
+    requires file { file < block_count image.now }
+    requires users { AreUsersBelow image.now file users.old.items }
+    ensures users { OnOk result (AreUsersBelow image.now (file + 1) users.new.items) }
+    ensures own { IfOk result (λ found. MatchOption found (¬ IsIntact image.now file)
         (λ blocks. IsIntact image.now file × (blocks.items ≡ own_blocks image.now file))) }
 {
     if !is_sound_header(image, file) || !is_file(image, file) {
@@ -33,23 +38,33 @@ pub(crate) fn own_blocks(
     if !push_data(image, file, needed, &mut blocks)? {
         return Ok(None);
     }
-    if !are_once(alloc, image.blocks(), &blocks)? {
+    if !are_once(file, &blocks, users) {
         return Ok(None);
     }
     Ok(Some(blocks))
 }
 
-/// Whether these blocks, all below `count`, are distinct.
-fn are_once(alloc: Global, count: u32, blocks: &[u32]) -> Result<bool, AllocError>
-    requires { All (λ block. block < count) blocks.now }
-    ensures { IfOk result (λ once. MatchBool once (AreOnce blocks.now) (¬ AreOnce blocks.now)) }
+/// No block has a user yet: 0 is the header of no file.
+pub(crate) fn no_users(alloc: Global, image: &Image) -> Result<Vec<u32>, AllocError>
+    ensures { IfOk result (λ users. AreUsersBelow image.now 2 users.items) }
 {
-    let mut seen = vec![in alloc; false; count as usize]?;
+    let users = vec![in alloc; 0; image.blocks() as usize]?;
+    Ok(users)
+}
+
+/// Whether these blocks of a file are distinct. The file becomes the last user of each block, up to the first that comes again.
+fn are_once(file: u32, blocks: &[u32], users: &mut Vec<u32>) -> bool
+    requires inside { All (λ block. block < length users.old.items) blocks.now }
+    requires users { All (λ user. user < file) users.old.items }
+    ensures count { length users.new.items ≡ length users.old.items }
+    ensures users { All (λ user. user ≤ file) users.new.items }
+    ensures once { MatchBool result (AreOnce blocks.now) (¬ AreOnce blocks.now) }
+{
     for block in blocks {
-        if seen[*block as usize] {
-            return Ok(false);
+        if users[*block as usize] == file {
+            return false;
         }
-        seen[*block as usize] = true;
+        users[*block as usize] = file;
     }
-    Ok(true)
+    true
 }

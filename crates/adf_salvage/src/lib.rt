@@ -1,5 +1,5 @@
-//! What can be trusted in an image that the check refuses: each sound header, and the bytes of each file whose blocks
-//! no other file names.
+//! What can be trusted in an image that the check refuses: each sound header, the bytes of each file whose blocks no other
+//! file names, and the entries that are lost.
 #![tactic(auto)]
 
 mod chains;
@@ -12,6 +12,7 @@ mod holders;
 mod intact;
 mod kind;
 mod listing;
+mod lost;
 mod names;
 mod pieces;
 mod salvaged;
@@ -20,6 +21,7 @@ mod saved;
 mod state;
 mod told;
 mod unreached;
+mod whole;
 
 pub use giving::Piece;
 pub use salvaged::{Salvaged, State};

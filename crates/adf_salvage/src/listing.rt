@@ -1,5 +1,5 @@
 //! The entries of an accepted volume.
-ghost use Rattle.std.specs.Prelude.{◌≡◌, All, IfOk, Some, map};
+ghost use Rattle.std.specs.Prelude.{◌≡◌, All, IfOk, Some, true, map};
 ghost use Rattle.ados_model.specs.Keys.{HasKey};
 ghost use Rattle.ados_model.specs.Stands.{Stands};
 ghost use Rattle.ados_model.specs.Tree.{Node, Tree};
@@ -13,12 +13,13 @@ use std::alloc::{AllocError, Global};
 
 /// All entries of a volume, in its order, with whole files.
 pub(crate) fn volume_entries(alloc: Global, volume: Volume) -> Result<Salvage, AllocError>
+    ensures accepted { IfOk result (λ saved. saved.accepted ≡ true) }
     ensures image { IfOk result (λ saved. saved.image ≡ volume.image) }
     ensures told { IfOk result (λ saved. (t : Tree) → Stands volume.image t → AreOfTree t saved) }
 {
     let below = entries_below(alloc, &volume, volume.root())?;
     let entries = entries_of(alloc, &volume, &below)?;
-    Ok(Salvage::of(volume.into_image(), entries, Vec::new(alloc)))
+    Ok(Salvage::of(true, volume.into_image(), entries, Vec::new(alloc)))
 }
 
 /// These entries of a volume, with whole files.

@@ -6,7 +6,8 @@ use ados_name::{Comment, Date3, Name, Protect};
 use itoa::Buffer;
 use std::alloc::{AllocError, Global};
 
-/// An entry of an image that can be trusted as far as its state says.
+/// An entry of an image that can be trusted as far as its state says. Of a lost one, only its name and its place mean
+/// something.
 #[derive(Drop)]
 pub struct Salvaged {
     /// The block number of its header.
@@ -17,7 +18,7 @@ pub struct Salvaged {
     /// Whether it was recovered: no hash chain from the root leads to it. Its path then starts with `lost+found`, even
     /// if its directory was not recovered.
     pub found: bool,
-    /// The name in the header.
+    /// The name in the header. If a lost entry has none that is valid, it is `block-` with the number of its block.
     pub name: Name,
     /// How often `~` and the header follow the name, since it is in use in the directory already.
     pub endings: u32,
@@ -32,6 +33,8 @@ pub struct Salvaged {
 pub enum State {
     Directory,
     Whole,
+    /// An entry that its directory or another entry names, without a sound header. Nothing is left of it.
+    Lost,
     /// A file of which only the blocks are left that were given to it. `missing` is the number of its other data
     /// blocks.
     Broken {

@@ -1,25 +1,26 @@
 //! Everything in an image that can be trusted.
-ghost use Rattle.std.specs.Prelude.{◌≡◌, IfOk};
+ghost use Rattle.std.specs.Prelude.{◌≡◌, false, IfOk};
 ghost use Rattle.ados_model.specs.Stands.{Stands};
 ghost use Rattle.ados_model.specs.Tree.{Tree};
 ghost use Rattle.adf_salvage.specs.Salvaged.{AreOfTree, SavesSound, Salvages};
 
 use crate::chains::add_reached;
-use crate::claims::claims;
 use crate::gathered::Gathered;
 use crate::giving::Giving;
 use crate::kind::with_kind;
 use crate::listing::volume_entries;
+use crate::lost::add_lost;
 use crate::saved::Salvage;
 use crate::unreached::add_unreached;
+use crate::whole::whole_files;
 use adf_block::Image;
 use ados_volume::{FaultKind, check};
 use std::alloc::{AllocError, Global};
 
 /// Everything in an image that can be trusted, each header once, a directory before its entries.
 ///
-/// For an image that the check accepts, these are the entries of its tree. For any other, they are its sound headers:
-/// first those along hash chains from the root, then the others. If its first four bytes are neither OFS nor FFS, it
+/// For an image that the check accepts, these are the entries of its tree. For any other, they are its sound headers, first
+/// those along hash chains from the root and then the others, and then its lost entries. If its first four bytes are neither OFS nor FFS, it
 /// is read as the kind that its blocks suggest. A block is given to one broken file at most, to the first in this order,
 /// and all broken files together have at most four times the bytes of the image.
 ///
@@ -37,20 +38,22 @@ pub fn salvage(alloc: Global, image: Image) -> Result<Salvage, AllocError>
     }
 }
 
-/// The entries of all sound headers of an image.
+/// The entries of all sound headers of an image, and its lost entries.
 fn sound_headers(alloc: Global, image: Image) -> Result<Salvage, AllocError>
+    ensures refused { IfOk result (λ saved. saved.accepted ≡ false) }
     ensures image { IfOk result (λ saved. saved.image ≡ image) }
     ensures saves { IfOk result SavesSound }
 {
-    let claims = claims(alloc, &image)?;
+    let whole = whole_files(alloc, &image)?;
     let mut gathered = Gathered::new(alloc, &image)?;
-    add_reached(alloc, &image, &claims, &mut gathered)?;
-    add_unreached(alloc, &image, &claims, &mut gathered)?;
+    add_reached(alloc, &image, &whole, &mut gathered)?;
+    add_unreached(alloc, &image, &whole, &mut gathered)?;
+    add_lost(alloc, &image, &mut gathered)?;
     let Gathered {
         entries,
         giving,
         ..
     } = gathered;
     let Giving { pieces, .. } = giving;
-    Ok(Salvage::of(image, entries, pieces))
+    Ok(Salvage::of(false, image, entries, pieces))
 }

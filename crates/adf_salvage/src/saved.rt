@@ -17,9 +17,10 @@ use std::marker::Model;
 
 /// What can be trusted in an image: its entries, and the bytes of their files when they are asked for.
 ///
-/// Contracts see the image as it was read, the entries, and the blocks given to broken files.
+/// Contracts see whether the image was accepted, the image as it was read, the entries, and the blocks given to broken files.
 #[derive(Drop)]
 pub struct Salvage {
+    accepted: bool,
     image: Image,
     entries: Vec<Salvaged>,
     pieces: Vec<Piece>,
@@ -31,47 +32,61 @@ impl Model for Salvage {
 
     ghost Value = { Saved };
 
-    ghost view = { λ s. record { image = s.image; entries = s.entries.items; given = s.pieces.items } };
+    ghost view = { λ s. record { accepted = s.accepted; image = s.image; entries = s.entries.items; given = s.pieces.items } };
 
     ghost invariant = { λ s. IsKept s.image s.entries.items s.pieces.items };
 }
 
 impl Salvage {
     /// Entries that can be read in an image.
-    pub(crate) fn of(image: Image, entries: Vec<Salvaged>, pieces: Vec<Piece>) -> Salvage
+    pub(crate) fn of(
+        accepted: bool,
+        image: Image,
+        entries: Vec<Salvaged>,
+        pieces: Vec<Piece>,
+    ) -> Salvage
         requires { IsKept image entries.items pieces.items }
+        ensures accepted { result.accepted ≡ accepted }
         ensures image { result.image ≡ image }
         ensures entries { result.entries ≡ entries.items }
         ensures given { result.given ≡ pieces.items }
     {
         Salvage {
+            accepted,
             image,
             entries,
             pieces,
         }
     }
 
-    /// The entries, each header once, a directory before its entries.
+    /// Whether the image was accepted by the check.
+    pub fn is_accepted(&self) -> bool
+        ensures { result ≡ self.now.accepted }
+    {
+        self.accepted
+    }
+
+    /// The entries, each block once, a directory before its entries. Lost entries come last.
     pub fn entries(&self) -> &[Salvaged]
         ensures { result.now ≡ self.now.entries }
     {
         self.entries.as_slice()
     }
 
-    /// The number of bytes of the file at this position of the entries; 0 for a directory.
+    /// The number of bytes of the file at this position of the entries; 0 for a directory and a lost entry.
     pub fn size_of(&self, place: usize) -> usize
         requires { place < length self.now.entries }
         ensures { (entry : Entry) → IsAt self.now.entries place entry → result ≡ size_of self.now.image entry.header entry.state }
     {
         let entry = &self.entries[place];
         match entry.state {
-            State::Directory => 0,
+            State::Directory | State::Lost => 0,
             State::Whole => self.image.long(entry.header, FILE_SIZE) as usize,
             State::Broken { length, .. } => length,
         }
     }
 
-    /// The bytes of the file at this position of the entries; none for a directory.
+    /// The bytes of the file at this position of the entries; none for a directory and a lost entry.
     pub fn bytes_of(&self, alloc: Global, place: usize) -> Result<Vec<u8>, AllocError>
         requires { place < length self.now.entries }
         ensures { IfOk result (λ bytes. (entry : Entry) → IsAt self.now.entries place entry
@@ -79,7 +94,7 @@ impl Salvage {
     {
         let entry = &self.entries[place];
         match entry.state {
-            State::Directory => Ok(Vec::new(alloc)),
+            State::Directory | State::Lost => Ok(Vec::new(alloc)),
             State::Whole => whole_bytes(alloc, &self.image, entry.header),
             State::Broken { length, .. } => {
                 pieced(alloc, &self.image, self.pieces.as_slice(), place, length)

@@ -4,6 +4,7 @@ ghost use Rattle.adf_block.specs.Image.{block_count, byte_at};
 ghost use Rattle.adf_block.specs.Whole.{text_at};
 ghost use Rattle.ados_model.specs.Stands.{date_at};
 ghost use Rattle.adf_salvage.specs.Salvaged.{HasState, IsSalvaged};
+ghost use Rattle.adf_salvage.specs.declared.salvaged.State.TheVariants.{Lost};
 ghost use Rattle.adf_salvage.specs.Sound.{IsSoundHeader};
 
 use crate::header::name_of;
@@ -11,7 +12,7 @@ use crate::names::Standing;
 use crate::salvaged::{Salvaged, State};
 use adf_block::Image;
 use adf_block::layout::{COMMENT_BYTE, DATE, PROTECTION};
-use ados_name::{Comment, Date3, Protect};
+use ados_name::{Comment, Date3, Name, Protect};
 
 /// The entry of a sound header, with this state.
 pub(crate) fn told_of(
@@ -84,5 +85,28 @@ fn as_comment(text: &[u8]) -> Comment
     match Comment::new(text) {
         Ok(comment) => comment,
         Err(_) => unreachable!(),
+    }
+}
+
+/// The entry of a lost block.
+pub(crate) fn told_of_lost(block: u32, standing: Standing, endings: u32, name: Name) -> Salvaged
+    ensures header { result.header ≡ block }
+    ensures name { result.name ≡ name }
+    ensures state { result.state ≡ Lost }
+{
+    Salvaged {
+        header: block,
+        above: standing.above,
+        found: standing.found,
+        name,
+        endings,
+        protection: Protect(0),
+        date: Date3 {
+            days: 0,
+            minutes: 0,
+            ticks: 0,
+        },
+        comment: as_comment(b""),
+        state: State::Lost,
     }
 }

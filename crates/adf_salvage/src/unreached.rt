@@ -2,10 +2,9 @@
 ghost use Rattle.std.specs.Prelude.{◌≡◌, ℕ, length, IsSome, OnOk};
 ghost use Rattle.adf_block.specs.Image.{block_count};
 ghost use Rattle.adf_salvage.specs.Sound.{IsSoundHeader};
-ghost use Rattle.adf_salvage.specs.steps.Claims.{AreClaims};
+ghost use Rattle.adf_salvage.specs.steps.Claims.{AreWhole};
 ghost use Rattle.adf_salvage.specs.steps.Gathering.{AreGathered, GathersMore, IsNew, place_at};
 
-use crate::claims::Claim;
 use crate::gathered::Gathered;
 use crate::names::Standing;
 use adf_block::Image;
@@ -16,12 +15,11 @@ use std::alloc::{AllocError, Global};
 pub(crate) fn add_unreached(
     alloc: Global,
     image: &Image,
-    claims: &[Claim],
+    whole: &[bool],
     gathered: &mut Gathered,
 ) -> Result<(), AllocError>
     requires gathered { AreGathered image.now gathered.old }
-    requires count { length claims.now ≡ block_count image.now }
-    requires claims { AreClaims image.now (block_count image.now) claims.now }
+    requires whole { AreWhole image.now (block_count image.now) whole.now }
     ensures gathered { OnOk result (AreGathered image.now gathered.new) }
     ensures all { OnOk result ((block : ℕ) → IsSoundHeader image.now block → IsSome (place_at gathered.new.places.items block)) }
 {
@@ -29,7 +27,7 @@ pub(crate) fn add_unreached(
     let mut climbed = vec![in alloc; false; image.blocks() as usize]?;
     for block in 0..image.blocks() {
         if gathered.is_new(image, block) {
-            add_with_parents(alloc, image, claims, block, &mut climbed, gathered)?;
+            add_with_parents(alloc, image, whole, block, &mut climbed, gathered)?;
         }
     }
     Ok(())
@@ -56,7 +54,7 @@ fn take_asides(alloc: Global, image: &Image, gathered: &mut Gathered) -> Result<
 fn add_with_parents(
     alloc: Global,
     image: &Image,
-    claims: &[Claim],
+    whole: &[bool],
     block: u32,
     climbed: &mut Vec<bool>,
     gathered: &mut Gathered,
@@ -64,8 +62,7 @@ fn add_with_parents(
     requires met { IsNew image.now gathered.old.places.items block }
     requires climbed { length climbed.old.items ≡ block_count image.now }
     requires gathered { AreGathered image.now gathered.old }
-    requires count { length claims.now ≡ block_count image.now }
-    requires claims { AreClaims image.now (block_count image.now) claims.now }
+    requires whole { AreWhole image.now (block_count image.now) whole.now }
     ensures climbed { length climbed.new.items ≡ block_count image.now }
     ensures more { OnOk result (GathersMore image.now gathered.old gathered.new) }
     ensures met { OnOk result (IsSome (place_at gathered.new.places.items block)) }
@@ -84,22 +81,21 @@ fn add_with_parents(
         key = image.long(key, PARENT);
     }
     while let Some(dir) = above.pop() {
-        add_found(alloc, image, claims, dir, gathered)?;
+        add_found(alloc, image, whole, dir, gathered)?;
     }
-    add_found(alloc, image, claims, block, gathered)
+    add_found(alloc, image, whole, block, gathered)
 }
 
 /// Adds a header that no hash chain leads to, unless it was found already.
 fn add_found(
     alloc: Global,
     image: &Image,
-    claims: &[Claim],
+    whole: &[bool],
     block: u32,
     gathered: &mut Gathered,
 ) -> Result<(), AllocError>
     requires gathered { AreGathered image.now gathered.old }
-    requires count { length claims.now ≡ block_count image.now }
-    requires claims { AreClaims image.now (block_count image.now) claims.now }
+    requires whole { AreWhole image.now (block_count image.now) whole.now }
     ensures more { OnOk result (GathersMore image.now gathered.old gathered.new) }
     ensures met { OnOk result (IsSoundHeader image.now block → IsSome (place_at gathered.new.places.items block)) }
 {
@@ -110,5 +106,5 @@ fn add_found(
         above: gathered.directory(image.long(block, PARENT)),
         found: true,
     };
-    gathered.add(alloc, image, claims, block, standing)
+    gathered.add(alloc, image, whole, block, standing)
 }

@@ -3,7 +3,7 @@ ghost use Rattle.std.specs.Prelude.{◌≡◌, ◌≢◌, ◌⊎◌, [], true, f
 ghost use Rattle.adf_serve.specs.Commands.{RunsCommand};
 ghost use Rattle.adf_serve.specs.Script.{RunsScript};
 
-use crate::held::tell_held;
+use crate::held::tell_job;
 use crate::script::try_script;
 use adf_archive::ReadImages;
 use adf_commands::{run_job, status_of};
@@ -52,7 +52,7 @@ where
     match read_words(alloc, words) {
         Ok(Job::Script) => run_script(alloc, reader, writer, faults),
         Ok(Job::OnImage(job)) => {
-            tell_held(rt, alloc, &job, faults);
+            tell_job(rt, &job, faults);
             let watched = faults.is_terminal();
             let done = run_job(rt, alloc, job, watched, writer, faults);
             status_of(done, faults)

@@ -1,13 +1,14 @@
 -- The text of a date: it belongs to one date only, its letters, and where it ends.
-use Rattle.std.proofs.Common.{◌≡◌, ℕ, suc, ℤ, pos, negsuc, ◌+ℤ◌, ◌-ℤ◌, ◌+◌, ◌*◌, ◌/◌, ◌%◌, ◌<◌, ◌≤◌, ◌^◌, ◌==◌, Bool, true, false, List, [], ◌∷◌, ◌++◌, Option, Some, length, take, drop, All, append_assoc, refl, sym, ap, subst, ◌∙◌, arith}
+use Rattle.std.proofs.Common.{◌≡◌, ℕ, suc, ℤ, pos, negsuc, ◌+ℤ◌, ◌-ℤ◌, ◌+◌, ◌*◌, ◌/◌, ◌%◌, ◌<◌, ◌≤◌, ◌^◌, ◌==◌, ◌≢◌, Bool, true, false, List, [], ◌∷◌, ◌++◌, Option, None, Some, length, take, drop, All, append_assoc, append-nil, refl, sym, ap, subst, ◌∙◌, arith}
 use Rattle.std.specs.Bool.{MatchBool, ⊤}
 use Rattle.std.specs.Char.{digit_value}
 use Rattle.std.specs.Fmt.{decimal}
+use Rattle.std.specs.Option.{MatchOption}
 use Rattle.std.specs.Prelude.{codes, ◌&&◌, nat_le, nat_lt}
 use Rattle.std.specs.Result.{result_unwrap_or}
 use Rattle.std.specs.Str.Parse.{AllDigits}
 use Rattle.std.proofs.Math.Seq.{take-append_seam, drop-append_seam}
-use Rattle.std.proofs.lemmas.Bool.{and_parts, ltb-true, both_ways, eqb-true, false_from_ne_true}
+use Rattle.std.proofs.lemmas.Bool.{and_parts, ltb-true, both_ways, eqb-true, false_from_ne_true, true≢false}
 use Rattle.std.proofs.lemmas.Fmt.{decimal_is_IsNumeral, decimal_injective}
 use Rattle.std.proofs.lemmas.List.{same_from_push}
 use Rattle.std.proofs.lemmas.List.Elements.{All-same, All-nil, All-cons, All-head, All-tail, All-append, All-weaker}
@@ -24,7 +25,7 @@ use Rattle.jiff_fmt.proofs.RoundTrip.{date_spec-text}
 use Rattle.ados_name.specs.declared.stamp.Date3.{Date3}
 use Rattle.ados_name.specs.CivilDay.{IsDaysAfterEpoch}
 use Rattle.ados_name.specs.Date.{has_civil_text, civil_text, raw_text, IsTextOf}
-use Rattle.adf_text.specs.Dated.{IsStamp, StandsApart, BeginsWithDate, HasNoDate}
+use Rattle.adf_text.specs.Dated.{IsStamp, StandsApart, BeginsWithDate, HasNoDate, IsTextOfNone}
 use Rattle.adf_text.specs.steps.Finds.{FindsDate, FindsCivil, FindsNumbers, pair}
 
 pub split-same : (xs ys vs ws : List ℕ) → length xs ≡ length ys → xs ++ vs ≡ ys ++ ws → (xs ≡ ys) × (vs ≡ ws)
@@ -303,6 +304,39 @@ begins-same text d e x y of_d of_e first second =
     let w = apart-shape y second.apart in
     let same = dates-same d e first.shown second.shown v.0 w.0 of_d of_e (sym (spaced text first.shown x v.0 first.stands v.1) ∙ spaced text second.shown y w.0 second.stands w.1) first.dated second.dated in
     (same.0, (same_from_push x y 32 32 (v.1 ∙ ap (λ z. 32 ∷ z) same.1 ∙ sym w.1)).0)
+
+-- ---- a text that is that of a date, or of none
+
+pub none-in : {A : Type 0} (o : Option A) (P : Type 0) (Q : A → Type 0) → o ≡ None → MatchOption o P Q → P
+none-in None P Q is holds = holds
+none-in (Some x) P Q is holds = absurd (cc)
+
+pub some-in : {A : Type 0} (o : Option A) (x : A) (P : Type 0) (Q : A → Type 0) → o ≡ Some x → MatchOption o P Q → Q x
+some-in {A} o x P Q is holds = subst (λ (v : Option A). MatchOption v P Q) is holds
+
+nothing-behind : (text : List ℕ) (date : Date3) → IsTextOf date text → BeginsWithDate text date []
+nothing-behind text date is = record { shown = text; dated = is; stands = sym (append-nil text); apart = tt }
+
+pub alone-dated : (text behind : List ℕ) (date : Date3) → BeginsWithDate text date behind → behind ≡ [] → IsTextOf date text
+alone-dated text behind date begins is =
+    subst (λ (x : List ℕ). IsTextOf date x) (sym (begins.stands ∙ ap (λ (x : List ℕ). begins.shown ++ x) is ∙ append-nil begins.shown)) begins.dated
+
+no-items : (xs : List ℕ) → length xs ≡ 0 → xs ≡ []
+no-items [] none = refl
+no-items (x ∷ xs) none = let more : suc (length xs) ≡ 0 = none in absurd (omega (arith, more))
+
+pub no-length : (xs : List ℕ) (empty : Bool) → empty ≡ (length xs == 0) → empty ≡ true → xs ≡ []
+no-length xs empty is none = no-items xs (eqb-true (length xs) 0 (sym is ∙ none))
+
+pub has-length : (xs : List ℕ) (empty : Bool) → empty ≡ (length xs == 0) → empty ≡ false → xs ≢ []
+has-length xs empty is some e = true≢false (sym (is ∙ ap (λ (l : List ℕ). length l == 0) e) ∙ some)
+
+pub none-alone : (text behind : List ℕ) (date : Date3) → IsStamp date → BeginsWithDate text date behind → behind ≢ [] → IsTextOfNone text
+none-alone text behind date stamp begins more other of_other is =
+    more ((begins-same text date other behind [] stamp of_other begins (nothing-behind text other is)).1)
+
+pub none-dated : (text : List ℕ) → HasNoDate text → IsTextOfNone text
+none-dated text none date stamp is = none date [] stamp (nothing-behind text date is)
 
 -- ---- words of a text
 

@@ -7,3 +7,4 @@ mod ProtectionLettersLemmas
 mod DatedLemmas
 mod UaemLemmas
 mod ReadsLemmas
+mod WrittenLemmas

@@ -21,6 +21,10 @@ pub record BeginsWithDate (text : List ℕ) (date : Date3) (behind : List ℕ) :
   pub stands : text ≡ shown ++ behind
   pub apart : StandsApart behind
 
+-- no date has this text
+abbrev pub IsTextOfNone : List ℕ → Type 0
+IsTextOfNone text = (date : Date3) → IsStamp date → IsTextOf date text → ⊥
+
 -- the text starts with no date
 abbrev pub HasNoDate : List ℕ → Type 0
 HasNoDate text = (date : Date3) (behind : List ℕ) → IsStamp date → BeginsWithDate text date behind → ⊥

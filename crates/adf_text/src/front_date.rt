@@ -1,7 +1,8 @@
 //! Dates at the start of a text, in the form of `Date3::text`.
 ghost use Rattle.std.specs.Prelude.{◌≡◌, ◌≢◌, ◌≤◌, ◌<◌, ◌^◌, ◌==◌, false, ℕ, List, ◌++◌, All, IfOk, IsTrue, ◌↔◌, IfNone, IfSome, MatchOption};
 ghost use Rattle.std.specs.Fmt.{decimal};
-ghost use Rattle.adf_text.specs.Dated.{IsStamp, StandsApart, BeginsWithDate, HasNoDate};
+ghost use Rattle.ados_name.specs.Date.{IsTextOf};
+ghost use Rattle.adf_text.specs.Dated.{IsStamp, StandsApart, BeginsWithDate, HasNoDate, IsTextOfNone};
 ghost use Rattle.adf_text.specs.steps.Finds.{FindsDate, FindsCivil, FindsDay, FindsNumbers, FindsNumber, pair};
 
 use ados_name::Date3;
@@ -9,6 +10,20 @@ use jiff::civil;
 use jiff::fmt::temporal;
 use std::alloc::{AllocError, Global};
 use std::str;
+
+/// The date that has this text, in the form of `Date3::text`, or `None` if no date has it.
+pub fn date_of_text(alloc: Global, text: &[u8]) -> Result<Option<Date3>, AllocError>
+    ensures { IfOk result (λ found. MatchOption found (IsTextOfNone text.now) (λ date. IsTextOf date text.now)) }
+{
+    let found = front_date(alloc, text)?;
+    let Some((date, behind)) = found else {
+        return Ok(None);
+    };
+    if !behind.is_empty() {
+        return Ok(None);
+    }
+    Ok(Some(date))
+}
 
 /// The date at the start of the text and the rest after it, or `None`. The rest is empty or starts with a space.
 pub(crate) fn front_date(alloc: Global, text: &[u8]) -> Result<Option<(Date3, &[u8])>, AllocError>

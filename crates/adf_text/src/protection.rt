@@ -58,7 +58,7 @@ pub(crate) fn spelled_bits(text: &[u8]) -> Protect
     )
 }
 
-fn bit(set: bool, value: u32) -> u32
+pub(crate) fn bit(set: bool, value: u32) -> u32
     ensures value { result ≡ (if set then value else 0) }
     ensures small { result ≤ value }
 {

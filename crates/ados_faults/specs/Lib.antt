@@ -1,4 +1,6 @@
--- The list of all faults, and the text of a fault. Definitions for the walk are in `steps`.
+-- The list of all faults, the long that shows a fault, and the text of a fault. Definitions for the walk are in
+-- `steps`.
 pub mod Listed
+pub mod Values
 pub mod Explained
 pub mod steps

@@ -6,6 +6,7 @@ ghost use Rattle.ados_faults.specs.Explained.{TellsOfBlock};
 use crate::marked::has_block;
 use crate::path::{place_of, volume_name};
 use crate::texts::BadBlock;
+use crate::values::values_of;
 use adf_block::Image;
 use ados_check::Mark;
 use ados_model::VolumeFault;
@@ -30,7 +31,7 @@ pub fn explain(
         marks,
         block,
     };
-    let what = bad.text(alloc, fault.kind)?;
+    let what = bad.text(alloc, fault.kind, values_of(image, marks, fault))?;
     let Some(path) = place_of(alloc, image, marks, block)? else {
         return format!(in alloc; "block {block}: {what}");
     };

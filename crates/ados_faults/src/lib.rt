@@ -20,13 +20,15 @@ mod names;
 mod notes;
 mod walk;
 
-// Their texts.
+// What shows them, and their texts.
 mod explained;
 mod marked;
 mod path;
 mod texts;
+mod values;
 
 pub use ados_check::Mark;
 pub use explained::explain;
 pub use listing::{AllFaults, all_faults};
 pub use path::place_of;
+pub use values::{FaultValues, values_of};

@@ -146,7 +146,7 @@ fn look_file(image: &Image, block: u32, notes: &mut Notes)
 }
 
 /// The first data pointer of a header, or 0 if it has none.
-fn first_pointer(image: &Image, block: u32) -> u32
+pub(crate) fn first_pointer(image: &Image, block: u32) -> u32
     requires { block < block_count image.now }
     ensures { result ≡ slice_index (pointers_of image.now block) 0 }
 {

@@ -1,3 +1,4 @@
--- Lemmas about dates, and about names of host files.
+-- Lemmas about dates, about names of host files, and about the order in which they are written.
 mod DateLemmas
 mod NameLemmas
+pub mod Ordering

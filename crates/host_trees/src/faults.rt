@@ -14,7 +14,7 @@ use thiserror::Error;
 pub struct WriteFault {
     pub path: String,
     pub why: WriteWhy,
-    /// The number of items that were written, in order from the first. It is 0 for a refusal.
+    /// The number of items that were written. It is 0 for a refusal.
     pub written: usize,
 }
 

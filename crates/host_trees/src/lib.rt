@@ -6,6 +6,7 @@ mod faults;
 mod items;
 mod names;
 mod notes;
+mod order;
 mod standing;
 mod walk;
 mod way;

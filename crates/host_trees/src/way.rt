@@ -14,6 +14,9 @@ use std::rt::Files;
 /// opened, at most 64 are open at a time.
 const MOST_OPEN: usize = 61;
 
+/// The number of levels above the last open directory in which each one stays open.
+const NEAR: usize = 8;
+
 /// The directories of items, each opened by its name in the one above it, where a link is not followed.
 #[derive(Drop)]
 pub(crate) struct Way<F> {
@@ -27,11 +30,14 @@ pub(crate) struct Way<F> {
 #[derive(Drop)]
 struct OpenItem<F> {
     place: usize,
+    /// The number of directories on the way to it, and itself.
+    level: usize,
     directory: HeldDirectory<F>,
 }
 
-/// The last directories on the way to the one that was reached last, each in the one before it. Contracts see how many
-/// they are.
+/// Directories on the way to the one that was reached last, which is the last of them, each below the one before it. They
+/// are dense near the last one and sparse far above it: so the way back up any number of levels opens at most a quarter as
+/// many again. Contracts see how many they are.
 #[derive(Drop)]
 struct OpenItems<F> {
     directories: Vec<OpenItem<F>>,
@@ -48,14 +54,26 @@ impl<F> Model for OpenItems<F> {
 }
 
 impl<F: Drop> OpenItems<F> {
-    /// Adds an open directory. If there are as many as may be, the first one is closed before.
+    /// Adds an open directory, and closes those that it needs no longer. If there are still as many as may be, the first one
+    /// is closed too.
     fn add(&mut self, opened: OpenItem<F>) -> Result<(), AllocError> {
+        let last = opened.level;
+        self.directories
+            .retain(|before| stays_open(before.level, last));
         if self.directories.len() >= MOST_OPEN {
             self.directories.remove(0);
         }
         match self.directories.push(opened) {
             Ok(()) => Ok(()),
             Err(_) => Err(AllocError),
+        }
+    }
+
+    /// The level of the last directory; that of the top is 0.
+    fn level(&self) -> usize {
+        match self.directories.last() {
+            Some(opened) => opened.level,
+            None => 0,
         }
     }
 
@@ -80,6 +98,17 @@ impl<F: Drop> OpenItems<F> {
             None => self.directories.clear(),
         }
     }
+}
+
+/// Whether a directory at a level stays open while the last one is at another. At 8, 16, 32 levels above the last one, and
+/// so on, only each second, fourth, eighth directory does.
+fn stays_open(level: usize, last: usize) -> bool {
+    last.saturating_sub(level) / NEAR < lowest_bit(level)
+}
+
+/// The largest power of two that divides a number; 0 for 0.
+fn lowest_bit(number: usize) -> usize {
+    number & number.wrapping_neg()
 }
 
 impl<F: OwnedFile + Drop> Way<F> {
@@ -159,13 +188,18 @@ impl<F: OwnedFile + Drop> Way<F> {
             return Err(fault(place, WriteWhy::NoDirectory));
         };
         let name = item.name.as_str();
+        let level = self.open.level().saturating_add(1);
         let opened = match self.last().below(rt, alloc, name) {
             Ok(directory) => self.known(place, directory),
             Err(error) => Err(why_closed(rt, alloc, self.last(), name, error)),
         };
         match opened {
             Ok(directory) => {
-                self.open.add(OpenItem { place, directory })?;
+                self.open.add(OpenItem {
+                    place,
+                    level,
+                    directory,
+                })?;
                 Ok(())
             }
             Err(why) => Err(fault(place, why)),

@@ -3,7 +3,8 @@ ghost use Rattle.std.specs.Prelude.{◌≡◌, ◌≤◌, length, IfErr};
 
 use crate::dates::host_time;
 use crate::faults::{ItemFault, WriteFault, WriteWhy};
-use crate::items::{Contents, HostItem, ItemKind, fault, refuse_items, top_of};
+use crate::items::{Contents, HostItem, above, fault, is_directory, refuse_items, top_of};
+use crate::order::depth_first;
 use crate::standing::{Standing, may_stand, standing_at};
 use crate::way::Way;
 use adf_host::{HeldDirectory, OwnedFile, refuse_length, replace_found};
@@ -22,6 +23,9 @@ use std::time::SystemTime;
 /// more than 4,095 bytes, with the directory in front; and a host without `/proc`. Files and new directories get their
 /// time stamps. The bytes of a file are asked for when it is written, and let go before those of the next.
 ///
+/// Items are written depth first: a directory, then what is in it, in the order of the list. So no directory is opened again
+/// and again, in whatever order they are listed.
+///
 /// The directory may be, or lead through, a link: it is opened once. Everything below it is reached from there by
 /// directories that are open, and no link is followed, whatever another program puts there meanwhile.
 pub fn write_tree<R: Files, C: Contents>(
@@ -37,11 +41,15 @@ where
     ensures { IfErr result (λ fault. fault.written ≤ length items.now) }
 {
     let writer = Writer { rt, alloc, force };
-    let mut way = match writer.begin(directory, items) {
+    let order = match depth_first(alloc, items) {
+        Ok(order) => order,
+        Err(error) => return Err(ItemFault::from(error).told(alloc, directory, items, 0)),
+    };
+    let mut way = match writer.begin(directory, items, &order) {
         Ok(way) => way,
         Err(fault) => return Err(fault.told(alloc, directory, items, 0)),
     };
-    let made = writer.write_items(&mut way, directory, items, contents)?;
+    let made = writer.write_items(&mut way, directory, items, &order, contents)?;
     match writer.set_times(&mut way, items, made.as_slice()) {
         Ok(()) => Ok(()),
         Err(fault) => Err(fault.told(alloc, directory, items, items.len())),
@@ -62,13 +70,18 @@ where
     R::File: OwnedFile,
 {
     /// Checks all items, and opens the directory for them.
-    fn begin(&self, directory: &str, items: &[HostItem]) -> Result<Way<R::File>, ItemFault> {
+    fn begin(
+        &self,
+        directory: &str,
+        items: &[HostItem],
+        order: &[usize],
+    ) -> Result<Way<R::File>, ItemFault> {
         refuse_items(self.alloc, directory, items)?;
         let path = top_of(directory);
         match self.open_top(path) {
             Ok(Some(top)) => {
                 let mut way = Way::from_top(self.alloc, top, items)?;
-                self.refuse_what_stands(&mut way, items)?;
+                self.refuse_what_stands(&mut way, items, order)?;
                 Ok(way)
             }
             Ok(None) => match self.make_top(path) {
@@ -102,14 +115,19 @@ where
         &self,
         way: &mut Way<R::File>,
         items: &[HostItem],
+        order: &[usize],
     ) -> Result<(), ItemFault> {
-        let mut stands: Vec<bool> = Vec::new(self.alloc);
-        for (place, item) in items.iter().enumerate() {
-            let is_reached = match item.above {
+        let mut stands = vec![in self.alloc; false; items.len()]?;
+        for place in order {
+            let is_reached = match above(items, *place) {
                 Some(above) => stands.get(above).copied().unwrap_or(false),
                 None => true,
             };
-            stands.push(is_reached && self.is_directory_there(way, items, place, item)?)?;
+            if is_reached && self.is_directory_there(way, items, *place)? {
+                if let Some(is_there) = stands.get_mut(*place) {
+                    *is_there = true;
+                }
+            }
         }
         Ok(())
     }
@@ -120,8 +138,10 @@ where
         way: &mut Way<R::File>,
         items: &[HostItem],
         place: usize,
-        item: &HostItem,
     ) -> Result<bool, ItemFault> {
+        let Some(item) = items.get(place) else {
+            return Ok(false);
+        };
         let directory = way.reach(self.rt, self.alloc, items, item.above)?;
         let standing = match standing_at(self.rt, self.alloc, directory, item.name.as_str()) {
             Ok(standing) => standing,
@@ -133,24 +153,27 @@ where
         }
     }
 
-    /// Writes the items in order, and returns the places of new directories.
+    /// Writes the items in this order, and returns the places of new directories.
     fn write_items<C: Contents>(
         &self,
         way: &mut Way<R::File>,
         directory: &str,
         items: &[HostItem],
+        order: &[usize],
         contents: &mut C,
     ) -> Result<Vec<usize>, WriteFault>
+        requires { length order.now ≤ length items.now }
         ensures { IfErr result (λ fault. fault.written ≤ length items.now) }
     {
         let mut made = Vec::new(self.alloc);
-        for (place, item) in items.iter().enumerate() {
-            let done = match item.kind {
-                ItemKind::Directory => self.make_item(way, items, place, &mut made),
-                ItemKind::File => self.write_item(way, items, place, contents),
+        for (written, place) in order.iter().enumerate() {
+            let done = if is_directory(items, *place) {
+                self.make_item(way, items, *place, &mut made)
+            } else {
+                self.write_item(way, items, *place, contents)
             };
             if let Err(fault) = done {
-                return Err(fault.told(self.alloc, directory, items, place));
+                return Err(fault.told(self.alloc, directory, items, written));
             }
         }
         Ok(made)

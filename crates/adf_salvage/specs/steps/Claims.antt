@@ -1,9 +1,10 @@
 -- The sound files that name a block, as claims.
-use Rattle.std.specs.Prelude.{◌≡◌, ◌≢◌, ℕ, ◌<◌, ◌==◌, ◌⊎◌, List, Contains, slice_index_or, if◌then◌else◌}
+use Rattle.std.specs.Prelude.{◌≡◌, ◌≢◌, ℕ, ◌<◌, ◌==◌, ◌⊎◌, Bool, MatchBool, List, length, Contains, slice_index_or, if◌then◌else◌}
 use Rattle.adf_block.specs.Image.{block_count}
 use Rattle.adf_salvage.specs.declared.claims.Claim.{Claim}
 use Rattle.adf_salvage.specs.declared.claims.Claim.TheVariants.{Free, One, Several}
-use Rattle.adf_salvage.specs.Sound.{IsIntact, Names}
+use Rattle.adf_salvage.specs.Sound.{IsIntact, IsWhole, Names}
+use Rattle.adf_salvage.specs.steps.Giving.{mark_at}
 
 -- the claim for a block
 abbrev pub claim_at : List Claim → ℕ → Claim
@@ -26,6 +27,11 @@ IsClaim image n block Several = (one : ℕ) × (other : ℕ) × (one ≢ other) 
 -- the claims are right for all sound files below n
 abbrev pub AreClaims : List ℕ → ℕ → List Claim → Type 0
 AreClaims image n claims = (block : ℕ) → block < block_count image → IsClaim image n block (claim_at claims block)
+
+-- for each block below n, whether it is the header of a whole file; there is a mark for each block of the image
+pub record AreWhole (image : List ℕ) (n : ℕ) (whole : List Bool) : Type 0 where
+  pub size : length whole ≡ block_count image
+  pub decided : (block : ℕ) → block < n → MatchBool (mark_at whole block) (IsWhole image block) (¬ IsWhole image block)
 
 -- the claim of a block was updated if it is one of these blocks, and is unchanged otherwise
 abbrev pub IsNoted : ℕ → List ℕ → List Claim → List Claim → ℕ → Type 0

@@ -1,5 +1,5 @@
 -- A sound file in parts: its pointer blocks, its data blocks, and that all of these are distinct.
-use Rattle.std.specs.Prelude.{◌≡◌, ◌≢◌, ℕ, zero, suc, ◌-◌, ◌*◌, ◌<◌, ◌≤◌, min, List, length, slice_index}
+use Rattle.std.specs.Prelude.{◌≡◌, ◌≢◌, ℕ, zero, suc, ◌-◌, ◌*◌, ◌<◌, ◌≤◌, min, List, length, slice_index, All}
 use Rattle.adf_block.specs.declared.layout.Format.TheVariants.{Ofs}
 use Rattle.adf_block.specs.Image.{block_count, long, IsInside}
 use Rattle.adf_block.specs.Fields.{pointer_count, file_size, format_of}
@@ -42,6 +42,11 @@ data_before image file (suc i) = data_block image file i
 pub record HasData (image : List ℕ) (file : ℕ) : Type 0 where
   pub block : (i : ℕ) → i < data_needed image file → IsDataBlock image file i (data_before image file i) (data_block image file i)
   pub ends : format_of image ≡ Ofs → long image (data_before image file (data_needed image file)) NEXT_DATA ≡ 0
+
+-- for each block of the image a file below n
+pub record AreUsersBelow (image : List ℕ) (n : ℕ) (users : List ℕ) : Type 0 where
+  pub size : length users ≡ block_count image
+  pub below : All (λ user. user < n) users
 
 -- the blocks are distinct
 abbrev pub AreOnce : List ℕ → Type 0

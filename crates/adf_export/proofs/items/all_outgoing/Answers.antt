@@ -4,7 +4,8 @@ use Rattle.ados_model.specs.Stands.{Stands}
 use Rattle.ados_model.specs.Tree.{Tree}
 use Rattle.ados_volume.specs.Below.{AreBelow}
 use Rattle.adf_export.specs.Items.{AllGoOut, EachGoesOut, HasSource, sources_of, tops}
-use Rattle.adf_salvage.proofs.Answering.{both_ok, if_ok}
+use Rattle.adf_salvage.proofs.Answering.{if_ok}
+use Rattle.adf_export.proofs.Outcomes.{if_ok_both}
 use Rattle.adf_export.proofs.Under.{all_before, found_there, sources_there}
 use Rattle.adf_export.proofs.items.all_outgoing.Goals as goal
 
@@ -22,7 +23,7 @@ items_of-requires-clause-places c =
 
 pub returns-clause-items : goal.returns-clause-items
 returns-clause-items c =
-    both_ok c.items_of.result
+    if_ok_both c.items_of.result
     (λ out. (t : Tree) → Stands c.args.volume.now.image t → EachGoesOut t c.args.meta c.deref.result.now out.items.items)
     (λ out. out.sources.items ≡ flat_map (sources_of c.args.meta) c.deref.result.now)
     (λ out. (t : Tree) → Stands c.args.volume.now.image t → AllGoOut t c.args.meta c.args.keys.now out)

@@ -1,6 +1,5 @@
-use Rattle.std.proofs.Common.{None, refl, sym, ◌∙◌, subst}
-use Rattle.ados_model.specs.Tree.{entries}
-use Rattle.ados_volume.specs.Below.{AreBelow}
+use Rattle.std.proofs.Common.{refl, sym, ◌∙◌, subst}
+use Rattle.adf_import.specs.Pruned.{AreKeysBelow}
 use Rattle.adf_import.specs.InTurn.KeepsInTurn.{none}
 use Rattle.adf_import.proofs.prune.delete_all.Goals as goal
 
@@ -13,7 +12,7 @@ returns-in-Err-clause-done c = (refl, λ t s e. c.if-key-root.false (e ∙ sym (
 pub is_any_denied-requires : goal.is_any_denied-requires
 is_any_denied-requires c = record {
   key = c.requires;
-  below = λ t s. subst (AreBelow t None 0 (entries t c.args.key)) (sym c.as_slice.ensures.value) (c.in-Ok.ensures.below t s);
+  below = λ t s. subst (AreKeysBelow t c.args.key) (sym c.as_slice.ensures.value) (c.in-Ok.ensures t s);
 }
 
 pub returns-then-is_any_denied-clause-done : goal.returns-then-is_any_denied-clause-done
@@ -22,8 +21,7 @@ returns-then-is_any_denied-clause-done c = (refl, λ t s. (λ e. c.if-key-root.f
 pub remove_all-requires : goal.remove_all-requires
 remove_all-requires c = record {
   entry = λ t s. (c.requires t s, λ e. c.if-key-root.false (e ∙ sym (c.root.ensures.root t s)));
-  below = c.in-Ok.ensures.below;
-  once = c.in-Ok.ensures.once;
+  below = c.in-Ok.ensures;
 }
 
 pub returns-clause-done : goal.returns-clause-done

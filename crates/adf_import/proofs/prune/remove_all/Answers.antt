@@ -5,20 +5,18 @@ use Rattle.ados_model.specs.Stands.{Stands}
 use Rattle.ados_model.specs.Keys.{HasEntryKey}
 use Rattle.ados_model.proofs.Nodes.{some_in}
 use Rattle.ados_handler.proofs.Unlisting.{parent_there}
-use Rattle.ados_volume.specs.declared.below.Below.{Below}
-use Rattle.ados_volume.proofs.GoingBelow.{keys_of}
 use Rattle.adf_import.proofs.Pruning.{IsPruning, can_remove_next, can_remove_top, pruning_ends, pruning_goes_on, pruning_starts}
 use Rattle.adf_import.specs.InTurn.KeepsInTurn.{none, one_more}
 use Rattle.adf_import.proofs.prune.remove_all.Goals as goal
 
 pub loop-entry-init : goal.loop-entry-init
-loop-entry-init c = record { pruning = λ t s. pruning_starts t c.args.key (keys_of c.args.below.items) c.args.volume.now.image s; keeps = none; validated = refl }
+loop-entry-init c = record { pruning = λ t s. pruning_starts t c.args.key c.args.below.items c.args.volume.now.image s; keeps = none; validated = refl }
 
 pub remove-requires : goal.remove-requires
 remove-requires c = λ u r.
     let t = c.image.ensures.stands.0 in
     let s = c.image.ensures.stands.1 in
-    can_remove_next t c.args.moment c.args.key s.proper c.args.below.items (c.requires.below t s) c.requires.once c.loop-entry.volume.image
+    can_remove_next t c.args.moment c.args.key s.proper c.args.below.items (c.requires.below t s) c.loop-entry.volume.image
     c.loop-entry.below.items c.pop.new.self.items c.in-Some.entry c.in-Some.ensures.items (c.loop-entry.invariant.pruning t s) u r
 
 pub loop-entry-preserved : goal.loop-entry-preserved
@@ -27,7 +25,7 @@ loop-entry-preserved c =
     let now = c.loop-entry.invariant.pruning t c.image.ensures.stands.1 in
     record {
       pruning = λ t s.
-          pruning_goes_on t c.args.moment c.args.key s.proper c.args.below.items (c.requires.below t s) c.requires.once c.loop-entry.volume.image
+          pruning_goes_on t c.args.moment c.args.key s.proper c.args.below.items (c.requires.below t s) c.loop-entry.volume.image
           c.loop-entry.below.items c.pop.new.self.items c.in-Some.entry c.in-Some.ensures.items (c.loop-entry.invariant.pruning t s) c.remove.new.self.image
           c.remove.ensures.stands;
       keeps = one_more c.loop-entry.invariant.keeps c.remove.ensures.keeps (_, c.remove.ensures.stands now.now now.stands);
@@ -47,15 +45,15 @@ remove-requires-2 c = λ u r.
     let s = c.image.ensures.stands.1 in
     let none : c.loop-entry.below.items ≡ [] = grind (arith, common_steps) in
     let d = own_directory t s.proper c.args.volume.now.image c.args.key c.requires.entry s in
-    can_remove_top t c.args.moment c.args.key s.proper c.args.below.items (c.requires.below t s) c.requires.once c.loop-entry.volume.image d.0 d.1
-    (subst (λ (es : List Below). IsPruning t c.args.key (keys_of c.args.below.items) c.loop-entry.volume.image (keys_of es)) none (c.loop-entry.invariant.pruning t s)) u r
+    can_remove_top t c.args.moment c.args.key s.proper c.args.below.items (c.requires.below t s) c.loop-entry.volume.image d.0 d.1
+    (subst (IsPruning t c.args.key c.args.below.items c.loop-entry.volume.image) none (c.loop-entry.invariant.pruning t s)) u r
 
 pub returns-clause-stands : goal.returns-clause-stands
 returns-clause-stands c = λ t s.
     let none : c.loop-entry.below.items ≡ [] = grind (arith, common_steps) in
     let d = own_directory t s.proper c.args.volume.now.image c.args.key c.requires.entry s in
-    pruning_ends t c.args.moment c.args.key s.proper c.args.below.items (c.requires.below t s) c.requires.once c.loop-entry.volume.image d.0 d.1
-    (subst (λ (es : List Below). IsPruning t c.args.key (keys_of c.args.below.items) c.loop-entry.volume.image (keys_of es)) none (c.loop-entry.invariant.pruning t s))
+    pruning_ends t c.args.moment c.args.key s.proper c.args.below.items (c.requires.below t s) c.loop-entry.volume.image d.0 d.1
+    (subst (IsPruning t c.args.key c.args.below.items c.loop-entry.volume.image) none (c.loop-entry.invariant.pruning t s))
     c.remove-2.new.self.image c.remove-2.ensures.stands
 
 pub returns-clause-keeps : goal.returns-clause-keeps

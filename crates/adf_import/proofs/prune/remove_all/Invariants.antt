@@ -2,14 +2,13 @@ use Rattle.std.proofs.Common.{◌≡◌, vec_len}
 use Rattle.ados_model.specs.Tree.{Tree}
 use Rattle.ados_model.specs.Stands.{Stands}
 use Rattle.adf_import.specs.InTurn.{KeepsInTurn}
-use Rattle.ados_volume.proofs.GoingBelow.{keys_of}
 use Rattle.adf_import.proofs.Pruning.{IsPruning}
 use Rattle.adf_import.proofs.prune.remove_all.Given as goal
 
 -- these entries are left
 abbrev pub invariant-loop-entry : goal.invariant-loop-entry
 invariant-loop-entry l = record {
-  pruning : (t : Tree) → Stands l.initial.volume.image t → IsPruning t l.key (keys_of l.initial.below.items) l.volume.image (keys_of l.below.items);
+  pruning : (t : Tree) → Stands l.initial.volume.image t → IsPruning t l.key l.initial.below.items l.volume.image l.below.items;
   keeps : KeepsInTurn l.initial.volume.image l.volume.image;
   validated : l.volume.was_validated ≡ l.initial.volume.was_validated;
 }

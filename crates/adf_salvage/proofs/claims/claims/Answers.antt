@@ -1,4 +1,5 @@
 use Rattle.std.proofs.Common.{◌≡◌, ℕ, ◌+◌, List, Vec, Global, length, sym, ap, ◌∙◌, subst, arith}
+use Rattle.adf_block.specs.Image.{block_count}
 use Rattle.adf_salvage.specs.declared.claims.Claim.{Claim}
 use Rattle.adf_salvage.specs.Sound.{own_blocks}
 use Rattle.adf_salvage.specs.steps.Claims.{AreClaims, IsNoted}
@@ -8,16 +9,16 @@ use Rattle.adf_salvage.proofs.claims.claims.Goals.{in-Some, in_default}
 
 pub note-requires : goal.note-requires
 note-requires c =
-    let own = rw c.in-Some.is at c.in_ok-blocks.ensures in
+    let own = rw c.in-Some.is at c.in_ok-blocks.ensures.own in
     all_within c.args.image.now c.loop-file.file own.0 c.deref.result.now (length c.deref_mut.result.now) (c.deref.ensures.value ∙ own.1)
     (ap length c.deref_mut.ensures.value ∙ c.loop-file.invariant.size)
 
 pub loop-file-preserved : goal.loop-file-preserved
-loop-file-preserved c = elim c.match-branch-3.branch [
+loop-file-preserved c = elim c.match-branch-4.branch [
   | in-Some w ↦
-      (let own = rw w.in-Some.is at c.in_ok-blocks.ensures in
+      (let own = rw w.in-Some.is at c.in_ok-blocks.ensures.own in
       let count : length w.note.new.claims ≡ length c.loop-file.claims.items = w.note.ensures.count ∙ ap length w.deref_mut.ensures.value in
-      let items : c.match-branch-3.claims.items ≡ w.note.new.claims =
+      let items : c.match-branch-4.claims.items ≡ w.note.new.claims =
       ap (λ (v : Vec Claim Global). v.items) w.claims-is ∙ refilled w.note.new.claims c.loop-file.claims.items c.loop-file.claims.len count c.loop-file.claims.ok.0 in
       record {
         size = ap length items ∙ count ∙ c.loop-file.invariant.size;
@@ -27,10 +28,17 @@ loop-file-preserved c = elim c.match-branch-3.branch [
             subst (λ (old : List Claim). IsNoted c.loop-file.file (own_blocks c.args.image.now c.loop-file.file) old w.note.new.claims block) w.deref_mut.ensures.value
             (subst (λ (xs : List ℕ). IsNoted c.loop-file.file xs w.deref_mut.result.now w.note.new.claims block) (w.deref.ensures.value ∙ own.1)
             (w.note.ensures.noted block (omega (arith, l, ap length w.deref_mut.ensures.value, c.loop-file.invariant.size))))));
+        users = c.in_ok-blocks.ensures.users;
       })
   | in_default w ↦ record {
     size = ap (λ (v : Vec Claim Global). length v.items) w.claims-is ∙ c.loop-file.invariant.size;
     claims = subst (λ (v : Vec Claim Global). AreClaims c.args.image.now (c.loop-file.file + 1) v.items) (sym w.claims-is)
-        (claims_same c.args.image.now c.loop-file.file c.loop-file.claims.items c.loop-file.invariant.claims (rw w.in_default.is at c.in_ok-blocks.ensures));
+        (claims_same c.args.image.now c.loop-file.file c.loop-file.claims.items c.loop-file.invariant.claims (rw w.in_default.is at c.in_ok-blocks.ensures.own));
+    users = c.in_ok-blocks.ensures.users;
   }
 ]
+
+pub returns-clause-claims : goal.returns-clause-claims
+returns-clause-claims c =
+    let all : c.loop-file.file ≡ block_count c.args.image.now = omega arith in
+    subst (λ (n : ℕ). AreClaims c.args.image.now n c.loop-file.claims.items) all c.loop-file.invariant.claims

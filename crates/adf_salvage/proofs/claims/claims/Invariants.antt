@@ -1,10 +1,12 @@
 use Rattle.std.proofs.Common.{◌≡◌, length}
 use Rattle.adf_block.specs.Image.{block_count}
 use Rattle.adf_salvage.specs.steps.Claims.{AreClaims}
+use Rattle.adf_salvage.specs.steps.Parts.{AreUsersBelow}
 use Rattle.adf_salvage.proofs.claims.claims.Given as goal
 
 abbrev pub invariant-loop-file : goal.invariant-loop-file
 invariant-loop-file l = record {
   size : length l.claims.items ≡ block_count l.image;
   claims : AreClaims l.image l.file l.claims.items;
+  users : AreUsersBelow l.image l.file l.users.items;
 }

@@ -1,20 +1,21 @@
-use Rattle.std.proofs.Common.{inl, inr, ◌≡◌, ℕ, List, sym, subst}
+use Rattle.std.proofs.Common.{inl, inr, true, false, ◌≡◌, ℕ, List, sym, subst}
 use Rattle.ados_model.specs.Accepted.{Accepts}
 use Rattle.ados_model.specs.Stands.{Stands}
 use Rattle.ados_model.specs.Tree.{Tree}
 use Rattle.ados_model.proofs.NoFaults.{faults_have_no_tree}
 use Rattle.adf_salvage.specs.Salvaged.{AreOfTree, IsReadAs, Salvages, SavesSound}
-use Rattle.adf_salvage.proofs.Answering.{both_ok, if_ok, same_tree}
+use Rattle.adf_salvage.proofs.Answering.{all_ok, if_ok, same_tree}
 use Rattle.adf_salvage.proofs.salvaging.salvage.Goals as goal
 
 pub returns-in-Ok-clause-salvages : goal.returns-in-Ok-clause-salvages
 returns-in-Ok-clause-salvages c =
-    both_ok c.volume_entries.result (λ saved. saved.image ≡ c.in-Ok.volume.image) (λ saved. (t : Tree) → Stands c.in-Ok.volume.image t → AreOfTree t saved) (Salvages c.args.image)
-    (λ saved same told. inl (
-      c.in-Ok.volume.was_validated,
-      subst (Accepts c.args.image c.in-Ok.volume.was_validated) (sym same) c.in-Ok.ensures,
-      λ t s. told t (subst (λ (image : List ℕ). Stands image t) same s),
-    )) c.volume_entries.ensures.image c.volume_entries.ensures.told
+    all_ok c.volume_entries.result (λ saved. saved.accepted ≡ true) (λ saved. saved.image ≡ c.in-Ok.volume.image) (λ saved. (t : Tree) → Stands c.in-Ok.volume.image t → AreOfTree t saved) (Salvages c.args.image)
+    (λ saved accepted same told. inl (record {
+      accepted = accepted;
+      validated = c.in-Ok.volume.was_validated;
+      accepts = subst (Accepts c.args.image c.in-Ok.volume.was_validated) (sym same) c.in-Ok.ensures;
+      tree = λ t s. told t (subst (λ (image : List ℕ). Stands image t) same s);
+    })) c.volume_entries.ensures.accepted c.volume_entries.ensures.image c.volume_entries.ensures.told
 
 pub returns-in-Ok-clause-tree : goal.returns-in-Ok-clause-tree
 returns-in-Ok-clause-tree c =
@@ -23,12 +24,13 @@ returns-in-Ok-clause-tree c =
 
 pub returns-in_default-clause-salvages : goal.returns-in_default-clause-salvages
 returns-in_default-clause-salvages c =
-    both_ok c.sound_headers.result (λ saved. saved.image ≡ c.with_kind.result) SavesSound (Salvages c.args.image)
-    (λ saved same sound. inr (
-      subst (IsReadAs c.args.image) (sym same) (subst (λ (xs : List ℕ). IsReadAs xs c.with_kind.result) c.in-Err.ensures.0 c.with_kind.ensures),
-      sound,
-    ))
-    c.sound_headers.ensures.image c.sound_headers.ensures.saves
+    all_ok c.sound_headers.result (λ saved. saved.accepted ≡ false) (λ saved. saved.image ≡ c.with_kind.result) SavesSound (Salvages c.args.image)
+    (λ saved refused same sound. inr (record {
+      refused = refused;
+      read = subst (IsReadAs c.args.image) (sym same) (subst (λ (xs : List ℕ). IsReadAs xs c.with_kind.result) c.in-Err.ensures.0 c.with_kind.ensures);
+      saves = sound;
+    }))
+    c.sound_headers.ensures.refused c.sound_headers.ensures.image c.sound_headers.ensures.saves
 
 pub returns-in_default-clause-tree : goal.returns-in_default-clause-tree
 returns-in_default-clause-tree c =

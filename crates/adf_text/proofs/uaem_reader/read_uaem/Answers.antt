@@ -1,6 +1,5 @@
-use Rattle.std.proofs.Common.{◌≡◌, ℕ, List, All, Option, None, Some, Bor, Result, Ok, Err, IfErr, IsErrAnd, sym, ap, refl, subst, ◌∙◌}
+use Rattle.std.proofs.Common.{◌≡◌, ℕ, List, All, Bor, Result, Ok, Err, IfErr, IsErrAnd, sym, ap, refl, subst, ◌∙◌}
 use Rattle.std.specs.Bool.{⊤}
-use Rattle.std.specs.Option.{MatchOption}
 use Rattle.std.specs.Str.{IsUtf8, chars}
 use Rattle.std.proofs.lemmas.List.Elements.{All-same}
 use Rattle.std.proofs.lemmas.Str.{chars_from_encodes}
@@ -8,19 +7,13 @@ use Rattle.adf_text.specs.Letters.{IsByte, letters}
 use Rattle.ados_name.specs.declared.stamp.Date3.{Date3}
 use Rattle.adf_text.specs.Dated.{IsStamp, BeginsWithDate, HasNoDate}
 use Rattle.adf_text.specs.UaemReads.{IsUaemFaultOf}
+use Rattle.adf_text.proofs.DatedLemmas.{none-in, some-in}
 use Rattle.adf_text.proofs.ReadsLemmas.{line-read, line-fault, bits-fault, date-fault, comment-fault, note-read}
 use Rattle.adf_text.proofs.uaem_reader.read_uaem.Goals as goal
 
 if-err : {T E : Type 0} (r : Result T E) (P : E → Type 0) (x : E) → IsErrAnd r (λ y. y ≡ x) → P x → IfErr r P
 if-err (Ok v) P x is holds = tt
 if-err (Err y) P x is holds = subst P (sym is) holds
-
-none-in : {A : Type 0} (o : Option A) (P : Type 0) (Q : A → Type 0) → o ≡ None → MatchOption o P Q → P
-none-in None P Q is holds = holds
-none-in (Some x) P Q is holds = absurd (cc)
-
-some-in : {A : Type 0} (o : Option A) (x : A) (P : Type 0) (Q : A → Type 0) → o ≡ Some x → MatchOption o P Q → Q x
-some-in {A} o x P Q is holds = subst (λ (v : Option A). MatchOption v P Q) is holds
 
 -- the letters of the file, each of which is a byte
 found : (file text items shown : List ℕ) → text ≡ file → IsUtf8 file → letters items ≡ text → shown ≡ items → All IsByte (chars text) → (letters shown ≡ file) × All IsByte shown

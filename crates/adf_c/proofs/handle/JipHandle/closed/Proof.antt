@@ -23,7 +23,8 @@ use Rattle.core.proofs.cell.Inside.{one}
 use Rattle.std.specs.contracts.alloc.Global as heap
 use Rattle.std.proofs.alloc.Global.TheLaws as heap_laws
 use Rattle.std.proofs.raw_atomic.Walks.{proved_at, leaves}
-use Rattle.adf_c.proofs.Values.{both, handle_good, handle_in}
+use Rattle.adf_c.proofs.Values.{both}
+use Rattle.adf_c.proofs.HandleValues.{handle_good, handle_in}
 use Rattle.adf_c.specs.contracts.handle.JipHandle.closed.{ended, clauses}
 use Rattle.adf_c.specs.contracts.handle.JipHandle.closed.Key.{name as #self}
 use Rattle.adf_c.proofs.handle.JipHandle.closed.Statement.{statement}

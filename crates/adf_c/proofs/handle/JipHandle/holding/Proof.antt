@@ -21,7 +21,8 @@ use Rattle.std.specs.contracts.alloc.Global as heap
 use Rattle.std.proofs.alloc.Global.TheLaws as heap_laws
 use Rattle.std.specs.contracts.impls.GlobalAllocator.TheImpl.{ghosts}
 use Rattle.std.proofs.raw_atomic.Walks.{proved_at, leaves}
-use Rattle.adf_c.proofs.Values.{R, both, Loose, loose_good, loose_out, handle_good, handle_in}
+use Rattle.adf_c.proofs.Values.{both, Loose, loose_good, loose_out}
+use Rattle.adf_c.proofs.HandleValues.{R, handle_good, handle_in}
 use Rattle.adf_c.specs.contracts.handle.JipHandle.holding.{ended, clauses}
 use Rattle.adf_c.specs.contracts.handle.JipHandle.holding.Key.{name as #self}
 use Rattle.adf_c.proofs.handle.JipHandle.holding.Statement.{statement}

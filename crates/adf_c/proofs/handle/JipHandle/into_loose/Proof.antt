@@ -27,7 +27,8 @@ use Rattle.std.proofs.alloc.Global.TheLaws as heap_laws
 use Rattle.std.specs.contracts.impls.GlobalAllocator.TheImpl.{ghosts}
 use Rattle.std_alloc.proofs.ResultValues.{and_tt}
 use Rattle.std.proofs.raw_atomic.Walks.{proved_at, leaves}
-use Rattle.adf_c.proofs.Values.{R, both, Loose, loose_good, loose_in, Handle, handle_good, handle_out, either_held}
+use Rattle.adf_c.proofs.Values.{both, Loose, loose_good, loose_in, either_held}
+use Rattle.adf_c.proofs.HandleValues.{R, Handle, handle_good, handle_out}
 use Rattle.adf_c.specs.contracts.handle.JipHandle.into_loose.{ended, clauses}
 use Rattle.adf_c.specs.contracts.handle.JipHandle.into_loose.Key.{name as #self}
 use Rattle.adf_c.proofs.handle.JipHandle.into_loose.Statement.{statement}
@@ -41,7 +42,7 @@ into_loose_spec 𝓤 𝓛 𝓜 𝓡 wired =
     proved_at 𝓛 En hs c 𝓜 𝓡 (Goes-dropped 𝓛 0 (plain (λ _. Hr)) yes (λ κs x f. refl), tt) #self fn (code.unfolded 𝓤 H 𝓜 𝓡 wired) (λ z are.
     let κs = z.0.0 in let qs = z.0.1 in let v = z.0.3.0 in let a = v.alloc in let Post : Val → SProp 𝓤 = (walk_of 𝓛 En hs c).post z in let Run : List Val → SProp 𝓤 = λ ws. WpFn 𝓤 H 𝓣.C 𝓣.Λ fn ws Post in let Out : RattleType = type_at En.signature.result κs in
     qed 𝓛 ((raw (alive 𝓛 En.signature κs qs) ⊛ ‵ (owns (types_at En.signature.params κs) z.0.3 z.0.4)) ∷ raw ((c κs z.0.3).requires z.1) ∷ []) ∵
-    split ! $ move ! (1 ∷ []) $ fsplit ! $ handle_out ! v z.0.4.0 (λ h ws gh. either_held ! a v.at v.held
+    split ! $ move ! (1 ∷ []) $ fsplit ! $ handle_out ! v z.0.4.0 (λ h ws gh. either_held R ! a v.at v.held
     (λ is none. let w : Val = both (ptr_val null_ptr) h in let ws' = subst (λ (p : Ptr). z.0.4.0 ≡ both (ptr_val p) h ∷ []) is ws in
     suffices ! (Run (w ∷ [])) (subst (λ (us : List Val). ent 𝓤 (Run (w ∷ [])) (Run us)) (sym (λ i. ws' i ++ [])) (id⊢ 𝓤 (Run (w ∷ [])))) $
     enter ! 𝓣.C 𝓣.Λ fn (w ∷ []) Post $ alloc_all ! (λ l. pass_all ! refl (handle_good null_ptr h gh, tt) $ let Ev = env fn.locals l in

@@ -3,4 +3,4 @@ use Rattle.adf_export.proofs.damaged.Rescue.tell.Given as goal
 
 -- the entries before this one have their lines
 abbrev pub invariant-loop-place : goal.invariant-loop-place
-invariant-loop-place g l = IsTold l.entries l.place l.whole (g.W.Write.contents l.initial.writer) (g.W.Write.contents l.writer)
+invariant-loop-place g l = IsTold l.entries l.place (g.W.Write.contents l.initial.writer) (g.W.Write.contents l.writer)

@@ -1,0 +1,3 @@
+-- Lists of owners and of faults, one after the other.
+pub mod Owning
+pub mod Finding

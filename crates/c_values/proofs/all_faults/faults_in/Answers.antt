@@ -1,0 +1,13 @@
+use Rattle.std.proofs.Common.{map, ap, ◌∙◌, arith}
+use Rattle.c_values.specs.AllFaults.{told_fault}
+use Rattle.c_values.proofs.all_faults.faults_in.Goals as goal
+
+pub returns : goal.returns
+returns c = record {
+  image = c.blocks-2.ensures.image;
+  faults = c.in_ok-found.found.faults.items;
+  lists = c.in_ok-found.ensures.lists;
+  told_are = c.in_ok-faults.ensures ∙ ap (map told_fault) c.deref.ensures.value;
+  none = c.in_ok-found.ensures.none (omega arith);
+  whole = c.in_ok-found.ensures.whole;
+}

@@ -1,0 +1,88 @@
+-- All faults of an image with the numbers that show them, for C.
+use Rattle.std.specs.Prelude.{◌≡◌, ◌↔◌, ◌⊎◌, ⊤, ℕ, ℤ, pos, Bool, false, List, [], ◌∷◌, length, Option, Some, None}
+use Rattle.adf_block.specs.Size.{IsSizeFault}
+use Rattle.adf_block.specs.Whole.{IsImage}
+use Rattle.adf_block.specs.declared.volume_size.SizeFault.{SizeFault}
+use Rattle.ados_faults.specs.Listed.{ListsFaults}
+use Rattle.ados_faults.specs.Values.{AreValues}
+use Rattle.ados_faults.specs.declared.values.FaultValues.{FaultValues}
+use Rattle.ados_model.specs.Accepted.{ShowsNoFault}
+use Rattle.ados_model.specs.declared.fault.VolumeFault.{VolumeFault}
+use Rattle.c_values.specs.AllFaults.{yes_number}
+use Rattle.c_values.specs.Ends.{ComesTo}
+use Rattle.c_values.specs.Faults.{fault_number, size_fault_number}
+use Rattle.c_values.specs.Lists.{copied}
+use Rattle.c_values.specs.declared.all_faults.TheConstants.{MOST_FAULTS}
+use Rattle.c_values.specs.declared.findings.JipFinding.{JipFinding}
+use Rattle.c_values.specs.declared.refusal.Refusal.TheVariants.{NoMemory}
+
+-- a fault that no long of its block shows
+abbrev pub bare_finding : ℤ → ℕ → JipFinding
+bare_finding kind block = record { kind = kind; block = block; known = 0; at = 0; found = 0; wanted = 0 }
+
+-- 1 if only the found value is known, 2 if the right one is too
+abbrev pub known_of : Option ℕ → ℕ
+known_of (Some wanted) = 2
+known_of None = 1
+
+abbrev pub wanted_of : Option ℕ → ℕ
+wanted_of (Some wanted) = wanted
+wanted_of None = 0
+
+-- a fault that a long of its block shows
+abbrev pub told_finding : VolumeFault → FaultValues → JipFinding
+told_finding fault values = record {
+  kind = pos (fault_number fault.kind);
+  block = fault.block;
+  known = known_of values.wanted;
+  at = values.long;
+  found = values.found;
+  wanted = wanted_of values.wanted;
+}
+
+-- the fault for C: alone, or with a long of its block that shows it
+abbrev pub IsFindingOf : List ℕ → VolumeFault → JipFinding → Type 0
+IsFindingOf image fault finding =
+    (finding ≡ bare_finding (pos (fault_number fault.kind)) fault.block)
+    ⊎ ((values : FaultValues) × AreValues image fault.kind fault.block values × (finding ≡ told_finding fault values))
+
+-- these faults for C, in order
+unfoldable pub AreFindings : List ℕ → List VolumeFault → List JipFinding → Type 0
+AreFindings image [] [] = ⊤
+AreFindings image (fault ∷ faults) (finding ∷ findings) = IsFindingOf image fault finding × AreFindings image faults findings
+AreFindings image _ _ = ⊥
+
+-- the bytes are an image, and these are its faults in order, as in `TellsFaults`
+pub record TellsFindings (bytes : List ℕ) (told : List JipFinding) (more : Bool) : Type 0 where
+  pub image : IsImage bytes
+  pub faults : List VolumeFault
+  pub lists : ListsFaults bytes MOST_FAULTS faults
+  pub told_are : AreFindings bytes faults told
+  pub none : (faults ≡ []) ↔ ShowsNoFault bytes
+  pub whole : ShowsNoFault bytes → more ≡ false
+
+-- the bytes are too few, too many, or not whole blocks; this is the only fault
+pub record TellsSizeFinding (bytes : List ℕ) (told : List JipFinding) (more : Bool) : Type 0 where
+  pub size : SizeFault
+  pub wrong : IsSizeFault (length bytes) size
+  pub told_is : told ≡ bare_finding (pos (size_fault_number size)) 0 ∷ []
+  pub alone : more ≡ false
+
+-- the faults of the bytes, and whether there may be more of them
+abbrev pub AreFindingsOf : List ℕ → List JipFinding → Bool → Type 0
+AreFindingsOf bytes told more = TellsFindings bytes told more ⊎ TellsSizeFinding bytes told more
+
+-- the faults are copied to the array; the count is the number of faults, with or without room for them
+pub record CopiesFindings (bytes : List ℕ) (before after : List JipFinding) (count : ℕ) (more : ℤ) : Type 0 where
+  pub told : List JipFinding
+  pub is_more : Bool
+  pub are : AreFindingsOf bytes told is_more
+  pub filled : after ≡ copied told before
+  pub counted : count ≡ length told
+  pub said : more ≡ yes_number is_more
+
+-- the result by the status; without memory nothing is written
+abbrev pub FindingsEnd : List ℕ → List JipFinding → List JipFinding → ℕ → ℕ → ℤ → ℤ → ℤ → Type 0
+FindingsEnd bytes before after count_before count more_before more =
+    ComesTo (CopiesFindings bytes before after count more)
+    (λ refusal. (refusal ≡ NoMemory) × (after ≡ before) × (count ≡ count_before) × (more ≡ more_before))

@@ -1,0 +1,13 @@
+-- What C sees of values: the status of a call, texts in a buffer, lists in an array, dates, answers, faults, owners of blocks, and entries of a salvage.
+pub mod Status
+pub mod Ends
+pub mod Lists
+pub mod Buffers
+pub mod Dates
+pub mod Telling
+pub mod Faults
+pub mod AllFaults
+pub mod Findings
+pub mod Names
+pub mod Owners
+pub mod Salvaged

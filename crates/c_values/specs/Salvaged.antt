@@ -1,0 +1,49 @@
+-- The entries of a salvage, for C.
+use Rattle.std.specs.Prelude.{ℕ, Bool, false, if◌then◌else◌, length, Option, Some, None}
+use Rattle.adf_salvage.specs.declared.salvaged.Salvaged.{Salvaged}
+use Rattle.adf_salvage.specs.declared.salvaged.State.{State}
+use Rattle.adf_salvage.specs.declared.salvaged.State.TheVariants.{Directory, Whole, Broken, Lost}
+use Rattle.c_values.specs.Dates.{told_date}
+use Rattle.c_values.specs.Telling.{cells_of}
+use Rattle.c_values.specs.declared.salvaged.JipSalvaged.{JipSalvaged}
+
+-- the position of a directory; 2^64 - 1 if there is none
+abbrev pub told_above : Option ℕ → ℕ
+told_above (Some place) = place
+told_above None = 18_446_744_073_709_551_615
+
+-- the number of a state
+abbrev pub told_state : State → ℕ
+told_state Directory = 1
+told_state Whole = 2
+told_state (Broken missing cut size) = 3
+told_state Lost = 4
+
+-- how many data blocks are missing, and whether the bytes end early
+abbrev pub told_missing : State → ℕ
+told_missing (Broken missing cut size) = missing
+told_missing _ = 0
+
+abbrev pub told_cut : State → Bool
+told_cut (Broken missing cut size) = cut
+told_cut _ = false
+
+-- the number of a yes or no
+abbrev pub yes_number : Bool → ℕ
+yes_number is = if is then 1 else 0
+
+-- an entry with this number of bytes, without its name
+abbrev pub told_salvaged : Salvaged → ℕ → JipSalvaged
+told_salvaged e size = record {
+  directory = told_above e.above;
+  size = size;
+  state = told_state e.state;
+  header = e.header;
+  is_found = yes_number e.found;
+  missing = told_missing e.state;
+  is_cut = yes_number (told_cut e.state);
+  protection = e.protection.0;
+  date = told_date e.date;
+  comment_length = length e.comment;
+  comment = cells_of 80 e.comment;
+}

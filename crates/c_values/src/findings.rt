@@ -1,0 +1,165 @@
+//! All faults of an image with the numbers that show them, for C.
+
+ghost use Rattle.std.specs.Prelude.{◌≡◌, IfOk};
+ghost use Rattle.c_values.specs.Findings.{AreFindings, AreFindingsOf, FindingsEnd, IsFindingOf, TellsFindings, bare_finding, known_of, told_finding, wanted_of};
+
+use crate::all_faults::{MOST_FAULTS, yes_number};
+use crate::faults::JipFault;
+use crate::lists::copy_to;
+use crate::refusal::Refusal;
+use adf_block::Image;
+use ados_faults::{FaultValues, Mark, all_faults, values_of};
+use ados_model::VolumeFault;
+use std::alloc::{AllocError, Global};
+
+/// A fault with the long of its block that shows it.
+#[repr(C)]
+#[derive(Clone, Copy)]
+pub struct JipFinding {
+    /// As in a `JipFault`.
+    pub kind: i32,
+    pub block: u32,
+    /// 0 if no long of the block shows the fault alone, 1 if `at` and `found` are set, 2 if `wanted` is too.
+    pub known: u32,
+    /// The index of the long in the block, 0 to 127.
+    pub at: u32,
+    /// What the long holds.
+    pub found: u32,
+    /// What it has to hold.
+    pub wanted: u32,
+}
+
+/// Lists the faults of an image as `check_image` does, each with the long of its block that shows it.
+///
+/// Status 2: out of memory. Nothing is written then.
+pub fn find_values(
+    alloc: Global,
+    bytes: &[u8],
+    findings: &mut [JipFinding],
+    count: &mut usize,
+    more: &mut i32,
+) -> i32
+    ensures { FindingsEnd bytes.now findings.old findings.new count.old count.new more.old more.new result }
+{
+    match findings_of(alloc, bytes) {
+        Ok(told) => {
+            *count = copy_to(&told.findings, findings);
+            *more = yes_number(told.more);
+            0
+        }
+        Err(_) => Refusal::NoMemory.number(),
+    }
+}
+
+/// Faults, and whether there may be more.
+#[derive(Drop)]
+struct ToldFindings {
+    findings: Vec<JipFinding>,
+    more: bool,
+}
+
+/// The faults of these bytes.
+fn findings_of(alloc: Global, bytes: &[u8]) -> Result<ToldFindings, AllocError>
+    ensures { IfOk result (λ told. AreFindingsOf bytes.now told.findings.items told.more) }
+{
+    let copy = Vec::from_slice(alloc, bytes)?;
+    match Image::from_bytes(copy) {
+        Ok(image) => findings_in(alloc, &image),
+        Err(refused) => {
+            let mut findings = Vec::new(alloc);
+            findings.push(JipFinding::bare(JipFault::of_size(refused.fault)))?;
+            Ok(ToldFindings {
+                findings,
+                more: false,
+            })
+        }
+    }
+}
+
+/// The faults of an image.
+fn findings_in(alloc: Global, image: &Image) -> Result<ToldFindings, AllocError>
+    ensures { IfOk result (λ told. TellsFindings image.now told.findings.items told.more) }
+{
+    prove!(image.blocks() >= 16);
+    let found = all_faults(alloc, image, MOST_FAULTS)?;
+    let findings = told_findings(alloc, image, &found.marks, &found.faults)?;
+    Ok(ToldFindings {
+        findings,
+        more: found.more,
+    })
+}
+
+/// These faults for C.
+fn told_findings(
+    alloc: Global,
+    image: &Image,
+    marks: &[Option<Mark>],
+    faults: &[VolumeFault],
+) -> Result<Vec<JipFinding>, AllocError>
+    ensures { IfOk result (λ told. AreFindings image.now faults.now told.items) }
+{
+    let mut told = Vec::with_capacity(alloc, faults.len())?;
+    for place in 0..faults.len() {
+        told.push(finding_of(image, marks, faults[place]))?;
+    }
+    Ok(told)
+}
+
+/// A fault for C, with the long that shows it.
+fn finding_of(image: &Image, marks: &[Option<Mark>], fault: VolumeFault) -> JipFinding
+    ensures { IsFindingOf image.now fault result }
+{
+    match values_of(image, marks, &fault) {
+        Some(values) => JipFinding::of(fault, values),
+        None => JipFinding::bare(JipFault::of_volume(fault)),
+    }
+}
+
+impl JipFinding {
+    /// A fault that no long shows.
+    fn bare(fault: JipFault) -> JipFinding
+        ensures { result ≡ bare_finding fault.kind fault.block }
+    {
+        JipFinding {
+            kind: fault.kind,
+            block: fault.block,
+            known: 0,
+            at: 0,
+            found: 0,
+            wanted: 0,
+        }
+    }
+
+    /// A fault that a long shows.
+    fn of(fault: VolumeFault, values: FaultValues) -> JipFinding
+        ensures { result ≡ told_finding fault values }
+    {
+        let shown = JipFault::of_volume(fault);
+        JipFinding {
+            kind: shown.kind,
+            block: shown.block,
+            known: known_number(values.wanted),
+            at: values.long,
+            found: values.found,
+            wanted: wanted_number(values.wanted),
+        }
+    }
+}
+
+fn known_number(wanted: Option<u32>) -> u32
+    ensures { result ≡ known_of wanted }
+{
+    match wanted {
+        Some(_) => 2,
+        None => 1,
+    }
+}
+
+fn wanted_number(wanted: Option<u32>) -> u32
+    ensures { result ≡ wanted_of wanted }
+{
+    match wanted {
+        Some(wanted) => wanted,
+        None => 0,
+    }
+}

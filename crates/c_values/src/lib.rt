@@ -1,0 +1,35 @@
+//! Values as programs in C see them: statuses, dates, texts in a buffer, lists in an array, and structs of numbers.
+//!
+//! The exports of `adf_c` are thin layers over these functions. No handle is needed here, and no raw pointer.
+#![tactic(auto)]
+
+mod all_faults;
+mod answer;
+mod buffers;
+mod date;
+mod dates;
+mod faults;
+mod findings;
+mod lists;
+mod names;
+mod notes;
+mod owners;
+mod refusal;
+mod salvaged;
+
+pub use all_faults::{MOST_FAULTS, check_image};
+pub use answer::{JipAnswer, JipDisk, JipEntry};
+pub use buffers::put;
+pub use date::JipDate;
+pub use dates::{date_of_text, date_of_time, text_of_date, time_of_date};
+pub use faults::JipFault;
+pub use findings::{JipFinding, find_values};
+pub use lists::copy_to;
+pub use names::{
+    bytes_of_letters, host_of_name, is_name, letters_of_bytes, letters_of_protection, name_of_host,
+    protection_of_letters,
+};
+pub use notes::{read_uaem, uaem_line};
+pub use owners::{JipOwner, owners_of};
+pub use refusal::{Refusal, status};
+pub use salvaged::JipSalvaged;

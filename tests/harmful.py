@@ -1,0 +1,241 @@
+"""Images that are drawn to exhaust time, memory or disk: as deep, as wide or as tangled as their blocks allow.
+
+Those of the first part are accepted. Those of the second part consist of headers only; `refused` puts a wrong checksum into
+the root of one, so that only a rescue reads it.
+"""
+from __future__ import annotations
+
+import struct
+from typing import Callable, Dict, Iterator, List, Sequence, Tuple
+
+from all_faults_model import slot_of
+from harness import BLOCK, Image
+
+SLOTS, DIRECTORY, FILE = 72, 2, 0xFFFFFFFD
+# The longs of a block.
+LONGS = struct.Struct(">128I")
+# The names of an image are at most this many.
+MOST_NAMES = 101_602
+
+
+# ---- images that are accepted
+
+
+class Drawing:
+    """A blank image into which entries are drawn. Its bitmap is to be rebuilt."""
+
+    def __init__(self, blank: bytes) -> None:
+        self.image = Image(blank)
+        self.root = self.image.blocks // 2
+        self.image.put(self.root, 78, 0)
+        self.left = [it for it in range(self.image.blocks - 1, 1, -1) if blank[it * BLOCK : (it + 1) * BLOCK] == bytes(BLOCK)]
+        self.drawn = [self.root]
+        self.last: Dict[Tuple[int, int], int] = {}
+
+    def entry(self, directory: int, name: bytes, kind: int = DIRECTORY) -> int:
+        """Draws an empty directory or file with the next free block, last in its hash chain, and returns that block."""
+        block = self.left.pop()
+        for at, value in ((0, 2), (1, block), (125, directory), (127, kind)):
+            self.image.put(block, at, value)
+        put_name(self.image, block, name)
+        slot = 6 + slot_of(name)
+        before = self.last.get((directory, slot))
+        self.image.put(*((directory, slot) if before is None else (before, 124)), block)
+        self.last[directory, slot] = block
+        self.drawn.append(block)
+        return block
+
+    def done(self, wrong: Sequence[int] = ()) -> bytes:
+        """The image, with wrong checksums in some blocks."""
+        data = self.image.data
+        for block in self.drawn:
+            total = sum(LONGS.unpack_from(data, block * BLOCK)) - self.image.long(block, 5)
+            self.image.put(block, 5, -total)
+        for block in wrong:
+            self.image.put(block, 5, self.image.long(block, 5) + 1)
+        return bytes(data)
+
+
+def put_name(image: Image, block: int, name: bytes) -> None:
+    """Writes a name into a header. Its checksum is not changed."""
+    start = block * BLOCK + 432
+    image.data[start : start + 1 + len(name)] = bytes([len(name)]) + name
+
+
+def headers_of(blank: bytes) -> int:
+    """The number of entries for which a blank image has room."""
+    return len(Drawing(blank).left)
+
+
+def long_names() -> Iterator[bytes]:
+    """Names of 30 letters, all different."""
+    return (b"%030d" % it for it in range(MOST_NAMES))
+
+
+def names_of_one_chain() -> Iterator[bytes]:
+    """Names of eight letters, all different and in the same slot. The last two letters of each are chosen for that."""
+    letters = b"ABCDEFGHIJKLMNOPQRSTUVWXYZ"
+    ends: Dict[int, bytes] = {}
+    for hashed in range(2048):
+        pairs = ((one, two) for one in letters for two in letters)
+        ends[hashed] = next(bytes(it) for it in pairs if (13 * ((13 * hashed + it[0]) % 2048) + it[1]) % 2048 % SLOTS == 0)
+    for number in range(MOST_NAMES):
+        front, hashed = b"%06d" % number, 8
+        for it in front:
+            hashed = (13 * hashed + it) % 2048
+        yield front + ends[hashed]
+
+
+def deep_chain(blank: bytes) -> bytes:
+    """Each directory is in the one before, through all blocks."""
+    drawing, names = Drawing(blank), long_names()
+    here = drawing.root
+    while drawing.left:
+        here = drawing.entry(here, next(names))
+    return drawing.done()
+
+
+def deep_files(blank: bytes, depth: int, wrong: int = 0) -> bytes:
+    """A chain of directories, and files through all other blocks in the deepest. The last files have wrong checksums."""
+    drawing, names = Drawing(blank), long_names()
+    here = drawing.root
+    for _ in range(depth):
+        here = drawing.entry(here, next(names))
+    files = []
+    while drawing.left:
+        files.append(drawing.entry(here, next(names), FILE))
+    return drawing.done(files[len(files) - wrong :])
+
+
+def deep_ways(blank: bytes, depth: int) -> bytes:
+    """Directories side by side in the root, each the first of a chain this deep, with names of one letter."""
+    drawing = Drawing(blank)
+    for number in range(MOST_NAMES):
+        here = drawing.entry(drawing.root, b"%06d" % number)
+        for _ in range(min(depth - 1, len(drawing.left))):
+            here = drawing.entry(here, b"d")
+        if not drawing.left:
+            break
+    return drawing.done()
+
+
+def one_chain(blank: bytes, spare: int) -> bytes:
+    """A directory `d` whose files are all in one hash chain. So many blocks are left free."""
+    drawing, names = Drawing(blank), names_of_one_chain()
+    directory = drawing.entry(drawing.root, b"d")
+    while len(drawing.left) > spare:
+        drawing.entry(directory, next(names), FILE)
+    return drawing.done()
+
+
+# ---- images of headers
+
+
+def put_entry(image: Image, block: int, kind: int, name: bytes, parent: int = 0, slot: int = 0) -> None:
+    """Draws the header of a directory or an empty file over a block, sound by itself: with its parent, and the first entry of
+    its first slot."""
+    image.data[block * BLOCK : (block + 1) * BLOCK] = bytes(BLOCK)
+    for at, value in ((0, 2), (1, block), (6, slot), (125, parent), (127, kind)):
+        image.put(block, at, value)
+    put_name(image, block, name)
+    image.settle(block)
+
+
+def put_pointers(image: Image, block: int, size: int, pointers: Sequence[int], extension: int = 0) -> None:
+    """Gives a file a size, these first data blocks, and an extension block."""
+    for at, value in ((2, len(pointers)), (81, size), (126, extension)):
+        image.put(block, at, value)
+    for place, pointer in enumerate(pointers):
+        image.put(block, 77 - place, pointer)
+    image.settle(block)
+
+
+def put_header(image: Image, block: int, size: int, pointers: Sequence[int]) -> None:
+    """Draws the header of a file over a block, sound by itself: with this size and these first data blocks."""
+    put_entry(image, block, FILE, f"f{block}".encode(), image.blocks // 2)
+    put_pointers(image, block, size, pointers)
+
+
+def refused(image: Image) -> bytes:
+    """The image with a wrong checksum in its root, so that it is refused."""
+    image.data[len(image.data) // 2 + 20] ^= 1
+    return bytes(image.data)
+
+
+Places = Sequence[int]
+
+
+def places_in(image: Image) -> List[int]:
+    """The blocks of a blank image other than those of the volume itself."""
+    root = image.blocks // 2
+    pages = {image.long(root, 79 + it) for it in range(25)}
+    return [it for it in range(2, image.blocks) if it != root and it not in pages]
+
+
+def parents_up(image: Image, places: Places, depth: int) -> None:
+    """Directories that only their parents hold together: chains of this depth, from the first header up to the last."""
+    for at, block in enumerate(places):
+        is_last = (at + 1) % depth == 0 or at + 1 == len(places)
+        put_entry(image, block, DIRECTORY, b"d", 0 if is_last else places[at + 1])
+
+
+def parents_round(image: Image, places: Places, depth: int) -> None:
+    """Directories in cycles of parents."""
+    for at, block in enumerate(places):
+        first = at - at % depth
+        is_last = (at + 1) % depth == 0 or at + 1 == len(places)
+        put_entry(image, block, DIRECTORY, b"d", places[first if is_last else at + 1])
+
+
+def chains_down(image: Image, places: Places, depth: int) -> None:
+    """Directories in directories, by the slots of the root, and an empty file in the last one."""
+    root = image.blocks // 2
+    for at, block in enumerate(places):
+        is_last = (at + 1) % depth == 0 or at + 1 == len(places)
+        if at % depth == 0 and at // depth < SLOTS:
+            image.put(root, 6 + at // depth, block)
+        if is_last:
+            put_entry(image, block, FILE, b"f%d" % (at // depth))
+        else:
+            put_entry(image, block, DIRECTORY, b"d", slot=places[at + 1])
+
+
+def shares_list(size: int) -> Callable[[Image, Places], None]:
+    """All headers have one list of blocks."""
+
+    def draw(image: Image, places: Places) -> None:
+        for block in places:
+            put_header(image, block, size, places[100 : 100 + SLOTS])
+
+    return draw
+
+
+def grows_by_one(image: Image, places: Places) -> None:
+    """All headers have a part of one list of blocks, each one block more."""
+    for at, block in enumerate(places):
+        put_header(image, block, BLOCK * (1 + at % SLOTS), places[100 : 101 + at % SLOTS])
+
+
+def ends_late(image: Image, places: Places) -> None:
+    """Each file has one block, which is the last of 72."""
+    half = len(places) // 2
+    for block, data in zip(places[:half], places[half:]):
+        put_header(image, block, SLOTS * BLOCK, [0] * (SLOTS - 1) + [data])
+
+
+def extensions_round(image: Image, places: Places) -> None:
+    """The extension block of each file is its own next one."""
+    half = len(places) // 2
+    for block, extension in zip(places[:half], places[half:]):
+        put_header(image, block, 0xFFFFFFFF, places[half : half + SLOTS])
+        put_pointers(image, block, 0xFFFFFFFF, places[half : half + SLOTS], extension)
+        image.data[extension * BLOCK : (extension + 1) * BLOCK] = bytes(BLOCK)
+        for at, value in ((0, 16), (1, extension), (2, SLOTS), (125, block), (126, extension), (127, FILE)):
+            image.put(extension, at, value)
+        image.settle(extension)
+
+
+def names_alike(image: Image, places: Places) -> None:
+    """Entries with one name, and with the names that they get instead."""
+    for at, block in enumerate(places):
+        put_entry(image, block, FILE, b"same" if at % 3 else b"same~%d" % places[(at + 1) % len(places)])
