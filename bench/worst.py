@@ -114,7 +114,13 @@ COMMANDS: Dict[str, Callable[[Drawn], Sequence[str]]] = {
     "serve": lambda it: ["serve", *MOMENT, "--out", "made.adf", "image.adf", "script"],
     "add": lambda it: ["add", *MOMENT, "--to", it.directory, "--out", "made.adf", "image.adf", "host"],
     "rename": lambda it: ["rename", *MOMENT, "--out", "made.adf", "image.adf", it.file, "moved"],
+    "mkdir": lambda it: ["mkdir", *MOMENT, "--out", "made.adf", "image.adf", f"{it.directory}/made"],
+    "delete": lambda it: ["delete", *MOMENT, "--out", "made.adf", "image.adf", it.file],
     "delete --all": lambda it: ["delete", "--all", *MOMENT, "--out", "made.adf", "image.adf", it.top],
+    "protect": lambda it: ["protect", *MOMENT, "--out", "made.adf", "image.adf", it.file, "rwed"],
+    "comment": lambda it: ["comment", *MOMENT, "--out", "made.adf", "image.adf", it.file, "text"],
+    "relabel": lambda it: ["relabel", *MOMENT, "--out", "made.adf", "image.adf", "Other"],
+    "boot": lambda it: ["boot", "--out", "made.adf", "image.adf"],
 }
 
 

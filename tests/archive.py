@@ -35,6 +35,8 @@ ALL_ONES = 2**32 - 1
 KINDS: List[List[str]] = [["--ffs"], []]
 NOT_BLOCKS = b"refused NotWholeBlocks 0\n"
 FIELDS = ["path", "ok", "validated", "kind", "blocks", "name", "files", "directories", "free", "faults"]
+# The kinds of faults that no long of their block shows.
+WITHOUT_LONG = {"BlockUsedTwice", "WrongChain", "DuplicateName", "MarkedFree"}
 # The bytes of files by their paths.
 Files = Dict[str, bytes]
 T = TypeVar("T")
@@ -246,6 +248,123 @@ def refused_objects(room: Room) -> None:
     room.report.same("their status", ran.status, 2)
 
 
+# ---- the long that shows a fault
+
+
+class Shown(NamedTuple):
+    """A fault after some longs were changed: its kind and block, the value of the first long that shows it, and the only right one."""
+
+    kind: str
+    block: int
+    found: Optional[int]
+    wanted: Optional[int]
+
+
+# Longs to change, each with its block and its new value, and a fault that is shown then. The blocks are settled.
+ChangedLongs = Tuple[List[Tuple[int, int, int]], Shown]
+
+
+def of_any_kind(image: Volume) -> Iterator[ChangedLongs]:
+    """Damages of both kinds of volume, with the values that follow from the change."""
+    docs, long = image.header("Docs"), image.header("long")
+    extension, empty = image.long(long, 126), image.header("empty")
+    for block, at, kind, value, wanted in [
+        (ROOT, 0, "BadType", 3, 2),
+        (ROOT, 3, "BadType", 71, 72),
+        (ROOT, 127, "BadType", 2, 1),
+        (ROOT, 125, "BadParent", 5, 0),
+        (docs, 0, "BadType", 8, 2),
+        (docs, 127, "BadType", 7, None),
+        (docs, 127, "LinkEntry", 4, None),
+        (docs, 1, "BadOwnKey", docs + 1, docs),
+        (docs, 125, "BadParent", 5, ROOT),
+        (docs, 108, "BadName", 0x00446F63, None),
+        (docs, 108, "BadName", 0x1F446F63, None),
+        (docs, 109, "BadName", 0x3A000000, None),
+        (docs, 82, "BadComment", 0x50000000, None),
+        (docs, 124, "BadPointer", 1, None),
+        (docs, 6, "BadPointer", image.blocks, None),
+        (long, 2, "BadCount", 71, 72),
+        (long, 2, "BadCount", 73, 72),
+        (long, 81, "BadCount", 1, None),
+        (empty, 2, "BadCount", 73, None),
+        (extension, 0, "BadType", 2, 16),
+        (extension, 127, "BadType", 2, ALL_ONES - 2),
+        (extension, 1, "BadOwnKey", 5, extension),
+        (extension, 2, "BadCount", 0, None),
+        (extension, 2, "BadCount", 80, None),
+        (extension, 125, "BadParent", 5, long),
+    ]:
+        yield [(block, at, value)], Shown(kind, block, value, wanted)
+    yield [(0, 0, 0x004F5300)], Shown("NotADosDisk", 0, 0x004F5300, None)
+    yield [(0, 0, 0x444F5302)], Shown("UnsupportedKind", 0, 0x444F5302, None)
+    yield [(ROOT, 127, 2), (ROOT, 3, 70)], Shown("BadType", ROOT, 70, 72)
+    yield [(long, 2, 71), (long, 81, 1)], Shown("BadCount", long, 71, 72)
+    yield [(docs, 109, 0x2F000000), (docs, 108, 0x1F3A3A3A)], Shown("BadName", docs, 0x1F3A3A3A, None)
+    yield [(docs, 108, 0x05446F63), (docs, 109, 0x733A0000)], Shown("BadName", docs, 0x733A0000, None)
+    # No long of the block itself is wrong.
+    yield [(long, 76, image.long(long, 77))], Shown("BlockUsedTwice", image.long(long, 77), None, None)
+    yield [(docs, 108, 0x03746F70), (docs, 109, 0)], Shown("DuplicateName", docs, None, None)
+    yield [(docs, 108, 0x04446F64)], Shown("WrongChain", docs, None, None)
+    yield [(image.long(ROOT, 79), it, ALL_ONES) for it in range(1, 56)], Shown("MarkedFree", ROOT, None, None)
+
+
+def of_ofs(image: Volume) -> Iterator[ChangedLongs]:
+    """Damages of the fields of OFS data blocks, and of the links to them."""
+    long = image.header("long")
+    extension = image.long(long, 126)
+    blocks = image.pointers(long) + image.pointers(extension)
+    for place, at, kind, value, wanted in [
+        (1, 0, "BadType", 2, 8),
+        (1, 1, "BadParent", 5, long),
+        (1, 2, "BadSequence", 9, 2),
+        (71, 2, "BadSequence", 0, 72),
+        (72, 2, "BadSequence", 1, 73),
+        (1, 3, "BadCount", 487, 488),
+        (71, 3, "BadCount", 0, 488),
+        (71, 3, "BadCount", 489, 488),
+        (len(blocks) - 1, 3, "BadCount", 0, None),
+        (len(blocks) - 1, 3, "BadCount", 489, None),
+        (0, 4, "BadPointer", 5, blocks[1]),
+        (71, 4, "BadPointer", 5, blocks[72]),
+        (len(blocks) - 1, 4, "BadPointer", 5, 0),
+    ]:
+        yield [(blocks[place], at, value)], Shown(kind, blocks[place], value, wanted)
+    yield [(long, 4, 5)], Shown("BadPointer", long, 5, blocks[0])
+    # The link is the first long that shows it, before the pointer.
+    yield [(long, 77, 1)], Shown("BadPointer", long, blocks[0], 1)
+    yield [(long, 76, 1)], Shown("BadPointer", long, 1, None)
+    yield [(long, 76, 1)], Shown("BadPointer", blocks[0], blocks[1], 1)
+
+
+def shown_values(room: Room) -> None:
+    """The first long that shows a fault, and the value that is wanted there, for each kind of fault."""
+    for kind in KINDS:
+        name = kind[0] if kind else "--ofs"
+        filled(room, "shown.adf", *kind)
+        good = Volume(room.content("shown.adf"))
+        page = good.long(ROOT, 79)
+        for count, (changes, shown) in enumerate([*of_any_kind(good), *([] if kind else of_ofs(good))]):
+            image = Volume(good.data)
+            for block, at, value in changes:
+                image.put(block, at, value)
+            for block in {it[0] for it in changes} - {0}:
+                image.settle(block, 0 if block == page else 5)
+            room.report.same(f"{name}: long of fault {count}", told_of(room, image, shown), [shown])
+        for block, at in [(ROOT, 5), (good.header("long"), 5), (page, 0), *([] if kind else [(good.pointers(good.header("long"))[3], 5)])]:
+            image = Volume(good.data)
+            image.put(block, at, good.long(block, at) + 16)
+            shown = Shown("BadSum", block, image.long(block, at), good.long(block, at))
+            room.report.same(f"{name}: the checksum of block {block}", told_of(room, image, shown), [shown])
+
+
+def told_of(room: Room, image: Volume, shown: Shown) -> List[Shown]:
+    """The faults of this kind and block, as JSON tells them."""
+    room.write("shown.adf", bytes(image.data))
+    faults = json.loads(room.run("check", "--all", "--json", "shown.adf").output)["faults"]
+    every = [Shown(*(it[field] for field in Shown._fields)) for it in faults]
+    return [it for it in every if it[:2] == shown[:2]]
+
 # ---- input without an end
 
 
@@ -343,6 +462,18 @@ def model(room: Room) -> None:
             fault = f"{path}: {found[:5]} where the model has {wanted[:5]}"
             break
     room.report.hold(f"every fault of {ROUNDS} changed images, as the model has them", fault)
+
+
+def longs_told(room: Room) -> None:
+    """A fault of an image that uses each block once is told with the long that shows it, unless its kind has none."""
+    fault = None
+    for line in room.run("check", "--all", "--json", "changed").output.splitlines():
+        told = json.loads(line)
+        kinds = {it["kind"] for it in told["faults"]}
+        mixed = [it for it in told["faults"] if (it["found"] is None) != (it["kind"] in WITHOUT_LONG)]
+        if mixed and "BlockUsedTwice" not in kinds:
+            fault = f"{told['path']}: {mixed[0]}"
+    room.report.hold(f"the longs that show the faults of {ROUNDS} changed images", fault)
 
 
 def faults_by_model(room: Room, path: str) -> List[str]:
@@ -728,7 +859,7 @@ def damages(room: Room) -> None:
 
 def main(words: List[str]) -> int:
     random.seed(3)
-    parts = (named_images, directories, parallel, accepted_objects, refused_objects, bounded, many_faults, model, salvage, rows, damages)
+    parts = (named_images, directories, parallel, accepted_objects, refused_objects, shown_values, bounded, many_faults, model, longs_told, salvage, rows, damages)
     return try_all(words, Room, *parts)
 
 

@@ -6,12 +6,14 @@ expected ones. tests/cases tests scripts on standard input.
 """
 from __future__ import annotations
 
+import datetime
 import fcntl
 import os
 import re
 import shlex
 import shutil
 import sys
+import time
 from functools import partial
 from pathlib import Path
 from typing import Callable, Dict, List, NamedTuple, Optional, Sequence, Set, Tuple, Union
@@ -20,11 +22,11 @@ sys.dont_write_bytecode = True
 
 from harness import BLOCK, TOP, Image, Ran, Room, fault_of, run, try_all
 
-COMMANDS = "blank info check list print extract add mkdir delete rename protect comment relabel boot serve".split()
+COMMANDS = "blank info check list print extract add mkdir delete rename protect date comment relabel boot serve".split()
 # The commands for an image other than `info`, `check`, `list` and `serve`, with arguments.
 ON_IMAGES = [
     *("print IMAGE x", "extract IMAGE", "add IMAGE x", "mkdir IMAGE x", "delete IMAGE x", "rename IMAGE x y"),
-    *("protect IMAGE x rwed", "comment IMAGE x y", "relabel IMAGE x", "boot IMAGE"),
+    *("protect IMAGE x rwed", "date IMAGE x now", "comment IMAGE x y", "relabel IMAGE x", "boot IMAGE"),
 ]
 AT = "--days 1 --minutes 0 --ticks 0"
 # An entry of `list`, from its date on.
@@ -131,6 +133,84 @@ def moments(tried: Commands) -> None:
         tried.report.same(f"the moment at long {long}", [image.long(8, long + it) for it in range(3)], [1, 2, 3])
 
 
+# Dates as people write them, with their days since 1 January 1978, minutes and ticks by the host's calendar.
+WRITTEN_DATES = [
+    *("1978-01-01", "1990-01-01", "2000-02-29", "1985-07-23 00:00", "1985-07-23 23:59", "1992-12-31 12:30:15"),
+    *("1992-12-31 23:59:59.98", "1990-01-01 12:00:00.02", "9999-12-31 00:00:00.00"),
+]
+# Texts that are no dates, and days that are none or come before the first.
+NO_DATES = [
+    *("", "Now", "NOW", "now ", "today", "1990", "1990-01", "90-01-01", "1990-1-1", "01.01.1990", "1990-13-01", "1990-02-29"),
+    *("1977-12-31", "1990-01-01T12:00", "1990-01-01 12", "1990-01-01 24:00", "1990-01-01 12:60", "1990-01-01 12:00:60", " 1990-01-01"),
+    *("1990-01-01 12:00:00.01", "1990-01-01 12:00:00.5", "1990-01-01 12:00:00.000", "1990-01-01  12:00", "1990-01-01 ", "raw 1 2", "12:00"),
+]
+
+
+def longs_of(when: str) -> List[int]:
+    """The three longs of a date that is written out."""
+    day, _, time = when.partition(" ")
+    parts = [int(it) for it in re.split("[:.]", time)] if time else []
+    hour, minute, second, hundredth = [*parts, 0, 0, 0, 0][:4]
+    days = (datetime.date(*map(int, day.split("-"))) - datetime.date(1978, 1, 1)).days
+    return [days, 60 * hour + minute, 50 * second + hundredth // 2]
+
+
+def written_moments(tried: Commands) -> None:
+    """The option --date, by the longs of the root, which is block 8 of 16; and `now` by the host's clock."""
+    for when in WRITTEN_DATES:
+        tried.rows(row(f"blank --date '{when}'", ["blank", "--blocks", "16", "--date", when, "Work", "moment.adf"]))
+        image = Image(tried.content("moment.adf"))
+        for long in (105, 118, 121):
+            tried.report.same(f"'{when}' at long {long}", [image.long(8, long + it) for it in range(3)], longs_of(when))
+        tried.rows(row(f"mkdir --date '{when}'", ["mkdir", "--date", when, "moment.adf", "d"]))
+        image = Image(tried.content("moment.adf"))
+        tried.report.same(f"'{when}' of a directory", date_of(image, directory_of(image)), longs_of(when))
+    tried.rows(row("blank --date raw", ["blank", "--blocks", "16", "--date", "raw 7 1440 3000", "Work", "moment.adf"]))
+    tried.report.same("a date outside the calendar", date_of(Image(tried.content("moment.adf")), 8), [7, 1440, 3000])
+    for words in (["mkdir", "--date", "now", "moment.adf", "d"], ["date", "moment.adf", "d", "now"]):
+        before = clock()
+        tried.rows(row(" ".join(words), words))
+        image = Image(tried.content("moment.adf"))
+        days, minutes, ticks = date_of(image, directory_of(image))
+        now = 3000 * (1440 * days + minutes) + ticks
+        tried.report.expect(f"{words[0]}: now is the clock's", before <= now <= clock(), (days, minutes, ticks))
+
+
+def date_of(image: Image, block: int) -> List[int]:
+    return [image.long(block, 105 + it) for it in range(3)]
+
+
+def directory_of(image: Image) -> int:
+    """The block of the only directory in a volume of 16 blocks."""
+    return next(it for it in range(2, 16) if image.long(it, 127) == 2)
+
+
+def clock() -> int:
+    """The host's clock in ticks of 1/50 second since 1 January 1978."""
+    return (time.time_ns() // 1_000_000 - 252_460_800_000) // 20
+
+
+def wrong_dates(tried: Commands) -> None:
+    """A wrong date is refused before any work: the image is none, or not there."""
+    for when in NO_DATES:
+        tried.rows(
+            wrong(f"date '{when}'", ["date", "none.adf", "b", when], f"'{when}' for '<WHEN>'", "now", "YYYY-MM-DD"),
+            wrong(f"mkdir --date '{when}'", ["mkdir", f"--date={when}", "none.adf", "b"], f"'{when}' for '--date <WHEN>'", "now"),
+            wrong(f"blank --date '{when}'", ["blank", f"--date={when}", "Work", "a"], f"'{when}' for '--date <WHEN>'", "YYYY-MM-DD"),
+        )
+    for words in ("blank --date now Work a", "serve --date now a b"):
+        tried.rows(wrong(f"no clock: {words}", words, "'now' for '--date <WHEN>'", "YYYY-MM-DD"))
+    for option in ("days", "minutes", "ticks"):
+        for command in ("blank {} Work a", "serve {} a b", "mkdir {} none.adf b", "date {} none.adf b now", "boot {} none.adf"):
+            words = command.format(f"--date 1990-01-01 --{option} 1")
+            tried.rows(wrong(f"both: {words}", words, "--date", f"--{option}", "Usage"))
+    tried.rows(
+        wrong("boot with a date that is none", "boot --date x none.adf", "'x' for '--date"),
+        wrong("date twice", "mkdir --date 1990-01-01 --date 1990-01-02 none.adf b", "--date", "Usage"),
+    )
+    tried.absent("wrong dates write nothing", "a")
+
+
 # ---- Wrong arguments: the message says which one is wrong, and what is expected ----
 
 
@@ -183,7 +263,7 @@ def wrong_numbers(tried: Commands) -> None:
 
 def wrong_words_for_files(tried: Commands) -> None:
     """Arguments of the commands that move files: missing ones and extra ones."""
-    for command in ("list", "extract", "print", "add", "mkdir", "delete", "rename", "protect", "comment", "relabel", "boot"):
+    for command in ("list", "extract", "print", "add", "mkdir", "delete", "rename", "protect", "date", "comment", "relabel", "boot"):
         tried.rows(
             wrong(f"{command} without an image", [command], "IMAGE", "Usage"),
             wrong(f"{command} with a wrong option", [command, "--loud", "a", "b", "c"], "'--loud'", "Usage"),
@@ -194,6 +274,7 @@ def wrong_words_for_files(tried: Commands) -> None:
         wrong("add without a file", "add a", "FILE", "Usage"),
         wrong("rename without a new path", "rename a b", "NEW", "Usage"),
         wrong("protect without letters", "protect a b", "LETTERS", "Usage"),
+        wrong("date without a date", "date a b", "WHEN", "Usage"),
         wrong("comment without a text", "comment a b", "TEXT", "Usage"),
         wrong("relabel without a name", "relabel a", "NAME", "Usage"),
         wrong("boot with a number that is none", "boot --ticks x none.adf", "'x' for '--ticks"),
@@ -203,10 +284,13 @@ def wrong_words_for_files(tried: Commands) -> None:
         tried.rows(wrong(f"{command} with a number that is none", words, "'-1' for '--days"))
 
 
-FULL_OF_WORDS = ["info a", "list a b", "print a b", "rename a b c", "protect a b rwed", "comment a b c", "relabel a b", "boot a b"]
+FULL_OF_WORDS = [
+    *("info a", "list a b", "print a b", "rename a b c", "protect a b rwed", "date a b now", "comment a b c", "relabel a b", "boot a b"),
+]
 PAST_BYTES = [
     *("list none.adf ł", "print none.adf ł", "extract none.adf b ł", "add --to ł none.adf f", "mkdir none.adf b ł"),
     *("delete none.adf b ł", "rename none.adf ł b", "rename none.adf b ł", "protect none.adf ł rwed", "comment none.adf ł b"),
+    "date none.adf ł now",
     *("comment none.adf b ł", "relabel none.adf ł", "blank --letters ł none.adf"),
 ]
 
@@ -215,7 +299,8 @@ def words_too_many_and_wrong_letters(tried: Commands) -> None:
     """An extra argument, letters that are no protection bits, and letters that are no bytes."""
     for words in FULL_OF_WORDS:
         tried.rows(wrong(f"a word too many: {words}", f"{words} much", "'much'", "Usage"))
-    for letters in ("rwedx", "rr", "RWED", "-----rwe-", "----dewr"):
+    places = ("-----rwe-", "----dewr", "dewr---")
+    for letters in ("", "rwedx", "rr", "rR", "+", "=", "-", "+x", "-rr", "=rwedd", "+-s", "++s", "r+w", *places):
         tried.rows(wrong(f"protect {letters}", ["protect", "none.adf", "b", letters], f"'{letters}'", "hsparwed"))
     for words in PAST_BYTES:
         tried.rows(wrong(f"a letter past U+00FF: {words}", words, "'ł'", "U+00FF"))
@@ -436,7 +521,10 @@ def refused_changes(tried: Commands) -> None:
         ("delete of what is not there", "delete --all moved.adf x", "205 x", gone),
         ("delete of the root", "delete --all moved.adf :", "212 :", kind),
         ("rename under itself", "rename moved.adf d d/e", "202 d", "object is in use"),
-        ("protect of the root", "protect moved.adf : rwed", "212 :", kind),
+        ("protect of the root", "protect moved.adf : +s", "212 :", kind),
+        ("protect of what is not there", "protect moved.adf x -w", "205 x", gone),
+        ("date of the root", "date moved.adf : 1990-01-01", "212 :", kind),
+        ("date of what is not there", "date moved.adf d/x now", "205 d/x", gone),
         ("a comment of 80 letters", f"comment moved.adf d {'x' * 80}", "220 d", "comment is too long"),
         ("relabel with a separator", "relabel moved.adf a/b", "210 a/b", "object name invalid"),
         ("print of a directory", "print moved.adf d", "212 d", kind),
@@ -458,11 +546,55 @@ def changes_beside(tried: Commands) -> None:
     )
     for letters in ("-s-----d", "--------", "rwed", "h"):
         tried.rows(row(f"protect {letters}", ["protect", "moved.adf", "d", letters, "--out", "changed.adf"]))
+    dated = f"Volume Work\n     dir ---rwed 1990-01-01 12:30:00.00 d\n{MADE}d/é\n{MADE}d/é/f\n"
     tried.rows(
+        row("date", ["date", "moved.adf", "D", "1990-01-01 12:30", "--out", "changed.adf"]),
+        row("list of what date wrote", "list --letters changed.adf", 0, dated),
+        row("date now is the moment", "date --date 1990-01-01 moved.adf d now --out changed.adf"),
+        row("list of the moment", "list --letters changed.adf", 0, dated.replace("12:30", "00:00")),
         row("relabel", f"relabel {AT} moved.adf Ü --out changed.adf"),
         row("list of what relabel wrote", "list --letters changed.adf d/é/f", 0, "Volume Ü\n"),
     )
     tried.stays("with --out the image stays", "moved.adf", before)
+
+
+# What an entry shows before, a word of `protect`, and what the entry shows afterwards.
+PROTECTED = [
+    *(("----rwed", "+s", "-s--rwed"), ("-s--rwed", "-s", "----rwed"), ("-s--rwed", "-S", "----rwed")),
+    *(("-s--rwed", "-w", "-s--r-ed"), ("hspa----", "+RWED", "hsparwed"), ("hsparwed", "-hspa", "----rwed")),
+    *(("hsparwed", "=rwed", "----rwed"), ("hsparwed", "=", ""), ("hsparwed", "rwed", "----rwed")),
+    *(("--------", "DEWR", "----rwed"), ("----rwed", "h", "h-------"), ("h---rwed", "-H", "----rwed")),
+    *(("h---rwed", "s--rwed", "hs--rwed"), ("----rwed", "s--rwed", "-s--rwed"), ("h---rwed", "sparwed", "hsparwed")),
+    *(("h-------", "SPARWED", "hsparwed"), ("h---rwed", "-s--rwed", "-s--rwed"), ("h---rwed", "-sparwed", "-sparwed")),
+    *(("----rwed", "HSPARWED", "hsparwed"), ("h---rwed", "-------", "h-------"), ("----rwed", "dewraps", "-sparwed")),
+    *(("h---rwed", "--------", "--------"), ("----rwed", "-r", "-----wed"), ("hsparwed", "+hsparwed", "hsparwed")),
+]
+
+
+def protect_words(tried: Commands) -> None:
+    """Each form of `protect`, by the long of the entry in the image. Bits 8 to 31 stay."""
+    tried.rows(
+        row("blank for protect", "blank --ffs --blocks 16 Work bits.adf"),
+        row("mkdir for protect", f"mkdir {AT} bits.adf d"),
+    )
+    entry = directory_of(Image(tried.content("bits.adf")))
+    for before, word, after in PROTECTED:
+        tried.rows(row(f"protect {before}", ["protect", "bits.adf", "d", before]))
+        tried.report.same(f"protect {before}: its bits", Image(tried.content("bits.adf")).long(entry, 80), bits_of(before))
+        if after:
+            tried.rows(row(f"protect {word} of {before}", ["protect", "bits.adf", "d", word]))
+        else:
+            tried.rows(wrong(f"protect {word} of {before}", ["protect", "bits.adf", "d", word], f"'{word}'"))
+        tried.report.same(f"{before} after {word}", Image(tried.content("bits.adf")).long(entry, 80), bits_of(after or before))
+    tried.rows(
+        wrong("-h alone asks for help", "protect bits.adf d -h", "Usage: adf_serve protect", "+s"),
+        row("protect behind two dashes", "protect bits.adf d -- -h"),
+    )
+
+
+def bits_of(shown: str) -> int:
+    """The protection long of an entry that shows these eight places."""
+    return sum(128 >> it for it in range(8) if (shown[it] != "-") == (it < 4))
 
 
 def boot_blocks(tried: Commands) -> None:
@@ -674,9 +806,10 @@ def refused_output(tried: Commands) -> None:
 
 
 PARTS: List[Callable[[Commands], None]] = [
-    *(blank_images, moments, wrong_words, wrong_numbers, wrong_words_for_files, words_too_many_and_wrong_letters, refused_names),
+    *(blank_images, moments, written_moments, wrong_words, wrong_numbers, wrong_dates),
+    *(wrong_words_for_files, words_too_many_and_wrong_letters, refused_names),
     *(clients, faulty_scripts, turns, growths, many_clients),
-    *(directories, refused_changes, changes_beside, boot_blocks),
+    *(directories, refused_changes, changes_beside, protect_words, boot_blocks),
     *(held_images, missing_files, first_faults),
     *(accepted_images, refused_images, stale_image, refused_output),
 ]

@@ -148,7 +148,7 @@ def base_of(room: Room, seed: str, number: int) -> Base:
         path = it if is_plain else ""
         if path:
             room.done("comment", *MOMENT, "base.adf", path, "x" * chance.choice([1, 40, 79]))
-            room.done("protect", *MOMENT, "base.adf", path, chance.choice(["rwed", "r", "hsparwed"]))
+            room.done("protect", *MOMENT, "base.adf", path, chance.choice(["rwed", "r", "hsparwed", "+s", "-w", "=rwed", "s--rwed"]))
     return Base(room.content("base.adf"), is_plain)
 
 

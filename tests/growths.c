@@ -10,6 +10,7 @@
 #define _GNU_SOURCE
 #include <dlfcn.h>
 #include <fcntl.h>
+#include <signal.h>
 #include <stdio.h>
 #include <stdlib.h>
 #include <string.h>
@@ -77,7 +78,8 @@ static int is_out_of_memory(const char *text)
     return 0;
 }
 
-/* Counts how a child ended. Prints the output of a child that ended neither with success nor with out of memory. */
+/* Counts how a child ended. Prints the output of a child that ended neither with success nor with out of memory, which a test
+ * reports by its status or as it aborts. */
 static void count_ended(long number, int status)
 {
     char text[TEXT + 1];
@@ -85,7 +87,7 @@ static void count_ended(long number, int status)
     text[length > 0 ? length : 0] = 0;
     if (WIFEXITED(status) && WEXITSTATUS(status) == 0)
         counts->passed++;
-    else if (WIFEXITED(status) && is_out_of_memory(text))
+    else if ((WIFEXITED(status) || WTERMSIG(status) == SIGABRT) && is_out_of_memory(text))
         counts->wanting++;
     else
         dprintf(2, "growth %ld, %s %d: %s\n", number, WIFSIGNALED(status) ? "signal" : "status",

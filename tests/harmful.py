@@ -5,15 +5,12 @@ the root of one, so that only a rescue reads it.
 """
 from __future__ import annotations
 
-import struct
 from typing import Callable, Dict, Iterator, List, Sequence, Tuple
 
 from all_faults_model import slot_of
-from harness import BLOCK, Image
+from harness import BLOCK, LONGS, Image
 
 SLOTS, DIRECTORY, FILE = 72, 2, 0xFFFFFFFD
-# The longs of a block.
-LONGS = struct.Struct(">128I")
 # The names of an image are at most this many.
 MOST_NAMES = 101_602
 
@@ -135,8 +132,8 @@ def put_entry(image: Image, block: int, kind: int, name: bytes, parent: int = 0,
     """Draws the header of a directory or an empty file over a block, sound by itself: with its parent, and the first entry of
     its first slot."""
     image.data[block * BLOCK : (block + 1) * BLOCK] = bytes(BLOCK)
-    for at, value in ((0, 2), (1, block), (6, slot), (125, parent), (127, kind)):
-        image.put(block, at, value)
+    image.put_all(block, 0, (2, block, 0, 0, 0, 0, slot))
+    image.put_all(block, 125, (parent, 0, kind))
     put_name(image, block, name)
     image.settle(block)
 
@@ -145,8 +142,7 @@ def put_pointers(image: Image, block: int, size: int, pointers: Sequence[int], e
     """Gives a file a size, these first data blocks, and an extension block."""
     for at, value in ((2, len(pointers)), (81, size), (126, extension)):
         image.put(block, at, value)
-    for place, pointer in enumerate(pointers):
-        image.put(block, 77 - place, pointer)
+    image.put_all(block, 78 - len(pointers), pointers[::-1])
     image.settle(block)
 
 

@@ -11,14 +11,16 @@ import os
 import re
 import resource
 import shutil
+import signal
 import struct
 import subprocess
 import sys
 import tempfile
+import time
 from functools import partial
 from pathlib import Path
 from types import TracebackType
-from typing import Callable, Dict, List, Mapping, NamedTuple, Optional, Sequence, Tuple, Type, TypeVar, Union
+from typing import IO, Callable, Dict, List, Mapping, NamedTuple, NoReturn, Optional, Sequence, Tuple, Type, TypeVar, Union
 
 TOP = Path(__file__).resolve().parent.parent
 BLOCK = 512
@@ -30,6 +32,10 @@ AnyRoom = TypeVar("AnyRoom", bound="Room")
 # A function to run in the process of a command before it, and variables to add to its environment.
 Before = Optional[Callable[[], None]]
 Variables = Optional[Mapping[str, str]]
+
+
+# The last line of a report.
+ENDS = re.compile(r"(\d+) passed, (\d+) failed")
 
 
 class Failed(Exception):
@@ -110,6 +116,20 @@ class Report:
     def lacks(self, name: str, what: str) -> None:
         """Skips a check because the machine has no such tool."""
         self.skip(name, f"there is no {what}")
+
+    def take_over(self, name: str, said: str) -> None:
+        """Prints the checks that another process reported, and adds them up. If it did not come to its end, that is one more failed
+        check with this name."""
+        lines = said.splitlines()
+        found = ENDS.fullmatch(lines[-1]) if lines else None
+        for it in lines[:-1] if found else lines:
+            print(it)
+        sys.stdout.flush()
+        if found:
+            self.passed += int(found[1])
+            self.failed += int(found[2])
+        else:
+            self.hold(name, "its process did not come to its end")
 
     def end(self) -> int:
         """Prints the last line. The status of the whole is 1 if a check failed or none passed."""
@@ -206,9 +226,82 @@ def try_all(words: Sequence[str], kind: Type[AnyRoom], *parts: Callable[[AnyRoom
     return report.end()
 
 
-def in_memory() -> Optional[str]:
-    """A directory in memory for a room, if there is one: the program flushes each image to the disk, which may be slow."""
-    return "/dev/shm" if "TMPDIR" not in os.environ and os.access("/dev/shm", os.W_OK) else None
+# ---- tasks side by side
+
+
+def processors() -> int:
+    """The number of processors that this process may use."""
+    return len(os.sched_getaffinity(0))
+
+
+class Ended(NamedTuple):
+    """A task that has ended: its name, and the seconds that it took by the clock and of all processors."""
+
+    name: str
+    seconds: float
+    processor: float
+
+
+# Some of the checks: their name, the kind of the room for them, and the function that makes them there.
+Task = Tuple[str, Type[AnyRoom], Callable[[AnyRoom], None]]
+
+
+def try_task(program: Path, name: str, kind: Type[AnyRoom], part: Callable[[AnyRoom], None], said: IO[str]) -> NoReturn:
+    """Runs a task in a room of its own, writes its report to a file, and ends this process."""
+    try:
+        os.dup2(said.fileno(), 1)
+        report = Report()
+
+        def in_room() -> None:
+            with kind(program, report) as room:
+                part(room)
+
+        fault = fault_in(in_room)
+        if fault:
+            report.hold(name, fault)
+        report.end()
+    finally:
+        os._exit(0)
+
+
+def try_side_by_side(report: Report, program: Path, tasks: Sequence[Task[AnyRoom]], most: int) -> List[Ended]:
+    """Runs tasks side by side, at most so many at a time, each in a process and in a room of its own. Their reports are printed in
+    the order of the tasks. Returns how long each took. If this process is ended, so are they."""
+    said = [tempfile.TemporaryFile("w+") for _ in tasks]
+    running: Dict[int, Tuple[int, float]] = {}
+    ended: Dict[int, Ended] = {}
+    begun = told = 0
+    try:
+        while told < len(tasks):
+            while begun < len(tasks) and len(running) < most:
+                sys.stdout.flush()
+                process = os.fork()
+                if process == 0:
+                    try_task(program, *tasks[begun], said[begun])
+                running[process] = begun, time.monotonic()
+                begun += 1
+            process, _, used = os.wait4(-1, 0)
+            at, began = running.pop(process)
+            ended[at] = Ended(tasks[at][0], time.monotonic() - began, used.ru_utime + used.ru_stime)
+            while told in ended:
+                said[told].seek(0)
+                report.take_over(tasks[told][0], said[told].read())
+                told += 1
+    finally:
+        for process in running:
+            os.kill(process, signal.SIGTERM)
+    return list(ended.values())
+
+
+def in_memory(least: int = 0) -> Optional[str]:
+    """A directory in memory for a room, if there is one with so many bytes left from which programs run: the program flushes each
+    image to the disk, which may be slow."""
+    place = "/dev/shm"
+    if "TMPDIR" in os.environ or not os.access(place, os.W_OK):
+        return None
+    found = os.statvfs(place)
+    is_good = found.f_bavail * found.f_frsize >= least and not found.f_flag & os.ST_NOEXEC
+    return place if is_good else None
 
 
 def built_program(words: Sequence[str]) -> Path:
@@ -232,6 +325,10 @@ def program_of(words: Sequence[str]) -> Path:
     return program
 
 
+# The longs of a block.
+LONGS = struct.Struct(f">{BLOCK // 4}I")
+
+
 class Image:
     """The bytes of an image, with its longs."""
 
@@ -247,10 +344,13 @@ class Image:
         start = BLOCK * block + 4 * at
         self.data[start : start + 4] = (value % 2**32).to_bytes(4, "big")
 
+    def put_all(self, block: int, at: int, values: Sequence[int]) -> None:
+        """Sets longs one after another."""
+        struct.pack_into(f">{len(values)}I", self.data, BLOCK * block + 4 * at, *values)
+
     def settle(self, block: int, at: int = 5) -> None:
         """Sets the checksum of the block: all its longs add up to 0."""
-        self.put(block, at, 0)
-        self.put(block, at, -sum(struct.unpack_from(f">{BLOCK // 4}I", self.data, BLOCK * block)))
+        self.put(block, at, self.long(block, at) - sum(LONGS.unpack_from(self.data, BLOCK * block)))
 
     def text(self, block: int, offset: int) -> bytes:
         """The bytes after their number, as a name or a comment is stored in a block."""

@@ -2,20 +2,24 @@
 """Tests the program against attackers: a process that swaps files in its directory, endless input, and an image made to exhaust
 resources. It also tests limits on the length of files, and commands that are killed.
 
-    tests/hostile.py [PROGRAM]
+    tests/hostile.py [PROGRAM [PART..]]
 
-The environment variable SECONDS=N lengthens each race to N seconds; the default is 10, or 4 for a race that strace shortens.
+PART is a part of a task's name; without one all tasks run. The environment variable SECONDS=N lengthens each race to N seconds; the default is 10, or 4 for the one of which `strace` tries
+the same. With TIMES=1 the test prints how long each task took.
 
-The program runs as root on files of another user. A process of that user replaces a file by a link, either as soon as the file
-exists or after the program has read it. The target of the link must not change. If `strace` is installed, it delays the program
-at the relevant call, so that the swap always comes in time. Otherwise the test only tries the swap for some seconds. The test
-also checks that owners, groups and modes are kept.
+A task is some of the checks, in a process and a directory of its own. As many run side by side as there are processors. The races
+come first, half as many at a time. The bounds on time are on the processor time of the program, so that they hold beside other work.
+
+The program runs as root on files of another user. A process of that user replaces a file by a link. The target of the link must not
+change. If `strace` is installed, it stops the program directly after the relevant call, and the program goes on when the file was
+swapped: so the order is exact. Besides, the swap is tried at any time for some seconds. The test also checks that owners, groups
+and modes are kept.
 
 Endless streams, and files as long as a disk, take the place of images and scripts. With little memory the program must end
 soon.
 
-Directories are swapped for links to one that must stay empty: while the program is held up by `strace`, and at any time for ten
-seconds. An image with more levels of directories than are open at a time is taken out, and `/proc` is taken away.
+Directories are swapped for links to one that must stay empty: while the program is stopped, and at any time for ten seconds. An
+image with more levels of directories than are open at a time is taken out, and `/proc` is taken away.
 
 The made images consist of headers only: of files that claim too many blocks, of directories in chains and cycles, and of one name
 again and again. The time and the memory of their salvage must be bounded, and so must be the size of the salvaged files.
@@ -35,7 +39,6 @@ from __future__ import annotations
 
 import ctypes
 import fcntl
-import multiprocessing
 import os
 import random
 import resource
@@ -46,6 +49,7 @@ import subprocess
 import sys
 import time
 import unicodedata
+from contextlib import suppress
 from functools import partial
 from itertools import islice
 from pathlib import Path
@@ -78,16 +82,42 @@ from harmful import (
     refused,
     shares_list,
 )
-from harness import BLOCK, MOMENT, Call, Image, Ran, Report, Room, fault_of, has_strace, injected, limited, run, traced, try_all
+from harness import (
+    BLOCK,
+    LONGEST,
+    MOMENT,
+    TOP,
+    Call,
+    Ended,
+    Image,
+    Ran,
+    Report,
+    Room,
+    Task,
+    fault_of,
+    has_strace,
+    in_memory,
+    injected,
+    limited,
+    processors,
+    program_of,
+    run,
+    traced,
+    try_side_by_side,
+)
 
 # A user other than root, and two groups, by numbers that need no name.
 OTHER, GROUP, SECOND = 65_534, 65_534, 65_533
 # How long races last, in seconds: those that are left to chance alone, and those that strace decides too.
 RACE, BOUND = (float(os.environ.get("SECONDS") or it) for it in (10, 4))
-# How long a call is delayed, in microseconds, and the files in a directory that is swapped.
-DELAY, FILES = 300_000, 200
-# Bytes in the largest image, and the longest time for reading an endless stream, in seconds.
-LARGEST, SOON = 101_602 * BLOCK, 30.0
+# How often it is looked whether a program has stopped, and how often it is told to go on, in seconds.
+LOOK, AGAIN = 0.002, 0.2
+# The files in a directory that is swapped, and the least number of swaps in a race before the command ended.
+FILES, SWAPS = 200, 100
+# Bytes in the largest image, and the most seconds of processor time for reading an endless stream.
+LARGEST, SOON = 101_602 * BLOCK, 3.0
+# The most bytes of the files in a room at one time: an image, and four times as much that was taken out of it.
+MOST_FILES = 6 * LARGEST
 
 
 class Known(NamedTuple):
@@ -126,12 +156,13 @@ class Shared(Room):
     """A room of this user with a directory of the other user in it, the program, and a file of this user that nobody
     may change."""
 
-    def __init__(self, program: Path, report: Report) -> None:
-        super().__init__(program, report)
+    def __init__(self, program: Path, report: Report, inside: Optional[str] = None) -> None:
+        super().__init__(program, report, inside)
         self.owner = OTHER if has_other() else None
 
-    def set_up(self) -> None:
+    def __enter__(self) -> Shared:
         """Puts the files into it that the other user may read and all checks start from."""
+        super().__enter__()
         os.chmod(self.top, 0o755)
         self.program = Path(shutil.copy(self.program, self.top / "program"))
         self.program.chmod(0o755)
@@ -144,6 +175,7 @@ class Shared(Room):
         os.mkdir("theirs")
         self.give("theirs")
         self.refresh()
+        return self
 
     def give(self, path: str) -> None:
         """Gives a file or a directory to the other user, if there is one."""
@@ -186,23 +218,16 @@ class Shared(Room):
         self.refresh()
         return number
 
-    def keeps_reads(self) -> bool:
-        """Whether the host records here when a file was read."""
-        self.write("read", b"read")
-        os.utime("read", ns=(0, os.stat("read").st_mtime_ns))
-        self.content("read")
-        noted = os.stat("read").st_atime_ns != 0
-        os.remove("read")
-        return noted
+
+class InMemory(Shared):
+    """Such a room in memory, if there is enough of it. A disk may take ten seconds to remove a thousand directories, each in the one
+    before."""
+
+    def __init__(self, program: Path, report: Report) -> None:
+        super().__init__(program, report, in_memory(processors() * MOST_FILES))
 
 
 # ---- names that change meanwhile
-
-
-def held_up(call: str, number: int, delay: int = DELAY) -> List[str]:
-    """A command that runs another and delays one of its calls, by its number among those of one name, after the call is
-    done."""
-    return injected(f"{call}:delay_exit={delay}:when={number}")
 
 
 def when_there(path: str) -> None:
@@ -210,12 +235,50 @@ def when_there(path: str) -> None:
         pass
 
 
-def when_read(path: str) -> None:
-    """Waits until a file was read after this call, by the time of its last read."""
-    os.utime(path, ns=(0, os.stat(path).st_mtime_ns))
-    before = os.stat(path).st_atime_ns
-    while os.stat(path).st_atime_ns == before:
-        pass
+def as_another(room: Shared, change: Callable[[], None]) -> bool:
+    """Makes a change in a process of the other user, if there is one. Returns whether it was made."""
+    process = os.fork()
+    if process == 0:
+        try:
+            if room.owner is not None:
+                as_other()
+            change()
+            os._exit(0)
+        finally:
+            os._exit(1)
+    return os.waitpid(process, 0)[1] == 0
+
+
+def stopped_at(room: Shared, words: Sequence[str], call: Call, change: Callable[[], None]) -> Tuple[Ran, Optional[str]]:
+    """Runs the program, and lets the other user make a change directly after this call. Returns how it ended, and why the change was
+    not made.
+
+    The order is exact, however busy the machine is. `strace` sends the signal to stop when the call begins; the call is done, and the
+    program stops before its next instruction. The change is made once strace says that it has stopped, and only then it goes on. A
+    delay of 0.3 seconds in place of the stop at times ended before the change was made: by then the program had opened the directory,
+    and rightly ended well.
+    """
+    ready, ends = "stops", time.monotonic() + LONGEST
+    front = ["strace", "-f", "-o", ready, "-e", f"trace={call.name}", "-e", f"inject={call.name}:signal=STOP:when={call.number}"]
+    room.write(ready)
+    with open("lines", "w+b") as lines, open("texts", "w+b") as texts:
+        words = [*front, str(room.program), *words]
+        began = subprocess.Popen(words, stdin=subprocess.DEVNULL, stdout=lines, stderr=texts, start_new_session=True)
+        while began.poll() is None and b"stopped by SIGSTOP" not in room.content(ready) and time.monotonic() < ends:
+            time.sleep(LOOK)
+        fault = "it was not stopped" if began.poll() is not None or time.monotonic() > ends else None
+        if fault is None and not as_another(room, change):
+            fault = "the change was not made"
+        while began.poll() is None and time.monotonic() < ends:
+            os.killpg(began.pid, signal.SIGCONT)
+            with suppress(subprocess.TimeoutExpired):
+                began.wait(AGAIN)
+        if began.poll() is None:
+            os.killpg(began.pid, signal.SIGKILL)
+            fault = "it did not go on"
+        ran = Ran(began.wait(), room.content("lines"), room.content("texts"))
+    os.remove(ready)
+    return ran, fault and f"{fault}: {ran}"
 
 
 class Swap:
@@ -282,34 +345,41 @@ WRITINGS = [
 ]
 
 
-def given_away(room: Shared, writing: Writing, strace: bool) -> Optional[str]:
-    """What is wrong after a link was put in the place of the file beside: the file that it leads to has changed."""
-    room.refresh()
-    front = held_up("write", room.number_of(writing.words, "write", writing.beside)) if strace else []
-    before = room.known("victim")
-    swap = Swap(room, lambda: when_there(writing.beside), put_link(room, "victim", writing.beside))
-    ran = room.run(*writing.words, front=front)
-    swapped = swap.end()
+def fault_of_victim(room: Shared, before: Known) -> Optional[str]:
+    """What is wrong if the file that a link leads to has changed."""
     after = room.known("victim")
-    if after != before:
-        return f"the link's target has changed: user {after.user}, group {after.group}, mode {after.mode:o}"
-    if strace and not swapped:
-        return f"no link was put there in time: {ran}"
-    return None
+    return None if after == before else f"the link's target has changed: user {after.user}, group {after.group}, mode {after.mode:o}"
 
 
-def links_beside(room: Shared, strace: bool) -> None:
+def given_away(room: Shared, writing: Writing, names: Sequence[str]) -> Optional[str]:
+    """What is wrong after a link was put in the place of the file beside, directly after the first of these calls that is about it."""
+    room.refresh()
+    call = find_call(room, writing.words, names, f"/{os.path.basename(writing.beside)}")
+    room.refresh()
+    before = room.known("victim")
+    ran, fault = stopped_at(room, writing.words, call, put_link(room, "victim", writing.beside))
+    return fault_of_victim(room, before) or fault
+
+
+def links_beside(room: Shared) -> None:
+    """A link is put in the place of the file beside: when that was just made and is not locked, and when its bytes were written."""
     for writing in WRITINGS:
-        title = f"a link in the place of the file beside, {writing.name}"
-        if strace:
-            room.report.hold(title, given_away(room, writing, True))
-        else:
-            room.report.skip(title, "no strace, so that the link may come too late")
-    ends = time.monotonic() + BOUND
+        for when, names in (("just made", ["open", "openat"]), ("written", ["write"])):
+            fault = given_away(room, writing, names)
+            room.report.hold(f"a link in the place of the file beside that is {when}, {writing.name}", fault)
+
+
+def raced_beside(room: Shared) -> None:
+    """A link takes the place of the file beside as soon as that is there, again and again for some seconds."""
+    ends, turns = time.monotonic() + BOUND, 0
     fault: Optional[str] = None
-    turns = 0
     while fault is None and time.monotonic() < ends:
-        fault = given_away(room, CHANGE, False)
+        room.refresh()
+        before = room.known("victim")
+        swap = Swap(room, lambda: when_there(CHANGE.beside), put_link(room, "victim", CHANGE.beside))
+        room.run(*CHANGE.words)
+        swap.end()
+        fault = fault_of_victim(room, before)
         turns += 1
     room.report.hold("a link in the place of the file beside, again and again", fault and f"in turn {turns}: {fault}")
 
@@ -323,13 +393,12 @@ HOLDS = [
 ]
 
 
-def swapped_after(room: Shared, words: List[str], number: int, change: Callable[[], None]) -> Optional[str]:
+def swapped_after(room: Shared, words: List[str], call: Call, change: Callable[[], None]) -> Optional[str]:
     """What is wrong after a locked file was swapped: another one has changed, or the fault is not reported."""
     before = room.known("victim.adf")
-    swap = Swap(room, lambda: when_read(PLACE), change)
-    ran = room.run(*words, front=held_up("read", number))
-    if not swap.end():
-        return f"nothing was swapped in time: {ran}"
+    ran, fault = stopped_at(room, words, call, change)
+    if fault:
+        return fault
     if room.known("victim.adf") != before:
         return f"another file was written: {ran}"
     if ran.status != 2 or not ran.texts:
@@ -339,19 +408,20 @@ def swapped_after(room: Shared, words: List[str], number: int, change: Callable[
 
 
 def others_in_place(room: Shared) -> None:
-    """Another file takes the place of a locked one."""
+    """Another file takes the place of a locked one, which was just read."""
     for name, words in HOLDS:
         room.refresh()
-        number = room.number_of(words, "read", PLACE)
-        fault = swapped_after(room, words, number, put_link(room, "victim.adf", PLACE))
+        call = find_call(room, words, ["read"], f"<{os.path.realpath(PLACE)}>")
+        room.refresh()
+        fault = swapped_after(room, words, call, put_link(room, "victim.adf", PLACE))
         room.report.hold(f"a link in the place of a held file, {name}", fault)
         room.refresh()
-        fault = swapped_after(room, words, number, lambda: os.rename("theirs/other.adf", PLACE))
+        fault = swapped_after(room, words, call, lambda: os.rename("theirs/other.adf", PLACE))
         if fault is None and room.content(PLACE) != room.empty:
             fault = "it was written over"
         room.report.hold(f"another file in the place of a held one, {name}", fault)
         room.refresh()
-        fault = swapped_after(room, words, number, lambda: os.remove(PLACE))
+        fault = swapped_after(room, words, call, lambda: os.remove(PLACE))
         room.report.hold(f"a held file is removed, {name}", fault or ("it is there again" if os.path.exists(PLACE) else None))
 
 
@@ -360,30 +430,31 @@ def others_in_place(room: Shared) -> None:
 
 # What is taken out: a file, and then a directory of files.
 TAKEN = ["extract", "--to", "theirs/out", "way.adf", "a", "way"]
-# The levels of directories in a deep image: more than are open at a time. The handles that a process then has at most.
-LEVELS, HANDLES = 150, 80
+WAY = [f"way/f{number:02}" for number in range(FILES)]
+# The levels of directories in a deep image: more than are open at a time. The handles that a process then has at most: 64, and those
+# of its standard streams.
+LEVELS, HANDLES = 150, 67
 LIBC = ctypes.CDLL(None, use_errno=True)
 AT_FDCWD, RENAME_EXCHANGE = -100, 2
 
 
 class Held(NamedTuple):
-    """A directory that is swapped while the program is held up."""
+    """A directory that is swapped while the program is stopped: after a call, with a part of its arguments."""
 
     name: str
     swapped: str
-    # The call that is delayed, and a part of its arguments. The swap comes as soon as this path is there.
     call: str
     about: str
-    there: str
-    status: Optional[int]
+    # How the program ends. A directory that it has still to open is refused. In one that is open it goes on, wherever that is moved.
+    status: int
 
 
 HOLD_UPS = [
-    Held("on the way, as soon as it is made", "theirs/out/way", "mkdir", '/way"', "theirs/out/way", 2),
-    Held("on the way, after a file in it", "theirs/out/way", "write", "/out/way/", "theirs/out/way", None),
-    Held("that was named", "theirs/out", "write", "/out/a>", "theirs/out/a", None),
+    Held("on the way, as soon as it is made", "theirs/out/way", "mkdir", '/way"', 2),
+    Held("on the way, after a file in it", "theirs/out/way", "write", "/out/way/", 0),
+    Held("that was named", "theirs/out", "write", "/out/a>", 0),
 ]
-HOLD_UP_FOUND = Held("on the way, that was there", "theirs/out/way", "write", "/out/a>", "theirs/out/a", 2)
+HOLD_UP_FOUND = Held("on the way, that was there", "theirs/out/way", "write", "/out/a>", 2)
 
 
 def exchanged(place: str) -> Callable[[], None]:
@@ -420,23 +491,27 @@ def find_call(room: Room, words: Sequence[str], names: Sequence[str], part: str)
     return next(it for it in traced(room, words, names) if part in it.about)
 
 
+def fault_of_taken(top: str, way: str, is_whole: bool) -> Optional[str]:
+    """What is wrong with the files below a directory: the old one, the first that is taken out, and all those of the directory on the
+    way or none. That one may have another name by now."""
+    wanted = {f"{top}/one": b"old", f"{top}/a": b"a" * 400}
+    if is_whole:
+        wanted.update({f"{way}/{it[4:]}": it.encode() * 400 for it in WAY})
+    found = files_below(top)
+    other = sorted(it for it in {*wanted, *found} if wanted.get(it) != found.get(it))
+    return f"{len(other)} files are not as wanted, the first {other[0]!r}" if other else None
+
+
 def swapped_in(room: Shared, held: Held, prepare: Callable[[], None]) -> Optional[str]:
-    """What is wrong after a directory was swapped for a link while the program was held up. If another status is wanted, the
-    machine may have been too busy for the swap, and the program is held up longer once more."""
+    """What is wrong after a directory was swapped for a link while the program was stopped."""
     prepare()
     call = find_call(room, TAKEN, [held.call, f"{held.call}at"], held.about)
-    late = None
-    for delay in (DELAY, 10 * DELAY):
-        prepare()
-        swap = Swap(room, lambda: when_there(held.there), moved_away(room, held.swapped))
-        ran = room.run(*TAKEN, front=held_up(call.name, call.number, delay))
-        swapped, fault = swap.end(), outside_of(ran)
-        if fault is not None:
-            return fault
-        if swapped and (held.status is None or (ran.status == held.status and ran.texts)):
-            return None
-        late = f"status {held.status} and a text are wanted: {ran}" if swapped else f"nothing was swapped in time: {ran}"
-    return late
+    prepare()
+    ran, late = stopped_at(room, TAKEN, call, moved_away(room, held.swapped))
+    fault = outside_of(ran) or late or fault_of(ran, held.status, None, *(["theirs/out/way"] if held.status else []))
+    moved = f"{held.swapped}.away"
+    places = (moved, f"{moved}/way") if held.swapped == "theirs/out" else ("theirs/out", moved)
+    return fault or fault_of_taken(*places, held.status == 0)
 
 
 def with_way(room: Shared) -> None:
@@ -459,32 +534,40 @@ def swapped_new(room: Shared) -> Optional[str]:
     prepare()
     call = find_call(room, words, ["unlink", "unlinkat"], "/.adf_serve-999.new")
     prepare()
-
-    def when_gone() -> None:
-        while os.path.lexists(last):
-            pass
-
-    swap = Swap(room, when_gone, moved_away(room, "theirs/dir"))
-    ran = room.run(*words, front=held_up(call.name, call.number))
-    swapped = swap.end()
-    return outside_of(ran) or (None if swapped else f"nothing was swapped in time: {ran}")
+    ran, late = stopped_at(room, words, call, moved_away(room, "theirs/dir"))
+    fault = outside_of(ran) or late or fault_of(ran)
+    is_there = os.path.isfile("theirs/dir.away/new.adf")
+    return fault or (None if is_there else "it is not in the directory that was open")
 
 
-def raced(room: Shared, words: Sequence[str], place: str, prepare: Callable[[], None]) -> Optional[str]:
-    """What is wrong after a command ran again and again, for some seconds, while a directory was swapped at any time."""
-    prepare()
+class Race(NamedTuple):
+    """A command that runs again and again, and a directory that is swapped meanwhile."""
+
+    words: List[str]
+    place: str
+    prepare: Callable[[], None]
+    # What is wrong if the command ended well, or if it did not, with the place where the directory is by now.
+    fault_of_end: Callable[[bool, str], Optional[str]]
+
+
+def raced(room: Shared, race: Race) -> Optional[str]:
+    """What is wrong after a command ran again and again, for some seconds, while a directory was swapped at any time. The command ends
+    well, and then it has done all in that directory; or it says why not."""
+    race.prepare()
     begins = time.monotonic()
-    room.run(*words)
-    lasts, turns, drawn_by = time.monotonic() - begins, 0, random.Random(1)
+    room.run(*race.words)
+    lasts, turns, swaps, drawn_by = time.monotonic() - begins, 0, 0, random.Random(1)
     fault: Optional[str] = None
-    while fault is None and time.monotonic() < begins + RACE:
-        prepare()
-        put_directory_link(room, place)
+    while fault is None and (time.monotonic() < begins + RACE or swaps < SWAPS):
+        race.prepare()
+        put_directory_link(room, race.place)
         after = drawn_by.uniform(0, lasts)
-        swap = Swap(room, lambda: time.sleep(after), exchanged(place))
-        ran = room.run(*words)
-        swap.end()
-        fault = outside_of(ran)
+        swap = Swap(room, lambda: time.sleep(after), exchanged(race.place))
+        ran = room.run(*race.words)
+        swaps += swap.end()
+        place = f"{race.place}.link" if os.path.islink(race.place) else race.place
+        is_well = ran.status == 0
+        fault = outside_of(ran) or (None if is_well else fault_of(ran, 2, None, "theirs/")) or race.fault_of_end(is_well, place)
         turns += 1
     return fault and f"in turn {turns}: {fault}"
 
@@ -498,34 +581,53 @@ def with_dir(room: Shared) -> None:
     room.give("theirs/dir/image.adf")
 
 
-def swapped_directories(room: Shared, strace: bool) -> None:
-    """Nothing is written outside the directory that was named, whatever is put in the place of one meanwhile."""
+def put_way(room: Shared) -> None:
+    """The image whose files are taken out, and the directory that must stay empty."""
     os.mkdir("outside")
-    os.makedirs("way")
-    for it in ("a", *(f"way/f{number:02}" for number in range(FILES))):
+    os.mkdir("way")
+    for it in ("a", *WAY):
         room.write(it, it.encode() * 400)
     room.done("blank", "--ffs", *MOMENT, "Work", "way.adf")
     room.done("add", *MOMENT, "way.adf", "a", "way")
-    if strace:
-        for held in HOLD_UPS:
-            room.report.hold(f"a link for a directory {held.name}", swapped_in(room, held, room.refresh))
-        fault = swapped_in(room, HOLD_UP_FOUND, lambda: with_way(room))
-        room.report.hold(f"a link for a directory {HOLD_UP_FOUND.name}", fault)
-        room.report.hold("a link for the directory of a new image", swapped_new(room))
-    else:
-        room.report.lacks("links for directories, held up", "strace")
-    if hasattr(LIBC, "renameat2"):
-        fault = raced(room, TAKEN, "theirs/out/way", lambda: with_way(room))
-        room.report.hold("a link for a directory on the way, again and again", fault)
-        fault = raced(room, ["mkdir", *MOMENT, "theirs/dir/image.adf", "new"], "theirs/dir", lambda: with_dir(room))
-        room.report.hold("a link for the directory of an image, again and again", fault)
-    else:
-        room.report.lacks("links for directories, again and again", "call that exchanges names")
-    room.refresh()
 
 
-def deep_directories(room: Shared, strace: bool) -> None:
-    """More levels of directories than are open at a time are taken out. One that is opened again must be the same."""
+def race_on_the_way(room: Shared) -> None:
+    """A directory on the way of files that are taken out is swapped at any time."""
+
+    def fault_of_end(is_well: bool, place: str) -> Optional[str]:
+        return fault_of_taken("theirs/out", place, True) if is_well else None
+
+    put_way(room)
+    fault = raced(room, Race(TAKEN, "theirs/out/way", lambda: with_way(room), fault_of_end))
+    room.report.hold("a link for a directory on the way, again and again", fault)
+
+
+def race_of_an_image(room: Shared) -> None:
+    """The directory of an image that is changed is swapped at any time."""
+
+    def fault_of_end(is_well: bool, place: str) -> Optional[str]:
+        is_changed = room.content(f"{place}/image.adf") != room.full
+        return None if is_changed == is_well else f"the image is {'changed' if is_changed else 'unchanged'}"
+
+    put_way(room)
+    words = ["mkdir", *MOMENT, "theirs/dir/image.adf", "new"]
+    fault = raced(room, Race(words, "theirs/dir", lambda: with_dir(room), fault_of_end))
+    room.report.hold("a link for the directory of an image, again and again", fault)
+
+
+def swapped_directories(room: Shared) -> None:
+    """Nothing is written outside the directory that was named, whatever is put in the place of one meanwhile."""
+    put_way(room)
+    for held in HOLD_UPS:
+        room.report.hold(f"a link for a directory {held.name}", swapped_in(room, held, room.refresh))
+    fault = swapped_in(room, HOLD_UP_FOUND, lambda: with_way(room))
+    room.report.hold(f"a link for a directory {HOLD_UP_FOUND.name}", fault)
+    room.report.hold("a link for the directory of a new image", swapped_new(room))
+
+
+def put_deep(room: Shared) -> List[str]:
+    """An image with more levels of directories than are open at a time, each with three files. Returns the paths of the
+    directories."""
     way = ["/".join("d" * level) for level in range(1, LEVELS + 1)]
     os.makedirs(f"deep/{way[-1]}")
     for it in way:
@@ -533,30 +635,34 @@ def deep_directories(room: Shared, strace: bool) -> None:
             room.write(f"deep/{it}/{name}", f"{it} {name}".encode())
     room.done("blank", "--ffs", *MOMENT, "Work", "deep.adf")
     room.done("add", *MOMENT, "deep.adf", "deep/d")
-    words = ["extract", "--to", "theirs/out", "deep.adf"]
-    room.refresh()
-    ran = room.run(*words, before=limited(resource.RLIMIT_NOFILE, HANDLES))
+    return way
+
+
+TAKEN_DEEP = ["extract", "--to", "theirs/out", "deep.adf"]
+
+
+def deep_directories(room: Shared) -> None:
+    """More levels of directories than are open at a time are taken out."""
+    way = put_deep(room)
+    ran = room.run(*TAKEN_DEEP, before=limited(resource.RLIMIT_NOFILE, HANDLES))
     same = run(["diff", "-r", "deep/d", "theirs/out/d"])
     fault = fault_of(ran) or (None if (same.status, same.output) == (0, b"") else f"other files: {same}")
     room.report.hold(f"{LEVELS} levels of directories with {HANDLES} handles", fault)
     faults = (fault_of_time(f"theirs/out/{it}", f"deep/{it}") for it in way)
     room.report.hold("the times of these directories", next(filter(None, faults), None))
-    if not strace:
-        room.report.lacks("a directory that is opened again", "strace")
-        return
-    deepest = f"/{'/'.join('d' * LEVELS)}/"
+
+
+def opened_again(room: Shared) -> None:
+    """A directory that is opened again must be the same."""
+    put_deep(room)
+    os.mkdir("outside")
     for title, change in (("a link", moved_away(room, "theirs/out/d")), ("another one", other_in_place)):
         room.refresh()
-        call = find_call(room, words, ["write"], deepest)
+        call = find_call(room, TAKEN_DEEP, ["write"], f"/{'/'.join('d' * LEVELS)}/")
         room.refresh()
-        swap = Swap(room, lambda: when_there(f"theirs/out/{way[-1]}"), change)
-        ran = room.run(*words, front=held_up(call.name, call.number))
-        swapped = swap.end()
-        fault = outside_of(ran) or (None if swapped else f"nothing was swapped in time: {ran}")
-        if fault is None and (ran.status != 2 or b"theirs/out/d" not in ran.texts):
-            fault = f"status 2 and a text are wanted: {ran}"
+        ran, late = stopped_at(room, TAKEN_DEEP, call, change)
+        fault = outside_of(ran) or late or fault_of(ran, 2, None, "theirs/out/d")
         room.report.hold(f"{title} for a directory that is opened again", fault)
-    room.refresh()
 
 
 def other_in_place() -> None:
@@ -591,13 +697,12 @@ def without_proc(room: Shared) -> None:
     for title, words in (("a directory that is there", ["--to", "theirs/out"]), ("a new directory", ["--to", "theirs/none"])):
         room.refresh()
         before = files_below("theirs")
-        ran = room.run("extract", *words, "way.adf", front=front)
+        ran = room.run("extract", *words, "full.adf", front=front)
         fault = fault_of(ran, 2, b"", "/proc")
         is_kept = files_below("theirs") == before and not os.path.exists("theirs/none")
         room.report.hold(f"without /proc, extract to {title}", fault or (None if is_kept else "something was written"))
     ran = room.run("mkdir", *MOMENT, "theirs/image.adf", "new", front=front)
     room.report.hold("without /proc, a change", fault_of(ran) or (None if room.content("theirs/image.adf") != room.full else "none"))
-    room.refresh()
 
 
 # ---- owners, groups and modes
@@ -629,6 +734,23 @@ def modes(room: Shared) -> None:
             os.chmod(path, mode)
             fault = fault_of_owner(room, writing.words, path, (here.st_uid, here.st_gid, mode & 0o777))
             room.report.hold(f"mode {mode:04o} of a file that is replaced, {writing.name}", fault)
+
+
+def not_kept(room: Shared) -> None:
+    """What docs/COMMANDS.md says that a change does not keep: another hard link leads to the old image, and extended attributes are
+    gone."""
+    page = (TOP / "docs/COMMANDS.md").read_text()
+    for said in ("Another hard link to the old file leads to the old image from then on.", "other extended attributes."):
+        room.report.expect(f"docs/COMMANDS.md says: {said}", said in page)
+    room.refresh()
+    os.link(PLACE, "theirs/linked.adf")
+    try:
+        os.setxattr(PLACE, "user.kept", b"1")
+    except OSError:
+        room.report.lacks("extended attributes", "host for them")
+    room.report.check("a change of a file with another hard link", room.run(*CHANGE.words))
+    found = (room.content(PLACE) != room.full, room.content("theirs/linked.adf") == room.full, os.listxattr(PLACE))
+    room.report.same("the other link leads to the old image, and attributes are gone", found, (True, True, []))
 
 
 def owners(room: Shared) -> None:
@@ -753,18 +875,25 @@ def links_to_nothing(room: Shared) -> None:
 # ---- endless input
 
 
+def used_by_children() -> float:
+    """The seconds of processor time of all processes that this one started and that have ended."""
+    used = resource.getrusage(resource.RUSAGE_CHILDREN)
+    return used.ru_utime + used.ru_stime
+
+
 def endless(room: Shared) -> None:
     """Images and scripts without an end, or as long as a disk."""
     little = limited(resource.RLIMIT_AS, MEMORY + 3 * LARGEST)
-    said = "'/dev/zero' gave no end within 2,097,152 reads"
-    for words in (["list", "/dev/zero"], ["mkdir", "--out", "x", "/dev/zero", "n"], ["serve", "empty.adf", "/dev/zero"]):
-        began = time.monotonic()
-        room.report.check(f"{words[0]} of a device without an end", room.run(*words, before=little), 2, b"", said)
-        room.report.expect(f"{words[0]}: soon", time.monotonic() - began < SOON, f"{time.monotonic() - began} seconds")
-    with open("/dev/zero", "rb") as zeros:
-        ran = subprocess.run([str(room.program)], stdin=zeros, capture_output=True, preexec_fn=little, timeout=2 * SOON)
-    found = (ran.returncode, ran.stdout, ran.stderr)
-    room.report.same("standard input without an end", found, (2, b"", b"adf_serve: standard input does not end\n"))
+    said = b"'/dev/zero' gave no end within 2,097,152 reads"
+    cases: List[List[str]] = [["list", "/dev/zero"], ["mkdir", "--out", "x", "/dev/zero", "n"], ["serve", "empty.adf", "/dev/zero"], []]
+    for words in cases:
+        name, before = " ".join(words[:1]) or "standard input", used_by_children()
+        with open("/dev/zero", "rb") as zeros:
+            ended = subprocess.run([str(room.program), *words], stdin=zeros, capture_output=True, preexec_fn=little, timeout=LONGEST)
+        took, ran = used_by_children() - before, Ran(ended.returncode, ended.stdout, ended.stderr)
+        is_told = said in ran.texts if words else ran.texts == b"adf_serve: standard input does not end\n"
+        room.report.expect(f"{name} without an end", (ran.status, ran.output, is_told) == (2, b"", True), ran)
+        room.report.expect(f"{name} without an end: soon", took < SOON, f"{took} seconds")
     room.write("sparse")
     os.truncate("sparse", 2**40)
     room.report.check("an image of a terabyte", room.run("list", "sparse", before=little), 3, b"refused TooManyBlocks 0\n")
@@ -842,20 +971,24 @@ SIZES: List[Tuple[str, List[str], int]] = [
 ]
 
 
-def chains(room: Room) -> None:
+# The largest image is the last of them.
+LARGE = len(SIZES) - 1
+
+
+def chains(size: int, room: Shared) -> None:
     """Chains and cycles of directories."""
     shapes: List[Tuple[str, Callable[[Image, Places, int], None]]] = [
         ("parents upward", parents_up),
         ("parents in cycles", parents_round),
         ("hash chains", chains_down),
     ]
-    for title, words, most in SIZES:
-        for name, drawn_by in shapes:
-            depths: Sequence[int] = (500, 1_756) if most == 1_756 else (1_756, most)
-            if most > 3_516:
-                # (one of each, with fewer than 100 MB of lines)
-                depths = [{"parents upward": 300, "parents in cycles": most, "hash chains": 1_400}[name]]
-            deep(room, f"{title}, {name}", words, depths, drawn_by)
+    title, words, most = SIZES[size]
+    for name, drawn_by in shapes:
+        depths: Sequence[int] = (500, 1_756) if most == 1_756 else (1_756, most)
+        if size == LARGE:
+            # (one of each, with fewer than 100 MB of lines)
+            depths = [{"parents upward": 300, "parents in cycles": most, "hash chains": 1_400}[name]]
+        deep(room, f"{title}, {name}", words, depths, drawn_by)
 
 
 def taken_out(room: Room, name: str, image: bytes, is_cut: bool) -> None:
@@ -869,7 +1002,7 @@ def taken_out(room: Room, name: str, image: bytes, is_cut: bool) -> None:
     room.report.expect(f"{name}: what is cut short is told", (b" is cut short" in told.texts) == is_cut, told)
 
 
-def floppies(room: Room) -> None:
+def floppies(size: int, room: Shared) -> None:
     """Broken files that claim more than there is."""
     cases: List[Tuple[str, Callable[[Image, Places], None], bool]] = [
         ("headers that claim 7fffffff bytes of one list", shares_list(0x7FFFFFFF), False),
@@ -878,24 +1011,24 @@ def floppies(room: Room) -> None:
         ("files that end behind a hole", ends_late, True),
         ("extension blocks that follow themselves", extensions_round, False),
     ]
-    for title, words, most in SIZES:
-        room.done("blank", "--ffs", *words, *MOMENT, "Work", "blank.adf")
-        for name, draw, is_cut in cases if most <= 3_516 else cases[3:]:
-            image = Image(room.content("blank.adf"))
-            draw(image, places_in(image))
-            taken_out(room, f"{title} of {name}", refused(image), is_cut)
-
-
-def one_name(room: Room) -> None:
-    """Entries with one name, and with the names that they get instead."""
-    for title, words, _ in SIZES:
-        room.done("blank", "--ffs", *words, *MOMENT, "Work", "blank.adf")
+    title, words, _ = SIZES[size]
+    room.done("blank", "--ffs", *words, *MOMENT, "Work", "blank.adf")
+    for name, draw, is_cut in cases[3:] if size == LARGE else cases:
         image = Image(room.content("blank.adf"))
-        places = places_in(image)
-        names_alike(image, places)
-        told = rescued(room, refused(image))
-        found = (told.status, len(set(told.lines)), told.sizes)
-        room.report.expect(f"{title} of one name", found == (3, len(places), [0] * len(places)), told)
+        draw(image, places_in(image))
+        taken_out(room, f"{title} of {name}", refused(image), is_cut)
+
+
+def one_name(size: int, room: Shared) -> None:
+    """Entries with one name, and with the names that they get instead."""
+    title, words, _ = SIZES[size]
+    room.done("blank", "--ffs", *words, *MOMENT, "Work", "blank.adf")
+    image = Image(room.content("blank.adf"))
+    places = places_in(image)
+    names_alike(image, places)
+    told = rescued(room, refused(image))
+    found = (told.status, len(set(told.lines)), told.sizes)
+    room.report.expect(f"{title} of one name", found == (3, len(places), [0] * len(places)), told)
 
 
 # The levels of directories in images that are made to take long: as many as a path of the host can have, and as many as leave less
@@ -1012,8 +1145,7 @@ def lost_names(image: Image, places: Places) -> Tuple[int, int, int]:
     directories, lost = places[SLOTS:], places[:SLOTS]
     for block in directories:
         put_entry(image, block, DIRECTORY, b"d%d" % block)
-        for slot, named in enumerate(lost):
-            image.put(block, 6 + slot, named)
+        image.put_all(block, 6, lost)
         image.settle(block)
     return 3, len(directories) + len(lost), 0
 
@@ -1049,24 +1181,15 @@ WORST = [
 ]
 
 
-def worst_of(program: Path, inside: str, place: Tuple[int, int]) -> Tuple[str, str]:
-    """Rescues one of the worst images, of one size, in a room of its own. Returns its name, and what is wrong."""
-    (title, words, _), it = SIZES[place[0]], WORST[place[1]]
-    with Room(program, inside=inside) as room:
-        room.done("blank", "--ffs", *words, *MOMENT, "Work", "blank.adf")
-        image = Image(room.content("blank.adf"))
-        wanted = it.draw(image, places_in(image))
-        told = rescued(room, refused(image))
+def worst(size: int, it: Worst, room: Shared) -> None:
+    """Rescues one of the images of which the way from one entry to the next, or the blocks of each file, may take long."""
+    title, words, _ = SIZES[size]
+    room.done("blank", "--ffs", *words, *MOMENT, "Work", "blank.adf")
+    image = Image(room.content("blank.adf"))
+    wanted = it.draw(image, places_in(image))
+    told = rescued(room, refused(image))
     found = (told.status, len(set(told.lines)), len(told.sizes or []))
-    return f"{title}, {it.name}", "" if found == wanted else f"{wanted} is wanted: {told}"
-
-
-def worst(room: Room) -> None:
-    """Images of which the way from one entry to the next, or the blocks of each file, may take long. The time is bounded."""
-    places = [(size, it) for size in reversed(range(len(SIZES))) for it in range(len(WORST))]
-    with multiprocessing.Pool(min(4, os.cpu_count() or 1)) as pool:
-        for name, fault in pool.imap(partial(worst_of, room.program, str(room.top)), places):
-            room.report.expect(name, not fault, fault)
+    room.report.expect(f"{title}, {it.name}", found == wanted, f"{wanted} is wanted: {told}")
 
 
 def holes(room: Shared) -> None:
@@ -1181,8 +1304,10 @@ def readers_beside(room: Shared) -> None:
 
 # The memory and the stack that a command may use over the largest image, and the processor time by the blocks of the image.
 WORST_MEMORY, WORST_STACK, WORST_TIMES = 300 << 20, 1 << 20, {3_520: 10.0, 101_602: 60.0}
-# The processor time of a change of the largest image that does not depend on the length of hash chains.
-LIKE_OTHERS = 20.0
+# The processor time of a change of the largest image that does not depend on the length of hash chains. The program without proof
+# takes 1.3 to 1.6 seconds for all names in one chain, as for a chain of directories, also with three times as many processes beside it
+# as there are processors; by the clock it took up to 20 then.
+LIKE_OTHERS = 5.0
 # The most bytes that such a command writes to a file.
 WORST_OUTPUT = 100 << 20
 # The most faults that are told of an image.
@@ -1214,121 +1339,156 @@ def bounded(
     return room.content("lines")
 
 
-def deep_images(room: Shared) -> None:
-    """Commands over images of which the paths alone would have hundreds of megabytes."""
+def deep_images(blocks: int, room: Shared) -> None:
+    """Commands over an image of which the paths alone would have hundreds of megabytes."""
     first = next(long_names()).decode()
-    for blocks in WORST_TIMES:
-        room.done("blank", "--ffs", "--blocks", str(blocks), *MOMENT, "Work", "blank.adf")
-        blank = room.content("blank.adf")
-        room.write("deep.adf", deep_chain(blank))
-        title = "a chain of directories"
-        bounded(room, blocks, f"check of {title}", ["check", "deep.adf"], 0)
-        told = bounded(room, blocks, f"check --all --json of {title}", ["check", "--all", "--json", "deep.adf"], 0)
-        room.report.expect(f"the directories of {title} of {blocks} blocks", b'"directories":%d,' % headers_of(blank) in told, f"{told!r}")
-        bounded(room, blocks, f"print of {title}", ["print", "deep.adf", first], 3, b"required type")
-        bounded(room, blocks, f"extract of {title}", ["extract", "--to", "bottom", "deep.adf"], 2, b"4,095")
-        room.report.expect(f"extract of {title} of {blocks} blocks writes nothing", not os.path.exists("bottom"), "it did")
-        bounded(room, blocks, f"info of {title}", ["info", "deep.adf"], 0)
-        bounded(room, blocks, f"extract --damaged of {title}", ["extract", "--damaged", "--to", "bottom", "deep.adf"], 2, b"4,095")
-        bounded(room, blocks, f"serve over {title}", ["serve", *MOMENT, "--out", "made.adf", "deep.adf", "script"], 0)
-        bounded(room, blocks, f"mkdir in {title}", ["mkdir", *MOMENT, "--out", "made.adf", "deep.adf", f"{first}/made"], 3, b"disk is full")
-        bounded(room, blocks, f"rename in {title}", ["rename", *MOMENT, "--out", "made.adf", "deep.adf", first, "moved"], 0)
-        bounded(room, blocks, f"delete --all of {title}", ["delete", "--all", *MOMENT, "deep.adf", first], 0)
-        listed = bounded(room, blocks, f"list after delete --all of {title}", ["list", "deep.adf"], 0)
-        room.report.expect(f"what is left of {title} of {blocks} blocks", listed == b"Volume Work\n", f"{listed[:200]!r}")
+    room.done("blank", "--ffs", "--blocks", str(blocks), *MOMENT, "Work", "blank.adf")
+    blank = room.content("blank.adf")
+    room.write("deep.adf", deep_chain(blank))
+    title = "a chain of directories"
+    bounded(room, blocks, f"check of {title}", ["check", "deep.adf"], 0)
+    told = bounded(room, blocks, f"check --all --json of {title}", ["check", "--all", "--json", "deep.adf"], 0)
+    room.report.expect(f"the directories of {title} of {blocks} blocks", b'"directories":%d,' % headers_of(blank) in told, f"{told!r}")
+    bounded(room, blocks, f"print of {title}", ["print", "deep.adf", first], 3, b"required type")
+    bounded(room, blocks, f"extract of {title}", ["extract", "--to", "bottom", "deep.adf"], 2, b"4,095")
+    room.report.expect(f"extract of {title} of {blocks} blocks writes nothing", not os.path.exists("bottom"), "it did")
+    bounded(room, blocks, f"info of {title}", ["info", "deep.adf"], 0)
+    bounded(room, blocks, f"extract --damaged of {title}", ["extract", "--damaged", "--to", "bottom", "deep.adf"], 2, b"4,095")
+    bounded(room, blocks, f"serve over {title}", ["serve", *MOMENT, "--out", "made.adf", "deep.adf", "script"], 0)
+    bounded(room, blocks, f"mkdir in {title}", ["mkdir", *MOMENT, "--out", "made.adf", "deep.adf", f"{first}/made"], 3, b"disk is full")
+    bounded(room, blocks, f"rename in {title}", ["rename", *MOMENT, "--out", "made.adf", "deep.adf", first, "moved"], 0)
+    bounded(room, blocks, f"delete --all of {title}", ["delete", "--all", *MOMENT, "deep.adf", first], 0)
+    listed = bounded(room, blocks, f"list after delete --all of {title}", ["list", "deep.adf"], 0)
+    room.report.expect(f"what is left of {title} of {blocks} blocks", listed == b"Volume Work\n", f"{listed[:200]!r}")
 
 
 # The blocks that stay free in an image whose names are all in one hash chain.
 SPARE = 8
 
 
-def one_hash_chain(room: Shared) -> None:
+def one_hash_chain(blocks: int, room: Shared) -> None:
     """Commands over a directory whose names are all in one hash chain. Each change looks for a name once or twice, and to delete all
     of them takes no longer than with many chains."""
-    for blocks in WORST_TIMES:
-        room.done("blank", "--ffs", "--blocks", str(blocks), *MOMENT, "Work", "blank.adf")
-        blank = room.content("blank.adf")
-        room.write("wide.adf", one_chain(blank, SPARE))
-        files = headers_of(blank) - SPARE - 1
-        last = next(islice(names_of_one_chain(), files - 1, None)).decode()
-        title, out = "one hash chain", ["--out", "made.adf", "wide.adf"]
-        room.write("chain", f'locate 0 -2 "d/{last}"\nexamine $1\nfree $1\n'.encode())
-        bounded(room, blocks, f"check of {title}", ["check", "wide.adf"], 0)
-        told = bounded(room, blocks, f"check --all --json of {title}", ["check", "--all", "--json", "wide.adf"], 0)
-        room.report.expect(f"the files of {title} of {blocks} blocks", b'"files":%d,' % files in told, f"{told!r}")
-        listed = bounded(room, blocks, f"list of {title}", ["list", "wide.adf"], 0)
-        room.report.same(f"the lines of {title} of {blocks} blocks", listed.count(b"\n"), files + 2)
-        bounded(room, blocks, f"print of {title}", ["print", "wide.adf", f"d/{last}"], 0)
-        bounded(room, blocks, f"extract of {title}", ["extract", "--to", "chain.out", "wide.adf"], 0)
-        room.report.same(f"the files out of {title} of {blocks} blocks", len(os.listdir("chain.out/d")), files)
-        subprocess.run(["rm", "-rf", "chain.out"])
-        bounded(room, blocks, f"serve over {title}", ["serve", *MOMENT, *out, "chain"], 0)
-        bounded(room, blocks, f"add to {title}", ["add", *MOMENT, "--to", "d", *out, "one"], 0)
-        bounded(room, blocks, f"rename in {title}", ["rename", *MOMENT, *out, f"d/{last}", "d/moved"], 0)
-        bounded(room, blocks, f"delete --all of {title}", ["delete", "--all", *MOMENT, "wide.adf", "d"], 0, within=LIKE_OTHERS)
-        left = bounded(room, blocks, f"list after delete --all of {title}", ["list", "wide.adf"], 0)
-        room.report.same(f"what is left of {title} of {blocks} blocks", left, b"Volume Work\n")
-    os.remove("wide.adf")
-
-
-def deep_faults(room: Shared) -> None:
-    """A thousand faults in a directory whose path is too long to be told, and in one whose path is not."""
-    blocks = LARGEST // BLOCK
     room.done("blank", "--ffs", "--blocks", str(blocks), *MOMENT, "Work", "blank.adf")
     blank = room.content("blank.adf")
+    room.write("wide.adf", one_chain(blank, SPARE))
+    files = headers_of(blank) - SPARE - 1
+    last = next(islice(names_of_one_chain(), files - 1, None)).decode()
+    title, out = "one hash chain", ["--out", "made.adf", "wide.adf"]
+    room.write("chain", f'locate 0 -2 "d/{last}"\nexamine $1\nfree $1\n'.encode())
+    bounded(room, blocks, f"check of {title}", ["check", "wide.adf"], 0)
+    told = bounded(room, blocks, f"check --all --json of {title}", ["check", "--all", "--json", "wide.adf"], 0)
+    room.report.expect(f"the files of {title} of {blocks} blocks", b'"files":%d,' % files in told, f"{told!r}")
+    listed = bounded(room, blocks, f"list of {title}", ["list", "wide.adf"], 0)
+    room.report.same(f"the lines of {title} of {blocks} blocks", listed.count(b"\n"), files + 2)
+    bounded(room, blocks, f"print of {title}", ["print", "wide.adf", f"d/{last}"], 0)
+    bounded(room, blocks, f"extract of {title}", ["extract", "--to", "chain.out", "wide.adf"], 0)
+    room.report.same(f"the files out of {title} of {blocks} blocks", len(os.listdir("chain.out/d")), files)
+    subprocess.run(["rm", "-rf", "chain.out"])
+    bounded(room, blocks, f"serve over {title}", ["serve", *MOMENT, *out, "chain"], 0)
+    bounded(room, blocks, f"add to {title}", ["add", *MOMENT, "--to", "d", *out, "one"], 0)
+    bounded(room, blocks, f"rename in {title}", ["rename", *MOMENT, *out, f"d/{last}", "d/moved"], 0)
+    bounded(room, blocks, f"delete --all of {title}", ["delete", "--all", *MOMENT, "wide.adf", "d"], 0, within=LIKE_OTHERS)
+    left = bounded(room, blocks, f"list after delete --all of {title}", ["list", "wide.adf"], 0)
+    room.report.same(f"what is left of {title} of {blocks} blocks", left, b"Volume Work\n")
+
+
+def deep_faults(depth: int, is_told: bool, room: Shared) -> None:
+    """A thousand faults in a directory whose path is told, or too long for that."""
+    blocks = LARGEST // BLOCK
+    room.done("blank", "--ffs", "--blocks", str(blocks), *MOMENT, "Work", "blank.adf")
+    room.write("deep.adf", deep_files(room.content("blank.adf"), depth, MOST_FAULTS + 1))
+    words = ["check", "--all", "--json", "deep.adf"]
+    told = bounded(room, blocks, f"faults below {depth} directories", words, 3)
+    unknown = told.count(b'"path":null')
+    wanted = (MOST_FAULTS, 0 if is_told else MOST_FAULTS)
+    found = (told.count(b'"kind":"') - 1, unknown)
+    room.report.expect(f"paths of faults below {depth} directories", found == wanted, f"{found}: {told[:300]!r}")
+
+
+# ---- all of them
+
+def races() -> List[Task[Shared]]:
+    """The races. Each needs a processor for the program and one for whoever swaps or reads: they run before the other tasks, so many
+    at a time that each has both."""
+    found: List[Task[Shared]] = [("readers beside", Shared, readers_beside), ("a race for the file beside", Shared, raced_beside)]
+    if hasattr(LIBC, "renameat2"):
+        found.append(("a race for a directory on the way", Shared, race_on_the_way))
+        found.append(("a race for the directory of an image", Shared, race_of_an_image))
+    return found
+
+
+def disks() -> List[Task[Shared]]:
+    """The harmful disks, and those that are as deep or as full as their blocks allow: the large ones first."""
+    found: List[Tuple[str, Callable[[Shared], None]]] = []
+    for blocks in sorted(WORST_TIMES, reverse=True):
+        found.append((f"one hash chain of {blocks} blocks", partial(one_hash_chain, blocks)))
+        found.append((f"a chain of directories of {blocks} blocks", partial(deep_images, blocks)))
+    for size, (title, _, _) in reversed(list(enumerate(SIZES))):
+        found.append((f"{title}, files that claim more", partial(floppies, size)))
+        found.append((f"{title}, chains", partial(chains, size)))
+        found.append((f"{title}, one name", partial(one_name, size)))
+        found += [(f"{title}, {it.name}", partial(worst, size, it)) for it in WORST]
     for depth, is_told in ((50_000, False), (100, True)):
-        room.write("deep.adf", deep_files(blank, depth, MOST_FAULTS + 1))
-        words = ["check", "--all", "--json", "deep.adf"]
-        told = bounded(room, blocks, f"faults below {depth} directories", words, 3)
-        unknown = told.count(b'"path":null')
-        wanted = (MOST_FAULTS, 0 if is_told else MOST_FAULTS)
-        found = (told.count(b'"kind":"') - 1, unknown)
-        room.report.expect(f"paths of faults below {depth} directories", found == wanted, f"{found}: {told[:300]!r}")
+        found.append((f"faults below {depth} directories", partial(deep_faults, depth, is_told)))
+    return [(name, InMemory, part) for name, part in found]
 
 
-def checks(room: Shared) -> None:
-    room.set_up()
-    strace = has_strace("delay_exit=1")
-    endless(room)
-    short_files(room)
-    leftovers(room)
-    at_once(room)
-    links_to_nothing(room)
-    terminals(room)
-    listings(room)
-    held_images(room)
-    readers_beside(room)
-    if strace:
-        killed(room)
-    else:
-        room.report.lacks("commands that are killed", "strace")
-    floppies(room)
-    chains(room)
-    one_name(room)
-    worst(room)
-    holes(room)
-    swapped_directories(room, strace)
-    deep_directories(room, strace)
-    long_paths(room)
-    without_proc(room)
-    deep_images(room)
-    deep_faults(room)
-    one_hash_chain(room)
-    modes(room)
-    if room.owner is None:
+def commands() -> List[Task[Shared]]:
+    """What is not a disk."""
+    parts = [endless, killed, at_once, leftovers, short_files, held_images, links_to_nothing, terminals, listings, holes]
+    parts += [long_paths, without_proc, modes, not_kept, owners, links_beside, others_in_place]
+    found: List[Task[Shared]] = [(it.__name__.replace("_", " "), Shared, it) for it in parts]
+    return found + [(it.__name__.replace("_", " "), InMemory, it) for it in (swapped_directories, deep_directories, opened_again)]
+
+
+# Those that need another user than the test's own, and those that need `strace` to stop or to end the program.
+BY_OTHERS = {owners: "owners and groups that stay", links_beside: "links in the place of the file beside"}
+BY_STRACE = {
+    killed: "commands that are killed",
+    swapped_directories: "links for directories, while the program is stopped",
+    opened_again: "a directory that is opened again",
+    links_beside: "links in the place of the file beside",
+    others_in_place: "other files in the place of those that are held",
+}
+
+
+def can_be_tried(report: Report, tasks: Sequence[Task[Shared]]) -> List[Task[Shared]]:
+    """The tasks for which this machine has what they need. The others are skipped."""
+    lacks: Dict[Callable[[Shared], None], Tuple[str, str]] = {}
+    if not has_strace("signal=STOP"):
+        lacks.update({it: (name, "there is no strace here") for it, name in BY_STRACE.items()})
+    if not has_other():
         why = "this is not root" if os.geteuid() != 0 else "there is no second user here"
-        room.report.skip("links in the place of the file beside", why)
-        room.report.skip("owners and groups that stay", why)
-        room.report.skip("temporary files of another user", why)
-    else:
-        owners(room)
-        links_beside(room, strace)
-    if strace and room.keeps_reads():
-        others_in_place(room)
-    else:
-        why = "the host does not note reads here" if strace else "there is no strace here"
-        room.report.skip("other files in the place of those that are held", why)
+        lacks.update({it: (name, why) for it, name in BY_OTHERS.items()})
+        report.skip("temporary files of another user", why)
+    if not hasattr(LIBC, "renameat2"):
+        report.lacks("races for directories", "call that exchanges names")
+    for name, why in lacks.values():
+        report.skip(name, why)
+    return [it for it in tasks if it[2] not in lacks]
+
+
+def tell_times(ended: Sequence[Ended]) -> None:
+    """Prints how long tasks took, on standard error."""
+    print("Seconds by the clock and of processors of each task:", file=sys.stderr)
+    for it in sorted(ended, key=lambda it: -it.processor):
+        print(f"{it.seconds:7.1f} {it.processor:7.1f}  {it.name}", file=sys.stderr)
+    print(f"{'':7} {sum(it.processor for it in ended):7.1f}  all", file=sys.stderr)
+
+
+def main(words: Sequence[str]) -> int:
+    # (the directories of the tasks are removed if the test is terminated)
+    signal.signal(signal.SIGTERM, lambda *_: sys.exit(1))
+    program, report, parts = program_of(words[:1]), Report(), words[1:]
+    ended: List[Ended] = []
+    for tasks, most in ((races(), processors() // 2), (can_be_tried(report, [*disks(), *commands()]), processors())):
+        named = [it for it in tasks if not parts or any(part in it[0] for part in parts)]
+        ended += try_side_by_side(report, program, named, max(1, most))
+    if "TIMES" in os.environ:
+        tell_times(ended)
+    return report.end()
 
 
 if __name__ == "__main__":
-    sys.exit(try_all(sys.argv[1:], Shared, checks))
+    sys.exit(main(sys.argv[1:]))

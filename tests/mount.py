@@ -30,13 +30,13 @@ sys.dont_write_bytecode = True
 
 from all_faults_model import slot_of
 from harmful import DIRECTORY, FILE, Drawing
-from harness import BLOCK, TOP, Image, Ran, Report, Room, built_program, done, fault_of, in_memory, limited, run, wait_until_free
+from harness import BLOCK, TOP, Failed, Image, Ran, Report, Room, built_program, done, fault_of, in_memory, limited, run, wait_until_free
 
 FUSE, CLIENT = TOP / "bindings/fuse", TOP / "tests/mount_client.py"
 SEED = os.environ.get("SEED") or str(random.randrange(32_768))
 STEPS, ROUNDS = os.environ.get("STEPS") or "10000", os.environ.get("ROUNDS") or "100"
-# The longest time for a mount, in seconds: it waits 5 for the lock of its image. How long `--wait` waits.
-LONGEST_START, LONGEST_WAIT = 8, 60
+# The longest time for a mount, in seconds: it waits 5 for the lock of its image. That for its last save. How long `--wait` waits.
+LONGEST_START, LONGEST_SAVE, LONGEST_WAIT = 8, 30, 60
 # The address space, the memory and the stack of a mount over a floppy, in bytes.
 MOST_SPACE, MOST_MEMORY, MOST_STACK = 256 << 20, 64 << 20, 1 << 20
 # The user and the group of another's file.
@@ -542,10 +542,12 @@ def left_beside(image: str) -> Optional[str]:
 
 @contextmanager
 def subprocess_of(tried: Mount, image: str) -> Iterator[None]:
-    """An image that is mounted, whatever becomes of it: its last save may fail."""
+    """An image that is mounted, whatever becomes of it: its last save may fail. It has time for that save, and is killed only then."""
     try:
-        tried.start(image)
+        process = tried.start(image)
         yield
+        run(["fusermount3", "-u", tried.place])
+        process.wait(LONGEST_SAVE)
     finally:
         tried.leave()
 
@@ -667,25 +669,66 @@ def fault_numbers() -> Dict[str, int]:
     return {name.title().replace("_", ""): int(number) for name, number in found}
 
 
-def damaged(tried: Mount) -> Optional[str]:
-    """Images with one to four changed bytes in blocks that are not empty are refused for the fault that `check` tells."""
-    base, numbers, refusals = tried.content("ofs.adf"), fault_numbers(), 0
-    used = [it for it in range(0, len(base), BLOCK) if any(base[it : it + BLOCK])]
+def changed(base: bytes, turn: int) -> bytes:
+    """An image with one to four changed bytes in blocks that are not empty. In each second one their checksums are right."""
+    chance, image = random.Random(turn), Image(base)
+    used = [it for it in range(image.blocks) if any(base[it * BLOCK : (it + 1) * BLOCK])]
+    for _ in range(chance.randint(1, 4)):
+        block = chance.choice(used)
+        image.data[block * BLOCK + chance.randrange(BLOCK)] ^= chance.randint(1, 255)
+        if turn % 2 == 1:
+            image.settle(block, 0 if block == image.long(image.blocks // 2, 79) else 5)
+    return bytes(image.data)
+
+
+def mounted_as_listed(tried: Mount) -> Optional[str]:
+    """What is wrong if an image that `check` accepts is not mounted, or with other entries than `list` has."""
+    try:
+        with tried.mounted("damaged.adf", "-o", "ro"):
+            found = sum(len(below) + len(files) for _, below, files in os.walk("mount"))
+    except (OSError, Failed) as fault:
+        return str(fault)
+    listed = tried.done("list", "damaged.adf").count(b"\n") - 1
+    return None if found == listed else f"{found} entries are mounted, and {listed} are listed"
+
+
+def fault_of_damaged(tried: Mount, told: Ran, numbers: Mapping[str, int]) -> Optional[str]:
+    """What is wrong if the mount refuses an image that `check` accepts, or does not refuse one for the fault that `check` tells."""
+    if told == (0, b"ok\n", b""):
+        return mounted_as_listed(tried)
+    words = told.output.decode().split()
+    if told.status != 3 or len(words) != 3 or words[0] != "refused":
+        return "this is no end of a check"
+    text = f": it is refused: fault {numbers[words[1]]}, block {words[2]}\n"
+    return fault_of(run([tried.adf_mount, "damaged.adf", "mount"]), 3, b"", text)
+
+
+def damaged(image: str, expected: Sequence[int], tried: Mount) -> Optional[str]:
+    """The mount refuses exactly those images with changed bytes that `check` refuses, and for the same fault.
+
+    How many these are says nothing of the mount, because a change in a block that a deleted file left, or in the data of a file of FFS,
+    is harmless. Of the floppy that was used, 1,684 blocks are not empty, and 319 of them are in use, 162 where there is no rsync: with
+    wrong checksums alone 39 images of 100 are refused, or 18, and those are all that have a change in a block in use. Of an OFS floppy
+    from which nothing was deleted most are refused, and of each other floppy some.
+    """
+    base, numbers, refused = tried.content(image), fault_numbers(), 0
     for turn in range(100):
-        chance, image = random.Random(turn), Image(base)
-        for _ in range(chance.randint(1, 4)):
-            image.data[chance.choice(used) + chance.randrange(BLOCK)] ^= chance.randint(1, 255)
-        tried.write("damaged.adf", bytes(image.data))
-        told = tried.run("check", "damaged.adf").output.decode().split()
-        if told[0] == "ok":
-            continue
-        refusals += 1
-        ran = run([tried.adf_mount, "damaged.adf", "mount"])
-        fault = fault_of(ran, 3, b"", f": it is refused: fault {numbers[told[1]]}, block {told[2]}\n")
+        tried.write("damaged.adf", changed(base, turn))
+        told = tried.run("check", "damaged.adf")
+        fault = fault_of_damaged(tried, told, numbers)
         if fault:
             return f"image {turn}, {told}: {fault}"
-    # (some changes are harmless; so that this shows something, at least a fifth of the images have to be refused)
-    return None if refusals >= 20 else f"only {refusals} images are refused"
+        refused += told.status == 3
+    return None if refused in expected else f"{refused} images are refused"
+
+
+def damaged_images(tried: Mount) -> None:
+    """A floppy that was used and mostly cleared, and new ones."""
+    tried.ends("damaged images are refused as by check, of a floppy that was used", partial(damaged, "ofs.adf", range(1, 100)))
+    for kind, expected in (("ofs", range(51, 101)), ("ffs", range(1, 100))):
+        tried.blank("new.adf", kind)
+        tried.done("add", "new.adf", "tree")
+        tried.ends(f"damaged images are refused as by check, of a new floppy of {kind}", partial(damaged, "new.adf", expected))
 
 
 def one_image(tried: Mount) -> None:
@@ -693,7 +736,7 @@ def one_image(tried: Mount) -> None:
     tried.blank("blank.adf")
     tried.ends("names that no host has", strange_names)
     tried.ends("-o ro writes nothing", read_only)
-    tried.ends("damaged images are refused as by check", damaged)
+    damaged_images(tried)
     tried.ends("an image is mounted once", locked)
     tried.ends("when it is saved", saved)
     tried.ends("asked to end", asked_to_end)

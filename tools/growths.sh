@@ -14,6 +14,8 @@ room=$(mktemp -d)
 trap 'rm -rf "$room"' EXIT
 shim=$room/shim.so
 passed=0 failed=0
+# a test that is out of memory aborts, and leaves no core
+ulimit -c 0
 
 if ! command -v cc >/dev/null || ! cc -std=c11 -O2 -shared -fPIC -o "$shim" "$top/tests/growths.c" -ldl; then
     echo 'skip  growths that are refused: there is no cc'

@@ -80,6 +80,33 @@ static void values(void) {
 
 static jip_owner map_of[JIP_DOUBLE_DENSITY];
 
+/* More than a thousand faults: no data block of a long file has anything that it should. The first thousand are listed. */
+static void thousand(void) {
+    enum { BLOCKS = 600, LISTED = 1000 };
+    jip_handle h = blank(JIP_OFS, JIP_DOUBLE_DENSITY);
+    size_t length, count = 99, own = 0;
+    int32_t more = 99;
+    size_t types = 0, right = 0;
+    static jip_finding found[LISTED];
+    make_file(&h, "long", BLOCKS * 488);
+    uint8_t *image = image_of(&h, &length);
+    EXPECT("its map", jip_map(&h, map_of, JIP_DOUBLE_DENSITY, &own) == JIP_DONE);
+    for (uint32_t block = 0; block < JIP_DOUBLE_DENSITY; block++)
+        if (map_of[block].role == JIP_ROLE_DATA) memset(image + 512 * block, 0, 512);
+    EXPECT("a thousand faults, and more", jip_check(image, length, NULL, 0, &count, &more) == JIP_DONE && count == LISTED && more == 1);
+    count = 99;
+    more = 99;
+    EXPECT("and with values", jip_check_values(image, length, found, LISTED, &count, &more) == JIP_DONE && count == LISTED && more == 1);
+    for (size_t i = 0; i < LISTED; i++) {
+        if (found[i].kind != JIP_FAULT_BAD_TYPE) continue;
+        types++;
+        right += map_of[found[i].block].role == JIP_ROLE_DATA && found[i].known == 2 && found[i].at == 0 && found[i].found == 0 && found[i].wanted == 8;
+    }
+    EXPECT("the types of data blocks", types > 100 && right == types);
+    free(image);
+    EXPECT("close", jip_close(&h) == JIP_DONE);
+}
+
 static int owns(uint32_t block, uint32_t role, uint32_t header, uint32_t index) {
     const jip_owner owner = map_of[block];
     return block < JIP_DOUBLE_DENSITY && owner.role == role && owner.header == header && owner.index == index;
@@ -155,6 +182,7 @@ static void map_arguments(void) {
 int main(void) {
     faults();
     values();
+    thousand();
     map(JIP_OFS, 488);
     map(JIP_FFS, 512);
     lost();

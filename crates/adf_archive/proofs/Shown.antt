@@ -1,6 +1,8 @@
 -- Reported faults, by the faults themselves.
-use Rattle.std.proofs.Common.{◌≡◌, ℕ, ◌<◌, List, [], ◌∷◌, length, get_or, map, All, sym, ap, ◌∙◌, subst, refl, arith}
+use Rattle.std.proofs.Common.{◌≡◌, ℕ, ◌<◌, ◌⊎◌, inl, inr, List, [], ◌∷◌, length, get_or, map, All, sym, ap, ◌∙◌, subst, refl, arith}
 use Rattle.std.proofs.lemmas.List.{get_or-map, length-map}
+use Rattle.ados_faults.specs.Listed.{AreMarks, Marks}
+use Rattle.ados_model.specs.Accepted.{ShowsNoFault}
 use Rattle.ados_model.specs.Faults.{Shows}
 use Rattle.ados_model.specs.declared.fault.VolumeFault.{VolumeFault}
 use Rattle.adf_archive.specs.declared.report.ShownFault.{ShownFault}
@@ -16,6 +18,11 @@ shown_all image shown faults same all = λ i d l.
     subst (λ (fault : VolumeFault). Shows image fault.kind fault.block)
     (ap (λ (xs : List VolumeFault). get_or xs i d.fault) (sym same) ∙ get_or-map (λ (each : ShownFault). each.fault) shown i d d.fault l)
     (all i d.fault (subst (λ (n : ℕ). i < n) (many shown faults same) l))
+
+-- the marks of an image that shows a fault
+pub marks_of : (image : List ℕ) (marks : Marks) → ¬ ShowsNoFault image → ShowsNoFault image ⊎ AreMarks image marks → (marks ≡ []) ⊎ AreMarks image marks
+marks_of image marks refused (inl none) = absurd (refused none)
+marks_of image marks refused (inr are) = inr are
 
 -- a list that is not empty has an element
 pub not_empty : (faults : List VolumeFault) → ¬ (faults ≡ []) → 0 < length faults

@@ -1,5 +1,5 @@
 -- The report on the bytes of an image.
-use Rattle.std.specs.Prelude.{◌≡◌, ℕ, ◌+◌, ◌<◌, None, List, length, count_by, All, IfSome, ⊤}
+use Rattle.std.specs.Prelude.{◌≡◌, ℕ, ◌+◌, ◌<◌, ◌⊎◌, None, List, [], length, count_by, All, IfSome, MatchOption, ⊤}
 use Rattle.adf_block.specs.Boot.{HasKind}
 use Rattle.adf_block.specs.Image.{block_count}
 use Rattle.adf_block.specs.Size.{IsSizeFault}
@@ -8,6 +8,8 @@ use Rattle.ados_model.specs.Change.{is_file}
 use Rattle.ados_model.specs.Stands.{Stands}
 use Rattle.ados_model.specs.Accepted.{Accepts}
 use Rattle.ados_model.specs.Faults.{Shows}
+use Rattle.ados_faults.specs.Listed.{AreMarks, Marks}
+use Rattle.ados_faults.specs.Values.{AreValues, NoneShows}
 use Rattle.ados_volume.specs.declared.below.Below.{Below}
 use Rattle.ados_volume.specs.Below.{AreBelow}
 use Rattle.adf_archive.specs.declared.report.AcceptedImage.{AcceptedImage}
@@ -15,6 +17,7 @@ use Rattle.adf_archive.specs.declared.report.Contents.{Contents}
 use Rattle.adf_archive.specs.declared.report.ImageReport.{ImageReport}
 use Rattle.adf_archive.specs.declared.report.ImageReport.TheVariants.{Accepted, Refused, WrongSize, NotChecked}
 use Rattle.adf_archive.specs.declared.report.RefusedImage.{RefusedImage}
+use Rattle.adf_archive.specs.declared.report.ShownFault.{ShownFault}
 
 -- the number of files among these entries
 abbrev pub file_count : Tree → List Below → ℕ
@@ -37,12 +40,22 @@ pub record IsAccepted (image : List ℕ) (told : AcceptedImage) : Type 0 where
   pub blocks : told.blocks ≡ block_count checked
   pub contents : IfSome told.contents (λ contents. (t : Tree) → Stands checked t → Tells t contents)
 
+-- the values of a fault are those of the first long that shows it, by these marks; it has none only if no long does
+abbrev pub HasValues : List ℕ → Marks → ShownFault → Type 0
+HasValues image marks shown =
+    MatchOption shown.values (NoneShows image marks shown.fault.kind shown.fault.block) (AreValues image marks shown.fault.kind shown.fault.block)
+
+-- so it is for each fault, by the marks of the image; or by none, if neither paths nor texts are wanted
+abbrev pub HaveValues : List ℕ → List ShownFault → Type 0
+HaveValues image faults = (marks : Marks) × ((marks ≡ []) ⊎ AreMarks image marks) × All (HasValues image marks) faults
+
 -- the image shows each of the faults, and there is at least one
 pub record IsRefused (image : List ℕ) (told : RefusedImage) : Type 0 where
   pub kind : HasKind image told.kind
   pub blocks : told.blocks ≡ block_count image
   pub some : 0 < length told.faults.items
   pub shown : All (λ shown. Shows image shown.fault.kind shown.fault.block) told.faults.items
+  pub values : HaveValues image told.faults.items
 
 -- the report is the check's result for these bytes; one that was not checked says nothing
 abbrev pub IsReport : List ℕ → ImageReport → Type 0

@@ -1,7 +1,9 @@
 //! The faults of a refused image.
-ghost use Rattle.std.specs.Prelude.{◌≡◌, ◌<◌, All, IfOk, length, map};
+ghost use Rattle.std.specs.Prelude.{◌≡◌, ◌<◌, ◌⊎◌, [], All, IfOk, length, map};
 ghost use Rattle.ados_model.specs.Accepted.{ShowsNoFault};
 ghost use Rattle.ados_model.specs.Faults.{Shows};
+ghost use Rattle.ados_faults.specs.Listed.{AreMarks};
+ghost use Rattle.adf_archive.specs.Report.{HasValues, HaveValues};
 
 use crate::checking::Detail;
 use crate::report::ShownFault;
@@ -30,6 +32,7 @@ pub(crate) fn told_faults(
     requires { Shows image.now fault.kind fault.block }
     ensures some { IfOk result (λ told. 0 < length told.faults.items) }
     ensures shown { IfOk result (λ told. All (λ shown. Shows image.now shown.fault.kind shown.fault.block) told.faults.items) }
+    ensures values { IfOk result (λ told. HaveValues image.now told.faults.items) }
 {
     if detail.all {
         return all_told(alloc, image, detail);
@@ -42,6 +45,7 @@ fn all_told(alloc: Global, image: &Image, detail: Detail) -> Result<ToldFaults, 
     requires { ¬ ShowsNoFault image.now }
     ensures some { IfOk result (λ told. 0 < length told.faults.items) }
     ensures shown { IfOk result (λ told. All (λ shown. Shows image.now shown.fault.kind shown.fault.block) told.faults.items) }
+    ensures values { IfOk result (λ told. HaveValues image.now told.faults.items) }
 {
     let found = all_faults(alloc, image, MOST_FAULTS)?;
     let faults = shown_faults(alloc, image, &found.marks, &found.faults, detail)?;
@@ -61,6 +65,7 @@ fn one_told(
     requires { Shows image.now fault.kind fault.block }
     ensures some { IfOk result (λ told. 0 < length told.faults.items) }
     ensures shown { IfOk result (λ told. All (λ shown. Shows image.now shown.fault.kind shown.fault.block) told.faults.items) }
+    ensures values { IfOk result (λ told. HaveValues image.now told.faults.items) }
 {
     let marks = wanted_marks(alloc, image, detail)?;
     let faults = shown_faults(alloc, image, &marks, &[fault], detail)?;
@@ -75,7 +80,10 @@ fn wanted_marks(
     alloc: Global,
     image: &Image,
     detail: Detail,
-) -> Result<Vec<Option<Mark>>, AllocError> {
+) -> Result<Vec<Option<Mark>>, AllocError>
+    requires { ¬ ShowsNoFault image.now }
+    ensures { IfOk result (λ marks. (marks.items ≡ []) ⊎ AreMarks image.now marks.items) }
+{
     if !detail.contents && !detail.texts {
         return Ok(Vec::new(alloc));
     }
@@ -90,7 +98,8 @@ fn shown_faults(
     faults: &[VolumeFault],
     detail: Detail,
 ) -> Result<Vec<ShownFault>, AllocError>
-    ensures { IfOk result (λ shown. map (λ each. each.fault) shown.items ≡ faults.now) }
+    ensures faults { IfOk result (λ shown. map (λ each. each.fault) shown.items ≡ faults.now) }
+    ensures values { IfOk result (λ shown. All (HasValues image.now marks.now) shown.items) }
 {
     let mut shown = Vec::new(alloc);
     for fault in faults {

@@ -8,6 +8,8 @@ use Rattle.ados_model.specs.Change.{made, rewritten}
 use Rattle.ados_model.specs.Edits.{with_comment, with_date, with_protection}
 use Rattle.ados_volume.specs.Shown.{Shown}
 use Rattle.ados_model.specs.Objects.{protection_of}
+use Rattle.adf_text.specs.declared.protect_words.Form.{Form}
+use Rattle.adf_text.specs.ProtectWords.{bits_after}
 use Rattle.adf_import.specs.declared.new_file.NewFile.{NewFile}
 
 -- no refusal holds, and the new image represents the changed tree; or this error refuses the change, and the volume is
@@ -25,6 +27,10 @@ with_low_bits bits low = 256 * (bits / 256) + low % 256
 -- the low eight protection bits of an object are set, and the others stay
 abbrev pub protected : Date3 → ℕ → ℕ → Tree → Tree
 protected moment key low t = with_protection moment key (with_low_bits (protection_of t key) low) t
+
+-- the low eight protection bits of an object become those after a word, by its form and its letters
+abbrev pub reprotected : Date3 → ℕ → Form × List ℕ → Tree → Tree
+reprotected moment key word t = protected moment key (bits_after word.0 word.1 (protection_of t key)) t
 
 -- a file gets these protection bits, this comment and this date
 abbrev pub described : Date3 → ℕ → NewFile → Tree → Tree

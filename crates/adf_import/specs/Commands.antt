@@ -1,25 +1,27 @@
 -- The effect of each command that changes a volume.
-use Rattle.std.specs.Prelude.{◌≡◌, ◌∷◌, ℕ, Bool, false, true, List, [], Result, Ok, Err, OnOk, map, ⊤}
+use Rattle.std.specs.Prelude.{◌≡◌, ◌∷◌, ℕ, Bool, false, true, List, [], Result, Ok, Err, MatchOption, OnOk, map, unwrap_or, ⊤}
 use Rattle.std.specs.Str.{chars}
+use Rattle.std.specs.String.{string_bytes}
 use Rattle.ados_name.specs.declared.stamp.Date3.{Date3}
 use Rattle.ados_model.specs.declared.dos_error.DosError.{DosError}
 use Rattle.ados_model.specs.Change.{made, removed, renamed}
-use Rattle.ados_model.specs.Edits.{disk_renamed, with_comment}
+use Rattle.ados_model.specs.Edits.{disk_renamed, with_comment, with_date}
 use Rattle.ados_model.specs.Stands.{Stands}
 use Rattle.ados_model.specs.Tree.{Tree}
 use Rattle.ados_model.specs.Tree.Content.{Directory}
 use Rattle.ados_model.specs.Parts.{IsUnused}
 use Rattle.ados_volume.specs.Shown.{Shown}
 use Rattle.adf_words.specs.declared.change.Change.{Change}
-use Rattle.adf_words.specs.declared.change.Change.TheVariants.{Add, Comment, Delete, MakeDirectories, Protect, Relabel, Rename}
-use Rattle.adf_text.specs.ProtectionLetters.{AreLetters, protection_of}
-use Rattle.adf_import.specs.Changes.{Changes, protected}
+use Rattle.adf_words.specs.declared.change.Change.TheVariants.{Add, Comment, Date, Delete, MakeDirectories, Protect, Relabel, Rename}
+use Rattle.adf_text.specs.declared.protect_words.Form.{Form}
+use Rattle.adf_text.specs.ProtectWords.{protect_word}
+use Rattle.adf_import.specs.Changes.{Changes, reprotected}
 use Rattle.adf_import.specs.Pruned.{Prunes}
 use Rattle.adf_import.specs.Refusals.{delete_refusal, make_refusal, root_refusal}
 use Rattle.adf_import.specs.Paths.{ChangesAt, comment_refusal, entry_move_refusal, move_ends, object_at, place_at, relabel_refusal}
 use Rattle.adf_import.specs.Put.{KeepsKeys}
 use Rattle.adf_import.specs.Turns.{EndsAt, EndsInTurn, ReadsFirst}
-use Rattle.adf_import.specs.Words.{IsBitsFault, IsRefusal}
+use Rattle.adf_import.specs.Words.{IsRefusal}
 use Rattle.adf_import.specs.declared.each.Each.{Each}
 use Rattle.adf_import.specs.declared.each.Each.TheVariants as each
 use Rattle.adf_import.specs.declared.each.Each.TheVariants.{Make}
@@ -65,15 +67,24 @@ EndsMove moment from to old new (Err (Refused told)) = (fault : MoveFault) × Mo
 EndsMove moment from to old new (Err Memory) = ⊤
 EndsMove moment from to old new (Err _) = ⊥
 
--- the low eight protection bits of the entry at a path are set
-abbrev pub Protects : Date3 → List ℕ → ℕ → Shown → Shown → Result Unit DosError → Type 0
-Protects moment path bits old new result = ChangesAt (object_at path) (λ key. Changes (root_refusal key) (λ _ t. protected moment key bits t)) old new result
+-- the low eight protection bits of the entry at a path become those after a word
+abbrev pub Protects : Date3 → List ℕ → Form × List ℕ → Shown → Shown → Result Unit DosError → Type 0
+Protects moment path word old new result = ChangesAt (object_at path) (λ key. Changes (root_refusal key) (λ _ t. reprotected moment key word t)) old new result
 
--- the protection bits of an argument are set, or this is refused; or the argument has none, and nothing changes
+-- an argument without protection bits is reported, and nothing changes; or memory ran out
+abbrev pub EndsWithoutBits : List ℕ → Shown → Shown → Result Unit InFault → Type 0
+EndsWithoutBits bits old new (Err (Bits text)) = (new ≡ old) × (string_bytes text ≡ bits)
+EndsWithoutBits bits old new (Err Memory) = ⊤
+EndsWithoutBits bits old new _ = ⊥
+
+-- the protection bits of an argument are set, or this is refused; or the argument has none
 abbrev pub EndsProtect : Date3 → List ℕ → List ℕ → Shown → Shown → Result Unit InFault → Type 0
-EndsProtect moment path bits old new (Ok _) = AreLetters (chars bits) × Protects moment (chars path) (protection_of (chars bits)) old new (Ok tt)
-EndsProtect moment path bits old new (Err (Bits text)) = (new ≡ old) × IsBitsFault bits (Bits text)
-EndsProtect moment path bits old new (Err fault) = EndsAt (Protects moment (chars path) (protection_of (chars bits))) path old new (Err fault)
+EndsProtect moment path bits old new result =
+    MatchOption (protect_word (chars bits)) (EndsWithoutBits bits old new result) (λ word. EndsAt (Protects moment (chars path) word) path old new result)
+
+-- the entry at a path gets a date
+abbrev pub Dates : Date3 → List ℕ → Date3 → Shown → Shown → Result Unit DosError → Type 0
+Dates moment path date old new result = ChangesAt (object_at path) (λ key. Changes (root_refusal key) (λ _ t. with_date moment key date t)) old new result
 
 -- the entry at a path gets a comment
 abbrev pub Comments : Date3 → List ℕ → List ℕ → Shown → Shown → Result Unit DosError → Type 0
@@ -97,6 +108,8 @@ ChangesVolume (Delete paths all force) moment old new result =
     let words = map (λ word. word.now) paths.items in ReadsFirst words (EndsInTurn (Deletes moment all force) words) old new result
 ChangesVolume (Rename from to) moment old new result = ReadsFirst (from.now ∷ to.now ∷ []) (EndsMove moment from.now to.now) old new result
 ChangesVolume (Protect path letters) moment old new result = ReadsFirst (path.now ∷ letters.now ∷ []) (EndsProtect moment path.now letters.now) old new result
+ChangesVolume (Date path date) moment old new result =
+    ReadsFirst (path.now ∷ []) (EndsAt (Dates moment (chars path.now) (unwrap_or date moment)) path.now) old new result
 ChangesVolume (Comment path text) moment old new result =
     ReadsFirst (path.now ∷ text.now ∷ []) (EndsAt (Comments moment (chars path.now) (chars text.now)) path.now) old new result
 ChangesVolume (Relabel name) moment old new result = ReadsFirst (name.now ∷ []) (EndsAt (Relabels moment (chars name.now)) name.now) old new result

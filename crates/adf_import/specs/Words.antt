@@ -1,10 +1,10 @@
 -- Arguments of a command as bytes of an Amiga's text, and their faults.
-use Rattle.std.specs.Prelude.{◌≡◌, ℕ, List, All, Contains, ⊤}
+use Rattle.std.specs.Prelude.{◌≡◌, ℕ, List, All, Contains, None, ⊤}
 use Rattle.std.specs.Str.{chars}
 use Rattle.std.specs.String.{string_bytes}
 use Rattle.ados_model.specs.declared.dos_error.DosError.{DosError}
 use Rattle.adf_text.specs.Letters.{IsByte, letters}
-use Rattle.adf_text.specs.ProtectionLetters.{AreLetters}
+use Rattle.adf_text.specs.ProtectWords.{protect_word}
 use Rattle.adf_import.specs.declared.fault.InFault.{InFault}
 use Rattle.adf_import.specs.declared.fault.InFault.TheVariants.{Bits, Letter, Memory, Refused}
 use Rattle.adf_import.specs.declared.words.Word.{Word}
@@ -35,8 +35,8 @@ IsRefusal error word (Refused refused) = (refused.error ≡ error) × (string_by
 IsRefusal error word Memory = ⊤
 IsRefusal error word _ = ⊥
 
--- the fault is about this argument, which has no protection bits; or memory ran out
+-- the fault is about this argument, which is no word for protection bits; or memory ran out
 abbrev pub IsBitsFault : List ℕ → InFault → Type 0
-IsBitsFault word (Bits text) = (string_bytes text ≡ word) × (¬ AreLetters (chars word))
+IsBitsFault word (Bits text) = (string_bytes text ≡ word) × (protect_word (chars word) ≡ None)
 IsBitsFault word Memory = ⊤
 IsBitsFault word _ = ⊥

@@ -5,7 +5,7 @@ ghost use Rattle.adf_import.specs.Commands.{ChangesVolume, without_answer};
 use crate::adding::{How, add};
 use crate::each::{Each, change_each};
 use crate::fault::InFault;
-use crate::single::{rename, set_bits, set_comment, set_name};
+use crate::single::{rename, set_bits, set_comment, set_date, set_name};
 use adf_words::Change;
 use ados_name::Date3;
 use ados_volume::Volume;
@@ -63,6 +63,9 @@ fn change_entries(
         }
         Change::Rename { old, new } => rename(alloc, volume, *old, *new, moment),
         Change::Protect { path, letters } => set_bits(alloc, volume, *path, *letters, moment),
+        Change::Date { path, date } => {
+            set_date(alloc, volume, *path, date.unwrap_or(moment), moment)
+        }
         Change::Comment { path, text } => set_comment(alloc, volume, *path, *text, moment),
         Change::Relabel { name } => set_name(alloc, volume, *name, moment),
     }

@@ -26,8 +26,8 @@ pub enum InFault {
     /// An argument has a letter past U+00FF.
     #[error("'{0}' has a letter that no byte of an Amiga's text stands for")]
     Letter(String),
-    /// An argument is not a set of protection bits.
-    #[error("'{0}' is no protection: some of the letters hsparwed, or eight places with a letter or a dash each")]
+    /// An argument is no word for protection bits.
+    #[error("'{0}' is no protection: letters of hsparwed, each once, as rwed, ----rwed, +s, -w or =rwed")]
     Bits(String),
     /// The walk over files of the host failed.
     #[error("{0}")]

@@ -1,7 +1,7 @@
 //! Changes of an object's metadata, and of the volume's name.
 
 ghost use Rattle.std.specs.Prelude.{◌≡◌};
-ghost use Rattle.ados_model.specs.Edits.{disk_renamed, with_comment};
+ghost use Rattle.ados_model.specs.Edits.{disk_renamed, with_comment, with_date};
 ghost use Rattle.ados_model.specs.Keys.{HasKey};
 ghost use Rattle.ados_change.specs.NewBlocks.{KeepsRest};
 ghost use Rattle.ados_model.specs.Stands.{Stands};
@@ -55,6 +55,23 @@ pub fn comment(volume: &mut Volume, key: u32, text: &Comment, moment: Date3) -> 
         return Err(DosError::ObjectWrongType);
     }
     volume.set_comment(key, *text, moment);
+    Ok(())
+}
+
+/// Sets the date of an entry. The disk date becomes `moment`.
+///
+/// Error: 212 for the root.
+#[tactic(auto, using(ados_change::proofs::Keeping::same_keeps))]
+pub fn redate(volume: &mut Volume, key: u32, date: Date3, moment: Date3) -> Result<(), DosError>
+    requires { HasKey volume.old.image key }
+    ensures done { Changes (root_refusal key) (λ _ t. with_date moment key date t) volume.old volume.new result }
+    ensures keeps { KeepsRest volume.old.image volume.new.image }
+    ensures validated { volume.new.was_validated ≡ volume.old.was_validated }
+{
+    if key == volume.root() {
+        return Err(DosError::ObjectWrongType);
+    }
+    volume.set_date(key, date, moment);
     Ok(())
 }
 

@@ -24,7 +24,7 @@ pub use boot::{LongBoot, boot_image};
 pub use change::change_volume;
 pub use entries::{delete, make_directory, move_entry};
 pub use fault::{InFault, NoteFault};
-pub use fields::{comment, protect, relabel};
+pub use fields::{comment, protect, redate, relabel};
 pub use in_turn::outside_stays;
 pub use new_file::{NewFile, NotPut, add_file, replace_file};
 pub use prune::delete_all;

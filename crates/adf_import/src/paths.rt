@@ -7,14 +7,15 @@ ghost use Rattle.ados_model.specs.Change.{renamed};
 ghost use Rattle.ados_model.specs.Keys.{HasDirectory, HasKey};
 ghost use Rattle.ados_model.specs.Parts.{IsUnused};
 ghost use Rattle.adf_import.specs.Changes.{Changes};
-ghost use Rattle.adf_import.specs.Commands.{Comments, Deletes, MakesAt, Moves, Protects, Relabels};
+ghost use Rattle.adf_import.specs.Commands.{Comments, Dates, Deletes, MakesAt, Moves, Protects, Relabels};
 ghost use Rattle.adf_import.specs.Paths.{entry_move_refusal, move_fault, object_at};
 
 use crate::entries::{delete, make_directory, move_entry};
-use crate::fields::{comment, protect, relabel};
+use crate::fields::{comment, protect, protection_in, redate, relabel};
 use crate::prune::delete_all;
+use adf_text::ProtectWord;
 use ados_model::DosError;
-use ados_name::{Comment, Date3, Name, Protect};
+use ados_name::{Comment, Date3, Name};
 use ados_volume::{Volume, locate, place};
 use std::alloc::Global;
 
@@ -116,19 +117,35 @@ fn move_fault(error: DosError) -> MoveFault
     }
 }
 
-/// Sets the low eight protection bits of an entry.
+/// Sets the low eight protection bits of an entry by a word.
 ///
 /// Errors: those of a walk (204, 205, 212), and 212 for the root.
 pub(crate) fn protect_at(
     volume: &mut Volume,
     path: &[u8],
-    bits: Protect,
+    word: &ProtectWord<'_>,
     moment: Date3,
 ) -> Result<(), DosError>
-    ensures { Protects moment path.now bits.0 volume.old volume.new result }
+    ensures { Protects moment path.now (word.now.form, word.now.letters.now) volume.old volume.new result }
 {
     let key = object_at(volume, path)?;
+    let bits = word.after(protection_in(volume, key));
     protect(volume, key, bits, moment)
+}
+
+/// Sets the date of an entry.
+///
+/// Errors: those of a walk (204, 205, 212), and 212 for the root.
+pub(crate) fn date_at(
+    volume: &mut Volume,
+    path: &[u8],
+    date: Date3,
+    moment: Date3,
+) -> Result<(), DosError>
+    ensures { Dates moment path.now date volume.old volume.new result }
+{
+    let key = object_at(volume, path)?;
+    redate(volume, key, date, moment)
 }
 
 /// Sets the comment of an entry.

@@ -2,11 +2,11 @@
 
 ghost use Rattle.std.specs.Prelude.{◌∷◌, []};
 ghost use Rattle.std.specs.Str.{chars};
-ghost use Rattle.adf_import.specs.Commands.{Comments, EndsMove, EndsProtect, IsMoveRefusal, Relabels};
+ghost use Rattle.adf_import.specs.Commands.{Comments, Dates, EndsMove, EndsProtect, IsMoveRefusal, Relabels};
 ghost use Rattle.adf_import.specs.Turns.{EndsAt, ReadsFirst};
 
 use crate::fault::InFault;
-use crate::paths::{MoveFault, comment_at, move_at, protect_at, relabel_as};
+use crate::paths::{MoveFault, comment_at, date_at, move_at, protect_at, relabel_as};
 use crate::words::Word;
 use ados_name::Date3;
 use ados_volume::Volume;
@@ -46,7 +46,7 @@ fn refused_move(alloc: Global, from: &Word<'_>, to: &Word<'_>, fault: MoveFault)
     }
 }
 
-/// Sets the low eight protection bits of the entry at a path.
+/// Sets the low eight protection bits of the entry at a path by a word.
 pub(crate) fn set_bits(
     alloc: Global,
     volume: &mut Volume,
@@ -68,7 +68,27 @@ pub(crate) fn set_bits(
         Ok(bits) => bits,
         Err(fault) => return Err(fault),
     };
-    match protect_at(volume, word.bytes(), bits, moment) {
+    match protect_at(volume, word.bytes(), &bits, moment) {
+        Ok(()) => Ok(()),
+        Err(error) => Err(word.refused(alloc, error)),
+    }
+}
+
+/// Sets the date of the entry at a path.
+pub(crate) fn set_date(
+    alloc: Global,
+    volume: &mut Volume,
+    path: &str,
+    date: Date3,
+    moment: Date3,
+) -> Result<(), InFault>
+    ensures { ReadsFirst (path.now ∷ []) (EndsAt (Dates moment (chars path.now) date) path.now) volume.old volume.new result }
+{
+    let word = match Word::new(alloc, path) {
+        Ok(word) => word,
+        Err(fault) => return Err(fault),
+    };
+    match date_at(volume, word.bytes(), date, moment) {
         Ok(()) => Ok(()),
         Err(error) => Err(word.refused(alloc, error)),
     }

@@ -1,15 +1,14 @@
 //! Arguments as bytes of an Amiga's text.
 
-ghost use Rattle.std.specs.Prelude.{◌≡◌, IfErr, IfOk, OnOk, All, map};
+ghost use Rattle.std.specs.Prelude.{◌≡◌, IfErr, IfOk, Some, All, map};
 ghost use Rattle.std.specs.Str.{chars};
 ghost use Rattle.adf_text.specs.Letters.{letters};
-ghost use Rattle.adf_text.specs.ProtectionLetters.{AreLetters, protection_of};
+ghost use Rattle.adf_text.specs.ProtectWords.{protect_word};
 ghost use Rattle.adf_import.specs.Words.{IsBitsFault, IsLetterFault, IsLetterFaultIn, IsRefusal, IsSpelled};
 
 use crate::fault::{InFault, refused};
-use adf_text::{LettersFault, letter_bytes, letters_come_back, protection_of_letters};
+use adf_text::{LettersFault, ProtectWord, letter_bytes, letters_come_back, protect_word};
 use ados_model::DosError;
-use ados_name::Protect;
 use std::alloc::Global;
 
 /// An argument, and the bytes of its letters.
@@ -51,15 +50,14 @@ impl<'a> Word<'a> {
         refused(alloc, self.text, error)
     }
 
-    /// The protection bits for the argument's letters.
-    pub fn protection(&self, alloc: Global) -> Result<Protect, InFault>
+    /// The argument as a word for protection bits.
+    pub fn protection(&self, alloc: Global) -> Result<ProtectWord<'_>, InFault>
         requires { IsSpelled self.now }
-        ensures letters { OnOk result (AreLetters (chars self.now.text.now)) }
-        ensures bits { IfOk result (λ bits. bits.0 ≡ protection_of (chars self.now.text.now)) }
+        ensures word { IfOk result (λ word. protect_word (chars self.now.text.now) ≡ Some (word.form, word.letters.now)) }
         ensures fault { IfErr result (IsBitsFault self.now.text.now) }
     {
-        match protection_of_letters(self.bytes()) {
-            Some(bits) => Ok(bits),
+        match protect_word(self.bytes()) {
+            Some(word) => Ok(word),
             None => Err(InFault::Bits(String::from_str(alloc, self.text)?)),
         }
     }

@@ -1,6 +1,7 @@
--- Arguments that are not UTF-8.
-use Rattle.std.specs.Prelude.{ℕ, List, ⊤}
+-- Arguments that are not UTF-8, and those without protection bits.
+use Rattle.std.specs.Prelude.{◌≡◌, ℕ, List, None, ⊤}
 use Rattle.std.specs.Str.{IsUtf8}
+use Rattle.adf_text.specs.ProtectWords.{protect_word}
 use Rattle.adf_words.specs.declared.fault.WordsFault.{WordsFault}
 use Rattle.adf_words.specs.declared.fault.WordsFault.TheVariants.{Usage, Memory}
 
@@ -8,3 +9,8 @@ use Rattle.adf_words.specs.declared.fault.WordsFault.TheVariants.{Usage, Memory}
 abbrev pub TellsForeign : List ℕ → WordsFault → Type 0
 TellsForeign bytes (Usage text) = ¬ (IsUtf8 bytes)
 TellsForeign bytes Memory = ⊤
+
+-- a wrong command line is reported only if the argument is no word for protection bits
+abbrev pub TellsNoBits : List ℕ → WordsFault → Type 0
+TellsNoBits text (Usage told) = protect_word text ≡ None
+TellsNoBits text Memory = ⊤

@@ -1,2 +1,5 @@
--- The fault of an argument that is not UTF-8. The meaning of the command line is in its types.
+-- The faults of arguments, arguments that are dates, and the changes that arguments ask for. The meaning of the rest of the
+-- command line is in its types.
 pub mod Given
+pub mod When
+pub mod Asked

@@ -1,4 +1,7 @@
 //! The arguments of a command, as `clap` parsed them.
+ghost use Rattle.std.specs.Prelude.{◌≡◌, IfOk, Some, option_map};
+ghost use Rattle.clap.specs.Matches.{first_value, found_of};
+
 use crate::fault::WordsFault;
 use crate::letters::letters_of;
 use clap::ArgMatches;
@@ -17,12 +20,16 @@ impl<'a> Arguments<'a, '_> {
     }
 
     /// An optional argument.
-    pub(crate) fn given(&self, id: &str) -> Option<&'a str> {
+    pub(crate) fn given(&self, id: &str) -> Option<&'a str>
+        ensures { option_map (λ word. word.now) result ≡ first_value (found_of self.now.words.now) id.now }
+    {
         self.words.get_str(id)
     }
 
     /// A required argument.
-    pub(crate) fn word(&self, id: &str) -> Result<&'a str, WordsFault> {
+    pub(crate) fn word(&self, id: &str) -> Result<&'a str, WordsFault>
+        ensures { IfOk result (λ word. first_value (found_of self.now.words.now) id.now ≡ Some word.now) }
+    {
         match self.given(id) {
             Some(word) => Ok(word),
             None => Err(self.missing(id)),
@@ -42,7 +49,9 @@ impl<'a> Arguments<'a, '_> {
     }
 
     /// A required argument whose letters are bytes.
-    pub(crate) fn letters(&self, id: &str) -> Result<&'a str, WordsFault> {
+    pub(crate) fn letters(&self, id: &str) -> Result<&'a str, WordsFault>
+        ensures { IfOk result (λ word. first_value (found_of self.now.words.now) id.now ≡ Some word.now) }
+    {
         letters_of(self.alloc, self.word(id)?)
     }
 

@@ -25,8 +25,10 @@ pub enum Change<'a> {
     Delete { paths: Vec<&'a str>, all: bool, force: bool },
     /// `rename`: moves an entry to another name or directory.
     Rename { old: &'a str, new: &'a str },
-    /// `protect`: sets the eight low protection bits, given by letters.
+    /// `protect`: sets the eight low protection bits by a word, as `rwed`, `-s--rwed`, `+s` or `-w`.
     Protect { path: &'a str, letters: &'a str },
+    /// `date`: sets a date; by default the time stamp of the change.
+    Date { path: &'a str, date: Option<Date3> },
     /// `comment`: sets a comment.
     Comment { path: &'a str, text: &'a str },
     /// `relabel`: renames the volume.

@@ -1,6 +1,11 @@
 //! From the arguments of a command that changes an image to its job.
+ghost use Rattle.std.specs.Prelude.{IfOk};
+ghost use Rattle.clap.specs.Matches.{found_of};
+ghost use Rattle.adf_words.specs.Asked.{IsDateOf, IsProtectOf};
+
 use crate::arguments::Arguments;
 use crate::change::{Change, ChangeJob};
+use crate::dates::moment_word;
 use crate::fault::WordsFault;
 use crate::job::ImageJob;
 use crate::letters::{letters_of, protection_word};
@@ -33,6 +38,7 @@ fn change_of<'a>(
         "delete" => delete(arguments),
         "rename" => rename(arguments),
         "protect" => protect(arguments),
+        "date" => date(arguments),
         "comment" => comment(arguments),
         "relabel" => relabel(arguments),
         _ => return Ok(None),
@@ -75,10 +81,22 @@ fn rename<'a>(arguments: &Arguments<'a, '_>) -> Result<Change<'a>, WordsFault> {
 }
 
 /// The change of `protect`.
-fn protect<'a>(arguments: &Arguments<'a, '_>) -> Result<Change<'a>, WordsFault> {
+fn protect<'a>(arguments: &Arguments<'a, '_>) -> Result<Change<'a>, WordsFault>
+    ensures { IfOk result (IsProtectOf (found_of arguments.now.words.now)) }
+{
     Ok(Change::Protect {
         path: arguments.letters("PATH")?,
         letters: protection_word(arguments.alloc, arguments.word("LETTERS")?)?,
+    })
+}
+
+/// The change of `date`.
+fn date<'a>(arguments: &Arguments<'a, '_>) -> Result<Change<'a>, WordsFault>
+    ensures { IfOk result (IsDateOf (found_of arguments.now.words.now)) }
+{
+    Ok(Change::Date {
+        path: arguments.letters("PATH")?,
+        date: moment_word(arguments.alloc, "<WHEN>", arguments.word("WHEN")?)?,
     })
 }
 
@@ -99,7 +117,7 @@ fn relabel<'a>(arguments: &Arguments<'a, '_>) -> Result<Change<'a>, WordsFault> 
 
 /// The job of `boot`. Nothing there has a time stamp, so its value is checked and dropped.
 pub(crate) fn boot_job<'a>(arguments: &Arguments<'a, '_>) -> Result<ImageJob<'a>, WordsFault> {
-    arguments.moment()?;
+    arguments.given_moment()?;
     Ok(ImageJob::Boot {
         image: arguments.word("IMAGE")?,
         out: arguments.given("out"),

@@ -85,6 +85,10 @@ fn argument_of<'a>(alloc: Global, row: &ArgumentRow) -> Result<Arg<'a>, AllocErr
             let option = argument.long(row.name).action(ArgAction::Set);
             with_default(option.value_name(value), default)
         }
+        Kind::Instead { value, excludes } => {
+            let option = argument.long(row.name).action(ArgAction::Set);
+            return excluding(option.value_name(value), excludes);
+        }
         Kind::One => argument.action(ArgAction::Set).required(true),
         Kind::Dashed => argument
             .action(ArgAction::Set)

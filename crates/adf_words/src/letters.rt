@@ -1,11 +1,12 @@
 //! Arguments whose letters are an Amiga's bytes.
-ghost use Rattle.std.specs.Prelude.{◌≡◌, IfOk, OnOk, All};
+ghost use Rattle.std.specs.Prelude.{◌≡◌, IfErr, IfOk, IsSome, OnOk, All};
 ghost use Rattle.std.specs.Str.{chars};
 ghost use Rattle.adf_text.specs.Letters.{IsByte};
-ghost use Rattle.adf_text.specs.ProtectionLetters.{AreLetters};
+ghost use Rattle.adf_text.specs.ProtectWords.{protect_word};
+ghost use Rattle.adf_words.specs.Given.{TellsNoBits};
 
 use crate::fault::WordsFault;
-use adf_text::{LettersFault, letter_bytes, protection_of_letters};
+use adf_text::{LettersFault, letter_bytes, protect_word};
 use std::alloc::Global;
 
 /// This argument, if each of its letters is a byte. A letter past U+00FF makes the command line wrong.
@@ -22,15 +23,16 @@ pub(crate) fn letters_of<'a>(alloc: Global, word: &'a str) -> Result<&'a str, Wo
     }
 }
 
-/// This argument, if it has the letters of protection bits. Any other makes the command line wrong.
+/// This argument, if it is a word for protection bits. Any other makes the command line wrong.
 pub(crate) fn protection_word<'a>(alloc: Global, word: &'a str) -> Result<&'a str, WordsFault>
     ensures same { IfOk result (λ text. text.now ≡ word.now) }
-    ensures letters { OnOk result (AreLetters word.now) }
+    ensures word { IfOk result (λ text. IsSome (protect_word text.now)) }
+    ensures fault { IfErr result (TellsNoBits word.now) }
 {
-    match protection_of_letters(word.as_bytes()) {
+    match protect_word(word.as_bytes()) {
         Some(_) => Ok(word),
-        None => Err(WordsFault::usage(format!(in alloc;
-            "error: invalid value '{word}' for '<LETTERS>': some letters of 'hsparwed', or these eight with a dash for each that is not there, are expected\n\nFor more information, try '--help'.\n"
-        ))),
+        None => Err(WordsFault::Usage(format!(in alloc;
+            "error: invalid value '{word}' for '<LETTERS>': letters of 'hsparwed' are expected, each once, as rwed, ----rwed, +s, -w or =rwed\n\nFor more information, try '--help'.\n"
+        )?)),
     }
 }

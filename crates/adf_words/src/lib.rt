@@ -5,6 +5,7 @@ mod arguments;
 mod change;
 mod changing;
 mod commands;
+mod dates;
 mod fault;
 mod given;
 mod job;

@@ -1,15 +1,29 @@
 //! Options with numbers.
-ghost use Rattle.std.specs.Prelude.{◌≤◌, IfOk, IfSome};
+ghost use Rattle.std.specs.Prelude.{◌≤◌, IfOk, IfSome, codes};
+ghost use Rattle.clap.specs.Matches.{first_value, found_of};
+ghost use Rattle.adf_text.specs.Written.{IsWritten};
+ghost use Rattle.adf_words.specs.When.{IsWhen};
 
 use crate::arguments::Arguments;
+use crate::dates::{date_word, moment_word};
 use crate::fault::WordsFault;
 use crate::table::{JOBS, NumberRange, TIME_STAMP};
 use ados_name::Date3;
 use std::alloc::Global;
 
 impl Arguments<'_, '_> {
-    /// The time stamp of a command. A missing number is 0.
-    pub(crate) fn moment(&self) -> Result<Date3, WordsFault> {
+    /// The time stamp of a command without the host's clock: its date, or else its numbers.
+    pub(crate) fn moment(&self) -> Result<Date3, WordsFault>
+        ensures { IfOk result (λ date. IfSome (first_value (found_of self.now.words.now) (codes "date")) (IsWritten date)) }
+    {
+        match self.given("date") {
+            Some(word) => date_word(self.alloc, word),
+            None => self.numbered_moment(),
+        }
+    }
+
+    /// The time stamp with these numbers. A missing one is 0.
+    fn numbered_moment(&self) -> Result<Date3, WordsFault> {
         Ok(Date3 {
             days: self.number("days", &TIME_STAMP)? as u32,
             minutes: self.number("minutes", &TIME_STAMP)? as u32,
@@ -17,9 +31,19 @@ impl Arguments<'_, '_> {
         })
     }
 
-    /// The time stamp of a command, if one of its numbers is given.
-    pub(crate) fn given_moment(&self) -> Result<Option<Date3>, WordsFault> {
-        let moment = self.moment()?;
+    /// The time stamp of a command, if its date or one of its numbers is given; `None` also for the date `now`.
+    pub(crate) fn given_moment(&self) -> Result<Option<Date3>, WordsFault>
+        ensures { IfOk result (λ moment. IfSome (first_value (found_of self.now.words.now) (codes "date")) (λ text. IsWhen text moment)) }
+    {
+        match self.given("date") {
+            Some(word) => moment_word(self.alloc, "--date <WHEN>", word),
+            None => self.given_numbers(),
+        }
+    }
+
+    /// The time stamp with these numbers, if one of them is given.
+    fn given_numbers(&self) -> Result<Option<Date3>, WordsFault> {
+        let moment = self.numbered_moment()?;
         for id in ["days", "minutes", "ticks"] {
             if self.given(id).is_some() {
                 return Ok(Some(moment));

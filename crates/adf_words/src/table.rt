@@ -34,6 +34,11 @@ pub(crate) enum Kind {
         value: &'static str,
         default: Option<&'static str>,
     },
+    /// An option with a value, in place of the arguments that it excludes; the value's name in the help.
+    Instead {
+        value: &'static str,
+        excludes: &'static [&'static str],
+    },
     /// A required value.
     One,
     /// A required value that may start with a dash.
@@ -87,6 +92,13 @@ const NUMBER: Kind = Kind::Option { value: "N", default: None };
 #[rattlefmt::skip]
 const NUMBER_OR_ZERO: Kind = Kind::Option { value: "N", default: Some("0") };
 
+/// An option with a date, in place of the three numbers of a time stamp.
+#[rattlefmt::skip]
+const WHEN: Kind = Kind::Instead { value: "WHEN", excludes: &["days", "minutes", "ticks"] };
+
+#[rattlefmt::skip]
+const DATE: ArgumentRow = ArgumentRow { name: "date", kind: WHEN, help: "The moment as `YYYY-MM-DD` or `YYYY-MM-DD HH:MM[:SS[.CC]]`, in place of the numbers; `now` is not taken here" };
+
 #[rattlefmt::skip]
 const DAYS_OR_ZERO: ArgumentRow = ArgumentRow { name: "days", kind: NUMBER_OR_ZERO, help: "Days since 1 January 1978" };
 
@@ -105,10 +117,18 @@ const FORCE: ArgumentRow = ArgumentRow { name: "force", kind: FLAG, help: "Repla
 #[rattlefmt::skip]
 const ENTRY: ArgumentRow = ArgumentRow { name: "PATH", kind: Kind::One, help: "Its path, from the root" };
 
+/// The forms of protection bits.
+#[rattlefmt::skip]
+const LETTERS: &str = "Letters of `hsparwed`, in lower or upper case: those to show, and no others; with dashes for those left out, as `list` prints them, which leaves `h`, or as eight places; behind `+` those to add, behind `-` those to take away, behind `=` those to show. `-h` alone shows this help, and `-H` takes `h` away";
+
+#[rattlefmt::skip]
+const PROTECT_EXAMPLES: &str = "Examples:\n  adf_serve protect work.adf c/dir rwed\n  adf_serve protect work.adf c/dir --p-rwed\n  adf_serve protect work.adf s/startup-sequence -s--rw-d\n  adf_serve protect work.adf s/startup-sequence +s\n  adf_serve protect work.adf s/startup-sequence -w\n  adf_serve protect work.adf c/dir =rwed";
+
 /// The arguments of each command that changes an image.
 #[rattlefmt::skip]
-pub(crate) const CHANGING: [ArgumentRow; 5] = [
+pub(crate) const CHANGING: [ArgumentRow; 6] = [
     ArgumentRow { name: "out", kind: Kind::Option { value: "FILE", default: None }, help: "Writes the image to this file, and leaves IMAGE as it is" },
+    ArgumentRow { name: "date", kind: WHEN, help: "The moment as `YYYY-MM-DD` or `YYYY-MM-DD HH:MM[:SS[.CC]]`, in place of the numbers; or `now`, that of the clock (UTC)" },
     ArgumentRow { name: "days", kind: NUMBER, help: "The moment: days since 1 January 1978. Without a number of it that of the clock (UTC)" },
     ArgumentRow { name: "minutes", kind: NUMBER, help: "The moment: minutes past midnight" },
     ArgumentRow { name: "ticks", kind: NUMBER, help: "The moment: ticks of 1/50 second past the minute" },
@@ -117,17 +137,18 @@ pub(crate) const CHANGING: [ArgumentRow; 5] = [
 
 /// All commands, in the order of the help.
 #[rattlefmt::skip]
-pub(crate) const COMMANDS: [CommandRow; 15] = [
+pub(crate) const COMMANDS: [CommandRow; 16] = [
     CommandRow {
         name: "blank",
         about: "Writes a blank image: the Old File System on a double-density floppy, if nothing else is said",
-        examples: "Example:\n  adf_serve blank --ffs Work work.adf",
+        examples: "Examples:\n  adf_serve blank --ffs Work work.adf\n  adf_serve blank --date '1990-01-01 12:00' Work work.adf",
         changes: false,
         arguments: &[
             ArgumentRow { name: "ffs", kind: FLAG, help: "The Fast File System" },
             ArgumentRow { name: "hd", kind: Kind::Flag { excludes: &["blocks"] }, help: "A high-density floppy, of 3,520 blocks" },
             ArgumentRow { name: "blocks", kind: NUMBER, help: "How many blocks, from 16 to 101,602" },
             ArgumentRow { name: "letters", kind: FLAG, help: "Takes NAME by its letters, which are those of ISO 8859-1" },
+            DATE,
             DAYS_OR_ZERO,
             MINUTES_OR_ZERO,
             TICKS_OR_ZERO,
@@ -203,7 +224,7 @@ pub(crate) const COMMANDS: [CommandRow; 15] = [
     CommandRow {
         name: "mkdir",
         about: "Makes directories",
-        examples: "Example:\n  adf_serve mkdir work.adf s c devs devs/keymaps",
+        examples: "Examples:\n  adf_serve mkdir work.adf s c devs devs/keymaps\n  adf_serve mkdir --date 1990-01-01 work.adf libs",
         changes: true,
         arguments: &[ArgumentRow { name: "PATH", kind: Kind::OneOrMore, help: "A directory to make, from the root" }],
     },
@@ -231,11 +252,21 @@ pub(crate) const COMMANDS: [CommandRow; 15] = [
     CommandRow {
         name: "protect",
         about: "Sets the protection of a file or a directory",
-        examples: "Examples:\n  adf_serve protect work.adf c/dir rwed\n  adf_serve protect work.adf s/startup-sequence -s--rw-d",
+        examples: PROTECT_EXAMPLES,
         changes: true,
         arguments: &[
             ENTRY,
-            ArgumentRow { name: "LETTERS", kind: Kind::Dashed, help: "Letters of `hsparwed`, with or without dashes for those left out" },
+            ArgumentRow { name: "LETTERS", kind: Kind::Dashed, help: LETTERS },
+        ],
+    },
+    CommandRow {
+        name: "date",
+        about: "Sets the date of a file or a directory",
+        examples: "Examples:\n  adf_serve date work.adf c/dir 1990-01-01\n  adf_serve date work.adf c/dir '1990-01-01 12:30'\n  adf_serve date work.adf c/dir '1990-01-01 12:30:15.50'\n  adf_serve date work.adf c/dir now",
+        changes: true,
+        arguments: &[
+            ENTRY,
+            ArgumentRow { name: "WHEN", kind: Kind::One, help: "`YYYY-MM-DD`, `YYYY-MM-DD HH:MM[:SS[.CC]]`, or `now`, the moment of the change" },
         ],
     },
     CommandRow {
@@ -265,11 +296,12 @@ pub(crate) const COMMANDS: [CommandRow; 15] = [
     CommandRow {
         name: "serve",
         about: "Runs scripts over an image, each as a client on a thread of its own, and prints what each client was told",
-        examples: "Example:\n  adf_serve serve --out after.adf work.adf one.txt two.txt",
+        examples: "Examples:\n  adf_serve serve --out after.adf work.adf one.txt two.txt\n  adf_serve serve --date '1990-01-01 12:00' --out after.adf work.adf one.txt",
         changes: false,
         arguments: &[
             ArgumentRow { name: "out", kind: Kind::Option { value: "FILE", default: None }, help: "Writes the image to this file at the end" },
             ArgumentRow { name: "turns", kind: Kind::Option { value: "N", default: Some("100000000") }, help: "How often a client tries to put a packet, and to take its reply" },
+            DATE,
             DAYS_OR_ZERO,
             MINUTES_OR_ZERO,
             TICKS_OR_ZERO,

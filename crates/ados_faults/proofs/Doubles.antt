@@ -1,6 +1,6 @@
 -- A block found for the second time.
 use Rattle.std.proofs.Common.{◌≡◌, ◌≢◌, ℕ, ◌<◌, ◌⊎◌, inl, inr, Bool, List, [], ◌∷◌, length, replicate, Option, Some, None, set, sym, ap, ◌∙◌, subst, arith, length-set}
-use Rattle.std.specs.List.{All}
+use Rattle.std.specs.List.{All, slice_get}
 use Rattle.std.proofs.lemmas.Bool.{cases_order}
 use Rattle.std.proofs.lemmas.List.{length-replicate}
 use Rattle.std.proofs.lemmas.List.Elements.{All-push}
@@ -12,30 +12,41 @@ use Rattle.ados_model.specs.Faults.Reached.{start}
 use Rattle.ados_model.specs.Faults.IsUsedTwice.{two_holders, two_longs, root_named}
 use Rattle.ados_check.specs.declared.mark.Mark.{Mark}
 use Rattle.ados_check.specs.Marks.{mark_at}
-use Rattle.ados_check.specs.steps.Reaching.{root_mark}
-use Rattle.ados_check.proofs.MarkLemmas.{IsMarkedMore, marked_more, none_marked}
+use Rattle.ados_check.proofs.MarkLemmas.{IsMarkedMore, all_unmarked, marked_more, none_marked}
+use Rattle.ados_check.specs.steps.Reaching.{unmarked}
 use Rattle.ados_faults.specs.declared.walk.Step.{Step}
+use Rattle.ados_faults.specs.Listed.{IsNamedAs, root_mark}
 use Rattle.ados_faults.specs.steps.Noted.{AreNoted}
-use Rattle.ados_faults.specs.steps.Walked.{IsMet, IsStep, IsWalked, root_step}
+use Rattle.ados_faults.specs.steps.Walked.{IsMet, IsStep, IsWalked, root_step, step_of}
 use Rattle.ados_faults.proofs.Insides.{root_inside}
 
+place_names : (image : List ℕ) (block : ℕ) (mark : Mark) → IsNamedAs image block mark → PlaceNames image mark.holder mark.long block
+place_names image block mark named = record { role = named.of_holder; next = mark.role; reached = named.reached; place = named.place; names = named.names }
+
 -- by another place than the first time
-pub used_twice : (image : List ℕ) (block : ℕ) (first mark : Mark) → InImage image block → IsMet image block first → PlaceNames image mark.holder mark.long block
+pub used_twice : (image : List ℕ) (block : ℕ) (first mark : Mark) → InImage image block → IsMet image block first → IsNamedAs image block mark
     → (first.holder ≢ mark.holder) ⊎ (first.long ≢ mark.long) → IsUsedTwice image block
-used_twice image block first mark inside (inl root) names other = root_named root names
-used_twice image block first mark inside (inr met) names (inl other) = two_holders inside (first.long, met) (mark.long, names) other
-used_twice image block first mark inside (inr met) names (inr other) = elim (cases_order first.holder mark.holder) [
-  | inl same ↦ two_longs inside (subst (λ (h : ℕ). PlaceNames image h first.long block) same met) names other
-  | inr (inl l) ↦ two_holders inside (first.long, met) (mark.long, names) (λ z. omega (arith, z, l))
-  | inr (inr l) ↦ two_holders inside (first.long, met) (mark.long, names) (λ z. omega (arith, z, l))
-]
+used_twice image block first mark inside (inl root) named other = root_named root (place_names image block mark named)
+used_twice image block first mark inside (inr met) named other =
+    let was = place_names image block first met in
+    let names = place_names image block mark named in
+    elim other [
+      | inl holder ↦ two_holders inside (first.long, was) (mark.long, names) holder
+      | inr long ↦ elim (cases_order first.holder mark.holder) [
+        | inl same ↦ two_longs inside (subst (λ (h : ℕ). PlaceNames image h first.long block) same was) names long
+        | inr (inl l) ↦ two_holders inside (first.long, was) (mark.long, names) (λ z. omega (arith, z, l))
+        | inr (inr l) ↦ two_holders inside (first.long, was) (mark.long, names) (λ z. omega (arith, z, l))
+      ]
+    ]
 
 -- only the root, at first
 pub started : (image : List ℕ) → IsImage image → (cells : List Bool) (marks : List (Option Mark)) (root : ℕ) (steps : List Step) → AreNoted image cells
     → marks ≡ replicate (block_count image) None → root ≡ root_of image → steps ≡ root_step root ∷ [] → IsWalked image cells (set marks root (Some root_mark)) steps
 started image im cells marks root steps noted none is only = record {
+  whole = im;
   noted = noted;
   size = length-set marks root (Some root_mark) ∙ ap length none ∙ length-replicate {A = Option Mark} (block_count image) None;
+  root = subst (λ (b : ℕ). mark_at (set marks root (Some root_mark)) b ≡ Some root_mark) is more.is;
   met = λ block mark e. elim (cases_order block root) [
     | inl here ↦ inl (here ∙ is)
     | inr (inl l) ↦ absurd (unset block mark (λ z. omega (arith, z, l)) e)
@@ -45,6 +56,15 @@ started image im cells marks root steps noted none is only = record {
     inside = subst (InImage image) (sym is) (root_inside image im);
     reached = subst (λ (b : ℕ). Reached image b Root) (sym is) start;
   }));
+  listed = λ block mark e. elim (cases_order block root) [
+    | inl here ↦
+        let h : Some root_mark ≡ Some mark = sym more.is ∙ ap (mark_at (set marks root (Some root_mark))) (sym here) ∙ e in
+        let same : root_mark ≡ mark = cc h in
+        (0, ap (λ (xs : List Step). slice_get xs 0) only ∙ ap (λ (b : ℕ). Some (step_of b Root)) (sym here) ∙ ap (λ (m : Mark). Some (step_of block m.role)) same)
+    | inr (inl l) ↦ absurd (unset block mark (λ z. omega (arith, z, l)) e)
+    | inr (inr l) ↦ absurd (unset block mark (λ z. omega (arith, z, l)) e)
+  ];
+  few = omega (arith, ap length only, more.fewer, ap unmarked none, all_unmarked (block_count image), im.whole, im.size.0);
 }
   where
     within : root < length marks

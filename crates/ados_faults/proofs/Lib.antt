@@ -2,7 +2,11 @@
 pub mod Cells
 pub mod Insides
 pub mod Doubles
+pub mod Closing
 pub mod Linking
 pub mod Pointers
 pub mod Sameness
 pub mod Freed
+pub mod Above
+pub mod Disk
+pub mod Told

@@ -1,9 +1,14 @@
--- Faults of an image, in order.
-use Rattle.std.specs.Prelude.{◌≡◌, ℕ, ◌<◌, ◌≤◌, ◌⊎◌, List, length, All, AllPairs}
+-- Faults of an image, in order, and the marks of its blocks.
+use Rattle.std.specs.Prelude.{◌≡◌, ℕ, ◌<◌, ◌≤◌, ◌⊎◌, List, length, All, AllPairs, Option, Some}
+use Rattle.adf_block.specs.Image.{block_count, long}
+use Rattle.ados_check.specs.Marks.{mark_at}
+use Rattle.ados_check.specs.declared.mark.Mark.{Mark}
 use Rattle.ados_model.specs.declared.fault.FaultKind.{FaultKind}
 use Rattle.ados_model.specs.declared.fault.FaultKind.TheVariants.{NotADosDisk, UnsupportedKind, BadSum, BadType, BadOwnKey, BadParent, BadPointer, BlockUsedTwice, WrongChain, BadName, DuplicateName, BadComment, BadCount, BadSequence, LinkEntry, MarkedFree, NoMemory}
 use Rattle.ados_model.specs.declared.fault.VolumeFault.{VolumeFault}
-use Rattle.ados_model.specs.Faults.{Shows}
+use Rattle.ados_model.specs.declared.role.Role.{Role}
+use Rattle.ados_model.specs.declared.role.Role.TheVariants.{Root}
+use Rattle.ados_model.specs.Faults.{IsPlace, LeadsInside, Reached, Shows, root_of}
 
 -- the number of a kind
 abbrev pub rank : FaultKind → ℕ
@@ -34,3 +39,37 @@ pub record ListsFaults (image : List ℕ) (most : ℕ) (faults : List VolumeFaul
   pub shown : All (λ fault. Shows image fault.kind fault.block) faults
   pub in_order : AllPairs StandsBefore faults
   pub few : length faults ≤ most
+
+-- for each block of an image its mark, if it has one
+abbrev pub Marks : Type 0
+Marks = List (Option Mark)
+
+-- the mark of the root
+abbrev pub root_mark : Mark
+root_mark = record { role = Root; holder = 0; long = 0 }
+
+-- the place in the mark is one of a reached block, names the block, and gives it the role of the mark
+pub record IsNamedAs (image : List ℕ) (block : ℕ) (mark : Mark) : Type 0 where
+  pub of_holder : Role
+  pub reached : Reached image mark.holder of_holder
+  pub place : IsPlace image mark.holder of_holder mark.long mark.role
+  pub names : long image mark.holder mark.long ≡ block
+
+-- the block has a mark
+abbrev pub IsMarked : Marks → ℕ → Type 0
+IsMarked marks block = (mark : Mark) × (mark_at marks block ≡ Some mark)
+
+-- each block of the image that a place of a marked block names, in the role of its mark, has a mark too. So each block
+-- that is reached from the root along these roles has one
+abbrev pub AreClosed : List ℕ → Marks → Type 0
+AreClosed image marks =
+    (block i : ℕ) (mark : Mark) (next : Role) → mark_at marks block ≡ Some mark → IsPlace image block mark.role i next → LeadsInside image block i
+    → IsMarked marks (long image block i)
+
+-- the root is marked as such, the mark of each other block has a place that names it, and what a marked block names is
+-- marked
+pub record AreMarks (image : List ℕ) (marks : Marks) : Type 0 where
+  pub size : length marks ≡ block_count image
+  pub root : mark_at marks (root_of image) ≡ Some root_mark
+  pub named : (block : ℕ) (mark : Mark) → mark_at marks block ≡ Some mark → (block ≡ root_of image) ⊎ IsNamedAs image block mark
+  pub closed : AreClosed image marks

@@ -3,3 +3,4 @@ pub mod Noted
 pub mod Walked
 pub mod Chain
 pub mod Named
+pub mod Looked

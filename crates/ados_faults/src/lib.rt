@@ -1,9 +1,10 @@
 //! Every fault that an image shows, where the check of a volume stops at the first; and a fault as text: where the
 //! block is, what was found there and what is expected.
 //!
-//! The walk visits pairs of a block and a role, each once, from the root, and goes on after a fault. It visits at most
-//! `PAIRS` times as many pairs as the image has blocks, and as many header and extension blocks. So time and memory
-//! are about linear in the size of the image, even if its blocks name each other arbitrarily.
+//! The walk visits pairs of a block and a role, each once, from the root, and goes on after a fault. It visits each
+//! reached block in the role in which it was named first, and in other roles until it has visited `PAIRS` times as many
+//! pairs as the image has blocks. It follows as many header and extension blocks. So time and memory are about linear in
+//! the size of the image, even if its blocks name each other arbitrarily.
 #![tactic(auto)]
 
 // The list of faults.
@@ -24,8 +25,10 @@ mod walk;
 mod explained;
 mod marked;
 mod path;
+mod rights;
 mod texts;
 mod values;
+mod wrongs;
 
 pub use ados_check::Mark;
 pub use explained::explain;

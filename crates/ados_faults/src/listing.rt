@@ -1,9 +1,9 @@
 //! All faults of an image, in order.
-ghost use Rattle.std.specs.Prelude.{◌≡◌, ◌<◌, ◌≤◌, ◌↔◌, [], IfOk, false, length};
+ghost use Rattle.std.specs.Prelude.{◌≡◌, ◌<◌, ◌≤◌, ◌↔◌, ◌⊎◌, [], IfOk, false, length};
 ghost use Rattle.adf_block.specs.Whole.{IsImage};
 ghost use Rattle.ados_model.specs.Accepted.{ShowsNoFault};
 ghost use Rattle.ados_model.specs.Faults.{Shows};
-ghost use Rattle.ados_faults.specs.Listed.{ListsFaults};
+ghost use Rattle.ados_faults.specs.Listed.{AreMarks, ListsFaults};
 
 use crate::files::look_at_files;
 use crate::first::first_fault;
@@ -35,6 +35,7 @@ pub fn all_faults(alloc: Global, image: &Image, most: usize) -> Result<AllFaults
     ensures lists { IfOk result (λ found. ListsFaults image.now most found.faults.items) }
     ensures none { IfOk result (λ found. 1 ≤ most → (found.faults.items ≡ []) ↔ ShowsNoFault image.now) }
     ensures whole { IfOk result (λ found. ShowsNoFault image.now → found.more ≡ false) }
+    ensures marked { IfOk result (λ found. ShowsNoFault image.now ⊎ AreMarks image.now found.marks.items) }
 {
     prove!(image.blocks() >= 16);
     let Some(first) = first_fault(alloc, image)? else {
@@ -60,6 +61,7 @@ fn faults_with(
     ensures lists { IfOk result (λ found. ListsFaults image.now most found.faults.items) }
     ensures some { IfOk result (λ found. 1 ≤ most → 0 < length found.faults.items) }
     ensures refused { IfOk result (λ _. ¬ ShowsNoFault image.now) }
+    ensures marked { IfOk result (λ found. AreMarks image.now found.marks.items) }
 {
     let mut walk = walked(alloc, image)?;
     look_at_all(image, &walk.steps, &mut walk.notes);

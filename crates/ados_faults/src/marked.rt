@@ -1,13 +1,16 @@
 //! The place that named a block first.
-ghost use Rattle.std.specs.Prelude.{◌<◌, IsTrue};
+ghost use Rattle.std.specs.Prelude.{◌≡◌, ◌<◌, ◌↔◌, IsTrue};
 ghost use Rattle.adf_block.specs.Image.{block_count};
+ghost use Rattle.ados_check.specs.Marks.{mark_at};
 
 use adf_block::Image;
 use ados_check::Mark;
 use ados_model::Role;
 
 /// The place that named a block first.
-pub(crate) fn mark_at(marks: &[Option<Mark>], block: u32) -> Option<Mark> {
+pub(crate) fn mark_at(marks: &[Option<Mark>], block: u32) -> Option<Mark>
+    ensures { result ≡ mark_at marks.now block }
+{
     if (block as usize) < marks.len() {
         marks[block as usize]
     } else {
@@ -23,7 +26,7 @@ pub(crate) fn role_at(marks: &[Option<Mark>], block: u32) -> Option<Role> {
 
 /// Whether the image has a block with this number.
 pub(crate) fn has_block(image: &Image, block: u32) -> bool
-    ensures { IsTrue result → block < block_count image.now }
+    ensures { IsTrue result ↔ (block < block_count image.now) }
 {
     block < image.blocks()
 }

@@ -1,8 +1,8 @@
 //! Where a block is: the path of the directory or file that it belongs to.
 
-use crate::marked::{has_block, mark_at, role_at};
+use crate::marked::{has_block, role_at};
 use adf_block::Image;
-use adf_block::layout::{FIRST_POINTER, NAME_BYTE, TABLE_LONGS};
+use adf_block::layout::NAME_BYTE;
 use adf_text::letter_text;
 use ados_check::Mark;
 use ados_model::Role;
@@ -75,20 +75,4 @@ fn add_name(image: &Image, block: u32, path: &mut Vec<u8>) -> Result<(), AllocEr
     let length = usize::from(image.byte(block, NAME_BYTE)).min(Name::MAX_LEN);
     let start = NAME_BYTE as usize + 1;
     path.extend_from_slice(&image.block(block)[start..start + length])
-}
-
-/// The position of a data block in its file, from 1, by the place that named it first.
-pub(crate) fn place_in_file(marks: &[Option<Mark>], block: u32) -> Option<u32> {
-    let mark = mark_at(marks, block)?;
-    let mut place = FIRST_POINTER.checked_sub(mark.long)?.checked_add(1)?;
-    let mut holder = mark.holder;
-    for _ in 0..marks.len() {
-        let above = mark_at(marks, holder)?;
-        let Role::Extension(_) = above.role else {
-            return Some(place);
-        };
-        place = place.checked_add(TABLE_LONGS)?;
-        holder = above.holder;
-    }
-    None
 }

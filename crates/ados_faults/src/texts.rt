@@ -206,11 +206,8 @@ fn comment_text(alloc: Global, values: FaultValues) -> Result<String, AllocError
 
 /// An OFS data block with a wrong sequence number.
 fn sequence_text(alloc: Global, values: FaultValues) -> Result<String, AllocError> {
-    let found = values.found;
-    match values.wanted {
-        Some(place) => { format!(in alloc; "its place in the file says {found}, and not {place}") }
-        None => format!(in alloc; "its place in the file says {found}, and it stands at another"),
-    }
+    let (found, wanted) = (values.found, values.wanted.unwrap_or(0));
+    format!(in alloc; "its place in the file says {found}, and not {wanted}")
 }
 
 /// Faults of the disk's kind, and links.

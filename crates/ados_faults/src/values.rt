@@ -1,18 +1,18 @@
 //! The long of a block that shows a fault: what it holds, and what it should hold.
-ghost use Rattle.std.specs.Prelude.{◌≡◌, ◌≢◌, ◌<◌, ◌≤◌, ◌⊎◌, IfSome, None, Some};
+ghost use Rattle.std.specs.Prelude.{◌≡◌, ◌≢◌, ◌<◌, ◌↔◌, IsTrue, MatchOption};
 ghost use Rattle.adf_block.specs.declared.layout.TheConstants.{BLOCK_LONGS};
 ghost use Rattle.adf_block.specs.Image.{block_count, long};
-ghost use Rattle.ados_model.specs.declared.fault.FaultKind.TheVariants.{BadSum, BadType, BadParent, BadPointer, BadName, BadCount, BadSequence};
-ghost use Rattle.ados_faults.specs.Values.{AreValues};
+ghost use Rattle.ados_faults.specs.Values.{AreValues, HasFields, IsWrongAt, NoneShows, ShowsDisk};
+ghost use Rattle.ados_faults.specs.steps.Looked.{TellsField, TellsLong};
 
-use crate::looks::first_pointer;
-use crate::marked::{has_block, role_at};
-use crate::path::place_in_file;
-use adf_block::Image;
-use adf_block::layout::*;
-use ados_check::{Mark, Source, place_role};
+use crate::bits::is_inside;
+use crate::marked::{has_block, mark_at};
+use crate::rights::right_at;
+use crate::wrongs::is_wrong_at;
+use adf_block::layout::{BLOCK_LONGS, KIND, KIND_BYTE};
+use adf_block::{BootKind, Image};
+use ados_check::Mark;
 use ados_model::{FaultKind, Role, VolumeFault};
-use ados_name::Name;
 
 /// The long of a block that shows a fault.
 #[derive(Clone, Copy, Debug, PartialEq, Eq)]
@@ -25,231 +25,121 @@ pub struct FaultValues {
     pub wanted: Option<u32>,
 }
 
-/// The first long of the fault's block that shows the fault. `marks` are those of the walk over the image.
+/// The first long of the fault's block that shows the fault, in the role of the block's mark. `marks` are those of the
+/// walk over the image.
 ///
-/// It is `None` if no long of this block alone shows the fault: a block used twice, a wrong hash chain, a duplicate name
-/// or a block that is marked free; and if the block shows the fault in another role than that of its mark.
+/// It is `None` if no long of the block does. So it is for these kinds: of a block used twice each of the places that
+/// name it is right by itself; of a wrong hash chain the name is right, and a place of the directory leads to it; a
+/// duplicate name stands in another entry too; the bit of a block that is marked free stands in a bitmap block. And so
+/// it is if the block shows the fault in another role than that of its mark.
+///
+/// The size in a file's header shows a bad count if the number of pointers there is right: whether the data blocks hold
+/// so many bytes is not looked at again.
 pub fn values_of(image: &Image, marks: &[Option<Mark>], fault: &VolumeFault) -> Option<FaultValues>
-    ensures { IfSome result (λ values. AreValues image.now fault.now.kind fault.now.block values) }
+    ensures { MatchOption result (NoneShows image.now marks.now fault.now.kind fault.now.block) (AreValues image.now marks.now fault.now.kind fault.now.block) }
 {
-    let block = fault.block;
-    if !has_block(image, block) {
+    if !has_block(image, fault.block) {
         return None;
     }
-    let role = role_at(marks, block);
-    match fault.kind {
-        FaultKind::NotADosDisk | FaultKind::UnsupportedKind => Some(held(image, block, KIND)),
-        FaultKind::BadSum => sum_values(image, block, role),
-        FaultKind::BadType => type_values(image, block, role),
-        FaultKind::BadOwnKey => expected(image, block, OWN_KEY, block),
-        FaultKind::BadParent => parent_values(image, block, role),
-        FaultKind::BadPointer => pointer_values(image, block, role?),
-        FaultKind::BadName => Some(name_values(image, block)),
-        FaultKind::BadComment => Some(held(image, block, COMMENT_BYTE / 4)),
-        FaultKind::BadCount => count_values(image, block, role?),
-        FaultKind::BadSequence => sequence_values(image, block, place_in_file(marks, block)),
-        FaultKind::LinkEntry => Some(held(image, block, SECONDARY_TYPE)),
-        _ => None,
-    }
-}
-
-/// A long for which several values are right, or none.
-fn held(image: &Image, block: u32, i: u32) -> FaultValues
-    requires block { block < block_count image.now }
-    requires long { i < BLOCK_LONGS }
-    ensures long { result.long ≡ i }
-    ensures found { result.found ≡ long image.now block i }
-    ensures wanted { result.wanted ≡ None }
-{
-    FaultValues {
-        long: i,
-        found: image.long(block, i),
-        wanted: None,
-    }
-}
-
-/// A long that should hold this value, if it does not.
-fn expected(image: &Image, block: u32, i: u32, wanted: u32) -> Option<FaultValues>
-    requires block { block < block_count image.now }
-    requires long { i < BLOCK_LONGS }
-    ensures long { IfSome result (λ values. values.long ≡ i) }
-    ensures found { IfSome result (λ values. values.found ≡ long image.now block i) }
-    ensures wanted { IfSome result (λ values. values.wanted ≡ Some wanted) }
-    ensures wrong { IfSome result (λ values. values.found ≢ wanted) }
-{
-    let found = image.long(block, i);
-    if found == wanted {
-        return None;
-    }
-    Some(FaultValues {
-        long: i,
-        found,
-        wanted: Some(wanted),
-    })
-}
-
-/// The checksum, and the value with which the longs of the block sum to 0.
-fn sum_values(image: &Image, block: u32, role: Option<Role>) -> Option<FaultValues>
-    requires { block < block_count image.now }
-    ensures { IfSome result (λ values. AreValues image.now BadSum block values) }
-{
-    let i = match role {
-        Some(Role::Page) => PAGE_CHECKSUM,
-        _ => CHECKSUM,
-    };
-    let wanted = image.long(block, i).wrapping_sub(image.sum(block));
-    expected(image, block, i, wanted)
-}
-
-/// The primary type, then the table size, then the secondary type.
-fn type_values(image: &Image, block: u32, role: Option<Role>) -> Option<FaultValues>
-    requires { block < block_count image.now }
-    ensures { IfSome result (λ values. AreValues image.now BadType block values) }
-{
-    if let Some(values) = expected(image, block, PRIMARY_TYPE, primary_of(role)) {
-        return Some(values);
-    }
-    match role {
-        Some(Role::Root) => root_type_values(image, block),
-        Some(Role::Extension(_)) => expected(image, block, SECONDARY_TYPE, FILE_TYPE),
-        Some(Role::Entry(_, _)) => Some(held(image, block, SECONDARY_TYPE)),
-        _ => None,
-    }
-}
-
-/// The table size of a root, then its secondary type.
-fn root_type_values(image: &Image, block: u32) -> Option<FaultValues>
-    requires { block < block_count image.now }
-    ensures { IfSome result (λ values. AreValues image.now BadType block values) }
-{
-    if let Some(values) = expected(image, block, TABLE_SIZE, TABLE_LONGS) {
-        return Some(values);
-    }
-    expected(image, block, SECONDARY_TYPE, ROOT_TYPE)
-}
-
-/// The primary type for a role.
-fn primary_of(role: Option<Role>) -> u32 {
-    match role {
-        Some(Role::Data(_)) => DATA_TYPE,
-        Some(Role::Extension(_)) => LIST_TYPE,
-        _ => HEADER_TYPE,
-    }
-}
-
-/// The parent, or the file header of an extension block or an OFS data block.
-fn parent_values(image: &Image, block: u32, role: Option<Role>) -> Option<FaultValues>
-    requires { block < block_count image.now }
-    ensures { IfSome result (λ values. AreValues image.now BadParent block values) }
-{
-    match role {
-        Some(Role::Data(file)) => expected(image, block, OWN_KEY, file),
-        Some(Role::Extension(file)) => expected(image, block, PARENT, file),
-        Some(Role::Entry(dir, _)) => expected(image, block, PARENT, dir),
-        Some(Role::Root) => expected(image, block, PARENT, 0),
-        Some(Role::Page) | None => None,
-    }
-}
-
-/// The first place that names a block outside the image, or the link to the first or the next data block.
-fn pointer_values(image: &Image, block: u32, role: Role) -> Option<FaultValues>
-    requires { block < block_count image.now }
-    ensures { IfSome result (λ values. AreValues image.now BadPointer block values) }
-{
-    if let Some(i) = outside_place(image, block, role) {
-        return Some(held(image, block, i));
-    }
-    match role {
-        Role::Entry(_, _) => expected(image, block, NEXT_DATA, first_pointer(image, block)),
-        Role::Data(_) => Some(held(image, block, NEXT_DATA)),
-        _ => None,
-    }
-}
-
-/// The first place of the block in a role that names a block outside the image.
-fn outside_place(image: &Image, block: u32, role: Role) -> Option<u32>
-    requires { block < block_count image.now }
-    ensures from { IfSome result (λ i. FIRST_SLOT ≤ i) }
-    ensures within { IfSome result (λ i. i < BLOCK_LONGS) }
-{
-    let source = Source::whole(image);
-    for i in FIRST_SLOT..SECONDARY_TYPE {
-        let named = image.long(block, i);
-        let outside = named < BOOT_BLOCKS || image.blocks() <= named;
-        if outside && place_role(&source, block, role, i).is_some() {
-            return Some(i);
+    for i in 0..BLOCK_LONGS {
+        if let Some(values) = values_at(image, marks, *fault, i) {
+            return Some(values);
         }
     }
     None
 }
 
-/// The long with the length of the name, or that of its first slash or colon.
-fn name_values(image: &Image, block: u32) -> FaultValues
-    requires { block < block_count image.now }
-    ensures { AreValues image.now BadName block result }
+/// The values of a long, if it shows the fault.
+fn values_at(
+    image: &Image,
+    marks: &[Option<Mark>],
+    fault: VolumeFault,
+    i: u32,
+) -> Option<FaultValues>
+    requires block { fault.block < block_count image.now }
+    requires long { i < BLOCK_LONGS }
+    ensures { TellsLong image.now marks.now fault.kind fault.block i result }
 {
-    let length = u32::from(image.byte(block, NAME_BYTE));
-    if length <= Name::MAX_LEN as u32 {
-        for i in NAME_BYTE + 1..NAME_BYTE + 1 + length {
-            let letter = image.byte(block, i);
-            if letter == b'/' || letter == b':' {
-                return held(image, block, i / 4);
-            }
-        }
+    if shows_disk(image, fault.kind, fault.block, i) {
+        return Some(held(image, fault.block, i, None));
     }
-    held(image, block, NAME_BYTE / 4)
-}
-
-/// The bytes that an OFS data block holds, or the number of pointers of a header or extension block, or the size of a
-/// file.
-fn count_values(image: &Image, block: u32, role: Role) -> Option<FaultValues>
-    requires { block < block_count image.now }
-    ensures { IfSome result (λ values. AreValues image.now BadCount block values) }
-{
-    match role {
-        Role::Data(_) => held_values(image, block),
-        Role::Extension(_) | Role::Entry(_, _) => pointers_values(image, block, role),
-        Role::Root | Role::Page => None,
+    match mark_at(marks, fault.block) {
+        Some(mark) => field_values(image, marks, mark, fault, i),
+        None => None,
     }
 }
 
-/// The bytes that an OFS data block holds: more than fit, none, or too few before the last block.
-fn held_values(image: &Image, block: u32) -> Option<FaultValues>
-    requires { block < block_count image.now }
-    ensures { IfSome result (λ values. AreValues image.now BadCount block values) }
+/// The values of a long, if it shows the fault in the role of a mark.
+fn field_values(
+    image: &Image,
+    marks: &[Option<Mark>],
+    mark: Mark,
+    fault: VolumeFault,
+    i: u32,
+) -> Option<FaultValues>
+    requires block { fault.block < block_count image.now }
+    requires long { i < BLOCK_LONGS }
+    ensures { TellsField image.now marks.now mark fault.kind fault.block i result }
 {
-    let count = image.long(block, HELD);
-    if count == 0 || count > OFS_ROOM {
-        return Some(held(image, block, HELD));
+    if !has_fields(image, mark) {
+        return None;
     }
-    expected(image, block, HELD, OFS_ROOM)
+    let right = right_at(image, marks, mark, fault, i);
+    if !is_wrong(image, mark.role, fault, i, right) {
+        return None;
+    }
+    Some(held(image, fault.block, i, right))
 }
 
-/// The number of pointers, or the size of a file.
-fn pointers_values(image: &Image, block: u32, role: Role) -> Option<FaultValues>
-    requires { block < block_count image.now }
-    ensures { IfSome result (λ values. AreValues image.now BadCount block values) }
+/// Whether a long does not hold its one right value, or none of several.
+fn is_wrong(image: &Image, role: Role, fault: VolumeFault, i: u32, right: Option<u32>) -> bool
+    requires block { fault.block < block_count image.now }
+    requires long { i < BLOCK_LONGS }
+    ensures { IsTrue result ↔ MatchOption right (IsWrongAt image.now fault.kind role fault.block i) (λ right. long image.now fault.block i ≢ right) }
 {
-    let count = image.long(block, POINTER_COUNT);
-    if count > TABLE_LONGS {
-        return Some(held(image, block, POINTER_COUNT));
-    }
-    if image.long(block, NEXT_EXTENSION) != 0 && count < TABLE_LONGS {
-        return expected(image, block, POINTER_COUNT, TABLE_LONGS);
-    }
-    match role {
-        Role::Extension(_) => Some(held(image, block, POINTER_COUNT)),
-        _ => Some(held(image, block, FILE_SIZE)),
+    match right {
+        Some(right) => image.long(fault.block, i) != right,
+        None => is_wrong_at(image, role, fault, i),
     }
 }
 
-/// The number of an OFS data block in its file, by the place that named the block first.
-fn sequence_values(image: &Image, block: u32, place: Option<u32>) -> Option<FaultValues>
-    requires { block < block_count image.now }
-    ensures { IfSome result (λ values. AreValues image.now BadSequence block values) }
+/// What a long holds, and what is wanted there.
+fn held(image: &Image, block: u32, i: u32, wanted: Option<u32>) -> FaultValues
+    requires block { block < block_count image.now }
+    requires long { i < BLOCK_LONGS }
+    ensures long { result.long ≡ i }
+    ensures found { result.found ≡ long image.now block i }
+    ensures wanted { result.wanted ≡ wanted }
 {
-    match place {
-        Some(place) => expected(image, block, SEQUENCE, place),
-        None => Some(held(image, block, SEQUENCE)),
+    FaultValues {
+        long: i,
+        found: image.long(block, i),
+        wanted,
+    }
+}
+
+/// Whether the long is the first one of a disk of another kind than OFS and FFS.
+fn shows_disk(image: &Image, kind: FaultKind, block: u32, i: u32) -> bool
+    ensures { IsTrue result ↔ ShowsDisk image.now kind block i }
+{
+    prove!(image.blocks() >= 16);
+    if block != 0 || i != KIND {
+        return false;
+    }
+    match kind {
+        FaultKind::NotADosDisk => matches!(image.boot_kind(), BootKind::NotDos),
+        FaultKind::UnsupportedKind => matches!(image.boot_kind(), BootKind::OtherDos(_)),
+        _ => false,
+    }
+}
+
+/// Whether the block has fields in the role of its mark: in FFS a data block has none.
+fn has_fields(image: &Image, mark: Mark) -> bool
+    ensures { IsTrue result ↔ HasFields image.now mark mark.role }
+{
+    prove!(image.blocks() >= 16);
+    match mark.role {
+        Role::Data(_) => image.byte(0, KIND_BYTE) == 0 && is_inside(image, mark.holder),
+        Role::Root | Role::Page | Role::Entry(_, _) | Role::Extension(_) => true,
     }
 }

@@ -1,10 +1,12 @@
 //! The walk from the root over every place of every reached block, past all faults.
-ghost use Rattle.std.specs.Prelude.{◌≡◌, ◌≢◌, ◌<◌, ◌⊎◌, ◌∷◌, [], IfOk, IsTrue, None, replicate};
+ghost use Rattle.std.specs.Prelude.{◌≡◌, ◌≢◌, ◌*◌, ◌<◌, ◌⊎◌, ◌∷◌, [], IfOk, IsTrue, None, replicate};
 ghost use Rattle.adf_block.specs.declared.layout.TheConstants.{BLOCK_LONGS};
 ghost use Rattle.adf_block.specs.Whole.{IsImage};
-ghost use Rattle.adf_block.specs.Image.{block_count};
-ghost use Rattle.ados_model.specs.Faults.{InImage, IsPlace, PlaceNames, Reached};
-ghost use Rattle.ados_faults.specs.steps.Walked.{IsStep, IsWalked, root_step};
+ghost use Rattle.adf_block.specs.Image.{block_count, long};
+ghost use Rattle.ados_check.specs.Marks.{mark_at};
+ghost use Rattle.ados_model.specs.Faults.{InImage, IsPlace, LeadsInside, Reached};
+ghost use Rattle.ados_faults.specs.Listed.{AreClosed, IsMarked, IsNamedAs};
+ghost use Rattle.ados_faults.specs.steps.Walked.{AreKept, IsStep, IsVisited, IsWalked, root_step};
 
 use crate::bits::is_inside;
 use crate::notes::Notes;
@@ -15,7 +17,7 @@ use ados_model::{FaultKind, Role};
 use std::alloc::{AllocError, Global};
 use std::collections::BTreeSet;
 
-/// The most steps of a walk, as a multiple of the blocks of the image.
+/// After so many steps, as a multiple of the blocks of the image, a walk takes no marked block in another role.
 const PAIRS: u32 = 4;
 
 /// A block in a role.
@@ -44,21 +46,26 @@ pub(crate) struct Walk {
     pub(crate) steps: Vec<Step>,
     /// The steps whose roles are not those of the marks.
     others: BTreeSet<StepKey>,
-    /// Whether there were more steps than a walk may take.
+    /// Whether there were more roles of marked blocks than a walk may take.
     pub(crate) is_cut: bool,
 }
 
-/// The most steps of a walk, and the most header and extension blocks that are visited.
-pub(crate) fn most_steps(image: &Image) -> u32 {
+/// The steps after which a walk takes only blocks without a mark, and the most header and extension blocks that are
+/// visited.
+pub(crate) fn most_steps(image: &Image) -> u32
+    ensures { result ≡ 4 * block_count image.now }
+{
     PAIRS * image.blocks()
 }
 
 /// Walks from the root. It notes the places that name blocks outside the image, and the blocks that two places name.
 pub(crate) fn walked(alloc: Global, image: &Image) -> Result<Walk, AllocError>
-    ensures { IfOk result (λ walk. IsWalked image.now walk.notes.cells.items walk.marks.items walk.steps.items) }
+    ensures walked { IfOk result (λ walk. IsWalked image.now walk.notes.cells.items walk.marks.items walk.steps.items) }
+    ensures closed { IfOk result (λ walk. AreClosed image.now walk.marks.items) }
 {
     let mut walk = Walk::start(alloc, image)?;
-    for i in 0..most_steps(image) as usize {
+    let most = most_steps(image) + image.blocks();
+    for i in 0..most as usize {
         if walk.steps.len() <= i {
             return Ok(walk);
         }
@@ -95,7 +102,9 @@ impl Walk {
     fn go_through(&mut self, image: &Image, step: Step) -> Result<(), AllocError>
         requires walked { IsWalked image.now self.old.notes.cells.items self.old.marks.items self.old.steps.items }
         requires step { IsStep image.now step }
-        ensures { IfOk result (λ _. IsWalked image.now self.new.notes.cells.items self.new.marks.items self.new.steps.items) }
+        ensures walked { IfOk result (λ _. IsWalked image.now self.new.notes.cells.items self.new.marks.items self.new.steps.items) }
+        ensures kept { IfOk result (λ _. AreKept self.old.marks.items self.old.steps.items self.new.marks.items self.new.steps.items) }
+        ensures visited { IfOk result (λ _. IsVisited image.now self.new.marks.items step) }
     {
         let source = Source::whole(image);
         for i in FIRST_SLOT..SECONDARY_TYPE {
@@ -112,7 +121,9 @@ impl Walk {
         requires step { IsStep image.now step }
         requires long { i < BLOCK_LONGS }
         requires place { IsPlace image.now step.block step.role i role }
-        ensures { IfOk result (λ _. IsWalked image.now self.new.notes.cells.items self.new.marks.items self.new.steps.items) }
+        ensures walked { IfOk result (λ _. IsWalked image.now self.new.notes.cells.items self.new.marks.items self.new.steps.items) }
+        ensures kept { IfOk result (λ _. AreKept self.old.marks.items self.old.steps.items self.new.marks.items self.new.steps.items) }
+        ensures marked { IfOk result (λ _. LeadsInside image.now step.block i → IsMarked self.new.marks.items (long image.now step.block i)) }
     {
         let block = image.long(step.block, i);
         if is_inside(image, block) {
@@ -132,35 +143,59 @@ impl Walk {
         requires walked { IsWalked image.now self.old.notes.cells.items self.old.marks.items self.old.steps.items }
         requires inside { InImage image.now block }
         requires reached { Reached image.now block mark.role }
-        requires named { PlaceNames image.now mark.holder mark.long block }
-        ensures { IfOk result (λ _. IsWalked image.now self.new.notes.cells.items self.new.marks.items self.new.steps.items) }
+        requires named { IsNamedAs image.now block mark }
+        ensures walked { IfOk result (λ _. IsWalked image.now self.new.notes.cells.items self.new.marks.items self.new.steps.items) }
+        ensures kept { IfOk result (λ _. AreKept self.old.marks.items self.old.steps.items self.new.marks.items self.new.steps.items) }
+        ensures marked { IfOk result (λ _. IsMarked self.new.marks.items block) }
     {
         let Some(first) = self.marks[block as usize] else {
-            self.marks[block as usize] = Some(mark);
-            return self.take(image, block, mark.role);
+            return self.take_first(image, block, mark);
         };
         let twice = is_other_place(first, mark);
         self.notes
             .note_if(image, FaultKind::BlockUsedTwice, block, twice);
-        let key = key_of(block, mark.role);
-        if self.is_cut || first.role == mark.role || self.others.contains(&key) {
-            return Ok(());
+        if first.role != mark.role {
+            self.take_other(image, block, mark.role)?;
         }
-        self.others.insert(key)?;
-        self.take(image, block, mark.role)
+        Ok(())
     }
 
-    /// Adds a step, unless the walk may take no more.
-    fn take(&mut self, image: &Image, block: u32, role: Role) -> Result<(), AllocError>
+    /// Marks a block that had no mark, and adds its step.
+    fn take_first(&mut self, image: &Image, block: u32, mark: Mark) -> Result<(), AllocError>
+        requires walked { IsWalked image.now self.old.notes.cells.items self.old.marks.items self.old.steps.items }
+        requires unmarked { mark_at self.old.marks.items block ≡ None }
+        requires inside { InImage image.now block }
+        requires reached { Reached image.now block mark.role }
+        requires named { IsNamedAs image.now block mark }
+        ensures walked { IfOk result (λ _. IsWalked image.now self.new.notes.cells.items self.new.marks.items self.new.steps.items) }
+        ensures kept { IfOk result (λ _. AreKept self.old.marks.items self.old.steps.items self.new.marks.items self.new.steps.items) }
+        ensures marked { IfOk result (λ _. IsMarked self.new.marks.items block) }
+    {
+        self.marks[block as usize] = Some(mark);
+        self.steps.push(Step {
+            block,
+            role: mark.role,
+        })?;
+        Ok(())
+    }
+
+    /// Adds the step of a marked block in another role, unless it was taken, or the walk may take no more.
+    fn take_other(&mut self, image: &Image, block: u32, role: Role) -> Result<(), AllocError>
         requires walked { IsWalked image.now self.old.notes.cells.items self.old.marks.items self.old.steps.items }
         requires inside { InImage image.now block }
         requires reached { Reached image.now block role }
-        ensures { IfOk result (λ _. IsWalked image.now self.new.notes.cells.items self.new.marks.items self.new.steps.items) }
+        ensures walked { IfOk result (λ _. IsWalked image.now self.new.notes.cells.items self.new.marks.items self.new.steps.items) }
+        ensures kept { IfOk result (λ _. AreKept self.old.marks.items self.old.steps.items self.new.marks.items self.new.steps.items) }
     {
-        if self.steps.len() == most_steps(image) as usize {
+        let key = key_of(block, role);
+        if self.is_cut || self.others.contains(&key) {
+            return Ok(());
+        }
+        if self.steps.len() >= most_steps(image) as usize {
             self.is_cut = true;
             return Ok(());
         }
+        self.others.insert(key)?;
         self.steps.push(Step { block, role })?;
         Ok(())
     }

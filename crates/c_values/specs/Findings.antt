@@ -3,8 +3,8 @@ use Rattle.std.specs.Prelude.{◌≡◌, ◌↔◌, ◌⊎◌, ⊤, ℕ, ℤ, po
 use Rattle.adf_block.specs.Size.{IsSizeFault}
 use Rattle.adf_block.specs.Whole.{IsImage}
 use Rattle.adf_block.specs.declared.volume_size.SizeFault.{SizeFault}
-use Rattle.ados_faults.specs.Listed.{ListsFaults}
-use Rattle.ados_faults.specs.Values.{AreValues}
+use Rattle.ados_faults.specs.Listed.{AreMarks, ListsFaults, Marks}
+use Rattle.ados_faults.specs.Values.{AreValues, NoneShows}
 use Rattle.ados_faults.specs.declared.values.FaultValues.{FaultValues}
 use Rattle.ados_model.specs.Accepted.{ShowsNoFault}
 use Rattle.ados_model.specs.declared.fault.VolumeFault.{VolumeFault}
@@ -40,24 +40,28 @@ told_finding fault values = record {
   wanted = wanted_of values.wanted;
 }
 
--- the fault for C: alone, or with a long of its block that shows it
-abbrev pub IsFindingOf : List ℕ → VolumeFault → JipFinding → Type 0
-IsFindingOf image fault finding =
-    (finding ≡ bare_finding (pos (fault_number fault.kind)) fault.block)
-    ⊎ ((values : FaultValues) × AreValues image fault.kind fault.block values × (finding ≡ told_finding fault values))
+-- the fault for C with the first long of its block that shows it, in the role of the block's mark; alone only if none
+-- does
+abbrev pub IsFindingOf : List ℕ → Marks → VolumeFault → JipFinding → Type 0
+IsFindingOf image marks fault finding =
+    (NoneShows image marks fault.kind fault.block × (finding ≡ bare_finding (pos (fault_number fault.kind)) fault.block))
+    ⊎ ((values : FaultValues) × AreValues image marks fault.kind fault.block values × (finding ≡ told_finding fault values))
 
 -- these faults for C, in order
-unfoldable pub AreFindings : List ℕ → List VolumeFault → List JipFinding → Type 0
-AreFindings image [] [] = ⊤
-AreFindings image (fault ∷ faults) (finding ∷ findings) = IsFindingOf image fault finding × AreFindings image faults findings
-AreFindings image _ _ = ⊥
+unfoldable pub AreFindings : List ℕ → Marks → List VolumeFault → List JipFinding → Type 0
+AreFindings image marks [] [] = ⊤
+AreFindings image marks (fault ∷ faults) (finding ∷ findings) = IsFindingOf image marks fault finding × AreFindings image marks faults findings
+AreFindings image marks _ _ = ⊥
 
--- the bytes are an image, and these are its faults in order, as in `TellsFaults`
+-- the bytes are an image, and these are its faults in order, as in `TellsFaults`, with the longs that show them by the
+-- marks of the image
 pub record TellsFindings (bytes : List ℕ) (told : List JipFinding) (more : Bool) : Type 0 where
   pub image : IsImage bytes
   pub faults : List VolumeFault
   pub lists : ListsFaults bytes MOST_FAULTS faults
-  pub told_are : AreFindings bytes faults told
+  pub marks : Marks
+  pub marked : ShowsNoFault bytes ⊎ AreMarks bytes marks
+  pub told_are : AreFindings bytes marks faults told
   pub none : (faults ≡ []) ↔ ShowsNoFault bytes
   pub whole : ShowsNoFault bytes → more ≡ false
 

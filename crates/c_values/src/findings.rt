@@ -96,7 +96,7 @@ fn told_findings(
     marks: &[Option<Mark>],
     faults: &[VolumeFault],
 ) -> Result<Vec<JipFinding>, AllocError>
-    ensures { IfOk result (λ told. AreFindings image.now faults.now told.items) }
+    ensures { IfOk result (λ told. AreFindings image.now marks.now faults.now told.items) }
 {
     let mut told = Vec::with_capacity(alloc, faults.len())?;
     for place in 0..faults.len() {
@@ -107,7 +107,7 @@ fn told_findings(
 
 /// A fault for C, with the long that shows it.
 fn finding_of(image: &Image, marks: &[Option<Mark>], fault: VolumeFault) -> JipFinding
-    ensures { IsFindingOf image.now fault result }
+    ensures { IsFindingOf image.now marks.now fault result }
 {
     match values_of(image, marks, &fault) {
         Some(values) => JipFinding::of(fault, values),

@@ -1,11 +1,12 @@
 //! The boot blocks, the blocks and the bitmap of a floppy, each alone. A case is a text, and its rows are calls.
 
-use crate::fixtures::{FLOPPY, work};
-use crate::on_image::{expect, has_one_bitmap_block};
+use crate::fixtures::{FLOPPY, blank_image};
+use crate::on_image::has_one_bitmap_block;
+use crate::rows::expect_rows;
 use adf_block::Image;
 use ados_map::rebuild;
+use std::alloc::Global;
 use std::process::Abort;
-use std::test::Fail;
 
 /// The blank floppy: its longs, worked out by hand, and calls that read and write its bytes.
 const BLOCKS: &str = "\
@@ -77,32 +78,30 @@ free = 1
 first = 1759
 first = error 221";
 
-#[test]
-fn blocks(rt: HostRuntime) -> Result<(), Fail> {
-    let mut image = work(rt.alloc(), FLOPPY)?.into_image();
-    expect(&rt, &mut image, BLOCKS);
-    Ok(())
+/// Each row of the blank floppy has the result that it says.
+fn expect_of_floppy(rt: &impl Abort, alloc: Global, rows: &str) {
+    let mut image = blank_image(rt, alloc, FLOPPY);
+    expect_rows(rt, &mut image, rows);
 }
 
 #[test]
-fn boot_sum(rt: HostRuntime) -> Result<(), Fail> {
-    let mut image = work(rt.alloc(), FLOPPY)?.into_image();
-    expect(&rt, &mut image, BOOT);
-    Ok(())
+fn blocks(rt: HostRuntime) {
+    expect_of_floppy(&rt, rt.alloc(), BLOCKS);
 }
 
 #[test]
-fn first_free(rt: HostRuntime) -> Result<(), Fail> {
-    let mut image = work(rt.alloc(), FLOPPY)?.into_image();
-    expect(&rt, &mut image, FIRST_FREE);
-    Ok(())
+fn boot_sum(rt: HostRuntime) {
+    expect_of_floppy(&rt, rt.alloc(), BOOT);
 }
 
 #[test]
-fn first_free_of_boot_code(rt: HostRuntime) -> Result<(), Fail> {
-    let mut image = work(rt.alloc(), FLOPPY)?.into_image();
-    expect(&rt, &mut image, FIRST_FREE_OF_BOOT_CODE);
-    Ok(())
+fn first_free(rt: HostRuntime) {
+    expect_of_floppy(&rt, rt.alloc(), FIRST_FREE);
+}
+
+#[test]
+fn first_free_of_boot_code(rt: HostRuntime) {
+    expect_of_floppy(&rt, rt.alloc(), FIRST_FREE_OF_BOOT_CODE);
 }
 
 /// Rebuilds the bitmap with these blocks in use.
@@ -112,10 +111,9 @@ fn rebuilt(rt: &impl Abort, image: &mut Image, named: &[bool]) {
 }
 
 #[test]
-fn full_bitmap(rt: HostRuntime) -> Result<(), Fail> {
-    let mut image = work(rt.alloc(), FLOPPY)?.into_image();
-    let named = vec![in rt.alloc(); true; 1_760]?;
+fn full_bitmap(rt: HostRuntime) {
+    let mut image = blank_image(&rt, rt.alloc(), FLOPPY);
+    let named = vec![in rt.alloc(); true; 1_760].expect(&rt, "error");
     rebuilt(&rt, &mut image, &named);
-    expect(&rt, &mut image, FULL);
-    Ok(())
+    expect_rows(&rt, &mut image, FULL);
 }

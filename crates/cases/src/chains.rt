@@ -3,30 +3,31 @@
 
 ghost use Rattle.ados_chain.specs.Chains.{HasChains};
 
-use crate::drawn::{checked, put_directory, settle};
+use crate::drawn::{checked, drawn};
 use crate::fixtures::{FLOPPY, work};
-use crate::on_volume::expect;
-use crate::rows::{Came, came_of, cut, long_of, parts};
+use crate::rows::{Came, came_of, cut, expect_rows, holds, long_of, parts};
 use adf_block::Image;
-use adf_block::layout::{CHECKSUM, FIRST_SLOT, NEXT_IN_CHAIN};
 use ados_chain::{Next, after, find, insert_last, is_empty, unlink};
 use ados_name::Name;
 use ados_volume::Volume;
 use std::alloc::Global;
 use std::process::Abort;
-use std::test::Fail;
 
 /// Directories `A` in block 10 and `DP` in block 11, both in slot 6, and `B` in block 12.
-fn three_directories(alloc: Global) -> Result<Volume, Fail> {
-    let mut image = work(alloc, FLOPPY)?.into_image();
-    let root = [(FIRST_SLOT + 6, 10), (FIRST_SLOT + 7, 12)];
-    settle(&mut image, 880, CHECKSUM, &root);
-    settle(&mut image, 881, 0, &[(1, 0xffff_f8ff)]);
-    put_directory(&mut image, 10, 880, 0x0141_0000);
-    settle(&mut image, 10, CHECKSUM, &[(NEXT_IN_CHAIN, 11)]);
-    put_directory(&mut image, 11, 880, 0x0244_5000);
-    put_directory(&mut image, 12, 880, 0x0142_0000);
-    Ok(checked(alloc, image)?)
+const THREE_DIRECTORIES: &str = "\
+put 880 12 10
+put 880 13 12
+settle 880 5
+put 881 1 xfffff8ff
+settle 881 0
+directory 10 880 x01410000
+put 10 124 11
+settle 10 5
+directory 11 880 x02445000
+directory 12 880 x01420000";
+
+fn three_directories(rt: &impl Abort, alloc: Global) -> Volume {
+    checked(rt, alloc, drawn(rt, alloc, FLOPPY, THREE_DIRECTORIES))
 }
 
 /// The key of the next entry: 232 at the end, 205 after a key that is no entry.
@@ -85,7 +86,7 @@ fn expect_chains(rt: &impl Abort, volume: Volume, rows: &str) {
     let mut image = volume.into_image();
     for row in rows.lines() {
         let (text, wanted) = parts(row);
-        assert!(rt; came(&mut image, dir, text) == came_of(wanted), "{row}");
+        holds(rt, came(&mut image, dir, text) == came_of(wanted), row);
     }
 }
 
@@ -118,20 +119,15 @@ next 12 = error 232
 child A = 10";
 
 #[test]
-fn chains_by_hand(rt: HostRuntime) -> Result<(), Fail> {
-    let mut volume = three_directories(rt.alloc())?;
-    expect(&rt, &mut volume, BY_HAND);
+fn chains_by_hand(rt: HostRuntime) {
+    let mut volume = three_directories(&rt, rt.alloc());
+    expect_rows(&rt, &mut volume, BY_HAND);
     expect_chains(&rt, volume, BY_HAND);
-    Ok(())
 }
 
 #[test]
-fn put_last_in_chains(rt: HostRuntime) -> Result<(), Fail> {
-    expect_chains(&rt, three_directories(rt.alloc())?, PUT_LAST);
-    expect_chains(
-        &rt,
-        work(rt.alloc(), FLOPPY)?,
-        "empty = 1\nnext 880 = error 232",
-    );
-    Ok(())
+fn put_last_in_chains(rt: HostRuntime) {
+    expect_chains(&rt, three_directories(&rt, rt.alloc()), PUT_LAST);
+    let empty = work(&rt, rt.alloc(), FLOPPY);
+    expect_chains(&rt, empty, "empty = 1\nnext 880 = error 232");
 }

@@ -1,58 +1,26 @@
 //! A handler that is asked once more if it answers out of memory.
-ghost use Rattle.adf_block.specs.Whole.{IsSize};
-
-use crate::fixtures::{START, work};
-use crate::rows::{cut, parts};
-use adf_script::grammar::parse;
-use ados_handler::{Body, Handler};
+use crate::rows::{cut, holds, parts};
+use crate::spoken::{Telling, Told};
 use ados_name::Name;
-use std::alloc::{AllocError, Global};
+use std::alloc::Global;
 use std::process::Abort;
-use std::test::Fail;
 
 /// The second result of a packet if there is no memory for its lock or handle.
 const NO_MEMORY: i32 = 103;
 
-/// Whether an answer names the action of its packet, its two results, and the key and name of the object that it
-/// describes.
-#[derive(Clone, Copy)]
-struct Told {
-    names_action: bool,
-    results: (i32, i32),
-    entry: Option<(u32, Name)>,
-}
-
-/// A handler over a blank volume of this many blocks.
-pub(crate) fn handler_of(alloc: Global, blocks: u32) -> Result<Handler, AllocError>
-    requires { IsSize blocks }
-{
-    Ok(Handler::new(alloc, work(alloc, blocks)?))
-}
-
-fn serve_line(alloc: Global, handler: &mut Handler, line: &[u8]) -> Result<Told, Fail> {
-    let Some(packet) = parse(alloc, &[], line)? else {
-        return Err(Fail::from("no packet"));
-    };
-    let action = packet.action();
-    let answer = handler.serve(packet, START);
-    let entry = match &answer.body {
-        Body::Entry(info) => Some((info.key, info.name)),
-        _ => None,
-    };
-    Ok(Told {
-        names_action: answer.action == action,
-        results: (answer.res1, answer.res2),
-        entry,
-    })
-}
-
-/// The answer to a line. The line is put once more if the first answer is out of memory.
-fn ask(alloc: Global, handler: &mut Handler, line: &[u8]) -> Result<Told, Fail> {
-    let told = serve_line(alloc, handler, line)?;
-    if told.results.1 == NO_MEMORY {
-        return serve_line(alloc, handler, line);
-    }
-    Ok(told)
+/// What the answer to a line tells. It has the action of the packet.
+pub(crate) fn serve_line<S: Telling, R: Abort>(
+    rt: &R,
+    alloc: Global,
+    server: &mut S,
+    moment: S::Moment,
+    line: &str,
+) -> Told {
+    let packet = S::packet_of(rt, alloc, line).expect(rt, "no packet");
+    let action = S::action_of(&packet);
+    let told = S::told(&server.serve(packet, moment));
+    holds(rt, told.action == action, line);
+    told
 }
 
 /// Whether an answer is the one that a row expects: two results, and the key and name of an entry if the row names one.
@@ -61,8 +29,7 @@ fn is_told(wanted: &str, told: Told) -> bool {
     let (second, entry) = cut(rest);
     let (key, name) = cut(entry);
     let (res1, res2) = told.results;
-    told.names_action
-        && first.parse().ok() == Some(res1)
+    first.parse().ok() == Some(res1)
         && second.parse().ok() == Some(res2)
         && (entry.is_empty() || is_entry(key, name, told.entry))
 }
@@ -74,25 +41,29 @@ fn is_entry(key: &str, name: &str, entry: Option<(u32, Name)>) -> bool {
     }
 }
 
-/// The rows are served in order, and each is answered as it says.
-pub(crate) fn serve_rows(
-    rt: &impl Abort,
+/// The rows are served in order, and each is answered as it says. A line is put once more if its first answer is out of
+/// memory.
+pub(crate) fn serve_rows<S: Telling, R: Abort>(
+    rt: &R,
     alloc: Global,
-    handler: &mut Handler,
+    server: &mut S,
+    moment: S::Moment,
     rows: &str,
-) -> Result<(), Fail> {
+) {
     for row in rows.lines() {
         let (line, wanted) = parts(row);
-        let told = ask(alloc, handler, line.as_bytes())?;
-        assert!(rt; is_told(wanted, told), "{row}");
+        let mut told = serve_line(rt, alloc, server, moment, line);
+        if told.results.1 == NO_MEMORY {
+            told = serve_line(rt, alloc, server, moment, line);
+        }
+        holds(rt, is_told(wanted, told), row);
     }
-    assert!(rt; !handler.died());
-    Ok(())
+    holds(rt, !server.died(), "alive");
 }
 
 /// A directory `d` with a lock, and the file `f`. Also a file of one byte for each letter from `k` to `s`, without locks
 /// or handles.
-pub(crate) const ENTRIES: &str = "\
+const ENTRIES: &str = "\
 mkdir 0 \"d\" = 1 0
 free 1 = -1 0
 output 0 \"f\" = -1 0
@@ -126,33 +97,47 @@ write 1 \"x\" = 1 0
 end 1 = -1 0
 locate 0 -2 \"d\" = 1 0";
 
-/// A line in which a letter replaces each `*`.
-fn with_letter(alloc: Global, line: &str, letter: u8) -> Result<Vec<u8>, AllocError> {
-    let mut bytes = Vec::from_slice(alloc, line.as_bytes())?;
-    for byte in bytes.iter_mut() {
-        if *byte == b'*' {
-            *byte = letter;
+/// A line in which a letter replaces the `*`.
+fn with_letter(rt: &impl Abort, alloc: Global, line: &str, letter: &str) -> String {
+    let mut text = String::new(alloc);
+    match line.split_once('*') {
+        Some((front, behind)) => {
+            write!(text, "{front}{letter}{behind}").expect(rt, "error");
         }
+        None => text.push_str(line).expect(rt, "error"),
     }
-    Ok(bytes)
+    text
 }
 
 /// The packet of a line is served; or it is answered out of memory with no byte changed, and is served if it is put
 /// again.
-pub(crate) fn expect_hold(
-    rt: &impl Abort,
+fn expect_hold<S: Telling, R: Abort>(
+    rt: &R,
     alloc: Global,
-    handler: &mut Handler,
+    server: &mut S,
+    moment: S::Moment,
     line: &str,
-    letter: u8,
-) -> Result<(), Fail> {
-    let line = with_letter(alloc, line, letter)?;
-    let was = Vec::from_slice(alloc, handler.volume().image().as_bytes())?;
-    let mut told = serve_line(alloc, handler, &line)?;
+) {
+    let was = Vec::from_slice(alloc, server.bytes()).expect(rt, "error");
+    let mut told = serve_line(rt, alloc, server, moment, line);
     if told.results.1 == NO_MEMORY {
-        assert!(rt; handler.volume().image().as_bytes() == was.as_slice());
-        told = serve_line(alloc, handler, &line)?;
+        holds(rt, server.bytes() == was.as_slice(), line);
+        told = serve_line(rt, alloc, server, moment, line);
     }
-    assert!(rt; told.results.1 == 0);
-    Ok(())
+    holds(rt, told.results.1 == 0, line);
+}
+
+/// The packet of a line is served nine times, so that the table of locks or handles grows.
+pub(crate) fn expect_holds<S: Telling, R: Abort>(
+    rt: &R,
+    alloc: Global,
+    server: &mut S,
+    moment: S::Moment,
+    line: &str,
+) {
+    serve_rows(rt, alloc, server, moment, ENTRIES);
+    for letter in "k l m n o p q r s".split(" ") {
+        let line = with_letter(rt, alloc, line, letter);
+        expect_hold(rt, alloc, server, moment, line.as_str());
+    }
 }

@@ -4,43 +4,39 @@ ghost use Rattle.std.specs.Prelude.{◌≡◌, IfSome, IsTrue, length};
 ghost use Rattle.ados_model.specs.File.{LawfulFile, contents};
 ghost use Rattle.ados_data.specs.Changing.{HasFree, WritableFile};
 
-use crate::drawn::{checked, put, put_directory, settle};
-use crate::fixtures::{FLOPPY, work};
-use crate::on_volume::expect;
-use crate::rows::{cut, long_of, parts};
+use crate::drawn::{checked, drawn};
+use crate::fixtures::FLOPPY;
+use crate::on_volume::file;
+use crate::rows::{cut, expect_rows, holds, long_of, parts};
 use adf_block::Image;
-use adf_block::layout::{CHECKSUM, FILE_TYPE};
 use ados_data::{blocks_of, extend, format_of, read_at, write_at};
 use ados_map::count_free;
-use ados_name::PathText;
 use ados_volume::Volume;
 use std::alloc::Global;
 use std::process::Abort;
-use std::test::Fail;
 
 /// A file `f` of 600 bytes in the root. Its header is block 2, its data blocks are 3 and 4. Its bytes 508 to 511 are
 /// `0123`, 512 to 515 are `4567`, and 596 to 599 are `89AB`. The bytes after the last one do not belong to the file.
-fn file_of_600_bytes(alloc: Global) -> Result<Volume, Fail> {
-    let mut image = work(alloc, FLOPPY)?.into_image();
-    settle(&mut image, 880, CHECKSUM, &[(17, 2)]);
-    settle(&mut image, 881, 0, &[(1, 0xffff_fff8)]);
-    put_directory(&mut image, 2, 880, 0x0166_0000);
-    let file = [
-        (2, 2),
-        (4, 3),
-        (76, 4),
-        (77, 3),
-        (81, 600),
-        (127, FILE_TYPE),
-    ];
-    settle(&mut image, 2, CHECKSUM, &file);
-    put(&mut image, 3, &[(127, 0x3031_3233)]);
-    put(
-        &mut image,
-        4,
-        &[(0, 0x3435_3637), (21, 0x3839_4142), (22, u32::MAX)],
-    );
-    Ok(checked(alloc, image)?)
+const FILE_OF_600_BYTES: &str = "\
+put 880 17 2
+settle 880 5
+put 881 1 xfffffff8
+settle 881 0
+directory 2 880 x01660000
+put 2 2 2
+put 2 4 3
+put 2 76 4
+put 2 77 3
+put 2 81 600
+put 2 127 xfffffffd
+settle 2 5
+put 3 127 x30313233
+put 4 0 x34353637
+put 4 21 x38394142
+put 4 22 xffffffff";
+
+fn file_of_600_bytes(rt: &impl Abort, alloc: Global) -> Volume {
+    checked(rt, alloc, drawn(rt, alloc, FLOPPY, FILE_OF_600_BYTES))
 }
 
 /// The size in bytes of a file of fewer than 1,024 bytes.
@@ -144,18 +140,15 @@ fn comes(image: &mut Image, file: u32, text: &str, wanted: &str) -> bool
 }
 
 /// Each row of the file `f` in the root has the result that it says.
-fn expect_file(rt: &impl Abort, mut volume: Volume, rows: &str) -> Result<(), Fail> {
-    let root = volume.root();
-    let file = volume.walk(root, &PathText::new(b"f")?)?;
-    if !volume.is_file(file) {
-        return Err("a directory in place of a file".into());
-    }
+fn expect_file(rt: &impl Abort, mut volume: Volume, rows: &str) {
+    let Ok(file) = file(&mut volume, "f") else {
+        panic!(rt; "no file");
+    };
     let mut image = volume.into_image();
     for row in rows.lines() {
         let (text, wanted) = parts(row);
-        assert!(rt; comes(&mut image, file, text, wanted), "{row}");
+        holds(rt, comes(&mut image, file, text, wanted), row);
     }
-    Ok(())
 }
 
 const READ: &str = "\
@@ -186,13 +179,13 @@ read f 600 .... = 0
 read f 18446744073709551615 .... = 0";
 
 #[test]
-fn read_at_the_end(rt: HostRuntime) -> Result<(), Fail> {
-    let mut volume = file_of_600_bytes(rt.alloc())?;
-    expect(&rt, &mut volume, READ_BY_VOLUME);
-    expect_file(&rt, volume, READ)
+fn read_at_the_end(rt: HostRuntime) {
+    let mut volume = file_of_600_bytes(&rt, rt.alloc());
+    expect_rows(&rt, &mut volume, READ_BY_VOLUME);
+    expect_file(&rt, volume, READ);
 }
 
 #[test]
-fn changed_file(rt: HostRuntime) -> Result<(), Fail> {
-    expect_file(&rt, file_of_600_bytes(rt.alloc())?, CHANGED)
+fn changed_file(rt: HostRuntime) {
+    expect_file(&rt, file_of_600_bytes(&rt, rt.alloc()), CHANGED);
 }

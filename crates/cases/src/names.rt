@@ -1,11 +1,12 @@
 //! Names, comments, paths, protection bits and dates, each call once.
 
-use crate::rows::{cut, long_of, parts};
+use crate::rows::{Table, count_of, cut, expect_rows, holds, long_of};
 use ados_name::{
     Comment, CommentTooLong, Date3, Name, NameFault, PathSteps, PathText, PathTooLong, Protect,
     Step, same_name_same_slot, upper,
 };
-use std::test::Fail;
+use std::alloc::Global;
+use std::process::Abort;
 
 /// Whether a name has this slot and these bytes.
 fn has_slot(bytes: &[u8], slot: u32) -> bool {
@@ -26,13 +27,40 @@ B = 7
 d = 9
 hello = 1";
 
+/// The tables of this module.
+#[derive(Clone, Copy)]
+enum Told {
+    Slot,
+    Name,
+    Comment,
+    Path,
+    Split,
+    Letters,
+    Steps,
+}
+
+impl Table for Told {
+    fn is_right<R: Abort>(&mut self, _rt: &R, turn: &str, wanted: &str) -> bool {
+        match self {
+            Told::Slot => has_slot(turn.as_bytes(), long_of(wanted)),
+            Told::Name => name_word(text_of(turn)) == wanted,
+            Told::Comment => comment_length(text_of(turn)) == wanted.parse().ok(),
+            Told::Path => path_length(text_of(turn)) == wanted.parse().ok(),
+            Told::Split => is_split(turn, wanted),
+            Told::Letters => Protect(long_of(turn)).letters().as_slice() == wanted.as_bytes(),
+            Told::Steps => has_steps(turn, wanted),
+        }
+    }
+}
+
 #[test]
 fn hashes(rt: HostRuntime) {
-    for row in SLOTS.lines() {
-        let (name, slot) = parts(row);
-        assert!(rt; has_slot(name.as_bytes(), long_of(slot)), "{row}");
-    }
-    assert!(rt; has_slot(b"\xe4", 25) && has_slot(b"\xc4", 65));
+    expect_rows(&rt, &mut Told::Slot, SLOTS);
+    holds(
+        &rt,
+        has_slot(b"\xe4", 25) && has_slot(b"\xc4", 65),
+        "e4, c4",
+    );
     same_name_same_slot();
 }
 
@@ -48,65 +76,94 @@ fn upper_cases(rt: HostRuntime) {
             b'a'..=b'z' => UPPER[(byte - b'a') as usize],
             _ => byte,
         };
-        assert!(rt; upper(byte) == wanted, "{byte}");
+        holds(&rt, upper(byte) == wanted, "a byte");
     }
+}
+
+/// Whether two texts are names, and whether they are the same one.
+fn are_same(one: &[u8], other: &[u8]) -> Option<bool> {
+    let one = Name::new(one).ok()?;
+    Some(one.same(&Name::new(other).ok()?))
 }
 
 /// Letters after ASCII have no other case.
 #[test]
-fn same_names(rt: HostRuntime) -> Result<(), Fail> {
-    assert!(rt; Name::new(b"ReadMe")?.same(&Name::new(b"README")?));
+fn same_names(rt: HostRuntime) {
+    holds(&rt, are_same(b"ReadMe", b"README") == Some(true), "ReadMe");
     for small in 0xe0..=0xfe {
-        assert!(rt;
-            !Name::new(&[small])?.same(&Name::new(&[small - 32])?),
-            "{small}"
-        );
+        let same = are_same(&[small], &[small - 32]);
+        holds(&rt, same == Some(false), "a small letter");
     }
-    Ok(())
 }
+
+/// A text of 256 letters.
+const LONGEST: &str = "\
+xxxxxxxxxxxxxxxxxxxxxxxxxxxxxxxxxxxxxxxxxxxxxxxxxxxxxxxxxxxxxxxx\
+xxxxxxxxxxxxxxxxxxxxxxxxxxxxxxxxxxxxxxxxxxxxxxxxxxxxxxxxxxxxxxxx\
+xxxxxxxxxxxxxxxxxxxxxxxxxxxxxxxxxxxxxxxxxxxxxxxxxxxxxxxxxxxxxxxx\
+xxxxxxxxxxxxxxxxxxxxxxxxxxxxxxxxxxxxxxxxxxxxxxxxxxxxxxxxxxxxxxxx";
+
+/// The text of a row: so many letters after `x`, or else the text itself.
+fn text_of(text: &str) -> &[u8] {
+    match cut(text) {
+        ("x", count) => LONGEST.as_bytes().get(..count_of(count)).unwrap_or(&[]),
+        _ => text.as_bytes(),
+    }
+}
+
+/// What becomes of a text as a name.
+fn name_word(text: &[u8]) -> &'static str {
+    match Name::new(text) {
+        Ok(_) => "name",
+        Err(NameFault::Empty) => "empty",
+        Err(NameFault::TooLong) => "too long",
+        Err(NameFault::Separator) => "separator",
+    }
+}
+
+const NAMES: &str = "\
+/////////////////////////////// = too long
+ = empty
+a/b = separator
+a:b = separator
+x 30 = name";
 
 #[test]
 fn name_faults(rt: HostRuntime) {
-    let faults: [(&[u8], NameFault); 4] = [
-        (b"", NameFault::Empty),
-        (&[b'/'; 31], NameFault::TooLong),
-        (b"a/b", NameFault::Separator),
-        (b"a:b", NameFault::Separator),
-    ];
-    for (bytes, fault) in faults {
-        assert_eq!(rt; Name::new(bytes), Err(fault));
+    expect_rows(&rt, &mut Told::Name, NAMES);
+}
+
+/// The length of a comment; `None` if it is too long.
+fn comment_length(text: &[u8]) -> Option<usize> {
+    match Comment::new(text) {
+        Ok(comment) => Some(comment.bytes().len()),
+        Err(CommentTooLong) => None,
     }
-    assert!(rt; Name::new(&[b'x'; 30]).is_ok());
 }
 
-/// The length of a comment.
-fn comment_length(bytes: &[u8]) -> Result<usize, CommentTooLong> {
-    Ok(Comment::new(bytes)?.bytes().len())
+/// The length of a path; `None` if it is too long.
+fn path_length(text: &[u8]) -> Option<usize> {
+    match PathText::new(text) {
+        Ok(path) => Some(path.bytes().len()),
+        Err(PathTooLong) => None,
+    }
 }
 
-/// The length of a path.
-fn path_length(bytes: &[u8]) -> Result<usize, PathTooLong> {
-    Ok(PathText::new(bytes)?.bytes().len())
-}
+/// The lengths of comments, and of paths.
+const COMMENTS: &str = "\
+x 80 = too long
+x 79 = 79
+a:b/c = 5";
+
+const PATHS: &str = "\
+x 256 = too long
+x 255 = 255
+ = 0";
 
 #[test]
 fn lengths_of_comments_and_paths(rt: HostRuntime) {
-    let comments: [(&[u8], Result<usize, CommentTooLong>); 3] = [
-        (&[b'x'; 80], Err(CommentTooLong)),
-        (&[b'x'; 79], Ok(79)),
-        (b"a:b/c", Ok(5)),
-    ];
-    for (bytes, length) in comments {
-        assert_eq!(rt; comment_length(bytes), length);
-    }
-    let paths: [(&[u8], Result<usize, PathTooLong>); 3] = [
-        (&[b'x'; 256], Err(PathTooLong)),
-        (&[b'x'; 255], Ok(255)),
-        (b"", Ok(0)),
-    ];
-    for (bytes, length) in paths {
-        assert_eq!(rt; path_length(bytes), length);
-    }
+    expect_rows(&rt, &mut Told::Comment, COMMENTS);
+    expect_rows(&rt, &mut Told::Path, PATHS);
 }
 
 /// The date with these days, minutes and ticks.
@@ -128,13 +185,27 @@ const DATES: &str = "\
 0 0 0 = 1978-01-01 00:00:00.00
 0 0 3000 = raw 0 0 3000";
 
-#[test]
-fn dates(rt: HostRuntime) -> Result<(), Fail> {
-    for row in DATES.lines() {
-        let (date, wanted) = parts(row);
-        assert!(rt; date_of(date).text(rt.alloc())?.as_str() == wanted, "{row}");
+/// Whether this is the text of a date. It is made once more if memory was refused.
+fn has_text(rt: &impl Abort, alloc: Global, date: Date3, wanted: &str) -> bool {
+    match date.text(alloc) {
+        Ok(text) => text.as_str() == wanted,
+        Err(_) => date.text(alloc).expect(rt, "error").as_str() == wanted,
     }
-    Ok(())
+}
+
+/// Dates with their texts.
+#[derive(Clone, Copy)]
+pub(crate) struct DateTexts(pub(crate) Global);
+
+impl Table for DateTexts {
+    fn is_right<R: Abort>(&mut self, rt: &R, turn: &str, wanted: &str) -> bool {
+        has_text(rt, self.0, date_of(turn), wanted)
+    }
+}
+
+#[test]
+fn dates(rt: HostRuntime) {
+    expect_rows(&rt, &mut DateTexts(rt.alloc()), DATES);
 }
 
 /// Whether a path is split into a prefix and a last name, which a bar separates in the row.
@@ -164,17 +235,8 @@ const LETTERS: &str = "\
 
 #[test]
 fn split_and_letters(rt: HostRuntime) {
-    for row in SPLITS.lines() {
-        let (path, wanted) = parts(row);
-        assert!(rt; is_split(path, wanted), "{row}");
-    }
-    for row in LETTERS.lines() {
-        let (bits, letters) = parts(row);
-        assert!(rt;
-            Protect(long_of(bits)).letters().as_slice() == letters.as_bytes(),
-            "{row}"
-        );
-    }
+    expect_rows(&rt, &mut Told::Split, SPLITS);
+    expect_rows(&rt, &mut Told::Letters, LETTERS);
 }
 
 /// The permissions that the bits deny, and the archive bit, each at the position of its bit.
@@ -190,9 +252,9 @@ fn told_bits(bits: Protect) -> u32 {
 fn protection_bits(rt: HostRuntime) {
     for low in 0..=255 {
         let bits = 0x8000_0000 + low;
-        assert!(rt; told_bits(Protect(bits)) == bits & 0b1_1101, "{low}");
+        holds(&rt, told_bits(Protect(bits)) == bits & 0b1_1101, "bits");
         let without = Protect(bits).without_archive();
-        assert!(rt; without.bits() == bits & !16, "{low}");
+        holds(&rt, without.bits() == bits & !16, "without");
     }
 }
 
@@ -240,17 +302,13 @@ x:/b:c = :^>b:c
 
 #[test]
 fn steps_of_paths(rt: HostRuntime) {
-    for row in STEPS.lines() {
-        let (path, wanted) = parts(row);
-        assert!(rt; has_steps(path, wanted), "{row}");
-    }
+    expect_rows(&rt, &mut Told::Steps, STEPS);
 }
 
 /// The prefix of a path that names a place: its steps lead to the directory.
 #[test]
-fn steps_to_a_place(rt: HostRuntime) -> Result<(), Fail> {
-    let path = PathText::new(b"x:a//b/c")?;
+fn steps_to_a_place(rt: HostRuntime) {
+    let path = PathText::new(b"x:a//b/c").expect(&rt, "a path");
     let (front, _) = path.split_last();
-    assert!(rt; are_steps(PathSteps::of(front), ">a^>b"));
-    Ok(())
+    holds(&rt, are_steps(PathSteps::of(front), ">a^>b"), "x:a//b/c");
 }

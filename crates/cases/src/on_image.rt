@@ -4,7 +4,7 @@
 ghost use Rattle.std.specs.Prelude.{IsTrue};
 ghost use Rattle.ados_map.specs.Pages.{LawfulPages};
 
-use crate::rows::{Came, came_of, cut, long_of, parts};
+use crate::rows::{Came, Table, came_of, cut, long_of};
 use adf_block::layout::{BLOCK_LONGS, BOOT_BLOCKS, FIRST_PAGE, PAGE_BITS};
 use adf_block::{BootKind, Image};
 use ados_map::{count_free, give_back, is_free, take_first};
@@ -13,11 +13,9 @@ use std::process::Abort;
 /// The result of a call outside the image.
 const NONE: Came = Err(0);
 
-/// Each row has the result that it says.
-pub(crate) fn expect(rt: &impl Abort, image: &mut Image, rows: &str) {
-    for row in rows.lines() {
-        let (text, wanted) = parts(row);
-        assert!(rt; came(image, text) == came_of(wanted), "{row}");
+impl Table for Image {
+    fn is_right<R: Abort>(&mut self, _rt: &R, turn: &str, wanted: &str) -> bool {
+        came(self, turn) == came_of(wanted)
     }
 }
 

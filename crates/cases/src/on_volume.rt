@@ -10,17 +10,15 @@ ghost use Rattle.ados_model.specs.Change.{child_of};
 
 use crate::chains::came_next;
 use crate::fixtures::START;
-use crate::rows::{Came, came_of, cut, long_of, parts};
+use crate::rows::{Came, Table, came_of, cut, long_of};
 use adf_block::layout::BLOCK_LONGS;
 use ados_name::{Comment, Date3, Name, PathText, Protect};
 use ados_volume::{FileInfo, Full, Next, NodeKind, PlaceFault, Volume, WalkFault};
 use std::process::Abort;
 
-/// Each row has the result that it says.
-pub(crate) fn expect(rt: &impl Abort, volume: &mut Volume, rows: &str) {
-    for row in rows.lines() {
-        let (text, wanted) = parts(row);
-        assert!(rt; came(volume, text) == came_of(wanted), "{row}");
+impl Table for Volume {
+    fn is_right<R: Abort>(&mut self, _rt: &R, turn: &str, wanted: &str) -> bool {
+        came(self, turn) == came_of(wanted)
     }
 }
 
@@ -198,7 +196,7 @@ fn size(volume: &Volume, file: u32) -> u32
 }
 
 /// The file with this path.
-fn file(volume: &mut Volume, path: &str) -> Came
+pub(crate) fn file(volume: &mut Volume, path: &str) -> Came
     ensures { IfOk result (λ key. HasFileKey volume.new.image key) }
 {
     let key = walk(volume, path)?;

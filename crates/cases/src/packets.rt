@@ -1,9 +1,9 @@
 //! The actions of the packets that the lines of a script spell.
-use crate::rows::{cut, long_of, parts};
-use adf_script::grammar::parse;
-use ados_handler::Packet;
-use std::alloc::{AllocError, Global};
-use std::test::Fail;
+use crate::rows::{Table, cut, expect_rows, long_of};
+use crate::spoken::Telling;
+use ados_handler::{Handler, Packet};
+use std::alloc::Global;
+use std::process::Abort;
 
 /// Lines, each with the action of its packet and the number of its fields.
 const ACTIONS: &str = "\
@@ -36,7 +36,7 @@ other -3 = -3 1";
 
 /// The number of fields of a packet.
 #[rattlefmt::skip]
-fn fields_of(packet: &Packet) -> u32 {
+pub(crate) fn fields_of(packet: &Packet) -> u32 {
     match packet {
         Packet::Die | Packet::DiskInfo => 0,
         Packet::RenameDisk { name: _ }
@@ -64,18 +64,23 @@ fn more_fields_of(packet: &Packet) -> u32 {
     }
 }
 
-/// The action of the packet that a line spells, and the number of its fields.
-fn action_of(alloc: Global, line: &str) -> Result<Option<(i32, u32)>, AllocError> {
-    Ok(parse(alloc, &[], line.as_bytes())?.map(|packet| (packet.action(), fields_of(&packet))))
+/// Whether the packet that a line spells has this action and this number of fields.
+fn is_packet<S: Telling, R: Abort>(rt: &R, alloc: Global, line: &str, wanted: &str) -> bool {
+    let packet = S::packet_of(rt, alloc, line).expect(rt, "no packet");
+    let (action, fields) = cut(wanted);
+    action.parse().ok() == Some(S::action_of(&packet)) && long_of(fields) == S::fields_of(&packet)
+}
+
+#[derive(Clone, Copy)]
+struct Lines(Global);
+
+impl Table for Lines {
+    fn is_right<R: Abort>(&mut self, rt: &R, turn: &str, wanted: &str) -> bool {
+        is_packet::<Handler, R>(rt, self.0, turn, wanted)
+    }
 }
 
 #[test]
-fn actions(rt: HostRuntime) -> Result<(), Fail> {
-    for row in ACTIONS.lines() {
-        let (line, wanted) = parts(row);
-        let (action, fields) = cut(wanted);
-        let wanted = (action.parse().unwrap_or(0), long_of(fields));
-        assert!(rt; action_of(rt.alloc(), line)? == Some(wanted), "{row}");
-    }
-    Ok(())
+fn actions(rt: HostRuntime) {
+    expect_rows(&rt, &mut Lines(rt.alloc()), ACTIONS);
 }

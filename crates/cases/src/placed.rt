@@ -2,7 +2,8 @@
 
 use crate::spoken::Spoken;
 use ados_port::Server;
-use std::alloc::{AllocError, Global};
+use std::alloc::Global;
+use std::process::Abort;
 
 /// A server, and the number of packets that it has served.
 #[derive(Drop)]
@@ -52,8 +53,8 @@ impl<S: Server + Drop> Server for Placed<S> {
 }
 
 impl<S: Spoken + Drop> Spoken for Placed<S> {
-    fn packet_of(alloc: Global, line: &str) -> Result<Option<S::Request>, AllocError> {
-        S::packet_of(alloc, line)
+    fn packet_of<R: Abort>(rt: &R, alloc: Global, line: &str) -> Option<S::Request> {
+        S::packet_of(rt, alloc, line)
     }
 
     fn action_of(packet: &S::Request) -> i32 {

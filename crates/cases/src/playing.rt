@@ -2,22 +2,26 @@
 ghost use Rattle.std.specs.Prelude.{◌≡◌, false};
 
 use crate::hand::Port;
-use crate::left::left_text;
+use crate::left::is_left;
 use crate::rows::{
-    Opening, Turn, Went, first_row, last_row, opening_of, parts, turn_of, went_of, with_action,
+    Opening, Went, count_of, cut, first_row, holds, last_row, opening_of, parts, went_of,
+    with_action,
 };
 use crate::spoken::Spoken;
 use ados_port::{PutRefused, Reply, ServeEnd, ServeFault};
-use std::alloc::{AllocError, Global};
+use std::alloc::Global;
 use std::process::Abort;
 use std::sync::Wait;
 
 /// The number of batches in a row without a packet after which a port is idle.
 const IDLE_LIMIT: u64 = 3;
 
+/// What a test ends with if a port is out of memory.
+const NO_PORT: &str = "error: AllocError";
+
 /// Opens a port over this server, runs the rows of a case and gathers the ends.
 ///
-/// The first row opens the port, and the last one says what is left of it. If memory runs out, the case ends with that
+/// The first row opens the port, and the last one says what is left of it. If memory runs out, the test ends with that
 /// error.
 pub(crate) fn play<S: Spoken + Drop, R: Wait + Abort>(
     rt: &R,
@@ -25,21 +29,15 @@ pub(crate) fn play<S: Spoken + Drop, R: Wait + Abort>(
     server: S,
     moment: S::Moment,
     case: &str,
-) -> Result<(), AllocError>
+)
     requires { S.has_died server ≡ false }
 {
     let (first, rest) = first_row(case);
     let (rows, wanted) = last_row(rest);
-    let Some(mut port) = opened(alloc, server, moment, opening_of(first)) else {
-        return Err(AllocError);
-    };
-    play_rows(rt, alloc, &mut port, rows)?;
-    let Some(left) = port.gather(rt, alloc) else {
-        return Err(AllocError);
-    };
-    let came = left_text(alloc, &left)?;
-    assert!(rt; came.as_str() == wanted, "left is {came}");
-    Ok(())
+    let mut port = opened(alloc, server, moment, opening_of(first)).expect(rt, NO_PORT);
+    play_rows(rt, alloc, &mut port, rows);
+    let left = port.gather(rt, alloc).expect(rt, NO_PORT);
+    holds(rt, is_left(wanted, &left), wanted);
 }
 
 // The port of a case. The first try asks for rings with more places than memory can hold. The second try uses the
@@ -67,76 +65,61 @@ fn opened<S: Spoken + Drop>(
 }
 
 // Runs rows; each has the result that it says.
-fn play_rows<S: Spoken, R: Wait + Abort>(
-    rt: &R,
-    alloc: Global,
-    port: &mut Port<S>,
-    rows: &str,
-) -> Result<(), AllocError> {
+fn play_rows<S: Spoken, R: Wait + Abort>(rt: &R, alloc: Global, port: &mut Port<S>, rows: &str) {
     for row in rows.lines() {
         let (text, wanted) = parts(row);
-        let (word, number, first, second) = port.turn(rt, alloc, text)?;
-        assert!(rt;
-            (word, number, first, second) == went_of(wanted),
-            "{text} came to {word} {number} {first} {second}"
-        );
+        holds(rt, port.turn(rt, alloc, text) == went_of(wanted), row);
     }
-    Ok(())
 }
 
 impl<S: Spoken> Port<S> {
-    /// Makes a turn, and returns its result.
-    fn turn<R: Wait>(
-        &mut self,
-        rt: &R,
-        alloc: Global,
-        text: &str,
-    ) -> Result<Went<'static>, AllocError> {
-        Ok(match turn_of(text) {
-            Some(Turn::Put(client, line)) => self.put_line(rt, alloc, client, line)?,
-            Some(Turn::PutMany(client, count, line)) => {
-                self.put_many(rt, alloc, client, count, line)?
-            }
-            Some(Turn::Batch(limit)) => batch_went(self.batch(rt, limit)),
-            Some(Turn::Batches) => (end_word(self.batches(rt)), 0, 0, 0),
-            Some(Turn::Post) => ("waiting", self.post_waiting() as u64, 0, 0),
-            Some(Turn::Take(client)) => reply_went::<S>(&self.take(client)),
-            Some(Turn::Ask(client)) => {
-                (if self.is_shut(client) { "shut" } else { "open" }, 0, 0, 0)
-            }
+    /// Makes a turn, and returns its result: a client puts the packet of a line, or many packets of one line; a batch of
+    /// at most so many packets is served, or batches until the close or until the port is idle; the waiting replies are
+    /// posted; a client takes a reply, or asks whether the port has closed.
+    fn turn<R: Wait + Abort>(&mut self, rt: &R, alloc: Global, text: &str) -> Went<'static> {
+        let (word, rest) = cut(text);
+        let (first, line) = cut(rest);
+        let count = count_of(first);
+        match word {
+            "put" => self.put_line(rt, alloc, count, line),
+            "many" => self.put_many(rt, alloc, count, line),
+            "batch" => batch_went(self.batch(rt, count)),
+            "batches" => (end_word(self.batches(rt)), 0, 0, 0),
+            "post" => ("waiting", self.post_waiting() as u64, 0, 0),
+            "take" => reply_went::<S>(&self.take(count)),
+            "ask" => (if self.is_shut(count) { "shut" } else { "open" }, 0, 0, 0),
             _ => ("no-turn", 0, 0, 0),
-        })
-    }
-
-    fn put_line<R: Wait>(
-        &mut self,
-        rt: &R,
-        alloc: Global,
-        client: usize,
-        line: &str,
-    ) -> Result<Went<'static>, AllocError> {
-        match S::packet_of(alloc, line)? {
-            Some(packet) => Ok(put_went::<S>(&self.put_packet(rt, client, packet))),
-            None => Ok(("no-packet", 0, 0, 0)),
         }
     }
 
-    // Puts this many packets of a line; each must be accepted under the next number.
-    fn put_many<R: Wait>(
+    fn put_line<R: Wait + Abort>(
         &mut self,
         rt: &R,
         alloc: Global,
         client: usize,
-        count: u64,
         line: &str,
-    ) -> Result<Went<'static>, AllocError> {
+    ) -> Went<'static> {
+        let packet = S::packet_of(rt, alloc, line).expect(rt, "no packet");
+        put_went::<S>(&self.put_packet(rt, client, packet))
+    }
+
+    // Puts as many packets of a line as its first word says; each must be accepted under the next number.
+    fn put_many<R: Wait + Abort>(
+        &mut self,
+        rt: &R,
+        alloc: Global,
+        client: usize,
+        text: &str,
+    ) -> Went<'static> {
+        let (count, line) = cut(text);
+        let count = count_of(count) as u64;
         for place in 0..count {
-            let went = self.put_line(rt, alloc, client, line)?;
+            let went = self.put_line(rt, alloc, client, line);
             if went != ("accepted", place.wrapping_add(1), 0, 0) {
-                return Ok(went);
+                return went;
             }
         }
-        Ok(("numbered", count, 0, 0))
+        ("numbered", count, 0, 0)
     }
 
     // Puts a packet. If memory was refused and the case puts again, it puts the returned packet.

@@ -2,16 +2,14 @@
 ghost use Rattle.std.specs.Prelude.{◌≡◌};
 ghost use Rattle.ados_port.specs.Grown.{Grown};
 
-use ados_port::{Client, ClientEnd, PutRefused, Server};
+use ados_port::{Client, ClientEnd, Server};
 use std::sync::Wait;
-use std::thread;
 
-/// Puts its packets in order, repeats a put that runs out of memory, and ends at the close. If it `takes`, it then
-/// takes the reply to each packet.
+/// Puts its packets in order, each once, also after the close. If it `takes`, it then takes the reply to each packet.
 #[derive(Drop)]
 pub(crate) struct Putter<S: Server> {
     pub(crate) packets: Vec<S::Request>,
-    /// The maximum number of tries of a put, and of polls for a reply.
+    /// The maximum number of looks for a reply.
     pub(crate) turns: u64,
     pub(crate) takes: bool,
 }
@@ -32,61 +30,37 @@ impl<S: Server> Client<S> for Putter<S> {
         } = self;
         let mut accepted = 0usize;
         for packet in packets {
-            if !put_one(rt, end, packet, turns) {
-                return accepted;
-            }
-            accepted = accepted.saturating_add(1);
+            accepted = accepted.saturating_add(put_one(rt, end, packet));
         }
         if takes {
-            take_many(end, accepted, turns)
+            take_many(rt, end, accepted, turns)
         } else {
             accepted
         }
     }
 }
 
-// Puts one packet, with at most `turns` tries. The packet is not put if the port has closed or all tries failed.
-fn put_one<S: Server, R: Wait>(
-    rt: &R,
-    end: &mut ClientEnd<S>,
-    packet: S::Request,
-    turns: u64,
-) -> bool
+// Puts a packet once. Returns 1 if it was accepted, else 0: the port has closed, or there is no room.
+fn put_one<S: Server, R: Wait>(rt: &R, end: &mut ClientEnd<S>, packet: S::Request) -> usize
     ensures { Grown end.old end.new }
 {
-    let mut packet = packet;
-    for _ in 0..turns {
-        match end.put(rt, packet) {
-            Ok(_) => return true,
-            Err(PutRefused::Closed(_)) => return false,
-            Err(PutRefused::NoRoom(back)) => packet = back,
-        }
-        thread::yield_now();
-    }
-    false
+    end.put(rt, packet).is_ok() as usize
 }
 
-// Takes `count` replies, or fewer if one does not come. Returns their number.
-fn take_many<S: Server>(end: &mut ClientEnd<S>, count: usize, turns: u64) -> usize
+// Takes `count` replies, with at most `turns` looks for each. Returns the number of those that came.
+fn take_many<S: Server, R: Wait>(rt: &R, end: &mut ClientEnd<S>, count: usize, turns: u64) -> usize
     ensures { Grown end.old end.new }
 {
-    for taken in 0..count {
-        if !take_one(end, turns) {
-            return taken;
-        }
+    let mut taken = 0usize;
+    for _ in 0..count {
+        taken = taken.saturating_add(take_one(rt, end, turns));
     }
-    count
+    taken
 }
 
-// Takes one reply, with at most `turns` polls.
-fn take_one<S: Server>(end: &mut ClientEnd<S>, turns: u64) -> bool
+// Takes one reply, with at most `turns` looks. Returns 1 if it came, else 0.
+fn take_one<S: Server, R: Wait>(rt: &R, end: &mut ClientEnd<S>, turns: u64) -> usize
     ensures { Grown end.old end.new }
 {
-    for _ in 0..turns {
-        if end.take().is_some() {
-            return true;
-        }
-        thread::yield_now();
-    }
-    false
+    end.take_within(rt, turns).is_some() as usize
 }

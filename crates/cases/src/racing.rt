@@ -4,11 +4,12 @@ ghost use Rattle.std.specs.Prelude.{◌≡◌, false};
 use crate::putter::Putter;
 use crate::spoken::Spoken;
 use ados_port::{Gathered, Served, Server, gather, open_port, serve_clients};
-use std::alloc::{AllocError, Global};
+use std::alloc::Global;
+use std::process::Abort;
 use std::sync::Wait;
 use std::thread::Threads;
 
-/// The maximum number of tries of a put, and of polls for a reply.
+/// The maximum number of looks for a reply.
 const TURNS: u64 = 100_000_000;
 
 /// A race: the number of clients, the number of places in each ring, and the number of packets with action 999 that
@@ -32,11 +33,12 @@ pub(crate) struct Raced<S: Server> {
 }
 
 // A client's packets. The one at index `die_at` is DIE.
-fn putter<S: Spoken>(
+fn putter<S: Spoken, R: Abort>(
+    rt: &R,
     alloc: Global,
     plan: Plan,
     die_at: Option<usize>,
-) -> Result<Putter<S>, AllocError> {
+) -> Putter<S> {
     let mut packets = Vec::new(alloc);
     for place in 0..plan.puts {
         let line = if die_at == Some(place) {
@@ -44,24 +46,24 @@ fn putter<S: Spoken>(
         } else {
             "other 999"
         };
-        if let Some(packet) = S::packet_of(alloc, line)? {
-            packets.push(packet)?;
-        }
+        let packet = S::packet_of(rt, alloc, line).expect(rt, "no packet");
+        packets.push(packet).expect(rt, "error");
     }
-    Ok(Putter {
+    Putter {
         packets,
         turns: TURNS,
         takes: plan.takes,
-    })
+    }
 }
 
-fn putters<S: Spoken>(alloc: Global, plan: Plan) -> Result<Vec<Putter<S>>, AllocError> {
+fn putters<S: Spoken, R: Abort>(rt: &R, alloc: Global, plan: Plan) -> Vec<Putter<S>> {
     let mut jobs = Vec::new(alloc);
     for client in 0..plan.clients {
         let die_at = if client == 0 { plan.die_at } else { None };
-        jobs.push(putter(alloc, plan, die_at)?)?;
+        jobs.push(putter(rt, alloc, plan, die_at))
+            .expect(rt, "error");
     }
-    Ok(jobs)
+    jobs
 }
 
 // Lets clients do their jobs, each on its own thread, and the handler serve on this thread.
@@ -103,7 +105,7 @@ where
     })
 }
 
-/// Lets clients put, each on its own thread, and the handler serve on this thread. Returns `None` without clients or
+/// Lets clients put, each on its own thread, and the handler serve on this thread. The test ends without clients or
 /// places, or if memory ran out or a thread could not be made.
 pub(crate) fn race<S, R>(
     rt: &R,
@@ -111,15 +113,15 @@ pub(crate) fn race<S, R>(
     server: S,
     moment: S::Moment,
     plan: Plan,
-) -> Option<Raced<S>>
+) -> Raced<S>
 where
     S: Spoken + Drop + Send + 'static,
     S::Request: Send + 'static,
     S::Reply: Send + 'static,
     S::Moment: Send + 'static,
-    R: Threads + Wait + Copy + Send + Drop + 'static,
+    R: Threads + Wait + Abort + Copy + Send + Drop + 'static,
     requires { S.has_died server ≡ false }
 {
-    let jobs = putters(alloc, plan).ok()?;
-    run(rt, alloc, server, moment, plan.ring, jobs)
+    let jobs = putters(rt, alloc, plan);
+    run(rt, alloc, server, moment, plan.ring, jobs).expect(rt, "memory or a thread")
 }

@@ -1,26 +1,24 @@
 //! Rows of text: a turn, and after ` = ` its result.
 
-/// The turn of a row. Clients are numbered from 1.
-#[derive(Clone, Copy)]
-pub(crate) enum Turn<'a> {
-    /// A client puts the packet of a line of a script.
-    Put(usize, &'a str),
-    /// A client puts this many packets of one line.
-    PutMany(usize, u64, &'a str),
-    /// A client puts a READ of this many bytes by this handle.
-    Read(usize, u32, usize),
-    /// One packet is served.
-    Serve,
-    /// A batch of at most this many packets is served.
-    Batch(usize),
-    /// Batches are served until the close, or until the port is idle.
-    Batches,
-    /// The waiting replies are posted.
-    Post,
-    /// A client takes a reply.
-    Take(usize),
-    /// A client asks whether the port has closed.
-    Ask(usize),
+use std::process::Abort;
+
+/// Ends the test at a row that is not as it says.
+pub(crate) fn holds(rt: &impl Abort, is_right: bool, row: &str) {
+    assert!(rt; is_right, "{row}");
+}
+
+/// What the turns of a table work on.
+pub(crate) trait Table {
+    /// Whether a turn comes to the result that its row says.
+    fn is_right<R: Abort>(&mut self, rt: &R, turn: &str, wanted: &str) -> bool;
+}
+
+/// The rows of a table in order; each has the result that it says.
+pub(crate) fn expect_rows<T: Table, R: Abort>(rt: &R, table: &mut T, rows: &str) {
+    for row in rows.lines() {
+        let (turn, wanted) = parts(row);
+        holds(rt, table.is_right(rt, turn, wanted), row);
+    }
 }
 
 /// The text up to a space, and the text after it.
@@ -33,33 +31,9 @@ pub(crate) fn parts(row: &str) -> (&str, &str) {
     row.split_once(" = ").unwrap_or((row, ""))
 }
 
-fn number(text: &str) -> Option<usize> {
-    text.parse().ok()
-}
-
-/// The turn that a text names.
-pub(crate) fn turn_of(text: &str) -> Option<Turn<'_>> {
-    let (word, rest) = cut(text);
-    let (first, behind) = cut(rest);
-    let count = number(first);
-    match word {
-        "put" => Some(Turn::Put(count?, behind)),
-        "many" => {
-            let (times, line) = cut(behind);
-            Some(Turn::PutMany(count?, number(times)? as u64, line))
-        }
-        "read" => {
-            let (handle, size) = cut(behind);
-            Some(Turn::Read(count?, handle.parse().ok()?, number(size)?))
-        }
-        "serve" => Some(Turn::Serve),
-        "batch" => Some(Turn::Batch(count?)),
-        "batches" => Some(Turn::Batches),
-        "post" => Some(Turn::Post),
-        "take" => Some(Turn::Take(count?)),
-        "ask" => Some(Turn::Ask(count?)),
-        _ => None,
-    }
+/// A count in decimal digits; 0 for any other text. Clients are numbered from 1.
+pub(crate) fn count_of(text: &str) -> usize {
+    text.parse().unwrap_or(0)
 }
 
 /// A number in decimal digits, or in hexadecimal digits after an `x`.
@@ -139,8 +113,8 @@ pub(crate) fn opening_of(row: &str) -> Opening {
     let (clients, rest) = cut(rest);
     let (ring, last) = cut(rest);
     Opening {
-        clients: number(clients).unwrap_or(0),
-        ring: number(ring).unwrap_or(0),
+        clients: count_of(clients),
+        ring: count_of(ring),
         again: last == "again",
     }
 }

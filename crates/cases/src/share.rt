@@ -2,8 +2,9 @@
 use crate::placed::{Placed, PlacedReply};
 use crate::racing::Raced;
 use crate::spoken::Spoken;
-use ados_port::Reply;
-use std::alloc::{AllocError, Global};
+use ados_port::{Gathered, Reply};
+use std::alloc::Global;
+use std::process::Abort;
 
 /// The results of a packet that the server does not know, of the DIE that ends it, and of every later packet.
 const UNKNOWN: (i32, i32) = (0, 209);
@@ -55,48 +56,58 @@ fn share_of<S: Spoken>(replies: &[Reply<S::Reply>]) -> Option<Share> {
     Some(share)
 }
 
+/// The number of a client's packets that are unanswered.
+fn waiting_of<S: Spoken>(left: &Gathered<S>, client: usize) -> usize {
+    let mut count = 0usize;
+    for (own, _) in &left.unanswered {
+        if *own == client {
+            count = count.saturating_add(1);
+        }
+    }
+    count
+}
+
+/// Whether a client's replies are parted by the DIE, which is the first client's, after `die_at` other packets.
+fn is_fair(share: Share, client: usize, die_at: usize) -> bool {
+    if client == 1 {
+        share.ended == 1 && share.before == die_at
+    } else {
+        share.ended == 0
+    }
+}
+
 /// Whether the first client's DIE, after `die_at` other packets, ended the server: the replies of each client are 0 209
 /// and then 0 218, with the reply of the DIE in between for the first client; served and unanswered packets of a client
 /// are as many as it put.
 pub(crate) fn is_parted<S: Spoken>(raced: &Raced<S>, die_at: usize) -> bool {
     let left = &raced.left;
-    if !left.server.died() || left.untaken.len() != raced.counts.len() {
-        return false;
-    }
+    let mut counts = raced.counts.iter();
     let mut client = 0usize;
-    for (replies, accepted) in left.untaken.iter().zip(raced.counts.iter()) {
+    for replies in &left.untaken {
         client = client.wrapping_add(1);
-        let Some(share) = share_of::<S>(replies) else {
+        let accepted = *counts.next().unwrap_or(&usize::MAX);
+        let (Some(share), waiting) = (share_of::<S>(replies), waiting_of(left, client)) else {
             return false;
         };
-        let waiting = left
-            .unanswered
-            .iter()
-            .filter(|packet| packet.0 == client)
-            .count();
-        let is_fair = if client == 1 {
-            share.ended == 1 && share.before == die_at
-        } else {
-            share.ended == 0
-        };
-        if !is_fair || share.count().saturating_add(waiting) != *accepted {
+        if !is_fair(share, client, die_at) || share.count().saturating_add(waiting) != accepted {
             return false;
         }
     }
-    true
+    left.server.died() && client == raced.counts.len()
 }
 
 /// The results of all replies in the order in which their packets were served, of all clients. A place is empty if no
 /// reply belongs to it, if two do, or if a client's packets were not served in the order of its puts.
-pub(crate) fn served_order<S: Spoken + Drop>(
+pub(crate) fn served_order<S: Spoken + Drop, R: Abort>(
+    rt: &R,
     alloc: Global,
     raced: &Raced<Placed<S>>,
-) -> Result<Vec<Option<(i32, i32)>>, AllocError> {
-    let mut order = vec![in alloc; None; raced.left.server.served]?;
+) -> Vec<Option<(i32, i32)>> {
+    let mut order = vec![in alloc; None; raced.left.server.served].expect(rt, "error");
     for replies in &raced.left.untaken {
         put_in_order::<S>(&mut order, replies);
     }
-    Ok(order)
+    order
 }
 
 // Puts the results of a client's replies into their places, which must ascend.
@@ -120,10 +131,13 @@ fn put_in_order<S: Spoken>(
 
 /// Whether the packets before one DIE were answered 0 209, and all after it 0 218.
 pub(crate) fn ends_at_the_die(order: &[Option<(i32, i32)>]) -> bool {
-    let Some(die) = order.iter().position(|results| *results == Some(ENDED)) else {
-        return false;
-    };
-    let (before, rest) = order.split_at(die);
-    before.iter().all(|results| *results == Some(UNKNOWN))
-        && rest.iter().skip(1).all(|results| *results == Some(DEAD))
+    let mut ended = false;
+    for results in order {
+        if *results == Some(ENDED) && !ended {
+            ended = true;
+        } else if *results != Some(if ended { DEAD } else { UNKNOWN }) {
+            return false;
+        }
+    }
+    ended
 }

@@ -2,49 +2,26 @@
 //! outcomes.
 ghost use Rattle.std.specs.Prelude.{◌≤◌};
 
-use crate::drawn::put;
-use crate::fixtures::{FLOPPY, blank_handler, work};
-use crate::steps::{Got, by_run, by_steps, steps_of, stray};
-use adf_block::Image;
-use ados_port::RunDone;
+use crate::drawn::drawn;
+use crate::fixtures::{FLOPPY, START, blank_handler, blank_image};
+use crate::rows::{cut, holds, parts};
+use crate::steps::{by_run, by_steps, expect_done, steps_of};
+use ados_handler::Handler;
 use ados_run::{RunFault, run_volume};
-use ados_volume::{FaultKind, Rejected};
-use std::alloc::{AllocError, Global};
+use ados_volume::{FaultKind, Rejected, VolumeFault};
+use std::alloc::Global;
 use std::process::Abort;
-use std::test::Fail;
-
-/// The outcomes of the steps of a case with this many clients.
-fn outcomes_of(alloc: Global, clients: usize, case: &str) -> Result<Vec<Got>, Fail>
-    requires { 1 ≤ clients }
-{
-    let image = work(alloc, FLOPPY)?.into_image();
-    match run_volume(alloc, image, clients, steps_of(alloc, case)?) {
-        Ok(RunDone { outcomes, .. }) => Ok(outcomes),
-        Err(_) => Err(Fail::from("no run")),
-    }
-}
-
-/// The outcomes are the ones that a case says.
-fn expect_outcomes(rt: &impl Abort, case: &str, outcomes: &[Got]) {
-    let stray = stray(case, outcomes).unwrap_or("");
-    assert!(rt; stray.is_empty(), "{stray}");
-}
 
 /// The steps of a case with this many clients have the outcomes that it says.
-fn expect(rt: &impl Abort, alloc: Global, clients: usize, case: &str) -> Result<(), Fail>
+fn expect<R: Abort>(rt: &R, alloc: Global, clients: usize, case: &str)
     requires { 1 ≤ clients }
 {
-    let outcomes = outcomes_of(alloc, clients, case)?;
-    expect_outcomes(rt, case, &outcomes);
-    Ok(())
-}
-
-/// The outcomes of a case with a DIE are the ones that it says.
-fn expect_dead(rt: &impl Abort, case: &str, came: Option<(Vec<Got>, bool)>) {
-    assert!(rt; matches!(came, Some((_, true))));
-    if let Some((outcomes, _)) = came {
-        expect_outcomes(rt, case, &outcomes);
-    }
+    let image = blank_image(rt, alloc, FLOPPY);
+    let steps = steps_of::<Handler, R>(rt, alloc, START, case);
+    let done = run_volume(alloc, image, clients, steps)
+        .ok()
+        .expect(rt, "no run");
+    expect_done::<Handler, R>(rt, case, done);
 }
 
 /// Each packet that was accepted before the service of DIE is answered once. Each later put is returned.
@@ -126,8 +103,8 @@ serve = served
 take 1 = 1 -1 0 handle 1
 put 1 write 1 \"0123456789\" = accepted 2
 put 1 seek 1 8 -1 = accepted 3
-read 1 1 5 = accepted 4
-read 1 1 5 = accepted 5
+put 1 full 1 5 = accepted 4
+put 1 full 1 5 = accepted 5
 serve = served
 serve = served
 serve = served
@@ -172,121 +149,124 @@ put 1 diskinfo = accepted 1
 serve = served
 take 1 = 1 -1 0 disk 82 1758 2";
 
-/// Adds rows of this many puts, and then as many serves and takes.
-fn push_many(rows: &mut String, count: u64) -> Result<(), AllocError> {
+/// Adds rows with the numbers from 1 on between two texts.
+fn push_numbered(rt: &impl Abort, rows: &mut String, count: u64, before: &str, behind: &str) {
     for number in 1..=count {
-        write!(rows, "put 1 other 999 = accepted {number}\n")?;
+        write!(rows, "{before}{number}{behind}\n").expect(rt, "error");
     }
+}
+
+/// Rows of this many puts, and then as many serves and takes.
+fn many<R: Abort>(rt: &R, alloc: Global, count: u64) -> String {
+    let mut rows = String::new(alloc);
+    push_numbered(rt, &mut rows, count, "put 1 other 999 = accepted ", "");
     for _ in 0..count {
-        rows.push_str("serve = served\n")?;
+        rows.push_str("serve = served\n").expect(rt, "error");
     }
-    for number in 1..=count {
-        write!(rows, "take 1 = {number} 0 209\n")?;
-    }
-    rows.push_str("take 1 = nothing")
+    push_numbered(rt, &mut rows, count, "take 1 = ", " 0 209");
+    rows.push_str("take 1 = nothing").expect(rt, "error");
+    rows
 }
 
 #[test]
-fn behind_die(rt: HostRuntime) -> Result<(), Fail> {
-    expect(&rt, rt.alloc(), 2, BEHIND_DIE)
+fn behind_die(rt: HostRuntime) {
+    expect(&rt, rt.alloc(), 2, BEHIND_DIE);
 }
 
 #[test]
-fn behind_die_by_steps(rt: HostRuntime) -> Result<(), Fail> {
-    let alloc = rt.alloc();
-    let steps = steps_of(alloc, BEHIND_DIE)?;
-    let came = by_steps(alloc, blank_handler(alloc)?, 2, steps);
-    expect_dead(&rt, BEHIND_DIE, came);
-    Ok(())
+fn behind_die_by_steps(rt: HostRuntime) {
+    let handler = blank_handler(&rt, rt.alloc());
+    let has_died = by_steps(&rt, rt.alloc(), handler, 2, START, BEHIND_DIE);
+    holds(&rt, has_died, "dead");
 }
 
 #[test]
-fn behind_die_by_run(rt: HostRuntime) -> Result<(), Fail> {
-    let alloc = rt.alloc();
-    let steps = steps_of(alloc, BEHIND_DIE)?;
-    let came = by_run(alloc, blank_handler(alloc)?, 2, steps);
-    expect_dead(&rt, BEHIND_DIE, came);
-    Ok(())
+fn behind_die_by_run(rt: HostRuntime) {
+    let handler = blank_handler(&rt, rt.alloc());
+    let has_died = by_run(&rt, rt.alloc(), handler, 2, START, BEHIND_DIE);
+    holds(&rt, has_died, "dead");
 }
 
 #[test]
-fn die_then_info(rt: HostRuntime) -> Result<(), Fail> {
-    expect(&rt, rt.alloc(), 1, DIE_THEN_INFO)
+fn die_then_info(rt: HostRuntime) {
+    expect(&rt, rt.alloc(), 1, DIE_THEN_INFO);
 }
 
 #[test]
-fn die(rt: HostRuntime) -> Result<(), Fail> {
-    expect(&rt, rt.alloc(), 2, DIE)
+fn die(rt: HostRuntime) {
+    expect(&rt, rt.alloc(), 2, DIE);
 }
 
 #[test]
-fn two_clients(rt: HostRuntime) -> Result<(), Fail> {
-    expect(&rt, rt.alloc(), 2, TWO_CLIENTS)
+fn two_clients(rt: HostRuntime) {
+    expect(&rt, rt.alloc(), 2, TWO_CLIENTS);
 }
 
 #[test]
-fn seek_and_read(rt: HostRuntime) -> Result<(), Fail> {
-    expect(&rt, rt.alloc(), 1, READ_INTO_FULL)
+fn seek_and_read(rt: HostRuntime) {
+    expect(&rt, rt.alloc(), 1, READ_INTO_FULL);
 }
 
 #[test]
-fn idle_and_no_client(rt: HostRuntime) -> Result<(), Fail> {
-    expect(&rt, rt.alloc(), 1, IDLE_AND_NO_CLIENT)
+fn idle_and_no_client(rt: HostRuntime) {
+    expect(&rt, rt.alloc(), 1, IDLE_AND_NO_CLIENT);
 }
 
 #[test]
-fn replies_in_order(rt: HostRuntime) -> Result<(), Fail> {
-    expect(&rt, rt.alloc(), 2, REPLIES_IN_ORDER)
+fn replies_in_order(rt: HostRuntime) {
+    expect(&rt, rt.alloc(), 2, REPLIES_IN_ORDER);
 }
 
 #[test]
-fn info(rt: HostRuntime) -> Result<(), Fail> {
-    expect(&rt, rt.alloc(), 1, INFO)
+fn info(rt: HostRuntime) {
+    expect(&rt, rt.alloc(), 1, INFO);
 }
 
 /// No put is refused with ample memory, however many packets wait.
 #[test]
-fn many_puts(rt: HostRuntime) -> Result<(), Fail> {
-    let mut rows = String::new(rt.alloc());
-    push_many(&mut rows, 500)?;
-    expect(&rt, rt.alloc(), 1, rows.as_str())
+fn many_puts(rt: HostRuntime) {
+    let rows = many(&rt, rt.alloc(), 500);
+    expect(&rt, rt.alloc(), 1, rows.as_str());
 }
 
-/// The blank floppy with one long overwritten.
-fn written_over(alloc: Global, [block, long, value]: [u32; 3]) -> Result<Image, AllocError> {
-    let mut image = work(alloc, FLOPPY)?.into_image();
-    put(&mut image, block, &[(long, value)]);
-    Ok(image)
+/// A disk that is not a DOS disk, another kind of disk, and a root with a wrong checksum: what is drawn on the blank
+/// floppy, and the fault with its block and the number of its DOS error, 0 for none.
+const REJECTED: &str = "\
+put 0 0 x004f5301 = not-dos 0 225
+put 0 0 x444f5302 = unsupported 0 0
+put 880 20 1 = bad-sum 880 0";
+
+/// The refusal of the blank floppy with this drawing.
+fn rejected(rt: &impl Abort, alloc: Global, drawing: &str) -> Rejected {
+    match run_volume(alloc, drawn(rt, alloc, FLOPPY, drawing), 1, Vec::new(alloc)) {
+        Err(RunFault::Rejected(rejected)) => rejected,
+        _ => panic!(rt; "not rejected"),
+    }
 }
 
-/// The blank floppy with one long overwritten is refused with this fault of that block, and returned byte for byte.
-fn expect_rejected(
-    rt: &impl Abort,
-    alloc: Global,
-    long: [u32; 3],
-    kind: FaultKind,
-) -> Result<(), Fail> {
-    let image = written_over(alloc, long)?;
-    let Err(RunFault::Rejected(Rejected { image, fault })) = run_volume(
-        alloc,
-        image,
-        1,
-        Vec::new(alloc),
-    ) else {
-        return Err(Fail::from("not rejected"));
+/// Whether a text names this fault.
+fn is_fault(wanted: &str, fault: VolumeFault) -> bool {
+    let (word, rest) = cut(wanted);
+    let (block, number) = cut(rest);
+    let kind = match fault.kind {
+        FaultKind::NotADosDisk => "not-dos",
+        FaultKind::UnsupportedKind => "unsupported",
+        FaultKind::BadSum => "bad-sum",
+        _ => "another",
     };
-    assert!(rt; fault.kind == kind && fault.block == long[0]);
-    let number = (kind == FaultKind::NotADosDisk).then_some(225);
-    assert!(rt; fault.dos_error() == number);
-    assert!(rt; image.as_bytes() == written_over(alloc, long)?.as_bytes());
-    Ok(())
+    word == kind
+        && block.parse().ok() == Some(fault.block)
+        && number.parse().ok() == Some(fault.dos_error().unwrap_or(0))
 }
 
-/// A disk that is not a DOS disk, another kind of disk, and a root with a wrong checksum.
+/// Each image is refused with its fault, and returned byte for byte.
 #[test]
-fn rejected_run(rt: HostRuntime) -> Result<(), Fail> {
-    let alloc = rt.alloc();
-    expect_rejected(&rt, alloc, [0, 0, 0x004f_5301], FaultKind::NotADosDisk)?;
-    expect_rejected(&rt, alloc, [0, 0, 0x444f_5302], FaultKind::UnsupportedKind)?;
-    expect_rejected(&rt, alloc, [880, 20, 1], FaultKind::BadSum)
+fn rejected_run(rt: HostRuntime) {
+    for row in REJECTED.lines() {
+        let (drawing, wanted) = parts(row);
+        let Rejected { image, fault } = rejected(&rt, rt.alloc(), drawing);
+        holds(&rt, is_fault(wanted, fault), row);
+        let was = drawn(&rt, rt.alloc(), FLOPPY, drawing);
+        holds(&rt, image.as_bytes() == was.as_bytes(), row);
+    }
 }

@@ -1,15 +1,14 @@
 //! Rows of readers and writers that fail in mid-stream, and of their results.
-use crate::fixtures::{START, blank_handler, work};
+use crate::fixtures::{START, blank_handler, blank_image};
 use crate::images::size_text;
-use crate::rows::{cut, parts};
+use crate::rows::{Table, cut, expect_rows};
 use crate::streams::{Bytes, Narrow};
 use adf_host::read_sketch;
 use adf_io::{InputFault, LoadFault, StoreFault, load_image, store_image};
 use adf_script::{TryFault, run_script};
-use std::alloc::{AllocError, Global};
+use std::alloc::Global;
 use std::process::Abort;
 use std::str::from_utf8;
-use std::test::Fail;
 
 // Rows of reads: the kind of the input, the number of bytes, the maximum number of bytes a read, the event after the
 // last byte, and the result.
@@ -93,12 +92,12 @@ fn try_text(ended: Result<(), TryFault>) -> &'static str {
 }
 
 /// Whether a script of remarks has the result that a row says, with the line that it prints.
-fn script_read(alloc: Global, reader: &mut Bytes, wanted: &str) -> Result<bool, AllocError> {
+fn script_read(rt: &impl Abort, alloc: Global, reader: &mut Bytes, wanted: &str) -> bool {
     let mut lines = Vec::new(alloc);
-    let ended = run_script(alloc, blank_handler(alloc)?, START, reader, &mut lines);
+    let ended = run_script(alloc, blank_handler(rt, alloc), START, reader, &mut lines);
     let (word, line) = wanted.split_once(": ").unwrap_or((wanted, ""));
     let told = from_utf8(&lines).unwrap_or("no text").trim_end();
-    Ok(try_text(ended) == word && told == line)
+    try_text(ended) == word && told == line
 }
 
 /// The number of blocks of an image, or why there is none.
@@ -137,66 +136,72 @@ fn is_loaded(wanted: &str, loaded: Loaded) -> bool {
 }
 
 /// Whether a read of a row has the result that it says.
-fn is_read(alloc: Global, row: &str, wanted: &str) -> Result<bool, AllocError> {
+fn is_read(rt: &impl Abort, alloc: Global, row: &str, wanted: &str) -> bool {
     let (what, fields) = cut(row);
-    Ok(match what {
-        "script" => script_read(alloc, &mut reader_of(fields, b'#'), wanted)?,
+    match what {
+        "script" => script_read(rt, alloc, &mut reader_of(fields, b'#'), wanted),
         "image" => is_loaded(wanted, image_read(alloc, &mut reader_of(fields, 0))),
         _ => is_loaded(wanted, sketch_read(alloc, &mut reader_of(fields, 0))),
-    })
+    }
 }
 
-fn script_written(alloc: Global, writer: &mut Narrow) -> Result<&'static str, AllocError> {
+fn script_written(rt: &impl Abort, alloc: Global, writer: &mut Narrow) -> &'static str {
     let mut script = b"other 5\nother 6\n".as_slice();
-    let ended = run_script(alloc, blank_handler(alloc)?, START, &mut script, writer);
-    Ok(try_text(ended))
+    try_text(run_script(alloc, blank_handler(rt, alloc), START, &mut script, writer))
 }
 
 /// The number of written bytes of an image if the writer kept exactly these; `None` if it kept others.
-fn image_written(alloc: Global, writer: &mut Narrow) -> Result<Option<usize>, AllocError> {
-    let image = work(alloc, 16)?.into_image();
+fn image_written(rt: &impl Abort, alloc: Global, writer: &mut Narrow) -> Option<usize> {
+    let image = blank_image(rt, alloc, 16);
     let count = match store_image(&image, writer) {
         Ok(()) => image.as_bytes().len(),
         Err(StoreFault { written }) => written,
     };
     let is_front = image.as_bytes().get(..count) == Some(writer.taken.as_slice());
-    Ok(if is_front { Some(count) } else { None })
+    if is_front { Some(count) } else { None }
 }
 
 /// Whether a write of a row has the result that it says.
-fn is_written(alloc: Global, row: &str, wanted: &str) -> Result<bool, AllocError> {
+fn is_written(rt: &impl Abort, alloc: Global, row: &str, wanted: &str) -> bool {
     let (what, fields) = cut(row);
     let mut writer = writer_of(alloc, fields);
     match what {
-        "script" => Ok(script_written(alloc, &mut writer)? == wanted),
-        _ => Ok(image_written(alloc, &mut writer)? == Some(number(wanted))),
+        "script" => script_written(rt, alloc, &mut writer) == wanted,
+        _ => image_written(rt, alloc, &mut writer) == Some(number(wanted)),
     }
 }
 
-/// The read of each row has the result that it says.
-fn expect_reads(rt: &impl Abort, alloc: Global, rows: &str) -> Result<(), Fail> {
-    for row in rows.lines() {
-        let (text, wanted) = parts(row);
-        assert!(rt; is_read(alloc, text, wanted)?, "{row}");
+/// Reads that have the results that their rows say.
+#[derive(Clone, Copy)]
+struct Reads(Global);
+
+impl Table for Reads {
+    fn is_right<R: Abort>(&mut self, rt: &R, turn: &str, wanted: &str) -> bool {
+        is_read(rt, self.0, turn, wanted)
     }
-    Ok(())
 }
 
-#[test]
-fn failing_scripts(rt: HostRuntime) -> Result<(), Fail> {
-    expect_reads(&rt, rt.alloc(), SCRIPTS)
-}
+/// Writes that have the results that their rows say.
+#[derive(Clone, Copy)]
+struct Writes(Global);
 
-#[test]
-fn failing_files(rt: HostRuntime) -> Result<(), Fail> {
-    expect_reads(&rt, rt.alloc(), FILES)
-}
-
-#[test]
-fn failing_writers(rt: HostRuntime) -> Result<(), Fail> {
-    for row in WRITES.lines() {
-        let (text, wanted) = parts(row);
-        assert!(rt; is_written(rt.alloc(), text, wanted)?, "{row}");
+impl Table for Writes {
+    fn is_right<R: Abort>(&mut self, rt: &R, turn: &str, wanted: &str) -> bool {
+        is_written(rt, self.0, turn, wanted)
     }
-    Ok(())
+}
+
+#[test]
+fn failing_scripts(rt: HostRuntime) {
+    expect_rows(&rt, &mut Reads(rt.alloc()), SCRIPTS);
+}
+
+#[test]
+fn failing_files(rt: HostRuntime) {
+    expect_rows(&rt, &mut Reads(rt.alloc()), FILES);
+}
+
+#[test]
+fn failing_writers(rt: HostRuntime) {
+    expect_rows(&rt, &mut Writes(rt.alloc()), WRITES);
 }

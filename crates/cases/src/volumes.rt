@@ -1,10 +1,12 @@
 //! Calls of a volume with results worked out by hand. A case is a text, and its rows are the calls.
 
 use crate::fixtures::{FLOPPY, START, work};
-use crate::on_volume::{entry, expect};
-use ados_name::{Comment, Date3, Name, Protect};
-use ados_volume::{DiskInfo, FileInfo};
-use std::test::Fail;
+use crate::on_volume::entry;
+use crate::rows::{expect_rows, holds};
+use ados_name::{Date3, Protect};
+use ados_volume::{DiskInfo, FileInfo, Volume};
+use std::alloc::Global;
+use std::process::Abort;
 
 /// A directory that is made and deleted: every long outside its own block is as before.
 const DIRECTORY: &str = "\
@@ -100,50 +102,53 @@ protect f 5 = 2
 comment f note = 2
 date f 1 = 2";
 
-#[test]
-fn directory_by_calls(rt: HostRuntime) -> Result<(), Fail> {
-    let mut volume = work(rt.alloc(), FLOPPY)?;
-    expect(&rt, &mut volume, DIRECTORY);
-    Ok(())
+/// Each row of the blank floppy has the result that it says.
+fn expect_of_floppy(rt: &impl Abort, alloc: Global, rows: &str) -> Volume {
+    let mut volume = work(rt, alloc, FLOPPY);
+    expect_rows(rt, &mut volume, rows);
+    volume
 }
 
 #[test]
-fn hello_by_calls(rt: HostRuntime) -> Result<(), Fail> {
-    let mut volume = work(rt.alloc(), FLOPPY)?;
-    expect(&rt, &mut volume, HELLO);
-    Ok(())
+fn directory_by_calls(rt: HostRuntime) {
+    expect_of_floppy(&rt, rt.alloc(), DIRECTORY);
 }
 
 #[test]
-fn in_a_slot_by_calls(rt: HostRuntime) -> Result<(), Fail> {
-    let mut volume = work(rt.alloc(), FLOPPY)?;
-    expect(&rt, &mut volume, IN_A_SLOT);
-    Ok(())
+fn hello_by_calls(rt: HostRuntime) {
+    expect_of_floppy(&rt, rt.alloc(), HELLO);
 }
 
-/// The description of the file and of the disk afterwards.
 #[test]
-fn resized_by_calls(rt: HostRuntime) -> Result<(), Fail> {
-    let mut volume = work(rt.alloc(), FLOPPY)?;
-    expect(&rt, &mut volume, RESIZED);
-    let told = FileInfo {
-        key: 2,
-        entry_type: -3,
-        name: Name::new(b"f")?,
-        protection: Protect(5),
-        size: 600,
-        blocks: 3,
-        date: Date3 { days: 1, ..START },
-        comment: Comment::new(b"note")?,
-    };
-    assert!(rt; entry(&mut volume, "f") == Some(told));
-    let disk = DiskInfo {
-        state: 82,
-        blocks: 1_758,
-        used: 5,
-        bytes_per_block: 512,
-        disk_type: 0x444f_5301,
-    };
-    assert!(rt; volume.info() == disk);
-    Ok(())
+fn in_a_slot_by_calls(rt: HostRuntime) {
+    expect_of_floppy(&rt, rt.alloc(), IN_A_SLOT);
+}
+
+/// The description of the file afterwards.
+fn is_note(told: &FileInfo) -> bool {
+    told.key == 2
+        && told.entry_type == -3
+        && told.name.bytes() == b"f".as_slice()
+        && told.protection == Protect(5)
+        && told.size == 600
+        && told.blocks == 3
+        && told.date == Date3 { days: 1, ..START }
+        && told.comment.bytes() == b"note".as_slice()
+}
+
+/// The description of the disk afterwards.
+fn is_resized(disk: DiskInfo) -> bool {
+    disk.state == 82
+        && disk.blocks == 1_758
+        && disk.used == 5
+        && disk.bytes_per_block == 512
+        && disk.disk_type == 0x444f_5301
+}
+
+#[test]
+fn resized_by_calls(rt: HostRuntime) {
+    let mut volume = expect_of_floppy(&rt, rt.alloc(), RESIZED);
+    let told = entry(&mut volume, "f").expect(&rt, "no file");
+    holds(&rt, is_note(&told), "f");
+    holds(&rt, is_resized(volume.info()), "disk");
 }

@@ -1,12 +1,18 @@
-use Rattle.std.proofs.Common.{◌∙◌, arith}
-use Rattle.adf_archive.proofs.Shown.{many, not_empty, shown_all}
+use Rattle.std.proofs.Common.{All, ◌∙◌, arith, subst}
+use Rattle.ados_faults.specs.Listed.{Marks}
+use Rattle.adf_archive.specs.Report.{HasValues}
+use Rattle.adf_archive.proofs.Shown.{many, marks_of, not_empty, shown_all}
 use Rattle.adf_archive.proofs.faults.all_told.Goals as goal
 
 pub returns-clause-some : goal.returns-clause-some
 returns-clause-some c =
     let some = not_empty c.in_ok-found.found.faults.items (λ e. c.requires ((c.in_ok-found.ensures.none (omega arith)).0 e)) in
-    omega (arith, some, many c.in_ok-faults.faults.items c.in_ok-found.found.faults.items (c.in_ok-faults.ensures ∙ c.deref-2.ensures.value))
+    omega (arith, some, many c.in_ok-faults.faults.items c.in_ok-found.found.faults.items (c.in_ok-faults.ensures.faults ∙ c.deref-2.ensures.value))
 
 pub returns-clause-shown : goal.returns-clause-shown
 returns-clause-shown c =
-    shown_all c.args.image.now c.in_ok-faults.faults.items c.in_ok-found.found.faults.items (c.in_ok-faults.ensures ∙ c.deref-2.ensures.value) c.in_ok-found.ensures.lists.shown
+    shown_all c.args.image.now c.in_ok-faults.faults.items c.in_ok-found.found.faults.items (c.in_ok-faults.ensures.faults ∙ c.deref-2.ensures.value) c.in_ok-found.ensures.lists.shown
+
+pub returns-clause-values : goal.returns-clause-values
+returns-clause-values c =
+    (c.in_ok-found.found.marks.items, marks_of c.args.image.now c.in_ok-found.found.marks.items c.requires c.in_ok-found.ensures.marked, subst (λ (marks : Marks). All (HasValues c.args.image.now marks) c.in_ok-faults.faults.items) c.deref.ensures.value c.in_ok-faults.ensures.values)

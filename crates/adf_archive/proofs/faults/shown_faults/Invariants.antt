@@ -1,6 +1,10 @@
-use Rattle.std.proofs.Common.{◌≡◌, map, take}
+use Rattle.std.proofs.Common.{◌≡◌, All, map, take}
+use Rattle.adf_archive.specs.Report.{HasValues}
 use Rattle.adf_archive.proofs.faults.shown_faults.Given as goal
 
--- the reports of the faults before this one
+-- the reports of the faults before this one, and their values
 abbrev pub invariant-loop-fault : goal.invariant-loop-fault
-invariant-loop-fault l = map (λ each. each.fault) l.shown.items ≡ take l.fault-index l.faults
+invariant-loop-fault l = record {
+  faults : map (λ each. each.fault) l.shown.items ≡ take l.fault-index l.faults;
+  values : All (HasValues l.image l.marks) l.shown.items;
+}

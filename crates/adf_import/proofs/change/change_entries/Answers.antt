@@ -1,7 +1,9 @@
-use Rattle.std.proofs.Common.{Bor, List, ℕ, map, sym, subst}
+use Rattle.std.proofs.Common.{Bor, List, ℕ, [], ◌∷◌, map, sym, subst}
+use Rattle.std.specs.Str.{chars}
+use Rattle.ados_name.specs.declared.stamp.Date3.{Date3}
 use Rattle.adf_words.specs.declared.change.Change.{Change}
-use Rattle.adf_import.specs.Commands.{ChangesVolume, Deletes}
-use Rattle.adf_import.specs.Turns.{EndsInTurn, ReadsFirst}
+use Rattle.adf_import.specs.Commands.{ChangesVolume, Dates, Deletes}
+use Rattle.adf_import.specs.Turns.{EndsAt, EndsInTurn, ReadsFirst}
 use Rattle.adf_import.proofs.Turning.{text_of}
 use Rattle.adf_import.proofs.change.change_entries.Goals as goal
 
@@ -13,3 +15,11 @@ returns-in-Delete c =
     (λ (paths : List (Bor (List ℕ))).
     ReadsFirst (map text_of paths) (EndsInTurn (Deletes c.args.moment c.in-Delete.all c.in-Delete.force) (map text_of paths)) c.args.volume.now after c.change_each-in-Delete.result)
     c.as_slice-in-Delete.ensures.value c.change_each-in-Delete.ensures)
+
+pub returns-in-Date : goal.returns-in-Date
+returns-in-Date c =
+    let after = c.set_date.new.volume in
+    let path = c.in-Date.path.now in
+    subst (λ (change : Change). ChangesVolume change c.args.moment c.args.volume.now after c.set_date.result) (sym c.in-Date.is)
+    (subst (λ (date : Date3). ReadsFirst (path ∷ []) (EndsAt (Dates c.args.moment (chars path) date) path) c.args.volume.now after c.set_date.result)
+    c.unwrap_or.ensures c.set_date.ensures)

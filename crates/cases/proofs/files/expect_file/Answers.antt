@@ -5,5 +5,5 @@ use Rattle.cases.proofs.files.expect_file.Goals as goal
 
 pub loop-row-init : goal.loop-row-init
 loop-row-init g c =
-    subst (λ (image : List ℕ). WritableFile image c.in_ok-file.file) (sym c.into_image-image.ensures.same)
-    (file_writable c.walk.new.self.image c.in_ok-file.file c.into_image-image.ensures.stands (c.is_file.ensures.file_key c.if-not-is_file.false))
+    subst (λ (image : List ℕ). WritableFile image c.in-Ok.file) (sym c.into_image-image.ensures.same)
+    (file_writable c.file.new.volume.image c.in-Ok.file c.into_image-image.ensures.stands c.in-Ok.ensures)
