@@ -47,6 +47,7 @@ import signal
 import stat
 import subprocess
 import sys
+import threading
 import time
 import unicodedata
 from contextlib import suppress
@@ -1283,6 +1284,21 @@ def held_images(room: Shared) -> None:
     shutil.rmtree("taken")
 
 
+def readers_stopped(room: Shared) -> None:
+    """A change waits for a command that was stopped while it looked for the lock, but not without end."""
+    room.refresh()
+    image = "theirs/image.adf"
+    for seconds, status in ((0.3, 0), (30.0, 2)):
+        with open(image, "rb") as looked:
+            fcntl.flock(looked, fcntl.LOCK_SH)
+            timer = threading.Timer(seconds, fcntl.flock, (looked, fcntl.LOCK_UN))
+            timer.start()
+            texts = b"" if status == 0 else f"adf_serve: '{image}' is not worked on: another command works on it\n".encode()
+            ran = room.run("mkdir", *MOMENT, image, f"s{status}")
+            timer.cancel()
+            room.report.same(f"a change while a reader is stopped for {seconds} s", ran, Ran(status, b"", texts))
+
+
 def readers_beside(room: Shared) -> None:
     """Commands that only read never make a change fail, though they look whether the image is locked."""
     room.refresh()
@@ -1436,7 +1452,7 @@ def disks() -> List[Task[Shared]]:
 
 def commands() -> List[Task[Shared]]:
     """What is not a disk."""
-    parts = [endless, killed, at_once, leftovers, short_files, held_images, links_to_nothing, terminals, listings, holes]
+    parts = [endless, killed, at_once, leftovers, short_files, held_images, readers_stopped, links_to_nothing, terminals, listings, holes]
     parts += [long_paths, without_proc, modes, not_kept, owners, links_beside, others_in_place]
     found: List[Task[Shared]] = [(it.__name__.replace("_", " "), Shared, it) for it in parts]
     return found + [(it.__name__.replace("_", " "), InMemory, it) for it in (swapped_directories, deep_directories, opened_again)]

@@ -352,7 +352,8 @@ int32_t jip_load(const char *path, jip_handle *handle, jip_fault *fault);
 /* Replaces or creates a file with the image, whole or not at all. It writes a new file in the same directory, syncs it to
    disk, and renames it. The new file has the old permissions, and the old owner if the host allows that. The target of a
    symbolic link is replaced. A device or a pipe is written directly, and a failure may leave part of the bytes there.
-   JIP_HOST_FAILED with EWOULDBLOCK: another program holds the file by flock, as adf_mount does. */
+   JIP_HOST_FAILED with EWOULDBLOCK: another program holds the file by flock, as adf_mount does. A program that holds it shared
+   only looks for that lock, and is waited for a second. */
 int32_t jip_store(jip_handle *handle, const char *path);
 
 /* ---- Packets ---- */

@@ -4,8 +4,12 @@
 
 #include <errno.h>
 #include <fcntl.h>
+#include <signal.h>
+#include <stdbool.h>
 #include <sys/file.h>
 #include <sys/stat.h>
+#include <sys/wait.h>
+#include <time.h>
 #include <unistd.h>
 
 #define TEXT(bytes) bytes, sizeof(bytes) - 1
@@ -177,6 +181,27 @@ static int32_t load(const char *path, jip_handle *h, jip_fault *fault) {
     return jip_load(path, h, fault);
 }
 
+/* Stores to a file that another process has locked, shared, for so long. */
+static int32_t store_beside_reader(jip_handle *h, const char *path, long milliseconds) {
+    const struct timespec pause = {milliseconds / 1000, milliseconds % 1000 * 1000000};
+    int ready[2];
+    char byte = 0;
+    if (pipe(ready) != 0) return JIP_WRONG_ARGUMENT;
+    const pid_t reader = fork();
+    if (reader == 0) {
+        const int held = open(path, O_RDONLY);
+        const bool told = held >= 0 && flock(held, LOCK_SH) == 0 && write(ready[1], &byte, 1) == 1;
+        _exit(told && nanosleep(&pause, NULL) == 0 ? 0 : 1);
+    }
+    const bool waits = reader > 0 && read(ready[0], &byte, 1) == 1;
+    const int32_t stored = waits ? jip_store(h, path) : JIP_WRONG_ARGUMENT;
+    const int error = errno;
+    if (reader > 0) (void)(kill(reader, SIGKILL), waitpid(reader, NULL, 0));
+    (void)(close(ready[0]), close(ready[1]));
+    errno = error;
+    return stored;
+}
+
 static void host_files(void) {
     jip_handle h = blank(JIP_FFS, JIP_DOUBLE_DENSITY), other = JIP_CLOSED;
     jip_fault fault = {0, 0};
@@ -200,6 +225,8 @@ static void host_files(void) {
     const int held = open("whole.adf", O_RDONLY);
     EXPECT("a file that is held", flock(held, LOCK_EX) == 0 && jip_store(&h, "whole.adf") == JIP_HOST_FAILED && errno == EWOULDBLOCK);
     EXPECT("and given up", close(held) == 0 && jip_store(&h, "whole.adf") == JIP_DONE);
+    EXPECT("a reader", store_beside_reader(&h, "whole.adf", 200) == JIP_DONE);
+    EXPECT("without end", store_beside_reader(&h, "whole.adf", 60000) == JIP_HOST_FAILED && errno == EWOULDBLOCK);
     EXPECT("nothing is left beside", access(".jiponuwha-0.new", F_OK) != 0);
     (void)unlink("link.adf");
     (void)unlink("lost.adf");

@@ -9,9 +9,10 @@
 #include <stdlib.h>
 #include <sys/file.h>
 #include <sys/stat.h>
+#include <time.h>
 #include <unistd.h>
 
-enum { MOST_BYTES = JIP_MOST_BLOCKS * JIP_BLOCK_BYTES, FIRST_ROOM = 1 << 20, TRIES = 1000, ACCESS_BITS = 0777 };
+enum { MOST_BYTES = JIP_MOST_BLOCKS * JIP_BLOCK_BYTES, FIRST_ROOM = 1 << 20, TRIES = 1000, ACCESS_BITS = 0777, MILLISECOND = 1000000 };
 
 /* The name of the new file in the directory of the old one. Each try uses another number. */
 static const char beside_name[] = ".jiponuwha-%u.new";
@@ -146,8 +147,19 @@ static bool replace(const char *path, const struct stat *old, const uint8_t *byt
     return done;
 }
 
-/* Locks the file. Returns false if another program has it locked, such as adf_mount, or adf_serve during a change. */
-static bool is_free(int held) { return flock(held, LOCK_EX | LOCK_NB) == 0 || errno != EWOULDBLOCK; }
+/* Locks the file. Returns false if another program has it locked, such as adf_mount, or adf_serve during a change. A program
+   that only looks for the lock has it shared for a moment. While that is so, the lock is tried again, for a second or more. */
+static bool is_free(int held) {
+    const struct timespec pause = {0, MILLISECOND};
+    for (int tries = 0; tries < TRIES; tries++) {
+        if (flock(held, LOCK_EX | LOCK_NB) == 0 || errno != EWOULDBLOCK) return true;
+        if (flock(held, LOCK_SH | LOCK_NB) != 0) return errno != EWOULDBLOCK;
+        (void)flock(held, LOCK_UN);
+        (void)nanosleep(&pause, NULL);
+    }
+    errno = EWOULDBLOCK;
+    return false;
+}
 
 /* Replaces the regular file at a path, after links, if this process may write to it. */
 static bool replace_found(const char *path, const uint8_t *bytes, size_t length) {

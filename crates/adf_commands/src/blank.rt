@@ -12,7 +12,7 @@ use ados_name::{Date3, Name};
 use ados_volume::{Volume, blank};
 use std::alloc::Global;
 use std::fs::File;
-use std::rt::Files;
+use std::rt::{Clock, Files};
 
 /// A blank volume. `blank` writes its image to a file.
 pub(crate) fn blank_volume<'a>(
@@ -62,7 +62,7 @@ fn named<'a>(bytes: &[u8], word: &'a str) -> Result<Name, CommandFault<'a>>
 }
 
 /// Writes the image of a new volume in place of a file. An existing file is locked meanwhile.
-pub(crate) fn write_new<'a, R: Files<File = File>>(
+pub(crate) fn write_new<'a, R: Files<File = File> + Clock>(
     rt: &R,
     alloc: Global,
     volume: &Volume,

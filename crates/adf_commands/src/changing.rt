@@ -70,7 +70,7 @@ fn tell_passed_over<F: Write>(passed_over: &[PassedOver], faults: &mut F) {
 }
 
 /// Installs a boot block in an image file that is accepted: the bytes of a file, or none.
-pub(crate) fn boot<'a, R: Files<File = File>>(
+pub(crate) fn boot<'a, R: Files<File = File> + Clock>(
     rt: &R,
     alloc: Global,
     image: &'a str,

@@ -11,7 +11,7 @@ use adf_io::LoadFault;
 use ados_volume::{Volume, check};
 use std::alloc::Global;
 use std::fs::File;
-use std::rt::Files;
+use std::rt::{Clock, Files};
 
 /// The image of a file.
 pub(crate) fn read_image<'a, R: Files>(
@@ -86,7 +86,7 @@ pub(crate) struct Work<'a> {
 
 impl<'a> Work<'a> {
     /// Starts to change an image file. The new image goes to `out`, or else to the file itself.
-    pub(crate) fn begin<R: Files<File = File>>(
+    pub(crate) fn begin<R: Files<File = File> + Clock>(
         rt: &R,
         image: &'a str,
         out: Option<&'a str>,
@@ -129,7 +129,7 @@ impl<'a> Work<'a> {
 }
 
 /// Locks the file to write, if it exists.
-pub(crate) fn hold_out<'a, R: Files<File = File>>(
+pub(crate) fn hold_out<'a, R: Files<File = File> + Clock>(
     rt: &R,
     out: &'a str,
 ) -> Result<Option<HeldFile>, CommandFault<'a>>

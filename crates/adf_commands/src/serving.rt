@@ -12,7 +12,7 @@ use ados_run::{ClientEnding, OpenGate, VolumeServed, serve_volume};
 use std::alloc::Global;
 use std::fs::{self, File, OpenFile};
 use std::io::Write;
-use std::rt::Files;
+use std::rt::{Clock, Files};
 use std::sync::Wait;
 use std::thread::Threads;
 
@@ -31,7 +31,7 @@ pub(crate) fn serve<'a, R, W>(
     writer: &mut W,
 ) -> Result<(), CommandFault<'a>>
 where
-    R: Files<File = File> + Threads + Wait + Copy + Send + Drop + 'static,
+    R: Files<File = File> + Clock + Threads + Wait + Copy + Send + Drop + 'static,
     W: Write,
 {
     let held = match job.out {
@@ -49,7 +49,7 @@ fn serve_files<'a, R>(
     job: &ServeJob<'a>,
 ) -> Result<VolumeServed, CommandFault<'a>>
 where
-    R: Files<File = File> + Threads + Wait + Copy + Send + Drop + 'static,
+    R: Files<File = File> + Clock + Threads + Wait + Copy + Send + Drop + 'static,
 {
     let volume = open_volume(rt, alloc, job.image)?;
     let scripts = read_scripts(rt, alloc, job.scripts.as_slice())?;

@@ -7,9 +7,10 @@ use crate::image_file::read_open;
 use adf_block::Image;
 use adf_io::LoadFault;
 use std::alloc::Global;
-use std::fs;
 use std::fs::{File, Metadata, TryLockError};
-use std::rt::Files;
+use std::rt::{Clock, Files};
+use std::time::Duration;
+use std::{fs, thread};
 use thiserror::Error;
 
 /// Why a file is not locked.
@@ -32,18 +33,24 @@ pub struct HeldFile {
     file: File,
 }
 
-/// The maximum number of times that a file is opened again because it was replaced meanwhile, and that its lock is tried again.
-const TRIES: u32 = 16;
+/// The maximum number of times that a file is opened again because it was replaced meanwhile.
+const REOPENINGS: u32 = 16;
+
+/// The maximum number of times that a lock is tried while a command that only looks for it has it. They take a second at least.
+const TRIES: u32 = 1_000;
+
+/// The milliseconds between two of these tries.
+const PAUSE: u64 = 1;
 
 /// Locks a file for a command that will change it. A file that another command has locked is refused at once.
 ///
 /// If the file was replaced before it was locked, its path names another file, which is locked instead.
-pub fn hold<R: Files<File = File>>(rt: &R, path: &str) -> Result<HeldFile, HoldFault> {
-    for _ in 0..TRIES {
+pub fn hold<R: Files<File = File> + Clock>(rt: &R, path: &str) -> Result<HeldFile, HoldFault> {
+    for _ in 0..REOPENINGS {
         let Ok(file) = fs::open(rt, path) else {
             return Err(HoldFault::Open);
         };
-        lock(&file)?;
+        lock(rt, &file)?;
         if is_named(rt, &file, path) {
             return Ok(HeldFile { file });
         }
@@ -53,7 +60,7 @@ pub fn hold<R: Files<File = File>>(rt: &R, path: &str) -> Result<HeldFile, HoldF
 
 /// Locks the file that a command will write to, if it is an existing readable regular file. If the command has already
 /// locked it, it is locked once more. So the command does not overwrite a file that another command works on.
-pub fn hold_target<R: Files<File = File>>(
+pub fn hold_target<R: Files<File = File> + Clock>(
     rt: &R,
     path: &str,
     held: Option<&HeldFile>,
@@ -75,15 +82,18 @@ pub fn hold_target<R: Files<File = File>>(
     }
 }
 
-/// Locks a file, unless another command has locked it. A command that only looks whether it is locked does not count.
-fn lock(file: &File) -> Result<(), HoldFault>
+/// Locks a file, unless another command has locked it. A command that only looks whether it is locked does not count: it
+/// takes the lock for a moment, which may be long if the machine stops it just then. So the lock is tried again after a pause.
+fn lock<R: Clock>(rt: &R, file: &File) -> Result<(), HoldFault>
     ensures { IfErr result (λ fault. fault ≢ HoldFault.Open) }
 {
     for _ in 0..TRIES {
         match file.try_lock() {
             Ok(()) => return Ok(()),
             Err(TryLockError::WouldBlock) if is_locked(file) => return Err(HoldFault::Busy),
-            Err(TryLockError::WouldBlock) => {}
+            Err(TryLockError::WouldBlock) => {
+                thread::sleep(rt, Duration::from_millis(PAUSE));
+            },
             Err(TryLockError::Error(_)) => return Err(HoldFault::Lock),
         }
     }
