@@ -20,7 +20,7 @@ import time
 from functools import partial
 from pathlib import Path
 from types import TracebackType
-from typing import IO, Callable, Dict, List, Mapping, NamedTuple, NoReturn, Optional, Sequence, Tuple, Type, TypeVar, Union
+from typing import IO, Callable, Dict, Iterator, List, Mapping, NamedTuple, NoReturn, Optional, Sequence, Tuple, Type, TypeVar, Union
 
 TOP = Path(__file__).resolve().parent.parent
 BLOCK = 512
@@ -383,6 +383,9 @@ class Call(NamedTuple):
 
 
 CALL = re.compile(r"(\d+) +(\w+)\((.*)\) += (-?\d+|\?)")
+# The two lines of a call during which another thread did something that is traced.
+BEGUN = re.compile(r"(\d+) +(\w+\(.*) <unfinished \.\.\.>")
+RESUMED = re.compile(r"(\d+) +<\.\.\. \w+ resumed>(.*)")
 
 
 def has_strace(fault: str) -> bool:
@@ -400,12 +403,25 @@ def injected(*faults: str) -> List[str]:
     return ["strace", "-f", "-qq", "-o", "/dev/null", "-e", f"trace={names}", *options]
 
 
+def joined(lines: Sequence[str]) -> Iterator[str]:
+    """The lines of a trace, each call in one of them."""
+    begun: Dict[str, str] = {}
+    for line in lines:
+        start, end = BEGUN.fullmatch(line), RESUMED.fullmatch(line)
+        if start:
+            begun[start[1]] = start[2]
+        elif end:
+            yield f"{end[1]} {begun.pop(end[1], '')}{end[2]}"
+        else:
+            yield line
+
+
 def traced(room: Room, words: Sequence[str], names: Sequence[str]) -> List[Call]:
     """The calls with these names, as far as the host has them, in a run without faults."""
     room.run(*words, front=["strace", "-f", "-y", "-s", "0", "-o", "trace", "-e", "trace=" + ",".join(f"?{it}" for it in names)])
     lines = room.content("trace").decode(errors="replace").splitlines()
     os.remove("trace")
-    found = [CALL.match(line) for line in lines]
+    found = [CALL.match(line) for line in joined(lines)]
     counts: Dict[Tuple[str, str], int] = {}
     calls = []
     for process, name, about, answer in (it.groups() for it in found if it):
