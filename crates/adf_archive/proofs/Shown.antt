@@ -1,10 +1,12 @@
 -- Reported faults, by the faults themselves.
-use Rattle.std.proofs.Common.{◌≡◌, ℕ, ◌<◌, ◌⊎◌, inl, inr, List, [], ◌∷◌, length, get_or, map, All, sym, ap, ◌∙◌, subst, refl, arith}
+use Rattle.std.proofs.Common.{◌≡◌, ℕ, ◌<◌, ◌⊎◌, inl, inr, Bool, false, List, [], ◌∷◌, length, get_or, map, All, sym, ap, ◌∙◌, subst, refl, arith}
 use Rattle.std.proofs.lemmas.List.{get_or-map, length-map}
 use Rattle.ados_faults.specs.Listed.{AreMarks, Marks}
 use Rattle.ados_model.specs.Accepted.{ShowsNoFault}
 use Rattle.ados_model.specs.Faults.{Shows}
 use Rattle.ados_model.specs.declared.fault.VolumeFault.{VolumeFault}
+use Rattle.adf_archive.specs.Report.{HasValues, HaveTexts, HaveValues, explains}
+use Rattle.adf_archive.specs.declared.checking.Detail.{Detail}
 use Rattle.adf_archive.specs.declared.report.ShownFault.{ShownFault}
 
 -- there are equally many
@@ -20,9 +22,17 @@ shown_all image shown faults same all = λ i d l.
     (all i d.fault (subst (λ (n : ℕ). i < n) (many shown faults same) l))
 
 -- the marks of an image that shows a fault
-pub marks_of : (image : List ℕ) (marks : Marks) → ¬ ShowsNoFault image → ShowsNoFault image ⊎ AreMarks image marks → (marks ≡ []) ⊎ AreMarks image marks
+pub marks_of : (image : List ℕ) (marks : Marks) → ¬ ShowsNoFault image → ShowsNoFault image ⊎ AreMarks image marks → AreMarks image marks
 marks_of image marks refused (inl none) = absurd (refused none)
-marks_of image marks refused (inr are) = inr are
+marks_of image marks refused (inr are) = are
+
+-- the faults have values, by the marks of the image or, without texts, by none
+pub have_values : (image : List ℕ) (marks : Marks) (detail : Detail) (faults : List ShownFault)
+    → AreMarks image marks ⊎ ((marks ≡ []) × (explains detail ≡ false)) → HaveTexts (explains detail) faults → All (HasValues image marks) faults
+    → HaveValues image faults
+have_values image marks detail faults (inl are) texts values = (marks, inl are, values)
+have_values image marks detail faults (inr none) texts values =
+    (marks, inr (none.0, subst (λ (explained : Bool). HaveTexts explained faults) none.1 texts), values)
 
 -- a list that is not empty has an element
 pub not_empty : (faults : List VolumeFault) → ¬ (faults ≡ []) → 0 < length faults

@@ -1,5 +1,5 @@
 -- The report on the bytes of an image.
-use Rattle.std.specs.Prelude.{◌≡◌, ℕ, ◌+◌, ◌<◌, ◌⊎◌, None, List, [], length, count_by, All, IfSome, MatchOption, ⊤}
+use Rattle.std.specs.Prelude.{◌≡◌, ℕ, ◌+◌, ◌<◌, ◌⊎◌, Bool, true, false, ◌||◌, None, List, [], length, count_by, All, IfSome, MatchOption, is_some, ⊤}
 use Rattle.adf_block.specs.Boot.{HasKind}
 use Rattle.adf_block.specs.Image.{block_count}
 use Rattle.adf_block.specs.Size.{IsSizeFault}
@@ -12,6 +12,7 @@ use Rattle.ados_faults.specs.Listed.{AreMarks, Marks}
 use Rattle.ados_faults.specs.Values.{AreValues, NoneShows}
 use Rattle.ados_volume.specs.declared.below.Below.{Below}
 use Rattle.ados_volume.specs.Below.{AreBelow}
+use Rattle.adf_archive.specs.declared.checking.Detail.{Detail}
 use Rattle.adf_archive.specs.declared.report.AcceptedImage.{AcceptedImage}
 use Rattle.adf_archive.specs.declared.report.Contents.{Contents}
 use Rattle.adf_archive.specs.declared.report.ImageReport.{ImageReport}
@@ -45,9 +46,18 @@ abbrev pub HasValues : List ℕ → Marks → ShownFault → Type 0
 HasValues image marks shown =
     MatchOption shown.values (NoneShows image marks shown.fault.kind shown.fault.block) (AreValues image marks shown.fault.kind shown.fault.block)
 
--- so it is for each fault, by the marks of the image; or by none, if neither paths nor texts are wanted
+-- whether each fault gets its path and the text that explains it, or the text alone
+abbrev pub explains : Detail → Bool
+explains detail = detail.contents || detail.texts
+
+-- the faults have texts, or they have none
+abbrev pub HaveTexts : Bool → List ShownFault → Type 0
+HaveTexts explained faults = All (λ shown. is_some shown.text ≡ explained) faults
+
+-- so it is for each fault, by the marks of the image; or without marks, if the faults have no texts
 abbrev pub HaveValues : List ℕ → List ShownFault → Type 0
-HaveValues image faults = (marks : Marks) × ((marks ≡ []) ⊎ AreMarks image marks) × All (HasValues image marks) faults
+HaveValues image faults =
+    (marks : Marks) × (AreMarks image marks ⊎ ((marks ≡ []) × HaveTexts false faults)) × All (HasValues image marks) faults
 
 -- the image shows each of the faults, and there is at least one
 pub record IsRefused (image : List ℕ) (told : RefusedImage) : Type 0 where
@@ -64,6 +74,15 @@ IsReport image (Refused told) = IsRefused image told
 IsReport image (WrongSize fault) = IsSizeFault (length image) fault
 IsReport image (NotChecked why) = ⊤
 
+-- each fault of a refused image has its text, so its values are those by the marks of the image
+abbrev pub IsExplained : ImageReport → Type 0
+IsExplained (Refused told) = HaveTexts true told.faults.items
+IsExplained report = ⊤
+
 -- the report is the check's result for the bytes of some file
 abbrev pub IsReportOfSome : ImageReport → Type 0
 IsReportOfSome report = (image : List ℕ) × IsReport image report
+
+-- so it is, and its faults are explained if that is wanted
+abbrev pub IsReportFor : Bool → ImageReport → Type 0
+IsReportFor explained report = IsReportOfSome report × (explained ≡ true → IsExplained report)

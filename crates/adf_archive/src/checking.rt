@@ -1,10 +1,10 @@
 //! The check of one image, as a report.
-ghost use Rattle.std.specs.Prelude.{ℕ, List, IfOk, IfSome};
+ghost use Rattle.std.specs.Prelude.{◌≡◌, ℕ, List, IfOk, IfSome, true};
 ghost use Rattle.ados_model.specs.Tree.{Tree};
 ghost use Rattle.ados_model.specs.Stands.{Stands};
 ghost use Rattle.ados_model.specs.Accepted.{Accepts};
 ghost use Rattle.ados_model.specs.Faults.{Shows};
-ghost use Rattle.adf_archive.specs.Report.{IsReport, IsReportOfSome, Tells};
+ghost use Rattle.adf_archive.specs.Report.{IsExplained, IsReport, IsReportOfSome, Tells, explains};
 
 use crate::contents::contents_of;
 use crate::faults::told_faults;
@@ -22,7 +22,7 @@ use std::alloc::{AllocError, Global};
 pub struct Detail {
     /// All faults of the image; otherwise one.
     pub all: bool,
-    /// The contents of the volume, and the paths and texts for faults.
+    /// The contents of the volume, and the paths of faults and the texts that explain them.
     pub contents: bool,
     /// The texts that explain faults.
     pub texts: bool,
@@ -30,7 +30,8 @@ pub struct Detail {
 
 /// The report on an image file. For most images a sketch decides; the others are read whole.
 pub fn report_file<R: ReadImages>(rt: &R, alloc: Global, path: &str, detail: Detail) -> ImageReport
-    ensures { IsReportOfSome result }
+    ensures report { IsReportOfSome result }
+    ensures texts { explains detail ≡ true → IsExplained result }
 {
     let sketched = if detail.contents {
         None
@@ -48,7 +49,8 @@ pub fn report_file<R: ReadImages>(rt: &R, alloc: Global, path: &str, detail: Det
 
 /// The report on an image that is accepted as it is, if a sketch shows this.
 fn report_sketch<R: ReadImages>(rt: &R, alloc: Global, path: &str) -> Option<ImageReport>
-    ensures { IfSome result IsReportOfSome }
+    ensures report { IfSome result IsReportOfSome }
+    ensures texts { IfSome result IsExplained }
 {
     let sketch = rt.read_sketch(alloc, path)?;
     let kind = accepted_kind(alloc, &sketch)?;
@@ -62,7 +64,8 @@ fn report_sketch<R: ReadImages>(rt: &R, alloc: Global, path: &str) -> Option<Ima
 
 /// The report on a file without an image.
 fn unread(fault: LoadFault) -> ImageReport
-    ensures { IsReportOfSome result }
+    ensures report { IsReportOfSome result }
+    ensures texts { IsExplained result }
 {
     match fault {
         LoadFault::Size(refused) => ImageReport::WrongSize(refused.fault),
@@ -74,7 +77,8 @@ fn unread(fault: LoadFault) -> ImageReport
 
 /// The report on an image.
 pub fn report_image(alloc: Global, image: Image, detail: Detail) -> ImageReport
-    ensures { IsReport image result }
+    ensures report { IsReport image result }
+    ensures texts { explains detail ≡ true → IsExplained result }
 {
     match try_report(alloc, image, detail) {
         Ok(report) => report,
@@ -84,7 +88,8 @@ pub fn report_image(alloc: Global, image: Image, detail: Detail) -> ImageReport
 
 /// The report on an image, if there is memory for it.
 fn try_report(alloc: Global, image: Image, detail: Detail) -> Result<ImageReport, AllocError>
-    ensures { IfOk result (IsReport image) }
+    ensures report { IfOk result (IsReport image) }
+    ensures texts { IfOk result (λ report. explains detail ≡ true → IsExplained report) }
 {
     match check(alloc, image) {
         Ok(volume) => accepted(alloc, &volume, detail),
@@ -99,7 +104,8 @@ fn try_report(alloc: Global, image: Image, detail: Detail) -> Result<ImageReport
 
 /// The report on an accepted image.
 fn accepted(alloc: Global, volume: &Volume, detail: Detail) -> Result<ImageReport, AllocError>
-    ensures { IfOk result (λ report. (old : List ℕ) → Accepts old volume.now.was_validated volume.now.image → IsReport old report) }
+    ensures report { IfOk result (λ report. (old : List ℕ) → Accepts old volume.now.was_validated volume.now.image → IsReport old report) }
+    ensures texts { IfOk result IsExplained }
 {
     let contents = wanted_contents(alloc, volume, detail)?;
     let image = volume.image();
@@ -133,7 +139,8 @@ fn refused(
     detail: Detail,
 ) -> Result<ImageReport, AllocError>
     requires { Shows image.now fault.kind fault.block }
-    ensures { IfOk result (IsReport image.now) }
+    ensures report { IfOk result (IsReport image.now) }
+    ensures texts { IfOk result (λ report. explains detail ≡ true → IsExplained report) }
 {
     let told = told_faults(alloc, image, fault, detail)?;
     Ok(ImageReport::Refused(RefusedImage {

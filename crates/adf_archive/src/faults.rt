@@ -1,9 +1,9 @@
 //! The faults of a refused image.
-ghost use Rattle.std.specs.Prelude.{◌≡◌, ◌<◌, ◌⊎◌, [], All, IfOk, length, map};
+ghost use Rattle.std.specs.Prelude.{◌≡◌, ◌<◌, ◌⊎◌, [], All, IfOk, false, is_some, length, map};
 ghost use Rattle.ados_model.specs.Accepted.{ShowsNoFault};
 ghost use Rattle.ados_model.specs.Faults.{Shows};
 ghost use Rattle.ados_faults.specs.Listed.{AreMarks};
-ghost use Rattle.adf_archive.specs.Report.{HasValues, HaveValues};
+ghost use Rattle.adf_archive.specs.Report.{HasValues, HaveTexts, HaveValues, explains};
 
 use crate::checking::Detail;
 use crate::report::ShownFault;
@@ -33,6 +33,7 @@ pub(crate) fn told_faults(
     ensures some { IfOk result (λ told. 0 < length told.faults.items) }
     ensures shown { IfOk result (λ told. All (λ shown. Shows image.now shown.fault.kind shown.fault.block) told.faults.items) }
     ensures values { IfOk result (λ told. HaveValues image.now told.faults.items) }
+    ensures texts { IfOk result (λ told. HaveTexts (explains detail) told.faults.items) }
 {
     if detail.all {
         return all_told(alloc, image, detail);
@@ -46,6 +47,7 @@ fn all_told(alloc: Global, image: &Image, detail: Detail) -> Result<ToldFaults, 
     ensures some { IfOk result (λ told. 0 < length told.faults.items) }
     ensures shown { IfOk result (λ told. All (λ shown. Shows image.now shown.fault.kind shown.fault.block) told.faults.items) }
     ensures values { IfOk result (λ told. HaveValues image.now told.faults.items) }
+    ensures texts { IfOk result (λ told. HaveTexts (explains detail) told.faults.items) }
 {
     let found = all_faults(alloc, image, MOST_FAULTS)?;
     let faults = shown_faults(alloc, image, &found.marks, &found.faults, detail)?;
@@ -66,6 +68,7 @@ fn one_told(
     ensures some { IfOk result (λ told. 0 < length told.faults.items) }
     ensures shown { IfOk result (λ told. All (λ shown. Shows image.now shown.fault.kind shown.fault.block) told.faults.items) }
     ensures values { IfOk result (λ told. HaveValues image.now told.faults.items) }
+    ensures texts { IfOk result (λ told. HaveTexts (explains detail) told.faults.items) }
 {
     let marks = wanted_marks(alloc, image, detail)?;
     let faults = shown_faults(alloc, image, &marks, &[fault], detail)?;
@@ -82,9 +85,9 @@ fn wanted_marks(
     detail: Detail,
 ) -> Result<Vec<Option<Mark>>, AllocError>
     requires { ¬ ShowsNoFault image.now }
-    ensures { IfOk result (λ marks. (marks.items ≡ []) ⊎ AreMarks image.now marks.items) }
+    ensures { IfOk result (λ marks. AreMarks image.now marks.items ⊎ ((marks.items ≡ []) × (explains detail ≡ false))) }
 {
-    if !detail.contents && !detail.texts {
+    if !explains(detail) {
         return Ok(Vec::new(alloc));
     }
     Ok(all_faults(alloc, image, MOST_FAULTS)?.marks)
@@ -100,6 +103,7 @@ fn shown_faults(
 ) -> Result<Vec<ShownFault>, AllocError>
     ensures faults { IfOk result (λ shown. map (λ each. each.fault) shown.items ≡ faults.now) }
     ensures values { IfOk result (λ shown. All (HasValues image.now marks.now) shown.items) }
+    ensures texts { IfOk result (λ shown. HaveTexts (explains detail) shown.items) }
 {
     let mut shown = Vec::new(alloc);
     for fault in faults {
@@ -129,15 +133,24 @@ fn wanted_path(
     place_of(alloc, image, marks, fault.block)
 }
 
-/// The text that explains a fault, if it or the contents are requested.
+/// Whether the faults are explained by texts.
+fn explains(detail: Detail) -> bool
+    ensures { result ≡ explains detail }
+{
+    detail.contents || detail.texts
+}
+
+/// The text that explains a fault, if requested.
 fn wanted_text(
     alloc: Global,
     image: &Image,
     marks: &[Option<Mark>],
     fault: &VolumeFault,
     detail: Detail,
-) -> Result<Option<String>, AllocError> {
-    if !detail.contents && !detail.texts {
+) -> Result<Option<String>, AllocError>
+    ensures { IfOk result (λ text. is_some text ≡ explains detail) }
+{
+    if !explains(detail) {
         return Ok(None);
     }
     Ok(Some(explain(alloc, image, marks, fault)?))

@@ -1,7 +1,7 @@
-use Rattle.std.proofs.Common.{All, ◌∙◌, arith, subst}
+use Rattle.std.proofs.Common.{All, ◌∙◌, inl, arith, subst}
 use Rattle.ados_faults.specs.Listed.{Marks}
 use Rattle.adf_archive.specs.Report.{HasValues}
-use Rattle.adf_archive.proofs.Shown.{many, marks_of, not_empty, shown_all}
+use Rattle.adf_archive.proofs.Shown.{have_values, many, marks_of, not_empty, shown_all}
 use Rattle.adf_archive.proofs.faults.all_told.Goals as goal
 
 pub returns-clause-some : goal.returns-clause-some
@@ -15,4 +15,6 @@ returns-clause-shown c =
 
 pub returns-clause-values : goal.returns-clause-values
 returns-clause-values c =
-    (c.in_ok-found.found.marks.items, marks_of c.args.image.now c.in_ok-found.found.marks.items c.requires c.in_ok-found.ensures.marked, subst (λ (marks : Marks). All (HasValues c.args.image.now marks) c.in_ok-faults.faults.items) c.deref.ensures.value c.in_ok-faults.ensures.values)
+    have_values c.args.image.now c.in_ok-found.found.marks.items c.args.detail c.in_ok-faults.faults.items
+    (inl (marks_of c.args.image.now c.in_ok-found.found.marks.items c.requires c.in_ok-found.ensures.marked)) c.in_ok-faults.ensures.texts
+    (subst (λ (marks : Marks). All (HasValues c.args.image.now marks) c.in_ok-faults.faults.items) c.deref.ensures.value c.in_ok-faults.ensures.values)

@@ -3,7 +3,7 @@ use Rattle.ados_faults.specs.Listed.{Marks}
 use Rattle.adf_archive.specs.Report.{HasValues}
 use Rattle.std.proofs.lemmas.List.Elements.{All-cons, All-nil}
 use Rattle.ados_model.specs.Faults.{Shows}
-use Rattle.adf_archive.proofs.Shown.{many, shown_all}
+use Rattle.adf_archive.proofs.Shown.{have_values, many, shown_all}
 use Rattle.adf_archive.proofs.faults.one_told.Goals as goal
 
 pub returns-clause-some : goal.returns-clause-some
@@ -16,7 +16,8 @@ returns-clause-shown c =
 
 pub returns-clause-values : goal.returns-clause-values
 returns-clause-values c =
-    (c.in_ok-marks.marks.items, c.in_ok-marks.ensures, subst (λ (marks : Marks). All (HasValues c.args.image.now marks) c.in_ok-faults.faults.items) c.deref.ensures.value c.in_ok-faults.ensures.values)
+    have_values c.args.image.now c.in_ok-marks.marks.items c.args.detail c.in_ok-faults.faults.items c.in_ok-marks.ensures c.in_ok-faults.ensures.texts
+    (subst (λ (marks : Marks). All (HasValues c.args.image.now marks) c.in_ok-faults.faults.items) c.deref.ensures.value c.in_ok-faults.ensures.values)
 
 pub wanted_marks-requires : goal.wanted_marks-requires
 wanted_marks-requires c = λ none. none c.args.fault.kind c.args.fault.block c.requires

@@ -1,7 +1,7 @@
-use Rattle.std.proofs.Common.{All, List, sym, subst, arith}
+use Rattle.std.proofs.Common.{◌≡◌, All, List, is_some, sym, subst, arith}
 use Rattle.std.proofs.lemmas.Grind.{common_steps}
 use Rattle.std.proofs.lemmas.List.Elements.{All-push}
-use Rattle.adf_archive.specs.Report.{HasValues}
+use Rattle.adf_archive.specs.Report.{HasValues, HaveTexts, explains}
 use Rattle.adf_archive.specs.declared.report.ShownFault.{ShownFault}
 use Rattle.adf_archive.proofs.faults.shown_faults.Goals as goal
 
@@ -10,4 +10,6 @@ loop-fault-preserved c = record {
   faults = grind (arith, common_steps);
   values = subst (λ (shown : List ShownFault). All (HasValues c.args.image.now c.args.marks.now) shown) (sym c.in_ok-push.ensures.items)
       (All-push (HasValues c.args.image.now c.args.marks.now) c.loop-fault.shown.items _ c.loop-fault.invariant.values c.values_of.ensures);
+  texts = subst (λ (shown : List ShownFault). HaveTexts (explains c.args.detail) shown) (sym c.in_ok-push.ensures.items)
+      (All-push (λ (shown : ShownFault). is_some shown.text ≡ explains c.args.detail) c.loop-fault.shown.items _ c.loop-fault.invariant.texts c.in_ok-text.ensures);
 }
