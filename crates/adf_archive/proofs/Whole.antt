@@ -12,19 +12,17 @@ use Rattle.adf_archive.specs.declared.fault.ArchiveFault.TheVariants.{Refused, N
 use Rattle.adf_archive.specs.declared.report.ImageReport.{ImageReport}
 use Rattle.adf_archive.specs.declared.telling.Form.{Form}
 use Rattle.adf_archive.specs.declared.telling.Tally.{Tally}
-use Rattle.adf_archive.specs.Archive.{Archive, TellsArchive, tells_texts, told_in}
+use Rattle.adf_archive.specs.Archive.{Archive, IsDetailOf, TellsArchive, told_in}
 use Rattle.adf_archive.specs.Each.{GivesFrom}
 use Rattle.adf_archive.specs.Lines.{told_from}
-use Rattle.adf_archive.specs.Report.{IsReportFor}
+use Rattle.adf_archive.specs.Report.{IsReportOfSome}
+use Rattle.adf_archive.specs.declared.checking.Detail.{Detail}
 use Rattle.adf_archive.specs.Status.{IsBroken, IsTally, ends, ends_as}
 
--- the function's report for each position is the check's result for some bytes, and is explained where that is wanted
-pub checked_all : {F : Type 0} (g : Shared F (ℕ × Unit {0}) ImageReport) (f : F) (explained wanted : Bool) (count : ℕ) (reports : List ImageReport)
-    → GivesFrom g f 0 count reports → ((i : ℕ) (r : ImageReport) → FnReturns g f (i, tt) r → IsReportFor explained r)
-    → (wanted ≡ true → explained ≡ true) → All (IsReportFor wanted) reports
-checked_all g f explained wanted count reports gives each enough = λ i d l.
-    let report = each (0 + i) (get_or reports i d) (gives.1 i d (omega (arith, l, gives.0))) in
-    (report.0, λ is_wanted. report.1 (enough is_wanted))
+-- the function's report for each position is the check's result for some bytes
+pub checked_all : {F : Type 0} (g : Shared F (ℕ × Unit {0}) ImageReport) (f : F) (detail : Detail) (count : ℕ) (reports : List ImageReport)
+    → GivesFrom g f 0 count reports → ((i : ℕ) (r : ImageReport) → FnReturns g f (i, tt) r → IsReportOfSome detail r) → All (IsReportOfSome detail) reports
+checked_all g f detail count reports gives each = λ i d l. each (0 + i) (get_or reports i d) (gives.1 i d (omega (arith, l, gives.0)))
 
 -- the status of images never ends a command as broken
 not_broken : (a b : Bool) (fault : ArchiveFault) → IsBroken fault → Err fault ≡ ends a b → ⊥
@@ -42,9 +40,11 @@ module _ (job : CheckJob) where
   nothing = record {
     paths = [];
     reports = [];
+    detail = record { all = job.all; contents = true; texts = true };
+    wanted = record { all = refl; texts = λ wanted. refl };
     form = record { json = job.json; paths = true };
     within = omega arith;
-    checked = All-nil (IsReportFor (tells_texts job));
+    checked = All-nil (IsReportOfSome (record { all = job.all; contents = true; texts = true }));
     json = refl;
     alone = λ e. absurd (cc e);
     several = λ l. refl;
@@ -59,9 +59,9 @@ module _ (job : CheckJob) where
   none_told_at w (Err fault) e = none_told w fault e
 
   module _ (form : Form) (paths : List (List ℕ)) (json : form.json ≡ job.json) (alone : form.paths ≡ false → length paths ≤ 1)
-      (several : 1 < length job.files.items → form.paths ≡ true) (old new : Option (List ℕ)) (reports : List ImageReport) (checked : All (IsReportFor (tells_texts job)) reports) where
+      (several : 1 < length job.files.items → form.paths ≡ true) (old new : Option (List ℕ)) (reports : List ImageReport) (detail : Detail) (wanted : IsDetailOf job detail) (checked : All (IsReportOfSome detail) reports) where
     archive : length reports ≤ length paths → Archive job
-    archive within = record { paths = paths; reports = reports; form = form; within = within; checked = checked; json = json; alone = alone; several = several }
+    archive within = record { paths = paths; reports = reports; form = form; within = within; detail = detail; wanted = wanted; checked = checked; json = json; alone = alone; several = several }
 
     pub left_off : length reports ≤ length paths → (fault : ArchiveFault) → IsBroken fault → WritesFront old new (told_from form paths 0 reports) → TellsArchive job old new (Err fault)
     unfolding archive

@@ -1,9 +1,10 @@
 -- The output of a command for many images, and how it ends.
-use Rattle.std.specs.Prelude.{◌≡◌, ℕ, ◌≤◌, ◌<◌, Bool, true, false, ◌||◌, List, length, All, Option, Result, Err}
+use Rattle.std.specs.Prelude.{◌≡◌, ℕ, ◌≤◌, ◌<◌, ◌⊎◌, true, false, List, length, All, Option, Result, Err}
 use denote.Param.Members.{Shared}
 use Rattle.std.specs.Io.KnownBytes.{Appends}
 use Rattle.adf_io.specs.Prefix.{WritesFront}
 use Rattle.adf_words.specs.declared.query.CheckJob.{CheckJob}
+use Rattle.adf_archive.specs.declared.checking.Detail.{Detail}
 use Rattle.adf_archive.specs.declared.fault.ArchiveFault.{ArchiveFault}
 use Rattle.adf_archive.specs.declared.fault.ArchiveFault.TheVariants.{Output, Memory}
 use Rattle.adf_archive.specs.declared.report.ImageReport.{ImageReport}
@@ -11,7 +12,7 @@ use Rattle.adf_archive.specs.declared.telling.Form.{Form}
 use Rattle.adf_archive.specs.declared.telling.Tally.{Tally}
 use Rattle.adf_archive.specs.Each.{GivesFrom}
 use Rattle.adf_archive.specs.Lines.{told_from}
-use Rattle.adf_archive.specs.Report.{IsReportFor}
+use Rattle.adf_archive.specs.Report.{IsReportOfSome, explains}
 use Rattle.adf_archive.specs.Status.{IsTally, ends_as}
 
 -- the reports on all these images were written, each made by the function for its position, and this is their status
@@ -24,9 +25,10 @@ abbrev pub LeavesOff : {F : Type 0} → Shared F (ℕ × Unit {0}) ImageReport �
 LeavesOff g f form paths old new =
     (count : ℕ) × (reports : List ImageReport) × (count ≤ length paths) × GivesFrom g f 0 count reports × WritesFront old new (told_from form paths 0 reports)
 
--- whether the faults are explained: with `--all` and with `--json`
-abbrev pub tells_texts : CheckJob → Bool
-tells_texts job = job.all || job.json
+-- what a command reports: with `--all` all faults, and with `--all` and with `--json` the texts that explain them
+pub record IsDetailOf (job : CheckJob) (detail : Detail) : Type 0 where
+  pub all : detail.all ≡ job.all
+  pub texts : (job.all ≡ true) ⊎ (job.json ≡ true) → explains detail ≡ true
 
 -- the reports on images: their paths, the form, and the report on each, which is the check's result for the bytes of
 -- its file
@@ -35,7 +37,9 @@ pub record Archive (job : CheckJob) : Type 0 where
   pub reports : List ImageReport
   pub form : Form
   pub within : length reports ≤ length paths
-  pub checked : All (IsReportFor (tells_texts job)) reports
+  pub detail : Detail
+  pub wanted : IsDetailOf job detail
+  pub checked : All (IsReportOfSome detail) reports
   pub json : form.json ≡ job.json
   -- the path is left out only for a single image
   pub alone : form.paths ≡ false → length paths ≤ 1

@@ -1,5 +1,5 @@
 -- The report on the bytes of an image.
-use Rattle.std.specs.Prelude.{◌≡◌, ℕ, ◌+◌, ◌<◌, ◌⊎◌, Bool, true, false, ◌||◌, None, List, [], length, count_by, All, IfSome, MatchOption, is_some, ⊤}
+use Rattle.std.specs.Prelude.{◌≡◌, ℕ, ◌+◌, ◌<◌, ◌⊎◌, Bool, true, false, ◌||◌, None, List, [], length, count_by, map, All, IfSome, MatchOption, is_some, ⊤}
 use Rattle.adf_block.specs.Boot.{HasKind}
 use Rattle.adf_block.specs.Image.{block_count}
 use Rattle.adf_block.specs.Size.{IsSizeFault}
@@ -8,7 +8,7 @@ use Rattle.ados_model.specs.Change.{is_file}
 use Rattle.ados_model.specs.Stands.{Stands}
 use Rattle.ados_model.specs.Accepted.{Accepts}
 use Rattle.ados_model.specs.Faults.{Shows}
-use Rattle.ados_faults.specs.Listed.{AreMarks, Marks}
+use Rattle.ados_faults.specs.Listed.{AreMarks, ListsEach, Marks}
 use Rattle.ados_faults.specs.Values.{AreValues, NoneShows}
 use Rattle.ados_volume.specs.declared.below.Below.{Below}
 use Rattle.ados_volume.specs.Below.{AreBelow}
@@ -79,10 +79,17 @@ abbrev pub IsExplained : ImageReport → Type 0
 IsExplained (Refused told) = HaveTexts true told.faults.items
 IsExplained report = ⊤
 
--- the report is the check's result for the bytes of some file
-abbrev pub IsReportOfSome : ImageReport → Type 0
-IsReportOfSome report = (image : List ℕ) × IsReport image report
+-- each fault of the kinds that are told by places is reported, unless there may be more
+abbrev pub IsComplete : List ℕ → ImageReport → Type 0
+IsComplete image (Refused told) = ListsEach image told.more (map (λ shown. shown.fault) told.faults.items)
+IsComplete image report = ⊤
 
--- so it is, and its faults are explained if that is wanted
-abbrev pub IsReportFor : Bool → ImageReport → Type 0
-IsReportFor explained report = IsReportOfSome report × (explained ≡ true → IsExplained report)
+-- the report is the check's result for these bytes; its faults are explained and complete, if that is wanted
+pub record IsReportFor (detail : Detail) (image : List ℕ) (report : ImageReport) : Type 0 where
+  pub is : IsReport image report
+  pub texts : explains detail ≡ true → IsExplained report
+  pub each : detail.all ≡ true → IsComplete image report
+
+-- so it is for the bytes of some file
+abbrev pub IsReportOfSome : Detail → ImageReport → Type 0
+IsReportOfSome detail report = (image : List ℕ) × IsReportFor detail image report

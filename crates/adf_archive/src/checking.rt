@@ -1,10 +1,11 @@
 //! The check of one image, as a report.
-ghost use Rattle.std.specs.Prelude.{◌≡◌, ℕ, List, IfOk, IfSome, true};
+ghost use Rattle.std.specs.Prelude.{ℕ, List, IfOk, IfSome};
 ghost use Rattle.ados_model.specs.Tree.{Tree};
 ghost use Rattle.ados_model.specs.Stands.{Stands};
 ghost use Rattle.ados_model.specs.Accepted.{Accepts};
 ghost use Rattle.ados_model.specs.Faults.{Shows};
-ghost use Rattle.adf_archive.specs.Report.{IsExplained, IsReport, IsReportOfSome, Tells, explains};
+ghost use Rattle.adf_archive.specs.Report.{IsReportFor, IsReportOfSome, Tells};
+ghost use Rattle.adf_archive.specs.declared.checking.Detail.{Detail};
 
 use crate::contents::contents_of;
 use crate::faults::told_faults;
@@ -30,8 +31,7 @@ pub struct Detail {
 
 /// The report on an image file. For most images a sketch decides; the others are read whole.
 pub fn report_file<R: ReadImages>(rt: &R, alloc: Global, path: &str, detail: Detail) -> ImageReport
-    ensures report { IsReportOfSome result }
-    ensures texts { explains detail ≡ true → IsExplained result }
+    ensures { IsReportOfSome detail result }
 {
     let sketched = if detail.contents {
         None
@@ -49,8 +49,7 @@ pub fn report_file<R: ReadImages>(rt: &R, alloc: Global, path: &str, detail: Det
 
 /// The report on an image that is accepted as it is, if a sketch shows this.
 fn report_sketch<R: ReadImages>(rt: &R, alloc: Global, path: &str) -> Option<ImageReport>
-    ensures report { IfSome result IsReportOfSome }
-    ensures texts { IfSome result IsExplained }
+    ensures { IfSome result (λ report. (detail : Detail) → IsReportOfSome detail report) }
 {
     let sketch = rt.read_sketch(alloc, path)?;
     let kind = accepted_kind(alloc, &sketch)?;
@@ -64,8 +63,7 @@ fn report_sketch<R: ReadImages>(rt: &R, alloc: Global, path: &str) -> Option<Ima
 
 /// The report on a file without an image.
 fn unread(fault: LoadFault) -> ImageReport
-    ensures report { IsReportOfSome result }
-    ensures texts { IsExplained result }
+    ensures { (detail : Detail) → IsReportOfSome detail result }
 {
     match fault {
         LoadFault::Size(refused) => ImageReport::WrongSize(refused.fault),
@@ -77,8 +75,7 @@ fn unread(fault: LoadFault) -> ImageReport
 
 /// The report on an image.
 pub fn report_image(alloc: Global, image: Image, detail: Detail) -> ImageReport
-    ensures report { IsReport image result }
-    ensures texts { explains detail ≡ true → IsExplained result }
+    ensures { IsReportFor detail image result }
 {
     match try_report(alloc, image, detail) {
         Ok(report) => report,
@@ -88,8 +85,7 @@ pub fn report_image(alloc: Global, image: Image, detail: Detail) -> ImageReport
 
 /// The report on an image, if there is memory for it.
 fn try_report(alloc: Global, image: Image, detail: Detail) -> Result<ImageReport, AllocError>
-    ensures report { IfOk result (IsReport image) }
-    ensures texts { IfOk result (λ report. explains detail ≡ true → IsExplained report) }
+    ensures { IfOk result (IsReportFor detail image) }
 {
     match check(alloc, image) {
         Ok(volume) => accepted(alloc, &volume, detail),
@@ -104,8 +100,7 @@ fn try_report(alloc: Global, image: Image, detail: Detail) -> Result<ImageReport
 
 /// The report on an accepted image.
 fn accepted(alloc: Global, volume: &Volume, detail: Detail) -> Result<ImageReport, AllocError>
-    ensures report { IfOk result (λ report. (old : List ℕ) → Accepts old volume.now.was_validated volume.now.image → IsReport old report) }
-    ensures texts { IfOk result IsExplained }
+    ensures { IfOk result (λ report. (old : List ℕ) → Accepts old volume.now.was_validated volume.now.image → IsReportFor detail old report) }
 {
     let contents = wanted_contents(alloc, volume, detail)?;
     let image = volume.image();
@@ -139,8 +134,7 @@ fn refused(
     detail: Detail,
 ) -> Result<ImageReport, AllocError>
     requires { Shows image.now fault.kind fault.block }
-    ensures report { IfOk result (IsReport image.now) }
-    ensures texts { IfOk result (λ report. explains detail ≡ true → IsExplained report) }
+    ensures { IfOk result (IsReportFor detail image.now) }
 {
     let told = told_faults(alloc, image, fault, detail)?;
     Ok(ImageReport::Refused(RefusedImage {

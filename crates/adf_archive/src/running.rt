@@ -1,8 +1,8 @@
 //! The check of an archive.
 ghost use Rattle.std.specs.Prelude.{◌≡◌, ◌<◌, ◌≤◌, ℕ, true, false, IfOk, IfErr, length, map};
 ghost use Rattle.std.specs.String.{string_bytes};
-ghost use Rattle.adf_archive.specs.Archive.{LeavesOff, TellsAll, TellsArchive, tells_texts};
-ghost use Rattle.adf_archive.specs.Report.{IsReportFor, explains};
+ghost use Rattle.adf_archive.specs.Archive.{IsDetailOf, LeavesOff, TellsAll, TellsArchive};
+ghost use Rattle.adf_archive.specs.Report.{IsReportOfSome};
 ghost use Rattle.adf_archive.specs.Status.{IsBroken};
 
 use crate::checking::{Detail, report_file};
@@ -49,7 +49,7 @@ where
         jobs_for(rt, job.jobs),
         &|place: usize| -> ImageReport
             requires { place < length paths.now }
-            ensures { IsReportFor (explains detail) result }
+            ensures { IsReportOfSome detail result }
         { report_file(rt, alloc, paths[place].as_str(), detail) },
         form,
         detail.texts,
@@ -74,7 +74,7 @@ fn form_of(job: &CheckJob<'_>, found: &FoundImages) -> Form
 
 /// The parts of each report. Texts explain the faults of a single image, or all faults with `--all`.
 fn detail_of(job: &CheckJob<'_>, form: Form) -> Detail
-    ensures { tells_texts job.now ≡ true → explains result ≡ true }
+    ensures { IsDetailOf job.now result }
 {
     Detail {
         all: job.all,

@@ -10,3 +10,6 @@ pub mod Freed
 pub mod Above
 pub mod Disk
 pub mod Told
+pub mod Looking
+pub mod Each
+pub mod RightNames

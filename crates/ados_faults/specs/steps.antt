@@ -4,3 +4,4 @@ pub mod Walked
 pub mod Chain
 pub mod Named
 pub mod Looked
+pub mod Looks

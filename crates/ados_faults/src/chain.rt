@@ -3,7 +3,7 @@ ghost use Rattle.std.specs.Prelude.{◌≡◌, ◌≢◌, ◌<◌, ◌+◌, All,
 ghost use Rattle.adf_block.specs.Fields.{held_count, sequence_number};
 ghost use Rattle.ados_model.specs.Faults.{AreDataBlocks, HoldsOtherSize, InImage, IsOfs, LinksOn};
 ghost use Rattle.ados_faults.specs.steps.Chain.{HoldsTooLittle, IsPlaced};
-ghost use Rattle.ados_faults.specs.steps.Noted.{AreNoted};
+ghost use Rattle.ados_faults.specs.steps.Noted.{AreNoted, AreStillNoted};
 
 use crate::bits::is_inside;
 use crate::notes::Notes;
@@ -17,7 +17,8 @@ pub(crate) fn look_along(image: &Image, file: u32, blocks: &[u32], notes: &mut N
     requires inside { InImage image.now file }
     requires ofs { IsOfs image.now }
     requires data { AreDataBlocks image.now file blocks.now }
-    ensures { AreNoted image.now notes.new.cells.items }
+    ensures noted { AreNoted image.now notes.new.cells.items }
+    ensures stays { AreStillNoted notes.old.cells.items notes.new.cells.items }
 {
     for i in 0..blocks.len() {
         look_at_place(image, file, blocks, i, notes);
@@ -32,7 +33,8 @@ fn look_at_place(image: &Image, file: u32, blocks: &[u32], i: usize, notes: &mut
     requires ofs { IsOfs image.now }
     requires data { AreDataBlocks image.now file blocks.now }
     requires within { i < length blocks.now }
-    ensures { AreNoted image.now notes.new.cells.items }
+    ensures noted { AreNoted image.now notes.new.cells.items }
+    ensures stays { AreStillNoted notes.old.cells.items notes.new.cells.items }
 {
     let block = blocks[i];
     if is_inside(image, block) {
@@ -46,7 +48,8 @@ fn look_at_block(image: &Image, blocks: &[u32], i: usize, block: u32, notes: &mu
     requires ofs { IsOfs image.now }
     requires inside { InImage image.now block }
     requires at { IsPlaced image.now blocks.now i block }
-    ensures { AreNoted image.now notes.new.cells.items }
+    ensures noted { AreNoted image.now notes.new.cells.items }
+    ensures stays { AreStillNoted notes.old.cells.items notes.new.cells.items }
 {
     let place = has_other_place(image, blocks, i, block);
     notes.note_if(image, FaultKind::BadSequence, block, place);

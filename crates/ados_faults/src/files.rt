@@ -4,7 +4,7 @@ ghost use Rattle.adf_block.specs.Image.{block_count};
 ghost use Rattle.adf_block.specs.Fields.{file_size, format_of};
 ghost use Rattle.ados_model.specs.Tree.{data_count};
 ghost use Rattle.ados_model.specs.Faults.{AreDataBlocks, InImage, IsFile};
-ghost use Rattle.ados_faults.specs.steps.Noted.{AreNoted};
+ghost use Rattle.ados_faults.specs.steps.Noted.{AreNoted, AreStillNoted};
 ghost use Rattle.ados_faults.specs.steps.Walked.{IsStep};
 
 use crate::chain::look_along;
@@ -33,7 +33,8 @@ pub(crate) fn look_at_files(
 ) -> Result<bool, AllocError>
     requires noted { AreNoted image.now notes.old.cells.items }
     requires steps { All (IsStep image.now) steps.now }
-    ensures { IfOk result (λ _. AreNoted image.now notes.new.cells.items) }
+    ensures noted { IfOk result (λ _. AreNoted image.now notes.new.cells.items) }
+    ensures stays { IfOk result (λ _. AreStillNoted notes.old.cells.items notes.new.cells.items) }
 {
     let mut looked = Looked {
         files: Vec::from_elem(alloc, false, image.blocks() as usize)?,
@@ -58,6 +59,7 @@ impl Looked {
         requires step { IsStep image.now step }
         requires cells { length self.old.files.items ≡ block_count image.now }
         ensures noted { IfOk result (λ _. AreNoted image.now notes.new.cells.items) }
+        ensures stays { IfOk result (λ _. AreStillNoted notes.old.cells.items notes.new.cells.items) }
         ensures cells { length self.new.files.items ≡ length self.old.files.items }
     {
         let Role::Entry(_, _) = step.role else {
@@ -85,7 +87,8 @@ fn look_at_file(
     requires noted { AreNoted image.now notes.old.cells.items }
     requires inside { InImage image.now file }
     requires file { IsFile image.now file }
-    ensures { IfOk result (λ _. AreNoted image.now notes.new.cells.items) }
+    ensures noted { IfOk result (λ _. AreNoted image.now notes.new.cells.items) }
+    ensures stays { IfOk result (λ _. AreStillNoted notes.old.cells.items notes.new.cells.items) }
 {
     let Some(headers) = headers_of(alloc, image, file, left)? else {
         return Ok(0);
@@ -100,7 +103,8 @@ fn look_at_blocks(image: &Image, file: u32, blocks: &[u32], notes: &mut Notes)
     requires noted { AreNoted image.now notes.old.cells.items }
     requires inside { InImage image.now file }
     requires data { AreDataBlocks image.now file blocks.now }
-    ensures { AreNoted image.now notes.new.cells.items }
+    ensures noted { AreNoted image.now notes.new.cells.items }
+    ensures stays { AreStillNoted notes.old.cells.items notes.new.cells.items }
 {
     let wrong = has_other_count(image, file, blocks);
     notes.note_if(image, FaultKind::BadCount, file, wrong);

@@ -2,7 +2,7 @@
 ghost use Rattle.std.specs.Prelude.{◌≡◌, All, IfOk, IsTrue};
 ghost use Rattle.adf_block.specs.Whole.{IsImage};
 ghost use Rattle.ados_faults.specs.steps.Named.{AreDuplicates, IsEntryName};
-ghost use Rattle.ados_faults.specs.steps.Noted.{AreNoted};
+ghost use Rattle.ados_faults.specs.steps.Noted.{AreNoted, AreStillNoted};
 ghost use Rattle.ados_faults.specs.steps.Walked.{IsStep};
 
 use crate::name_bytes::{has_short_name, upper_name};
@@ -31,7 +31,8 @@ pub(crate) fn note_duplicates(
     requires noted { AreNoted image.now notes.old.cells.items }
     requires steps { All (IsStep image.now) steps.now }
     requires image { IsImage image.now }
-    ensures { IfOk result (λ _. AreNoted image.now notes.new.cells.items) }
+    ensures noted { IfOk result (λ _. AreNoted image.now notes.new.cells.items) }
+    ensures stays { IfOk result (λ _. AreStillNoted notes.old.cells.items notes.new.cells.items) }
 {
     let mut names = names_of(alloc, image, steps)?;
     names.sort()?;
@@ -81,7 +82,8 @@ fn note_if_same(image: &Image, entry: &EntryName, other: &EntryName, notes: &mut
     requires noted { AreNoted image.now notes.old.cells.items }
     requires entry { IsEntryName image.now entry.now }
     requires other { IsEntryName image.now other.now }
-    ensures { AreNoted image.now notes.new.cells.items }
+    ensures noted { AreNoted image.now notes.new.cells.items }
+    ensures stays { AreStillNoted notes.old.cells.items notes.new.cells.items }
 {
     let twice = are_duplicates(entry, other);
     notes.note_if(image, FaultKind::DuplicateName, entry.block, twice);
