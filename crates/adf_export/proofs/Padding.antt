@@ -21,7 +21,7 @@ six_pieces text a b c d e f = ap (λ (l : List ℕ). l ++ f) (five_pieces text a
 
 -- no comment, and one in quotes
 module _ (text comment : List ℕ) where
-  if_quoted : Bool → List ℕ
+  abbrev if_quoted : Bool → List ℕ
   if_quoted none = text ++ (if none then [] else codes " \"" ++ shown true comment ++ codes "\"")
 
   pub no_comment : (length comment == 0) ≡ true → text ≡ text ++ comment_text comment

@@ -68,7 +68,12 @@ pub(crate) fn write_directory<W: Write>(
 
 impl Listing {
     /// The text before the first entry of a directory.
-    fn start(alloc: Global, volume: &Volume, dir: u32, form: ListForm) -> Result<Listing, AllocError>
+    fn start(
+        alloc: Global,
+        volume: &Volume,
+        dir: u32,
+        form: ListForm,
+    ) -> Result<Listing, AllocError>
         requires { HasDirectory volume.now.image dir }
         ensures places { IfOk result (λ made. ArePlacesInDirectories volume.now.image made.levels.items) }
         ensures starts { IfOk result (λ made. (t : Tree) → Stands volume.now.image t → Starts t dir form made) }

@@ -9,7 +9,7 @@ returns-in-Bytes c =
 
 pub returns-in-Letters : goal.returns-in-Letters
 returns-in-Letters c =
-    subst (λ (f : ListForm). OnOk c.push_line.result (PushesEntry f c.args.text.now.items c.push_line.new.text.items c.args.info.now c.args.path.now)) (sym c.in-Letters.is) c.push_line.ensures
+    subst (λ (f : ListForm). OnOk c.push_line-in-Letters.result (PushesEntry f c.args.text.now.items c.push_line-in-Letters.new.text.items c.args.info.now c.args.path.now)) (sym c.in-Letters.is) c.push_line-in-Letters.ensures
 
 pub returns-in-Long : goal.returns-in-Long
 returns-in-Long c =
