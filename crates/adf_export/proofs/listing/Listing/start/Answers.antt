@@ -1,4 +1,4 @@
-use Rattle.std.proofs.Common.{ℕ, ◌++◌, List, [], ◌∷◌, refl, ap, ◌∙◌, arith}
+use Rattle.std.proofs.Common.{◌++◌, List, [], ◌∷◌, refl, ap, ◌∙◌, arith}
 use Rattle.ados_volume.proofs.Ordered.{own_place}
 use Rattle.adf_export.specs.declared.listing.Level.{Level}
 use Rattle.adf_export.proofs.Directories.{node_of, node_there}
