@@ -8,6 +8,7 @@ from __future__ import annotations
 
 import datetime
 import fcntl
+import json
 import os
 import re
 import shlex
@@ -20,6 +21,7 @@ from typing import Callable, Dict, List, NamedTuple, Optional, Sequence, Set, Tu
 
 sys.dont_write_bytecode = True
 
+from harmful import FILE, Drawing
 from harness import BLOCK, TOP, Image, Ran, Room, fault_of, run, try_all
 
 COMMANDS = "blank info check list print extract add mkdir delete rename protect date comment relabel boot serve".split()
@@ -734,6 +736,91 @@ def accepted_images(tried: Commands) -> None:
     )
 
 
+# The lists of the image of `told_entries`, and its objects.
+LISTED_BYTES = """Volume Work
+     dir spa---- 2000-01-01 01:01:02.50 A
+     dir ---rwed raw 2929975 0 0 S
+       0 sparwed 1978-01-01 00:00:00.00 S/caf\xe9
+     600 s----e- 1978-01-01 23:59:59.98 S/f\x1b
+       0 ---rwed 1978-01-01 00:00:00.00 t
+"""
+LISTED_LONG = """Volume Work
+     dir hspa---- 2000-01-01 01:01:02 A "a "b" %1B\xe9%"
+     dir ----rwed raw 2929975 0 0 S
+       0 hsparwed 1978-01-01 00:00:00 S/caf\xe9
+     600 -s----e- 1978-01-01 23:59:59 S/f%1B
+       0 ----rwed 1978-01-01 00:00:00 t
+"""
+LISTED_OBJECTS = r"""{"path":"A","type":"directory","size":0,"blocks":1,"header":2,"bits":4294967295,"date":"2000-01-01 01:01:02.50","comment":"a \"b\" \u001bé%"}
+{"path":"S","type":"directory","size":0,"blocks":1,"header":3,"bits":0,"date":"raw 2929975 0 0","comment":""}
+{"path":"S/café","type":"file","size":0,"blocks":1,"header":4,"bits":4294967280,"date":"1978-01-01 00:00:00.00","comment":""}
+{"path":"S/f\u001b","type":"file","size":600,"blocks":3,"header":5,"bits":77,"date":"1978-01-01 23:59:59.98","comment":""}
+{"path":"t","type":"file","size":0,"blocks":1,"header":6,"bits":0,"date":"1978-01-01 00:00:00.00","comment":""}
+"""
+
+
+def told_entries(blank: bytes) -> bytes:
+    """An empty directory with a comment and all bits, a directory with two files, whose names have the bytes E9 and 1B, and a
+    file of the root. They have the blocks from 2 on, in this order, and the data of the large file those after them."""
+    drawing = Drawing(blank)
+    empty, full = drawing.entry(drawing.root, b"A"), drawing.entry(drawing.root, b"S")
+    small, large = drawing.entry(full, b"caf\xe9", FILE), drawing.entry(full, b"f\x1b", FILE)
+    drawing.entry(drawing.root, b"t", FILE)
+    first, second = drawing.left.pop(), drawing.left.pop()
+    comment = b'a "b" \x1b\xe9%'
+    longs = {
+        empty: {80: 0xFFFFFFFF, 105: 8035, 106: 61, 107: 125},
+        full: {105: 2929975},
+        small: {80: 0xFFFFFFF0},
+        large: {80: 0x4D, 81: 600, 2: 2, 4: first, 77: first, 76: second, 106: 1439, 107: 2999},
+    }
+    for block, fields in longs.items():
+        for at, value in fields.items():
+            drawing.image.put(block, at, value)
+    start = empty * BLOCK + 4 * 82
+    drawing.image.data[start : start + 1 + len(comment)] = bytes([len(comment)]) + comment
+    return drawing.done()
+
+
+def forms_of_lists(tried: Commands) -> None:
+    """Each form of `list`, of the root, of an empty directory, of files, and of paths that lead nowhere."""
+    image = told_entries(tried.content("ffs.adf"))
+    tried.write("told.adf", image)
+    plain, long, objects = (it.splitlines(keepends=True) for it in (LISTED_BYTES, LISTED_LONG, LISTED_OBJECTS))
+    letters = [it.replace("\x1b", "%1B") for it in plain]
+    as_bytes = partial(str.encode, encoding="latin-1")
+    tried.rows(
+        row("list of each field", "list told.adf", 0, as_bytes(LISTED_BYTES)),
+        row("list --letters of each field", "list --letters told.adf", 0, "".join(letters)),
+        row("list --long of each field", "list --long told.adf", 0, LISTED_LONG),
+        row("list --json of each field", "list --json told.adf", 0, LISTED_OBJECTS),
+        row("list --long of a directory", "list --long told.adf Work:s", 0, "".join([long[0], *long[3:5]])),
+        row("list --json of a directory", "list --json told.adf S", 0, "".join(objects[2:4])),
+    )
+    for form, head in (([], plain[0]), (["--letters"], plain[0]), (["--long"], plain[0]), (["--json"], "")):
+        tried.rows(row(f"list {form} of an empty directory", ["list", *form, "told.adf", "a"], 0, head))
+    for at, path in ((3, "s/CAF\xe9"), (4, "S/F\x1b"), (5, "t")):
+        tried.rows(
+            row(f"list of the file {path!r}", ["list", "told.adf", path], 0, as_bytes(plain[0] + plain[at])),
+            row(f"list --letters of the file {path!r}", ["list", "--letters", "told.adf", path], 0, letters[0] + letters[at]),
+            row(f"list --long of the file {path!r}", ["list", "--long", "told.adf", path], 0, long[0] + long[at]),
+            row(f"list --json of the file {path!r}", ["list", "--json", "told.adf", path], 0, objects[at - 1]),
+        )
+    for options in ([], ["--letters"], ["--long"], ["--json"]):
+        name = " ".join(["list", *options])
+        tried.rows(
+            row(f"{name} of no object", ["list", *options, "told.adf", "S/none"], 3, "refused 205 S/none\n", "object not found"),
+            row(f"{name} below no directory", ["list", *options, "told.adf", "none/x"], 3, "refused 204 none/x\n", "directory not found"),
+            row(f"{name} below a file", ["list", *options, "told.adf", "t/x"], 3, "refused 212 t/x\n", "required type"),
+        )
+    for both in ("--long --json", "--json --long", "--letters --long", "--letters --json"):
+        tried.rows(wrong(f"list {both}", f"list {both} none.adf", *both.split(), "Usage"))
+    told = [json.loads(it) for it in tried.run("list", "--json", "told.adf").output.splitlines()]
+    tried.report.same("list --json as JSON: a path", told[3]["path"], "S/f\x1b")
+    tried.report.same("list --json as JSON: a comment", told[0]["comment"], 'a "b" \x1b\xe9%')
+    tried.stays("lists change no image", "told.adf", image)
+
+
 def refused_images(tried: Commands) -> None:
     """Refused images, with each command that reads one."""
     blank = tried.content("ffs.adf")
@@ -811,7 +898,7 @@ PARTS: List[Callable[[Commands], None]] = [
     *(clients, faulty_scripts, turns, growths, many_clients),
     *(directories, refused_changes, changes_beside, protect_words, boot_blocks),
     *(held_images, missing_files, first_faults),
-    *(accepted_images, refused_images, stale_image, refused_output),
+    *(accepted_images, forms_of_lists, refused_images, stale_image, refused_output),
 ]
 
 

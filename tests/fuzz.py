@@ -343,6 +343,11 @@ def controls_in(text: str) -> List[str]:
     return sorted({it for it in text if unicodedata.category(it) == "Cc" and it != "\n"})
 
 
+def escaped(text: str) -> str:
+    """A text for people: its control characters are escapes."""
+    return "".join(f"%{ord(it):02X}" if unicodedata.category(it) == "Cc" else it for it in text)
+
+
 def files_below(top: str) -> Tree:
     """The files and directories below a directory of the host."""
     found: Tree = {}
@@ -424,17 +429,20 @@ class Tried:
             assert fault["wanted"] is None, fault
 
     def listed(self, told: Dict[str, object]) -> List[str]:
-        """`list` has a line for each entry; its form for people steers no terminal."""
+        """`list` has a line for each entry, and so have its other forms; those for people steer no terminal."""
         lines = self.agrees("list", "image.adf").output.count(b"\n")
-        text = self.agrees("list", "--letters", "image.adf").output.decode()
-        bad = controls_in(text)
-        assert not bad, f"list --letters prints {bad}"
+        text, long, objects = (self.agrees("list", f"--{form}", "image.adf").output.decode() for form in ("letters", "long", "json"))
+        bad = controls_in(text + long)
+        assert not bad, f"list --letters or --long prints {bad}"
         if not self.is_accepted:
             return []
         entries = [told["files"], told["directories"]]
         names = text.split("\n")[1:-1]
         # (a line feed of a name is a line feed in the form that has raw bytes)
         assert lines > len(names) == sum(it for it in entries if isinstance(it, int)), f"list: {lines} lines for {entries}"
+        assert long.count("\n") == len(names) + 1, f"list --long: {long}"
+        paths = [str(json.loads(it)["path"]) for it in objects.split("\n")[:-1]]
+        assert len(paths) == len(names) and all(name.endswith(" " + escaped(path)) for name, path in zip(names, paths)), f"list --json: {paths}"
         return names
 
     def taken_out(self) -> Tree:

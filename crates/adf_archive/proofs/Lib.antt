@@ -6,5 +6,4 @@ pub mod Gathered
 pub mod Listed
 pub mod Shown
 pub mod Sizes
-pub mod Tokens
 pub mod Whole

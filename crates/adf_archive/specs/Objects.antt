@@ -1,10 +1,11 @@
 -- The JSON object of a report on an image, as tokens.
 use Rattle.std.specs.Prelude.{ℕ, Bool, true, false, if◌then◌else◌, List, [], ◌∷◌, ◌++◌, flat_map, decimal, codes, Option, Some, None, option_map}
 use Rattle.std.specs.String.{string_bytes}
-use Rattle.json.specs.Token.{Token, begin_object, end_object, begin_array, end_array, key, string, number, boolean, null}
+use Rattle.json.specs.Token.{Token, begin_object, end_object, begin_array, end_array, key, string, number, boolean}
 use Rattle.json.specs.Print.{print}
 use Rattle.adf_block.specs.declared.boot.BootKind.{BootKind}
 use Rattle.adf_block.specs.declared.boot.BootKind.TheVariants.{Ofs, Ffs, OtherDos, NotDos}
+use Rattle.adf_json.specs.Members.{number_token, string_token}
 use Rattle.adf_text.specs.Letters.{letters}
 use Rattle.ados_faults.specs.declared.values.FaultValues.{FaultValues}
 use Rattle.adf_archive.specs.declared.objects.Members.{Members}
@@ -13,16 +14,6 @@ use Rattle.adf_archive.specs.declared.report.ImageReport.{ImageReport}
 use Rattle.adf_archive.specs.declared.report.ImageReport.TheVariants.{Accepted, Refused, WrongSize, NotChecked}
 use Rattle.adf_archive.specs.declared.report.ShownFault.{ShownFault}
 use Rattle.adf_archive.specs.Words.{kind_word, size_word}
-
--- a text, or null
-abbrev pub string_token : Option (List ℕ) → Token
-string_token (Some text) = string text
-string_token None = null
-
--- a number, or null
-abbrev pub number_token : Option ℕ → Token
-number_token (Some n) = number (decimal n)
-number_token None = null
 
 -- the DOS type of a disk: `DOS\` and its last byte as a number
 abbrev pub kind_text : Option BootKind → Option (List ℕ)

@@ -1,11 +1,13 @@
 //! The JSON object of a report on an image.
 ghost use Rattle.std.specs.Prelude.{◌≡◌, ◌++◌, ◌∷◌, [], OnOk, codes, flat_map, option_map};
-ghost use Rattle.json.specs.Token.{key, boolean};
-ghost use Rattle.adf_archive.specs.Objects.{contents_tokens, fault_tokens, faults_tokens, found_in, is_checked, kind_text, known_tokens, members_of, members_tokens, number_token, object_line, object_tokens, shown_tokens, string_token, wanted_in};
+ghost use Rattle.json.specs.Token.{key};
+ghost use Rattle.adf_json.specs.Members.{string_token};
+ghost use Rattle.adf_archive.specs.Objects.{contents_tokens, fault_tokens, faults_tokens, found_in, is_checked, kind_text, known_tokens, members_of, members_tokens, object_line, object_tokens, shown_tokens, wanted_in};
 
 use crate::report::{Contents, ImageReport, ShownFault};
 use crate::words::{kind_word, size_word};
 use adf_block::BootKind;
+use adf_json::{put_flag, put_number, put_text};
 use adf_text::letter_text;
 use ados_faults::FaultValues;
 use json::Writer;
@@ -236,38 +238,5 @@ fn wanted_in(values: Option<FaultValues>) -> Option<u64>
     match values {
         Some(values) => values.wanted.map(u64::from),
         None => None,
-    }
-}
-
-/// Writes a member that is true or false.
-fn put_flag(writer: &mut Writer, name: &str, value: bool) -> Result<(), AllocError>
-    ensures before { writer.new.before ≡ writer.old.before }
-    ensures tokens { OnOk result (writer.new.tokens ≡ writer.old.tokens ++ key name.now ∷ boolean value ∷ []) }
-{
-    writer.key(name)?;
-    writer.boolean(value)
-}
-
-/// Writes a member that is a number or null.
-fn put_number(writer: &mut Writer, name: &str, value: Option<u64>) -> Result<(), AllocError>
-    ensures before { writer.new.before ≡ writer.old.before }
-    ensures tokens { OnOk result (writer.new.tokens ≡ writer.old.tokens ++ key name.now ∷ number_token value ∷ []) }
-{
-    writer.key(name)?;
-    match value {
-        Some(number) => writer.u64(number),
-        None => writer.null(),
-    }
-}
-
-/// Writes a member that is a text or null.
-fn put_text(writer: &mut Writer, name: &str, value: Option<&str>) -> Result<(), AllocError>
-    ensures before { writer.new.before ≡ writer.old.before }
-    ensures tokens { OnOk result (writer.new.tokens ≡ writer.old.tokens ++ key name.now ∷ string_token (option_map (λ text. text.now) value.entry) ∷ []) }
-{
-    writer.key(name)?;
-    match value {
-        Some(text) => writer.string(text),
-        None => writer.null(),
     }
 }

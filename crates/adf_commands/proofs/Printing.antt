@@ -33,6 +33,7 @@ use Rattle.adf_commands.specs.Commands.Prints.{OnlyFaults, OfBytes, OfImages, Of
 use Rattle.std.proofs.lemmas.List.{append-nil}
 use Rattle.adf_archive.specs.Archive.{told_in}
 use Rattle.adf_words.specs.declared.query.CheckJob.{CheckJob}
+use Rattle.adf_words.specs.declared.query.ListForm.{ListForm}
 use Rattle.adf_commands.specs.Archives.{EndsArchive}
 use Rattle.adf_commands.specs.Rescues.{DoesRescue, IsRescueText, IsSomeRescueText, TellsRescue}
 use Rattle.adf_commands.specs.Refusals.{dos_line, IsDosText, IsRefusalText, refusal_line, told_line}
@@ -110,17 +111,17 @@ accepted_tree image true checked a = (a.2.0, a.2.1)
 
 -- for an accepted image
 module _ (image : List ℕ) (was_validated : Bool) (checked : List ℕ) (a : Accepts image was_validated checked) where
-  pub list_text : (path : Option (List ℕ)) (b : Bool) (dir : ℕ) (old new : Option (List ℕ)) → ((t : Tree) → Stands checked t → IsListed t path dir)
-      → ((t : Tree) → Stands checked t → Writes old new (IsList t dir b)) → Writes old new (IsListText path b image)
-  list_text path b dir old new listed h =
+  pub list_text : (path : Option (List ℕ)) (form : ListForm) (key : ℕ) (old new : Option (List ℕ)) → ((t : Tree) → Stands checked t → IsListed t path key)
+      → ((t : Tree) → Stands checked t → Writes old new (IsList t key form)) → Writes old new (IsListText path form image)
+  list_text path form key old new listed h =
       let s = accepted_tree image was_validated checked a in
-      let w = h s.0 s.1 in (w.0, w.1, (was_validated, checked, s.0, a, s.1, (dir, listed s.0 s.1, w.2)))
+      let w = h s.0 s.1 in (w.0, w.1, (was_validated, checked, s.0, a, s.1, (key, listed s.0 s.1, w.2)))
 
-  pub list_front : (path : Option (List ℕ)) (b : Bool) (dir : ℕ) (old new : Option (List ℕ)) → ((t : Tree) → Stands checked t → IsListed t path dir)
-      → ((t : Tree) → Stands checked t → WritesFrontOf old new (BeginsList t dir b)) → WritesFrontOf old new (BeginsListText path b image)
-  list_front path b dir old new listed h =
+  pub list_front : (path : Option (List ℕ)) (form : ListForm) (key : ℕ) (old new : Option (List ℕ)) → ((t : Tree) → Stands checked t → IsListed t path key)
+      → ((t : Tree) → Stands checked t → WritesFrontOf old new (BeginsList t key form)) → WritesFrontOf old new (BeginsListText path form image)
+  list_front path form key old new listed h =
       let s = accepted_tree image was_validated checked a in
-      let w = h s.0 s.1 in (w.0, (was_validated, checked, s.0, a, s.1, (dir, listed s.0 s.1, w.1)), w.2)
+      let w = h s.0 s.1 in (w.0, (was_validated, checked, s.0, a, s.1, (key, listed s.0 s.1, w.1)), w.2)
 
   pub print_text : (word : List ℕ) (old new : Option (List ℕ)) → ((t : Tree) → Stands checked t → IsPrinted t word old new) → Writes old new (IsPrintText word image)
   print_text word old new h =

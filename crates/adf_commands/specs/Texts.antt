@@ -20,6 +20,7 @@ use Rattle.adf_export.specs.Info.{info_text}
 use Rattle.adf_export.specs.Listing.{BeginsList, IsList}
 use Rattle.adf_words.specs.declared.job.ImageJob.{ImageJob}
 use Rattle.adf_words.specs.declared.job.ImageJob.TheVariants.{Info, List as ListOf, Print}
+use Rattle.adf_words.specs.declared.query.ListForm.{ListForm}
 use Rattle.adf_words.specs.declared.query.ListJob.{ListJob}
 use Rattle.adf_export.specs.Words.{LeadsTo}
 
@@ -41,24 +42,24 @@ disk_answer t = record { action = action_number DiskInfo; res1 = dos_true; res2 
 abbrev pub IsInfoText : List ℕ → List ℕ → Type 0
 IsInfoText = OfAccepted (λ was_validated checked t text. text ≡ info_text (disk_answer t) checked)
 
--- the directory to list: the root, or the one at a path
+-- the object to list: the root, or the file or directory at a path
 abbrev pub IsListed : Tree → Option (List ℕ) → ℕ → Type 0
-IsListed t None dir = dir ≡ root t
-IsListed t (Some word) dir = LeadsTo t word dir
+IsListed t None key = key ≡ root t
+IsListed t (Some word) key = LeadsTo t word key
 
--- the listing of that directory, with names as bytes or as letters; and the beginning of one
-abbrev pub IsListText : Option (List ℕ) → Bool → List ℕ → List ℕ → Type 0
-IsListText path as_letters = OfAccepted (λ was_validated checked t text. (dir : ℕ) × IsListed t path dir × IsList t dir as_letters text)
+-- the list of that object in this form, and the beginning of one
+abbrev pub IsListText : Option (List ℕ) → ListForm → List ℕ → List ℕ → Type 0
+IsListText path form = OfAccepted (λ was_validated checked t text. (key : ℕ) × IsListed t path key × IsList t key form text)
 
-abbrev pub BeginsListText : Option (List ℕ) → Bool → List ℕ → List ℕ → Type 0
-BeginsListText path as_letters = OfAccepted (λ was_validated checked t text. (dir : ℕ) × IsListed t path dir × BeginsList t dir as_letters text)
+abbrev pub BeginsListText : Option (List ℕ) → ListForm → List ℕ → List ℕ → Type 0
+BeginsListText path form = OfAccepted (λ was_validated checked t text. (key : ℕ) × IsListed t path key × BeginsList t key form text)
 
--- the requested listing
+-- the requested list
 abbrev pub IsListOf : ListJob → List ℕ → List ℕ → Type 0
-IsListOf job = IsListText (option_map (λ word. word.now) job.path) job.letters
+IsListOf job = IsListText (option_map (λ word. word.now) job.path) job.form
 
 abbrev pub BeginsListOf : ListJob → List ℕ → List ℕ → Type 0
-BeginsListOf job = BeginsListText (option_map (λ word. word.now) job.path) job.letters
+BeginsListOf job = BeginsListText (option_map (λ word. word.now) job.path) job.form
 
 -- the bytes of the file at a path
 abbrev pub IsPrintText : List ℕ → List ℕ → List ℕ → Type 0

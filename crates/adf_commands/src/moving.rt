@@ -1,6 +1,6 @@
 //! The commands that take entries out of a volume.
 ghost use Rattle.std.specs.Prelude.{◌≡◌, IfErr, IfOk, option_map};
-ghost use Rattle.ados_model.specs.Keys.{HasDirectory};
+ghost use Rattle.ados_model.specs.Keys.{HasKey};
 ghost use Rattle.ados_model.specs.Stands.{Stands};
 ghost use Rattle.ados_model.specs.Tree.{Tree};
 ghost use Rattle.adf_commands.specs.Texts.{BeginsListOf, IsListed, IsListOf, IsPrintText};
@@ -9,18 +9,16 @@ ghost use Rattle.adf_commands.specs.Commands.{TellsOf, TellsSome};
 
 use crate::fault::CommandFault;
 use crate::images::{accept, open_volume, read_image};
-use crate::refusal::DosRefusal;
 use adf_block::Image;
 use adf_export::{extract, locate_word, print_file, write_list};
-use adf_words::{ExtractJob, ListJob, Refused};
-use ados_model::DosError;
+use adf_words::{ExtractJob, ListJob};
 use ados_volume::Volume;
 use std::alloc::Global;
 use std::fs::File;
 use std::io::Write;
 use std::rt::Files;
 
-/// Prints the directories and files below a directory of a file's image.
+/// Prints the list of a file or directory in a file's image.
 pub(crate) fn print_list<'a, R: Files, W: Write>(
     rt: &R,
     alloc: Global,
@@ -33,7 +31,7 @@ pub(crate) fn print_list<'a, R: Files, W: Write>(
     tell_list(alloc, image, job, writer)
 }
 
-/// Prints the directories and files below a directory of an image.
+/// Prints the list of a file or directory in an image.
 fn tell_list<'a, W: Write>(
     alloc: Global,
     image: Image,
@@ -43,50 +41,30 @@ fn tell_list<'a, W: Write>(
     ensures { TellsOf (IsListOf job.now) (BeginsListOf job.now) image (W.contents writer.old) (W.contents writer.new) result }
 {
     let mut volume = accept(alloc, image)?;
-    let dir = listed_directory(alloc, &mut volume, job.path)?;
-    match write_list(alloc, &volume, dir, job.letters, writer) {
+    let key = listed_object(alloc, &mut volume, job.path)?;
+    match write_list(alloc, &volume, key, job.form, writer) {
         Ok(()) => Ok(()),
         Err(fault) => Err(CommandFault::from(fault)),
     }
 }
 
-/// The directory at a path; the root without one.
-fn listed_directory<'a>(
+/// The object at a path; the root without one.
+fn listed_object<'a>(
     alloc: Global,
     volume: &mut Volume,
     path: Option<&'a str>,
 ) -> Result<u32, CommandFault<'a>>
-    ensures listed { IfOk result (λ dir. (t : Tree) → Stands volume.old.image t → IsListed t (option_map (λ word. word.now) path.entry) dir) }
-    ensures directory { IfOk result (λ dir. HasDirectory volume.old.image dir) }
+    ensures listed { IfOk result (λ key. (t : Tree) → Stands volume.old.image t → IsListed t (option_map (λ word. word.now) path.entry) key) }
+    ensures key { IfOk result (λ key. HasKey volume.old.image key) }
     ensures same { volume.new ≡ volume.old }
     ensures fault { IfErr result IsNoImageRefusal }
 {
     let Some(word) = path else {
         return Ok(volume.root());
     };
-    let key = match locate_word(alloc, volume, word) {
-        Ok(key) => key,
-        Err(fault) => return Err(CommandFault::from(fault)),
-    };
-    if volume.is_file(key) {
-        return Err(no_directory(alloc, word));
-    }
-    Ok(key)
-}
-
-/// The fault of a path to a file where a directory is needed.
-fn no_directory<'a>(alloc: Global, word: &'a str) -> CommandFault<'a>
-    ensures { IsNoImageRefusal result }
-{
-    match String::from_str(alloc, word) {
-        Ok(path) => CommandFault::Dos(DosRefusal {
-            refused: Refused {
-                error: DosError::ObjectWrongType,
-                path,
-            },
-            room: None,
-        }),
-        Err(_) => CommandFault::Memory,
+    match locate_word(alloc, volume, word) {
+        Ok(key) => Ok(key),
+        Err(fault) => Err(CommandFault::from(fault)),
     }
 }
 

@@ -10,7 +10,7 @@ use Rattle.host_trees.specs.Notes.{note_of}
 use Rattle.ados_volume.specs.declared.below.Below.{Below}
 use Rattle.adf_export.specs.declared.entry.Source.{Source}
 use Rattle.adf_export.specs.declared.entry.Source.TheVariants.{Entry, Note}
-use Rattle.adf_export.specs.Items.{AreItems, GoesOut, IsItem, IsNote, item_place, kind_of, sources_of}
+use Rattle.adf_export.specs.Items.{AreItems, GoesOut, IsItem, item_place, kind_of, sources_of}
 
 -- items follow others, those of an entry
 abbrev pub AddsItems : Tree → Bool → Below → List HostItem → List HostItem → Type 0

@@ -1,17 +1,18 @@
--- Lines of entries, one after the other.
-use Rattle.std.proofs.Common.{◌≡◌, ℕ, Bool, List, [], ◌∷◌, ◌++◌, Some, append_assoc, append-nil, refl, sym, ap, ◌∙◌, subst}
+-- The texts of entries, one after the other.
+use Rattle.std.proofs.Common.{◌≡◌, ℕ, List, [], ◌∷◌, ◌++◌, Some, append_assoc, append-nil, refl, sym, ap, ◌∙◌, subst}
 use Rattle.ados_model.specs.Tree.{Node, Tree}
 use Rattle.ados_model.specs.Objects.{file_info}
 use Rattle.ados_volume.specs.Located.{Located}
-use Rattle.adf_export.specs.Listing.{AreLines, IsLine, shown}
+use Rattle.adf_words.specs.declared.query.ListForm.{ListForm}
+use Rattle.adf_export.specs.Listing.{AreEntries, IsEntry}
 use Rattle.adf_export.specs.steps.Levels.{entry_at}
 
-pub lines_append : (t : Tree) (s : Bool) (xs ys : List Located) (a b : List ℕ) → AreLines t s xs a → AreLines t s ys b → AreLines t s (xs ++ ys) (a ++ b)
-lines_append t s [] ys a b none more = subst (λ (l : List ℕ). AreLines t s ys (l ++ b)) (sym none) more
-lines_append t s (x ∷ xs) ys a b (node, is, first, later, line, rest, split) more =
-    (node, is, first, later ++ b, line, lines_append t s xs ys later b rest more, ap (λ (l : List ℕ). l ++ b) split ∙ append_assoc first later b)
+pub entries_append : (t : Tree) (s : ListForm) (xs ys : List Located) (a b : List ℕ) → AreEntries t s xs a → AreEntries t s ys b → AreEntries t s (xs ++ ys) (a ++ b)
+entries_append t s [] ys a b none more = subst (λ (l : List ℕ). AreEntries t s ys (l ++ b)) (sym none) more
+entries_append t s (x ∷ xs) ys a b (node, is, first, later, line, rest, split) more =
+    (node, is, first, later ++ b, line, entries_append t s xs ys later b rest more, ap (λ (l : List ℕ). l ++ b) split ∙ append_assoc first later b)
 
--- one line alone
-pub line_alone : (t : Tree) (s : Bool) (path : List ℕ) (key : ℕ) (node : Node) (line : List ℕ) → t.nodes key ≡ Some node → IsLine (file_info t.format key node) (shown s path) line
-    → AreLines t s (entry_at path key ∷ []) line
-line_alone t s path key node line is h = (node, is, line, [], h, refl, sym (append-nil line))
+-- one entry alone
+pub entry_alone : (t : Tree) (s : ListForm) (path : List ℕ) (key : ℕ) (node : Node) (line : List ℕ) → t.nodes key ≡ Some node → IsEntry s (file_info t.format key node) path line
+    → AreEntries t s (entry_at path key ∷ []) line
+entry_alone t s path key node line is h = (node, is, line, [], h, refl, sym (append-nil line))

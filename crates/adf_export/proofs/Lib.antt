@@ -11,6 +11,7 @@ pub mod Fronting
 pub mod Padding
 pub mod ListingSteps
 pub mod Written
+pub mod Files
 pub mod Under
 pub mod Entries
 pub mod Going

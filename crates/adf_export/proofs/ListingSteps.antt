@@ -1,21 +1,22 @@
 -- The result of one step of a listing.
-use Rattle.std.proofs.Common.{◌≡◌, ℕ, ◌<◌, Bool, true, List, [], ◌∷◌, ◌++◌, Some, append-nil, refl, sym, ◌∙◌, subst}
+use Rattle.std.proofs.Common.{◌≡◌, ℕ, ◌<◌, true, List, [], ◌∷◌, ◌++◌, Some, append-nil, refl, sym, ◌∙◌, subst}
 use Rattle.ados_model.specs.Tree.{Node, Tree}
 use Rattle.ados_model.specs.Objects.{file_info}
 use Rattle.adf_export.specs.declared.listing.Listing.{Listing}
 use Rattle.ados_volume.specs.Located.{Located}
-use Rattle.adf_export.specs.Listing.{IsLine, shown}
+use Rattle.adf_words.specs.declared.query.ListForm.{ListForm}
+use Rattle.adf_export.specs.Listing.{IsEntry}
 use Rattle.adf_export.specs.steps.Levels.{IsSoFar, entry_at, work}
 use Rattle.adf_export.specs.steps.Going.{GoesOn}
 use Rattle.adf_export.proofs.Left.{Lists}
-use Rattle.adf_export.proofs.InOrder.{line_alone}
+use Rattle.adf_export.proofs.InOrder.{entry_alone}
 
-module _ (t : Tree) (dir : ℕ) (s : Bool) (old new : Listing) (first left : List Located) where
-  -- one entry was listed, with its line
-  pub goes_to_entry : (own line : List ℕ) (key : ℕ) (node : Node) → t.nodes key ≡ Some node → IsLine (file_info t.format key node) (shown s own) line → new.text.items ≡ old.text.items ++ line
+module _ (t : Tree) (dir : ℕ) (s : ListForm) (old new : Listing) (first left : List Located) where
+  -- one entry was listed
+  pub goes_to_entry : (own line : List ℕ) (key : ℕ) (node : Node) → t.nodes key ≡ Some node → IsEntry s (file_info t.format key node) own line → new.text.items ≡ old.text.items ++ line
       → Lists t dir old.levels.items new.levels.items new.path.items first left own key → GoesOn t dir s old new first left true
   goes_to_entry own line key node is is_line text l =
-      (entry_at own key ∷ [], l.rest, line, l.split, line_alone t s own key node line is is_line, text, l.so_far, l.less)
+      (entry_at own key ∷ [], l.rest, line, l.split, entry_alone t s own key node line is is_line, text, l.so_far, l.less)
 
   -- the current directory has no more entries
   pub goes_up : new.text.items ≡ old.text.items → IsSoFar t dir new.levels.items new.path.items first left × (work new.levels.items left < work old.levels.items left) → GoesOn t dir s old new first left true

@@ -1,5 +1,5 @@
 -- Entries of objects, each with everything below it.
-use Rattle.std.proofs.Common.{◌≡◌, ◌≢◌, ℕ, suc, ◌+◌, ◌<◌, ◌≤◌, Bool, true, false, ◌==◌, if◌then◌else◌, Option, None, Some, IfSome, List, [], ◌∷◌, ◌++◌, length, flat_map, take, get_or, All, Contains, IsSome, is_some, refl, sym, ap, ◌∙◌, subst, arith, append_assoc, length-append, eq-eqb}
+use Rattle.std.proofs.Common.{◌≡◌, ◌≢◌, ℕ, suc, ◌+◌, ◌<◌, ◌≤◌, Bool, true, false, ◌==◌, if◌then◌else◌, Option, None, Some, IfSome, List, [], ◌∷◌, ◌++◌, length, flat_map, take, get_or, All, Contains, IsSome, is_some, sym, ap, ◌∙◌, subst, arith, append_assoc, length-append, eq-eqb}
 use Rattle.std.proofs.lemmas.Bool.{ne_eqb}
 use Rattle.std.proofs.lemmas.Grind.{flat_map-append}
 use Rattle.std.proofs.lemmas.List.{append-nil, take_more}
@@ -12,7 +12,6 @@ use Rattle.ados_model.proofs.Nodes.{entry_node}
 use Rattle.ados_volume.specs.declared.below.Below.{Below}
 use Rattle.ados_volume.specs.Below.{AreBelow, HasGrown, placed}
 use Rattle.ados_volume.specs.Below.AreBelow.{none, entry}
-use Rattle.adf_export.specs.declared.entry.Source.{Source}
 use Rattle.adf_export.specs.declared.entry.Source.TheVariants.{Entry, Note}
 use Rattle.adf_export.specs.Items.{HasSource, sources_of, tops}
 

@@ -8,34 +8,39 @@ use Rattle.adf_export.specs.declared.listing.Listing.{Listing}
 use Rattle.adf_script.specs.Streams.{Writes}
 use Rattle.adf_io.specs.Prefix.{WritesFront, WritesFrontOf}
 use Rattle.ados_volume.specs.Located.{Located}
-use Rattle.adf_export.specs.Listing.{AreLines, IsList, BeginsList, listing, volume_line}
+use Rattle.adf_words.specs.declared.query.ListForm.{ListForm}
+use Rattle.adf_export.specs.Listing.{AreEntries, IsListing, BeginsListing, listing, head}
 use Rattle.adf_export.specs.steps.Levels.{IsSoFar, work}
 use Rattle.adf_export.specs.steps.Going.{GoesOn, Passes, Starts}
-use Rattle.adf_export.proofs.InOrder.{lines_append}
+use Rattle.adf_export.proofs.InOrder.{entries_append}
 
--- of the volume's line and the lines so far, a prefix is written and the text is the rest; the remaining turns suffice
--- for what is left
-pub record IsWritten (t : Tree) (dir : ℕ) (s : Bool) (old new : Option (List ℕ)) (at : Listing) (turns : ℕ) : Type 0 where
+-- of what stands before the entries and their texts so far, a prefix is written and the text is the rest; the remaining
+-- turns suffice for what is left
+pub record IsWritten (t : Tree) (dir : ℕ) (s : ListForm) (old new : Option (List ℕ)) (at : Listing) (turns : ℕ) : Type 0 where
   pub first : List Located
   pub left : List Located
   pub so_far : IsSoFar t dir at.levels.items at.path.items first left
   pub lines : List ℕ
-  pub are : AreLines t s first lines
+  pub are : AreEntries t s first lines
   pub written : List ℕ
   pub appended : Appends old new written
-  pub told : volume_line t s ++ lines ≡ written ++ at.text.items
+  pub told : head t s ++ lines ≡ written ++ at.text.items
   pub fits : work at.levels.items left + turns ≤ 2 * t.blocks
 
 -- a step that goes on, and the last step
-pub went_on : (t : Tree) (dir : ℕ) (s : Bool) (at after : Listing) (first left : List Located) (goes : Bool) → goes ≡ true → GoesOn t dir s at after first left goes → GoesOn t dir s at after first left true
+pub went_on : (t : Tree) (dir : ℕ) (s : ListForm) (at after : Listing) (first left : List Located) (goes : Bool) → goes ≡ true → GoesOn t dir s at after first left goes → GoesOn t dir s at after first left true
 went_on t dir s at after first left true e g = g
 went_on t dir s at after first left false e g = absurd (cc e)
 
-pub went_out : (t : Tree) (dir : ℕ) (s : Bool) (at after : Listing) (first left : List Located) (goes : Bool) → goes ≡ false → GoesOn t dir s at after first left goes → GoesOn t dir s at after first left false
+pub went_out : (t : Tree) (dir : ℕ) (s : ListForm) (at after : Listing) (first left : List Located) (goes : Bool) → goes ≡ false → GoesOn t dir s at after first left goes → GoesOn t dir s at after first left false
 went_out t dir s at after first left true e g = absurd (cc e)
 went_out t dir s at after first left false e g = g
 
-module _ (t : Tree) (dir : ℕ) (s : Bool) (old : Option (List ℕ)) where
+-- nothing is written yet
+pub written_nothing : (t : Tree) (entries : List Located) (s : ListForm) (old : Option (List ℕ)) → WritesFrontOf old old (BeginsListing t entries s)
+written_nothing t entries s old = (head t s ++ [], ([], entries, [], refl, refl, refl), ([], Appends-nil old, (head t s ++ [], refl)))
+
+module _ (t : Tree) (dir : ℕ) (s : ListForm) (old : Option (List ℕ)) where
   pub written_none : (at : Listing) → Starts t dir s at → IsWritten t dir s old old at 0
   written_none at (text, so_far, small) = record {
     first = [];
@@ -45,13 +50,9 @@ module _ (t : Tree) (dir : ℕ) (s : Bool) (old : Option (List ℕ)) where
     are = refl;
     written = [];
     appended = Appends-nil old;
-    told = append-nil (volume_line t s) ∙ sym text;
+    told = append-nil (head t s) ∙ sym text;
     fits = omega (arith, small);
   }
-
-  -- nothing is written yet
-  pub written_nothing : WritesFrontOf old old (BeginsList t dir s)
-  written_nothing = (volume_line t s ++ [], ([], listing t dir, [], refl, refl, refl), ([], Appends-nil old, (volume_line t s ++ [], refl)))
 
   -- a step goes on
   pub written_on : (new : Option (List ℕ)) (at after : Listing) (turns : ℕ) (w : IsWritten t dir s old new at turns) → GoesOn t dir s at after w.first w.left true → IsWritten t dir s old new after (turns + 1)
@@ -60,10 +61,10 @@ module _ (t : Tree) (dir : ℕ) (s : Bool) (old : Option (List ℕ)) where
     left = rest;
     so_far = so_far;
     lines = w.lines ++ lines;
-    are = lines_append t s w.first came w.lines lines w.are are;
+    are = entries_append t s w.first came w.lines lines w.are are;
     written = w.written;
     appended = w.appended;
-    told = sym (append_assoc (volume_line t s) w.lines lines) ∙ ap (λ (l : List ℕ). l ++ lines) w.told ∙ append_assoc w.written at.text.items lines ∙ ap (λ (l : List ℕ). w.written ++ l) (sym text);
+    told = sym (append_assoc (head t s) w.lines lines) ∙ ap (λ (l : List ℕ). l ++ lines) w.told ∙ append_assoc w.written at.text.items lines ∙ ap (λ (l : List ℕ). w.written ++ l) (sym text);
     fits = omega (arith, w.fits, less);
   }
 
@@ -84,13 +85,13 @@ module _ (t : Tree) (dir : ℕ) (s : Bool) (old : Option (List ℕ)) where
 
   -- the text is written to its end, and nothing is left
   pub written_whole : (mid new : Option (List ℕ)) (at : Listing) (turns : ℕ) (text rest : List ℕ) (w : IsWritten t dir s old mid at turns) → w.left ≡ [] → text ≡ at.text.items
-      → Passes mid new text rest → rest ≡ [] → Writes old new (IsList t dir s)
+      → Passes mid new text rest → rest ≡ [] → Writes old new (IsListing t (listing t dir) s)
   written_whole mid new at turns text rest w none same (more, appended, split) end = (
     w.written ++ more,
     Appends-trans old mid new w.written more w.appended appended,
     (
       w.lines,
-      subst (λ (ls : List Located). AreLines t s ls w.lines) (sym (w.so_far.split ∙ ap (λ (ls : List Located). w.first ++ ls) none ∙ append-nil w.first)) w.are,
+      subst (λ (ls : List Located). AreEntries t s ls w.lines) (sym (w.so_far.split ∙ ap (λ (ls : List Located). w.first ++ ls) none ∙ append-nil w.first)) w.are,
       sym (w.told ∙ ap (λ (l : List ℕ). w.written ++ l) (sym same ∙ split ∙ ap (λ (l : List ℕ). more ++ l) end ∙ append-nil more)),
     ),
   )
@@ -99,13 +100,13 @@ module _ (t : Tree) (dir : ℕ) (s : Bool) (old : Option (List ℕ)) where
   pub none_in_turns : (new : Option (List ℕ)) (at : Listing) (turns : ℕ) (w : IsWritten t dir s old new at turns) → 2 * t.blocks ≤ turns → w.left ≡ []
   none_in_turns new at turns w over = nil_from_length w.left (omega (arith, w.fits, over))
 
-  begins : (new : Option (List ℕ)) (at : Listing) (turns : ℕ) (w : IsWritten t dir s old new at turns) → BeginsList t dir s (volume_line t s ++ w.lines)
+  begins : (new : Option (List ℕ)) (at : Listing) (turns : ℕ) (w : IsWritten t dir s old new at turns) → BeginsListing t (listing t dir) s (head t s ++ w.lines)
   begins new at turns w = (w.first, w.left, w.lines, w.so_far.split, w.are, refl)
 
   -- a prefix of the text is written
-  pub written_front : (mid new : Option (List ℕ)) (at : Listing) (turns : ℕ) (text : List ℕ) → IsWritten t dir s old mid at turns → text ≡ at.text.items → WritesFront mid new text → WritesFrontOf old new (BeginsList t dir s)
+  pub written_front : (mid new : Option (List ℕ)) (at : Listing) (turns : ℕ) (text : List ℕ) → IsWritten t dir s old mid at turns → text ≡ at.text.items → WritesFront mid new text → WritesFrontOf old new (BeginsListing t (listing t dir) s)
   written_front mid new at turns text w same (more, appended, (rest, split)) = (
-    volume_line t s ++ w.lines,
+    head t s ++ w.lines,
     begins mid at turns w,
     (
       w.written ++ more,
@@ -114,5 +115,5 @@ module _ (t : Tree) (dir : ℕ) (s : Bool) (old : Option (List ℕ)) where
     ),
   )
 
-  pub written_so_far : (new : Option (List ℕ)) (at : Listing) (turns : ℕ) → IsWritten t dir s old new at turns → WritesFrontOf old new (BeginsList t dir s)
-  written_so_far new at turns w = (volume_line t s ++ w.lines, begins new at turns w, (w.written, w.appended, (at.text.items, w.told)))
+  pub written_so_far : (new : Option (List ℕ)) (at : Listing) (turns : ℕ) → IsWritten t dir s old new at turns → WritesFrontOf old new (BeginsListing t (listing t dir) s)
+  written_so_far new at turns w = (head t s ++ w.lines, begins new at turns w, (w.written, w.appended, (at.text.items, w.told)))

@@ -1,5 +1,6 @@
 -- The text of a volume, and its entries as files of the host. Definitions for steps are in `steps`.
 pub mod Info
+pub mod Objects
 pub mod Listing
 pub mod Words
 pub mod Printing

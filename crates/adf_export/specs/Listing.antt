@@ -1,16 +1,21 @@
--- The listing of everything below a directory of a volume.
-use Rattle.std.specs.Prelude.{◌≡◌, ℕ, zero, suc, ◌-◌, negsuc, Bool, false, if◌then◌else◌, List, [], ◌∷◌, ◌++◌, length, replicate, flat_map, decimal, codes, Some}
+-- The list of an object of a volume: of a file, or of everything below a directory.
+use Rattle.std.specs.Prelude.{◌≡◌, ℕ, zero, suc, ◌-◌, ◌==◌, negsuc, Bool, true, false, if◌then◌else◌, List, [], ◌∷◌, ◌++◌, length, take, replicate, flat_map, position, decimal, codes, Some}
 use Rattle.std.specs.Option.{option_map_or}
 use Rattle.std.specs.Ordering.{int_eq}
 use Rattle.ados_name.specs.Date.{IsTextOf}
 use Rattle.ados_name.specs.Protection.{letters}
 use Rattle.ados_model.specs.declared.answer.FileInfo.{FileInfo}
 use Rattle.ados_model.specs.Tree.{Node, Tree, root, entries, name_of, parent_of}
+use Rattle.ados_model.specs.Change.{is_file}
 use Rattle.ados_model.specs.Objects.{file_info}
 use Rattle.ados_volume.specs.Located.{Located}
 use Rattle.adf_script.specs.Text.{line, spaced}
 use Rattle.adf_text.specs.Letters.{letters as letter_text}
 use Rattle.adf_text.specs.Plain.{plain}
+use Rattle.adf_text.specs.ProtectionLetters.{protection_letters}
+use Rattle.adf_words.specs.declared.query.ListForm.{ListForm}
+use Rattle.adf_words.specs.declared.query.ListForm.TheVariants.{Bytes, Letters, Long, Json}
+use Rattle.adf_export.specs.Objects.{IsObject}
 
 -- everything below a directory, to a depth of `levels`: each entry with the path before its name, directly followed by
 -- everything below it
@@ -28,6 +33,17 @@ front t (suc depth) dir = option_map_or (λ above. front t depth above ++ (name_
 -- the entries below a directory in the order of the listing; no path has more names than there are blocks
 abbrev pub listing : Tree → ℕ → List Located
 listing t dir = below t t.blocks (front t t.blocks dir) dir
+
+-- the path before the name of an object, empty for the root; and the path of an object
+abbrev pub front_above : Tree → ℕ → List ℕ
+front_above t key = option_map_or (front t t.blocks) (parent_of t key) []
+
+abbrev pub path_of : Tree → ℕ → List ℕ
+path_of t key = front_above t key ++ name_of t key
+
+-- the entries in the list of an object: a file itself, or everything below a directory
+abbrev pub listed : Tree → ℕ → List Located
+listed t key = if is_file t key then record { path = path_of t key; key = key } ∷ [] else listing t key
 
 -- names as they are printed: their bytes, or for people the letters of these bytes, with control characters as escapes
 abbrev pub shown : Bool → List ℕ → List ℕ
@@ -47,24 +63,60 @@ IsLine info path text =
     (date : List ℕ) × IsTextOf info.date date
     × (text ≡ line (right_in 8 (size_text info) ++ spaced (letters info.protection.0) ++ spaced date ++ spaced path))
 
--- the text is the lines of the entries, one after the other
-abbrev pub AreLines : Tree → Bool → List Located → List ℕ → Type 0
-AreLines t as_letters [] text = text ≡ []
-AreLines t as_letters (entry ∷ rest) text =
+-- the text of a date without hundredths of a second: up to its full stop, if it has one
+abbrev pub to_second : List ℕ → List ℕ
+to_second date = option_map_or (λ place. take place date) (position (λ c. c == 46) date) date
+
+-- a space and a comment in quotes, if there is one
+abbrev pub comment_text : List ℕ → List ℕ
+comment_text comment = if length comment == 0 then [] else codes " \"" ++ shown true comment ++ codes "\""
+
+-- the text is the long line of an entry: its size, all eight protection bits, its date without hundredths, its path, and
+-- its comment
+abbrev pub IsLongLine : FileInfo → List ℕ → List ℕ → Type 0
+IsLongLine info path text =
+    (date : List ℕ) × IsTextOf info.date date
+    × (text ≡ line (right_in 8 (size_text info) ++ spaced (protection_letters info.protection.0) ++ spaced (to_second date)
+    ++ spaced (shown true path) ++ comment_text info.comment))
+
+-- the text is that of an entry with this path, in this form
+abbrev pub IsEntry : ListForm → FileInfo → List ℕ → List ℕ → Type 0
+IsEntry Bytes info path text = IsLine info (shown false path) text
+IsEntry Letters info path text = IsLine info (shown true path) text
+IsEntry Long info path text = IsLongLine info path text
+IsEntry Json info path text = IsObject info path text
+
+-- the text is those of the entries, one after the other
+abbrev pub AreEntries : Tree → ListForm → List Located → List ℕ → Type 0
+AreEntries t form [] text = text ≡ []
+AreEntries t form (entry ∷ rest) text =
     (node : Node) × (t.nodes entry.key ≡ Some node)
     × (first : List ℕ) × (later : List ℕ)
-    × IsLine (file_info t.format entry.key node) (shown as_letters entry.path) first × AreLines t as_letters rest later × (text ≡ first ++ later)
+    × IsEntry form (file_info t.format entry.key node) entry.path first × AreEntries t form rest later × (text ≡ first ++ later)
 
 -- the line for the volume
 abbrev pub volume_line : Tree → Bool → List ℕ
 volume_line t as_letters = line (codes "Volume " ++ shown as_letters (name_of t (root t)))
 
--- the listing of a directory of the tree: the volume's line, and a line for each entry below the directory
-abbrev pub IsList : Tree → ℕ → Bool → List ℕ → Type 0
-IsList t dir as_letters text = (lines : List ℕ) × AreLines t as_letters (listing t dir) lines × (text ≡ volume_line t as_letters ++ lines)
+-- the text before the entries: the volume's line, but none before objects
+abbrev pub head : Tree → ListForm → List ℕ
+head t Bytes = volume_line t false
+head t Letters = volume_line t true
+head t Long = volume_line t true
+head t Json = []
 
--- the beginning of such a listing: the volume's line, and the lines of the first entries
-abbrev pub BeginsList : Tree → ℕ → Bool → List ℕ → Type 0
-BeginsList t dir as_letters text =
-    (first : List Located) × (rest : List Located) × (lines : List ℕ)
-    × (listing t dir ≡ first ++ rest) × AreLines t as_letters first lines × (text ≡ volume_line t as_letters ++ lines)
+-- a list of these entries; and the beginning of one, with the first entries
+abbrev pub IsListing : Tree → List Located → ListForm → List ℕ → Type 0
+IsListing t entries form text = (told : List ℕ) × AreEntries t form entries told × (text ≡ head t form ++ told)
+
+abbrev pub BeginsListing : Tree → List Located → ListForm → List ℕ → Type 0
+BeginsListing t entries form text =
+    (first : List Located) × (rest : List Located) × (told : List ℕ)
+    × (entries ≡ first ++ rest) × AreEntries t form first told × (text ≡ head t form ++ told)
+
+-- the list of an object, and the beginning of one
+abbrev pub IsList : Tree → ℕ → ListForm → List ℕ → Type 0
+IsList t key = IsListing t (listed t key)
+
+abbrev pub BeginsList : Tree → ℕ → ListForm → List ℕ → Type 0
+BeginsList t key = BeginsListing t (listed t key)

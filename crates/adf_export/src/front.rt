@@ -1,13 +1,34 @@
-//! The path before the names in a directory.
+//! The path of an object, and the path before the names in a directory.
 ghost use Rattle.std.specs.Prelude.{◌≡◌, IfOk, All};
 ghost use Rattle.ados_model.specs.Keys.{HasKey};
 ghost use Rattle.ados_model.specs.Stands.{Stands};
 ghost use Rattle.ados_model.specs.Tree.{Tree};
-ghost use Rattle.adf_export.specs.Listing.{front};
+ghost use Rattle.adf_export.specs.Listing.{front, front_above, path_of};
 ghost use Rattle.adf_export.specs.steps.Fronting.{names_down};
 
 use ados_volume::Volume;
 use std::alloc::{AllocError, Global};
+
+/// The path of an object from the root.
+pub(crate) fn path_of(alloc: Global, volume: &Volume, key: u32) -> Result<Vec<u8>, AllocError>
+    requires { HasKey volume.now.image key }
+    ensures { IfOk result (λ path. (t : Tree) → Stands volume.now.image t → path.items ≡ path_of t key) }
+{
+    let mut path = front_above(alloc, volume, key)?;
+    path.extend_from_slice(volume.examine(key).name.bytes())?;
+    Ok(path)
+}
+
+/// The path before the name of an object; for the root it is empty.
+fn front_above(alloc: Global, volume: &Volume, key: u32) -> Result<Vec<u8>, AllocError>
+    requires { HasKey volume.now.image key }
+    ensures { IfOk result (λ text. (t : Tree) → Stands volume.now.image t → text.items ≡ front_above t key) }
+{
+    match volume.parent(key) {
+        Some(dir) => front_of(alloc, volume, dir),
+        None => Ok(Vec::new(alloc)),
+    }
+}
 
 /// The names of the directories from the root down to this one, each followed by `/`.
 pub(crate) fn front_of(alloc: Global, volume: &Volume, dir: u32) -> Result<Vec<u8>, AllocError>

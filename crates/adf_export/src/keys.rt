@@ -1,5 +1,6 @@
 //! Reads of a volume for a listing.
-ghost use Rattle.std.specs.Prelude.{◌≡◌, ◌≢◌, ◌↔◌, ℕ, IfSome, IfNone, IsTrue, Some, pos};
+ghost use Rattle.std.specs.Prelude.{◌≡◌, ◌≢◌, ◌↔◌, ℕ, IfSome, IfNone, IsTrue, Some, pos, negsuc};
+ghost use Rattle.std.specs.Ordering.{int_eq};
 ghost use Rattle.ados_chain.specs.Look.{first_left};
 ghost use Rattle.ados_chain.specs.declared.read.Next.TheVariants.{Entry};
 ghost use Rattle.ados_model.specs.Change.{entries_after};
@@ -14,6 +15,9 @@ use ados_volume::{Next, Volume};
 
 /// The entry type of a directory other than the root.
 const DIRECTORY: i32 = 2;
+
+/// The entry type of a file.
+const FILE: i32 = -3;
 
 /// The entry of a directory after this key; the directory's own key is before all.
 pub(crate) fn entry_behind(volume: &Volume, dir: u32, last: u32) -> Option<u32>
@@ -44,4 +48,11 @@ pub(crate) fn is_directory(info: &FileInfo) -> bool
     ensures { IsTrue result ↔ info.now.entry_type ≡ pos 2 }
 {
     info.entry_type == DIRECTORY
+}
+
+/// Whether the object is a file.
+pub(crate) fn is_file(info: &FileInfo) -> bool
+    ensures { result ≡ int_eq info.now.entry_type (negsuc 2) }
+{
+    info.entry_type == FILE
 }

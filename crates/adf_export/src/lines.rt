@@ -1,24 +1,43 @@
-//! The lines of a listing.
+//! The texts of entries in a list.
 ghost use Rattle.std.specs.Prelude.{◌≡◌, ◌++◌, OnOk};
 ghost use Rattle.ados_name.specs.Protection.{letters};
 ghost use Rattle.adf_script.specs.Text.{line, spaced};
 ghost use Rattle.adf_export.specs.Listing.{right_in, shown, size_text};
-ghost use Rattle.adf_export.specs.steps.Going.{PushesLine};
+ghost use Rattle.adf_export.specs.steps.Going.{PushesEntry, PushesLine};
 
+use crate::keys::is_file;
+use crate::long::push_long;
+use crate::objects::push_object;
 use adf_text::{letter_text, push_plain};
+use adf_words::ListForm;
 use ados_model::FileInfo;
 use itoa::Buffer;
 use std::alloc::{AllocError, Global};
 
-/// The entry type of a file.
-const FILE: i32 = -3;
-
 /// As many spaces as a size has places.
 const BLANKS: &[u8] = b"        ";
 
+/// Appends the text of an entry with this path: its line, or its object.
+pub(crate) fn push_entry(
+    alloc: Global,
+    text: &mut Vec<u8>,
+    info: &FileInfo,
+    path: &[u8],
+    form: ListForm,
+) -> Result<(), AllocError>
+    ensures { OnOk result (PushesEntry form text.old.items text.new.items info.now path.now) }
+{
+    match form {
+        ListForm::Bytes => push_line(alloc, text, info, path, false),
+        ListForm::Letters => push_line(alloc, text, info, path, true),
+        ListForm::Long => push_long(alloc, text, info, path),
+        ListForm::Json => push_object(alloc, text, info, path),
+    }
+}
+
 /// Appends the line of an entry: its size or `dir`, right-aligned in 8 places, then its protection bits, its date and
 /// its path.
-pub(crate) fn push_entry(
+fn push_line(
     alloc: Global,
     text: &mut Vec<u8>,
     info: &FileInfo,
@@ -57,10 +76,10 @@ pub(crate) fn push_names(
 }
 
 /// The size of a file as a number, or `dir`.
-fn size_word<'a>(digits: &'a mut Buffer, info: &FileInfo) -> &'a str
+pub(crate) fn size_word<'a>(digits: &'a mut Buffer, info: &FileInfo) -> &'a str
     ensures { result.now ≡ size_text info.now }
 {
-    if info.entry_type == FILE {
+    if is_file(info) {
         digits.format(info.size)
     } else {
         "dir"
@@ -68,7 +87,7 @@ fn size_word<'a>(digits: &'a mut Buffer, info: &FileInfo) -> &'a str
 }
 
 /// Appends a word, right-aligned in 8 places.
-fn push_right(text: &mut Vec<u8>, word: &[u8]) -> Result<(), AllocError>
+pub(crate) fn push_right(text: &mut Vec<u8>, word: &[u8]) -> Result<(), AllocError>
     ensures { OnOk result (text.new.items ≡ text.old.items ++ right_in 8 word.now) }
 {
     text.extend_from_slice(&BLANKS[word.len().min(8)..])?;
@@ -77,7 +96,7 @@ fn push_right(text: &mut Vec<u8>, word: &[u8]) -> Result<(), AllocError>
 }
 
 /// Appends a space and a word.
-fn push_spaced(text: &mut Vec<u8>, word: &[u8]) -> Result<(), AllocError>
+pub(crate) fn push_spaced(text: &mut Vec<u8>, word: &[u8]) -> Result<(), AllocError>
     ensures { OnOk result (text.new.items ≡ text.old.items ++ spaced word.now) }
 {
     text.push(b' ')?;

@@ -7,15 +7,17 @@ ghost use Rattle.ados_model.specs.Tree.{Tree};
 ghost use Rattle.adf_script.specs.Streams.{Writes};
 ghost use Rattle.adf_io.specs.Prefix.{WritesFront, WritesFrontOf};
 ghost use Rattle.ados_volume.specs.Located.{Located};
-ghost use Rattle.adf_export.specs.Listing.{BeginsList, IsList};
+ghost use Rattle.adf_export.specs.Listing.{BeginsListing, IsListing, listing};
 ghost use Rattle.adf_export.specs.steps.Levels.{ArePlacesInDirectories, IsSoFar};
 ghost use Rattle.adf_export.specs.steps.Going.{GoesOn, Passes, Starts};
 
 use crate::front::front_of;
+use crate::head::head_text;
 use crate::keys::{describe, entry_behind, is_directory};
-use crate::lines::{push_entry, push_names};
+use crate::lines::push_entry;
 use crate::output::write_text;
 use crate::print_fault::PrintFault;
+use adf_words::ListForm;
 use ados_volume::Volume;
 use std::alloc::{AllocError, Global};
 use std::io::Write;
@@ -40,26 +42,23 @@ pub struct Listing {
     text: Vec<u8>,
 }
 
-/// Writes the volume's name, and a line for each entry below a directory. A path starts at the root, and a directory
-/// comes directly before its contents. Names are printed as their bytes, or with `letters` as the letters of these
-/// bytes, with control characters as escapes.
-///
-/// If the writer fails or memory runs out, it has written a prefix of that text.
-pub fn write_list<W: Write>(
+/// Writes the list of a directory: each entry below it. If the writer fails or memory runs out, it has written a prefix
+/// of that text.
+pub(crate) fn write_directory<W: Write>(
     alloc: Global,
     volume: &Volume,
     dir: u32,
-    letters: bool,
+    form: ListForm,
     writer: &mut W,
 ) -> Result<(), PrintFault>
     requires { HasDirectory volume.now.image dir }
-    ensures ok { OnOk result ((t : Tree) → Stands volume.now.image t → Writes (W.contents writer.old) (W.contents writer.new) (IsList t dir letters)) }
+    ensures ok { OnOk result ((t : Tree) → Stands volume.now.image t → Writes (W.contents writer.old) (W.contents writer.new) (IsListing t (listing t dir) form)) }
     ensures front { OnErr result ((t : Tree) → Stands volume.now.image t
-        → WritesFrontOf (W.contents writer.old) (W.contents writer.new) (BeginsList t dir letters)) }
+        → WritesFrontOf (W.contents writer.old) (W.contents writer.new) (BeginsListing t (listing t dir) form)) }
 {
-    let mut listing = Listing::start(alloc, volume, dir, letters)?;
+    let mut listing = Listing::start(alloc, volume, dir, form)?;
     for _ in 0..2 * volume.image().blocks() as u64 {
-        if !listing.go_on(alloc, volume, letters)? {
+        if !listing.go_on(alloc, volume, form)? {
             break;
         }
         listing.write_when_long(writer)?;
@@ -68,17 +67,18 @@ pub fn write_list<W: Write>(
 }
 
 impl Listing {
-    /// The line for the volume, before the first entry of a directory.
-    fn start(alloc: Global, volume: &Volume, dir: u32, letters: bool) -> Result<Listing, AllocError>
+    /// The text before the first entry of a directory.
+    fn start(
+        alloc: Global,
+        volume: &Volume,
+        dir: u32,
+        form: ListForm,
+    ) -> Result<Listing, AllocError>
         requires { HasDirectory volume.now.image dir }
         ensures places { IfOk result (λ made. ArePlacesInDirectories volume.now.image made.levels.items) }
-        ensures starts { IfOk result (λ made. (t : Tree) → Stands volume.now.image t → Starts t dir letters made) }
+        ensures starts { IfOk result (λ made. (t : Tree) → Stands volume.now.image t → Starts t dir form made) }
     {
-        let mut text = Vec::new(alloc);
-        text.extend_from_slice(b"Volume ")?;
-        let volume_name = volume.examine(volume.root()).name;
-        push_names(alloc, &mut text, volume_name.bytes(), letters)?;
-        text.push(b'\n')?;
+        let text = head_text(alloc, volume, form)?;
         let path = front_of(alloc, volume, dir)?;
         let mut levels = Vec::new(alloc);
         levels.push(Level {
@@ -91,11 +91,11 @@ impl Listing {
 
     /// Moves on to the next entry of the current directory, or back to the directory above it. The result is false if
     /// no directory is left.
-    fn go_on(&mut self, alloc: Global, volume: &Volume, letters: bool) -> Result<bool, AllocError>
+    fn go_on(&mut self, alloc: Global, volume: &Volume, form: ListForm) -> Result<bool, AllocError>
         requires { ArePlacesInDirectories volume.now.image self.old.levels.items }
         ensures places { OnOk result (ArePlacesInDirectories volume.now.image self.new.levels.items) }
         ensures goes { IfOk result (λ goes. (t : Tree) (dir : ℕ) → Stands volume.now.image t → (first left : List Located)
-            → IsSoFar t dir self.old.levels.items self.old.path.items first left → GoesOn t dir letters self.old self.new first left goes) }
+            → IsSoFar t dir self.old.levels.items self.old.path.items first left → GoesOn t dir form self.old self.new first left goes) }
     {
         let Some(level) = self.levels.pop() else {
             return Ok(false);
@@ -107,7 +107,7 @@ impl Listing {
         let info = describe(volume, key);
         self.path.truncate(level.path);
         self.path.extend_from_slice(info.name.bytes())?;
-        push_entry(alloc, &mut self.text, &info, self.path.as_slice(), letters)?;
+        push_entry(alloc, &mut self.text, &info, self.path.as_slice(), form)?;
         if is_directory(&info) {
             self.path.push(b'/')?;
             self.levels.push(Level {

@@ -1,5 +1,6 @@
--- The faults of arguments, arguments that are dates, and the changes that arguments ask for. The meaning of the rest of the
--- command line is in its types.
+-- The faults of arguments, arguments that are dates, the changes that arguments ask for, and the form of a list. The meaning
+-- of the rest of the command line is in its types.
 pub mod Given
 pub mod When
 pub mod Asked
+pub mod Lists

@@ -21,6 +21,6 @@ pub use change::{Change, ChangeJob};
 pub use fault::WordsFault;
 pub use given::{given_words, word_of};
 pub use job::{ImageJob, Job, ServeJob};
-pub use query::{CheckJob, ExtractJob, ListJob, SalvageJob};
+pub use query::{CheckJob, ExtractJob, ListForm, ListJob, SalvageJob};
 pub use reading::read_words;
 pub use refused::{Refused, error_words};

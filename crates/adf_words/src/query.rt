@@ -19,10 +19,23 @@ pub struct CheckJob<'a> {
 #[derive(Drop)]
 pub struct ListJob<'a> {
     pub image: &'a str,
-    /// The directory to list; by default the root.
+    /// The directory or file to list; by default the root.
     pub path: Option<&'a str>,
-    /// Whether names are printed as letters; otherwise as their bytes.
-    pub letters: bool,
+    pub form: ListForm,
+}
+
+/// The form of a list.
+#[derive(Clone, Copy)]
+pub enum ListForm {
+    /// A line for the volume and one for each entry, with names as their bytes.
+    Bytes,
+    /// The same, with names as letters.
+    Letters,
+    /// For people: the same as `Letters`, with all eight protection bits and comments, and without hundredths of
+    /// seconds.
+    Long,
+    /// A JSON object for each entry.
+    Json,
 }
 
 /// The arguments of `extract`.

@@ -178,12 +178,14 @@ pub(crate) const COMMANDS: [CommandRow; 16] = [
     CommandRow {
         name: "list",
         about: "Prints the directories and files of an image",
-        examples: "Examples:\n  adf_serve list work.adf\n  adf_serve list --letters work.adf s",
+        examples: "Examples:\n  adf_serve list work.adf\n  adf_serve list --letters work.adf s\n  adf_serve list --long work.adf s/startup-sequence\n  adf_serve list --json work.adf",
         changes: false,
         arguments: &[
-            ArgumentRow { name: "letters", kind: FLAG, help: "Prints names as letters, which are those of ISO 8859-1" },
+            ArgumentRow { name: "letters", kind: Kind::Flag { excludes: &["long", "json"] }, help: "Prints names as letters, which are those of ISO 8859-1" },
+            ArgumentRow { name: "long", kind: Kind::Flag { excludes: &["json"] }, help: "Prints names as letters, all eight protection bits as `hsparwed`, and comments" },
+            ArgumentRow { name: "json", kind: FLAG, help: "Prints a JSON object for each file and directory" },
             IMAGE,
-            ArgumentRow { name: "PATH", kind: Kind::Optional, help: "A directory: what is in it, and no more" },
+            ArgumentRow { name: "PATH", kind: Kind::Optional, help: "A directory: what is in it, and no more; or a file" },
         ],
     },
     CommandRow {

@@ -1,9 +1,13 @@
 //! From the arguments of a command that reads an image to its job.
+ghost use Rattle.std.specs.Prelude.{◌≡◌};
+ghost use Rattle.clap.specs.Matches.{found_of};
+ghost use Rattle.adf_words.specs.Lists.{form_of, IsFormOf};
+
 use crate::arguments::Arguments;
 use crate::fault::WordsFault;
 use crate::job::ImageJob;
 use crate::letters::letters_of;
-use crate::query::{CheckJob, ExtractJob, ListJob, SalvageJob};
+use crate::query::{CheckJob, ExtractJob, ListForm, ListJob, SalvageJob};
 
 /// The job of `check`.
 pub(crate) fn check_job<'a>(arguments: &Arguments<'a, '_>) -> Result<ImageJob<'a>, WordsFault> {
@@ -29,8 +33,28 @@ pub(crate) fn list_job<'a>(arguments: &Arguments<'a, '_>) -> Result<ImageJob<'a>
     Ok(ImageJob::List(ListJob {
         image: arguments.word("IMAGE")?,
         path,
-        letters: arguments.flag("letters"),
+        form: list_form(arguments),
     }))
+}
+
+/// The form of a list, by its options.
+fn list_form(arguments: &Arguments<'_, '_>) -> ListForm
+    ensures { IsFormOf (found_of arguments.now.words.now) result }
+{
+    let (long, json) = (arguments.flag("long"), arguments.flag("json"));
+    form_of(long, json, arguments.flag("letters"))
+}
+
+/// The form of a list, by whether each option is given.
+fn form_of(long: bool, json: bool, letters: bool) -> ListForm
+    ensures { result ≡ form_of long json letters }
+{
+    match (long, json, letters) {
+        (true, _, _) => ListForm::Long,
+        (false, true, _) => ListForm::Json,
+        (false, false, true) => ListForm::Letters,
+        (false, false, false) => ListForm::Bytes,
+    }
 }
 
 /// The job of `print`.

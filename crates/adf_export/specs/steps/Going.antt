@@ -1,12 +1,24 @@
 -- The result of one step of a listing.
 use Rattle.std.specs.Prelude.{◌≡◌, ℕ, ◌*◌, ◌<◌, Bool, true, false, List, [], ◌++◌, Option}
+use Rattle.ados_name.specs.declared.stamp.Date3.{Date3}
+use Rattle.ados_name.specs.Date.{IsTextOf}
 use Rattle.ados_model.specs.declared.answer.FileInfo.{FileInfo}
 use Rattle.ados_model.specs.Tree.{Tree}
 use Rattle.adf_script.specs.Streams.{Writes}
+use Rattle.adf_script.specs.Text.{spaced}
 use Rattle.adf_export.specs.declared.listing.Listing.{Listing}
 use Rattle.ados_volume.specs.Located.{Located}
-use Rattle.adf_export.specs.Listing.{listing, AreLines, IsLine, shown, volume_line}
+use Rattle.adf_words.specs.declared.query.ListForm.{ListForm}
+use Rattle.adf_export.specs.Listing.{listing, AreEntries, IsEntry, IsLine, head, shown, to_second}
 use Rattle.adf_export.specs.steps.Levels.{IsSoFar, work}
+
+-- the text of the entry with this path is appended
+abbrev pub PushesEntry : ListForm → List ℕ → List ℕ → FileInfo → List ℕ → Type 0
+PushesEntry form old new info path = (told : List ℕ) × IsEntry form info path told × (new ≡ old ++ told)
+
+-- a space and a date without hundredths are appended
+abbrev pub PushesDate : List ℕ → List ℕ → Date3 → Type 0
+PushesDate old new date = (text : List ℕ) × IsTextOf date text × (new ≡ old ++ spaced (to_second text))
 
 -- one line is appended: that of the entry with this path
 abbrev pub PushesLine : Bool → List ℕ → List ℕ → FileInfo → List ℕ → Type 0
@@ -16,17 +28,16 @@ PushesLine as_letters old new info path = (line : List ℕ) × IsLine info (show
 abbrev pub Passes : Option (List ℕ) → Option (List ℕ) → List ℕ → List ℕ → Type 0
 Passes old new text rest = Writes old new (λ written. text ≡ written ++ rest)
 
--- the text has the volume's line, and no entry is listed yet
-abbrev pub Starts : Tree → ℕ → Bool → Listing → Type 0
-Starts t dir as_letters new =
-    (new.text.items ≡ volume_line t as_letters)
+-- the text has what stands before the entries, and no entry is listed yet
+abbrev pub Starts : Tree → ℕ → ListForm → Listing → Type 0
+Starts t dir form new =
+    (new.text.items ≡ head t form)
     × IsSoFar t dir new.levels.items new.path.items [] (listing t dir) × (work new.levels.items (listing t dir) < 2 * t.blocks)
 
--- one step goes on: some entries were listed with their lines, and less is left; or nothing was left, and nothing
--- changes
-abbrev pub GoesOn : Tree → ℕ → Bool → Listing → Listing → List Located → List Located → Bool → Type 0
-GoesOn t dir as_letters old new first left true =
-    (came : List Located) × (rest : List Located) × (lines : List ℕ)
-    × (left ≡ came ++ rest) × AreLines t as_letters came lines × (new.text.items ≡ old.text.items ++ lines)
+-- one step goes on: some entries were listed, and less is left; or nothing was left, and nothing changes
+abbrev pub GoesOn : Tree → ℕ → ListForm → Listing → Listing → List Located → List Located → Bool → Type 0
+GoesOn t dir form old new first left true =
+    (came : List Located) × (rest : List Located) × (told : List ℕ)
+    × (left ≡ came ++ rest) × AreEntries t form came told × (new.text.items ≡ old.text.items ++ told)
     × IsSoFar t dir new.levels.items new.path.items (first ++ came) rest × (work new.levels.items rest < work old.levels.items left)
-GoesOn t dir as_letters old new first left false = (left ≡ []) × (new.text.items ≡ old.text.items)
+GoesOn t dir form old new first left false = (left ≡ []) × (new.text.items ≡ old.text.items)

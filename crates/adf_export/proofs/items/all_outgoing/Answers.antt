@@ -1,5 +1,4 @@
 use Rattle.std.proofs.Common.{◌≡◌, None, length, flat_map, All, sym, subst, arith}
-use Rattle.ados_model.specs.Keys.{HasKey}
 use Rattle.ados_model.specs.Stands.{Stands}
 use Rattle.ados_model.specs.Tree.{Tree}
 use Rattle.ados_volume.specs.Below.{AreBelow}

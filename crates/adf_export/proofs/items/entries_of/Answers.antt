@@ -1,4 +1,4 @@
-use Rattle.std.proofs.Common.{ℕ, List, [], None, flat_map, take, sym, subst, arith}
+use Rattle.std.proofs.Common.{ℕ, List, [], None, flat_map, sym, subst, arith}
 use Rattle.std.proofs.lemmas.List.{take_all}
 use Rattle.ados_volume.specs.Below.{AreBelow}
 use Rattle.adf_export.specs.Items.{tops}

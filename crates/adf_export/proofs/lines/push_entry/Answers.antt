@@ -1,17 +1,20 @@
-use Rattle.std.proofs.Common.{ℕ, ◌++◌, List, [], ◌∷◌, append_assoc, refl, ap, ap₂, ◌∙◌}
-use Rattle.std.specs.String.{string_bytes}
-use Rattle.adf_script.specs.Text.{spaced}
-use Rattle.adf_export.specs.Listing.{right_in, shown}
-use Rattle.adf_export.proofs.Padding.{five_pieces}
+use Rattle.std.proofs.Common.{OnOk, sym, subst}
+use Rattle.adf_words.specs.declared.query.ListForm.{ListForm}
+use Rattle.adf_export.specs.steps.Going.{PushesEntry}
 use Rattle.adf_export.proofs.lines.push_entry.Goals as goal
 
-pub returns : goal.returns
-returns c =
-    let size = c.in_ok-push_right.ensures ∙ ap (λ (w : List ℕ). c.args.text.now.items ++ right_in 8 w) (c.as_bytes.ensures.value ∙ c.size_word-size.ensures) in
-    let letters = c.in_ok-push_spaced.ensures ∙ ap₂ (λ (l w : List ℕ). l ++ spaced w) size c.letters.ensures in
-    let date = c.in_ok-push_spaced-2.ensures ∙ ap₂ (λ (l w : List ℕ). l ++ spaced w) letters c.as_bytes-2.ensures.value in
-    let names = shown c.args.letters c.args.path.now in
-    let space = c.in_ok-push.ensures.items ∙ ap (λ (l : List ℕ). l ++ 32 ∷ []) date in
-    let path = c.in_ok-push_names.ensures ∙ ap (λ (l : List ℕ). l ++ names) space ∙ append_assoc _ (32 ∷ []) names in
-    let whole = c.in_ok-push-2.ensures.items ∙ ap (λ (l : List ℕ). l ++ 10 ∷ []) path in
-    (_, (string_bytes c.in_ok-date.date, c.in_ok-date.ensures, refl), whole ∙ five_pieces c.args.text.now.items _ _ _ _ (10 ∷ []))
+pub returns-in-Bytes : goal.returns-in-Bytes
+returns-in-Bytes c =
+    subst (λ (f : ListForm). OnOk c.push_line.result (PushesEntry f c.args.text.now.items c.push_line.new.text.items c.args.info.now c.args.path.now)) (sym c.in-Bytes.is) c.push_line.ensures
+
+pub returns-in-Letters : goal.returns-in-Letters
+returns-in-Letters c =
+    subst (λ (f : ListForm). OnOk c.push_line-in-Letters.result (PushesEntry f c.args.text.now.items c.push_line-in-Letters.new.text.items c.args.info.now c.args.path.now)) (sym c.in-Letters.is) c.push_line-in-Letters.ensures
+
+pub returns-in-Long : goal.returns-in-Long
+returns-in-Long c =
+    subst (λ (f : ListForm). OnOk c.push_long.result (PushesEntry f c.args.text.now.items c.push_long.new.text.items c.args.info.now c.args.path.now)) (sym c.in-Long.is) c.push_long.ensures
+
+pub returns-in-Json : goal.returns-in-Json
+returns-in-Json c =
+    subst (λ (f : ListForm). OnOk c.push_object.result (PushesEntry f c.args.text.now.items c.push_object.new.text.items c.args.info.now c.args.path.now)) (sym c.in-Json.is) c.push_object.ensures

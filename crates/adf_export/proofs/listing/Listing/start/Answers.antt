@@ -1,10 +1,6 @@
-use Rattle.std.proofs.Common.{ℕ, ◌++◌, List, [], ◌∷◌, refl, sym, ap, ap₂, ◌∙◌, arith}
-use Rattle.std.specs.Prelude.{codes}
-use Rattle.ados_model.specs.declared.answer.FileInfo.{FileInfo}
-use Rattle.ados_model.specs.Parts.{name_in}
+use Rattle.std.proofs.Common.{◌++◌, List, [], ◌∷◌, refl, ap, ◌∙◌, arith}
 use Rattle.ados_volume.proofs.Ordered.{own_place}
 use Rattle.adf_export.specs.declared.listing.Level.{Level}
-use Rattle.adf_export.specs.Listing.{shown}
 use Rattle.adf_export.proofs.Directories.{node_of, node_there}
 use Rattle.adf_export.proofs.Left.{starts}
 use Rattle.adf_export.proofs.Levels.{none_are, pushed_are}
@@ -17,18 +13,12 @@ pub returns-clause-places : goal.returns-clause-places
 returns-clause-places c =
     let image = c.args.volume.now.image in
     let level : Level = record { dir = c.args.dir; last = c.args.dir; path = c.len.result } in
-    pushed_are image _ _ level c.in_ok-push-2.ensures.items (none_are image _ c.new-levels.ensures.items) (c.requires, own_place image c.args.dir)
+    pushed_are image _ _ level c.in_ok-push.ensures.items (none_are image _ c.new-levels.ensures.items) (c.requires, own_place image c.args.dir)
 
 pub returns-clause-starts : goal.returns-clause-starts
 returns-clause-starts c = λ t s.
-    let m = s.proper.root_node in
-    let at_root = c.root.ensures.root t s in
-    let info = c.examine-volume_name.ensures t m.0 s (ap t.nodes at_root ∙ m.1) in
-    let name = c.bytes.ensures.value ∙ ap (λ (i : FileInfo). i.name) info ∙ sym (ap name_in m.1) in
-    let first = c.in_ok-extend_from_slice.ensures.items ∙ ap (λ (l : List ℕ). l ++ codes "Volume ") c.new-text.ensures.items in
-    let text = c.in_ok-push.ensures.items ∙ ap (λ (l : List ℕ). l ++ 10 ∷ []) (c.in_ok-push_names.ensures ∙ ap₂ (λ (a b : List ℕ). a ++ shown c.args.letters b) first name) in
     let level : Level = record { dir = c.args.dir; last = c.args.dir; path = c.len.result } in
-    let levels = c.in_ok-push-2.ensures.items ∙ ap (λ (l : List Level). l ++ level ∷ []) c.new-levels.ensures.items in
+    let levels = c.in_ok-push.ensures.items ∙ ap (λ (l : List Level). l ++ level ∷ []) c.new-levels.ensures.items in
     let node = node_of t c.args.dir (c.requires t s) in
-    let begun = starts t s.proper c.args.dir node.0 level c.push-2.new.self.items c.in_ok-path.path.items node.1 levels (c.in_ok-path.ensures t s) refl refl (omega (arith, c.len.ensures, c.in_ok-path.path.ok.0)) in
-    (text, begun.0, begun.1)
+    let begun = starts t s.proper c.args.dir node.0 level c.push.new.self.items c.in_ok-path.path.items node.1 levels (c.in_ok-path.ensures t s) refl refl (omega (arith, c.len.ensures, c.in_ok-path.path.ok.0)) in
+    (c.in_ok-text.ensures t s, begun.0, begun.1)

@@ -1,0 +1,14 @@
+use Rattle.std.proofs.Common.{ℕ, [], Option, sym, ap, ◌∙◌}
+use Rattle.std.specs.Option.{option_map_or}
+use Rattle.std.proofs.lemmas.Result.{IfOk-weaker}
+use Rattle.adf_export.specs.Listing.{front}
+use Rattle.adf_export.proofs.front.front_above.Goals as goal
+
+pub returns-in-Some : goal.returns-in-Some
+returns-in-Some c =
+    IfOk-weaker c.front_of.result _ _ (λ text is. λ t s.
+    is t s ∙ ap (λ (above : Option ℕ). option_map_or (front t t.blocks) above []) (sym c.in-Some.is ∙ c.parent.ensures.parent t s)) c.front_of.ensures
+
+pub returns-in-None : goal.returns-in-None
+returns-in-None c = λ t s.
+    c.new.ensures.items ∙ ap (λ (above : Option ℕ). option_map_or (front t t.blocks) above []) (sym c.in-None.is ∙ c.parent.ensures.parent t s)

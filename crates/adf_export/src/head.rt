@@ -1,0 +1,38 @@
+//! The text before the entries of a list.
+ghost use Rattle.std.specs.Prelude.{◌≡◌, IfOk};
+ghost use Rattle.ados_model.specs.Stands.{Stands};
+ghost use Rattle.ados_model.specs.Tree.{Tree};
+ghost use Rattle.adf_export.specs.Listing.{head, volume_line};
+
+use crate::lines::push_names;
+use adf_words::ListForm;
+use ados_volume::Volume;
+use std::alloc::{AllocError, Global};
+
+/// The volume's line; before objects there is no text.
+pub(crate) fn head_text(
+    alloc: Global,
+    volume: &Volume,
+    form: ListForm,
+) -> Result<Vec<u8>, AllocError>
+    ensures { IfOk result (λ text. (t : Tree) → Stands volume.now.image t → text.items ≡ head t form) }
+{
+    match form {
+        ListForm::Bytes => volume_line(alloc, volume, false),
+        ListForm::Letters => volume_line(alloc, volume, true),
+        ListForm::Long => volume_line(alloc, volume, true),
+        ListForm::Json => Ok(Vec::new(alloc)),
+    }
+}
+
+/// The line for the volume.
+fn volume_line(alloc: Global, volume: &Volume, letters: bool) -> Result<Vec<u8>, AllocError>
+    ensures { IfOk result (λ text. (t : Tree) → Stands volume.now.image t → text.items ≡ volume_line t letters) }
+{
+    let mut text = Vec::new(alloc);
+    text.extend_from_slice(b"Volume ")?;
+    let volume_name = volume.examine(volume.root()).name;
+    push_names(alloc, &mut text, volume_name.bytes(), letters)?;
+    text.push(b'\n')?;
+    Ok(text)
+}

@@ -1,0 +1,2 @@
+-- Lemmas about tokens.
+pub mod Tokens

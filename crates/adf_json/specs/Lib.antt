@@ -1,0 +1,2 @@
+-- Members of JSON objects, as tokens.
+pub mod Members
