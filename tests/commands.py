@@ -11,6 +11,7 @@ import fcntl
 import json
 import os
 import re
+import resource
 import shlex
 import shutil
 import sys
@@ -29,6 +30,7 @@ COMMANDS = "blank info check list print extract add mkdir delete rename protect 
 ON_IMAGES = [
     *("print IMAGE x", "extract IMAGE", "add IMAGE x", "mkdir IMAGE x", "delete IMAGE x", "rename IMAGE x y"),
     *("protect IMAGE x rwed", "date IMAGE x now", "comment IMAGE x y", "relabel IMAGE x", "boot IMAGE"),
+    *("boot --clear IMAGE", "boot --install IMAGE", "boot --save none.bin IMAGE", "boot --show IMAGE"),
 ]
 AT = "--days 1 --minutes 0 --ticks 0"
 # An entry of `list`, from its date on.
@@ -618,6 +620,214 @@ def boot_blocks(tried: Commands) -> None:
     tried.stays("a boot block that is none changes nothing", "moved.adf", before)
 
 
+# ---- The forms of `boot` ----
+
+# The standard code: what its source says, as instructions of the 68000, and the name of the module that it looks for.
+STANDARD = bytes.fromhex("43fa00184eaeffa04a80660453804e7522402069001670004e75") + b"dos.library\0"
+ROOT_OF_FLOPPY = (880).to_bytes(4, "big")
+BLANK_SHOWN = """boot block: none
+0000  44 4f 53 01 00 00 00 00 00 00 00 00 00 00 00 00  |DOS.............|
+"""
+STANDARD_SHOWN = """boot block: standard
+0000  44 4f 53 01 cb 9a 32 a7 00 00 03 70 43 fa 00 18  |DOS...2....pC...|
+0010  4e ae ff a0 4a 80 66 04 53 80 4e 75 22 40 20 69  |N...J.f.S.Nu"@ i|
+0020  00 16 70 00 4e 75 64 6f 73 2e 6c 69 62 72 61 72  |..p.Nudos.librar|
+0030  79 00 00 00 00 00 00 00 00 00 00 00 00 00 00 00  |y...............|
+"""
+
+
+def boot_sum(blocks: bytes) -> bytes:
+    """The checksum of two boot blocks: the complement of the sum of their longs, with each carry added again and without the
+    checksum itself."""
+    total = sum(int.from_bytes(blocks[it : it + 4], "big") for it in range(0, 2 * BLOCK, 4) if it != 4)
+    while total >> 32:
+        total = (total & 0xFFFFFFFF) + (total >> 32)
+    return (total ^ 0xFFFFFFFF).to_bytes(4, "big")
+
+
+def boot_with(kind: bytes, behind: bytes) -> bytes:
+    """Two boot blocks of this kind with the right checksum, and these bytes behind it."""
+    blocks = kind + bytes(4) + behind.ljust(2 * BLOCK - 8, b"\0")
+    return kind + boot_sum(blocks) + blocks[8:]
+
+
+def boot_shown(said: str, blocks: bytes) -> str:
+    """What `boot --show` prints of boot blocks that are this."""
+    lines = [f"boot block: {said}\n"]
+    for at in range(0, len(blocks.rstrip(b"\0")), 16):
+        part = blocks[at : at + 16]
+        letters = "".join(chr(it) if 32 <= it < 127 else "." for it in part)
+        lines.append(f"{at:04x}  {' '.join(f'{it:02x}' for it in part)}  |{letters}|\n")
+    return "".join(lines)
+
+
+# Where FindResident finds `dos.library` in the test, and where that module starts.
+MODULE, MODULE_START = 0xF80000, 0xF81234
+
+
+def boot_returns(blocks: bytes, is_there: bool) -> Tuple[int, Optional[int]]:
+    """Runs a boot block from byte 12, as a 68000 runs the instructions of the standard one. FindResident finds `dos.library`, or
+    nothing, and leaves A0 and A1 without meaning. Returns D0, and A0 if it has a meaning."""
+    base, at, d0, is_zero = 0x20000, 12, 0x1234, False
+    a0: Optional[int] = None
+    a1: Optional[int] = None
+    for _ in range(100):
+        word = int.from_bytes(blocks[at : at + 2], "big")
+        short = int.from_bytes(blocks[at + 1 : at + 2], "big", signed=True)
+        offset = int.from_bytes(blocks[at + 2 : at + 4], "big", signed=True)
+        at += 2
+        if word == 0x43FA:  # lea offset(pc),a1
+            a1, at = base + at + offset, at + 2
+        elif word == 0x4EAE and offset == -96 and a1 is not None:  # jsr -96(a6)
+            name = blocks[a1 - base :].partition(b"\0")[0]
+            d0, a1, at = MODULE if is_there and name == b"dos.library" else 0, None, at + 2
+        elif word == 0x4A80:  # tst.l d0
+            is_zero = d0 == 0
+        elif word >> 8 == 0x66:  # bne.s
+            at += 0 if is_zero else short
+        elif word == 0x5380:  # subq.l #1,d0
+            d0 = (d0 - 1) & 0xFFFFFFFF
+        elif word == 0x2240:  # movea.l d0,a1
+            a1 = d0
+        elif word == 0x2069 and offset == 22 and a1 == MODULE:  # movea.l 22(a1),a0
+            a0, at = MODULE_START, at + 2
+        elif word >> 8 == 0x70:  # moveq #short,d0
+            d0 = short & 0xFFFFFFFF
+        elif word == 0x4E75:  # rts
+            return d0, a0
+        else:
+            break
+    raise ValueError(f"no instruction of the standard boot block before byte {at}")
+
+
+def standard_boot(tried: Commands) -> None:
+    """`boot --install` and `boot --clear`, and what the standard code does."""
+    for kind, words, told in ((b"DOS\0", "", "488 444f5300"), (b"DOS\1", "--ffs ", "512 444f5301")):
+        tried.rows(row(f"blank {words}for a boot block", f"blank {words}Work boots.adf"))
+        before = tried.content("boots.adf")
+        wanted = boot_with(kind, ROOT_OF_FLOPPY + STANDARD)
+        tried.rows(
+            row(f"{words}boot --install", "boot --install boots.adf"),
+            row(f"{words}info of boot --install", "info boots.adf", 0, f"-1 0 82 1758 2 {told}\nboot yes\n"),
+            row(f"{words}check of boot --install", "check boots.adf", 0, "ok\n"),
+        )
+        tried.stays(f"{words}boot --install writes the standard block, and no other byte", "boots.adf", wanted + before[2 * BLOCK :])
+        tried.rows(
+            row(f"{words}boot --install once more", "boot --install boots.adf"),
+            row(f"{words}boot --show of the standard block", "boot --show boots.adf", 0, boot_shown("standard", wanted)),
+        )
+        tried.stays(f"{words}boot --install once more changes nothing", "boots.adf", wanted + before[2 * BLOCK :])
+        tried.rows(row(f"{words}boot --clear", "boot --clear boots.adf"))
+        tried.stays(f"{words}boot --clear takes the boot block away", "boots.adf", before)
+    tried.rows(row("boot --install --out", "boot --install --out other.adf boots.adf"))
+    tried.stays("boot --install --out leaves the image", "boots.adf", before)
+    tried.stays("boot --install --out writes the other file", "other.adf", wanted + before[2 * BLOCK :])
+    tried.rows(
+        row("boot --show of the standard block, letter by letter", "boot --show other.adf", 0, STANDARD_SHOWN),
+        row("boot --clear over another file", "boot --clear --out other.adf boots.adf"),
+    )
+    tried.stays("boot --clear --out writes the other file", "other.adf", before)
+    tried.report.same("the standard code finds dos.library", boot_returns(wanted, True), (0, MODULE_START))
+    tried.report.same("the standard code without dos.library", boot_returns(wanted, False), (0xFFFFFFFF, None))
+
+
+def shown_boots(tried: Commands) -> None:
+    """`boot --show`: what a boot block is, and its bytes."""
+    blank = tried.content("boots.adf")
+    tried.rows(row("boot --show of a blank image", "boot --show boots.adf", 0, BLANK_SHOWN))
+    full = bytes(range(256)) * 4
+    own = boot_with(b"DOS\1", ROOT_OF_FLOPPY + b"\x4e\x75 text ~\x7f\x1f\xff")
+    wrong_sum = "custom, checksum wrong: not bootable"
+    for name, said, blocks in (
+        ("a block of its own", "custom, checksum right", own),
+        ("a block with a changed byte", wrong_sum, own[:20] + b"!" + own[21:]),
+        ("a wrong checksum", wrong_sum, own[:7] + bytes([own[7] ^ 1]) + own[8:]),
+        ("the standard block with a wrong checksum", wrong_sum, b"DOS\1" + bytes(4) + ROOT_OF_FLOPPY + STANDARD),
+        ("the standard block and one more byte", "custom, checksum right", boot_with(b"DOS\1", ROOT_OF_FLOPPY + STANDARD + b"x")),
+        ("the standard block without its last byte", "custom, checksum right", boot_with(b"DOS\1", ROOT_OF_FLOPPY + STANDARD[:-2])),
+        ("the standard block with another root", "custom, checksum right", boot_with(b"DOS\1", bytes(4) + STANDARD)),
+        ("a checksum alone", "custom, checksum right", boot_with(b"DOS\1", b"")),
+        ("a byte behind the kind", wrong_sum, b"DOS\1\0\0\1"),
+        ("a full block", "custom, checksum right", boot_with(b"DOS\1", full[8:])),
+        ("the last byte alone", wrong_sum, b"DOS\1" + bytes(1019) + b"\1"),
+        ("the last byte of a line", wrong_sum, b"DOS\1" + bytes(507) + b"\1"),
+        ("the first byte of a line", wrong_sum, b"DOS\1" + bytes(508) + b"\1"),
+    ):
+        blocks = blocks.ljust(2 * BLOCK, b"\0")
+        image = blocks + blank[2 * BLOCK :]
+        tried.write("shown.adf", image)
+        tried.rows(row(f"boot --show of {name}", "boot --show shown.adf", 0, boot_shown(said, blocks)))
+        booting = tried.run("info", "shown.adf").output.endswith(b"boot yes\n")
+        tried.report.same(f"info of {name}", booting, said != wrong_sum)
+        tried.stays(f"boot --show of {name} changes nothing", "shown.adf", image)
+    stale = poked(poked(own + blank[2 * BLOCK :], 880, 78, bytes(4)), 880, 5, b"\x90\xa8\x8c\xd2")
+    tried.write("shown.adf", stale)
+    tried.rows(row("boot --show where the bitmap is rebuilt", "boot --show shown.adf", 0, boot_shown("custom, checksum right", own)))
+    tried.stays("boot --show rebuilds no bitmap", "shown.adf", stale)
+
+
+def saved_boots(tried: Commands) -> None:
+    """`boot --save`, and the way back."""
+    tried.rows(
+        row("boot --save of a blank image", "boot --save none.boot boots.adf"),
+        row("boot --install before --save", "boot --install boots.adf"),
+    )
+    image = tried.content("boots.adf")
+    tried.stays("boot --save of a blank image: the kind and zeros", "none.boot", b"DOS\1" + bytes(1020))
+    tried.rows(row("boot --save", "boot --save saved.boot boots.adf"))
+    tried.stays("boot --save writes the two blocks", "saved.boot", image[: 2 * BLOCK])
+    tried.stays("boot --save leaves the image", "boots.adf", image)
+    tried.rows(
+        row("boot --clear before the way back", "boot --clear boots.adf"),
+        row("boot with what was saved", "boot boots.adf saved.boot"),
+    )
+    tried.stays("the boot block is back", "boots.adf", image)
+    tried.rows(
+        row("blank of the other kind", "blank Work other.adf"),
+        row("boot with what was saved from the other kind", "boot other.adf saved.boot"),
+    )
+    wanted = boot_with(b"DOS\0", ROOT_OF_FLOPPY + STANDARD)
+    tried.report.expect("the kind stays, and the checksum is right", tried.content("other.adf")[: 2 * BLOCK] == wanted, "other bytes")
+    saved = tried.content("saved.boot")
+    os.symlink("nowhere", "link.boot")
+    tried.rows(
+        lacking("boot --save over a file", "boot --save saved.boot other.adf", "'saved.boot' is there already"),
+        lacking("boot --save over its image", "boot --save boots.adf boots.adf", "'boots.adf' is there already"),
+        lacking("boot --save through a link that leads nowhere", "boot --save link.boot boots.adf", "'link.boot' is there already"),
+        lacking("boot --save over a directory", ["boot", "--save", str(tried.top), "boots.adf"], f"'{tried.top}' is there already"),
+        lacking("boot --save in a folder that is not there", "boot --save none/x boots.adf", "'none/x' cannot be written"),
+        lacking("boot --save under a file", "boot --save saved.boot/x boots.adf", "'saved.boot/x' cannot be written"),
+        lacking("boot --save of an image that is not there", "boot --save x.boot none.adf", "'none.adf' cannot be read"),
+        row("boot --save of a file that is no image", "boot --save x.boot saved.boot", 3, "refused TooFewBlocks 0\n"),
+    )
+    tried.stays("boot --save writes over no file", "saved.boot", saved)
+    tried.stays("boot --save writes over no image", "boots.adf", image)
+    for name in ("x.boot", "nowhere"):
+        tried.absent(f"no file {name}", name)
+    few = tried.run("boot", "--save", "few.boot", "boots.adf", before=partial(resource.setrlimit, resource.RLIMIT_FSIZE, (1000, 1000)))
+    tried.report.check("boot --save past the limit on files", few, 2, b"", "'few.boot' cannot be written", "ulimit")
+    tried.absent("no file past the limit", "few.boot")
+
+
+def boot_options(tried: Commands) -> None:
+    """Options of `boot` that exclude each other, a file, or `--out`."""
+    forms = {"--clear": "--clear", "--install": "--install", "--save": "--save x", "--show": "--show"}
+    for one, words in forms.items():
+        for other, more in forms.items():
+            tried.rows(wrong(f"boot {one} {other}", f"boot {words} {more} none.adf", one, other, "Usage"))
+        tried.rows(wrong(f"boot {one} with a file", f"boot {words} none.adf code", one, "FILE", "Usage"))
+    for one in ("--save x", "--show"):
+        tried.rows(wrong(f"boot {one} --out", f"boot {one} --out x none.adf", one.split()[0], "--out", "Usage"))
+    tried.rows(
+        wrong("boot --save without a file", "boot none.adf --save", "--save", "FILE"),
+        wrong("boot --save without an image", "boot --save x", "IMAGE", "Usage"),
+        wrong("boot --show without an image", "boot --show", "IMAGE", "Usage"),
+        wrong("boot --install with a date that is none", "boot --install --date x none.adf", "'x' for '--date"),
+        wrong("boot --show with a number that is none", "boot --show --ticks x none.adf", "'x' for '--ticks"),
+    )
+    tried.absent("options that exclude each other write nothing", "x")
+
+
 # ---- Files that cannot be used ----
 
 
@@ -628,8 +838,11 @@ def held_images(tried: Commands) -> None:
         tried.rows(
             lacking("mkdir in an image that is held", "mkdir moved.adf more", "'moved.adf'", HELD),
             lacking("blank over an image that is held", "blank Work moved.adf", "'moved.adf'", HELD),
+            lacking("boot --install in an image that is held", "boot --install moved.adf", "'moved.adf'", HELD),
             lacking("mkdir --out over an image that is held", "mkdir ffs.adf more --out moved.adf", "'moved.adf'", HELD),
             row("check of an image that is held", "check moved.adf", 0, "ok\n", "'moved.adf'", "the state saved last is read"),
+            row("boot --save of an image that is held", "boot --save held.boot moved.adf", 0, "", "'moved.adf'", "the state saved last is read"),
+            row("boot --show of an image that is held", "boot --show moved.adf", 0, BLANK_SHOWN, "'moved.adf'", "the state saved last is read"),
             row("serve: a refused image goes before a held --out", "serve --out moved.adf write other", 3, "refused NotWholeBlocks 0\n"),
             lacking("serve: a missing script goes before a held --out", "serve --out moved.adf ffs.adf none", "'none' cannot be read"),
             row("serve: the work goes before a held --out", "serve --out moved.adf ffs.adf other", 2, "1.1 0 209\n", "'moved.adf'", HELD),
@@ -843,6 +1056,7 @@ def refused_images(tried: Commands) -> None:
         tried.stays(f"{name} stays", name, image)
         tried.rows(row(f"serve of {name}", ["serve", "--out", "none.out", name, "none"], 3, refused))
     tried.absent("a refused image writes nothing", "none.out")
+    tried.absent("a refused image saves no boot block", "none.bin")
     os.remove("huge.adf")
 
 
@@ -879,7 +1093,7 @@ def refused_output(tried: Commands) -> None:
         "onto a closed output": partial(os.close, 1),
         "into a pipe that nobody reads": prints_to(unread),
     }
-    for words in ("info ffs.adf", "check ffs.adf", "list ffs.adf", "check kind.adf", "serve --out full.adf ffs.adf write"):
+    for words in ("info ffs.adf", "check ffs.adf", "list ffs.adf", "boot --show ffs.adf", "check kind.adf", "serve --out full.adf ffs.adf write"):
         for name, before in outputs.items():
             tried.report.check(f"{words} {name}", tried.run(*words.split(), before=before), 2, b"", UNWRITTEN)
     entry = "Volume Work\n       1 ---rwed 1978-01-01 00:00:00.00 f\n"
@@ -897,6 +1111,7 @@ PARTS: List[Callable[[Commands], None]] = [
     *(wrong_words_for_files, words_too_many_and_wrong_letters, refused_names),
     *(clients, faulty_scripts, turns, growths, many_clients),
     *(directories, refused_changes, changes_beside, protect_words, boot_blocks),
+    *(standard_boot, shown_boots, saved_boots, boot_options),
     *(held_images, missing_files, first_faults),
     *(accepted_images, forms_of_lists, refused_images, stale_image, refused_output),
 ]

@@ -1,5 +1,5 @@
 -- The output for an image, whole or in part.
-use Rattle.std.proofs.Common.{◌≡◌, ℕ, ◌⊎◌, inl, inr, Bool, true, false, List, [], ◌++◌, Option, Some, None, option_map, Ok, Err, IfErr, IsErrAnd, refl, sym, ap, ◌∙◌, subst}
+use Rattle.std.proofs.Common.{◌≡◌, ℕ, ◌⊎◌, inl, inr, Bool, true, false, List, [], ◌++◌, Option, Some, None, option_map, Ok, Err, IfErr, OnErr, OnOk, IsErrAnd, refl, sym, ap, ◌∙◌, subst}
 use Rattle.std.specs.Prelude.{⊤}
 use Rattle.std.specs.Io.KnownBytes.{Appends, Keeps}
 use Rattle.std.proofs.KnownBytes.{Appends-nil, Keeps-refl}
@@ -13,6 +13,7 @@ use Rattle.ados_run.specs.declared.run.RunFault.{RunFault}
 use Rattle.ados_run.specs.declared.run.RunFault.TheVariants as of_run
 use Rattle.adf_script.specs.Streams.{Writes}
 use Rattle.adf_io.specs.Prefix.{WritesFront, WritesFrontOf}
+use Rattle.adf_boot.specs.Shown.{IsBootText}
 use Rattle.adf_export.specs.Listing.{BeginsList, IsList}
 use Rattle.adf_words.specs.declared.job.ImageJob.{ImageJob}
 use Rattle.adf_words.specs.declared.job.ImageJob.TheVariants.{Blank}
@@ -26,7 +27,7 @@ use Rattle.adf_commands.specs.declared.fault.CommandFault.{CommandFault}
 use Rattle.adf_commands.specs.declared.fault.CommandFault.TheVariants.{Dos, ImagesRefused, Memory, NotChecked, NotWhole, Output, Refused}
 use Rattle.adf_commands.specs.declared.refusal.Refusal.{Refusal}
 use Rattle.adf_commands.specs.declared.refusal.DosRefusal.{DosRefusal}
-use Rattle.adf_commands.specs.Texts.{BeginsJobText, BeginsListText, IsJobText, IsListed, IsListText, IsPrintText}
+use Rattle.adf_commands.specs.Texts.{BeginsJobText, BeginsListText, IsJobText, IsListed, IsListText, IsPrintText, IsShownBoot}
 use Rattle.adf_commands.specs.Faults.{IsBlankFault, IsNoImage, IsNoImageRefusal, IsNoRefusal, IsRefusedFor, IsToldAs, IsToldOut, IsToldRun}
 use Rattle.adf_commands.specs.Commands.{Does, DoesJob, Ending, EndsOff, LeavesOff, Prints, prints, Tells, TellsFault, TellsJob, TellsOf, TellsSome}
 use Rattle.adf_commands.specs.Commands.Prints.{OnlyFaults, OfBytes, OfImages, OfRescue, Unsaid}
@@ -69,6 +70,12 @@ pub leaves_front : (IsText : List ℕ → Type 0) (image : List ℕ) (old new : 
 leaves_front IsText image old new (Refused refusal) front plain = absurd (cc plain)
 leaves_front IsText image old new (Dos refusal) front plain = absurd (cc plain)
 leaves_front IsText image old new fault front plain = inr front
+
+-- a text is written, whole or as far as the writer accepts it
+pub told_text : (IsText : List ℕ → List ℕ → Type 0) (image : List ℕ) (old new : Option (List ℕ)) (text : List ℕ) (done : Ending) → IsText image text → OnOk done (Appends old new text)
+    → OnErr done (WritesFront old new text) → IfErr done IsNoRefusal → TellsOf IsText IsText image old new done
+told_text IsText image old new text (Ok x) is told front plain = (text, told, is)
+told_text IsText image old new text (Err fault) is told front plain = leaves_front (IsText image) image old new fault (text, is, front) plain
 
 -- nothing is written
 pub leaves_nothing : (IsText : List ℕ → Type 0) (image : List ℕ) (w : Option (List ℕ)) (fault : CommandFault) → IsNoRefusal fault → LeavesOff IsText image w w fault
@@ -127,6 +134,10 @@ module _ (image : List ℕ) (was_validated : Bool) (checked : List ℕ) (a : Acc
   print_text word old new h =
       let s = accepted_tree image was_validated checked a in
       let w = h s.0 s.1 in (bytes_of s.0 w.0, w.3, (was_validated, checked, s.0, a, s.1, (w.0, w.1, w.2, refl)))
+
+  pub boot_shown : (text : List ℕ) → IsBootText checked text → IsShownBoot image text
+  boot_shown text is =
+      let s = accepted_tree image was_validated checked a in (was_validated, checked, s.0, a, s.1, is)
 
   pub print_fault : (word : List ℕ) (old new : Option (List ℕ)) (fault : OutFault) (told : CommandFault) → ((t : Tree) → Stands checked t → IsPrintFault t word old new fault)
       → IsToldOut fault told → LeavesOff (IsPrintText word image) image old new told

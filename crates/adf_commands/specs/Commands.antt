@@ -4,7 +4,7 @@ use Rattle.std.specs.Io.KnownBytes.{Keeps}
 use Rattle.adf_script.specs.Streams.{Writes}
 use Rattle.adf_io.specs.Prefix.{WritesFrontOf}
 use Rattle.adf_words.specs.declared.job.ImageJob.{ImageJob}
-use Rattle.adf_words.specs.declared.job.ImageJob.TheVariants.{Check, Extract, Change, Boot, Salvage, Serve}
+use Rattle.adf_words.specs.declared.job.ImageJob.TheVariants.{Check, Extract, Change, Boot, SaveBoot, Salvage, Serve}
 use Rattle.adf_words.specs.declared.query.CheckJob.{CheckJob}
 use Rattle.adf_commands.specs.declared.fault.CommandFault.{CommandFault}
 use Rattle.adf_commands.specs.declared.fault.CommandFault.TheVariants.{Dos, Refused}
@@ -47,7 +47,8 @@ prints (Check job) = OfImages job
 prints (Salvage job) = OfRescue
 prints (Extract job) = OnlyFaults
 prints (Change job) = OnlyFaults
-prints (Boot image out file) = OnlyFaults
+prints (Boot image out block) = OnlyFaults
+prints (SaveBoot image file) = OnlyFaults
 prints (Serve job) = Unsaid
 prints job = OfBytes
 

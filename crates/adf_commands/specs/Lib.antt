@@ -1,7 +1,9 @@
--- The output of commands for images and for refusals, the messages of their faults, and how they end.
+-- The output of commands for images and for refusals, the messages of their faults, the boot blocks that they install, and
+-- how they end.
 pub mod Texts
 pub mod Refusals
 pub mod Faults
 pub mod Archives
 pub mod Rescues
+pub mod Boot
 pub mod Commands

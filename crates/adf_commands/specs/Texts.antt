@@ -16,10 +16,11 @@ use Rattle.ados_model.specs.Objects.{disk_info}
 use Rattle.ados_port.specs.Step.{Step}
 use Rattle.ados_port.specs.Step.TheVariants as steps
 use Rattle.ados_port.specs.Step.TheVariants.{Put, Take}
+use Rattle.adf_boot.specs.Shown.{IsBootText}
 use Rattle.adf_export.specs.Info.{info_text}
 use Rattle.adf_export.specs.Listing.{BeginsList, IsList}
 use Rattle.adf_words.specs.declared.job.ImageJob.{ImageJob}
-use Rattle.adf_words.specs.declared.job.ImageJob.TheVariants.{Info, List as ListOf, Print}
+use Rattle.adf_words.specs.declared.job.ImageJob.TheVariants.{Info, List as ListOf, Print, ShowBoot}
 use Rattle.adf_words.specs.declared.query.ListForm.{ListForm}
 use Rattle.adf_words.specs.declared.query.ListJob.{ListJob}
 use Rattle.adf_export.specs.Words.{LeadsTo}
@@ -65,11 +66,16 @@ BeginsListOf job = BeginsListText (option_map (λ word. word.now) job.path) job.
 abbrev pub IsPrintText : List ℕ → List ℕ → List ℕ → Type 0
 IsPrintText word = OfAccepted (λ was_validated checked t text. (key : ℕ) × LeadsTo t word key × (is_file t key ≡ true) × (text ≡ bytes_of t key))
 
+-- what the boot block is, and its bytes
+abbrev pub IsShownBoot : List ℕ → List ℕ → Type 0
+IsShownBoot = OfAccepted (λ was_validated checked t text. IsBootText checked text)
+
 -- the output of a command for the bytes that it reads, and its beginning; `blank` has none
 abbrev pub IsJobText : ImageJob → List ℕ → List ℕ → Type 0
 IsJobText (Info file) = IsInfoText
 IsJobText (ListOf job) = IsListOf job
 IsJobText (Print image path) = IsPrintText path.now
+IsJobText (ShowBoot image) = IsShownBoot
 IsJobText job = λ bytes text. text ≡ []
 
 abbrev pub BeginsJobText : ImageJob → List ℕ → List ℕ → Type 0

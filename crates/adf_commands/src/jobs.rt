@@ -3,7 +3,8 @@ ghost use Rattle.adf_commands.specs.Commands.{DoesJob, TellsJob};
 
 use crate::archive::check_images;
 use crate::blank::{blank_volume, write_new};
-use crate::changing::{boot, change};
+use crate::boot::{change_boot, save_boot, show_boot};
+use crate::changing::change;
 use crate::fault::CommandFault;
 use crate::info::print_info;
 use crate::moving::{print_bytes, print_list, take_out};
@@ -76,7 +77,9 @@ where
         ImageJob::Extract(job) => take_out(rt, alloc, &job),
         ImageJob::Salvage(job) => take_rescue(rt, alloc, &job, writer, faults),
         ImageJob::Change(job) => change(rt, alloc, job, faults),
-        ImageJob::Boot { image, out, file } => boot(rt, alloc, image, out, file),
+        ImageJob::Boot { image, out, block } => change_boot(rt, alloc, image, out, block),
+        ImageJob::SaveBoot { image, file } => save_boot(rt, alloc, image, file),
+        ImageJob::ShowBoot { image } => show_boot(rt, alloc, image, writer),
         ImageJob::Serve(job) => serve(rt, alloc, job, writer),
     }
 }

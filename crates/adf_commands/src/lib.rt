@@ -3,6 +3,7 @@
 
 mod archive;
 mod blank;
+mod boot;
 mod changing;
 mod fault;
 mod images;

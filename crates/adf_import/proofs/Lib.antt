@@ -14,4 +14,3 @@ pub mod Telling
 pub mod Keeping
 pub mod Putting
 pub mod Advancing
-pub mod Booting

@@ -1,5 +1,5 @@
--- Changes of a volume: of one object, at a path, in turn, by files that are put in; and the boot block. Definitions for
--- steps are in `steps`.
+-- Changes of a volume: of one object, at a path, in turn, and by files that are put in. Definitions for steps are in
+-- `steps`.
 pub mod Changes
 pub mod InTurn
 pub mod Refusals
@@ -10,5 +10,4 @@ pub mod Turns
 pub mod Put
 pub mod Commands
 pub mod Progress
-pub mod Boot
 pub mod steps

@@ -1,9 +1,8 @@
-//! Changes of a volume in memory by commands: each is made whole or not at all. Entries and their metadata, files of the
-//! host that are put in, and the boot block of an image.
+//! Changes of a volume in memory by commands: each is made whole or not at all. Entries and their metadata, and files of the
+//! host that are put in.
 #![tactic(auto)]
 
 mod adding;
-mod boot;
 mod change;
 mod each;
 mod entries;
@@ -20,7 +19,6 @@ mod room;
 mod single;
 mod words;
 
-pub use boot::{LongBoot, boot_image};
 pub use change::change_volume;
 pub use entries::{delete, make_directory, move_entry};
 pub use fault::{InFault, NoteFault};

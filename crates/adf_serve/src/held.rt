@@ -18,6 +18,8 @@ pub(crate) fn tell_job<R: Files<File = File>, F: Write>(
         ImageJob::Print { image, .. } => tell_held(rt, image, faults),
         ImageJob::Extract(job) => tell_held(rt, job.image, faults),
         ImageJob::Salvage(job) => tell_held(rt, job.image, faults),
+        ImageJob::SaveBoot { image, .. } => tell_held(rt, image, faults),
+        ImageJob::ShowBoot { image } => tell_held(rt, image, faults),
         _ => {}
     }
 }

@@ -1,9 +1,13 @@
--- The changes that arguments ask for.
-use Rattle.std.specs.Prelude.{◌≡◌, ℕ, List, Some, IsSome, codes}
-use Rattle.clap.specs.Matches.{first_value}
+-- The changes, and the jobs for a boot block, that arguments ask for.
+use Rattle.std.specs.Prelude.{◌≡◌, ◌≢◌, ℕ, List, Some, None, IsSome, option_map, codes}
+use Rattle.clap.specs.Matches.{first_value, one_text}
 use Rattle.clap.specs.declared.parser.matches.Found.{Found}
 use Rattle.adf_text.specs.ProtectWords.{protect_word}
 use Rattle.adf_words.specs.When.{IsWhen}
+use Rattle.adf_words.specs.declared.boot.BootBlock.{BootBlock}
+use Rattle.adf_words.specs.declared.boot.BootBlock.TheVariants.{Empty, Standard, File}
+use Rattle.adf_words.specs.declared.job.ImageJob.{ImageJob}
+use Rattle.adf_words.specs.declared.job.ImageJob.TheVariants.{Boot, SaveBoot, ShowBoot}
 use Rattle.adf_words.specs.declared.change.Change.{Change}
 use Rattle.adf_words.specs.declared.change.Change.TheVariants.{Date, Protect}
 
@@ -18,3 +22,26 @@ abbrev pub IsDateOf : Found → Change → Type 0
 IsDateOf found (Date path date) =
     (first_value found (codes "PATH") ≡ Some path.now) × ((text : List ℕ) × (first_value found (codes "WHEN") ≡ Some text) × IsWhen text date)
 IsDateOf found _ = ⊥
+
+-- an option without a value is among the arguments, or it is not
+abbrev pub IsGiven : Found → List ℕ → Type 0
+IsGiven found id = (one_text found id ≢ None) × (one_text found id ≢ Some (codes "false"))
+
+abbrev pub IsLeftOut : Found → List ℕ → Type 0
+IsLeftOut found id = one_text found id ≢ Some (codes "true")
+
+-- the boot block to install: the standard one with `--install`, else the bytes of this file, or none without it
+abbrev pub IsBlockOf : Found → BootBlock → Type 0
+IsBlockOf found Standard = IsGiven found (codes "install")
+IsBlockOf found (File file) = IsLeftOut found (codes "install") × (first_value found (codes "FILE") ≡ Some file.now)
+IsBlockOf found Empty = IsLeftOut found (codes "install") × (first_value found (codes "FILE") ≡ None)
+
+-- `boot`: with `--show` the block is shown, else with `--save` written to this file, else installed; the image is this argument
+abbrev pub IsBootOf : Found → ImageJob → Type 0
+IsBootOf found (ShowBoot image) = IsGiven found (codes "show") × (first_value found (codes "IMAGE") ≡ Some image.now)
+IsBootOf found (SaveBoot image file) =
+    IsLeftOut found (codes "show") × (first_value found (codes "IMAGE") ≡ Some image.now) × (first_value found (codes "save") ≡ Some file.now)
+IsBootOf found (Boot image out block) =
+    IsLeftOut found (codes "show") × (first_value found (codes "save") ≡ None) × (first_value found (codes "IMAGE") ≡ Some image.now)
+    × (first_value found (codes "out") ≡ option_map (λ word. word.now) out) × IsBlockOf found block
+IsBootOf found _ = ⊥

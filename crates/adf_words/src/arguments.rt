@@ -1,6 +1,7 @@
 //! The arguments of a command, as `clap` parsed them.
-ghost use Rattle.std.specs.Prelude.{◌≡◌, Bool, IfOk, Some, option_map};
+ghost use Rattle.std.specs.Prelude.{◌≡◌, Bool, IfOk, IsFalse, IsTrue, Some, option_map};
 ghost use Rattle.clap.specs.Matches.{first_value, found_of};
+ghost use Rattle.adf_words.specs.Asked.{IsGiven, IsLeftOut};
 ghost use Rattle.adf_words.specs.Lists.{IsFlag};
 
 use crate::fault::WordsFault;
@@ -18,7 +19,9 @@ pub(crate) struct Arguments<'a, 'b> {
 impl<'a> Arguments<'a, '_> {
     /// Whether an option without a value is given.
     pub(crate) fn flag(&self, id: &str) -> bool
-        ensures { (given : Bool) → IsFlag (found_of self.now.words.now) id.now given → result ≡ given }
+        ensures value { (given : Bool) → IsFlag (found_of self.now.words.now) id.now given → result ≡ given }
+        ensures given { IsTrue result → IsGiven (found_of self.now.words.now) id.now }
+        ensures left_out { IsFalse result → IsLeftOut (found_of self.now.words.now) id.now }
     {
         self.words.get_flag(id)
     }

@@ -114,13 +114,3 @@ fn relabel<'a>(arguments: &Arguments<'a, '_>) -> Result<Change<'a>, WordsFault> 
         name: arguments.letters("NAME")?,
     })
 }
-
-/// The job of `boot`. Nothing there has a time stamp, so its value is checked and dropped.
-pub(crate) fn boot_job<'a>(arguments: &Arguments<'a, '_>) -> Result<ImageJob<'a>, WordsFault> {
-    arguments.given_moment()?;
-    Ok(ImageJob::Boot {
-        image: arguments.word("IMAGE")?,
-        out: arguments.given("out"),
-        file: arguments.given("FILE"),
-    })
-}

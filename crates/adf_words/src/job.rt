@@ -1,6 +1,7 @@
 //! The jobs of the program, as values.
 ghost use Rattle.std.specs.Prelude.{◌<◌, length};
 
+use crate::boot::BootBlock;
 use crate::change::ChangeJob;
 use crate::query::{CheckJob, ExtractJob, ListJob, SalvageJob};
 use adf_block::Format;
@@ -39,8 +40,12 @@ pub enum ImageJob<'a> {
     Print { image: &'a str, path: &'a str },
     /// A command that changes the volume.
     Change(ChangeJob<'a>),
-    /// `boot`: installs the boot block of a file, or removes it. The image goes to `out`, or to its own file.
-    Boot { image: &'a str, out: Option<&'a str>, file: Option<&'a str> },
+    /// `boot`: installs a boot block, or removes it. The image goes to `out`, or to its own file.
+    Boot { image: &'a str, out: Option<&'a str>, block: BootBlock<'a> },
+    /// `boot --save`: writes the boot block to a new file of the host.
+    SaveBoot { image: &'a str, file: &'a str },
+    /// `boot --show`: says what the boot block is, and prints its bytes.
+    ShowBoot { image: &'a str },
     /// `serve`: runs scripts over an image.
     Serve(ServeJob<'a>),
 }

@@ -2,6 +2,7 @@
 #![tactic(auto)]
 
 mod arguments;
+mod boot;
 mod change;
 mod changing;
 mod commands;
@@ -17,6 +18,7 @@ mod refused;
 mod table;
 mod taking;
 
+pub use boot::BootBlock;
 pub use change::{Change, ChangeJob};
 pub use fault::WordsFault;
 pub use given::{given_words, word_of};

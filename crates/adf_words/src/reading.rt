@@ -2,7 +2,8 @@
 ghost use Rattle.std.specs.Prelude.{◌≡◌, []};
 
 use crate::arguments::Arguments;
-use crate::changing::{boot_job, change_job};
+use crate::boot::boot_job;
+use crate::changing::change_job;
 use crate::commands::program;
 use crate::fault::WordsFault;
 use crate::job::{ImageJob, Job, ServeJob};

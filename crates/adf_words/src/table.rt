@@ -290,10 +290,16 @@ pub(crate) const COMMANDS: [CommandRow; 16] = [
     },
     CommandRow {
         name: "boot",
-        about: "Writes a boot block with the right sum, or takes the boot code away",
-        examples: "Examples:\n  adf_serve boot work.adf boot.bin\n  adf_serve boot work.adf",
+        about: "Installs a boot block with the right sum, takes it away, saves it or shows it",
+        examples: "Examples:\n  adf_serve boot --install work.adf\n  adf_serve boot work.adf boot.bin\n  adf_serve boot --clear work.adf\n  adf_serve boot --save boot.bin work.adf\n  adf_serve boot --show work.adf",
         changes: true,
-        arguments: &[ArgumentRow { name: "FILE", kind: Kind::Optional, help: "The boot block, of at most 1,024 bytes; its first four become those of the image" }],
+        arguments: &[
+            ArgumentRow { name: "clear", kind: Kind::Flag { excludes: &["install", "save", "show", "FILE"] }, help: "Takes the boot block away, as without FILE" },
+            ArgumentRow { name: "install", kind: Kind::Flag { excludes: &["save", "show", "FILE"] }, help: "Installs the standard boot block, which starts AmigaDOS" },
+            ArgumentRow { name: "save", kind: Kind::Instead { value: "FILE", excludes: &["show", "out", "FILE"] }, help: "Writes the 1,024 bytes of the boot block to a new file, and leaves the image as it is" },
+            ArgumentRow { name: "show", kind: Kind::Flag { excludes: &["out", "FILE"] }, help: "Prints what the boot block is, and its bytes" },
+            ArgumentRow { name: "FILE", kind: Kind::Optional, help: "The boot block, of at most 1,024 bytes; its first four become those of the image" },
+        ],
     },
     CommandRow {
         name: "serve",

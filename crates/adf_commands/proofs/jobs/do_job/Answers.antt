@@ -34,3 +34,7 @@ returns-in-Print g c =
 pub returns-in-Salvage : goal.returns-in-Salvage
 returns-in-Salvage g c =
     subst (λ (job : ImageJob). DoesJob job (g.W.Write.contents c.args.writer.now) (g.W.Write.contents c.take_rescue.new.writer) c.take_rescue.result) (sym c.in-Salvage.is) c.take_rescue.ensures
+
+pub returns-in-ShowBoot : goal.returns-in-ShowBoot
+returns-in-ShowBoot g c =
+    subst (λ (job : ImageJob). DoesJob job (g.W.Write.contents c.args.writer.now) (g.W.Write.contents c.show_boot.new.writer) c.show_boot.result) (sym c.in-ShowBoot.is) c.show_boot.ensures

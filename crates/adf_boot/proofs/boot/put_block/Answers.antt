@@ -1,6 +1,6 @@
 use Rattle.std.proofs.Common.{◌+◌, length}
-use Rattle.adf_import.proofs.Booting.{put_byte, put_rest}
-use Rattle.adf_import.proofs.boot.put_block.Goals as goal
+use Rattle.adf_boot.proofs.Booting.{put_byte, put_rest}
+use Rattle.adf_boot.proofs.boot.put_block.Goals as goal
 
 pub returns-clause-byte : goal.returns-clause-byte
 returns-clause-byte c = put_byte c.clear.new.self c.put_bytes.new.self c.args.b c.args.bytes.now c.clear.ensures.empty c.put_bytes.ensures.put c.put_bytes.ensures.rest

@@ -1,7 +1,7 @@
 use Rattle.std.proofs.Common.{ℕ, List, slice_index, ap, ◌∙◌}
 use Rattle.std.proofs.lemmas.List.{take_rest}
-use Rattle.adf_import.proofs.Booting.{holds_code}
-use Rattle.adf_import.proofs.boot.put_code.Goals as goal
+use Rattle.adf_boot.proofs.Booting.{holds_code}
+use Rattle.adf_boot.proofs.boot.put_code.Goals as goal
 
 pub returns : goal.returns
 returns c =

@@ -7,7 +7,7 @@ use Rattle.adf_block.specs.Boot.{boot_long, boot_sum, carried_sum}
 use Rattle.adf_block.specs.Frame.{OnlyBlock, OnlyLong, SameBut, Within}
 use Rattle.adf_block.proofs.Frames.{same_long}
 use Rattle.adf_block.proofs.Totals.{total-same}
-use Rattle.adf_import.specs.Boot.{Boots, HoldsCode}
+use Rattle.adf_boot.specs.Boot.{Boots, HasBoot, HoldsCode}
 
 -- a block that was cleared and then written from its start
 pub put_byte : (mid new : List ℕ) (b : ℕ) (bytes : List ℕ) → ((k : ℕ) → k < 512 → byte_at mid b k ≡ 0) → ((k : ℕ) → k < length bytes → byte_at new b (0 + k) ≡ slice_index bytes k)
@@ -95,6 +95,6 @@ pub sum_is : (old new : List ℕ) → OnlyLong 0 1 old new → boot_sum new ≡ 
 unfolding boot_sum
 sum_is old new rest = ap (λ (t : ℕ). 4294967295 - carried_sum t) (total-same (boot_long old) (boot_long new) 256 (boot_long_same old new rest))
 
--- code that fits is written, and the checksum set
-pub booted : {A : Type 0} (o : Option (List ℕ)) (code old mid new : List ℕ) (a : A) → o ≡ Some code → length code ≤ 1024 → HoldsCode 4 code old mid → OnlyLong 0 1 mid new → long new 0 1 ≡ boot_sum new → Boots o old new (Ok a)
-booted o code old mid new a is fits holds rest sum = subst (λ (x : Option (List ℕ)). Boots x old new (Ok a)) (sym is) (fits, (settled code old mid new holds rest, sum))
+-- code that fits is installed
+pub booted : {A : Type 0} (o : Option (List ℕ)) (code old new : List ℕ) (a : A) → o ≡ Some code → length code ≤ 1024 → HasBoot code old new → Boots o old new (Ok a)
+booted o code old new a is fits has = subst (λ (x : Option (List ℕ)). Boots x old new (Ok a)) (sym is) (fits, has)

@@ -4,10 +4,13 @@ ghost use Rattle.std.specs.Prelude.{◌≡◌, ◌<◌, ◌≤◌, ℕ, length, 
 ghost use Rattle.adf_block.specs.Image.{block_count, byte_at, long};
 ghost use Rattle.adf_block.specs.Frame.{OnlyBlock, OnlyLong};
 ghost use Rattle.adf_block.specs.Boot.{boot_sum};
-ghost use Rattle.adf_import.specs.Boot.{Boots, HoldsCode};
+ghost use Rattle.adf_boot.specs.Boot.{Boots, HasBoot, HoldsCode};
+ghost use Rattle.adf_boot.specs.Code.{IsBootCode};
 
+use crate::kind::{BOOT_BYTES, BootCode};
+use crate::standard::STANDARD_BOOT;
 use adf_block::Image;
-use adf_block::layout::{BLOCK_BYTES, BOOT_BLOCKS, BOOT_CHECKSUM, KIND};
+use adf_block::layout::{BLOCK_BYTES, BOOT_CHECKSUM, KIND};
 use thiserror::Error;
 
 /// The bytes do not fit into the two boot blocks.
@@ -30,18 +33,33 @@ pub fn boot_image(image: &mut Image, code: Option<&[u8]>) -> Result<(), LongBoot
             Ok(())
         }
         Some(code) => {
-            if code.len() > MOST_BYTES {
+            if code.len() > BOOT_BYTES {
                 return Err(LongBoot { length: code.len() });
             }
-            put_code(image, code);
-            settle_boot(image);
+            install(image, code);
             Ok(())
         }
     }
 }
 
-/// Bytes in the boot blocks.
-const MOST_BYTES: usize = BOOT_BLOCKS as usize * BLOCK_BYTES as usize;
+/// Installs the standard boot block, [`STANDARD_BOOT`]. The kind of the disk stays, and the checksum is set.
+///
+/// Nothing after byte 1,023 changes.
+pub fn install_standard(image: &mut Image)
+    ensures installed { HasBoot STANDARD_BOOT image.old image.new }
+    ensures shown { IsBootCode image.new BootCode.Standard }
+{
+    install(image, &STANDARD_BOOT);
+}
+
+/// Installs code that fits.
+fn install(image: &mut Image, code: &[u8])
+    requires { length code.now ≤ 1024 }
+    ensures { HasBoot code.now image.old image.new }
+{
+    put_code(image, code);
+    settle_boot(image);
+}
 
 /// Writes code after the DOS type, then zeros.
 fn put_code(image: &mut Image, code: &[u8])

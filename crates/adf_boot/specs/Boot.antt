@@ -4,7 +4,7 @@ use Rattle.adf_block.specs.declared.layout.TheConstants.{BOOT_BLOCKS, BLOCK_BYTE
 use Rattle.adf_block.specs.Image.{byte_at, long}
 use Rattle.adf_block.specs.Boot.{boot_sum}
 use Rattle.adf_block.specs.Frame.{SameBut}
-use Rattle.adf_import.specs.declared.boot.LongBoot.{LongBoot}
+use Rattle.adf_boot.specs.declared.boot.LongBoot.{LongBoot}
 
 -- a byte of the boot blocks
 abbrev pub InBoot : ℕ → ℕ → Type 0

@@ -1,0 +1,167 @@
+//! The command `boot`.
+ghost use Rattle.adf_commands.specs.Boot.{PutsBoot, PutsFile};
+ghost use Rattle.adf_commands.specs.Texts.{IsShownBoot};
+ghost use Rattle.adf_commands.specs.Commands.{TellsOf, TellsSome};
+
+use crate::fault::CommandFault;
+use crate::images::{Work, accept, open_volume, read_image};
+use crate::output::tell;
+use crate::refusal::Refusal;
+use adf_block::Image;
+use adf_boot::{boot_bytes, boot_image, boot_text, install_standard};
+use adf_host::refuse_length;
+use adf_io::read_bounded;
+use adf_words::BootBlock;
+use host_trees::{WriteFault, WriteWhy};
+use std::alloc::Global;
+use std::fs::{self, File, OpenFile};
+use std::io::{Error, ErrorKind, Write};
+use std::rt::{Clock, Files};
+
+/// The most bytes of a boot block.
+const BOOT_BYTES: usize = 1_024;
+
+/// Installs a boot block in an image file that is accepted, or removes it.
+pub(crate) fn change_boot<'a, R: Files<File = File> + Clock>(
+    rt: &R,
+    alloc: Global,
+    image: &'a str,
+    out: Option<&'a str>,
+    block: BootBlock<'a>,
+) -> Result<(), CommandFault<'a>> {
+    let mut work = Work::begin(rt, image, out)?;
+    let mut image = work.read(alloc)?;
+    accept_copy(alloc, &image)?;
+    put_boot(rt, alloc, &mut image, block)?;
+    work.end(rt, alloc, &image)
+}
+
+/// Checks that an image is accepted. It checks a copy, because the check may rebuild the bitmap, and a boot block
+/// leaves it unchanged.
+fn accept_copy<'a>(alloc: Global, image: &Image) -> Result<(), CommandFault<'a>> {
+    let copy = Vec::from_slice(alloc, image.as_bytes())?;
+    match Image::from_bytes(copy) {
+        Ok(copy) => {
+            accept(alloc, copy)?;
+            Ok(())
+        }
+        Err(refused) => Err(CommandFault::Refused(Refusal::of_size(refused.fault))),
+    }
+}
+
+/// Installs an image's boot block, or removes it.
+fn put_boot<'a, R: Files>(
+    rt: &R,
+    alloc: Global,
+    image: &mut Image,
+    block: BootBlock<'a>,
+) -> Result<(), CommandFault<'a>>
+    ensures { PutsBoot block.entry image.old image.new result }
+{
+    match block {
+        BootBlock::Empty => {
+            let _ = boot_image(image, None);
+            Ok(())
+        }
+        BootBlock::Standard => {
+            install_standard(image);
+            Ok(())
+        }
+        BootBlock::File(file) => put_file(rt, alloc, image, file),
+    }
+}
+
+/// Installs the bytes of a file as an image's boot block.
+fn put_file<'a, R: Files>(
+    rt: &R,
+    alloc: Global,
+    image: &mut Image,
+    file: &'a str,
+) -> Result<(), CommandFault<'a>>
+    ensures { PutsFile image.old image.new result }
+{
+    let code = read_code(rt, alloc, file)?;
+    match boot_image(image, Some(&code)) {
+        Ok(()) => Ok(()),
+        Err(_) => Err(CommandFault::LongBoot(file)),
+    }
+}
+
+/// The bytes of a file, at most one more than a boot block has.
+fn read_code<'a, R: Files>(
+    rt: &R,
+    alloc: Global,
+    file: &'a str,
+) -> Result<Vec<u8>, CommandFault<'a>> {
+    let Ok(mut reader) = fs::open(rt, file) else {
+        return Err(CommandFault::Read(file));
+    };
+    read_bounded(alloc, &mut reader, BOOT_BYTES + 1).map_err(|fault| CommandFault::of_input(
+        fault, file,
+    ))
+}
+
+/// Prints what the boot block of a file's image is, and its bytes.
+pub(crate) fn show_boot<'a, R: Files, W: Write>(
+    rt: &R,
+    alloc: Global,
+    image: &'a str,
+    writer: &mut W,
+) -> Result<(), CommandFault<'a>>
+    ensures { TellsSome IsShownBoot IsShownBoot (W.contents writer.old) (W.contents writer.new) result }
+{
+    let image = read_image(rt, alloc, image)?;
+    tell_boot(alloc, image, writer)
+}
+
+/// Prints what the boot block of an image is, and its bytes.
+fn tell_boot<'a, W: Write>(
+    alloc: Global,
+    image: Image,
+    writer: &mut W,
+) -> Result<(), CommandFault<'a>>
+    ensures { TellsOf IsShownBoot IsShownBoot image (W.contents writer.old) (W.contents writer.new) result }
+{
+    let volume = accept(alloc, image)?;
+    let text = boot_text(alloc, volume.image())?;
+    tell(writer, &text)
+}
+
+/// Writes the boot block of an image file that is accepted to a new file of the host.
+pub(crate) fn save_boot<'a, R: Files<File = File>>(
+    rt: &R,
+    alloc: Global,
+    image: &'a str,
+    file: &'a str,
+) -> Result<(), CommandFault<'a>> {
+    let volume = open_volume(rt, alloc, image)?;
+    let Err(why) = write_new(rt, file, boot_bytes(volume.image())) else {
+        return Ok(());
+    };
+    Err(CommandFault::Extracted(WriteFault {
+        path: String::from_str(alloc, file)?,
+        why,
+        written: 0,
+    }))
+}
+
+/// Writes a new file. What is there already stays. A file that cannot be written whole is removed.
+fn write_new<R: Files<File = File>>(rt: &R, path: &str, bytes: &[u8]) -> Result<(), WriteWhy> {
+    refuse_length(rt, bytes.len() as u64)?;
+    let file = match File::create_new(rt, path) {
+        Ok(file) => file,
+        Err(error) if error.kind() == ErrorKind::AlreadyExists => return Err(WriteWhy::Exists),
+        Err(error) => return Err(WriteWhy::Host(error)),
+    };
+    let done = fill(file, bytes);
+    if done.is_err() {
+        let _ = fs::remove_file(rt, path);
+    }
+    done.map_err(WriteWhy::Host)
+}
+
+/// Writes the bytes of a new file, and flushes them to the disk.
+fn fill<F: Write + OpenFile + Drop>(mut file: F, bytes: &[u8]) -> Result<(), Error> {
+    file.write_all(bytes)?;
+    file.sync_all()
+}
