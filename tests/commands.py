@@ -1010,21 +1010,19 @@ def forms_of_lists(tried: Commands) -> None:
         row("list --long of a directory", "list --long told.adf Work:s", 0, "".join([long[0], *long[3:5]])),
         row("list --json of a directory", "list --json told.adf S", 0, "".join(objects[2:4])),
     )
-    for form, head in (([], plain[0]), (["--letters"], plain[0]), (["--long"], plain[0]), (["--json"], "")):
-        tried.rows(row(f"list {form} of an empty directory", ["list", *form, "told.adf", "a"], 0, head))
+    for name, head in (("list", plain[0]), ("list --letters", plain[0]), ("list --long", plain[0]), ("list --json", "")):
+        tried.rows(
+            row(f"{name} of an empty directory", f"{name} told.adf a", 0, head),
+            row(f"{name} of no object", f"{name} told.adf S/none", 3, "refused 205 S/none\n", "object not found"),
+            row(f"{name} below no directory", f"{name} told.adf none/x", 3, "refused 204 none/x\n", "directory not found"),
+            row(f"{name} below a file", f"{name} told.adf t/x", 3, "refused 212 t/x\n", "required type"),
+        )
     for at, path in ((3, "s/CAF\xe9"), (4, "S/F\x1b"), (5, "t")):
         tried.rows(
             row(f"list of the file {path!r}", ["list", "told.adf", path], 0, as_bytes(plain[0] + plain[at])),
             row(f"list --letters of the file {path!r}", ["list", "--letters", "told.adf", path], 0, letters[0] + letters[at]),
             row(f"list --long of the file {path!r}", ["list", "--long", "told.adf", path], 0, long[0] + long[at]),
             row(f"list --json of the file {path!r}", ["list", "--json", "told.adf", path], 0, objects[at - 1]),
-        )
-    for options in ([], ["--letters"], ["--long"], ["--json"]):
-        name = " ".join(["list", *options])
-        tried.rows(
-            row(f"{name} of no object", ["list", *options, "told.adf", "S/none"], 3, "refused 205 S/none\n", "object not found"),
-            row(f"{name} below no directory", ["list", *options, "told.adf", "none/x"], 3, "refused 204 none/x\n", "directory not found"),
-            row(f"{name} below a file", ["list", *options, "told.adf", "t/x"], 3, "refused 212 t/x\n", "required type"),
         )
     for both in ("--long --json", "--json --long", "--letters --long", "--letters --json"):
         tried.rows(wrong(f"list {both}", f"list {both} none.adf", *both.split(), "Usage"))

@@ -1,4 +1,4 @@
--- The list of an object of a volume: of a file, or of everything below a directory.
+-- The list of a file, or of everything below a directory.
 use Rattle.std.specs.Prelude.{◌≡◌, ℕ, zero, suc, ◌-◌, ◌==◌, negsuc, Bool, true, false, if◌then◌else◌, List, [], ◌∷◌, ◌++◌, length, take, replicate, flat_map, position, decimal, codes, Some}
 use Rattle.std.specs.Option.{option_map_or}
 use Rattle.std.specs.Ordering.{int_eq}
@@ -41,7 +41,7 @@ front_above t key = option_map_or (front t t.blocks) (parent_of t key) []
 abbrev pub path_of : Tree → ℕ → List ℕ
 path_of t key = front_above t key ++ name_of t key
 
--- the entries in the list of an object: a file itself, or everything below a directory
+-- the entries in the list of a file, which is itself, or of a directory, which are all below it
 abbrev pub listed : Tree → ℕ → List Located
 listed t key = if is_file t key then record { path = path_of t key; key = key } ∷ [] else listing t key
 
@@ -98,7 +98,7 @@ AreEntries t form (entry ∷ rest) text =
 abbrev pub volume_line : Tree → Bool → List ℕ
 volume_line t as_letters = line (codes "Volume " ++ shown as_letters (name_of t (root t)))
 
--- the text before the entries: the volume's line, but none before objects
+-- the text before the entries: the volume's line; there is none before JSON objects
 abbrev pub head : Tree → ListForm → List ℕ
 head t Bytes = volume_line t false
 head t Letters = volume_line t true
@@ -114,7 +114,7 @@ BeginsListing t entries form text =
     (first : List Located) × (rest : List Located) × (told : List ℕ)
     × (entries ≡ first ++ rest) × AreEntries t form first told × (text ≡ head t form ++ told)
 
--- the list of an object, and the beginning of one
+-- the list of a file or directory, and the beginning of one
 abbrev pub IsList : Tree → ℕ → ListForm → List ℕ → Type 0
 IsList t key = IsListing t (listed t key)
 

@@ -9,7 +9,7 @@ use adf_words::ListForm;
 use ados_volume::Volume;
 use std::alloc::{AllocError, Global};
 
-/// The volume's line; before objects there is no text.
+/// The volume's line; before JSON objects there is no text.
 pub(crate) fn head_text(
     alloc: Global,
     volume: &Volume,

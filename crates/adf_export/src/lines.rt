@@ -17,7 +17,7 @@ use std::alloc::{AllocError, Global};
 /// As many spaces as a size has places.
 const BLANKS: &[u8] = b"        ";
 
-/// Appends the text of an entry with this path: its line, or its object.
+/// Appends the text of an entry with this path: its line, or its JSON object.
 pub(crate) fn push_entry(
     alloc: Global,
     text: &mut Vec<u8>,

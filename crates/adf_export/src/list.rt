@@ -1,4 +1,4 @@
-//! The list of an object of a volume: of a file, or of everything below a directory.
+//! The list of a file, or of everything below a directory.
 ghost use Rattle.std.specs.Prelude.{◌≡◌, IfOk, OnOk, OnErr};
 ghost use Rattle.ados_model.specs.Keys.{HasFileKey, HasKey};
 ghost use Rattle.ados_model.specs.Stands.{Stands};
@@ -18,11 +18,9 @@ use ados_volume::Volume;
 use std::alloc::{AllocError, Global};
 use std::io::Write;
 
-/// Writes the list of an object: of a file itself, of a directory each entry below it. A path starts at the root, and a
-/// directory comes directly before its contents.
-///
-/// With lines, the volume's name comes first. Names are printed as their bytes, or as the letters of these bytes, with
-/// control characters as escapes. Each object is a line of its own too.
+/// Writes the list of a file or directory: the file itself, or each entry below the directory. A path starts at the
+/// root, and a directory comes directly before its contents. A line for the volume comes first, except before JSON
+/// objects.
 ///
 /// If the writer fails or memory runs out, it has written a prefix of that text.
 pub fn write_list<W: Write>(
