@@ -1,16 +1,17 @@
 -- The cells of faults, and the faults in the order of their cells.
-use Rattle.std.proofs.Common.{◌≡◌, ◌≢◌, ℕ, zero, suc, ◌+◌, ◌<◌, ◌⊎◌, inl, inr, Bool, true, false, List, [], ◌∷◌, ◌++◌, length, get_or, set, refl, sym, ap, ◌∙◌, subst, arith, length-set, get_or-set_same, get_or-set_other}
-use Rattle.std.proofs.lemmas.Bool.{cases_lt, cases_order, false≢true}
+use Rattle.std.proofs.Common.{◌≡◌, ◌≢◌, ℕ, zero, suc, ◌+◌, ◌<◌, ◌≤◌, ◌⊎◌, inl, inr, Bool, true, false, List, [], ◌∷◌, ◌++◌, length, get_or, set, refl, sym, ap, ap₂, ◌∙◌, subst, arith, length-set, get_or-set_same, get_or-set_other}
+use Rattle.std.proofs.lemmas.Bool.{cases_eq, cases_lt, cases_order, false≢true}
 use Rattle.std.proofs.lemmas.List.{length_push}
-use Rattle.std.proofs.lemmas.List.Elements.{All-push}
+use Rattle.std.proofs.lemmas.List.Elements.{All-push, Contains-append_left, Contains-push}
+use Rattle.std.specs.List.{Contains}
 use Rattle.std.proofs.lemmas.List.Quantifiers.{all_pairs_push}
 use Rattle.adf_block.specs.Image.{block_count}
 use Rattle.ados_model.specs.declared.fault.FaultKind.{FaultKind}
 use Rattle.ados_model.specs.declared.fault.FaultKind.TheVariants.{NotADosDisk, UnsupportedKind, BadSum, BadType, BadOwnKey, BadParent, BadPointer, BlockUsedTwice, WrongChain, BadName, DuplicateName, BadComment, BadCount, BadSequence, LinkEntry, MarkedFree, NoMemory}
 use Rattle.ados_model.specs.declared.fault.VolumeFault.{VolumeFault}
 use Rattle.ados_model.specs.Faults.{Shows}
-use Rattle.ados_faults.specs.Listed.{rank, StandsBefore}
-use Rattle.ados_faults.specs.steps.Noted.{AreListed, AreNoted, IsNoted, HasNote, cell_at, cell_of}
+use Rattle.ados_faults.specs.Listed.{fault_of, rank, StandsBefore}
+use Rattle.ados_faults.specs.steps.Noted.{AreListed, AreNoted, AreStillNoted, IsNoted, ListsNoted, cell_at, cell_of}
 
 all_kinds : List FaultKind
 all_kinds = NotADosDisk ∷ UnsupportedKind ∷ BadSum ∷ BadType ∷ BadOwnKey ∷ BadParent ∷ BadPointer ∷ BlockUsedTwice ∷ WrongChain ∷ BadName ∷ DuplicateName ∷ BadComment ∷ BadCount ∷ BadSequence ∷ LinkEntry ∷ MarkedFree ∷ NoMemory ∷ []
@@ -73,8 +74,20 @@ noted_more image cells kind block n l h = record {
     go k b e (inr (inl before)) = old k b (λ z. omega (arith, z, before)) e
     go k b e (inr (inr behind)) = old k b (λ z. omega (arith, z, behind)) e
 
-pub noted_here : (image : List ℕ) (cells : List Bool) (kind : FaultKind) (block : ℕ) → AreNoted image cells → block < block_count image → HasNote (set cells (cell_of kind block) true)
-noted_here image cells kind block n l = (cell_of kind block, get_or-set_same cells (cell_of kind block) true false (cell_within image cells kind block n l))
+pub noted_here : (image : List ℕ) (cells : List Bool) (kind : FaultKind) (block : ℕ) → AreNoted image cells → block < block_count image → IsNoted (set cells (cell_of kind block) true) (cell_of kind block)
+noted_here image cells kind block n l = get_or-set_same cells (cell_of kind block) true false (cell_within image cells kind block n l)
+
+pub still_noted : (image : List ℕ) (cells : List Bool) (kind : FaultKind) (block : ℕ) → AreNoted image cells → block < block_count image → AreStillNoted cells (set cells (cell_of kind block) true)
+still_noted image cells kind block n l = record {
+  stay = λ cell e. elim (cases_eq cell (cell_of kind block)) [
+    | inl here ↦ subst (IsNoted (set cells (cell_of kind block) true)) (sym here) (noted_here image cells kind block n l)
+    | inr apart ↦ get_or-set_other cells (cell_of kind block) cell true false apart ∙ e
+  ];
+}
+
+-- first some are noted, then others
+pub noted_on : {cells later last : List Bool} → AreStillNoted cells later → AreStillNoted later last → AreStillNoted cells last
+noted_on a b = record { stay = λ cell e. b.stay cell (a.stay cell e) }
 
 -- ---- the list
 
@@ -93,6 +106,7 @@ none_listed image cells most = record {
   lists = record { shown = λ k d l. absurd (omega (arith, l)); in_order = λ i j d l m. absurd (omega (arith, m)); few = omega arith };
   cells_below = λ k d l. absurd (omega (arith, l));
   some = λ cell l e. absurd (omega (arith, l));
+  each = λ kind block l e. absurd (omega (arith, l));
 }
 
 module _ (image : List ℕ) (cells : List Bool) (most below : ℕ) (faults : List VolumeFault) (n : AreNoted image cells) (a : AreListed image cells most below faults) where
@@ -104,6 +118,10 @@ module _ (image : List ℕ) (cells : List Bool) (most below : ℕ) (faults : Lis
     some = λ cell l e. elim (cases_lt cell below) [
       | inl before ↦ a.some cell before e
       | inr not_before ↦ (let here : below ≡ cell = omega (arith, l, not_before) in absurd (false≢true (sym unset ∙ ap (λ (c : ℕ). get_or cells c false) here ∙ e)))
+    ];
+    each = λ kind block l e. elim (cases_lt (cell_of kind block) below) [
+      | inl before ↦ a.each kind block before e
+      | inr not_before ↦ (let here : below ≡ cell_of kind block = omega (arith, l, not_before) in absurd (false≢true (sym unset ∙ ap (λ (c : ℕ). get_or cells c false) here ∙ e)))
     ];
   }
 
@@ -117,8 +135,17 @@ module _ (image : List ℕ) (cells : List Bool) (most below : ℕ) (faults : Lis
     };
     cells_below = All-push (λ (f : VolumeFault). cell_at f < below + 1) faults fault (λ k d l. let b = a.cells_below k d l in omega (arith, b)) (omega (arith, here));
     some = λ cell l e. omega (arith, grown);
+    each = λ kind block l e. elim (cases_lt (cell_of kind block) below) [
+      | inl before ↦ Contains-append_left faults (fault ∷ []) (fault_of kind block) (a.each kind block before e)
+      | inr not_before ↦
+          (let at : cell_of fault.kind fault.block ≡ cell_of kind block = omega (arith, l, not_before, here) in
+          subst (Contains (faults ++ fault ∷ [])) (same_fault fault kind block at) (Contains-push faults fault))
+    ];
   }
     where
+      same_fault : (f : VolumeFault) (kind : FaultKind) (block : ℕ) → cell_of f.kind f.block ≡ cell_of kind block → f ≡ fault_of kind block
+      same_fault f kind block at = let same = one_cell f.kind kind f.block block at in ap₂ fault_of same.0 same.1
+
       grown : length (faults ++ fault ∷ []) ≡ length faults + 1
       grown = length_push faults fault
 
@@ -127,3 +154,9 @@ pub set_within : (cells : List Bool) (cell : ℕ) → IsNoted cells cell → cel
 set_within [] cell e = absurd (false≢true e)
 set_within (x ∷ xs) zero e = omega arith
 set_within (x ∷ xs) (suc cell) e = let l = set_within xs cell e in omega (arith, l)
+
+-- the faults of all cells
+pub all_listed : (image : List ℕ) (cells : List Bool) (most below : ℕ) (faults : List VolumeFault) → AreListed image cells most below faults → length cells ≤ below → ListsNoted cells faults
+all_listed image cells most below faults a whole kind block e =
+    let within = set_within cells (cell_of kind block) e in
+    a.each kind block (omega (arith, within, whole)) e

@@ -1,5 +1,5 @@
 -- A reached block that is marked free is a fault of the bitmap.
-use Rattle.std.proofs.Common.{◌≡◌, ℕ, ◌-◌, ◌/◌, ◌<◌, List, ◌∷◌, Option, Some, ◌∙◌, arith}
+use Rattle.std.proofs.Common.{◌≡◌, ℕ, ◌-◌, ◌/◌, ◌<◌, List, Option, Some, arith}
 use Rattle.adf_block.specs.Whole.{IsImage, HasFreeBit}
 use Rattle.ados_map.specs.Pages.{LawfulPages, pages_of}
 use Rattle.ados_model.specs.Faults.{InImage, IsReachedAndFree}

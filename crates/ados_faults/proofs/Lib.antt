@@ -10,3 +10,8 @@ pub mod Freed
 pub mod Above
 pub mod Disk
 pub mod Told
+pub mod Looking
+pub mod Each
+pub mod RightNames
+pub mod SameBlocks
+pub mod FileNotes

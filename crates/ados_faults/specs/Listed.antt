@@ -1,5 +1,5 @@
 -- Faults of an image, in order, and the marks of its blocks.
-use Rattle.std.specs.Prelude.{◌≡◌, ℕ, ◌<◌, ◌≤◌, ◌⊎◌, List, length, All, AllPairs, Option, Some}
+use Rattle.std.specs.Prelude.{◌≡◌, ℕ, ◌<◌, ◌≤◌, ◌⊎◌, Bool, false, List, length, All, AllPairs, Contains, Option, Some}
 use Rattle.adf_block.specs.Image.{block_count, long}
 use Rattle.ados_check.specs.Marks.{mark_at}
 use Rattle.ados_check.specs.declared.mark.Mark.{Mark}
@@ -39,6 +39,14 @@ pub record ListsFaults (image : List ℕ) (most : ℕ) (faults : List VolumeFaul
   pub shown : All (λ fault. Shows image fault.kind fault.block) faults
   pub in_order : AllPairs StandsBefore faults
   pub few : length faults ≤ most
+
+-- the fault of this kind at this block
+abbrev pub fault_of : FaultKind → ℕ → VolumeFault
+fault_of kind block = record { kind = kind; block = block }
+
+-- each fault that the image shows is in the list, unless there may be more
+abbrev pub ListsEach : List ℕ → Bool → List VolumeFault → Type 0
+ListsEach image more faults = more ≡ false → (kind : FaultKind) (block : ℕ) → Shows image kind block → Contains faults (fault_of kind block)
 
 -- for each block of an image its mark, if it has one
 abbrev pub Marks : Type 0

@@ -3,11 +3,11 @@ ghost use Rattle.std.specs.Prelude.{◌≡◌, ◌<◌, ◌≤◌, ◌↔◌, �
 ghost use Rattle.adf_block.specs.Whole.{IsImage};
 ghost use Rattle.ados_model.specs.Accepted.{ShowsNoFault};
 ghost use Rattle.ados_model.specs.Faults.{Shows};
-ghost use Rattle.ados_faults.specs.Listed.{AreMarks, ListsFaults};
+ghost use Rattle.ados_faults.specs.Listed.{AreMarks, ListsEach, ListsFaults};
 
 use crate::files::look_at_files;
 use crate::first::first_fault;
-use crate::looks::look_at_all;
+use crate::looks::{look_at_all, look_at_disk};
 use crate::names::note_duplicates;
 use crate::walk::walked;
 use adf_block::Image;
@@ -29,12 +29,14 @@ pub struct AllFaults {
 
 /// The first `most` of all faults that an image shows.
 ///
-/// The list is empty exactly if the image is accepted. A walk that goes on after each fault finds the others. `more`
-/// is true if the walk had to end early, because the blocks of the image name each other too often.
+/// The list is empty exactly if the image is accepted. A walk that goes on after each fault finds the others. Each fault
+/// that the image shows is in the list, unless `more` is true: there are more than `most`, or the walk had to end early,
+/// because the blocks of the image name each other too often.
 pub fn all_faults(alloc: Global, image: &Image, most: usize) -> Result<AllFaults, AllocError>
     ensures lists { IfOk result (λ found. ListsFaults image.now most found.faults.items) }
     ensures none { IfOk result (λ found. 1 ≤ most → (found.faults.items ≡ []) ↔ ShowsNoFault image.now) }
     ensures whole { IfOk result (λ found. ShowsNoFault image.now → found.more ≡ false) }
+    ensures each { IfOk result (λ found. ListsEach image.now found.more found.faults.items) }
     ensures marked { IfOk result (λ found. ShowsNoFault image.now ⊎ AreMarks image.now found.marks.items) }
 {
     prove!(image.blocks() >= 16);
@@ -61,12 +63,14 @@ fn faults_with(
     ensures lists { IfOk result (λ found. ListsFaults image.now most found.faults.items) }
     ensures some { IfOk result (λ found. 1 ≤ most → 0 < length found.faults.items) }
     ensures refused { IfOk result (λ _. ¬ ShowsNoFault image.now) }
+    ensures each { IfOk result (λ found. ListsEach image.now found.more found.faults.items) }
     ensures marked { IfOk result (λ found. AreMarks image.now found.marks.items) }
 {
     let mut walk = walked(alloc, image)?;
     look_at_all(image, &walk.steps, &mut walk.notes);
     note_duplicates(alloc, image, &walk.steps, &mut walk.notes)?;
     let left_out = look_at_files(alloc, image, &walk.steps, &mut walk.notes)?;
+    look_at_disk(image, &mut walk.notes);
     walk.notes.note(image, first.kind, first.block);
     let listed = walk.notes.listed(alloc, image, most)?;
     Ok(AllFaults {

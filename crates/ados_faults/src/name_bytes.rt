@@ -15,7 +15,7 @@ use ados_name::{Name, upper};
 pub(crate) fn has_bad_name(image: &Image, block: u32) -> bool
     requires inside { block < block_count image.now }
     requires named { HasName image.now block }
-    ensures { IsTrue result → HasBadName image.now block }
+    ensures { IsTrue result ↔ HasBadName image.now block }
 {
     if !has_short_name(image, block) {
         return true;
@@ -50,7 +50,7 @@ fn short_text(image: &Image, block: u32) -> &[u8]
 /// Whether the entry is in the hash chain of another slot than its name's.
 pub(crate) fn is_of_other_slot(image: &Image, block: u32, chain: u32) -> bool
     requires { block < block_count image.now }
-    ensures { IsTrue result → IsOfOtherSlot image.now block chain }
+    ensures { IsTrue result ↔ IsOfOtherSlot image.now block chain }
 {
     if !has_short_name(image, block) {
         return false;

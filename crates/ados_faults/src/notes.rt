@@ -3,7 +3,7 @@ ghost use Rattle.std.specs.Prelude.{◌≡◌, ◌<◌, ◌≤◌, ◌+◌, ◌*
 ghost use Rattle.adf_block.specs.Image.{block_count};
 ghost use Rattle.ados_model.specs.Faults.{Shows};
 ghost use Rattle.ados_faults.specs.Listed.{ListsFaults};
-ghost use Rattle.ados_faults.specs.steps.Noted.{AreListed, AreNoted, HasNote, IsNoted, cell_of};
+ghost use Rattle.ados_faults.specs.steps.Noted.{AreListed, AreNoted, AreStillNoted, HasNote, IsNoted, ListsNoted, cell_of};
 
 use crate::kinds::{KINDS, kind_at, rank_of};
 use adf_block::Image;
@@ -39,6 +39,8 @@ impl Notes {
         requires inside { block < block_count image.now }
         requires shown { IsTrue wrong → Shows image.now kind block }
         ensures noted { AreNoted image.now self.new.cells.items }
+        ensures stays { AreStillNoted self.old.cells.items self.new.cells.items }
+        ensures set { IsTrue wrong → IsNoted self.new.cells.items (cell_of kind block) }
     {
         if wrong {
             self.note(image, kind, block);
@@ -51,7 +53,8 @@ impl Notes {
         requires inside { block < block_count image.now }
         requires shown { Shows image.now kind block }
         ensures noted { AreNoted image.now self.new.cells.items }
-        ensures some { HasNote self.new.cells.items }
+        ensures stays { AreStillNoted self.old.cells.items self.new.cells.items }
+        ensures set { IsNoted self.new.cells.items (cell_of kind block) }
     {
         let _image = image;
         let cell = KINDS * block as usize + rank_of(kind);
@@ -68,6 +71,7 @@ impl Notes {
         requires noted { AreNoted image.now self.now.cells.items }
         ensures lists { IfOk result (λ listed. ListsFaults image.now most listed.faults.items) }
         ensures some { IfOk result (λ listed. HasNote self.now.cells.items → 1 ≤ most → 0 < length listed.faults.items) }
+        ensures each { IfOk result (λ listed. listed.more ≡ false → ListsNoted self.now.cells.items listed.faults.items) }
     {
         let mut faults = Vec::new(alloc);
         for cell in 0..self.cells.len() {

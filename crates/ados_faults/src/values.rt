@@ -119,7 +119,7 @@ fn held(image: &Image, block: u32, i: u32, wanted: Option<u32>) -> FaultValues
 }
 
 /// Whether the long is the first one of a disk of another kind than OFS and FFS.
-fn shows_disk(image: &Image, kind: FaultKind, block: u32, i: u32) -> bool
+pub(crate) fn shows_disk(image: &Image, kind: FaultKind, block: u32, i: u32) -> bool
     ensures { IsTrue result ↔ ShowsDisk image.now kind block i }
 {
     prove!(image.blocks() >= 16);

@@ -1,12 +1,14 @@
 //! The walk from the root over every place of every reached block, past all faults.
-ghost use Rattle.std.specs.Prelude.{◌≡◌, ◌≢◌, ◌*◌, ◌<◌, ◌⊎◌, ◌∷◌, [], IfOk, IsTrue, None, replicate};
+ghost use Rattle.std.specs.Prelude.{◌≡◌, ◌≢◌, ◌*◌, ◌<◌, ◌⊎◌, ◌↔◌, ◌∷◌, [], false, IfOk, IsTrue, None, Some, replicate};
 ghost use Rattle.adf_block.specs.declared.layout.TheConstants.{BLOCK_LONGS};
 ghost use Rattle.adf_block.specs.Whole.{IsImage};
 ghost use Rattle.adf_block.specs.Image.{block_count, long};
 ghost use Rattle.ados_check.specs.Marks.{mark_at};
 ghost use Rattle.ados_model.specs.Faults.{InImage, IsPlace, LeadsInside, Reached};
-ghost use Rattle.ados_faults.specs.Listed.{AreClosed, IsMarked, IsNamedAs};
-ghost use Rattle.ados_faults.specs.steps.Walked.{AreKept, IsStep, IsVisited, IsWalked, root_step};
+ghost use Rattle.ados_faults.specs.Listed.{AreClosed, IsNamedAs};
+ghost use Rattle.ados_model.specs.declared.fault.FaultKind.TheVariants.{BadPointer, BlockUsedTwice};
+ghost use Rattle.ados_faults.specs.steps.Noted.{IsNoted, cell_of};
+ghost use Rattle.ados_faults.specs.steps.Walked.{AreAllSteps, AreKept, AreOutsideNoted, AreTaken, AreTwiceNoted, IsListed, IsMetBy, IsPassed, IsStep, IsVisited, IsWalked, role_of, root_step, step_of};
 
 use crate::bits::is_inside;
 use crate::notes::Notes;
@@ -62,6 +64,9 @@ pub(crate) fn most_steps(image: &Image) -> u32
 pub(crate) fn walked(alloc: Global, image: &Image) -> Result<Walk, AllocError>
     ensures walked { IfOk result (λ walk. IsWalked image.now walk.notes.cells.items walk.marks.items walk.steps.items) }
     ensures closed { IfOk result (λ walk. AreClosed image.now walk.marks.items) }
+    ensures all { IfOk result (λ walk. walk.is_cut ≡ false → AreAllSteps image.now walk.steps.items) }
+    ensures twice { IfOk result (λ walk. walk.is_cut ≡ false → AreTwiceNoted image.now walk.notes.cells.items) }
+    ensures outside { IfOk result (λ walk. walk.is_cut ≡ false → AreOutsideNoted image.now walk.notes.cells.items) }
 {
     let mut walk = Walk::start(alloc, image)?;
     let most = most_steps(image) + image.blocks();
@@ -78,7 +83,8 @@ pub(crate) fn walked(alloc: Global, image: &Image) -> Result<Walk, AllocError>
 impl Walk {
     /// Only the root.
     fn start(alloc: Global, image: &Image) -> Result<Walk, AllocError>
-        ensures { IfOk result (λ walk. IsWalked image.now walk.notes.cells.items walk.marks.items walk.steps.items) }
+        ensures walked { IfOk result (λ walk. IsWalked image.now walk.notes.cells.items walk.marks.items walk.steps.items) }
+        ensures taken { IfOk result (λ walk. AreTaken walk.others walk.steps.items) }
     {
         let root = image.root();
         let notes = Notes::none(alloc, image)?;
@@ -89,11 +95,12 @@ impl Walk {
             long: 0,
         });
         let steps = one_step(alloc, root)?;
+        let others = BTreeSet::new(alloc);
         Ok(Walk {
             notes,
             marks,
             steps,
-            others: BTreeSet::new(alloc),
+            others,
             is_cut: false,
         })
     }
@@ -101,29 +108,50 @@ impl Walk {
     /// Visits the places of a block in a role.
     fn go_through(&mut self, image: &Image, step: Step) -> Result<(), AllocError>
         requires walked { IsWalked image.now self.old.notes.cells.items self.old.marks.items self.old.steps.items }
+        requires taken { AreTaken self.old.others self.old.steps.items }
         requires step { IsStep image.now step }
         ensures walked { IfOk result (λ _. IsWalked image.now self.new.notes.cells.items self.new.marks.items self.new.steps.items) }
-        ensures kept { IfOk result (λ _. AreKept self.old.marks.items self.old.steps.items self.new.marks.items self.new.steps.items) }
-        ensures visited { IfOk result (λ _. IsVisited image.now self.new.marks.items step) }
+        ensures taken { IfOk result (λ _. AreTaken self.new.others self.new.steps.items) }
+        ensures kept { IfOk result (λ _. AreKept self.old self.new) }
+        ensures visited { IfOk result (λ _. IsVisited image.now self.new step) }
+    {
+        for i in FIRST_SLOT..SECONDARY_TYPE {
+            self.visit(image, step, i)?;
+        }
+        Ok(())
+    }
+
+    /// Visits one long of a block in a role, if it is a place.
+    fn visit(&mut self, image: &Image, step: Step, i: u32) -> Result<(), AllocError>
+        requires walked { IsWalked image.now self.old.notes.cells.items self.old.marks.items self.old.steps.items }
+        requires taken { AreTaken self.old.others self.old.steps.items }
+        requires step { IsStep image.now step }
+        requires long { i < BLOCK_LONGS }
+        ensures walked { IfOk result (λ _. IsWalked image.now self.new.notes.cells.items self.new.marks.items self.new.steps.items) }
+        ensures taken { IfOk result (λ _. AreTaken self.new.others self.new.steps.items) }
+        ensures kept { IfOk result (λ _. AreKept self.old self.new) }
+        ensures passed { IfOk result (λ _. IsPassed image.now self.new step i) }
     {
         let source = Source::whole(image);
-        for i in FIRST_SLOT..SECONDARY_TYPE {
-            if let Some(role) = place_role(&source, step.block, step.role, i) {
-                self.pass(image, step, role, i)?;
-            }
-        }
+        let Some(role) = place_role(&source, step.block, step.role, i) else {
+            return Ok(());
+        };
+        self.pass(image, step, role, i)?;
         Ok(())
     }
 
     /// Visits one long, a place that gives the role.
     fn pass(&mut self, image: &Image, step: Step, role: Role, i: u32) -> Result<(), AllocError>
         requires walked { IsWalked image.now self.old.notes.cells.items self.old.marks.items self.old.steps.items }
+        requires taken { AreTaken self.old.others self.old.steps.items }
         requires step { IsStep image.now step }
         requires long { i < BLOCK_LONGS }
         requires place { IsPlace image.now step.block step.role i role }
         ensures walked { IfOk result (λ _. IsWalked image.now self.new.notes.cells.items self.new.marks.items self.new.steps.items) }
-        ensures kept { IfOk result (λ _. AreKept self.old.marks.items self.old.steps.items self.new.marks.items self.new.steps.items) }
-        ensures marked { IfOk result (λ _. LeadsInside image.now step.block i → IsMarked self.new.marks.items (long image.now step.block i)) }
+        ensures taken { IfOk result (λ _. AreTaken self.new.others self.new.steps.items) }
+        ensures kept { IfOk result (λ _. AreKept self.old self.new) }
+        ensures met { IfOk result (λ _. LeadsInside image.now step.block i → IsMetBy self.new (long image.now step.block i) step.block i role) }
+        ensures outside { IfOk result (λ _. ¬ LeadsInside image.now step.block i → IsNoted self.new.notes.cells.items (cell_of BadPointer step.block)) }
     {
         let block = image.long(step.block, i);
         if is_inside(image, block) {
@@ -141,35 +169,56 @@ impl Walk {
     /// Handles a block that a place names.
     fn meet(&mut self, image: &Image, block: u32, mark: Mark) -> Result<(), AllocError>
         requires walked { IsWalked image.now self.old.notes.cells.items self.old.marks.items self.old.steps.items }
+        requires taken { AreTaken self.old.others self.old.steps.items }
         requires inside { InImage image.now block }
         requires reached { Reached image.now block mark.role }
         requires named { IsNamedAs image.now block mark }
         ensures walked { IfOk result (λ _. IsWalked image.now self.new.notes.cells.items self.new.marks.items self.new.steps.items) }
-        ensures kept { IfOk result (λ _. AreKept self.old.marks.items self.old.steps.items self.new.marks.items self.new.steps.items) }
-        ensures marked { IfOk result (λ _. IsMarked self.new.marks.items block) }
+        ensures taken { IfOk result (λ _. AreTaken self.new.others self.new.steps.items) }
+        ensures kept { IfOk result (λ _. AreKept self.old self.new) }
+        ensures met { IfOk result (λ _. IsMetBy self.new block mark.holder mark.long mark.role) }
     {
         let Some(first) = self.marks[block as usize] else {
             return self.take_first(image, block, mark);
         };
+        self.note_twice(image, block, first, mark);
+        if is_same_role(first.role, mark.role) {
+            return Ok(());
+        }
+        self.take_other(image, block, mark.role)?;
+        Ok(())
+    }
+
+    /// Notes a block that another place has marked.
+    fn note_twice(&mut self, image: &Image, block: u32, first: Mark, mark: Mark)
+        requires walked { IsWalked image.now self.old.notes.cells.items self.old.marks.items self.old.steps.items }
+        requires taken { AreTaken self.old.others self.old.steps.items }
+        requires marked { mark_at self.old.marks.items block ≡ Some first }
+        requires inside { InImage image.now block }
+        requires named { IsNamedAs image.now block mark }
+        ensures walked { IsWalked image.now self.new.notes.cells.items self.new.marks.items self.new.steps.items }
+        ensures taken { AreTaken self.new.others self.new.steps.items }
+        ensures kept { AreKept self.old self.new }
+        ensures marked { mark_at self.new.marks.items block ≡ Some first }
+        ensures twice { (first.holder ≢ mark.holder) ⊎ (first.long ≢ mark.long) → IsNoted self.new.notes.cells.items (cell_of BlockUsedTwice block) }
+    {
         let twice = is_other_place(first, mark);
         self.notes
             .note_if(image, FaultKind::BlockUsedTwice, block, twice);
-        if first.role != mark.role {
-            self.take_other(image, block, mark.role)?;
-        }
-        Ok(())
     }
 
     /// Marks a block that had no mark, and adds its step.
     fn take_first(&mut self, image: &Image, block: u32, mark: Mark) -> Result<(), AllocError>
         requires walked { IsWalked image.now self.old.notes.cells.items self.old.marks.items self.old.steps.items }
+        requires taken { AreTaken self.old.others self.old.steps.items }
         requires unmarked { mark_at self.old.marks.items block ≡ None }
         requires inside { InImage image.now block }
         requires reached { Reached image.now block mark.role }
         requires named { IsNamedAs image.now block mark }
         ensures walked { IfOk result (λ _. IsWalked image.now self.new.notes.cells.items self.new.marks.items self.new.steps.items) }
-        ensures kept { IfOk result (λ _. AreKept self.old.marks.items self.old.steps.items self.new.marks.items self.new.steps.items) }
-        ensures marked { IfOk result (λ _. IsMarked self.new.marks.items block) }
+        ensures taken { IfOk result (λ _. AreTaken self.new.others self.new.steps.items) }
+        ensures kept { IfOk result (λ _. AreKept self.old self.new) }
+        ensures met { IfOk result (λ _. IsMetBy self.new block mark.holder mark.long mark.role) }
     {
         self.marks[block as usize] = Some(mark);
         self.steps.push(Step {
@@ -182,13 +231,19 @@ impl Walk {
     /// Adds the step of a marked block in another role, unless it was taken, or the walk may take no more.
     fn take_other(&mut self, image: &Image, block: u32, role: Role) -> Result<(), AllocError>
         requires walked { IsWalked image.now self.old.notes.cells.items self.old.marks.items self.old.steps.items }
+        requires taken { AreTaken self.old.others self.old.steps.items }
         requires inside { InImage image.now block }
         requires reached { Reached image.now block role }
         ensures walked { IfOk result (λ _. IsWalked image.now self.new.notes.cells.items self.new.marks.items self.new.steps.items) }
-        ensures kept { IfOk result (λ _. AreKept self.old.marks.items self.old.steps.items self.new.marks.items self.new.steps.items) }
+        ensures taken { IfOk result (λ _. AreTaken self.new.others self.new.steps.items) }
+        ensures kept { IfOk result (λ _. AreKept self.old self.new) }
+        ensures listed { IfOk result (λ _. self.new.is_cut ≡ false → IsListed self.new.steps.items (step_of block role)) }
     {
         let key = key_of(block, role);
-        if self.is_cut || self.others.contains(&key) {
+        if self.is_cut {
+            return Ok(());
+        }
+        if self.others.contains(&key) {
             return Ok(());
         }
         if self.steps.len() >= most_steps(image) as usize {
@@ -223,7 +278,7 @@ fn one_step(alloc: Global, root: u32) -> Result<Vec<Step>, AllocError>
 
 /// Whether two marks are from different places.
 fn is_other_place(first: Mark, mark: Mark) -> bool
-    ensures { IsTrue result → (first.holder ≢ mark.holder) ⊎ (first.long ≢ mark.long) }
+    ensures { IsTrue result ↔ (first.holder ≢ mark.holder) ⊎ (first.long ≢ mark.long) }
 {
     if first.holder != mark.holder {
         return true;
@@ -231,8 +286,18 @@ fn is_other_place(first: Mark, mark: Mark) -> bool
     first.long != mark.long
 }
 
+/// Whether two roles are the same.
+fn is_same_role(role: Role, other: Role) -> bool
+    ensures { IsTrue result → role ≡ other }
+{
+    role == other
+}
+
 /// A step in the order of a set.
-fn key_of(block: u32, role: Role) -> StepKey {
+fn key_of(block: u32, role: Role) -> StepKey
+    ensures block { result.block ≡ block }
+    ensures role { role_of result ≡ role }
+{
     let (kind, holder, slot) = match role {
         Role::Root => (0, 0, 0),
         Role::Page => (1, 0, 0),

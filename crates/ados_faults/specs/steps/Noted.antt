@@ -1,10 +1,10 @@
 -- Cells for the faults found in an image.
-use Rattle.std.specs.Prelude.{◌≡◌, ℕ, ◌+◌, ◌*◌, ◌<◌, List, Bool, true, false, length, slice_index_or, All}
+use Rattle.std.specs.Prelude.{◌≡◌, ℕ, ◌+◌, ◌*◌, ◌<◌, List, Bool, true, false, length, slice_index_or, All, Contains}
 use Rattle.adf_block.specs.Image.{block_count}
 use Rattle.ados_model.specs.declared.fault.FaultKind.{FaultKind}
 use Rattle.ados_model.specs.Faults.{Shows}
 use Rattle.ados_model.specs.declared.fault.VolumeFault.{VolumeFault}
-use Rattle.ados_faults.specs.Listed.{ListsFaults, rank}
+use Rattle.ados_faults.specs.Listed.{ListsFaults, fault_of, rank}
 
 -- the cell for a kind of fault and a block
 abbrev pub cell_of : FaultKind → ℕ → ℕ
@@ -13,6 +13,10 @@ cell_of kind block = 17 * block + rank kind
 -- the cell says that the fault was found
 abbrev pub IsNoted : List Bool → ℕ → Type 0
 IsNoted cells cell = slice_index_or cells cell false ≡ true
+
+-- what was noted stays noted
+pub record AreStillNoted (cells later : List Bool) : Type 0 where
+  pub stay : (cell : ℕ) → IsNoted cells cell → IsNoted later cell
 
 -- some fault was found
 abbrev pub HasNote : List Bool → Type 0
@@ -27,8 +31,13 @@ pub record AreNoted (image : List ℕ) (cells : List Bool) : Type 0 where
 abbrev pub cell_at : VolumeFault → ℕ
 cell_at fault = cell_of fault.kind fault.block
 
+-- each noted fault is in the list
+abbrev pub ListsNoted : List Bool → List VolumeFault → Type 0
+ListsNoted cells faults = (kind : FaultKind) (block : ℕ) → IsNoted cells (cell_of kind block) → Contains faults (fault_of kind block)
+
 -- the faults of the cells below a bound
 pub record AreListed (image : List ℕ) (cells : List Bool) (most below : ℕ) (faults : List VolumeFault) : Type 0 where
   pub lists : ListsFaults image most faults
   pub cells_below : All (λ fault. cell_at fault < below) faults
   pub some : (cell : ℕ) → cell < below → IsNoted cells cell → 0 < length faults
+  pub each : (kind : FaultKind) (block : ℕ) → cell_of kind block < below → IsNoted cells (cell_of kind block) → Contains faults (fault_of kind block)

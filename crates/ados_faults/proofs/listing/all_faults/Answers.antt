@@ -1,5 +1,9 @@
 use Rattle.std.proofs.Common.{length, ap, arith}
+use Rattle.std.proofs.lemmas.Option.{MatchOption-at_none}
 use Rattle.ados_faults.proofs.listing.all_faults.Goals as goal
 
 pub returns-clause-none : goal.returns-clause-none
 returns-clause-none c = λ m. (λ e. absurd (omega (arith, c.in_ok-found.ensures.some m, ap length e)), λ no. absurd (c.in_ok-found.ensures.refused no))
+
+pub returns-in_default-clause-each : goal.returns-in_default-clause-each
+returns-in_default-clause-each c = λ whole kind block shown. absurd (MatchOption-at_none _ _ c.in_default.is c.in_ok-first.ensures kind block shown)

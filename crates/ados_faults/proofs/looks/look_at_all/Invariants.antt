@@ -1,5 +1,10 @@
-use Rattle.ados_faults.specs.steps.Noted.{AreNoted}
+use Rattle.ados_faults.specs.steps.Looks.{AreLookedAt}
+use Rattle.ados_faults.specs.steps.Noted.{AreNoted, AreStillNoted}
 use Rattle.ados_faults.proofs.looks.look_at_all.Given as goal
 
 abbrev pub invariant-loop-step : goal.invariant-loop-step
-invariant-loop-step l = AreNoted l.image l.notes.cells.items
+invariant-loop-step l = record {
+  noted : AreNoted l.image l.notes.cells.items;
+  stays : AreStillNoted l.fn.notes.cells.items l.notes.cells.items;
+  looked : AreLookedAt l.image l.notes.cells.items l.steps l.step-index;
+}

@@ -1,8 +1,9 @@
-use Rattle.ados_faults.specs.steps.Walked.{AreVisited, IsWalked}
+use Rattle.ados_faults.specs.steps.Walked.{AreTaken, AreVisited, IsWalked}
 use Rattle.ados_faults.proofs.walk.walked.Given as goal
 
 abbrev pub invariant-loop-i : goal.invariant-loop-i
 invariant-loop-i l = record {
   walked : IsWalked l.image l.walk.notes.cells.items l.walk.marks.items l.walk.steps.items;
-  visited : AreVisited l.image l.walk.marks.items l.walk.steps.items l.i;
+  taken : AreTaken l.walk.others l.walk.steps.items;
+  visited : AreVisited l.image l.walk l.i;
 }

@@ -1,17 +1,25 @@
-use Rattle.std.proofs.Common.{arith}
-use Rattle.ados_faults.proofs.Closing.{below_all, below_none, kept_same}
+use Rattle.std.proofs.Common.{arith, below_more}
+use Rattle.ados_faults.proofs.Closing.{kept_on, kept_same, passed_below, passed_on, visited_by}
 use Rattle.ados_faults.proofs.walk.Walk.go_through.Goals as goal
 
 pub loop-i-init : goal.loop-i-init
-loop-i-init c =
-    let self = c.args.self.now in
+loop-i-init c = record {
+  walked = c.requires.walked;
+  taken = c.requires.taken;
+  kept = kept_same c.args.self.now;
+  below = passed_below c.args.image.now c.args.self.now c.args.step c.requires.walked.whole;
+}
+
+pub loop-i-preserved : goal.loop-i-preserved
+loop-i-preserved c =
+    let done = c.in_ok-visit.ensures in
     record {
-      walked = c.requires.walked;
-      kept = kept_same self.marks.items self.steps.items;
-      below = below_none c.args.image.now self.marks.items c.args.step c.requires.walked.whole;
+      walked = done.walked;
+      taken = done.taken;
+      kept = kept_on c.loop-i.invariant.kept done.kept;
+      below = below_more _ _ (λ k l. passed_on c.args.image.now c.loop-i.self c.visit.new.self c.args.step k done.kept (c.loop-i.invariant.below k l)) done.passed;
     }
 
 pub returns-clause-visited : goal.returns-clause-visited
 returns-clause-visited c =
-    below_all c.args.image.now c.loop-i.self.marks.items c.args.step c.requires.walked.whole
-    (λ i next l place inside. c.loop-i.invariant.below i next (omega (arith, l, c.loop-i-test.false)) place inside)
+    visited_by c.args.image.now c.loop-i.self c.args.step c.requires.walked.whole (λ i l. c.loop-i.invariant.below i (omega (arith, l, c.loop-i-test.false)))

@@ -1,9 +1,11 @@
-use Rattle.ados_faults.specs.steps.Walked.{AreKept, AreMarkedBelow, IsWalked}
+use Rattle.std.proofs.Common.{ℕ, ◌<◌}
+use Rattle.ados_faults.specs.steps.Walked.{AreKept, AreTaken, IsPassed, IsWalked}
 use Rattle.ados_faults.proofs.walk.Walk.go_through.Given as goal
 
 abbrev pub invariant-loop-i : goal.invariant-loop-i
 invariant-loop-i l = record {
   walked : IsWalked l.image l.self.notes.cells.items l.self.marks.items l.self.steps.items;
-  kept : AreKept l.fn.self.marks.items l.fn.self.steps.items l.self.marks.items l.self.steps.items;
-  below : AreMarkedBelow l.image l.self.marks.items l.step l.i;
+  taken : AreTaken l.self.others l.self.steps.items;
+  kept : AreKept l.fn.self l.self;
+  below : (k : ℕ) → k < l.i → IsPassed l.image l.self l.step k;
 }

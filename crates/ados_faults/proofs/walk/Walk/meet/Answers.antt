@@ -1,25 +1,35 @@
-use Rattle.std.proofs.Common.{◌≡◌, ◌<◌, length, Some, arith, ◌∙◌}
-use Rattle.ados_check.specs.Marks.{mark_at}
+use Rattle.std.proofs.Common.{◌<◌, length, arith, subst, ◌∙◌}
 use Rattle.ados_check.proofs.MarkLemmas.{mark_read}
-use Rattle.ados_faults.proofs.Doubles.{used_twice}
+use Rattle.ados_model.specs.declared.role.Role.{Role}
+use Rattle.ados_model.specs.declared.fault.FaultKind.TheVariants.{BlockUsedTwice}
+use Rattle.ados_faults.specs.steps.Noted.{cell_of}
+use Rattle.ados_faults.specs.steps.Walked.{IsListed, step_of}
+use Rattle.ados_faults.proofs.Closing.{kept_on}
 use Rattle.ados_faults.proofs.walk.Walk.meet.Goals as goal
 
-pub note_if-requires-clause-shown : goal.note_if-requires-clause-shown
-note_if-requires-clause-shown c = λ w.
+pub note_twice-requires-clause-marked : goal.note_twice-requires-clause-marked
+note_twice-requires-clause-marked c =
     let marks = c.args.self.now.marks.items in
     let there : c.args.block < length marks = omega (arith, c.requires.inside.1, c.requires.walked.size) in
-    let met = c.requires.walked.met c.args.block c.in-Some.first (mark_read marks c.args.block c.index.result.now there c.index.ensures ∙ c.in-Some.is) in
-    used_twice c.args.image.now c.args.block c.in-Some.first c.args.mark c.requires.inside met c.requires.named (c.is_other_place-twice.ensures w)
+    mark_read marks c.args.block c.index.result.now there c.index.ensures ∙ c.in-Some.is
 
-pub returns-in_ok-take_other-clause-marked : goal.returns-in_ok-take_other-clause-marked
-returns-in_ok-take_other-clause-marked c =
-    let marks = c.args.self.now.marks.items in
-    let there : c.args.block < length marks = omega (arith, c.requires.inside.1, c.requires.walked.size) in
-    let was : mark_at marks c.args.block ≡ Some c.in-Some.first = mark_read marks c.args.block c.index.result.now there c.index.ensures ∙ c.in-Some.is in
-    (c.in-Some.first, c.in_ok-take_other.ensures.kept.marks_stay c.args.block c.in-Some.first was)
+pub returns-clause-kept : goal.returns-clause-kept
+returns-clause-kept c = kept_on c.note_twice.ensures.kept c.in_ok-take_other.ensures.kept
 
-pub returns-else-ne-clause-marked : goal.returns-else-ne-clause-marked
-returns-else-ne-clause-marked c =
-    let marks = c.args.self.now.marks.items in
-    let there : c.args.block < length marks = omega (arith, c.requires.inside.1, c.requires.walked.size) in
-    (c.in-Some.first, mark_read marks c.args.block c.index.result.now there c.index.ensures ∙ c.in-Some.is)
+pub returns-clause-met : goal.returns-clause-met
+returns-clause-met c =
+    let later = c.in_ok-take_other.ensures in
+    record {
+      first = c.in-Some.first;
+      marked = later.kept.marks_stay c.args.block c.in-Some.first c.note_twice.ensures.marked;
+      twice = λ apart. later.kept.notes_stay (cell_of BlockUsedTwice c.args.block) (c.note_twice.ensures.twice apart);
+      taken = later.listed;
+    }
+
+pub returns-then-is_same_role-clause-met : goal.returns-then-is_same_role-clause-met
+returns-then-is_same_role-clause-met c = record {
+  first = c.in-Some.first;
+  marked = c.note_twice.ensures.marked;
+  twice = c.note_twice.ensures.twice;
+  taken = λ _. subst (λ (r : Role). IsListed c.note_twice.new.self.steps.items (step_of c.args.block r)) (c.is_same_role.ensures c.if-is_same_role.true) (c.note_twice.ensures.walked.listed c.args.block c.in-Some.first c.note_twice.ensures.marked);
+}

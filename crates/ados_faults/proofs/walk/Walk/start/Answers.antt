@@ -1,7 +1,11 @@
+use Rattle.ados_faults.proofs.Closing.{taken_none}
 use Rattle.ados_faults.proofs.Doubles.{started}
 use Rattle.ados_faults.proofs.walk.Walk.start.Goals as goal
 
-pub returns : goal.returns
-returns c =
+pub returns-clause-walked : goal.returns-clause-walked
+returns-clause-walked c =
     started c.args.image.now c.no_marks.ensures.image c.in_ok-notes.notes.cells.items c.in_ok-marks.marks.items c.root-root.result c.in_ok-steps.steps.items
     c.in_ok-notes.ensures c.in_ok-marks.ensures.none c.root-root.ensures c.in_ok-steps.ensures
+
+pub returns-clause-taken : goal.returns-clause-taken
+returns-clause-taken c = taken_none c.new-others.result c.in_ok-steps.steps.items c.new-others.ensures.empty

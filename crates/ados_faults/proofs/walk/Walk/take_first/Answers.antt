@@ -1,7 +1,7 @@
 use Rattle.std.proofs.Common.{List, Some, set, sym, subst}
 use Rattle.ados_faults.specs.declared.walk.Step.{Step}
-use Rattle.ados_faults.specs.steps.Walked.{AreKept, IsWalked}
-use Rattle.ados_faults.proofs.Closing.{kept_first, marked_first, took_first}
+use Rattle.ados_faults.specs.steps.Walked.{AreTaken, IsListed, IsWalked, step_of}
+use Rattle.ados_faults.proofs.Closing.{kept_push, marked_first, marks_first, met_first, pushed_there, taken_on, took_first}
 use Rattle.ados_faults.proofs.walk.Walk.take_first.Goals as goal
 
 pub returns-clause-walked : goal.returns-clause-walked
@@ -10,13 +10,20 @@ returns-clause-walked c =
     subst (λ (xs : List Step). IsWalked c.args.image.now self.notes.cells.items (set self.marks.items c.args.block (Some c.args.mark)) xs) (sym c.in_ok-push.ensures.items)
     (took_first c.args.image.now self.notes.cells.items self.marks.items self.steps.items c.requires.walked c.args.block c.args.mark c.requires.inside c.requires.unmarked c.requires.reached c.requires.named)
 
+pub returns-clause-taken : goal.returns-clause-taken
+returns-clause-taken c =
+    let self = c.args.self.now in
+    subst (AreTaken self.others) (sym c.in_ok-push.ensures.items) (taken_on self.others self.steps.items (step_of c.args.block c.args.mark.role) c.requires.taken)
+
 pub returns-clause-kept : goal.returns-clause-kept
 returns-clause-kept c =
     let self = c.args.self.now in
-    subst (λ (xs : List Step). AreKept self.marks.items self.steps.items (set self.marks.items c.args.block (Some c.args.mark)) xs) (sym c.in_ok-push.ensures.items)
-    (kept_first c.args.image.now self.notes.cells.items self.marks.items self.steps.items c.requires.walked c.args.block c.args.mark c.requires.inside c.requires.unmarked)
+    kept_push self _ (step_of c.args.block c.args.mark.role) c.in_ok-push.ensures.items (λ cell e. e)
+    (marks_first c.args.image.now self.notes.cells.items self.marks.items self.steps.items c.requires.walked c.args.block c.args.mark c.requires.inside c.requires.unmarked) (λ e. e)
 
-pub returns-clause-marked : goal.returns-clause-marked
-returns-clause-marked c =
+pub returns-clause-met : goal.returns-clause-met
+returns-clause-met c =
     let self = c.args.self.now in
-    marked_first c.args.image.now self.notes.cells.items self.marks.items self.steps.items c.requires.walked c.args.block c.args.mark c.requires.inside c.requires.unmarked
+    met_first _ c.args.block c.args.mark
+    (marked_first c.args.image.now self.notes.cells.items self.marks.items self.steps.items c.requires.walked c.args.block c.args.mark c.requires.inside c.requires.unmarked)
+    (subst (λ (xs : List Step). IsListed xs (step_of c.args.block c.args.mark.role)) (sym c.in_ok-push.ensures.items) (pushed_there self.steps.items (step_of c.args.block c.args.mark.role)))
