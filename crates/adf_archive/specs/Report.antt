@@ -79,7 +79,7 @@ abbrev pub IsExplained : ImageReport → Type 0
 IsExplained (Refused told) = HaveTexts true told.faults.items
 IsExplained report = ⊤
 
--- each fault of the kinds that are told by places is reported, unless there may be more
+-- each fault that the image shows is reported, unless there may be more
 abbrev pub IsComplete : List ℕ → ImageReport → Type 0
 IsComplete image (Refused told) = ListsEach image told.more (map (λ shown. shown.fault) told.faults.items)
 IsComplete image report = ⊤

@@ -16,7 +16,7 @@ use Rattle.std.proofs.lemmas.Option.{same_Some, slice_get-get_or, slice_get_with
 use Rattle.adf_block.specs.Whole.{IsImage}
 use Rattle.adf_block.specs.Image.{block_count, long, page_count}
 use Rattle.ados_model.specs.declared.role.Role.{Role}
-use Rattle.ados_model.specs.declared.fault.FaultKind.TheVariants.{BlockUsedTwice}
+use Rattle.ados_model.specs.declared.fault.FaultKind.TheVariants.{BadPointer, BlockUsedTwice}
 use Rattle.ados_model.specs.Faults.{InImage, IsPlace, IsUsedTwice, LeadsInside, PlaceNames, Reached, root_of}
 use Rattle.ados_model.specs.Faults.IsUsedTwice.{two_holders, two_longs, root_named}
 use Rattle.ados_model.specs.Faults.Reached.{start, named}
@@ -31,7 +31,7 @@ use Rattle.ados_faults.specs.declared.walk.StepKey.{StepKey}
 use Rattle.ados_faults.specs.declared.walk.Walk.{Walk}
 use Rattle.ados_faults.specs.Listed.{AreClosed, IsNamedAs, Marks, root_mark}
 use Rattle.ados_faults.specs.steps.Noted.{IsNoted, cell_of}
-use Rattle.ados_faults.specs.steps.Walked.{AreAllSteps, AreKept, AreTaken, AreTwiceNoted, AreVisited, IsListed, IsMetBy, IsPassed, IsStep, IsVisited, IsWalked, key_cmp, role_by, role_of, step_of}
+use Rattle.ados_faults.specs.steps.Walked.{AreAllSteps, AreKept, AreOutsideNoted, AreTaken, AreTwiceNoted, AreVisited, IsListed, IsMetBy, IsPassed, IsStep, IsVisited, IsWalked, key_cmp, role_by, role_of, step_of}
 use Rattle.ados_faults.proofs.Insides.{root_inside}
 
 -- ---- one more step in a list
@@ -199,7 +199,10 @@ met_on walk later block holder i next kept m = record {
 }
 
 pub passed_on : (image : List ℕ) (walk later : Walk) (step : Step) (i : ℕ) → AreKept walk later → IsPassed image walk step i → IsPassed image later step i
-passed_on image walk later step i kept p = record { met = λ next place inside. met_on walk later (long image step.block i) step.block i next kept (p.met next place inside) }
+passed_on image walk later step i kept p = record {
+  met = λ next place inside. met_on walk later (long image step.block i) step.block i next kept (p.met next place inside);
+  outside = λ next place out. kept.notes_stay (cell_of BadPointer step.block) (p.outside next place out);
+}
 
 -- by the place in the mark itself
 pub met_first : (walk : Walk) (block : ℕ) (mark : Mark) → mark_at walk.marks.items block ≡ Some mark → IsListed walk.steps.items (step_of block mark.role) → IsMetBy walk block mark.holder mark.long mark.role
@@ -217,15 +220,19 @@ few_pages image im = omega (arith, im.whole, im.size.0, im.size.1)
 
 module _ (image : List ℕ) (walk : Walk) (step : Step) (whole : IsImage image) where
   pub passed_below : (i : ℕ) → i < 6 → IsPassed image walk step i
-  passed_below i l = record { met = λ next place inside. absurd (omega (arith, l, (place_within place (few_pages image whole)).0)) }
+  passed_below i l = record {
+    met = λ next place inside. absurd (omega (arith, l, (place_within place (few_pages image whole)).0));
+    outside = λ next place out. absurd (omega (arith, l, (place_within place (few_pages image whole)).0));
+  }
 
   pub visited_by : ((i : ℕ) → i < 127 → IsPassed image walk step i) → IsVisited image walk step
-  visited_by below = record {
-    passed = λ i. elim (cases_lt i 127) [
-      | inl l ↦ below i l
-      | inr past ↦ record { met = λ next place inside. absurd (omega (arith, past, (place_within place (few_pages image whole)).1)) }
-    ];
-  }
+  visited_by below = record { passed = λ i. elim (cases_lt i 127) [ inl l ↦ below i l | inr past ↦ passed_past i past ] }
+    where
+      passed_past : (i : ℕ) → 127 ≤ i → IsPassed image walk step i
+      passed_past i past = record {
+        met = λ next place inside. absurd (omega (arith, past, (place_within place (few_pages image whole)).1));
+        outside = λ next place out. absurd (omega (arith, past, (place_within place (few_pages image whole)).1));
+      }
 
 -- ---- the steps that were visited
 
@@ -264,6 +271,9 @@ module _ (image : List ℕ) (walk : Walk) (n : ℕ) (w : IsWalked image walk.not
 
     pub all_reached : AreAllSteps image walk.steps.items
     all_reached = record { listed = λ block role h. reached_step h }
+
+    pub outside_noted : AreOutsideNoted image walk.notes.cells.items
+    outside_noted = record { noted = λ block i role next h place out. ((visit_of block role (reached_step h)).passed i).outside next place out }
 
     met_at : (holder i block : ℕ) → InImage image block → (h : PlaceNames image holder i block) → IsMetBy walk block holder i h.next
     met_at holder i block inside h =

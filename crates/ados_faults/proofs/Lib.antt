@@ -13,3 +13,5 @@ pub mod Told
 pub mod Looking
 pub mod Each
 pub mod RightNames
+pub mod SameBlocks
+pub mod FileNotes

@@ -5,14 +5,16 @@ use Rattle.std.proofs.lemmas.Bool.{cases_lt}
 use Rattle.std.proofs.lemmas.Option.{same_Some}
 use Rattle.adf_block.specs.Image.{block_sum, long}
 use Rattle.ados_model.specs.declared.fault.FaultKind.{FaultKind}
-use Rattle.ados_model.specs.declared.fault.FaultKind.TheVariants.{BadSum, BadType, BadOwnKey, BadParent, WrongChain, BadName, MarkedFree}
+use Rattle.ados_model.specs.declared.fault.FaultKind.TheVariants.{BadSum, BadType, BadOwnKey, BadParent, WrongChain, BadName, BadCount, MarkedFree}
 use Rattle.ados_model.specs.declared.role.Role.TheVariants.{Root, Page, Entry, Data, Extension}
 use Rattle.ados_model.specs.Faults.{HasBadName, HasFileType, IsOfs}
 use Rattle.ados_faults.specs.declared.walk.Step.{Step}
+use Rattle.adf_block.specs.declared.layout.TheConstants.{POINTER_COUNT}
+use Rattle.ados_faults.specs.steps.FileNotes.{IsCountNoted}
 use Rattle.ados_faults.specs.steps.Named.{IsOfOtherSlot}
 use Rattle.ados_faults.specs.steps.Noted.{AreStillNoted, IsNoted, cell_of}
 use Rattle.ados_faults.specs.steps.Looks.{AreLookedAt, AreWrongsNoted, IsLookedAt, IsSecondaryNoted, IsWrongAs}
-use Rattle.ados_faults.specs.steps.Looks.IsWrongAs.{wrong_sum, root_primary, root_table, root_secondary, entry_primary, entry_secondary, extension_primary, extension_secondary, data_primary, entry_key, extension_key, root_parent, entry_parent, extension_file, data_file, other_slot, root_name, entry_name, long_comment, link}
+use Rattle.ados_faults.specs.steps.Looks.IsWrongAs.{wrong_sum, root_primary, root_table, root_secondary, entry_primary, entry_secondary, extension_primary, extension_secondary, data_primary, entry_key, extension_key, root_parent, entry_parent, extension_file, data_file, other_slot, root_name, entry_name, long_comment, link, file_over, file_not_full, first_link, extension_over, extension_not_full, no_pointer}
 
 abbrev Notes : List Bool → ℕ → FaultKind → Type 0
 Notes cells block kind = IsNoted cells (cell_of kind block)
@@ -52,6 +54,9 @@ module _ (image : List ℕ) (cells : List Bool) (block : ℕ) where
       go (entry_name n) = name n
       go (long_comment t l) = secondary.comment t l
       go (link l) = secondary.link l
+      go (file_over t l) = (secondary.header t).counts.over l
+      go (file_not_full t l n) = (secondary.header t).counts.not_full l n
+      go (first_link o t n) = (secondary.header t).first o n
 
   pub data_noted : (file : ℕ) → (IsOfs image → block_sum image block ≢ 0 → Notes cells block BadSum) → (IsOfs image → long image block 0 ≢ 8 → Notes cells block BadType)
       → (IsOfs image → long image block 1 ≢ file → Notes cells block BadParent) → AreWrongsNoted image cells block (Data file)
@@ -63,8 +68,9 @@ module _ (image : List ℕ) (cells : List Bool) (block : ℕ) where
       go (data_file o n) = parent o n
 
   pub extension_noted : (file : ℕ) → (block_sum image block ≢ 0 → Notes cells block BadSum) → (long image block 0 ≢ 16 → Notes cells block BadType) → (¬ HasFileType image block → Notes cells block BadType)
-      → (long image block 1 ≢ block → Notes cells block BadOwnKey) → (long image block 125 ≢ file → Notes cells block BadParent) → AreWrongsNoted image cells block (Extension file)
-  extension_noted file sum primary secondary key parent = record { noted = λ kind h. go h }
+      → (long image block 1 ≢ block → Notes cells block BadOwnKey) → (long image block 125 ≢ file → Notes cells block BadParent)
+      → IsCountNoted image cells block → (long image block POINTER_COUNT ≡ 0 → Notes cells block BadCount) → AreWrongsNoted image cells block (Extension file)
+  extension_noted file sum primary secondary key parent counts none = record { noted = λ kind h. go h }
     where
       go : {kind : FaultKind} → IsWrongAs image block kind (Extension file) → Notes cells block kind
       go (wrong_sum h n) = sum n
@@ -72,6 +78,9 @@ module _ (image : List ℕ) (cells : List Bool) (block : ℕ) where
       go (extension_secondary n) = secondary n
       go (extension_key n) = key n
       go (extension_file n) = parent n
+      go (extension_over l) = counts.over l
+      go (extension_not_full l n) = counts.not_full l n
+      go (no_pointer e) = none e
 
 -- what stays noted
 pub looked_on : (image : List ℕ) (cells later : List Bool) (step : Step) → AreStillNoted cells later → IsLookedAt image cells step → IsLookedAt image later step

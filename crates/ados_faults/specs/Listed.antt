@@ -1,5 +1,5 @@
 -- Faults of an image, in order, and the marks of its blocks.
-use Rattle.std.specs.Prelude.{◌≡◌, ℕ, ◌<◌, ◌≤◌, ◌⊎◌, ⊤, Bool, false, List, length, All, AllPairs, Contains, Option, Some}
+use Rattle.std.specs.Prelude.{◌≡◌, ℕ, ◌<◌, ◌≤◌, ◌⊎◌, Bool, false, List, length, All, AllPairs, Contains, Option, Some}
 use Rattle.adf_block.specs.Image.{block_count, long}
 use Rattle.ados_check.specs.Marks.{mark_at}
 use Rattle.ados_check.specs.declared.mark.Mark.{Mark}
@@ -44,18 +44,9 @@ pub record ListsFaults (image : List ℕ) (most : ℕ) (faults : List VolumeFaul
 abbrev pub fault_of : FaultKind → ℕ → VolumeFault
 fault_of kind block = record { kind = kind; block = block }
 
--- whether an image shows the fault can be told from the first bytes, from the block in one of its roles, from its bit in
--- the bitmap, or from the places that name it. The other four kinds need further blocks
-abbrev pub IsToldByPlaces : FaultKind → Type 0
-IsToldByPlaces BadPointer = ⊥
-IsToldByPlaces DuplicateName = ⊥
-IsToldByPlaces BadCount = ⊥
-IsToldByPlaces BadSequence = ⊥
-IsToldByPlaces _ = ⊤
-
--- each fault of these kinds that the image shows is in the list, unless there may be more
+-- each fault that the image shows is in the list, unless there may be more
 abbrev pub ListsEach : List ℕ → Bool → List VolumeFault → Type 0
-ListsEach image more faults = more ≡ false → (kind : FaultKind) (block : ℕ) → IsToldByPlaces kind → Shows image kind block → Contains faults (fault_of kind block)
+ListsEach image more faults = more ≡ false → (kind : FaultKind) (block : ℕ) → Shows image kind block → Contains faults (fault_of kind block)
 
 -- for each block of an image its mark, if it has one
 abbrev pub Marks : Type 0

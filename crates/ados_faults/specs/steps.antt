@@ -4,4 +4,5 @@ pub mod Walked
 pub mod Chain
 pub mod Named
 pub mod Looked
+pub mod FileNotes
 pub mod Looks

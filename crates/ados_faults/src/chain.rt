@@ -1,9 +1,11 @@
 //! The data blocks of an OFS file: their links and sequence numbers.
-ghost use Rattle.std.specs.Prelude.{◌≡◌, ◌≢◌, ◌<◌, ◌+◌, All, IfSome, IsTrue, length, slice_index, sum_by};
+ghost use Rattle.std.specs.Prelude.{◌≡◌, ◌≢◌, ◌↔◌, ◌<◌, ◌+◌, ◌-◌, ◌^◌, All, IsTrue, length, min, slice_index, sum_by};
 ghost use Rattle.adf_block.specs.Fields.{held_count, sequence_number};
-ghost use Rattle.ados_model.specs.Faults.{AreDataBlocks, HoldsOtherSize, InImage, IsOfs, LinksOn};
+ghost use Rattle.ados_model.specs.declared.fault.FaultKind.TheVariants.{BadCount};
+ghost use Rattle.ados_model.specs.Faults.{AreDataBlocks, InImage, IsOfs, LinksOn};
 ghost use Rattle.ados_faults.specs.steps.Chain.{HoldsTooLittle, IsPlaced};
-ghost use Rattle.ados_faults.specs.steps.Noted.{AreNoted, AreStillNoted};
+ghost use Rattle.ados_faults.specs.steps.FileNotes.{ArePlacesNoted, HoldOtherSize, IsPlaceNoted};
+ghost use Rattle.ados_faults.specs.steps.Noted.{AreNoted, AreStillNoted, IsNoted, cell_of};
 
 use crate::bits::is_inside;
 use crate::notes::Notes;
@@ -19,6 +21,8 @@ pub(crate) fn look_along(image: &Image, file: u32, blocks: &[u32], notes: &mut N
     requires data { AreDataBlocks image.now file blocks.now }
     ensures noted { AreNoted image.now notes.new.cells.items }
     ensures stays { AreStillNoted notes.old.cells.items notes.new.cells.items }
+    ensures places { ArePlacesNoted image.now notes.new.cells.items blocks.now (length blocks.now) }
+    ensures sum { HoldOtherSize image.now file blocks.now → IsNoted notes.new.cells.items (cell_of BadCount file) }
 {
     for i in 0..blocks.len() {
         look_at_place(image, file, blocks, i, notes);
@@ -35,6 +39,7 @@ fn look_at_place(image: &Image, file: u32, blocks: &[u32], i: usize, notes: &mut
     requires within { i < length blocks.now }
     ensures noted { AreNoted image.now notes.new.cells.items }
     ensures stays { AreStillNoted notes.old.cells.items notes.new.cells.items }
+    ensures placed { InImage image.now (slice_index blocks.now i) → IsPlaceNoted image.now notes.new.cells.items blocks.now i (slice_index blocks.now i) }
 {
     let block = blocks[i];
     if is_inside(image, block) {
@@ -50,6 +55,7 @@ fn look_at_block(image: &Image, blocks: &[u32], i: usize, block: u32, notes: &mu
     requires at { IsPlaced image.now blocks.now i block }
     ensures noted { AreNoted image.now notes.new.cells.items }
     ensures stays { AreStillNoted notes.old.cells.items notes.new.cells.items }
+    ensures placed { IsPlaceNoted image.now notes.new.cells.items blocks.now i block }
 {
     let place = has_other_place(image, blocks, i, block);
     notes.note_if(image, FaultKind::BadSequence, block, place);
@@ -65,7 +71,7 @@ fn look_at_block(image: &Image, blocks: &[u32], i: usize, block: u32, notes: &mu
 fn has_other_place(image: &Image, blocks: &[u32], i: usize, block: u32) -> bool
     requires inside { InImage image.now block }
     requires within { i < length blocks.now }
-    ensures { IsTrue result → sequence_number image.now block ≢ i + 1 }
+    ensures { IsTrue result ↔ (sequence_number image.now block ≢ i + 1) }
 {
     let _count = blocks.len();
     image.long(block, SEQUENCE) as usize != i + 1
@@ -75,7 +81,7 @@ fn has_other_place(image: &Image, blocks: &[u32], i: usize, block: u32) -> bool
 fn is_short(image: &Image, blocks: &[u32], i: usize, block: u32) -> bool
     requires inside { InImage image.now block }
     requires within { i < length blocks.now }
-    ensures { IsTrue result → HoldsTooLittle image.now blocks.now i block }
+    ensures { IsTrue result ↔ HoldsTooLittle image.now blocks.now i block }
 {
     let held = image.long(block, HELD);
     if held == 0 {
@@ -87,7 +93,7 @@ fn is_short(image: &Image, blocks: &[u32], i: usize, block: u32) -> bool
 /// Whether a data block claims more bytes than fit into it.
 fn holds_too_much(image: &Image, block: u32) -> bool
     requires { InImage image.now block }
-    ensures { IsTrue result → OFS_ROOM < held_count image.now block }
+    ensures { IsTrue result ↔ (OFS_ROOM < held_count image.now block) }
 {
     image.long(block, HELD) > OFS_ROOM
 }
@@ -96,7 +102,7 @@ fn holds_too_much(image: &Image, block: u32) -> bool
 fn leads_elsewhere(image: &Image, blocks: &[u32], i: usize, block: u32) -> bool
     requires inside { InImage image.now block }
     requires within { i < length blocks.now }
-    ensures { IsTrue result → ¬ LinksOn image.now block blocks.now i }
+    ensures { IsTrue result ↔ (¬ LinksOn image.now block blocks.now i) }
 {
     image.long(block, NEXT_DATA) != block_behind(blocks, i)
 }
@@ -115,36 +121,36 @@ fn block_behind(blocks: &[u32], i: usize) -> u32
 
 /// Whether all data blocks are inside the image but hold another number of bytes than the file's size.
 fn holds_other_size(image: &Image, file: u32, blocks: &[u32]) -> bool
-    requires inside { InImage image.now file }
-    requires data { AreDataBlocks image.now file blocks.now }
-    ensures { IsTrue result → HoldsOtherSize image.now file }
+    requires { InImage image.now file }
+    ensures { IsTrue result ↔ HoldOtherSize image.now file blocks.now }
 {
-    match held_together(image, blocks) {
-        Some(sum) => sum != u64::from(image.long(file, FILE_SIZE)),
-        None => false,
+    if !are_inside(image, blocks) {
+        return false;
     }
+    held_together(image, blocks) != u64::from(image.long(file, FILE_SIZE))
 }
 
-/// The number of bytes that the blocks hold together; `None` if one of them is outside the image.
-fn held_together(image: &Image, blocks: &[u32]) -> Option<u64>
-    ensures inside { IfSome result (λ _. All (InImage image.now) blocks.now) }
-    ensures sum { IfSome result (λ sum. sum ≡ sum_by (held_count image.now) blocks.now) }
+/// Whether all blocks are inside the image.
+fn are_inside(image: &Image, blocks: &[u32]) -> bool
+    ensures { IsTrue result ↔ All (InImage image.now) blocks.now }
 {
-    let mut sum = 0;
-    for i in 0..blocks.len() {
-        let more = with_held(image, blocks[i], sum)?;
-        sum = more;
+    for block in blocks {
+        if !is_inside(image, *block) {
+            return false;
+        }
     }
-    Some(sum)
+    true
 }
 
-/// The number of bytes in a block, added to a sum.
-fn with_held(image: &Image, block: u32, sum: u64) -> Option<u64>
-    ensures inside { IfSome result (λ _. InImage image.now block) }
-    ensures sum { IfSome result (λ more. more ≡ sum + held_count image.now block) }
+/// The number of bytes that the blocks hold together, or `u64::MAX` if they are more.
+fn held_together(image: &Image, blocks: &[u32]) -> u64
+    requires { All (InImage image.now) blocks.now }
+    ensures { result ≡ min (sum_by (held_count image.now) blocks.now) (2 ^ 64 - 1) }
 {
-    if !is_inside(image, block) {
-        return None;
+    let mut sum = 0_u64;
+    for block in blocks {
+        let held = image.long(*block, HELD);
+        sum = sum.saturating_add(u64::from(held));
     }
-    sum.checked_add(u64::from(image.long(block, HELD)))
+    sum
 }

@@ -1,9 +1,10 @@
 //! The files, checked against their sizes.
-ghost use Rattle.std.specs.Prelude.{◌≡◌, ◌≢◌, ◌<◌, All, IfOk, IsTrue, length};
+ghost use Rattle.std.specs.Prelude.{◌≡◌, ◌≢◌, ◌↔◌, ◌<◌, ◌≤◌, All, IfOk, IsTrue, false, length};
 ghost use Rattle.adf_block.specs.Image.{block_count};
 ghost use Rattle.adf_block.specs.Fields.{file_size, format_of};
 ghost use Rattle.ados_model.specs.Tree.{data_count};
 ghost use Rattle.ados_model.specs.Faults.{AreDataBlocks, InImage, IsFile};
+ghost use Rattle.ados_faults.specs.steps.FileNotes.{AreAllFilesNoted, AreBlocksNoted, AreFilesNoted, IsFileNoted, IsStepChecked};
 ghost use Rattle.ados_faults.specs.steps.Noted.{AreNoted, AreStillNoted};
 ghost use Rattle.ados_faults.specs.steps.Walked.{IsStep};
 
@@ -35,6 +36,7 @@ pub(crate) fn look_at_files(
     requires steps { All (IsStep image.now) steps.now }
     ensures noted { IfOk result (λ _. AreNoted image.now notes.new.cells.items) }
     ensures stays { IfOk result (λ _. AreStillNoted notes.old.cells.items notes.new.cells.items) }
+    ensures whole { IfOk result (λ left_out. left_out ≡ false → AreAllFilesNoted image.now notes.new.cells.items steps.now) }
 {
     let mut looked = Looked {
         files: Vec::from_elem(alloc, false, image.blocks() as usize)?,
@@ -58,15 +60,22 @@ impl Looked {
         requires noted { AreNoted image.now notes.old.cells.items }
         requires step { IsStep image.now step }
         requires cells { length self.old.files.items ≡ block_count image.now }
+        requires whole { self.old.left ≢ 0 → AreFilesNoted image.now notes.old.cells.items self.old.files.items }
         ensures noted { IfOk result (λ _. AreNoted image.now notes.new.cells.items) }
         ensures stays { IfOk result (λ _. AreStillNoted notes.old.cells.items notes.new.cells.items) }
+        ensures whole { IfOk result (λ _. self.new.left ≢ 0 → AreFilesNoted image.now notes.new.cells.items self.new.files.items) }
+        ensures checked { IfOk result (λ _. IsStepChecked image.now self.new.files.items step) }
+        ensures files { IfOk result (λ _. AreStillNoted self.old.files.items self.new.files.items) }
         ensures cells { length self.new.files.items ≡ length self.old.files.items }
     {
         let Role::Entry(_, _) = step.role else {
             return Ok(());
         };
         let file = step.block;
-        if image.long(file, SECONDARY_TYPE) != FILE_TYPE || self.files[file as usize] {
+        if image.long(file, SECONDARY_TYPE) != FILE_TYPE {
+            return Ok(());
+        }
+        if self.files[file as usize] {
             return Ok(());
         }
         self.files[file as usize] = true;
@@ -89,6 +98,8 @@ fn look_at_file(
     requires file { IsFile image.now file }
     ensures noted { IfOk result (λ _. AreNoted image.now notes.new.cells.items) }
     ensures stays { IfOk result (λ _. AreStillNoted notes.old.cells.items notes.new.cells.items) }
+    ensures whole { IfOk result (λ rest. rest ≢ 0 → IsFileNoted image.now notes.new.cells.items file) }
+    ensures fewer { IfOk result (λ rest. rest ≤ left) }
 {
     let Some(headers) = headers_of(alloc, image, file, left)? else {
         return Ok(0);
@@ -105,6 +116,7 @@ fn look_at_blocks(image: &Image, file: u32, blocks: &[u32], notes: &mut Notes)
     requires data { AreDataBlocks image.now file blocks.now }
     ensures noted { AreNoted image.now notes.new.cells.items }
     ensures stays { AreStillNoted notes.old.cells.items notes.new.cells.items }
+    ensures whole { AreBlocksNoted image.now notes.new.cells.items file blocks.now }
 {
     let wrong = has_other_count(image, file, blocks);
     notes.note_if(image, FaultKind::BadCount, file, wrong);
@@ -117,7 +129,7 @@ fn look_at_blocks(image: &Image, file: u32, blocks: &[u32], notes: &mut Notes)
 /// Whether a file has another number of data blocks than its size needs.
 fn has_other_count(image: &Image, file: u32, blocks: &[u32]) -> bool
     requires { InImage image.now file }
-    ensures { IsTrue result → length blocks.now ≢ data_count (format_of image.now) (file_size image.now file) }
+    ensures { IsTrue result ↔ (length blocks.now ≢ data_count (format_of image.now) (file_size image.now file)) }
 {
     blocks.len() != blocks_of_size(image, file) as usize
 }

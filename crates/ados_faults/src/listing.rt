@@ -29,10 +29,9 @@ pub struct AllFaults {
 
 /// The first `most` of all faults that an image shows.
 ///
-/// The list is empty exactly if the image is accepted. A walk that goes on after each fault finds the others. `more`
-/// is true if the walk had to end early, because the blocks of the image name each other too often. If it is false, each
-/// fault that the image shows is in the list: this is proved of all kinds but `BadPointer`, `DuplicateName`, `BadCount`
-/// and `BadSequence`.
+/// The list is empty exactly if the image is accepted. A walk that goes on after each fault finds the others. Each fault
+/// that the image shows is in the list, unless `more` is true: there are more than `most`, or the walk had to end early,
+/// because the blocks of the image name each other too often.
 pub fn all_faults(alloc: Global, image: &Image, most: usize) -> Result<AllFaults, AllocError>
     ensures lists { IfOk result (λ found. ListsFaults image.now most found.faults.items) }
     ensures none { IfOk result (λ found. 1 ≤ most → (found.faults.items ≡ []) ↔ ShowsNoFault image.now) }

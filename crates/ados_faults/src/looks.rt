@@ -6,6 +6,7 @@ ghost use Rattle.ados_model.specs.declared.role.Role.TheVariants.{Root, Page, En
 ghost use Rattle.ados_model.specs.Faults.{HasPointers, InImage, IsFile, Reached, Shows, pointers_of, root_of};
 ghost use Rattle.ados_model.specs.declared.fault.FaultKind.TheVariants.{BadComment, NotADosDisk, UnsupportedKind};
 ghost use Rattle.ados_faults.specs.steps.Noted.{AreNoted, AreStillNoted, IsNoted, cell_of};
+ghost use Rattle.ados_faults.specs.steps.FileNotes.{IsCountNoted, IsHeaderNoted};
 ghost use Rattle.ados_faults.specs.steps.Looks.{AreLookedAt, AreWrongsNoted, IsSecondaryNoted};
 ghost use Rattle.ados_faults.specs.steps.Walked.{IsStep};
 
@@ -185,6 +186,7 @@ fn look_file(image: &Image, block: u32, notes: &mut Notes)
     ensures noted { AreNoted image.now notes.new.cells.items }
     ensures stays { AreStillNoted notes.old.cells.items notes.new.cells.items }
     ensures comment { 79 < byte_at image.now block COMMENT_BYTE → IsNoted notes.new.cells.items (cell_of BadComment block) }
+    ensures header { IsHeaderNoted image.now notes.new.cells.items block }
 {
     let long = has_long_comment(image, block);
     notes.note_if(image, FaultKind::BadComment, block, long);
@@ -215,13 +217,16 @@ fn look_counts(image: &Image, block: u32, notes: &mut Notes)
     requires pointers { HasPointers image.now block }
     ensures noted { AreNoted image.now notes.new.cells.items }
     ensures stays { AreStillNoted notes.old.cells.items notes.new.cells.items }
+    ensures counts { IsCountNoted image.now notes.new.cells.items block }
 {
     let count = image.long(block, POINTER_COUNT);
-    notes.note_if(image, FaultKind::BadCount, block, count > TABLE_LONGS);
+    let over = count > TABLE_LONGS;
+    notes.note_if(image, FaultKind::BadCount, block, over);
     if image.long(block, NEXT_EXTENSION) == 0 {
         return;
     }
-    notes.note_if(image, FaultKind::BadCount, block, count < TABLE_LONGS);
+    let not_full = count < TABLE_LONGS;
+    notes.note_if(image, FaultKind::BadCount, block, not_full);
 }
 
 /// Checks a data block. Only in OFS has it fields.

@@ -1,8 +1,9 @@
 //! The names of the entries: each once in its directory.
-ghost use Rattle.std.specs.Prelude.{◌≡◌, All, IfOk, IsTrue};
+ghost use Rattle.std.specs.Prelude.{◌≡◌, ◌≢◌, All, IfOk};
 ghost use Rattle.adf_block.specs.Whole.{IsImage};
-ghost use Rattle.ados_faults.specs.steps.Named.{AreDuplicates, IsEntryName};
-ghost use Rattle.ados_faults.specs.steps.Noted.{AreNoted, AreStillNoted};
+ghost use Rattle.ados_model.specs.declared.fault.FaultKind.TheVariants.{DuplicateName};
+ghost use Rattle.ados_faults.specs.steps.Named.{AreDuplicatesNoted, AreFirst, AreNamesKept, IsEntryName, IsNameMet, IsStepNamed};
+ghost use Rattle.ados_faults.specs.steps.Noted.{AreNoted, AreStillNoted, IsNoted, cell_of};
 ghost use Rattle.ados_faults.specs.steps.Walked.{IsStep};
 
 use crate::name_bytes::{has_short_name, upper_name};
@@ -11,17 +12,17 @@ use crate::walk::Step;
 use adf_block::Image;
 use ados_model::{FaultKind, Role};
 use std::alloc::{AllocError, Global};
+use std::collections::BTreeMap;
 
-/// A name in a directory, in the form for comparison, and the block that has it.
+/// A name in a directory, in the form for comparison.
 #[derive(Clone, Copy, PartialEq, Eq, PartialOrd, Ord)]
 struct EntryName {
     dir: u32,
     /// The length, the bytes in upper case, then zeros.
     name: [u8; 31],
-    block: u32,
 }
 
-/// Notes each entry with the name of another one in its directory. In sorted order they are next to each other.
+/// Notes each entry with the name of another one in its directory. Each name is kept with the first block that has it.
 pub(crate) fn note_duplicates(
     alloc: Global,
     image: &Image,
@@ -33,34 +34,32 @@ pub(crate) fn note_duplicates(
     requires image { IsImage image.now }
     ensures noted { IfOk result (λ _. AreNoted image.now notes.new.cells.items) }
     ensures stays { IfOk result (λ _. AreStillNoted notes.old.cells.items notes.new.cells.items) }
+    ensures whole { IfOk result (λ _. AreDuplicatesNoted image.now notes.new.cells.items steps.now) }
 {
-    let mut names = names_of(alloc, image, steps)?;
-    names.sort()?;
-    for i in 1..names.len() {
-        note_if_same(image, &names[i - 1], &names[i], notes);
+    let mut first = BTreeMap::new(alloc);
+    for step in steps {
+        note_name(image, *step, &mut first, notes)?;
     }
     Ok(())
 }
 
-/// The names of all entries, one for each role of an entry.
-fn names_of(alloc: Global, image: &Image, steps: &[Step]) -> Result<Vec<EntryName>, AllocError>
-    requires { All (IsStep image.now) steps.now }
-    ensures { IfOk result (λ names. All (IsEntryName image.now) names.items) }
-{
-    let mut names = Vec::new(alloc);
-    for step in steps {
-        add_name(image, *step, &mut names)?;
-    }
-    Ok(names)
-}
-
-/// Adds the name of an entry, if it is short enough.
-fn add_name(image: &Image, step: Step, names: &mut Vec<EntryName>) -> Result<(), AllocError>
+/// Handles the name of an entry, if it is short enough.
+fn note_name(
+    image: &Image,
+    step: Step,
+    first: &mut BTreeMap<EntryName, u32>,
+    notes: &mut Notes,
+) -> Result<(), AllocError>
+    requires noted { AreNoted image.now notes.old.cells.items }
     requires step { IsStep image.now step }
-    requires names { All (IsEntryName image.now) names.old.items }
-    ensures { IfOk result (λ _. All (IsEntryName image.now) names.new.items) }
+    requires image { IsImage image.now }
+    requires named { AreFirst image.now first.old }
+    ensures noted { IfOk result (λ _. AreNoted image.now notes.new.cells.items) }
+    ensures stays { IfOk result (λ _. AreStillNoted notes.old.cells.items notes.new.cells.items) }
+    ensures named { IfOk result (λ _. AreFirst image.now first.new) }
+    ensures kept { IfOk result (λ _. AreNamesKept first.old first.new) }
+    ensures met { IfOk result (λ _. IsStepNamed image.now notes.new.cells.items first.new step) }
 {
-    prove!(image.blocks() >= 16);
     let Role::Entry(dir, _) = step.role else {
         return Ok(());
     };
@@ -68,31 +67,52 @@ fn add_name(image: &Image, step: Step, names: &mut Vec<EntryName>) -> Result<(),
     if !has_short_name(image, block) {
         return Ok(());
     }
-    names.push(EntryName {
-        dir,
-        name: upper_name(image, block),
-        block,
-    })?;
+    let name = upper_name(image, block);
+    meet_name(image, EntryName { dir, name }, block, first, notes)?;
     Ok(())
 }
 
-/// Notes two entries with the same name.
-fn note_if_same(image: &Image, entry: &EntryName, other: &EntryName, notes: &mut Notes)
-    requires image { IsImage image.now }
+/// Notes an entry and the first one with its name, or keeps it if it is the first one.
+fn meet_name(
+    image: &Image,
+    name: EntryName,
+    block: u32,
+    first: &mut BTreeMap<EntryName, u32>,
+    notes: &mut Notes,
+) -> Result<(), AllocError>
     requires noted { AreNoted image.now notes.old.cells.items }
-    requires entry { IsEntryName image.now entry.now }
-    requires other { IsEntryName image.now other.now }
-    ensures noted { AreNoted image.now notes.new.cells.items }
-    ensures stays { AreStillNoted notes.old.cells.items notes.new.cells.items }
+    requires image { IsImage image.now }
+    requires name { IsEntryName image.now name block }
+    requires named { AreFirst image.now first.old }
+    ensures noted { IfOk result (λ _. AreNoted image.now notes.new.cells.items) }
+    ensures stays { IfOk result (λ _. AreStillNoted notes.old.cells.items notes.new.cells.items) }
+    ensures named { IfOk result (λ _. AreFirst image.now first.new) }
+    ensures kept { IfOk result (λ _. AreNamesKept first.old first.new) }
+    ensures met { IfOk result (λ _. IsNameMet notes.new.cells.items first.new name block) }
 {
-    let twice = are_duplicates(entry, other);
-    notes.note_if(image, FaultKind::DuplicateName, entry.block, twice);
-    notes.note_if(image, FaultKind::DuplicateName, other.block, twice);
+    if let Some(other) = first.get(&name) {
+        note_both(image, name, block, *other, notes);
+        return Ok(());
+    }
+    first.insert(name, block)?;
+    Ok(())
 }
 
-/// Whether these are two blocks in one directory with the same name.
-fn are_duplicates(entry: &EntryName, other: &EntryName) -> bool
-    ensures { IsTrue result → AreDuplicates entry.now other.now }
+/// Notes two entries with one name, if they are different blocks.
+fn note_both(image: &Image, name: EntryName, block: u32, other: u32, notes: &mut Notes)
+    requires noted { AreNoted image.now notes.old.cells.items }
+    requires image { IsImage image.now }
+    requires name { IsEntryName image.now name block }
+    requires other { IsEntryName image.now name other }
+    ensures noted { AreNoted image.now notes.new.cells.items }
+    ensures stays { AreStillNoted notes.old.cells.items notes.new.cells.items }
+    ensures block { block ≢ other → IsNoted notes.new.cells.items (cell_of DuplicateName block) }
+    ensures other { block ≢ other → IsNoted notes.new.cells.items (cell_of DuplicateName other) }
 {
-    entry.dir == other.dir && entry.name == other.name && entry.block != other.block
+    let _name = name;
+    if block == other {
+        return;
+    }
+    notes.note(image, FaultKind::DuplicateName, block);
+    notes.note(image, FaultKind::DuplicateName, other);
 }

@@ -6,9 +6,9 @@ ghost use Rattle.adf_block.specs.Image.{block_count, long};
 ghost use Rattle.ados_check.specs.Marks.{mark_at};
 ghost use Rattle.ados_model.specs.Faults.{InImage, IsPlace, LeadsInside, Reached};
 ghost use Rattle.ados_faults.specs.Listed.{AreClosed, IsNamedAs};
-ghost use Rattle.ados_model.specs.declared.fault.FaultKind.TheVariants.{BlockUsedTwice};
+ghost use Rattle.ados_model.specs.declared.fault.FaultKind.TheVariants.{BadPointer, BlockUsedTwice};
 ghost use Rattle.ados_faults.specs.steps.Noted.{IsNoted, cell_of};
-ghost use Rattle.ados_faults.specs.steps.Walked.{AreAllSteps, AreKept, AreTaken, AreTwiceNoted, IsListed, IsMetBy, IsPassed, IsStep, IsVisited, IsWalked, role_of, root_step, step_of};
+ghost use Rattle.ados_faults.specs.steps.Walked.{AreAllSteps, AreKept, AreOutsideNoted, AreTaken, AreTwiceNoted, IsListed, IsMetBy, IsPassed, IsStep, IsVisited, IsWalked, role_of, root_step, step_of};
 
 use crate::bits::is_inside;
 use crate::notes::Notes;
@@ -66,6 +66,7 @@ pub(crate) fn walked(alloc: Global, image: &Image) -> Result<Walk, AllocError>
     ensures closed { IfOk result (λ walk. AreClosed image.now walk.marks.items) }
     ensures all { IfOk result (λ walk. walk.is_cut ≡ false → AreAllSteps image.now walk.steps.items) }
     ensures twice { IfOk result (λ walk. walk.is_cut ≡ false → AreTwiceNoted image.now walk.notes.cells.items) }
+    ensures outside { IfOk result (λ walk. walk.is_cut ≡ false → AreOutsideNoted image.now walk.notes.cells.items) }
 {
     let mut walk = Walk::start(alloc, image)?;
     let most = most_steps(image) + image.blocks();
@@ -150,6 +151,7 @@ impl Walk {
         ensures taken { IfOk result (λ _. AreTaken self.new.others self.new.steps.items) }
         ensures kept { IfOk result (λ _. AreKept self.old self.new) }
         ensures met { IfOk result (λ _. LeadsInside image.now step.block i → IsMetBy self.new (long image.now step.block i) step.block i role) }
+        ensures outside { IfOk result (λ _. ¬ LeadsInside image.now step.block i → IsNoted self.new.notes.cells.items (cell_of BadPointer step.block)) }
     {
         let block = image.long(step.block, i);
         if is_inside(image, block) {

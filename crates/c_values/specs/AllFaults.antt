@@ -18,7 +18,7 @@ abbrev pub told_fault : VolumeFault → JipFault
 told_fault fault = record { kind = pos (fault_number fault.kind); block = fault.block }
 
 -- the bytes are an image, and these are its faults in order, none exactly if it shows none; an image without faults has
--- no more of them. Each fault of the kinds that are told by places is there, unless there may be more
+-- no more of them. Each fault that it shows is there, unless there may be more
 pub record TellsFaults (bytes : List ℕ) (told : List JipFault) (more : Bool) : Type 0 where
   pub image : IsImage bytes
   pub faults : List VolumeFault

@@ -8,7 +8,7 @@ use Rattle.adf_block.specs.Image.{block_count, long}
 use Rattle.adf_block.specs.Whole.{HasFreeBit, IsImage}
 use Rattle.ados_model.specs.declared.role.Role.{Role}
 use Rattle.ados_model.specs.declared.role.Role.TheVariants.{Root, Page, Entry, Data, Extension}
-use Rattle.ados_model.specs.declared.fault.FaultKind.TheVariants.{BlockUsedTwice}
+use Rattle.ados_model.specs.declared.fault.FaultKind.TheVariants.{BadPointer, BlockUsedTwice}
 use Rattle.ados_model.specs.Faults.{InImage, IsPlace, IsUsedTwice, LeadsInside, Reached, root_of}
 use Rattle.ados_model.specs.Rebuilt.{HasValidBitmap}
 use Rattle.ados_check.specs.declared.mark.Mark.{Mark}
@@ -92,9 +92,10 @@ pub record IsMetBy (walk : Walk) (block holder i : ℕ) (next : Role) : Type 0 w
   pub twice : (first.holder ≢ holder) ⊎ (first.long ≢ i) → IsNoted walk.notes.cells.items (cell_of BlockUsedTwice block)
   pub taken : walk.is_cut ≡ false → IsListed walk.steps.items (step_of block next)
 
--- the block that this long of the step names, if it is a place, was met
+-- if this long of the step is a place, the block that it names was met, or it is noted that it names none of the image
 pub record IsPassed (image : List ℕ) (walk : Walk) (step : Step) (i : ℕ) : Type 0 where
   pub met : (next : Role) → IsPlace image step.block step.role i next → LeadsInside image step.block i → IsMetBy walk (long image step.block i) step.block i next
+  pub outside : (next : Role) → IsPlace image step.block step.role i next → ¬ LeadsInside image step.block i → IsNoted walk.notes.cells.items (cell_of BadPointer step.block)
 
 -- each block that a place of the step names was met
 pub record IsVisited (image : List ℕ) (walk : Walk) (step : Step) : Type 0 where
@@ -111,3 +112,7 @@ pub record AreAllSteps (image : List ℕ) (steps : List Step) : Type 0 where
 -- each block that two places name is noted
 pub record AreTwiceNoted (image : List ℕ) (cells : List Bool) : Type 0 where
   pub noted : (block : ℕ) → IsUsedTwice image block → IsNoted cells (cell_of BlockUsedTwice block)
+
+-- each block with a place that names no block of the image is noted
+pub record AreOutsideNoted (image : List ℕ) (cells : List Bool) : Type 0 where
+  pub noted : (block i : ℕ) (role next : Role) → Reached image block role → IsPlace image block role i next → ¬ LeadsInside image block i → IsNoted cells (cell_of BadPointer block)

@@ -6,4 +6,4 @@ pub returns-clause-none : goal.returns-clause-none
 returns-clause-none c = λ m. (λ e. absurd (omega (arith, c.in_ok-found.ensures.some m, ap length e)), λ no. absurd (c.in_ok-found.ensures.refused no))
 
 pub returns-in_default-clause-each : goal.returns-in_default-clause-each
-returns-in_default-clause-each c = λ whole kind block told shown. absurd (MatchOption-at_none _ _ c.in_default.is c.in_ok-first.ensures kind block shown)
+returns-in_default-clause-each c = λ whole kind block shown. absurd (MatchOption-at_none _ _ c.in_default.is c.in_ok-first.ensures kind block shown)

@@ -2,7 +2,7 @@ use Rattle.std.proofs.Common.{◌≡◌, ◌*◌, ◌<◌, ◌≤◌, length, So
 use Rattle.std.specs.List.{slice_get}
 use Rattle.std.proofs.lemmas.Option.{slice_get_read}
 use Rattle.adf_block.specs.Image.{block_count}
-use Rattle.ados_faults.proofs.Closing.{all_reached, closed, few_steps, twice_noted, visited_more}
+use Rattle.ados_faults.proofs.Closing.{all_reached, closed, few_steps, outside_noted, twice_noted, visited_more}
 use Rattle.ados_faults.proofs.walk.walked.Goals as goal
 
 pub loop-i-init : goal.loop-i-init
@@ -23,6 +23,10 @@ returns-then-len-i-clause-all c = λ whole.
 pub returns-then-len-i-clause-twice : goal.returns-then-len-i-clause-twice
 returns-then-len-i-clause-twice c = λ whole.
     twice_noted c.args.image.now c.loop-i.walk c.loop-i.i c.loop-i.invariant.walked c.loop-i.invariant.visited (omega (arith, c.if-len-i.true, c.len.ensures)) whole
+
+pub returns-then-len-i-clause-outside : goal.returns-then-len-i-clause-outside
+returns-then-len-i-clause-outside c = λ whole.
+    outside_noted c.args.image.now c.loop-i.walk c.loop-i.i c.loop-i.invariant.walked c.loop-i.invariant.visited (omega (arith, c.if-len-i.true, c.len.ensures)) whole
 
 pub loop-i-preserved : goal.loop-i-preserved
 loop-i-preserved c =
@@ -59,4 +63,12 @@ returns-clause-twice c = λ whole.
     let few : length walk.steps.items ≤ 5 * block_count c.args.image.now =
     few_steps c.args.image.now walk.notes.cells.items walk.marks.items walk.steps.items c.loop-i.invariant.walked in
     twice_noted c.args.image.now walk c.loop-i.i c.loop-i.invariant.walked c.loop-i.invariant.visited
+    (omega (arith, few, c.most_steps.ensures, c.blocks-2.ensures.count, c.loop-i-test.false)) whole
+
+pub returns-clause-outside : goal.returns-clause-outside
+returns-clause-outside c = λ whole.
+    let walk = c.loop-i.walk in
+    let few : length walk.steps.items ≤ 5 * block_count c.args.image.now =
+    few_steps c.args.image.now walk.notes.cells.items walk.marks.items walk.steps.items c.loop-i.invariant.walked in
+    outside_noted c.args.image.now walk c.loop-i.i c.loop-i.invariant.walked c.loop-i.invariant.visited
     (omega (arith, few, c.most_steps.ensures, c.blocks-2.ensures.count, c.loop-i-test.false)) whole
