@@ -3,7 +3,7 @@ use crate::fault::CommandFault;
 use crate::images::{Work, accept};
 use crate::refusal::Refusal;
 use adf_block::Image;
-use adf_import::{boot_image, change_volume};
+use adf_import::{StandardInput, boot_image, change_volume};
 use adf_io::read_bounded;
 use adf_text::print_line;
 use adf_words::ChangeJob;
@@ -26,7 +26,7 @@ pub(crate) fn change<'a, R, F>(
     faults: &mut F,
 ) -> Result<(), CommandFault<'a>>
 where
-    R: Files<File = File> + Clock,
+    R: Files<File = File> + Clock + StandardInput,
     F: Write,
 {
     let mut work = Work::begin(rt, job.image, job.out)?;
@@ -44,7 +44,7 @@ fn changed<'a, R, F>(
     faults: &mut F,
 ) -> Result<Volume, CommandFault<'a>>
 where
-    R: Files<File = File> + Clock,
+    R: Files<File = File> + Clock + StandardInput,
     F: Write,
 {
     let mut volume = accept(alloc, image)?;

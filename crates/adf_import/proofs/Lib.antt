@@ -15,3 +15,5 @@ pub mod Keeping
 pub mod Putting
 pub mod Advancing
 pub mod Booting
+pub mod Fronts
+pub mod Naming

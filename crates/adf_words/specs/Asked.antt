@@ -1,11 +1,14 @@
 -- The changes that arguments ask for.
-use Rattle.std.specs.Prelude.{◌≡◌, ℕ, List, Some, IsSome, codes}
+use Rattle.std.specs.Prelude.{◌≡◌, ◌≢◌, ◌∷◌, ℕ, Bool, List, [], Some, IsSome, All, codes, map}
+use Rattle.std.specs.Borrow.{Bor}
 use Rattle.clap.specs.Matches.{first_value}
 use Rattle.clap.specs.declared.parser.matches.Found.{Found}
 use Rattle.adf_text.specs.ProtectWords.{protect_word}
 use Rattle.adf_words.specs.When.{IsWhen}
 use Rattle.adf_words.specs.declared.change.Change.{Change}
-use Rattle.adf_words.specs.declared.change.Change.TheVariants.{Date, Protect}
+use Rattle.adf_words.specs.declared.change.Change.TheVariants.{Add, AddAs, Date, Protect}
+use Rattle.adf_words.specs.declared.change.Source.{Source}
+use Rattle.adf_words.specs.declared.change.Source.TheVariants.{File, StandardInput}
 
 -- `protect`: the path and the word for protection bits are these arguments
 abbrev pub IsProtectOf : Found → Change → Type 0
@@ -18,3 +21,20 @@ abbrev pub IsDateOf : Found → Change → Type 0
 IsDateOf found (Date path date) =
     (first_value found (codes "PATH") ≡ Some path.now) × ((text : List ℕ) × (first_value found (codes "WHEN") ≡ Some text) × IsWhen text date)
 IsDateOf found _ = ⊥
+
+-- the file of an argument; standard input if it is `-`
+abbrev pub IsSource : List ℕ → Source → Type 0
+IsSource word (File path) = (path.now ≡ word) × (word ≢ codes "-")
+IsSource word StandardInput = word ≡ codes "-"
+
+-- `add` without `--as`: these files, of which none is standard input
+abbrev pub IsAddOf : List (Bor (List ℕ)) → List ℕ → Bool → Change → Type 0
+IsAddOf words into over (Add files to force) =
+    (files.items ≡ words) × All (λ word. word.now ≢ codes "-") words × (to.now ≡ into) × (force ≡ over)
+IsAddOf words into over _ = ⊥
+
+-- `add --as`: the only one of these files, under this name, in this directory
+abbrev pub IsAddAs : List (Bor (List ℕ)) → List ℕ → List ℕ → Bool → Change → Type 0
+IsAddAs words called into over (AddAs source name to force) =
+    ((word : List ℕ) × (map (λ word. word.now) words ≡ word ∷ []) × IsSource word source) × (name.now ≡ called) × (to.now ≡ into) × (force ≡ over)
+IsAddAs words called into over _ = ⊥

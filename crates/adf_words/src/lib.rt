@@ -17,7 +17,7 @@ mod refused;
 mod table;
 mod taking;
 
-pub use change::{Change, ChangeJob};
+pub use change::{Change, ChangeJob, Source};
 pub use fault::WordsFault;
 pub use given::{given_words, word_of};
 pub use job::{ImageJob, Job, ServeJob};
