@@ -512,6 +512,120 @@ def directories(tried: Commands) -> None:
     )
 
 
+def directories_on_the_way(tried: Commands) -> None:
+    """`mkdir --parents`: what is missing is made, and what is there stays."""
+    shutil.copy("ffs.adf", "way.adf")
+    tried.write("f", b"x")
+    head = "Volume Work\n"
+    every = f"{head}{MADE}D\n{MADE}D/e\n{MADE}D/e/f\n{MADE}D/e/g\n"
+    tried.rows(
+        row("mkdir --parents", f"mkdir --parents {AT} way.adf D/e/f"),
+        row("mkdir --parents of directories that are there", f"mkdir --parents {AT} way.adf d/E/g D/e D ''"),
+        row("list of what mkdir --parents made", "list way.adf", 0, every),
+        row("mkdir --parents behind a volume's name, and up", f"mkdir --parents {AT} way.adf x/y:D/h/ D//i"),
+        row("list of what it made", "list way.adf", 0, f"{every}{MADE}D/h\n{MADE}i\n"),
+        row("mkdir without --parents", "mkdir way.adf n/m", 3, "refused 204 n/m\n", "directory not found"),
+        row("a file for mkdir --parents", "add way.adf f"),
+    )
+    before = tried.content("way.adf")
+    kind, there, name = "object is not of required type", "object already exists", "object name invalid"
+    long = "n" * 31
+    for words, told, text in (
+        ("k F/g", "212 F/g", kind),
+        ("k F/g/h", "212 F/g/h", kind),
+        ("k f", "203 f", there),
+        (f"k m/{long}/o", f"210 m/{long}/o", name),
+        (f"k m/{long}", f"210 m/{long}", name),
+        ("k /up", "205 /up", "object not found"),
+    ):
+        tried.rows(row(f"mkdir --parents {words}", f"mkdir --parents way.adf {words}", 3, f"refused {told}\n", text))
+    tried.stays("a refused mkdir --parents changes nothing", "way.adf", before)
+    tried.rows(
+        row("a small disk", f"blank --ffs --blocks 16 {AT} Work way.adf"),
+        row("mkdir --parents with room for all", f"mkdir --parents {AT} way.adf 1/2/3/4/5/6/7/8/9/10"),
+    )
+    before = tried.content("way.adf")
+    tried.rows(row("mkdir --parents on a full disk", "mkdir --parents way.adf a/b/c", 3, "refused 221 a/b/c\n", "disk is full"))
+    tried.stays("a full disk stays as it was", "way.adf", before)
+
+
+def files_under_names(tried: Commands) -> None:
+    """`add --as`: one file, or standard input, under a name."""
+    blank = f"blank --ffs --blocks 16 {AT} Work named.adf"
+    made = "1978-01-02 00:00:00.00"
+    tried.write("f", b"12345")
+    tried.write("g", b"123")
+    tried.write("g.uaem", b"-s--rwed 1990-01-01 12:00:00.00 noted\n")
+    os.utime("f", (3000 * 86400, 3000 * 86400))
+    os.mkdir("named")
+    tried.write("named/x", b"x")
+    os.symlink("named", "to-named")
+    host = datetime.datetime.fromtimestamp(3000 * 86400, datetime.timezone.utc).strftime("%Y-%m-%d %H:%M:%S.00")
+    tried.rows(
+        row("an image for names", blank),
+        row("a directory for names", f"mkdir {AT} named.adf d"),
+        row("add --as", f"add {AT} --as %41é --to D named.adf f"),
+        row("add --as with a note", f"add {AT} --as {'n' * 30} named.adf g"),
+    )
+    ran = tried.run("add", *AT.split(), "--as", "in", "named.adf", "-", input=b"from standard input")
+    tried.report.check("add - under a name", ran, 0, b"")
+    tried.rows(
+        row("add - of no bytes", f"add {AT} --as none named.adf -"),
+        row("print of what add - put", "print named.adf in", 0, b"from standard input"),
+        row("print of what add --as put", "print named.adf d/%41é", 0, b"12345"),
+        row("print of a note's file", f"print named.adf {'n' * 30}", 0, b"123"),
+    )
+    listed = tried.run("list", "--letters", "named.adf").output.decode().splitlines()
+    wanted = [
+        *("Volume Work", f"     dir ---rwed {made} d", f"       5 ---rwed {host} d/%41é", f"      19 ---rwed {made} in"),
+        *(f"       3 s--rwed 1990-01-01 12:00:00.00 {'n' * 30}", f"       0 ---rwed {made} none"),
+    ]
+    tried.report.expect("list of files under names", sorted(listed) == sorted(wanted), listed)
+    before = tried.content("named.adf")
+    there, name, kind = "object already exists", "object name invalid", "object is not of required type"
+    for words, told, text in (
+        ("--as IN named.adf f", "203 IN", there),
+        ("--as IN named.adf -", "203 IN", there),
+        ("--force --as d named.adf f", "212 d", kind),
+        (f"--as {'n' * 31} named.adf f", f"210 {'n' * 31}", name),
+        ("--as a/b named.adf f", "210 a/b", name),
+        ("--as a:b named.adf f", "210 a:b", name),
+        ("--as '' named.adf f", "210 ", name),
+        ("--as a --to x/y named.adf f", "204 x/y", "directory not found"),
+        ("--as a --to in named.adf f", "212 in", kind),
+    ):
+        tried.rows(row(f"add {words}", f"add {words}", 3, f"refused {told}\n", text))
+    one = "--as takes one regular file"
+    tried.rows(
+        wrong("add --as of two files", "add --as a named.adf f g", "'--as <NAME>'", "one FILE", "2"),
+        wrong("add --as of - and a file", "add --as a named.adf - f", "'--as <NAME>'", "one FILE", "2"),
+        wrong("add --as of - twice", "add --as a named.adf - -", "'--as <NAME>'", "one FILE", "2"),
+        wrong("add - without a name", "add named.adf -", "'-' is standard input", "--as <NAME>"),
+        wrong("add - among files", "add named.adf f - g", "'-' is standard input", "--as <NAME>"),
+        wrong("add --as twice", "add --as a --as b named.adf f", "--as", "Usage"),
+        wrong("add --as with a letter past U+00FF", "add --as ł named.adf f", "'ł'", "U+00FF"),
+        lacking("add --as of a directory", "add --as a named.adf named", "'named'", one),
+        lacking("add --as of a link to a directory", "add --as a named.adf to-named", "'to-named'", one),
+        lacking("add --as of a device", "add --as a named.adf /dev/zero", "'/dev/zero'", one),
+        lacking("add --as of a note", "add --as a named.adf g.uaem", "'g.uaem'", one),
+        lacking("add --as of nothing", "add --as a named.adf nothing", "'nothing'", "cannot be read"),
+        lacking("add --as of the file named -", "add --as a named.adf ./-", "'./-'", "cannot be read"),
+    )
+    ran = tried.run("add", "--as", "long", "named.adf", "-", input=bytes(16 * BLOCK + 2))
+    tried.report.check("add - of more bytes than the disk has", ran, 3, b"refused 221 long\n", "disk is full", "18 blocks")
+    with open("/dev/zero", "rb") as endless:
+        ran = tried.run("add", "--as", "long", "named.adf", "-", before=partial(os.dup2, endless.fileno(), 0))
+    tried.report.check("add - of an input that never ends", ran, 3, b"refused 221 long\n", "disk is full")
+    folder = os.open(".", os.O_RDONLY)
+    ran = tried.run("add", "--as", "folder", "named.adf", "-", before=partial(os.dup2, folder, 0))
+    tried.report.check("add - of a directory", ran, 2, b"", "standard input cannot be read")
+    os.close(folder)
+    tried.stays("what add --as refuses changes nothing", "named.adf", before)
+    ran = tried.run("add", *AT.split(), "--force", "--as", "IN", "named.adf", "-", input=b"again")
+    tried.report.check("add - in place of a file", ran, 0, b"")
+    tried.rows(row("print of what it put", "print named.adf in", 0, b"again"), row("check of it", "check named.adf", 0, "ok\n"))
+
+
 def refused_changes(tried: Commands) -> None:
     before = tried.content("moved.adf")
     kind, there, gone = "object is not of required type", "object already exists", "object not found"
@@ -1108,7 +1222,7 @@ PARTS: List[Callable[[Commands], None]] = [
     *(blank_images, moments, written_moments, wrong_words, wrong_numbers, wrong_dates),
     *(wrong_words_for_files, words_too_many_and_wrong_letters, refused_names),
     *(clients, faulty_scripts, turns, growths, many_clients),
-    *(directories, refused_changes, changes_beside, protect_words, boot_blocks),
+    *(directories, directories_on_the_way, files_under_names, refused_changes, changes_beside, protect_words, boot_blocks),
     *(standard_boot, shown_boots, saved_boots, boot_options),
     *(held_images, missing_files, first_faults),
     *(accepted_images, forms_of_lists, refused_images, stale_image, refused_output),

@@ -2,7 +2,7 @@
 use crate::fault::CommandFault;
 use crate::images::{Work, accept};
 use adf_block::Image;
-use adf_import::change_volume;
+use adf_import::{StandardInput, change_volume};
 use adf_text::print_line;
 use adf_words::ChangeJob;
 use ados_name::Date3;
@@ -21,7 +21,7 @@ pub(crate) fn change<'a, R, F>(
     faults: &mut F,
 ) -> Result<(), CommandFault<'a>>
 where
-    R: Files<File = File> + Clock,
+    R: Files<File = File> + Clock + StandardInput,
     F: Write,
 {
     let mut work = Work::begin(rt, job.image, job.out)?;
@@ -39,7 +39,7 @@ fn changed<'a, R, F>(
     faults: &mut F,
 ) -> Result<Volume, CommandFault<'a>>
 where
-    R: Files<File = File> + Clock,
+    R: Files<File = File> + Clock + StandardInput,
     F: Write,
 {
     let mut volume = accept(alloc, image)?;

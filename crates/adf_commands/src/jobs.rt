@@ -12,6 +12,7 @@ use crate::output::tell;
 use crate::rescue::take_rescue;
 use crate::serving::serve;
 use adf_archive::ReadImages;
+use adf_import::StandardInput;
 use adf_words::ImageJob;
 use std::alloc::Global;
 use std::fs::File;
@@ -32,7 +33,7 @@ pub fn run_job<'a, R, W, F>(
     faults: &mut F,
 ) -> Result<(), CommandFault<'a>>
 where
-    R: Files<File = File> + Clock + Threads + Wait + ReadImages + Copy + Send + Sync + Drop + 'static,
+    R: Files<File = File> + Clock + Threads + Wait + ReadImages + StandardInput + Copy + Send + Sync + Drop + 'static,
     W: Write,
     F: Write,
     ensures { TellsJob job.entry (W.contents writer.old) (W.contents writer.new) result }
@@ -60,7 +61,7 @@ fn do_job<'a, R, W, F>(
     faults: &mut F,
 ) -> Result<(), CommandFault<'a>>
 where
-    R: Files<File = File> + Clock + Threads + Wait + ReadImages + Copy + Send + Sync + Drop + 'static,
+    R: Files<File = File> + Clock + Threads + Wait + ReadImages + StandardInput + Copy + Send + Sync + Drop + 'static,
     W: Write,
     F: Write,
     ensures { DoesJob job.entry (W.contents writer.old) (W.contents writer.new) result }

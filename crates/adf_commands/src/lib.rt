@@ -15,6 +15,7 @@ mod refusal;
 mod rescue;
 mod serving;
 
+pub use adf_import::StandardInput;
 pub use fault::CommandFault;
 pub use info::FIRST_MOMENT;
 pub use jobs::run_job;

@@ -14,3 +14,5 @@ pub mod Telling
 pub mod Keeping
 pub mod Putting
 pub mod Advancing
+pub mod Fronts
+pub mod Naming

@@ -11,7 +11,7 @@ use Rattle.adf_import.specs.Commands.{EndsMove, EndsProtect, EndsWithoutBits, Is
 use Rattle.adf_import.specs.Turns.{EndsAt, ReadsFirst}
 use Rattle.adf_import.specs.Words.{IsBitsFault, IsRefusal}
 use Rattle.adf_import.specs.declared.fault.InFault.{InFault}
-use Rattle.adf_import.specs.declared.fault.InFault.TheVariants.{Bits, Host, Letter, Memory, NoRoom, Note, Read, Refused}
+use Rattle.adf_import.specs.declared.fault.InFault.TheVariants.{Bits, Host, Letter, Memory, NoRoom, Note, Read, Refused, Source}
 use Rattle.adf_import.specs.declared.paths.MoveFault.{MoveFault}
 use Rattle.adf_import.specs.declared.paths.MoveFault.TheVariants.{New, Old}
 use Rattle.adf_import.proofs.Turning.{refused_at}
@@ -26,6 +26,7 @@ module _ (moment : Date3) (from to : List ℕ) (old new : Shown) (error : DosErr
   old_refused (Host fault) is h = absurd is
   old_refused (Read path) is h = absurd is
   old_refused (Note path fault) is h = absurd is
+  old_refused (Source why) is h = absurd is
   old_refused Memory is h = tt
 
   -- a move refused for its new path
@@ -37,6 +38,7 @@ module _ (moment : Date3) (from to : List ℕ) (old new : Shown) (error : DosErr
   new_refused (Host fault) is h = absurd is
   new_refused (Read path) is h = absurd is
   new_refused (Note path fault) is h = absurd is
+  new_refused (Source why) is h = absurd is
   new_refused Memory is h = tt
 
 -- a move that is refused
@@ -61,6 +63,7 @@ module _ (moment : Date3) (path bits : List ℕ) (old new : Shown) where
   bits_refused word error (Host fault) has is h = absurd is
   bits_refused word error (Read file) has is h = absurd is
   bits_refused word error (Note file fault) has is h = absurd is
+  bits_refused word error (Source why) has is h = absurd is
   bits_refused word error Memory has is h = word_ends word (Err Memory) has tt
 
 -- an end without memory says nothing
@@ -78,4 +81,5 @@ no_bits moment path bits volume (Bits text) is =
 no_bits moment path bits volume (Host fault) is = absurd is
 no_bits moment path bits volume (Read file) is = absurd is
 no_bits moment path bits volume (Note file fault) is = absurd is
+no_bits moment path bits volume (Source why) is = absurd is
 no_bits moment path bits volume Memory is = nothing_said (protect_word (chars bits))

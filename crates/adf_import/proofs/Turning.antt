@@ -8,9 +8,9 @@ use Rattle.ados_model.specs.declared.dos_error.DosError.{DosError}
 use Rattle.ados_model.specs.Keys.{HasTree}
 use Rattle.ados_volume.specs.Shown.{Shown}
 use Rattle.adf_import.specs.declared.fault.InFault.{InFault}
-use Rattle.adf_import.specs.declared.fault.InFault.TheVariants.{Bits, Host, Letter, Memory, NoRoom, Note, Read, Refused}
+use Rattle.adf_import.specs.declared.fault.InFault.TheVariants.{Bits, Host, Letter, Memory, NoRoom, Note, Read, Refused, Source}
 use Rattle.adf_import.specs.Commands.{without_answer}
-use Rattle.adf_import.specs.Turns.{AreDone, EndsAt, EndsInTurn, ReadsFirst}
+use Rattle.adf_import.specs.Turns.{AreDone, AtWord, EndsAt, EndsInTurn, ReadsFirst}
 use Rattle.adf_import.specs.Turns.AreDone.{one_more}
 use Rattle.adf_import.specs.Words.{IsForeign, IsLetterFault, IsLetterFaultIn, IsRefusal}
 
@@ -39,11 +39,11 @@ module _ (Does : List ℕ → Shown → Shown → Result Unit DosError → Type 
       ∙ map-append f (take i words) (get_or words i x ∷ drop (i + 1) words) ∙ ap (λ (y : X). map f (take i words) ++ f y ∷ map f (drop (i + 1) words)) (sym is)
 
   -- one more argument is done
-  pub done_more : AreDone Does (map f (take i words)) old between → Does (chars (f x)) between new (Ok tt) → HasTree new.image → AreDone Does (map f (take (i + 1) words)) old new
-  done_more first here has = subst (λ (ws : List (List ℕ)). AreDone Does ws old new) (sym in_front) (one_more (map f (take i words)) (f x) first here has)
+  pub done_more : AreDone (AtWord Does) (map f (take i words)) old between → Does (chars (f x)) between new (Ok tt) → HasTree new.image → AreDone (AtWord Does) (map f (take (i + 1) words)) old new
+  done_more first here has = subst (λ (ws : List (List ℕ)). AreDone (AtWord Does) ws old new) (sym in_front) (one_more (map f (take i words)) (f x) first here has)
 
   -- it ends at an argument
-  pub ends_here : (fault : InFault) → AreDone Does (map f (take i words)) old between → EndsAt (Does (chars (f x))) (f x) between new (Err fault)
+  pub ends_here : (fault : InFault) → AreDone (AtWord Does) (map f (take i words)) old between → EndsAt (Does (chars (f x))) (f x) between new (Err fault)
       → EndsInTurn Does (map f words) old new (Err fault)
   ends_here (Refused told) first h = record {
     before = map f (take i words);
@@ -61,6 +61,7 @@ module _ (Does : List ℕ → Shown → Shown → Result Unit DosError → Type 
   ends_here (Host fault) first h = absurd h
   ends_here (Read path) first h = absurd h
   ends_here (Note path fault) first h = absurd h
+  ends_here (Source why) first h = absurd h
   ends_here Memory first h = tt
 
 -- an argument is refused
@@ -73,6 +74,7 @@ refused_at Does word old new error (Bits text) is h = absurd is
 refused_at Does word old new error (Host fault) is h = absurd is
 refused_at Does word old new error (Read path) is h = absurd is
 refused_at Does word old new error (Note path fault) is h = absurd is
+refused_at Does word old new error (Source why) is h = absurd is
 refused_at Does word old new error Memory is h = tt
 
 -- one of the arguments has a letter past U+00FF
@@ -84,6 +86,7 @@ foreign_in words word (Bits text) among is = absurd is
 foreign_in words word (Host fault) among is = absurd is
 foreign_in words word (Read path) among is = absurd is
 foreign_in words word (Note path fault) among is = absurd is
+foreign_in words word (Source why) among is = absurd is
 foreign_in words word Memory among is = tt
 
 -- then nothing changes
@@ -96,6 +99,7 @@ not_read words Ends volume (Bits text) ends is = absurd is
 not_read words Ends volume (Host fault) ends is = absurd is
 not_read words Ends volume (Read path) ends is = absurd is
 not_read words Ends volume (Note path fault) ends is = absurd is
+not_read words Ends volume (Source why) ends is = absurd is
 not_read words Ends volume Memory ends is = ends
 
 -- a fault of letters
@@ -114,6 +118,7 @@ was_read words Ends old new (Err (Bits text)) without h = h
 was_read words Ends old new (Err (Host fault)) without h = h
 was_read words Ends old new (Err (Read path)) without h = h
 was_read words Ends old new (Err (Note path fault)) without h = h
+was_read words Ends old new (Err (Source why)) without h = h
 was_read words Ends old new (Err Memory) without h = h
 
 -- the ends that are not about letters
@@ -125,6 +130,7 @@ turn_no_letters Does words old new (Bits text) is h = absurd is
 turn_no_letters Does words old new (Host fault) is h = absurd is
 turn_no_letters Does words old new (Read path) is h = absurd is
 turn_no_letters Does words old new (Note path fault) is h = absurd is
+turn_no_letters Does words old new (Source why) is h = absurd is
 turn_no_letters Does words old new Memory is h = absurd is
 
 pub at_no_letters : (Does : Shown → Shown → Result Unit DosError → Type 0) (word : List ℕ) (old new : Shown) (fault : InFault) → IsOfLetters fault → EndsAt Does word old new (Err fault) → ⊥
@@ -135,6 +141,7 @@ at_no_letters Does word old new (Bits text) is h = absurd is
 at_no_letters Does word old new (Host fault) is h = absurd is
 at_no_letters Does word old new (Read path) is h = absurd is
 at_no_letters Does word old new (Note path fault) is h = absurd is
+at_no_letters Does word old new (Source why) is h = absurd is
 at_no_letters Does word old new Memory is h = absurd is
 
 -- an argument that is read and then refused

@@ -1,5 +1,5 @@
 -- The effect of each command that changes a volume.
-use Rattle.std.specs.Prelude.{◌≡◌, ◌∷◌, ℕ, Bool, false, true, List, [], Result, Ok, Err, MatchOption, OnOk, map, unwrap_or, ⊤}
+use Rattle.std.specs.Prelude.{◌≡◌, ◌∷◌, ◌⊎◌, ℕ, Bool, false, true, List, [], length, None, Result, Ok, Err, MatchBool, MatchOption, MatchResult, OnOk, map, take, unwrap_or, ⊤}
 use Rattle.std.specs.Str.{chars}
 use Rattle.std.specs.String.{string_bytes}
 use Rattle.ados_name.specs.declared.stamp.Date3.{Date3}
@@ -12,19 +12,20 @@ use Rattle.ados_model.specs.Tree.Content.{Directory}
 use Rattle.ados_model.specs.Parts.{IsUnused}
 use Rattle.ados_volume.specs.Shown.{Shown}
 use Rattle.adf_words.specs.declared.change.Change.{Change}
-use Rattle.adf_words.specs.declared.change.Change.TheVariants.{Add, Comment, Date, Delete, MakeDirectories, Protect, Relabel, Rename}
+use Rattle.adf_words.specs.declared.change.Change.TheVariants.{Add, AddAs, Comment, Date, Delete, MakeDirectories, Protect, Relabel, Rename}
 use Rattle.adf_text.specs.declared.protect_words.Form.{Form}
 use Rattle.adf_text.specs.ProtectWords.{protect_word}
 use Rattle.adf_import.specs.Changes.{Changes, reprotected}
 use Rattle.adf_import.specs.Pruned.{Prunes}
 use Rattle.adf_import.specs.Refusals.{delete_refusal, make_refusal, root_refusal}
-use Rattle.adf_import.specs.Paths.{ChangesAt, comment_refusal, entry_move_refusal, move_ends, object_at, place_at, relabel_refusal}
-use Rattle.adf_import.specs.Put.{KeepsKeys}
-use Rattle.adf_import.specs.Turns.{EndsAt, EndsInTurn, ReadsFirst}
+use Rattle.adf_import.specs.Paths.{ChangesAt, comment_refusal, directory_at, entry_move_refusal, move_ends, object_at, place_at, relabel_refusal}
+use Rattle.adf_import.specs.Put.{KeepsKeys, put, put_refusal}
+use Rattle.adf_import.specs.Turns.{AreDone, EndsAt, EndsInTurn, ReadsFirst, StopsAtPath}
+use Rattle.adf_import.specs.Ways.{ends_front, fronts}
 use Rattle.adf_import.specs.Words.{IsRefusal}
+use Rattle.adf_import.specs.declared.new_file.NewFile.{NewFile}
 use Rattle.adf_import.specs.declared.each.Each.{Each}
 use Rattle.adf_import.specs.declared.each.Each.TheVariants as each
-use Rattle.adf_import.specs.declared.each.Each.TheVariants.{Make}
 use Rattle.adf_import.specs.declared.fault.InFault.{InFault}
 use Rattle.adf_import.specs.declared.fault.InFault.TheVariants.{Bits, Memory, Refused}
 use Rattle.adf_import.specs.declared.paths.MoveFault.{MoveFault}
@@ -39,6 +40,32 @@ abbrev pub Makes : Date3 → List ℕ → Shown → Shown → Result Unit DosErr
 Makes moment path old new (Ok _) = (key : ℕ) × MakesAt moment path old new (Ok key) × ((t : Tree) → Stands old.image t → IsUnused t key)
 Makes moment path old new (Err error) = MakesAt moment path old new (Err error)
 
+-- an object at a path stays; if there is none, a directory is made there
+abbrev pub MakesMissing : Date3 → List ℕ → Shown → Shown → Result Unit DosError → Type 0
+MakesMissing moment path old new result =
+    (t : Tree) → Stands old.image t → MatchResult (object_at path t) (λ _. (new ≡ old) × (result ≡ Ok tt)) (λ _. Makes moment path old new result)
+
+-- the path of a directory on the way ends before this byte, and it is made if it is missing; or nothing changes
+abbrev pub MakesFront : Date3 → List ℕ → ℕ → Shown → Shown → Result Unit DosError → Type 0
+MakesFront moment path i old new result = MatchBool (ends_front path i) (MakesMissing moment (take i path) old new result) ((new ≡ old) × (result ≡ Ok tt))
+
+-- a directory at a path stays; if there is none, one is made there
+abbrev pub MakesLast : Date3 → List ℕ → Shown → Shown → Result Unit DosError → Type 0
+MakesLast moment path old new result =
+    (t : Tree) → Stands old.image t → MatchResult (directory_at path t) (λ _. (new ≡ old) × (result ≡ Ok tt)) (λ _. Makes moment path old new result)
+
+-- what is missing on the way to a path is made in turn, and then the directory at the path; or the first that is
+-- refused is reported
+abbrev pub MakesWay : Date3 → List ℕ → Shown → Shown → Result Unit DosError → Type 0
+MakesWay moment path old new (Ok _) = (between : Shown) × AreDone (MakesMissing moment) (fronts path) old between × MakesLast moment path between new (Ok tt)
+MakesWay moment path old new (Err error) =
+    StopsAtPath (MakesMissing moment) (fronts path) old new error ⊎ ((between : Shown) × AreDone (MakesMissing moment) (fronts path) old between × MakesLast moment path between new (Err error))
+
+-- a directory is made at a path; with `parents`, each missing one on the way too
+abbrev pub MakesWith : Date3 → Bool → List ℕ → Shown → Shown → Result Unit DosError → Type 0
+MakesWith moment true = MakesWay moment
+MakesWith moment false = Makes moment
+
 -- the entry at a path is deleted: with everything below it, or only if nothing is
 abbrev pub Deletes : Date3 → Bool → Bool → List ℕ → Shown → Shown → Result Unit DosError → Type 0
 Deletes moment true force path old new result = ChangesAt (object_at path) (λ key. Prunes moment key force) old new result
@@ -47,7 +74,7 @@ Deletes moment false force path old new result =
 
 -- the effect of a command at each of its paths
 abbrev pub Does : Date3 → Each → List ℕ → Shown → Shown → Result Unit DosError → Type 0
-Does moment Make = Makes moment
+Does moment (each.Make parents) = MakesWith moment parents
 Does moment (each.Delete all force) = Deletes moment all force
 
 -- the entry at one path moves to another
@@ -94,16 +121,35 @@ Comments moment path text old new result = ChangesAt (object_at path) (λ key. C
 abbrev pub Relabels : Date3 → List ℕ → Shown → Shown → Result Unit DosError → Type 0
 Relabels moment name old new result = Changes (relabel_refusal name) (λ _ t. disk_renamed moment name t) old new result
 
+-- a file has this name in a directory, in place of the one that was there or new; nothing refuses it
+abbrev pub PutsIn : Date3 → ℕ → List ℕ → Bool → Shown → Shown → Type 0
+PutsIn moment dir name force old new =
+    (file : NewFile) × (key : ℕ) × ((t : Tree) → Stands old.image t → (put_refusal dir name (length file.bytes.now) force t ≡ None) × Stands new.image (put moment dir name file key t))
+
+-- the same in the directory at a path
+abbrev pub PutsAs : Date3 → List ℕ → List ℕ → Bool → Shown → Shown → Type 0
+PutsAs moment to name force old new =
+    (file : NewFile) × (key : ℕ) × ((t : Tree) → Stands old.image t → MatchResult (directory_at to t)
+    (λ dir. (put_refusal dir name (length file.bytes.now) force t ≡ None) × Stands new.image (put moment dir name file key t))
+    (λ _. ⊥))
+
 -- a result without its value
 abbrev pub without_answer : {A E : Type 0} → Result A E → Result Unit E
 without_answer (Ok _) = Ok tt
 without_answer (Err error) = Err error
 
+-- a change that reads nothing from the host
+abbrev pub IsInside : Change → Type 0
+IsInside (Add files to force) = ⊥
+IsInside (AddAs source name to force) = ⊥
+IsInside _ = ⊤
+
 -- the effect of a command on a volume, or its fault; `add` removes no directory and no entry
 abbrev pub ChangesVolume : Change → Date3 → Shown → Shown → Result Unit InFault → Type 0
 ChangesVolume (Add files to force) moment old new result = OnOk result (KeepsKeys old.image new.image)
-ChangesVolume (MakeDirectories paths) moment old new result =
-    let words = map (λ word. word.now) paths.items in ReadsFirst words (EndsInTurn (Makes moment) words) old new result
+ChangesVolume (AddAs source name to force) moment old new result = OnOk result (PutsAs moment (chars to.now) (chars name.now) force old new)
+ChangesVolume (MakeDirectories paths parents) moment old new result =
+    let words = map (λ word. word.now) paths.items in ReadsFirst words (EndsInTurn (MakesWith moment parents) words) old new result
 ChangesVolume (Delete paths all force) moment old new result =
     let words = map (λ word. word.now) paths.items in ReadsFirst words (EndsInTurn (Deletes moment all force) words) old new result
 ChangesVolume (Rename from to) moment old new result = ReadsFirst (from.now ∷ to.now ∷ []) (EndsMove moment from.now to.now) old new result

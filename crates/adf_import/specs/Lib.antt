@@ -6,6 +6,7 @@ pub mod Refusals
 pub mod Pruned
 pub mod Words
 pub mod Paths
+pub mod Ways
 pub mod Turns
 pub mod Put
 pub mod Commands

@@ -1,11 +1,11 @@
 -- Changes of the entry at a path from the root.
-use Rattle.std.specs.Prelude.{◌≡◌, ℕ, not, ◌==◌, List, [], ◌∷◌, Option, Result, Ok, Err, MatchResult, option_map}
+use Rattle.std.specs.Prelude.{◌≡◌, ℕ, not, ◌==◌, if◌then◌else◌, List, [], ◌∷◌, Option, Result, Ok, Err, MatchResult, option_map}
 use Rattle.ados_name.specs.Name.{steps}
 use Rattle.ados_model.specs.declared.dos_error.DosError.{DosError}
 use Rattle.ados_model.specs.declared.dos_error.DosError.TheVariants.{CommentTooBig, InvalidComponentName, ObjectExists, ObjectWrongType}
 use Rattle.ados_model.specs.Tree.{Tree, root}
 use Rattle.ados_model.specs.Stands.{Stands}
-use Rattle.ados_model.specs.Change.{place, walk_steps}
+use Rattle.ados_model.specs.Change.{is_file, place, walk_steps}
 use Rattle.ados_model.specs.declared.dos_error.WalkFault.TheVariants.{ObjectNotFound}
 use Rattle.ados_volume.specs.Shown.{Shown}
 use Rattle.ados_model.specs.Resolved.{place_result, walk_result}
@@ -17,6 +17,15 @@ use Rattle.adf_import.specs.declared.paths.MoveFault.TheVariants.{Old, New}
 -- the object at a path, or the error of the walk
 abbrev pub object_at : List ℕ → Tree → Result ℕ DosError
 object_at path t = walk_result (walk_steps t (root t) (steps path) ObjectNotFound)
+
+-- an object as a directory, which a file is not
+abbrev pub as_directory : Tree → Result ℕ DosError → Result ℕ DosError
+as_directory t (Ok key) = if is_file t key then Err ObjectWrongType else Ok key
+as_directory t (Err error) = Err error
+
+-- the directory at a path, or the error of the walk
+abbrev pub directory_at : List ℕ → Tree → Result ℕ DosError
+directory_at path t = as_directory t (object_at path t)
 
 -- the directory and the name of a place, or the error of that place
 abbrev pub place_at : List ℕ → Tree → Result (ℕ × List ℕ) DosError

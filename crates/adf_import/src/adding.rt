@@ -141,7 +141,7 @@ fn put_directory(
 {
     let entered = match enter_directory(volume, item.dir, item.name, how.force, how.moment) {
         Ok(entered) => entered,
-        Err(fault) => return Err(not_put(alloc, item.entry, fault, 0)),
+        Err(fault) => return Err(not_put(alloc, item.entry.path.as_str(), fault, 0)),
     };
     if entered.is_new {
         progress.push_made(entered.key, item.noted)?;
@@ -175,27 +175,27 @@ fn put_host_file<R: Files>(
         }
         Err(fault) => {
             let more = unread_blocks(volume, &bytes, length);
-            Err(not_put(alloc, item.entry, fault, more))
+            Err(not_put(alloc, item.entry.path.as_str(), fault, more))
         }
     }
 }
 
 /// The most bytes read of a file: one more than the volume has, which is too many.
-fn most_bytes(volume: &Volume) -> usize {
+pub(crate) fn most_bytes(volume: &Volume) -> usize {
     volume.image().blocks() as usize * BLOCK_BYTES as usize + 1
 }
 
 /// The number of blocks that a file of this length needs in addition to those for the bytes read.
-fn unread_blocks(volume: &Volume, bytes: &[u8], length: u64) -> u64 {
+pub(crate) fn unread_blocks(volume: &Volume, bytes: &[u8], length: u64) -> u64 {
     let format = volume.image().format();
     blocks_of(format, length).saturating_sub(blocks_of(format, bytes.len() as u64))
 }
 
-/// Why a file or directory of the host was not put. `more` is the number of blocks for bytes that were not read.
-fn not_put(alloc: Global, entry: &HostEntry, fault: NotPut, more: u64) -> InFault {
+/// Why a file or directory was not put, with this path. `more` is the number of blocks for bytes that were not read.
+pub(crate) fn not_put(alloc: Global, path: &str, fault: NotPut, more: u64) -> InFault {
     match fault {
-        NotPut::Refused(error) => refused(alloc, entry.path.as_str(), error),
-        NotPut::NoRoom { needed, free } => match String::from_str(alloc, entry.path.as_str()) {
+        NotPut::Refused(error) => refused(alloc, path, error),
+        NotPut::NoRoom { needed, free } => match String::from_str(alloc, path) {
             Ok(path) => InFault::NoRoom {
                 path,
                 needed: needed.saturating_add(more),

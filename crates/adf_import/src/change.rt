@@ -1,10 +1,11 @@
 //! The changes of a volume by commands.
 
-ghost use Rattle.adf_import.specs.Commands.{ChangesVolume, without_answer};
+ghost use Rattle.adf_import.specs.Commands.{ChangesVolume, IsInside, without_answer};
 
 use crate::adding::{How, add};
 use crate::each::{Each, change_each};
 use crate::fault::InFault;
+use crate::one_file::{StandardInput, Target, add_as};
 use crate::single::{rename, set_bits, set_comment, set_date, set_name};
 use adf_words::Change;
 use ados_name::Date3;
@@ -16,7 +17,7 @@ use std::rt::Files;
 /// Makes a change with this time stamp. For `add`, it returns what was skipped.
 ///
 /// After a fault the volume may be changed in part, and its image must not be written.
-pub fn change_volume<R: Files>(
+pub fn change_volume<R: Files + StandardInput>(
     rt: &R,
     alloc: Global,
     volume: &mut Volume,
@@ -33,6 +34,25 @@ pub fn change_volume<R: Files>(
             };
             add(rt, alloc, volume, files.as_slice(), *to, how)
         }
+        Change::AddAs {
+            source,
+            name,
+            to,
+            force,
+        } => {
+            let target = Target {
+                to: *to,
+                name: *name,
+            };
+            let how = How {
+                force: *force,
+                moment,
+            };
+            match add_as(rt, alloc, volume, *source, target, how) {
+                Ok(()) => Ok(Vec::new(alloc)),
+                Err(fault) => Err(fault),
+            }
+        }
         other => match change_entries(alloc, volume, other, moment) {
             Ok(()) => Ok(Vec::new(alloc)),
             Err(fault) => Err(fault),
@@ -47,12 +67,14 @@ fn change_entries(
     change: &Change<'_>,
     moment: Date3,
 ) -> Result<(), InFault>
+    requires { IsInside change.now }
     ensures { ChangesVolume change.now moment volume.old volume.new result }
 {
     match change {
-        Change::Add { .. } => Ok(()),
-        Change::MakeDirectories { paths } => {
-            change_each(alloc, volume, paths.as_slice(), Each::Make, moment)
+        Change::Add { .. } | Change::AddAs { .. } => unreachable!(),
+        Change::MakeDirectories { paths, parents } => {
+            let each = Each::Make { parents: *parents };
+            change_each(alloc, volume, paths.as_slice(), each, moment)
         }
         Change::Delete { paths, all, force } => {
             let each = Each::Delete {

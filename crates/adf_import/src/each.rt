@@ -7,7 +7,8 @@ ghost use Rattle.adf_import.specs.Turns.{EndsAt, EndsInTurn, ReadsFirst};
 ghost use Rattle.adf_import.specs.Words.{IsSpelled};
 
 use crate::fault::InFault;
-use crate::paths::{delete_all_at, delete_at, make_at};
+use crate::paths::{delete_all_at, delete_at};
+use crate::ways::{make_one, make_way};
 use crate::words::{Word, words_of};
 use ados_model::DosError;
 use ados_name::Date3;
@@ -17,8 +18,8 @@ use std::alloc::Global;
 /// The change at each path.
 #[derive(Clone, Copy)]
 pub(crate) enum Each {
-    /// Make a directory.
-    Make,
+    /// Make a directory; with `parents` each missing one on the way too.
+    Make { parents: bool },
     /// Delete the entry; with `all` everything below it too, with `force` protected entries too.
     Delete { all: bool, force: bool },
 }
@@ -88,10 +89,12 @@ fn change_at(
     ensures { Does moment each path.now volume.old volume.new result }
 {
     match each {
-        Each::Make => match make_at(volume, path, moment) {
-            Ok(_) => Ok(()),
-            Err(error) => Err(error),
-        },
+        Each::Make { parents } => {
+            if parents {
+                return make_way(volume, path, moment);
+            }
+            make_one(volume, path, moment)
+        }
         Each::Delete { all, force } => {
             if all {
                 return delete_all_at(alloc, volume, path, force, moment);

@@ -41,8 +41,20 @@ pub enum InFault {
         path: String,
         fault: NoteFault,
     },
+    /// There is no one file to put under a name.
+    #[error("{0}")]
+    Source(SourceFault),
     #[error("there is not enough memory")]
     Memory,
+}
+
+/// Why there is no one file to put under a name.
+#[derive(Debug, Drop, Error)]
+pub enum SourceFault {
+    #[error("standard input cannot be read")]
+    Input,
+    #[error("'{0}' is not put: --as takes one regular file, and no .uaem file")]
+    NotOneFile(String),
 }
 
 impl From<AllocError> for InFault {

@@ -4,7 +4,7 @@ use crate::fault::{InFault, NoteFault, refused};
 use adf_io::{InputFault, read_bounded};
 use adf_text::{LettersFault, Uaem, UaemFault, host_name_bytes, read_uaem};
 use ados_model::DosError;
-use ados_name::{Comment, Name, Protect};
+use ados_name::{Comment, Date3, Name, Protect};
 use host_trees::HostEntry;
 use std::alloc::Global;
 use std::fs;
@@ -38,11 +38,7 @@ pub(crate) fn noted_of<R: Files>(
     entry: &HostEntry,
 ) -> Result<Uaem, InFault> {
     let Some(note) = &entry.note else {
-        return Ok(Uaem {
-            protect: Protect(0),
-            date: entry.date,
-            comment: Comment::new(&[]).unwrap(),
-        });
+        return Ok(without_note(entry.date));
     };
     let line = read_host(rt, alloc, note.as_str(), MOST_NOTED)?;
     match read_uaem(alloc, &line) {
@@ -55,6 +51,15 @@ pub(crate) fn noted_of<R: Files>(
             path: String::from_str(alloc, note.as_str())?,
             fault: NoteFault(fault),
         }),
+    }
+}
+
+/// The metadata of a file without a note: this date, no protection bits and no comment.
+pub(crate) fn without_note(date: Date3) -> Uaem {
+    Uaem {
+        protect: Protect(0),
+        date,
+        comment: Comment::new(&[]).unwrap(),
     }
 }
 

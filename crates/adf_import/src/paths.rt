@@ -8,7 +8,7 @@ ghost use Rattle.ados_model.specs.Keys.{HasDirectory, HasKey};
 ghost use Rattle.ados_model.specs.Parts.{IsUnused};
 ghost use Rattle.adf_import.specs.Changes.{Changes};
 ghost use Rattle.adf_import.specs.Commands.{Comments, Dates, Deletes, MakesAt, Moves, Protects, Relabels};
-ghost use Rattle.adf_import.specs.Paths.{entry_move_refusal, move_fault, object_at};
+ghost use Rattle.adf_import.specs.Paths.{directory_at, entry_move_refusal, move_fault, object_at};
 
 use crate::entries::{delete, make_directory, move_entry};
 use crate::fields::{comment, protect, protection_in, redate, relabel};
@@ -183,6 +183,7 @@ pub(crate) fn relabel_as(volume: &mut Volume, name: &[u8], moment: Date3) -> Res
 ///
 /// Errors: those of a walk (204, 205, 212), and 212 for a file.
 pub(crate) fn directory_at(volume: &mut Volume, path: &[u8]) -> Result<u32, DosError>
+    ensures found { (t : Tree) → Stands volume.old.image t → result ≡ directory_at path.now t }
     ensures directory { IfOk result (HasDirectory volume.old.image) }
     ensures same { volume.new ≡ volume.old }
 {
@@ -196,7 +197,7 @@ pub(crate) fn directory_at(volume: &mut Volume, path: &[u8]) -> Result<u32, DosE
 /// The object at a path.
 ///
 /// Errors: those of a walk (204, 205, 212).
-fn object_at(volume: &mut Volume, path: &[u8]) -> Result<u32, DosError>
+pub(crate) fn object_at(volume: &mut Volume, path: &[u8]) -> Result<u32, DosError>
     ensures object { (t : Tree) → Stands volume.old.image t → result ≡ object_at path.now t }
     ensures key { IfOk result (HasKey volume.old.image) }
     ensures same { volume.new ≡ volume.old }

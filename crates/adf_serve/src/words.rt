@@ -6,7 +6,7 @@ ghost use Rattle.adf_serve.specs.Script.{RunsScript};
 use crate::held::tell_job;
 use crate::script::try_script;
 use adf_archive::ReadImages;
-use adf_commands::{run_job, status_of};
+use adf_commands::{StandardInput, run_job, status_of};
 use adf_script::TryFault;
 use adf_text::print_lines;
 use adf_words::{Job, WordsFault, read_words};
@@ -35,6 +35,7 @@ where
         + Threads
         + Wait
         + ReadImages
+        + StandardInput
         + Copy
         + Send
         + Sync

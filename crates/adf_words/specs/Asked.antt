@@ -1,5 +1,6 @@
 -- The changes, and the jobs for a boot block, that arguments ask for.
-use Rattle.std.specs.Prelude.{◌≡◌, ◌≢◌, ℕ, List, Some, None, IsSome, option_map, codes}
+use Rattle.std.specs.Prelude.{◌≡◌, ◌≢◌, ◌∷◌, ℕ, Bool, List, [], Some, None, IsSome, All, option_map, codes, map}
+use Rattle.std.specs.Borrow.{Bor}
 use Rattle.clap.specs.Matches.{first_value, one_text}
 use Rattle.clap.specs.declared.parser.matches.Found.{Found}
 use Rattle.adf_text.specs.ProtectWords.{protect_word}
@@ -9,7 +10,9 @@ use Rattle.adf_words.specs.declared.boot.BootBlock.TheVariants.{Empty, Standard,
 use Rattle.adf_words.specs.declared.job.ImageJob.{ImageJob}
 use Rattle.adf_words.specs.declared.job.ImageJob.TheVariants.{Boot, SaveBoot, ShowBoot}
 use Rattle.adf_words.specs.declared.change.Change.{Change}
-use Rattle.adf_words.specs.declared.change.Change.TheVariants.{Date, Protect}
+use Rattle.adf_words.specs.declared.change.Change.TheVariants.{Add, AddAs, Date, Protect}
+use Rattle.adf_words.specs.declared.change.Source.{Source}
+use Rattle.adf_words.specs.declared.change.Source.TheVariants.{File as HostFile, StandardInput}
 
 -- `protect`: the path and the word for protection bits are these arguments
 abbrev pub IsProtectOf : Found → Change → Type 0
@@ -45,3 +48,20 @@ IsBootOf found (Boot image out block) =
     IsLeftOut found (codes "show") × (first_value found (codes "save") ≡ None) × (first_value found (codes "IMAGE") ≡ Some image.now)
     × (first_value found (codes "out") ≡ option_map (λ word. word.now) out) × IsBlockOf found block
 IsBootOf found _ = ⊥
+
+-- the file of an argument; standard input if it is `-`
+abbrev pub IsSource : List ℕ → Source → Type 0
+IsSource word (HostFile path) = (path.now ≡ word) × (word ≢ codes "-")
+IsSource word StandardInput = word ≡ codes "-"
+
+-- `add` without `--as`: these files, of which none is standard input
+abbrev pub IsAddOf : List (Bor (List ℕ)) → List ℕ → Bool → Change → Type 0
+IsAddOf words into over (Add files to force) =
+    (files.items ≡ words) × All (λ word. word.now ≢ codes "-") words × (to.now ≡ into) × (force ≡ over)
+IsAddOf words into over _ = ⊥
+
+-- `add --as`: the only one of these files, under this name, in this directory
+abbrev pub IsAddAs : List (Bor (List ℕ)) → List ℕ → List ℕ → Bool → Change → Type 0
+IsAddAs words called into over (AddAs source name to force) =
+    ((word : List ℕ) × (map (λ word. word.now) words ≡ word ∷ []) × IsSource word source) × (name.now ≡ called) × (to.now ≡ into) × (force ≡ over)
+IsAddAs words called into over _ = ⊥

@@ -19,8 +19,10 @@ pub struct ChangeJob<'a> {
 pub enum Change<'a> {
     /// `add`: puts files and directories of the host into a directory.
     Add { files: Vec<&'a str>, to: &'a str, force: bool },
-    /// `mkdir`: makes directories.
-    MakeDirectories { paths: Vec<&'a str> },
+    /// `add --as`: puts one file into a directory under this name.
+    AddAs { source: Source<'a>, name: &'a str, to: &'a str, force: bool },
+    /// `mkdir`: makes directories. With `parents`, each missing one on the way too; existing ones are left as they are.
+    MakeDirectories { paths: Vec<&'a str>, parents: bool },
     /// `delete`: deletes entries. With `all`, everything below a directory too; with `force`, protected entries too.
     Delete { paths: Vec<&'a str>, all: bool, force: bool },
     /// `rename`: moves an entry to another name or directory.
@@ -33,4 +35,13 @@ pub enum Change<'a> {
     Comment { path: &'a str, text: &'a str },
     /// `relabel`: renames the volume.
     Relabel { name: &'a str },
+}
+
+/// The bytes of a file that is put into an image.
+#[derive(Clone, Copy)]
+pub enum Source<'a> {
+    /// A file of the host.
+    File(&'a str),
+    /// Standard input, up to its end.
+    StandardInput,
 }

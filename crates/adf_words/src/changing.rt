@@ -1,14 +1,15 @@
 //! From the arguments of a command that changes an image to its job.
 ghost use Rattle.std.specs.Prelude.{IfOk};
 ghost use Rattle.clap.specs.Matches.{found_of};
-ghost use Rattle.adf_words.specs.Asked.{IsDateOf, IsProtectOf};
+ghost use Rattle.adf_words.specs.Asked.{IsAddAs, IsAddOf, IsDateOf, IsProtectOf, IsSource};
 
 use crate::arguments::Arguments;
-use crate::change::{Change, ChangeJob};
+use crate::change::{Change, ChangeJob, Source};
 use crate::dates::moment_word;
 use crate::fault::WordsFault;
 use crate::job::ImageJob;
 use crate::letters::{letters_of, protection_word};
+use std::alloc::Global;
 
 /// The job of a command that changes a volume; `None` for any other command.
 pub(crate) fn change_job<'a>(
@@ -46,20 +47,76 @@ fn change_of<'a>(
     Ok(Some(change?))
 }
 
-/// The change of `add`.
+/// The change of `add`: of files and directories under their own names, or of one file under another.
 fn add<'a>(arguments: &Arguments<'a, '_>) -> Result<Change<'a>, WordsFault> {
     let to = letters_of(arguments.alloc, arguments.given("to").unwrap_or(""))?;
-    Ok(Change::Add {
-        files: arguments.words("FILE")?,
+    let files = arguments.words("FILE")?;
+    let force = arguments.flag("force");
+    match arguments.given("as") {
+        Some(name) => add_as(arguments.alloc, files.as_slice(), name, to, force),
+        None => add_files(arguments.alloc, files, to, force),
+    }
+}
+
+/// The change of `add` without `--as`. Standard input has no name of its own, so it makes the command line wrong.
+fn add_files<'a>(
+    alloc: Global,
+    files: Vec<&'a str>,
+    to: &'a str,
+    force: bool,
+) -> Result<Change<'a>, WordsFault>
+    ensures { IfOk result (IsAddOf files.entry.items to.now force) }
+{
+    for file in files.iter() {
+        if *file == "-" {
+            return Err(WordsFault::usage(format!(in alloc;
+                "error: FILE '-' is standard input, which has no name: '--as <NAME>' gives it one\n\nFor more information, try '--help'.\n"
+            )));
+        }
+    }
+    Ok(Change::Add { files, to, force })
+}
+
+/// The change of `add --as`. More than one file makes the command line wrong.
+fn add_as<'a>(
+    alloc: Global,
+    files: &[&'a str],
+    name: &'a str,
+    to: &'a str,
+    force: bool,
+) -> Result<Change<'a>, WordsFault>
+    ensures { IfOk result (IsAddAs files.now name.now to.now force) }
+{
+    let [file] = files else {
+        return Err(WordsFault::usage(format!(in alloc;
+            "error: '--as <NAME>' takes one FILE, and there are {}\n\nFor more information, try '--help'.\n",
+            files.len()
+        )));
+    };
+    let source = source_of(*file);
+    Ok(Change::AddAs {
+        source,
+        name: letters_of(alloc, name)?,
         to,
-        force: arguments.flag("force"),
+        force,
     })
+}
+
+/// The file of an argument. `-` is standard input.
+fn source_of<'a>(file: &'a str) -> Source<'a>
+    ensures { IsSource file.now result }
+{
+    if file == "-" {
+        return Source::StandardInput;
+    }
+    Source::File(file)
 }
 
 /// The change of `mkdir`.
 fn make_directories<'a>(arguments: &Arguments<'a, '_>) -> Result<Change<'a>, WordsFault> {
     Ok(Change::MakeDirectories {
         paths: arguments.paths()?,
+        parents: arguments.flag("parents"),
     })
 }
 

@@ -19,7 +19,7 @@ mod table;
 mod taking;
 
 pub use boot::BootBlock;
-pub use change::{Change, ChangeJob};
+pub use change::{Change, ChangeJob, Source};
 pub use fault::WordsFault;
 pub use given::{given_words, word_of};
 pub use job::{ImageJob, Job, ServeJob};

@@ -215,10 +215,11 @@ pub(crate) const COMMANDS: [CommandRow; 16] = [
     CommandRow {
         name: "add",
         about: "Puts files of the host, and directories with all that is in them, into an image",
-        examples: "Example:\n  adf_serve add --to s work.adf startup-sequence",
+        examples: "Examples:\n  adf_serve add --to s work.adf startup-sequence\n  adf_serve add --to s --as startup-sequence work.adf startup.txt\n  date | adf_serve add --as today work.adf -",
         changes: true,
         arguments: &[
             ArgumentRow { name: "to", kind: Kind::Option { value: "PATH", default: None }, help: "The directory to put them into, the root if left out" },
+            ArgumentRow { name: "as", kind: Kind::Option { value: "NAME", default: None }, help: "Puts one FILE, which is no directory, under this name: 1 to 30 letters without `/` and `:`. FILE may then be `-`, standard input" },
             FORCE,
             ArgumentRow { name: "FILE", kind: Kind::OneOrMore, help: "A file or directory of the host. What `x.uaem` tells of `x` is kept" },
         ],
@@ -226,9 +227,12 @@ pub(crate) const COMMANDS: [CommandRow; 16] = [
     CommandRow {
         name: "mkdir",
         about: "Makes directories",
-        examples: "Examples:\n  adf_serve mkdir work.adf s c devs devs/keymaps\n  adf_serve mkdir --date 1990-01-01 work.adf libs",
+        examples: "Examples:\n  adf_serve mkdir work.adf s c devs devs/keymaps\n  adf_serve mkdir --parents work.adf devs/printers\n  adf_serve mkdir --date 1990-01-01 work.adf libs",
         changes: true,
-        arguments: &[ArgumentRow { name: "PATH", kind: Kind::OneOrMore, help: "A directory to make, from the root" }],
+        arguments: &[
+            ArgumentRow { name: "parents", kind: FLAG, help: "Makes each missing directory on the way too, and leaves those that are there" },
+            ArgumentRow { name: "PATH", kind: Kind::OneOrMore, help: "A directory to make, from the root" },
+        ],
     },
     CommandRow {
         name: "delete",

@@ -2,7 +2,7 @@ use Rattle.std.proofs.Common.{List, ℕ, map, sym, subst, arith}
 use Rattle.std.proofs.lemmas.List.{take_all}
 use Rattle.std.proofs.lemmas.List.Elements.{All-get_or}
 use Rattle.adf_import.specs.Commands.{Does}
-use Rattle.adf_import.specs.Turns.{AreDone}
+use Rattle.adf_import.specs.Turns.{AreDone, AtWord}
 use Rattle.adf_import.specs.Turns.AreDone.{none}
 use Rattle.adf_import.specs.Words.{IsSpelled}
 use Rattle.adf_import.specs.declared.words.Word.{Word}
@@ -30,4 +30,4 @@ loop-word-preserved c =
 
 pub returns : goal.returns
 returns c =
-    subst (λ (ws : List Word). AreDone (Does c.args.moment c.args.each) (map text_in ws) c.args.volume.now c.loop-word.volume) (take_all c.loop-word.word-index c.args.words.now (omega arith)) c.loop-word.invariant
+    subst (λ (ws : List Word). AreDone (AtWord (Does c.args.moment c.args.each)) (map text_in ws) c.args.volume.now c.loop-word.volume) (take_all c.loop-word.word-index c.args.words.now (omega arith)) c.loop-word.invariant

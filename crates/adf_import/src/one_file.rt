@@ -1,0 +1,223 @@
+//! One file of the host, or standard input, put into a directory under a name.
+
+ghost use Rattle.std.specs.Prelude.{◌≡◌, IfOk, OnOk, Ok};
+ghost use Rattle.std.specs.Str.{chars};
+ghost use Rattle.ados_model.specs.Keys.{HasDirectory};
+ghost use Rattle.ados_model.specs.Stands.{Stands};
+ghost use Rattle.ados_model.specs.Tree.{Tree};
+ghost use Rattle.adf_import.specs.Commands.{PutsAs, PutsIn};
+ghost use Rattle.adf_import.specs.Paths.{directory_at};
+
+use crate::adding::{How, most_bytes, not_put, unread_blocks};
+use crate::fault::{InFault, SourceFault};
+use crate::host_files::{noted_of, read_host, without_note};
+use crate::paths::directory_at;
+use crate::put::{noted_file, put_file};
+use crate::words::Word;
+use adf_io::{InputFault, read_bounded};
+use adf_text::Uaem;
+use adf_words::Source;
+use ados_model::DosError;
+use ados_name::{Date3, Name};
+use ados_volume::Volume;
+use host_trees::{HostEntry, HostKind, host_tree};
+use std::alloc::Global;
+use std::fs;
+use std::rt::Files;
+
+/// A host with standard input.
+pub trait StandardInput {
+    /// The bytes of standard input up to its end, at most this many.
+    fn standard_input(&self, alloc: Global, most: usize) -> Result<Vec<u8>, InputFault>;
+}
+
+impl StandardInput for HostRuntime {
+    fn standard_input(&self, alloc: Global, most: usize) -> Result<Vec<u8>, InputFault> {
+        let mut input = self.stdin();
+        read_bounded(alloc, &mut input, most)
+    }
+}
+
+/// The directory for a file, and its name there, as arguments.
+#[derive(Clone, Copy)]
+pub(crate) struct Target<'a> {
+    pub to: &'a str,
+    pub name: &'a str,
+}
+
+/// Puts one file into a directory under a name: a new one, or with `force` in place of the existing one.
+///
+/// Refusals have the path of the directory or the name. What is no regular file is a fault.
+pub(crate) fn add_as<R: Files + StandardInput>(
+    rt: &R,
+    alloc: Global,
+    volume: &mut Volume,
+    source: Source<'_>,
+    target: Target<'_>,
+    how: How,
+) -> Result<(), InFault>
+    ensures { OnOk result (PutsAs how.moment (chars target.entry.to.now) (chars target.entry.name.now) how.force volume.old volume.new) }
+{
+    let place = match place_of(alloc, volume, target) {
+        Ok(place) => place,
+        Err(fault) => return Err(fault),
+    };
+    let given = match read_source(rt, alloc, source, most_bytes(volume), how.moment) {
+        Ok(given) => given,
+        Err(fault) => return Err(fault),
+    };
+    put_given(alloc, volume, &place, &given, target.name, how)
+}
+
+/// A directory of a volume, and a name.
+#[derive(Clone, Copy)]
+struct Place {
+    dir: u32,
+    name: Name,
+}
+
+/// The directory and the name of these arguments.
+///
+/// Errors: 204, 205 and 212 for the directory, 210 for a text that is not a name.
+fn place_of(alloc: Global, volume: &mut Volume, target: Target<'_>) -> Result<Place, InFault>
+    ensures found { IfOk result (λ place. (t : Tree) → Stands volume.old.image t → directory_at (chars target.entry.to.now) t ≡ Ok place.dir) }
+    ensures name { IfOk result (λ place. place.name ≡ chars target.entry.name.now) }
+    ensures directory { IfOk result (λ place. HasDirectory volume.old.image place.dir) }
+    ensures same { volume.new ≡ volume.old }
+{
+    let to = match Word::new(alloc, target.to) {
+        Ok(to) => to,
+        Err(fault) => return Err(fault),
+    };
+    let name = match name_of(alloc, target.name) {
+        Ok(name) => name,
+        Err(fault) => return Err(fault),
+    };
+    match directory_at(volume, to.bytes()) {
+        Ok(dir) => Ok(Place { dir, name }),
+        Err(error) => Err(to.refused(alloc, error)),
+    }
+}
+
+/// The name of an argument.
+///
+/// Error: 210 for a text that is not a name.
+fn name_of(alloc: Global, text: &str) -> Result<Name, InFault>
+    ensures { IfOk result (λ name. name ≡ chars text.now) }
+{
+    let word = match Word::new(alloc, text) {
+        Ok(word) => word,
+        Err(fault) => return Err(fault),
+    };
+    match Name::new(word.bytes()) {
+        Ok(name) => Ok(name),
+        Err(_) => Err(word.refused(alloc, DosError::InvalidComponentName)),
+    }
+}
+
+/// A file as it was read: its first bytes, how many it has, and its metadata.
+#[derive(Drop)]
+struct Given {
+    bytes: Vec<u8>,
+    length: u64,
+    noted: Uaem,
+}
+
+/// Puts a file at a place. A refusal has the name as it was given.
+fn put_given(
+    alloc: Global,
+    volume: &mut Volume,
+    place: &Place,
+    given: &Given,
+    called: &str,
+    how: How,
+) -> Result<(), InFault>
+    requires { HasDirectory volume.old.image place.now.dir }
+    ensures { OnOk result (PutsIn how.moment place.now.dir place.now.name how.force volume.old volume.new) }
+{
+    let file = noted_file(&given.bytes, &given.noted);
+    match put_file(volume, place.dir, place.name, &file, how.force, how.moment) {
+        Ok(_) => Ok(()),
+        Err(fault) => {
+            let more = unread_blocks(volume, &given.bytes, given.length);
+            Err(not_put(alloc, called, fault, more))
+        }
+    }
+}
+
+/// Reads a file, at most this many bytes of it. Standard input has the date `moment`.
+fn read_source<R: Files + StandardInput>(
+    rt: &R,
+    alloc: Global,
+    source: Source<'_>,
+    most: usize,
+    moment: Date3,
+) -> Result<Given, InFault> {
+    match source {
+        Source::File(path) => read_file(rt, alloc, path, most),
+        Source::StandardInput => read_input(rt, alloc, most, moment),
+    }
+}
+
+/// Reads standard input. What is more than `most` bytes is not read, so an input without an end does no harm.
+fn read_input<R: StandardInput>(
+    rt: &R,
+    alloc: Global,
+    most: usize,
+    moment: Date3,
+) -> Result<Given, InFault> {
+    match rt.standard_input(alloc, most) {
+        Ok(bytes) => Ok(Given {
+            length: bytes.len() as u64,
+            bytes,
+            noted: without_note(moment),
+        }),
+        Err(InputFault::Memory) => Err(InFault::Memory),
+        Err(_) => Err(InFault::Source(SourceFault::Input)),
+    }
+}
+
+/// Reads a regular file of the host, with its metadata.
+fn read_file<R: Files>(rt: &R, alloc: Global, path: &str, most: usize) -> Result<Given, InFault> {
+    if is_other(rt, path) {
+        return Err(not_one_file(alloc, path));
+    }
+    let tree = host_tree(rt, alloc, &[path])?;
+    match tree.entries.as_slice() {
+        [entry] => read_entry(rt, alloc, entry, most),
+        _ => Err(not_one_file(alloc, path)),
+    }
+}
+
+/// Whether a path leads to something that is no regular file.
+fn is_other<R: Files>(rt: &R, path: &str) -> bool {
+    match fs::metadata(rt, path) {
+        Ok(found) => !found.is_file(),
+        Err(_) => false,
+    }
+}
+
+/// Reads a file of the host, with its metadata.
+fn read_entry<R: Files>(
+    rt: &R,
+    alloc: Global,
+    entry: &HostEntry,
+    most: usize,
+) -> Result<Given, InFault> {
+    let HostKind::File { length } = entry.kind else {
+        return Err(not_one_file(alloc, entry.path.as_str()));
+    };
+    Ok(Given {
+        noted: noted_of(rt, alloc, entry)?,
+        bytes: read_host(rt, alloc, entry.path.as_str(), most)?,
+        length,
+    })
+}
+
+/// The fault of a path to no regular file.
+fn not_one_file(alloc: Global, path: &str) -> InFault {
+    match String::from_str(alloc, path) {
+        Ok(path) => InFault::Source(SourceFault::NotOneFile(path)),
+        Err(_) => InFault::Memory,
+    }
+}
