@@ -549,6 +549,15 @@ def directories_on_the_way(tried: Commands) -> None:
     tried.stays("a full disk stays as it was", "way.adf", before)
 
 
+def reads_from(handle: int) -> Callable[[], None]:
+    """What makes standard input the file of a handle."""
+
+    def change() -> None:
+        os.dup2(handle, 0)
+
+    return change
+
+
 def files_under_names(tried: Commands) -> None:
     """`add --as`: one file, or standard input, under a name."""
     blank = f"blank --ffs --blocks 16 {AT} Work named.adf"
@@ -614,10 +623,10 @@ def files_under_names(tried: Commands) -> None:
     ran = tried.run("add", "--as", "long", "named.adf", "-", input=bytes(16 * BLOCK + 2))
     tried.report.check("add - of more bytes than the disk has", ran, 3, b"refused 221 long\n", "disk is full", "18 blocks")
     with open("/dev/zero", "rb") as endless:
-        ran = tried.run("add", "--as", "long", "named.adf", "-", before=partial(os.dup2, endless.fileno(), 0))
+        ran = tried.run("add", "--as", "long", "named.adf", "-", before=reads_from(endless.fileno()))
     tried.report.check("add - of an input that never ends", ran, 3, b"refused 221 long\n", "disk is full")
     folder = os.open(".", os.O_RDONLY)
-    ran = tried.run("add", "--as", "folder", "named.adf", "-", before=partial(os.dup2, folder, 0))
+    ran = tried.run("add", "--as", "folder", "named.adf", "-", before=reads_from(folder))
     tried.report.check("add - of a directory", ran, 2, b"", "standard input cannot be read")
     os.close(folder)
     tried.stays("what add --as refuses changes nothing", "named.adf", before)
