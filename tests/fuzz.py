@@ -495,7 +495,8 @@ class Tried:
         os.mkdir("other")
         ran = measured(["unadf", "image.adf", "-d", "other"])
         if ran.status == 0:
-            found = {path: data for path, data in files_below("other").items() if data is not None}
+            # (its names of files have the bytes of the image's names)
+            found = {os.fsencode(path).decode("latin-1"): data for path, data in files_below("other").items() if data is not None}
             wanted = {path: data for path, data in whole.items() if data is not None}
             differ = sorted(path for path in {*found, *wanted} if found.get(path) != wanted.get(path))
             assert not differ, f"unadf reads other bytes of {differ[:5]}"
